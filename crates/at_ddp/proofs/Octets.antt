@@ -1,0 +1,50 @@
+-- Bytes, numbers in two of them, and the parts of lists: what every decoder needs, and no crate's own.
+use Rattle.std.proofs.Common.{◌≡◌, ℕ, ◌+◌, ◌-◌, ◌*◌, ◌/◌, ◌%◌, ◌^◌, ◌<◌, List, [], ◌∷◌, ◌++◌, length, get_or, take, drop, refl, ap, ◌∙◌, arith}
+use Rattle.std.specs.List.{All}
+use Rattle.std.proofs.lemmas.List.{get_or-drop, take_rest}
+use Rattle.std.proofs.lemmas.List.Elements.{All-from_get_or}
+use Rattle.std.proofs.Math.Nat.{add-zero}
+use Rattle.byteorder.specs.Endian.{big_number}
+
+-- each is a byte, also past the end
+abbrev pub InBytes : List ℕ → Type 0
+InBytes bytes = (i : ℕ) → get_or bytes i 0 < 256
+
+pub high_byte : (a b : ℕ) → a < 256 → b < 256 → (256 * a + b) / 256 % 256 ≡ a
+high_byte a b ha hb = omega arith
+
+pub low_byte : (a b : ℕ) → b < 256 → (256 * a + b) % 256 ≡ b
+low_byte a b hb = omega arith
+
+-- numbers of 16 bits whose bytes are the same are the same
+pub same_number : (m n : ℕ) → m < 2 ^ 16 → n < 2 ^ 16 → m / 256 % 256 ≡ n / 256 % 256 → m % 256 ≡ n % 256 → m ≡ n
+same_number m n hm hn high low = omega arith
+
+head_of : (a b : ℕ) (xs ys : List ℕ) → a ∷ xs ≡ b ∷ ys → a ≡ b
+head_of a b xs ys e = cc
+
+tail_of : (a b : ℕ) (xs ys : List ℕ) → a ∷ xs ≡ b ∷ ys → xs ≡ ys
+tail_of a b xs ys e = cc
+
+-- two lists whose first parts are as long as each other part alike
+pub append_parts : (a b x y : List ℕ) → length a ≡ length b → a ++ x ≡ b ++ y → (a ≡ b) × (x ≡ y)
+append_parts [] [] x y len e = (refl, e)
+append_parts [] (n ∷ ns) x y len e = absurd (omega arith)
+append_parts (m ∷ ms) [] x y len e = absurd (omega arith)
+append_parts (m ∷ ms) (n ∷ ns) x y len e =
+    let head = head_of m n (ms ++ x) (ns ++ y) e in
+    let tails = append_parts ms ns x y (omega arith) (tail_of m n (ms ++ x) (ns ++ y) e) in
+    let front : ms ≡ ns = tails.0 in
+    (cc, tails.1)
+
+-- the number that `read_u16` gives from a place on
+pub number_in : (i : ℕ) (input : List ℕ) (n : ℕ) → n ≡ big_number 2 (take (length input - i) (drop i input)) → n ≡ 256 * get_or input i 0 + get_or input (i + 1) 0
+number_in i input n e =
+    let first : get_or (drop i input) 0 0 ≡ get_or input i 0 = rw (get_or-drop i input 0 0, add-zero i) refl in
+    let second : get_or (drop i input) 1 0 ≡ get_or input (i + 1) 0 = get_or-drop i input 1 0 in
+    let whole : n ≡ big_number 2 (drop i input) = e ∙ ap (big_number 2) (take_rest input i) in
+    omega arith
+
+-- a list of bytes
+pub bytes_of : (bytes : List ℕ) → InBytes bytes → All (λ b. b < 256) bytes
+bytes_of bytes fits = All-from_get_or (λ b. b < 256) bytes 0 (λ i _. fits i)

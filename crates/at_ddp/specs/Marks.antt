@@ -1,0 +1,20 @@
+-- How finished datagrams lie in memory one behind the other.
+use Rattle.std.specs.Prelude.{◌≡◌, ℕ, zero, suc, ◌≤◌, List, [], ◌∷◌, slice_get, slice_range}
+use Rattle.std.specs.Option.{option_map_or}
+use Rattle.at_ddp.specs.Datagrams.{Posted}
+use Rattle.at_ddp.specs.declared.datagrams.Mark.{Mark}
+
+-- the bytes cut at the marks, from a place on
+abbrev pub pieces : ℕ → List Mark → List ℕ → List Posted
+pieces start [] bytes = []
+pieces start (m ∷ ms) bytes = record { node = m.node; bytes = slice_range bytes start m.end } ∷ pieces m.end ms bytes
+
+-- the marks follow each other from a place on, up to the last byte
+abbrev pub AreMarks : ℕ → List Mark → ℕ → Type 0
+AreMarks start [] len = start ≡ len
+AreMarks start (m ∷ ms) len = (start ≤ m.end) × AreMarks m.end ms len
+
+-- where the piece at an index starts
+abbrev pub start_at : ℕ → List Mark → ℕ → ℕ
+start_at start ms zero = start
+start_at start ms (suc i) = option_map_or (λ (m : Mark). m.end) (slice_get ms i) start

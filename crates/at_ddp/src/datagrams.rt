@@ -1,0 +1,121 @@
+ghost use Rattle.std.specs.Prelude.{◌≡◌, ℕ, ◌+◌, ◌<◌, ◌≤◌, ◌∷◌, [], ◌++◌, ◌==◌, length, slice_get, slice_index_or, slice_range, OnOk, OnErr, IsOk, Some};
+ghost use Rattle.at_ddp.specs.Datagrams.{Posted, HasRoom};
+ghost use Rattle.at_ddp.specs.Marks.{start_at};
+ghost use Rattle.at_ddp.specs.declared.datagrams.Mark.{Mark};
+
+use std::alloc::{AllocError, Allocator, Global};
+use std::marker::Model;
+
+// Where a datagram ends among the bytes of all, and the node that it goes to.
+#[derive(Clone, Copy)]
+struct Mark {
+    end: usize,
+    node: u8,
+}
+
+/// Finished datagrams in the order of sending, each with the node that it goes to, in memory one behind the other.
+#[derive(Drop)]
+pub struct Datagrams<A: Allocator = Global> {
+    bytes: Vec<u8, A>,
+    marks: Vec<Mark, A>,
+}
+
+impl<A: Allocator> Model for Datagrams<A> {
+    ghost use Rattle.std.specs.Prelude.{◌-◌, vec_len, vec_capacity, length};
+    ghost use Rattle.at_ddp.specs.Datagrams.{Datagrams as Sent};
+
+    ghost Value = { Sent };
+
+    ghost use Rattle.at_ddp.specs.Marks.{pieces, AreMarks};
+
+    ghost view = { λ d. record {
+      items = pieces 0 d.marks.items d.bytes.items;
+      room = record { places = vec_capacity d.marks - vec_len d.marks; bytes = vec_capacity d.bytes - vec_len d.bytes };
+    } };
+
+    ghost invariant = { λ d. AreMarks 0 d.marks.items (length d.bytes.items) };
+}
+
+impl<A: Allocator + Copy> Datagrams<A> {
+    pub fn new(alloc: A) -> Datagrams<A>
+        ensures { result.items ≡ [] }
+    {
+        Datagrams {
+            bytes: Vec::new(alloc),
+            marks: Vec::new(alloc),
+        }
+    }
+}
+
+impl<A: Allocator> Datagrams<A> {
+    pub fn len(&self) -> usize
+        ensures { result ≡ length self.now.items }
+    {
+        self.marks.len()
+    }
+
+    pub fn is_empty(&self) -> bool
+        ensures { result ≡ (length self.now.items == 0) }
+    {
+        self.len() == 0
+    }
+
+    /// The node that the datagram at an index goes to.
+    pub fn node(&self, index: usize) -> u8
+        requires { index < length self.now.items }
+        ensures { (p : Posted) × (slice_get self.now.items index ≡ Some p) × (result ≡ p.node) }
+    {
+        self.marks[index].node
+    }
+
+    /// The bytes of the datagram at an index.
+    pub fn get(&self, index: usize) -> &[u8]
+        requires { index < length self.now.items }
+        ensures { (p : Posted) × (slice_get self.now.items index ≡ Some p) × (result.now ≡ p.bytes) }
+    {
+        let (start, end) = span(&self.marks, index);
+        &self.bytes[start..end]
+    }
+
+    /// Makes room for `places` datagrams of at most `size` bytes each.
+    pub fn reserve(&mut self, places: u32, size: usize) -> Result<(), AllocError>
+        requires { size ≤ 599 }
+        ensures items { self.new.items ≡ self.old.items }
+        ensures ok { OnOk result (HasRoom self.new.room places size) }
+        ensures kept { (n len : ℕ) → HasRoom self.old.room n len → HasRoom self.new.room n len }
+        ensures succeeds { HasRoom self.old.room places size → IsOk result }
+    {
+        let places = places as usize;
+        self.marks.reserve(places)?;
+        self.bytes.reserve(places * size)
+    }
+
+    /// Appends the datagram that the two parts make.
+    pub(crate) fn push(&mut self, node: u8, front: &[u8], back: &[u8]) -> Result<(), AllocError>
+        requires { length front.now + length back.now ≤ 599 }
+        ensures ok { OnOk result (self.new.items ≡ self.old.items ++ record { node = node; bytes = front.now ++ back.now } ∷ []) }
+        ensures err { OnErr result (self.new.items ≡ self.old.items) }
+        ensures kept { OnErr result ((n len : ℕ) → HasRoom self.old.room n len → HasRoom self.new.room n len) }
+        ensures room { (n len : ℕ) → HasRoom self.old.room (n + 1) len → length front.now + length back.now ≤ len → IsOk result × HasRoom self.new.room n len }
+    {
+        self.reserve(1, front.len() + back.len())?;
+        self.bytes.extend_from_slice(front).unwrap();
+        self.bytes.extend_from_slice(back).unwrap();
+        let end = self.bytes.len();
+        self.marks.push(Mark { end, node }).unwrap();
+        Ok(())
+    }
+}
+
+/// Where the bytes of the datagram at an index lie.
+fn span(marks: &[Mark], index: usize) -> (usize, usize)
+    requires { index < length marks.now }
+    ensures start { result.0 ≡ start_at 0 marks.now index }
+    ensures end { (m : Mark) × (slice_get marks.now index ≡ Some m) × (result.1 ≡ m.end) }
+{
+    let start = match index {
+        0 => 0,
+        _ => marks[index - 1].end,
+    };
+    (start, marks[index].end)
+}

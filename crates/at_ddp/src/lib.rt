@@ -1,0 +1,26 @@
+//! Datagrams of AppleTalk's Datagram Delivery Protocol (DDP), and what every layer above shares: addresses, short
+//! strings, lists that contracts compare, the list of finished datagrams and the outbox that a layer sends by.
+#![tactic(auto)]
+
+mod address;
+mod bytes;
+mod datagram;
+mod datagrams;
+mod fault;
+pub mod laws;
+mod listed;
+mod outbox;
+mod pascal;
+mod sum;
+mod text;
+
+pub use address::Address;
+pub use bytes::Bytes;
+pub use datagram::{Datagram, HEADER_LEN, MAX_DATA, decode, encode};
+pub use datagrams::Datagrams;
+pub use fault::DdpFault;
+pub use listed::Listed;
+pub use outbox::Outbox;
+pub use pascal::Pascal;
+pub use sum::rotating_sum;
+pub use text::same_text;

@@ -1,0 +1,64 @@
+ghost use Rattle.std.specs.Prelude.{◌≡◌, ℕ, ◌+◌, ◌≤◌, ◌∷◌, [], ◌++◌, length, OnOk, OnErr, IsOk};
+ghost use Rattle.at_ddp.specs.Outbox.{Sends, HasRoomFor};
+
+use crate::address::Address;
+use crate::datagram::{HEADER_LEN, header_of};
+use crate::datagrams::Datagrams;
+use std::alloc::{AllocError, Allocator, Global};
+use std::marker::Model;
+
+/// A node's list of finished datagrams, while one of its sockets appends to it.
+#[derive(Drop)]
+pub struct Outbox<A: Allocator = Global> {
+    list: Datagrams<A>,
+    from: Address,
+    kind: u8,
+}
+
+impl<A: Allocator> Model for Outbox<A> {
+    ghost use Rattle.at_ddp.specs.Outbox.{Outbox as Box};
+
+    ghost Value = { Box };
+
+    ghost view = { λ o. record { items = o.list.items; from = o.from; kind = o.kind; room = o.list.room } };
+}
+
+impl<A: Allocator> Outbox<A> {
+    /// Takes over a list; the pushes go to its end.
+    pub fn over(list: Datagrams<A>, from: Address, kind: u8) -> Outbox<A>
+        ensures { result ≡ record { items = list.items; from = from; kind = kind; room = list.room } }
+    {
+        Outbox { list, from, kind }
+    }
+
+    /// Appends the finished datagram.
+    pub fn push(&mut self, to: Address, bytes: &[u8]) -> Result<(), AllocError>
+        requires { length bytes.now ≤ 586 }
+        ensures ok { OnOk result (Sends self.old self.new ((to, bytes.now) ∷ [])) }
+        ensures err { OnErr result (Sends self.old self.new []) }
+        ensures kept { OnErr result ((n size : ℕ) → HasRoomFor self.old n size → HasRoomFor self.new n size) }
+        ensures room { (n size : ℕ) → HasRoomFor self.old (n + 1) size → length bytes.now ≤ size → IsOk result × HasRoomFor self.new n size }
+    {
+        let header = header_of(to, self.from, self.kind, bytes);
+        self.list.push(to.node, &header, bytes)
+    }
+
+    /// Lets the next `pushes` pushes of at most `size` bytes each refuse no memory.
+    pub fn room(&mut self, pushes: u32, size: usize) -> Result<(), AllocError>
+        requires { size ≤ 586 }
+        ensures ok { OnOk result (HasRoomFor self.new pushes size) }
+        ensures stays { Sends self.old self.new [] }
+        ensures kept { (n len : ℕ) → HasRoomFor self.old n len → HasRoomFor self.new n len }
+        ensures succeeds { HasRoomFor self.old pushes size → IsOk result }
+    {
+        self.list.reserve(pushes, HEADER_LEN + size)
+    }
+
+    /// The list that was taken over, with what was pushed at its end.
+    pub fn into_list(self) -> Datagrams<A>
+        ensures items { result.items ≡ self.items }
+        ensures room { result.room ≡ self.room }
+    {
+        self.list
+    }
+}
