@@ -1,0 +1,3 @@
+mod Asked
+mod Handle
+mod Steps

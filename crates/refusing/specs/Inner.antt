@@ -1,0 +1,5 @@
+-- What a clause sees of the allocator: which one it hands requests on to.
+use Rattle.refusing.specs.declared.Refusing.{Refusing}
+
+abbrev pub inner_of : {B : Type 0} → Refusing B → B
+inner_of heap = heap.inner
