@@ -16,7 +16,7 @@ use Rattle.at_ddp.proofs.Octets.{InBytes, bytes_of, high_byte, low_byte}
 -- the header and the data, spelled again
 read_back : (b0 b1 b2 b3 b4 b5 b6 b7 b8 b9 b10 b11 b12 : ℕ) (more : List ℕ) (len : ℕ) → InBytes (b0 ∷ b1 ∷ b2 ∷ b3 ∷ b4 ∷ b5 ∷ b6 ∷ b7 ∷ b8 ∷ b9 ∷ b10 ∷ b11 ∷ b12 ∷ more) →
     len ≤ length more → len + 13 ≡ (256 * b0 + b1) % 1024 →
-    spelling ((256 * b0 + b1) / 2 ^ 14) (record { hops = (256 * b0 + b1) / 1024 % 16; sum = 256 * b2 + b3; to = record { net = 256 * b4 + b5; node = b8; socket = b10 }; from = record { net = 256 * b6 + b7; node = b9; socket = b11 }; kind = b12; «data» = take len more }) ++ drop len more
+    spelling ((256 * b0 + b1) / 2 ^ 14) (record { hops = (256 * b0 + b1) / 1024 % 16; sum = 256 * b2 + b3; to = record { net = 256 * b4 + b5; node = b8; socket = b10 }; from = record { net = 256 * b6 + b7; node = b9; socket = b11 }; kind = b12; data_ = take len more }) ++ drop len more
     ≡ b0 ∷ b1 ∷ b2 ∷ b3 ∷ b4 ∷ b5 ∷ b6 ∷ b7 ∷ b8 ∷ b9 ∷ b10 ∷ b11 ∷ b12 ∷ more
 unfolding spelling
 read_back b0 b1 b2 b3 b4 b5 b6 b7 b8 b9 b10 b11 b12 more len fits enough is =
@@ -42,16 +42,16 @@ fields_of input = record {
   to = record { net = number_at 4 input; node = get_or input 8 0; socket = get_or input 10 0 };
   from = record { net = number_at 6 input; node = get_or input 9 0; socket = get_or input 11 0 };
   kind = get_or input 12 0;
-  «data» = take (stated_length input - 13) (drop 13 input);
+  data_ = take (stated_length input - 13) (drop 13 input);
 }
 
 begins : (b0 b1 b2 b3 b4 b5 b6 b7 b8 b9 b10 b11 b12 : ℕ) (more : List ℕ) (len : ℕ) →
     InBytes (b0 ∷ b1 ∷ b2 ∷ b3 ∷ b4 ∷ b5 ∷ b6 ∷ b7 ∷ b8 ∷ b9 ∷ b10 ∷ b11 ∷ b12 ∷ more) → len ≤ 586 → len ≤ length more → len + 13 ≡ (256 * b0 + b1) % 1024 →
     (256 * b2 + b3 ≡ 0) ⊎ (256 * b2 + b3 ≡ sum_of (take (9 + len) (b4 ∷ b5 ∷ b6 ∷ b7 ∷ b8 ∷ b9 ∷ b10 ∷ b11 ∷ b12 ∷ more))) →
     BeginsWith (b0 ∷ b1 ∷ b2 ∷ b3 ∷ b4 ∷ b5 ∷ b6 ∷ b7 ∷ b8 ∷ b9 ∷ b10 ∷ b11 ∷ b12 ∷ more)
-    (record { hops = (256 * b0 + b1) / 1024 % 16; sum = 256 * b2 + b3; to = record { net = 256 * b4 + b5; node = b8; socket = b10 }; from = record { net = 256 * b6 + b7; node = b9; socket = b11 }; kind = b12; «data» = take len more }) (drop len more)
+    (record { hops = (256 * b0 + b1) / 1024 % 16; sum = 256 * b2 + b3; to = record { net = 256 * b4 + b5; node = b8; socket = b10 }; from = record { net = 256 * b6 + b7; node = b9; socket = b11 }; kind = b12; data_ = take len more }) (drop len more)
 begins b0 b1 b2 b3 b4 b5 b6 b7 b8 b9 b10 b11 b12 more len fits small enough is summed =
-    let d : Content = record { hops = (256 * b0 + b1) / 1024 % 16; sum = 256 * b2 + b3; to = record { net = 256 * b4 + b5; node = b8; socket = b10 }; from = record { net = 256 * b6 + b7; node = b9; socket = b11 }; kind = b12; «data» = take len more } in
+    let d : Content = record { hops = (256 * b0 + b1) / 1024 % 16; sum = 256 * b2 + b3; to = record { net = 256 * b4 + b5; node = b8; socket = b10 }; from = record { net = 256 * b6 + b7; node = b9; socket = b11 }; kind = b12; data_ = take len more } in
     let all : List ℕ = b0 ∷ b1 ∷ b2 ∷ b3 ∷ b4 ∷ b5 ∷ b6 ∷ b7 ∷ b8 ∷ b9 ∷ b10 ∷ b11 ∷ b12 ∷ more in
     let are_bytes : AreBytes (take len more) = All-take (λ b. b < 256) len more (All-drop (λ b. b < 256) 13 all (bytes_of all fits)) in
     let cells = take-append-add (b4 ∷ b5 ∷ b6 ∷ b7 ∷ b8 ∷ b9 ∷ b10 ∷ b11 ∷ b12 ∷ []) more len in
@@ -82,7 +82,7 @@ is_spelled _ fits long low high enough summed = absurd (omega arith)
 
 -- ---- what is spelled has no fault
 
-stated_in : (free : ℕ) (d : Content) (rest : List ℕ) → free < 4 → IsLawful d → stated_length (spelling free d ++ rest) ≡ 13 + length d.data
+stated_in : (free : ℕ) (d : Content) (rest : List ℕ) → free < 4 → IsLawful d → stated_length (spelling free d ++ rest) ≡ 13 + length d.data_
 unfolding spelling
 stated_in free d rest f ok = let hops = ok.hops in let len = ok.len in omega arith
 
@@ -90,15 +90,15 @@ sum_in : (free : ℕ) (d : Content) (rest : List ℕ) → IsLawful d → number_
 unfolding spelling
 sum_in free d rest ok = let sum = ok.sum in omega arith
 
-after_sum_in : (free : ℕ) (d : Content) (rest : List ℕ) → slice_range (spelling free d ++ rest) 4 (13 + length d.data) ≡ after_sum d
+after_sum_in : (free : ℕ) (d : Content) (rest : List ℕ) → slice_range (spelling free d ++ rest) 4 (13 + length d.data_) ≡ after_sum d
 unfolding spelling
 after_sum_in free d rest =
-    let len : 13 + length d.data - 4 ≡ length (after_sum d) = omega arith in
+    let len : 13 + length d.data_ - 4 ≡ length (after_sum d) = omega arith in
     ap (λ n. take n (after_sum d ++ rest)) len ∙ take-append_seam (after_sum d) rest
 
-length_in : (free : ℕ) (d : Content) (rest : List ℕ) → length (spelling free d ++ rest) ≡ 13 + length d.data + length rest
+length_in : (free : ℕ) (d : Content) (rest : List ℕ) → length (spelling free d ++ rest) ≡ 13 + length d.data_ + length rest
 unfolding spelling
-length_in free d rest = omega (arith, length-append d.data rest)
+length_in free d rest = omega (arith, length-append d.data_ rest)
 
 no_fault_in : (free : ℕ) (d : Content) (rest : List ℕ) → free < 4 → IsLawful d → HasRightSum d → (fault : DdpFault) → Stands fault (spelling free d ++ rest) → ⊥
 no_fault_in free d rest f ok summed Short h = omega (arith, length_in free d rest)

@@ -13,20 +13,20 @@ same_word f f' h h' l l' a a' b b' c c' e = (omega arith, omega arith, omega ari
 same_fields : (a b : Address) → a.net ≡ b.net → a.node ≡ b.node → a.socket ≡ b.socket → a ≡ b
 same_fields a b net node socket = λ i. record { net = net i; node = node i; socket = socket i }
 
-same_content : (d e : Content) → d.hops ≡ e.hops → d.sum ≡ e.sum → d.to ≡ e.to → d.from ≡ e.from → d.kind ≡ e.kind → d.data ≡ e.data → d ≡ e
-same_content d e hops sum to from kind bytes = λ i. record { hops = hops i; sum = sum i; to = to i; from = from i; kind = kind i; «data» = bytes i }
+same_content : (d e : Content) → d.hops ≡ e.hops → d.sum ≡ e.sum → d.to ≡ e.to → d.from ≡ e.from → d.kind ≡ e.kind → d.data_ ≡ e.data_ → d ≡ e
+same_content d e hops sum to from kind bytes = λ i. record { hops = hops i; sum = sum i; to = to i; from = from i; kind = kind i; data_ = bytes i }
 
 pub two_spellings : (free free' : ℕ) (d e : Content) (x y : List ℕ) → free < 4 → free' < 4 → IsLawful d → IsLawful e →
     spelling free d ++ x ≡ spelling free' e ++ y → (free ≡ free') × (d ≡ e) × (x ≡ y)
 unfolding spelling
 two_spellings free free' d e x y h h' ok ok' same =
     let at : (i : ℕ) → get_or (spelling free d ++ x) i 0 ≡ get_or (spelling free' e ++ y) i 0 = λ i. ap (λ (l : List ℕ). get_or l i 0) same in
-    let word = same_number (free * 2 ^ 14 + d.hops * 2 ^ 10 + (13 + length d.data)) (free' * 2 ^ 14 + e.hops * 2 ^ 10 + (13 + length e.data)) (omega arith) (omega arith) (at 0) (at 1) in
-    let parts = same_word free free' d.hops e.hops (length d.data) (length e.data) h h' ok.hops ok'.hops ok.len ok'.len word in
+    let word = same_number (free * 2 ^ 14 + d.hops * 2 ^ 10 + (13 + length d.data_)) (free' * 2 ^ 14 + e.hops * 2 ^ 10 + (13 + length e.data_)) (omega arith) (omega arith) (at 0) (at 1) in
+    let parts = same_word free free' d.hops e.hops (length d.data_) (length e.data_) h h' ok.hops ok'.hops ok.len ok'.len word in
     let sum = same_number d.sum e.sum ok.sum ok'.sum (at 2) (at 3) in
     let to = same_fields d.to e.to (same_number d.to.net e.to.net ok.to.net ok'.to.net (at 4) (at 5)) (at 8) (at 10) in
     let from = same_fields d.from e.from (same_number d.from.net e.from.net ok.from.net ok'.from.net (at 6) (at 7)) (at 9) (at 11) in
-    let ends : (d.data ≡ e.data) × (x ≡ y) = append_parts d.data e.data x y parts.2 (ap (drop 13) same) in
+    let ends : (d.data_ ≡ e.data_) × (x ≡ y) = append_parts d.data_ e.data_ x y parts.2 (ap (drop 13) same) in
     (parts.0, same_content d e parts.1 sum to from (at 12) ends.0, ends.1)
 
 pub one_reading : (input : List ℕ) (d e : Content) (x y : List ℕ) → BeginsWith input d x → BeginsWith input e y → (d ≡ e) × (x ≡ y)

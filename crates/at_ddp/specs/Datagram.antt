@@ -12,10 +12,10 @@ pub record Content : Type 0 where
   pub to : Address
   pub from : Address
   pub kind : ℕ
-  pub «data» : List ℕ
+  pub data_ : List ℕ
 
 abbrev pub content : Datagram → Content
-content d = record { hops = d.hops; sum = d.sum; to = d.to; from = d.from; kind = d.kind; «data» = d.data.now }
+content d = record { hops = d.hops; sum = d.sum; to = d.to; from = d.from; kind = d.kind; data_ = d.data_.now }
 
 -- each is a byte
 abbrev pub AreBytes : List ℕ → Type 0
@@ -34,19 +34,19 @@ pub record IsLawful (d : Content) : Type 0 where
   pub to : IsAddress d.to
   pub from : IsAddress d.from
   pub kind : d.kind < 256
-  pub bytes : AreBytes d.data
-  pub len : length d.data ≤ 586
+  pub bytes : AreBytes d.data_
+  pub len : length d.data_ ≤ 586
 
 -- what stands after the sum: the networks, the nodes, the sockets, the type and the data
 abbrev pub after_sum : Content → List ℕ
 after_sum d =
     to_be_bytes w16 d.to.net ++ to_be_bytes w16 d.from.net
-    ++ (d.to.node ∷ d.from.node ∷ d.to.socket ∷ d.from.socket ∷ d.kind ∷ []) ++ d.data
+    ++ (d.to.node ∷ d.from.node ∷ d.to.socket ∷ d.from.socket ∷ d.kind ∷ []) ++ d.data_
 
 -- two free bits, four of the hops and ten of the length, which counts the 13 bytes of the header; the sum; and the rest
 unfoldable pub spelling : ℕ → Content → List ℕ
 spelling free d =
-    to_be_bytes w16 (free * 2 ^ 14 + d.hops * 2 ^ 10 + (13 + length d.data)) ++ to_be_bytes w16 d.sum ++ after_sum d
+    to_be_bytes w16 (free * 2 ^ 14 + d.hops * 2 ^ 10 + (13 + length d.data_)) ++ to_be_bytes w16 d.sum ++ after_sum d
 
 -- the bytes spell d, with any content of the two free bits
 pub record Spells (bytes : List ℕ) (d : Content) : Type 0 where
@@ -69,7 +69,7 @@ pub record BeginsWith (input : List ℕ) (d : Content) (rest : List ℕ) : Type 
 -- the datagram that is written: it has passed no router, and its sum is computed
 abbrev pub written : Address → Address → ℕ → List ℕ → Content
 written to from kind bytes =
-    let d : Content = record { hops = 0; sum = 0; to = to; from = from; kind = kind; «data» = bytes } in
+    let d : Content = record { hops = 0; sum = 0; to = to; from = from; kind = kind; data_ = bytes } in
     record d { sum = sum_of (after_sum d) }
 
 -- the canonical spelling, with 0 in the free bits

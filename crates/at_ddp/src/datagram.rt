@@ -25,7 +25,7 @@ pub struct Datagram<'a> {
     pub from: Address,
     /// The protocol of the data: 2 NBP, 3 ATP, 7 ADSP.
     pub kind: u8,
-    pub data: &'a [u8],
+    pub data_: &'a [u8],
 }
 
 /// Reads the datagram at the front of the input, and hands back what follows its stated length.
@@ -72,7 +72,7 @@ fn parse(input: &[u8]) -> Result<(Datagram<'_>, &[u8]), DdpFault>
             socket: input[11],
         },
         kind: input[12],
-        data: &input[HEADER_LEN..len],
+        data_: &input[HEADER_LEN..len],
     };
     Ok((datagram, &input[len..]))
 }
