@@ -1,0 +1,5 @@
+mod AnswerLemmas
+mod FrameLemmas
+mod RequestLemmas
+mod StepLemmas
+mod TableLemmas

@@ -1,0 +1,135 @@
+-- The side that asks, and what each call does to it (Inside AppleTalk, ATP, "Transactions").
+use Rattle.std.specs.Prelude.{◌≡◌, ℕ, zero, suc, ◌+◌, ◌%◌, ◌≤◌, ◌==◌, ◌&&◌, nat_lt, if◌then◌else◌, Bool, true, false, List, [], ◌∷◌, ◌++◌, length, find, replicate, Option, Some, None}
+use Rattle.std.specs.List.{list_any}
+use Rattle.at_ddp.specs.Address.{same_address}
+use Rattle.at_ddp.specs.Outbox.{Outbox, Sends}
+use Rattle.at_ddp.specs.declared.address.Address.{Address}
+use Rattle.at_atp.specs.Packets.{Packet}
+use Rattle.at_atp.specs.Answers.{Arrival, is_wanted, mask_of, whole, with_part}
+use Rattle.at_atp.specs.Frames.{Content, Request, Response, Release, spelled}
+use Rattle.at_atp.specs.Tables.{replaced, without_first}
+use Rattle.at_atp.specs.declared.step.Step.{Step}
+use Rattle.at_atp.specs.declared.step.Step.TheVariants as step
+
+-- an open transaction: its number, whom it asked and what, how often it may be sent again, and what came for each place
+pub record Transaction : Type 0 where
+  pub tid : ℕ
+  pub to : Address
+  pub user : List ℕ
+  pub data_ : List ℕ
+  pub xo : Bool
+  pub retries : ℕ
+  pub parts : List (Option Arrival)
+
+-- the number to try next, and the open transactions in the order of their beginnings
+pub record Requests : Type 0 where
+  pub next : ℕ
+  pub standing : List Transaction
+
+abbrev pub no_requests : Requests
+no_requests = record { next = 0; standing = [] }
+
+-- a transaction's data fits one packet, and it asks for at most eight
+pub record IsTransaction (t : Transaction) : Type 0 where
+  pub data_fits : length t.data_ ≤ 578
+  pub few : length t.parts ≤ 8
+
+-- is a transaction open under this number?
+abbrev pub has_number : List Transaction → ℕ → Bool
+has_number standing tid = list_any (λ t. t.tid == tid) standing
+
+-- the first number from here on that is not open, of so many tries
+abbrev pub draw_from : ℕ → ℕ → List Transaction → Option ℕ
+draw_from zero first standing = None
+draw_from (suc tries) first standing = if has_number standing first then draw_from tries ((first + 1) % 65536) standing else Some first
+
+-- the number that the next transaction gets; none where 32 are open
+abbrev pub next_number : Requests → Option ℕ
+next_number r = if nat_lt (length r.standing) 32 then draw_from (length r.standing + 1) r.next r.standing else None
+
+-- the request by which a transaction asks for the places that it still wants
+abbrev pub request_by : Transaction → Content
+request_by t = Request (mask_of t.parts) t.xo 0 t.tid t.user t.data_
+
+-- a transaction that begins: nothing came for any of the places wanted
+abbrev pub beginning : ℕ → Address → List ℕ → List ℕ → ℕ → Bool → ℕ → Transaction
+beginning tid to user bytes wanted xo retries = record { tid = tid; to = to; user = user; data_ = bytes; xo = xo; retries = retries; parts = replicate wanted None }
+
+abbrev pub begun : Requests → Transaction → Requests
+begun r t = record { next = (t.tid + 1) % 65536; standing = r.standing ++ t ∷ [] }
+
+-- the transaction of this number, if it asked this address
+abbrev pub is_of : ℕ → Address → Transaction → Bool
+is_of tid from t = (t.tid == tid) && same_address t.to from
+
+-- what a packet does to the transaction that it came for: the step, the transaction after it, and what is sent
+pub record Effect (A : Type 0) : Type 0 where
+  pub step : Step A
+  pub after : Transaction
+  pub sent : List (Address × List ℕ)
+
+-- an exactly-once transaction tells the responder that the answer came whole
+abbrev pub release_by : Transaction → List (Address × List ℕ)
+release_by t = if t.xo then (t.to, spelled (Release t.tid)) ∷ [] else []
+
+abbrev pub asked_again : {A : Type 0} → Transaction → Effect A
+asked_again t = record { step = step.AskAgain; after = t; sent = (t.to, spelled (request_by t)) ∷ [] }
+
+-- a packet came that was wanted: the answer is there, or others are still wanted
+abbrev pub was_kept : {A : Type 0} → Transaction → Bool → Option (List Packet) → Effect A
+was_kept t sts (Some packets) = record { step = step.Finished packets; after = t; sent = release_by t }
+was_kept t true None = asked_again t
+was_kept t false None = record { step = step.Kept; after = t; sent = [] }
+
+abbrev pub came_for : {A : Type 0} → Transaction → ℕ → Arrival → Bool → Bool → Effect A
+came_for t place part sts true = was_kept (record t { parts = with_part t.parts place part }) sts (whole (with_part t.parts place part))
+came_for t place part true false = asked_again t
+came_for t place part false false = record { step = step.Ignored; after = t; sent = [] }
+
+-- a packet for this place came, with the status flag or without
+abbrev pub came : {A : Type 0} → Transaction → ℕ → Arrival → Bool → Effect A
+came t place part sts = came_for t place part sts (is_wanted t.parts place)
+
+abbrev pub is_finished : {A : Type 0} → Step A → Bool
+is_finished (step.Finished packets) = true
+is_finished other = false
+
+-- what came of a packet: the step, the requester after it, and what is sent
+pub record Heard (A : Type 0) : Type 0 where
+  pub step : Step A
+  pub after : Requests
+  pub sent : List (Address × List ℕ)
+
+abbrev pub ignored : {A : Type 0} → Requests → Heard A
+ignored r = record { step = step.Ignored; after = r; sent = [] }
+
+-- a transaction that finished is closed, and any other stands as the packet left it
+abbrev pub settled : {A : Type 0} → Requests → (Transaction → Bool) → Effect A → Heard A
+settled r this e = record {
+  step = e.step;
+  after = record { next = r.next; standing = if is_finished e.step then without_first this r.standing else replaced this e.after r.standing };
+  sent = e.sent;
+}
+
+abbrev pub response_came : {A : Type 0} → Requests → (Transaction → Bool) → ℕ → Arrival → Bool → Option Transaction → Heard A
+response_came r this place part sts None = ignored r
+response_came r this place part sts (Some t) = settled r this (came t place part sts)
+
+-- what comes of a packet from an address: only a response to an open transaction of that number that asked that address
+-- changes anything
+abbrev pub heard : {A : Type 0} → Requests → Address → Content → Heard A
+heard r from (Response place eom sts tid user bytes) = response_came r (is_of tid from) place (record { eom = eom; packet = record { user = user; data_ = bytes } }) sts (find (is_of tid from) r.standing)
+heard r from (Request mask xo timer tid user bytes) = ignored r
+heard r from (Release tid) = ignored r
+
+-- the step, the new requester and what was sent are these
+pub record IsHeard {A : Type 0} (h : Heard A) (s : Step A) (new : Requests) (before after : Outbox) : Type 0 where
+  pub is_step : s ≡ h.step
+  pub is_new : new ≡ h.after
+  pub sends : Sends before after h.sent
+
+-- the step and what was sent are those of a packet's effect, and so is the transaction, if it is still open
+pub record IsEffect {A : Type 0} (e : Effect A) (s : Step A) (new : Transaction) (before after : Outbox) : Type 0 where
+  pub is_step : s ≡ e.step
+  pub is_new : is_finished e.step ≡ false → new ≡ e.after
+  pub sends : Sends before after e.sent

@@ -1,0 +1,40 @@
+ghost use Rattle.std.specs.Prelude.{◌≡◌};
+
+use at_ddp::Bytes;
+use std::alloc::{Allocator, Global};
+use std::marker::Model;
+
+/// One packet of an answer: its four user bytes, and its data.
+#[derive(Drop)]
+pub struct Packet<A: Allocator = Global> {
+    user: [u8; 4],
+    data_: Bytes<A>,
+}
+
+impl<A: Allocator> Model for Packet<A> {
+    ghost use Rattle.at_atp.specs.Packets.{Packet as Parts};
+
+    ghost Value = { Parts };
+
+    ghost view = { λ p. record { user = p.user; data_ = p.data_ } };
+}
+
+impl<A: Allocator> Packet<A> {
+    pub fn new(user: [u8; 4], data_: Bytes<A>) -> Packet<A>
+        ensures { result ≡ record { user = user; data_ = data_ } }
+    {
+        Packet { user, data_ }
+    }
+
+    pub fn user(&self) -> [u8; 4]
+        ensures { result ≡ self.now.user }
+    {
+        self.user
+    }
+
+    pub fn data_(&self) -> &[u8]
+        ensures { result.now ≡ self.now.data_ }
+    {
+        self.data_.as_slice()
+    }
+}

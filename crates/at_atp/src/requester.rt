@@ -1,0 +1,178 @@
+ghost use Rattle.std.specs.Prelude.{◌≡◌, ◌≢◌, ◌↔◌, ◌+◌, ◌≤◌, ◌<◌, ◌∷◌, [], length, remove, if◌then◌else◌, IfOk, IfErr, OnErr, IsErrOf, Some, None};
+ghost use Rattle.std.specs.List.{position_from};
+ghost use Rattle.at_ddp.specs.Outbox.{Sends};
+ghost use Rattle.at_atp.specs.Frames.{content, spelled};
+ghost use Rattle.at_atp.specs.Requests.{no_requests, has_number, draw_from, next_number, beginning, begun, request_by, is_of, is_finished, heard, IsHeard};
+
+use crate::fault::AtpFault;
+use crate::frame::{Frame, MAX_DATA};
+use crate::sending::send;
+use crate::step::Step;
+use crate::transaction::{Arriving, Asking, Transaction};
+use at_ddp::{Address, Outbox};
+use std::alloc::{AllocError, Allocator, Global};
+use std::marker::Model;
+
+/// How many transactions may be open.
+const OPEN: usize = 32;
+
+/// The transactions that one socket asked for and that are still open.
+#[derive(Drop)]
+pub struct Requester<A: Allocator = Global> {
+    alloc: A,
+    next: u16,
+    standing: Vec<Transaction<A>, A>,
+}
+
+impl<A: Allocator> Model for Requester<A> {
+    ghost use Rattle.at_atp.specs.Requests.{Requests};
+
+    ghost Value = { Requests };
+
+    ghost view = { λ r. record { next = r.next; standing = r.standing.items } };
+}
+
+impl<A: Allocator + Copy> Requester<A> {
+    pub fn new(alloc: A) -> Requester<A>
+        ensures { result ≡ no_requests }
+    {
+        Requester {
+            alloc,
+            next: 0,
+            standing: Vec::new(alloc),
+        }
+    }
+
+    /// Begins a transaction: asks for `wanted` packets, 1 to 8, under the next number, which is the answer. `retries`
+    /// says how often the request may be sent again.
+    pub fn begin(
+        &mut self,
+        to: Address,
+        user: [u8; 4],
+        bytes: &[u8],
+        wanted: u8,
+        xo: bool,
+        retries: u8,
+        out: &mut Outbox<A>,
+    ) -> Result<u16, AtpFault>
+        requires some { 1 ≤ wanted }
+        requires few { wanted ≤ 8 }
+        ensures drawn { IfOk result (λ tid. next_number self.old ≡ Some tid) }
+        ensures state { IfOk result (λ tid. self.new ≡ begun self.old (beginning tid to user bytes.now wanted xo retries)) }
+        ensures sent { IfOk result (λ tid. Sends out.old out.new ((to, spelled (request_by (beginning tid to user bytes.now wanted xo retries))) ∷ [])) }
+
+        // The data is looked at first, then the table.
+        ensures too_long { IsErrOf result AtpFault.AtpTooLong ↔ (578 < length bytes.now) }
+        ensures full { IsErrOf result AtpFault.Full ↔ ((length bytes.now ≤ 578) × (next_number self.old ≡ None)) }
+        ensures memory { IfErr result (λ fault. fault ≢ AtpFault.AtpTooLong → fault ≢ AtpFault.Full → fault ≡ AtpFault.NoMemory) }
+        ensures unchanged { OnErr result (self.new ≡ self.old) }
+        ensures nothing_sent { OnErr result (Sends out.old out.new []) }
+    {
+        if bytes.len() > MAX_DATA {
+            return Err(AtpFault::AtpTooLong);
+        }
+        let Some(tid) = next_number(&self.standing, self.next) else {
+            return Err(AtpFault::Full);
+        };
+        let asking = Asking {
+            to,
+            user,
+            bytes,
+            wanted,
+            xo,
+            retries,
+        };
+        let transaction = Transaction::begin(self.alloc, tid, &asking)?;
+        self.standing.reserve(1)?;
+        send(out, to, &transaction.request())?;
+        self.standing.push(transaction).unwrap();
+        self.next = tid.wrapping_add(1);
+        Ok(tid)
+    }
+
+    /// Takes a packet in that came from this address.
+    pub fn receive(
+        &mut self,
+        from: Address,
+        frame: &Frame<'_>,
+        out: &mut Outbox<A>,
+    ) -> Result<Step<A>, AllocError>
+        ensures ok { IfOk result (λ step. IsHeard (heard self.old from (content frame.now)) step self.new out.old out.new) }
+        ensures unchanged { OnErr result (self.new ≡ self.old) }
+        ensures nothing_sent { OnErr result (Sends out.old out.new []) }
+    {
+        let Frame::Response {
+            place,
+            eom,
+            sts,
+            tid,
+            user,
+            data_,
+        } = *frame
+        else {
+            return Ok(Step::Ignored);
+        };
+        let Some(index) = place_of(&self.standing, tid, from) else {
+            return Ok(Step::Ignored);
+        };
+        let arriving = Arriving {
+            place,
+            eom,
+            sts,
+            user,
+            bytes: data_,
+        };
+        let transaction = &mut self.standing[index];
+        let step = transaction.take_in(self.alloc, &arriving, out)?;
+        settle(&mut self.standing, index, &step);
+        Ok(step)
+    }
+}
+
+// Closes the transaction at an index, if it finished.
+fn settle<A: Allocator>(standing: &mut Vec<Transaction<A>, A>, index: usize, step: &Step<A>)
+    requires { index < length standing.old.items }
+    ensures { standing.new.items ≡ (if is_finished step.now then remove standing.old.items index else standing.old.items) }
+{
+    if let Step::Finished(_) = step {
+        drop(standing.remove(index));
+    }
+}
+
+// Whether a transaction is open under this number.
+fn uses<A: Allocator>(standing: &[Transaction<A>], tid: u16) -> bool
+    ensures { result ≡ has_number standing.now tid }
+{
+    standing.iter().any(|t| t.tid() == tid)
+}
+
+// The first number from `first` on that is not open, of so many tries.
+fn free_number<A: Allocator>(standing: &[Transaction<A>], first: u16, tries: usize) -> Option<u16>
+    ensures { result ≡ draw_from tries first standing.now }
+{
+    if tries == 0 {
+        None
+    } else if uses(standing, first) {
+        free_number(standing, first.wrapping_add(1), tries - 1)
+    } else {
+        Some(first)
+    }
+}
+
+// The number that the next transaction gets, where `next` is to be tried first.
+fn next_number<A: Allocator>(standing: &[Transaction<A>], next: u16) -> Option<u16>
+    ensures { result ≡ next_number (record { next = next; standing = standing.now }) }
+{
+    if standing.len() < OPEN {
+        free_number(standing, next, standing.len() + 1)
+    } else {
+        None
+    }
+}
+
+// Where the transaction of this number stands, if it asked this address.
+fn place_of<A: Allocator>(standing: &[Transaction<A>], tid: u16, from: Address) -> Option<usize>
+    ensures { result ≡ position_from (is_of tid from) 0 standing.now }
+{
+    standing.iter().position(|t| t.is_of(tid, from))
+}

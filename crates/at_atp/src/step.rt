@@ -1,0 +1,16 @@
+use crate::packet::Packet;
+use at_ddp::Listed;
+use std::alloc::{Allocator, Global};
+
+/// What came of a packet.
+#[derive(Drop)]
+pub enum Step<A: Allocator = Global> {
+    /// The packet had no effect.
+    Ignored,
+    /// The packet was kept, and others are still wanted.
+    Kept,
+    /// The packets still wanted were asked for again.
+    AskAgain,
+    /// The transaction ended with these packets.
+    Finished(Listed<Packet<A>, A>),
+}
