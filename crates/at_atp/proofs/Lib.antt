@@ -1,5 +1,6 @@
 mod AnswerLemmas
 mod FrameLemmas
+mod RecordLemmas
 mod RequestLemmas
 mod StepLemmas
 mod TableLemmas

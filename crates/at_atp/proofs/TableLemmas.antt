@@ -61,3 +61,15 @@ not_found p from (x ∷ xs) h = go (λ g. not_found p (from + 1) xs g) (p x) ref
 -- the same of what a search over a copy of the list answered
 pub found_by : {X : Type 0} (p : X → Bool) (xs given : List X) (r : Option ℕ) (i : ℕ) → given ≡ xs → r ≡ position_from p 0 given → r ≡ Some i → Found p xs i
 found_by p xs given r i same is some = found p xs i (ap (position_from p 0) (sym same) ∙ sym is ∙ some)
+
+-- without an entry that passes, nothing is taken away
+pub without_none : {X : Type 0} (p : X → Bool) (xs : List X) → find p xs ≡ None → without_first p xs ≡ xs
+without_none p [] h = refl
+without_none p (x ∷ xs) h = go (λ g. without_none p xs g) (p x) refl h
+  where
+    go : (find p xs ≡ None → without_first p xs ≡ xs) → (b : Bool) → p x ≡ b → cond b (Some x) (find p xs) ≡ None → without_first p (x ∷ xs) ≡ x ∷ xs
+    go ih true is g = absurd (cc)
+    go ih false is g = rw is (ap (λ l. x ∷ l) (ih g))
+
+pub none_by : {X : Type 0} (p : X → Bool) (xs given : List X) (r : Option ℕ) → given ≡ xs → r ≡ position_from p 0 given → r ≡ None → find p xs ≡ None
+none_by p xs given r same is none = not_found p 0 xs (ap (position_from p 0) (sym same) ∙ sym is ∙ none)

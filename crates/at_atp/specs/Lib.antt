@@ -4,5 +4,7 @@ pub mod Fault
 pub mod Frames
 pub mod Packets
 pub mod Reading
+pub mod Records
 pub mod Requests
+pub mod States
 pub mod Tables

@@ -1,11 +1,15 @@
 //! Transactions by AppleTalk's Transaction Protocol (ATP): frames, the side that asks and the side that answers.
 #![tactic(auto)]
 
+mod entry;
 mod fault;
 mod frame;
+pub mod laws;
 mod packet;
 mod part;
+mod reception;
 mod requester;
+mod responder;
 mod sending;
 mod step;
 mod transaction;
@@ -13,5 +17,7 @@ mod transaction;
 pub use fault::AtpFault;
 pub use frame::{Frame, HEADER_LEN, MAX_DATA, decode, encode};
 pub use packet::Packet;
+pub use reception::{Key, Reception};
 pub use requester::Requester;
+pub use responder::Responder;
 pub use step::Step;

@@ -1,10 +1,14 @@
--- Bytes, numbers in two of them, and the parts of lists: what every decoder needs, and no crate's own.
-use Rattle.std.proofs.Common.{◌≡◌, ℕ, ◌+◌, ◌-◌, ◌*◌, ◌/◌, ◌%◌, ◌^◌, ◌<◌, List, [], ◌∷◌, ◌++◌, length, get_or, take, drop, refl, ap, ◌∙◌, arith}
+-- Bytes, numbers in two of them, the parts of lists, and addresses: what every crate needs.
+use Rattle.std.proofs.Common.{◌≡◌, ℕ, ◌+◌, ◌-◌, ◌*◌, ◌/◌, ◌%◌, ◌^◌, ◌<◌, List, [], ◌∷◌, ◌++◌, length, get_or, take, drop, true, refl, ap, ◌∙◌, arith}
 use Rattle.std.specs.List.{All}
 use Rattle.std.proofs.lemmas.List.{get_or-drop, take_rest}
 use Rattle.std.proofs.lemmas.List.Elements.{All-from_get_or}
 use Rattle.std.proofs.Math.Nat.{add-zero}
 use Rattle.byteorder.specs.Endian.{big_number}
+use Rattle.std.specs.Prelude.{◌==◌, ◌&&◌}
+use Rattle.std.proofs.lemmas.Bool.{and_parts, eq-eqb, eqb-true}
+use Rattle.at_ddp.specs.Address.{same_address}
+use Rattle.at_ddp.specs.declared.address.Address.{Address}
 
 -- each is a byte, also past the end
 abbrev pub InBytes : List ℕ → Type 0
@@ -48,3 +52,13 @@ number_in i input n e =
 -- a list of bytes
 pub bytes_of : (bytes : List ℕ) → InBytes bytes → All (λ b. b < 256) bytes
 bytes_of bytes fits = All-from_get_or (λ b. b < 256) bytes 0 (λ i _. fits i)
+
+-- addresses that test as one are equal
+pub same_address-true : (a b : Address) → same_address a b ≡ true → a ≡ b
+same_address-true a b h =
+    let outer = and_parts ((a.net == b.net) && (a.node == b.node)) (a.socket == b.socket) h in
+    let inner = and_parts (a.net == b.net) (a.node == b.node) outer.0 in
+    λ i. record { net = eqb-true a.net b.net inner.0 i; node = eqb-true a.node b.node inner.1 i; socket = eqb-true a.socket b.socket outer.1 i }
+
+pub same_address_itself : (a : Address) → same_address a a ≡ true
+same_address_itself a = rw (eq-eqb a.net a.net refl, eq-eqb a.node a.node refl, eq-eqb a.socket a.socket refl) refl

@@ -1,3 +1,4 @@
+pub mod Address
 pub mod Datagram
 pub mod Datagrams
 pub mod Fault

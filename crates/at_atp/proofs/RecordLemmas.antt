@@ -1,0 +1,65 @@
+-- What a request does to a responder.
+use Rattle.std.proofs.Common.{◌≡◌, ℕ, ◌+◌, ◌-◌, ◌<◌, ◌≤◌, Bool, true, false, cond, leb, List, [], ◌∷◌, ◌++◌, length, set, get_or, take, drop, Option, Some, None, Result, Ok, Err, refl, sym, ap, subst, ◌∙◌, arith}
+use Rattle.std.specs.Prelude.{find, slice_get, IfOk, IfSome, is_none, nat_le, ◌&&◌, ◌==◌}
+use Rattle.std.proofs.lemmas.Bool.{true≢false, leb-true, le-leb, and_parts, eqb-true}
+use Rattle.std.proofs.lemmas.Option.{get_or_from_slice_get}
+use Rattle.at_ddp.specs.Address.{same_address}
+use Rattle.at_ddp.proofs.Octets.{same_address-true}
+use Rattle.std.proofs.lemmas.List.{take_rest}
+use Rattle.at_ddp.specs.Outbox.{Outbox, Sends}
+use Rattle.at_atp.specs.Packets.{Packet}
+use Rattle.at_atp.specs.Tables.{replaced}
+use Rattle.at_atp.specs.declared.fault.AtpFault.{AtpFault}
+use Rattle.at_atp.specs.Records.{Record, Repeat, is_key, repeated, request_came, is_new_and_full, fit, Waiting, IsTaken, IsRepeat}
+use Rattle.at_atp.specs.declared.reception.Key.{Key}
+use Rattle.at_atp.specs.declared.reception.Reception.{Reception}
+use Rattle.at_atp.specs.declared.reception.Reception.TheVariants.{New}
+use Rattle.at_atp.proofs.TableLemmas.{Found}
+use Rattle.at_atp.proofs.StepLemmas.{sends_nothing}
+
+-- a record for a new request
+pub taken_new : (rs new : List Record) (key : Key) (mask : ℕ) (r : Reception) (out : Outbox) → find (is_key key) rs ≡ None → r ≡ New key → new ≡ rs ++ record { key = key; state = Waiting mask } ∷ [] →
+    IsTaken (request_came rs key mask (find (is_key key) rs)) r new out out
+taken_new rs new key mask r out none is added = rw none (record { is_reception = is; is_new = added; sends = sends_nothing out })
+
+-- what a record's key is
+own : (key : Key) (r : Record) → is_key key r ≡ true → r.key ≡ key
+own key r h =
+    let both = and_parts (same_address r.key.from key.from) (r.key.tid == key.tid) h in
+    let from = same_address-true r.key.from key.from both.0 in
+    λ i. record { from = from i; tid = eqb-true r.key.tid key.tid both.1 i }
+
+-- the request of a record that stands came again
+pub taken_again : (rs new : List Record) (key : Key) (mask : ℕ) (r : Reception) (i : ℕ) (before after : Outbox) → (f : Found (is_key key) rs i) →
+    (old now : Record) × (slice_get rs i ≡ Some old) × IsRepeat (repeated old.key mask old.state) r old now before after × (new ≡ set rs i now) →
+    IsTaken (request_came rs key mask (find (is_key key) rs)) r new before after
+taken_again rs new key mask r i before after f h =
+    let same : h.0 ≡ f.entry = sym (get_or_from_slice_get rs i h.0 h.0 h.2) ∙ f.at h.0 in
+    let keyed : (f.entry).key ≡ key = own key f.entry f.passes in
+    let e : IsRepeat (repeated key mask (f.entry).state) r f.entry h.1 before after =
+    subst (λ k. IsRepeat (repeated k mask (f.entry).state) r f.entry h.1 before after) keyed (subst (λ (x : Record). IsRepeat (repeated x.key mask x.state) r x h.1 before after) same h.3) in
+    rw f.first (record { is_reception = e.is_reception; is_new = h.4 ∙ sym (f.set_is h.1) ∙ ap (λ x. replaced (is_key key) x rs) e.is_new; sends = e.sends })
+
+pub full_if : (rs : List Record) (key : Key) → find (is_key key) rs ≡ None → 64 ≤ length rs → is_new_and_full rs key ≡ true
+full_if rs key none many = rw (none, le-leb 64 (length rs) many) refl
+
+pub full_then : (rs : List Record) (key : Key) → is_new_and_full rs key ≡ true → 64 ≤ length rs
+full_then rs key h = leb-true 64 (length rs) (and_parts (is_none (find (is_key key) rs)) (nat_le 64 (length rs)) h).1
+
+pub not_new : (rs : List Record) (key : Key) (r : Record) → find (is_key key) rs ≡ Some r → is_new_and_full rs key ≡ true → ⊥
+not_new rs key r is h = true≢false (sym h ∙ (rw is refl))
+
+pub taken_new_in : (rs new : List Record) (key : Key) (mask : ℕ) (r : Result Reception AtpFault) (out : Outbox) → find (is_key key) rs ≡ None → IfOk r (λ x. (x ≡ New key) × (new ≡ rs ++ record { key = key; state = Waiting mask } ∷ [])) →
+    IfOk r (λ x. IsTaken (request_came rs key mask (find (is_key key) rs)) x new out out)
+taken_new_in rs new key mask (Ok x) out none h = taken_new rs new key mask x out none h.0 h.1
+taken_new_in rs new key mask (Err e) out none h = h
+
+-- ---- packets of an answer
+
+pub fit_rest : (packets : List Packet) → fit packets ≡ true → fit (take (length packets - 1) (drop 1 packets)) ≡ true
+fit_rest [] h = refl
+fit_rest (p ∷ ps) h = rw take_rest (and_parts (nat_le (length p.data_) 578) (fit ps) h).1
+
+pub rest_is_less : (packets : List Packet) → 0 < length packets → length packets ≡ length (take (length packets - 1) (drop 1 packets)) + 1
+rest_is_less [] h = absurd (omega arith)
+rest_is_less (p ∷ ps) h = rw take_rest (omega arith)

@@ -1,0 +1,133 @@
+-- The side that answers, and what each call does to it (Inside AppleTalk, ATP, "At-least-once and exactly-once transactions").
+use Rattle.std.specs.Prelude.{◌≡◌, ℕ, ◌+◌, ◌/◌, ◌%◌, ◌≤◌, ◌==◌, ◌&&◌, ◌||◌, nat_le, if◌then◌else◌, Bool, true, false, is_none, List, [], ◌∷◌, ◌++◌, length, find, Option, Some, None}
+use Rattle.std.specs.List.{list_all}
+use Rattle.at_ddp.specs.Address.{same_address}
+use Rattle.at_ddp.specs.Outbox.{Outbox, Sends}
+use Rattle.at_ddp.specs.declared.address.Address.{Address}
+use Rattle.at_atp.specs.Packets.{Packet}
+use Rattle.at_atp.specs.Frames.{Content, Request, Response, Release, spelled}
+use Rattle.at_atp.specs.Tables.{replaced, without_first}
+use Rattle.at_atp.specs.declared.fault.AtpFault.{AtpFault}
+use Rattle.at_atp.specs.declared.fault.AtpFault.TheVariants.{AtpTooLong, NoSuch, EmptyAnswer, Gone}
+use Rattle.at_atp.specs.declared.reception.Key.{Key}
+use Rattle.at_atp.specs.declared.reception.Reception.{Reception}
+use Rattle.at_atp.specs.declared.reception.Reception.TheVariants as reception
+
+-- what became of a request
+pub data State : Type 0 where
+  -- it waits for its answer, of which these packets were asked for
+  Waiting : (mask : ℕ) → State
+  -- it was answered, and the answer is kept
+  Answered : (packets : List Packet) → State
+  -- its answer came whole
+  Released : State
+
+-- a request that came: who asked, under which number, and what became of it
+pub record Record : Type 0 where
+  pub key : Key
+  pub state : State
+
+abbrev pub is_key : Key → Record → Bool
+is_key key r = same_address r.key.from key.from && (r.key.tid == key.tid)
+
+-- each packet's data fits, and there are at most eight
+abbrev pub fit : List Packet → Bool
+fit packets = list_all (λ p. nat_le (length p.data_) 578) packets
+
+-- The packets whose bits are set in the mask, from a place on: bit 0 is that place's. The last packet of the answer ends it.
+abbrev pub responses : Key → ℕ → ℕ → List Packet → List (Address × List ℕ)
+responses key place mask [] = []
+responses key place mask (p ∷ ps) =
+    (if mask % 2 == 1 then (key.from, spelled (Response place (length ps == 0) false key.tid p.user p.data_)) ∷ [] else [])
+    ++ responses key (place + 1) (mask / 2) ps
+
+-- what came of a packet: whether a request is handed up, the records after it, and what is sent
+pub record Taken : Type 0 where
+  pub reception : Reception
+  pub after : List Record
+  pub sent : List (Address × List ℕ)
+
+abbrev pub passed : List Record → Taken
+passed rs = record { reception = reception.Ignored; after = rs; sent = [] }
+
+-- what a request does whose record stands: it is not handed up again
+pub record Repeat : Type 0 where
+  pub reception : Reception
+  pub state : State
+  pub sent : List (Address × List ℕ)
+
+abbrev pub repeated : Key → ℕ → State → Repeat
+repeated key mask (Waiting old) = record { reception = reception.Again 0; state = Waiting mask; sent = [] }
+repeated key mask (Answered packets) = record { reception = reception.Again (length (responses key 0 mask packets)); state = Answered packets; sent = responses key 0 mask packets }
+repeated key mask Released = record { reception = reception.Ignored; state = Released; sent = [] }
+
+abbrev pub came_again : List Record → Key → Record → Repeat → Taken
+came_again rs key r e = record { reception = e.reception; after = replaced (is_key key) (record r { state = e.state }) rs; sent = e.sent }
+
+abbrev pub request_came : List Record → Key → ℕ → Option Record → Taken
+request_came rs key mask None = record { reception = reception.New key; after = rs ++ record { key = key; state = Waiting mask } ∷ []; sent = [] }
+request_came rs key mask (Some r) = came_again rs key r (repeated key mask r.state)
+
+-- A request that asks for nothing is passed over, and for now one for exactly-once is too.
+abbrev pub is_passed_over : Bool → ℕ → Bool
+is_passed_over xo mask = xo || (mask == 0)
+
+abbrev pub taken : List Record → Address → Content → Taken
+taken rs from (Request mask xo timer tid user bytes) =
+    if is_passed_over xo mask then passed rs
+    else request_came rs (record { from = from; tid = tid }) mask (find (is_key (record { from = from; tid = tid })) rs)
+taken rs from (Response place eom sts tid user bytes) = passed rs
+taken rs from (Release tid) = passed rs
+
+-- a new request for which there is no place: 64 records stand
+abbrev pub is_new_and_full : List Record → Key → Bool
+is_new_and_full rs key = is_none (find (is_key key) rs) && nat_le 64 (length rs)
+
+abbrev pub finds_no_place : List Record → Address → Content → Bool
+finds_no_place rs from (Request mask xo timer tid user bytes) = if is_passed_over xo mask then false else is_new_and_full rs (record { from = from; tid = tid })
+finds_no_place rs from (Response place eom sts tid user bytes) = false
+finds_no_place rs from (Release tid) = false
+
+-- why a request can't be answered
+abbrev pub state_fault : State → Option AtpFault
+state_fault (Waiting mask) = None
+state_fault (Answered packets) = Some Gone
+state_fault Released = Some Gone
+
+abbrev pub record_fault : Option Record → Option AtpFault
+record_fault None = Some NoSuch
+record_fault (Some r) = state_fault r.state
+
+-- why this answer to a request is refused, the first reason that there is
+abbrev pub answer_fault : List Record → Key → List Packet → Option AtpFault
+answer_fault rs key [] = Some EmptyAnswer
+answer_fault rs key (p ∷ ps) =
+    if nat_le (length (p ∷ ps)) 8 && fit (p ∷ ps) then record_fault (find (is_key key) rs) else Some AtpTooLong
+
+abbrev pub asked_mask : State → ℕ
+asked_mask (Waiting mask) = mask
+asked_mask (Answered packets) = 0
+asked_mask Released = 0
+
+-- the packets of an answer that its request asked for
+abbrev pub asked_for : Option Record → Key → List Packet → List (Address × List ℕ)
+asked_for None key packets = []
+asked_for (Some r) key packets = responses key 0 (asked_mask r.state) packets
+
+-- the answer was given: so many packets were sent, and the record is gone
+pub record IsAnswered (old new : List Record) (key : Key) (packets : List Packet) (count : ℕ) (before after : Outbox) : Type 0 where
+  pub is_new : new ≡ without_first (is_key key) old
+  pub sends : Sends before after (asked_for (find (is_key key) old) key packets)
+  pub counts : count ≡ length (asked_for (find (is_key key) old) key packets)
+
+-- the reception, the new records and what was sent are these
+pub record IsTaken (t : Taken) (r : Reception) (new : List Record) (before after : Outbox) : Type 0 where
+  pub is_reception : r ≡ t.reception
+  pub is_new : new ≡ t.after
+  pub sends : Sends before after t.sent
+
+-- the reception, the record and what was sent are these
+pub record IsRepeat (e : Repeat) (r : Reception) (old new : Record) (before after : Outbox) : Type 0 where
+  pub is_reception : r ≡ e.reception
+  pub is_new : new ≡ record old { state = e.state }
+  pub sends : Sends before after e.sent

@@ -1,0 +1,157 @@
+ghost use Rattle.std.specs.Prelude.{◌≡◌, ℕ, ◌+◌, ◌≤◌, ◌∷◌, [], length, true, false, if◌then◌else◌, IfOk, OnErr};
+ghost use Rattle.at_ddp.specs.Outbox.{Sends, HasRoomFor};
+ghost use Rattle.at_atp.specs.Frames.{Response, spelled};
+ghost use Rattle.at_atp.specs.Records.{Waiting, fit, responses, is_key, state_fault, asked_mask, repeated, IsRepeat};
+
+use crate::fault::AtpFault;
+use crate::frame::{Frame, PACKET_LEN};
+use crate::packet::Packet;
+use crate::reception::{Key, Reception};
+use crate::sending::send;
+use at_ddp::{Listed, Outbox};
+use std::alloc::{AllocError, Allocator};
+use std::marker::Model;
+
+// What became of a request.
+#[derive(Drop)]
+pub(crate) enum Held<A: Allocator> {
+    Waiting(u8),
+    Answered(Listed<Packet<A>, A>),
+    Released,
+}
+
+/// A request that came, and what became of it.
+#[derive(Drop)]
+pub(crate) struct Entry<A: Allocator> {
+    key: Key,
+    held: Held<A>,
+}
+
+impl<A: Allocator> Model for Entry<A> {
+    ghost use Rattle.at_atp.specs.Records.{Record};
+
+    ghost Value = { Record };
+
+    ghost use Rattle.at_atp.specs.States.{state_of, CanBeSent};
+
+    ghost view = { λ e. record { key = e.key; state = state_of e.held } };
+
+    ghost invariant = { λ e. CanBeSent (state_of e.held) };
+}
+
+impl<A: Allocator> Entry<A> {
+    pub(crate) fn waiting(key: Key, mask: u8) -> Entry<A>
+        ensures { result ≡ record { key = key; state = Waiting mask } }
+    {
+        Entry {
+            key,
+            held: Held::Waiting(mask),
+        }
+    }
+
+    pub(crate) fn is_of(&self, key: Key) -> bool
+        ensures { result ≡ is_key key self.now }
+    {
+        self.key.from == key.from && self.key.tid == key.tid
+    }
+
+    // Why the request can't be answered.
+    pub(crate) fn fault(&self) -> Option<AtpFault>
+        ensures { result ≡ state_fault self.now.state }
+    {
+        match &self.held {
+            Held::Waiting(_) => None,
+            Held::Answered(_) => Some(AtpFault::Gone),
+            Held::Released => Some(AtpFault::Gone),
+        }
+    }
+
+    pub(crate) fn mask(&self) -> u8
+        ensures { result ≡ asked_mask self.now.state }
+    {
+        match &self.held {
+            Held::Waiting(mask) => *mask,
+            Held::Answered(_) => 0,
+            Held::Released => 0,
+        }
+    }
+
+    // The request came again.
+    pub(crate) fn come_again(
+        &mut self,
+        mask: u8,
+        out: &mut Outbox<A>,
+    ) -> Result<Reception, AllocError>
+        ensures ok { IfOk result (λ r. IsRepeat (repeated self.old.key mask self.old.state) r self.old self.new out.old out.new) }
+        ensures unchanged { OnErr result (self.new ≡ self.old) }
+        ensures nothing_sent { OnErr result (Sends out.old out.new []) }
+    {
+        let key = self.key;
+        match &self.held {
+            Held::Released => Ok(Reception::Ignored),
+            Held::Answered(packets) => {
+                let packets = packets.as_slice();
+                out.room(packets.len() as u32, PACKET_LEN)?;
+                Ok(Reception::Again(send_answer(out, key, 0, mask, packets)))
+            }
+            Held::Waiting(_) => {
+                self.held = Held::Waiting(mask);
+                Ok(Reception::Again(0))
+            }
+        }
+    }
+}
+
+// Sends the packets whose bits are set, from a place on, and counts them.
+pub(crate) fn send_answer<A: Allocator>(
+    out: &mut Outbox<A>,
+    key: Key,
+    place: u8,
+    mask: u8,
+    packets: &[Packet<A>],
+) -> u8
+    requires fits { fit packets.now ≡ true }
+    requires few { place + length packets.now ≤ 8 }
+    requires room { HasRoomFor out.old (length packets.now) 586 }
+    ensures sent { Sends out.old out.new (responses key place mask packets.now) }
+    ensures count { result ≡ length (responses key place mask packets.now) }
+    ensures few { result ≤ length packets.now }
+{
+    match packets {
+        [] => 0,
+        [packet, rest @ ..] => {
+            let asked = mask % 2 == 1;
+            send_if(asked, out, key, place, rest.is_empty(), packet);
+            u8::from(asked) + send_answer(out, key, place + 1, mask / 2, rest)
+        }
+    }
+}
+
+// Sends a packet, if it is asked for.
+fn send_if<A: Allocator>(
+    asked: bool,
+    out: &mut Outbox<A>,
+    key: Key,
+    place: u8,
+    eom: bool,
+    packet: &Packet<A>,
+)
+    requires place { place ≤ 7 }
+    requires fits { length packet.now.data_ ≤ 578 }
+    requires room { HasRoomFor out.old 1 586 }
+    ensures sent { Sends out.old out.new (if asked then (key.from, spelled (Response place eom false key.tid packet.now.user packet.now.data_)) ∷ [] else []) }
+    ensures room { (n : ℕ) → HasRoomFor out.old (n + 1) 586 → HasRoomFor out.new n 586 }
+{
+    if !asked {
+        return;
+    }
+    let frame = Frame::Response {
+        place,
+        eom,
+        sts: false,
+        tid: key.tid,
+        user: packet.user(),
+        data_: packet.data_(),
+    };
+    send(out, key.from, &frame).unwrap();
+}
