@@ -1,0 +1,6 @@
+mod ListLemmas
+mod NameLemmas
+mod PageLemmas
+mod RequestLemmas
+mod RunLemmas
+mod SpelledLemmas

@@ -1,0 +1,31 @@
+//! Laws of requests, pages and tables. The functions do nothing: each contract is a law.
+ghost use Rattle.std.specs.Prelude.{◌≡◌, ℕ, ◌^◌, ◌<◌, ◌≤◌, ◌++◌, true, List, length};
+ghost use Rattle.at_zip.specs.Names.{spelled};
+ghost use Rattle.at_zip.specs.Page.{Page, IsLawful, Spells, IsPageFrom, page_of, page_user, page_data};
+ghost use Rattle.at_zip.specs.Request.{RequestSpells, request_user};
+ghost use Rattle.at_zip.specs.Zones.{IsTable};
+
+/// What is written is read: the canonical bytes spell the request or the page that they are written for, and the
+/// page of a table is lawful.
+pub fn what_is_written_is_read()
+    ensures request { (start : ℕ) → 1 ≤ start → start < 2 ^ 16 → RequestSpells (request_user start) start }
+    ensures page { (p : Page) (rest : List ℕ) → IsLawful p → Spells (page_user p) (page_data p ++ rest) p }
+    ensures lawful { (table : List (List ℕ)) (start : ℕ) → IsTable table → IsLawful (page_of table start) }
+{}
+
+/// No bytes spell two requests or two pages.
+pub fn one_page_a_spelling()
+    ensures request { (user : List ℕ) (m n : ℕ) → RequestSpells user m → RequestSpells user n → m ≡ n }
+    ensures page { (user bytes : List ℕ) (p q : Page) → Spells user bytes p → Spells user bytes q → p ≡ q }
+{}
+
+/// The page from a place on is the longest run of names that 578 bytes hold, and no other page is.
+pub fn a_page_is_the_longest_run()
+    ensures longest { (table : List (List ℕ)) (start : ℕ) → IsPageFrom table start (page_of table start) }
+    ensures only { (table : List (List ℕ)) (start : ℕ) (p : Page) → IsPageFrom table start p → p ≡ page_of table start }
+{}
+
+/// A table that fits one page is read whole.
+pub fn a_small_table_is_one_page()
+    ensures { (table : List (List ℕ)) → length (spelled table) ≤ 578 → page_of table 1 ≡ record { last = true; names = table } }
+{}
