@@ -1,0 +1,3 @@
+mod HearingLemmas
+mod PostLemmas
+mod ServingLemmas

@@ -1,0 +1,34 @@
+use Rattle.std.proofs.Common.{◌≡◌, Some, refl, ap, sym, ◌∙◌, subst}
+use Rattle.at_atp.specs.Frames.{content}
+use Rattle.at_node.specs.Nodes.{NodeState, Comes}
+use Rattle.at_node.specs.Steps.{zone_asked}
+use Rattle.at_node.specs.Hearing.{AtSocket, router_socket}
+use Rattle.at_node.proofs.HearingLemmas.{comes_ignored, step_comes, no_request, not_frame, bad_request, good_request}
+use Rattle.at_node.proofs.node.Node.serve_packet.Goals as goal
+
+pub returns-in_default : goal.returns-in_default
+returns-in_default g c =
+    let none = ap (λ (n : NodeState). n.table) (sym c.self.view_is) ∙ c.in_default.is in
+    comes_ignored (AtSocket c.args.self.now c.args.from (router_socket c.args.self.now.table) (content c.args.frame.now)) c.args.self.now c.args.out.now.items (rw none refl)
+
+pub returns-in_default-frame : goal.returns-in_default-frame
+returns-in_default-frame g c =
+    comes_ignored (AtSocket c.args.self.now c.args.from (router_socket c.args.self.now.table) (content c.args.frame.now)) c.args.self.now c.args.out.now.items
+    (no_request g.row.A.Denot c.args.self.now c.args.from c.args.self.now.table (content c.args.frame.now) (not_frame c.args.frame.now c.in_default-frame.not-Request))
+
+pub returns-in-Ok : goal.returns-in-Ok
+returns-in-Ok g c =
+    let some : c.args.self.now.table ≡ Some c.in-Some.zones = ap (λ (n : NodeState). n.table) (sym c.self.view_is) ∙ c.in-Some.is in
+    let step = c.serve_request.ensures c.args.self.now (ap (λ (n : NodeState). n.served) (sym c.self.view_is)) (sym c.at-own.ensures) in
+    let same = ap (λ (n : NodeState). record n { served = c.serve_request.new.served }) c.self.view_is in
+    let asks : AtSocket {A = g.row.A.Denot} c.args.self.now c.args.from (router_socket c.args.self.now.table) (content c.args.frame.now) (zone_asked c.args.self.now c.args.from (content c.args.frame.now) c.in-Some.zones c.in-Ok.start) =
+    rw c.in-Request.is (good_request g.row.A.Denot c.args.self.now c.args.from c.args.self.now.table c.in-Some.zones c.in-Request.mask c.in-Request.xo c.in-Request.timer c.in-Request.tid c.in-Request.user c.in-Request.data_.now c.in-Ok.start some c.in-Ok.ensures.found) in
+    subst (λ (x : NodeState). Comes (AtSocket c.args.self.now c.args.from (router_socket c.args.self.now.table) (content c.args.frame.now)) c.args.self.now c.args.out.now.items c.serve_request.result x c.serve_request.new.out.items) (sym same)
+    (step_comes (AtSocket c.args.self.now c.args.from (router_socket c.args.self.now.table) (content c.args.frame.now)) (zone_asked c.args.self.now c.args.from (content c.args.frame.now) c.in-Some.zones c.in-Ok.start)
+    c.args.self.now c.args.out.now.items c.serve_request.result (record c.args.self.now { served = c.serve_request.new.served }) c.serve_request.new.out.items asks step)
+
+pub returns-in-Err : goal.returns-in-Err
+returns-in-Err g c =
+    comes_ignored (AtSocket c.args.self.now c.args.from (router_socket c.args.self.now.table) (content c.args.frame.now)) c.args.self.now c.args.out.now.items
+    (rw c.in-Request.is (bad_request g.row.A.Denot c.args.self.now c.args.from c.args.self.now.table c.in-Request.mask c.in-Request.xo c.in-Request.timer c.in-Request.tid c.in-Request.user c.in-Request.data_.now
+    (λ start h. absurd (cc (c.in-Err.ensures.only start h)))))

@@ -1,0 +1,25 @@
+use Rattle.std.proofs.Common.{◌≡◌, ◌++◌, map, ap, sym, ◌∙◌, List}
+use Rattle.std.proofs.lemmas.List.{append-nil}
+use Rattle.at_node.specs.Nodes.{posted, sent_by}
+use Rattle.at_node.specs.Steps.{atp_kind}
+use Rattle.std.specs.Prelude.{find}
+use Rattle.at_atp.specs.Frames.{content}
+use Rattle.at_atp.specs.Records.{taken, is_key, record_fault, Record}
+use Rattle.at_atp.specs.Tables.{without_first}
+use Rattle.at_node.proofs.ServingLemmas.{is_new, waits, undone}
+use Rattle.at_node.proofs.serving.serve_request.Goals as goal
+
+pub serve-requires-clause-waits : goal.serve-requires-clause-waits
+serve-requires-clause-waits g c =
+    let new = is_new c.args.served.now c.args.from (content c.args.frame.now) c.in-Ok-New.key (sym c.in-Ok-New.ensures.reception ∙ c.in-Ok-New.field-0-is) in
+    ap (λ (rs : List Record). record_fault (find (is_key c.in-Ok-New.key) rs)) c.in-Ok-New.ensures.state ∙ waits c.args.served.now (taken c.args.served.now c.args.from (content c.args.frame.now)) c.in-Ok-New.key new
+
+pub returns-in-Err-serve : goal.returns-in-Err-serve
+returns-in-Err-serve g c = λ n same at.
+    let t = taken c.args.served.now c.args.from (content c.args.frame.now) in
+    let new = is_new c.args.served.now c.args.from (content c.args.frame.now) c.in-Ok-New.key (sym c.in-Ok-New.ensures.reception ∙ c.in-Ok-New.field-0-is) in
+    let back : c.serve.new.served ≡ n.served =
+    c.serve.ensures.state ∙ ap (without_first (is_key c.in-Ok-New.key)) c.in-Ok-New.ensures.state ∙ undone c.args.served.now (taken c.args.served.now c.args.from (content c.args.frame.now)) c.in-Ok-New.key new ∙ sym same in
+    let quiet : c.take.new.out.items ≡ c.args.out.now.items =
+    c.in-Ok-New.ensures.sent ∙ ap (λ pushes. c.args.out.now.items ++ map posted (sent_by c.args.own atp_kind pushes)) new.nothing ∙ append-nil c.args.out.now.items in
+    ((λ i. record n { served = back i }), c.in-Err-serve.ensures.nothing_sent ∙ quiet)

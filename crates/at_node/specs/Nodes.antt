@@ -1,0 +1,61 @@
+-- What a node is, and what one event does to it.
+use Rattle.std.specs.Prelude.{◌≡◌, ℕ, List, [], ◌++◌, map, Option, None}
+use Rattle.at_ddp.specs.Datagram.{canonical}
+use Rattle.at_ddp.specs.Datagrams.{Posted}
+use Rattle.at_ddp.specs.declared.address.Address.{Address}
+use Rattle.at_atp.specs.Requests.{Requests, no_requests}
+use Rattle.at_atp.specs.Records.{Record}
+use Rattle.at_node.specs.declared.event.Report.{Report}
+use Rattle.at_node.specs.declared.event.Report.TheVariants as report
+
+-- a node: its network and number, the number of the cable's router, the router's zone table where this node is the
+-- router, the transaction that reads the zone list, its requester, and the records of zone requests
+pub record NodeState : Type 0 where
+  pub net : ℕ
+  pub number : ℕ
+  pub router : Option ℕ
+  pub table : Option (List (List ℕ))
+  pub reading : Option ℕ
+  pub requester : Requests
+  pub served : List Record
+
+abbrev pub opening : ℕ → ℕ → Option ℕ → Option (List (List ℕ)) → NodeState
+opening net number router table = record { net = net; number = number; router = router; table = table; reading = None; requester = no_requests; served = [] }
+
+-- a datagram that a node sends
+pub record Outgoing : Type 0 where
+  pub from : Address
+  pub to : Address
+  pub kind : ℕ
+  pub data_ : List ℕ
+
+-- as it is sent: the canonical spelling
+abbrev pub posted : Outgoing → Posted
+posted o = record { node = o.to.node; bytes = canonical o.to o.from o.kind o.data_ }
+
+-- what one socket sends
+abbrev pub sent_by : Address → ℕ → List (Address × List ℕ) → List Outgoing
+sent_by from kind pushes = map (λ (p : Address × List ℕ). record { from = from; to = p.0; kind = kind; data_ = p.1 }) pushes
+
+-- what comes of an event: the report, the node after it, and what is sent
+pub record Outcome (A : Type 0) : Type 0 where
+  pub report : Report A
+  pub node : NodeState
+  pub out : List Outgoing
+
+-- nothing comes of it but the report
+abbrev pub idle : {A : Type 0} → NodeState → Report A → Outcome A
+idle n r = record { report = r; node = n; out = [] }
+
+abbrev pub Exactly : {A : Type 0} → Outcome A → List Posted → Report A → NodeState → List Posted → Type 0
+Exactly o before r new after = (r ≡ o.report) × (new ≡ o.node) × (after ≡ before ++ map posted o.out)
+
+-- the outcome, or want of memory and nothing changed
+abbrev pub IsStep : {A : Type 0} → Outcome A → NodeState → List Posted → Report A → NodeState → List Posted → Type 0
+IsStep o old before report.NoMemory new after = (new ≡ old) × (after ≡ before)
+IsStep o old before r new after = Exactly o before r new after
+
+-- an outcome of which P holds, or want of memory and nothing changed
+abbrev pub Comes : {A : Type 0} → (Outcome A → Type 0) → NodeState → List Posted → Report A → NodeState → List Posted → Type 0
+Comes P old before report.NoMemory new after = (new ≡ old) × (after ≡ before)
+Comes P old before r new after = (o : Outcome _) × P o × Exactly o before r new after

@@ -1,0 +1,134 @@
+ghost use Rattle.std.specs.Prelude.{◌≡◌, ◌↔◌, ◌++◌, ◌∷◌, [], map, None, Some, IfOk, IfSome, OnErr, IsErrOf, false};
+ghost use Rattle.at_atp.specs.Frames.{content, spelled};
+ghost use Rattle.at_atp.specs.Requests.{Heard, next_number, beginning, begun, request_by, heard};
+ghost use Rattle.at_node.specs.Nodes.{posted, sent_by};
+ghost use Rattle.at_node.specs.Hearing.{Tells};
+ghost use Rattle.at_node.specs.Steps.{atp_kind, tid_of, reported, reported_other, reading_after};
+ghost use Rattle.at_zip.specs.Fault.{number_of as zip_number};
+ghost use Rattle.at_zip.specs.Request.{request_user};
+
+use crate::event::Report;
+use at_atp::{AtpFault, Frame, Requester, Step};
+use at_ddp::{Address, Datagrams, Outbox};
+use at_zip::{ZipFault, read_page, request_user};
+use std::alloc::{AllocError, Allocator};
+use std::mem;
+
+/// The protocol of ATP's datagrams.
+pub(crate) const ATP: u8 = 3;
+
+// Begins the transaction that asks a router for the zone list.
+pub(crate) fn begin_reading<A: Allocator + Copy>(
+    alloc: A,
+    requester: &mut Requester<A>,
+    own: Address,
+    router: Address,
+    out: &mut Datagrams<A>,
+) -> Result<u16, AtpFault>
+    ensures drawn { IfOk result (λ tid. next_number requester.old ≡ Some tid) }
+    ensures state { IfOk result (λ tid. requester.new ≡ begun requester.old (beginning tid router (request_user 1) [] 1 false 3)) }
+    ensures sent { IfOk result (λ tid. out.new.items ≡ out.old.items ++ map posted (sent_by own atp_kind ((router, spelled (request_by (beginning tid router (request_user 1) [] 1 false 3))) ∷ []))) }
+    ensures full { IsErrOf result AtpFault.Full ↔ (next_number requester.old ≡ None) }
+    ensures unchanged { OnErr result (requester.new ≡ requester.old) }
+    ensures nothing_sent { OnErr result (out.new.items ≡ out.old.items) }
+{
+    let mut outbox = Outbox::over(mem::replace(out, Datagrams::new(alloc)), own, ATP);
+    let begun = requester.begin(router, request_user(1), &[], 1, false, 3, &mut outbox);
+    *out = outbox.into_list();
+    begun
+}
+
+// Hands a packet to the requester.
+pub(crate) fn hear<A: Allocator + Copy>(
+    alloc: A,
+    requester: &mut Requester<A>,
+    own: Address,
+    from: Address,
+    frame: &Frame<'_>,
+    out: &mut Datagrams<A>,
+) -> Result<Step<A>, AllocError>
+    ensures step { IfOk result (λ step. step ≡ (heard requester.old from (content frame.now)).step) }
+    ensures state { IfOk result (λ step. requester.new ≡ (heard {A = A} requester.old from (content frame.now)).after) }
+    ensures sent { IfOk result (λ step. out.new.items ≡ out.old.items ++ map posted (sent_by own atp_kind (heard {A = A} requester.old from (content frame.now)).sent)) }
+    ensures unchanged { OnErr result (requester.new ≡ requester.old) }
+    ensures nothing_sent { OnErr result (out.new.items ≡ out.old.items) }
+{
+    let mut outbox = Outbox::over(mem::replace(out, Datagrams::new(alloc)), own, ATP);
+    let step = requester.receive(from, frame, &mut outbox);
+    *out = outbox.into_list();
+    step
+}
+
+// What the page tells that ends a reading. For now a reading takes one page.
+pub(crate) fn told<A: Allocator + Copy>(
+    alloc: A,
+    user: [u8; 4],
+    bytes: &[u8],
+) -> Result<Report<A>, AllocError>
+    ensures { IfOk result (λ r. Tells (record { user = user; data_ = bytes.now }) r) }
+{
+    match read_page(user, bytes) {
+        Err(fault) => Ok(zone_fault(fault)),
+        Ok(page) => {
+            if page.is_last() {
+                Ok(Report::Zones(page.to_list(alloc)?))
+            } else {
+                Ok(Report::ZoneFault(34))
+            }
+        }
+    }
+}
+
+fn zone_fault<A: Allocator>(fault: ZipFault) -> Report<A>
+    ensures { IfSome (zip_number fault) (λ n. result ≡ Report.ZoneFault n) }
+{
+    match fault.number() {
+        Some(number) => Report::ZoneFault(number),
+        None => Report::NoMemory,
+    }
+}
+
+// What is reported of a step of a transaction that ends with this report.
+pub(crate) fn reported<A: Allocator>(ends: Report<A>, step: Step<A>) -> Report<A>
+    ensures { result ≡ reported ends step }
+{
+    match step {
+        Step::Ignored => Report::Ignored,
+        Step::Kept => Report::Kept,
+        Step::AskAgain => Report::Again,
+        Step::Finished(_) => ends,
+    }
+}
+
+// What is reported of a step of any other transaction.
+pub(crate) fn reported_other<A: Allocator>(tid: u16, step: Step<A>) -> Report<A>
+    ensures { result ≡ reported_other tid step }
+{
+    match step {
+        Step::Ignored => Report::Ignored,
+        Step::Kept => Report::Kept,
+        Step::AskAgain => Report::Again,
+        Step::Finished(packets) => Report::Response { tid, packets },
+    }
+}
+
+// The transaction that reads the zone list, after this step of it.
+pub(crate) fn reading_after<A: Allocator>(reading: Option<u16>, step: &Step<A>) -> Option<u16>
+    ensures { result ≡ reading_after reading step.now }
+{
+    match step {
+        Step::Finished(_) => None,
+        _ => reading,
+    }
+}
+
+// The transaction number of a packet.
+pub(crate) fn tid_of(frame: &Frame<'_>) -> u16
+    ensures { result ≡ tid_of (content frame.now) }
+{
+    match frame {
+        Frame::Request { tid, .. } => *tid,
+        Frame::Response { tid, .. } => *tid,
+        Frame::Release { tid } => *tid,
+    }
+}
