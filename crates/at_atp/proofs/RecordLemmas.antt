@@ -1,16 +1,16 @@
 -- What a request does to a responder.
-use Rattle.std.proofs.Common.{◌≡◌, ℕ, ◌+◌, ◌-◌, ◌<◌, ◌≤◌, Bool, true, false, cond, leb, List, [], ◌∷◌, ◌++◌, length, set, get_or, take, drop, Option, Some, None, Result, Ok, Err, refl, sym, ap, subst, ◌∙◌, arith}
-use Rattle.std.specs.Prelude.{find, slice_get, IfOk, IfSome, is_none, nat_le, ◌&&◌, ◌==◌}
+use Rattle.std.proofs.Common.{◌≡◌, ℕ, ◌+◌, ◌-◌, ◌<◌, ◌≤◌, true, List, [], ◌∷◌, ◌++◌, length, set, take, drop, Some, None, Result, Ok, Err, refl, sym, ap, subst, ◌∙◌, arith}
+use Rattle.std.specs.Prelude.{find, slice_get, IfOk, is_none, nat_le, ◌==◌}
 use Rattle.std.proofs.lemmas.Bool.{true≢false, leb-true, le-leb, and_parts, eqb-true}
 use Rattle.std.proofs.lemmas.Option.{get_or_from_slice_get, slice_get-get_or}
 use Rattle.at_ddp.specs.Address.{same_address}
 use Rattle.at_ddp.proofs.Octets.{same_address-true}
 use Rattle.std.proofs.lemmas.List.{take_rest}
-use Rattle.at_ddp.specs.Outbox.{Outbox, Sends}
+use Rattle.at_ddp.specs.Outbox.{Outbox}
 use Rattle.at_atp.specs.Packets.{Packet}
 use Rattle.at_atp.specs.Tables.{replaced}
 use Rattle.at_atp.specs.declared.fault.AtpFault.{AtpFault}
-use Rattle.at_atp.specs.Records.{Record, Repeat, is_key, repeated, request_came, is_new_and_full, fit, Waiting, IsTaken, IsRepeat}
+use Rattle.at_atp.specs.Records.{Record, is_key, repeated, request_came, is_new_and_full, fit, Waiting, IsTaken, IsRepeat}
 use Rattle.at_atp.specs.declared.reception.Key.{Key}
 use Rattle.at_atp.specs.declared.reception.Reception.{Reception}
 use Rattle.at_atp.specs.declared.reception.Reception.TheVariants.{Ignored, New}

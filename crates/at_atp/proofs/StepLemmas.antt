@@ -1,5 +1,5 @@
 -- What a packet does to a requester.
-use Rattle.std.proofs.Common.{◌≡◌, ℕ, zero, suc, ◌+◌, ◌<◌, Bool, true, false, cond, List, [], ◌∷◌, ◌++◌, length, set, take, drop, Option, Some, None, Result, Ok, Err, refl, sym, ap, subst, ◌∙◌, arith}
+use Rattle.std.proofs.Common.{◌≡◌, ℕ, suc, Bool, true, false, cond, List, [], ◌++◌, set, Some, None, Result, Ok, Err, refl, sym, ap, ◌∙◌, arith}
 use Rattle.std.specs.Prelude.{find, remove, IfOk}
 use Rattle.std.proofs.lemmas.List.{append-nil, take-set, drop-set-lt}
 use Rattle.std.proofs.lemmas.Bool.{true≢false}
@@ -8,7 +8,7 @@ use Rattle.at_ddp.specs.declared.address.Address.{Address}
 use Rattle.at_atp.specs.Packets.{Packet}
 use Rattle.at_atp.specs.Answers.{Arrival, is_wanted, whole, with_part}
 use Rattle.at_atp.specs.Frames.{Response}
-use Rattle.at_atp.specs.Requests.{Transaction, Requests, is_of, Effect, release_by, came, is_finished, is_ignored, Heard, ignored, settled, heard, response_came, IsHeard, IsEffect}
+use Rattle.at_atp.specs.Requests.{Transaction, Requests, is_of, Effect, release_by, came, is_finished, is_ignored, heard, IsHeard, IsEffect}
 use Rattle.at_atp.specs.declared.step.Step.{Step}
 use Rattle.at_atp.specs.declared.step.Step.TheVariants.{Ignored, Finished}
 use Rattle.at_atp.specs.Tables.{replaced, without_first}
