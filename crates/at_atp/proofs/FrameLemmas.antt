@@ -1,11 +1,10 @@
 -- What is read is spelled so, what is spelled has no fault and is one packet, and what is written is spelled.
-use Rattle.std.proofs.Common.{lit<, lit≤, ◌≡◌, ◌⊎◌, inl, inr, ℕ, zero, suc, ◌+◌, ◌-◌, ◌*◌, ◌/◌, ◌%◌, ◌^◌, ◌<◌, ◌≤◌, Bool, true, false, List, [], ◌∷◌, ◌++◌, length, get_or, take, drop, refl, sym, ap, subst, ◌∙◌, arith}
+use Rattle.std.proofs.Common.{lit<, lit≤, ◌≡◌, ℕ, ◌+◌, ◌*◌, ◌/◌, ◌%◌, ◌^◌, ◌<◌, ◌≤◌, Bool, true, false, List, [], ◌∷◌, ◌++◌, length, get_or, drop, refl, sym, ap, ◌∙◌, arith}
 use Rattle.std.proofs.lemmas.List.{length-append}
 use Rattle.std.proofs.lemmas.List.Elements.{All-take, All-drop, All-replicate, All-cons, All-append}
 use Rattle.std.proofs.lemmas.Bool.Decides.{nat_tests}
-use Rattle.std.specs.Prelude.{◌==◌, slice_range}
+use Rattle.std.specs.Prelude.{◌==◌}
 use mir.Val.{bool_byte}
-use Rattle.at_ddp.specs.Datagram.{AreBytes}
 use Rattle.at_ddp.proofs.Octets.{InBytes, bytes_of, high_byte, low_byte, same_number, append_parts}
 use Rattle.at_atp.specs.Frames.{Content, Request, Response, Release, read_timer, IsTimer, AreParts, IsLawful, bit, packet, SpellsRequest, SpellsResponse, SpellsRelease, Spells, spelled}
 use Rattle.at_atp.specs.Reading.{request_of, response_of, tid_in}
