@@ -1,3 +1,4 @@
+mod Canonical
 mod Following
 mod SentLemmas
 mod SetupLemmas

@@ -10,6 +10,7 @@ use Rattle.at_world.specs.declared.setup.NodeSetup.{NodeSetup}
 use Rattle.at_world.specs.declared.setup.Setup.{Setup}
 use Rattle.at_world.specs.declared.transcript.Transcript.{Transcript}
 use Rattle.at_world.specs.declared.transcript.PlayFault.{PlayFault}
+use Rattle.at_world.specs.Sents.{AreCanonical}
 use Rattle.at_world.specs.Worlds.{WorldState, refusal, Plays}
 
 -- the number of the cable's router
@@ -48,3 +49,8 @@ IsPlayed s events t w = Follows (opening_world s) events t.reports w × (t.sent 
 abbrev pub IsPlay : {A : Type 0} → Setup A → List Event → Result (Transcript A) (PlayFault A) → Type 0
 IsPlay s events (Ok t) = (w : WorldState) × IsPlayed s events t w
 IsPlay s events (Err f) = (w : WorldState) × IsPlayed s (take f.at events) f.transcript w × StopsAt w (slice_get events f.at) f.fault
+
+-- all that was sent is spelled canonically
+abbrev pub SendsCanonically : {A : Type 0} → Result (Transcript A) (PlayFault A) → Type 0
+SendsCanonically (Ok t) = AreCanonical t.sent
+SendsCanonically (Err f) = AreCanonical f.transcript.sent

@@ -1,5 +1,5 @@
 ghost use Rattle.std.specs.Prelude.{◌≡◌, true, [], IfErr, ◌≤◌, length};
-ghost use Rattle.at_world.specs.Plays.{IsPlay};
+ghost use Rattle.at_world.specs.Plays.{IsPlay, SendsCanonically};
 ghost use Rattle.at_world.specs.Setups.{is_lawful};
 
 use crate::event::{Event, Fault};
@@ -18,6 +18,18 @@ pub fn play<A: Allocator + Copy>(
     events: &[Event],
 ) -> Result<Transcript<A>, PlayFault<A>>
     requires { is_lawful setup.now ≡ true }
+    ensures follows { IsPlay setup.now events.now result }
+    ensures sent { SendsCanonically result }
+    ensures within { IfErr result (λ f. f.at ≤ length events.now) }
+{
+    play_all(alloc, setup, events)
+}
+
+fn play_all<A: Allocator + Copy>(
+    alloc: A,
+    setup: &Setup<A>,
+    events: &[Event],
+) -> Result<Transcript<A>, PlayFault<A>>
     ensures follows { IsPlay setup.now events.now result }
     ensures within { IfErr result (λ f. f.at ≤ length events.now) }
 {

@@ -1,6 +1,6 @@
 use Rattle.std.proofs.Common.{take}
 use Rattle.at_world.specs.Plays.{opening_world, Follows}
-use Rattle.at_world.proofs.player.play.Given as goal
+use Rattle.at_world.proofs.player.play_all.Given as goal
 
 -- the events so far gave the reports so far
 abbrev pub invariant-loop-at : goal.invariant-loop-at
