@@ -51,7 +51,7 @@ begins : DatagramLaws → (to from : Address) (f : Content) → IsAddress to →
 begins laws to from f to_fits from_fits ok =
     let fits = laws.fits f ok in
     subst (λ bytes. BeginsWith bytes (written to from atp_kind (spelled f)) []) (append-nil (canonical to from atp_kind (spelled f)))
-        (laws.reads to from atp_kind (spelled f) [] to_fits from_fits (lit< tt) fits.0 fits.1)
+    (laws.reads to from atp_kind (spelled f) [] to_fits from_fits (lit< tt) fits.0 fits.1)
 
 pub heard_as_sent : (A : Type 0) (n : NodeState) (to from : Address) (f : Content) (o : Outcome A) → DatagramLaws → PacketLaws → IsAddress to → IsAddress from → IsLawful f →
     Hears n (canonical to from atp_kind (spelled f)) o → AtSocket n from (socket_of n (written to from atp_kind (spelled f))) f o
@@ -81,6 +81,7 @@ told_as_written A p r reads alone faultless ok told = go told
   where
     spelled-p : page.Spells (page.page_user p) (page.page_data p) p
     spelled-p = subst (λ bytes. page.Spells (page.page_user p) bytes p) (append-nil (page.page_data p)) (reads p [] ok)
+
     go : Tells (record { user = page.page_user p; data_ = page.page_data p }) r → r ≡ told_by p
     go (inl h) = h.tells ∙ ap (λ (q : page.Page). told_by {A = A} q) (alone (page.page_user p) (page.page_data p) h.names p h.spelled spelled-p)
     go (inr h) = absurd (faultless (page.page_user p) (page.page_data p) p spelled-p h.fault h.first)

@@ -82,7 +82,7 @@ pub booked : (w : WorldState) (k : ℕ) (nodes : List NodeState) (es es' : List 
 booked w k nodes es es' ps ps' out events i count after view f same is counted stamps =
     let missing : count - length es ≡ length out = omega (arith, counted, ap (length {A = Posted}) is, length-append ps out) in
     let all : stamped es' ps' ≡ stamped es ps ++ map (stamp events) out =
-        (λ j. stamped ((stamps ∙ ap (λ n. es ++ replicate n events) missing) j) (is j)) ∙ stamped_more es ps out events same in
+    (λ j. stamped ((stamps ∙ ap (λ n. es ++ replicate n events) missing) j) (is j)) ∙ stamped_more es ps out events same in
     (λ j. record { nodes = (sym (f.set_is after)) j; sent = all j; events = events + 1; failed = false })
     ∙ ap (λ (v : WorldState). recorded v k after out) view
 
@@ -211,8 +211,7 @@ pub delivery_played : (A : Type 0) (w : WorldState) (which k : ℕ) (s : SentDat
     IfOk answer (λ r. (refusal_at w (event.Deliver which k) ≡ None) × PlaysDelivery w which k r w')
 delivery_played A w which k s bytes given after report w' stamping (Err e) is for same books ok = tt
 delivery_played A w which k s bytes given after report w' stamping (Ok r) is for same books ok =
-    let b = books ok.1 in
-    (
+    let b = books ok.1 in (
       ap (delivery_refusal w k) is ∙ for_it w k s None for (one_stands w k given b.stands),
       record {
         datagram = s;

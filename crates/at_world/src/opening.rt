@@ -49,10 +49,7 @@ fn table_of<A: Allocator + Copy>(
     }
 }
 
-fn copies_of<A: Allocator + Copy>(
-    alloc: A,
-    names: &[Pascal],
-) -> Result<Vec<Pascal, A>, AllocError>
+fn copies_of<A: Allocator + Copy>(alloc: A, names: &[Pascal]) -> Result<Vec<Pascal, A>, AllocError>
     ensures { IfOk result (λ copies. copies.items ≡ names.now) }
 {
     let mut copies = Vec::new(alloc);

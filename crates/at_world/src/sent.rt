@@ -90,7 +90,11 @@ pub(crate) fn stamp_all<A: Allocator>(
     stamped
 }
 
-fn push_all<A: Allocator>(stamps: &mut Vec<u32, A>, count: usize, event: u32) -> Result<(), AllocError>
+fn push_all<A: Allocator>(
+    stamps: &mut Vec<u32, A>,
+    count: usize,
+    event: u32,
+) -> Result<(), AllocError>
     ensures ok { OnOk result (stamps.new.items ≡ stamps.old.items ++ replicate count event) }
     ensures kept { take (length stamps.old.items) stamps.new.items ≡ stamps.old.items }
 {

@@ -35,7 +35,7 @@ invariant_of-self g c =
     let whole : c.self.inside.failed ≡ false = ap (λ (w : WorldState). w.failed) c.self.view_is ∙ c.requires.whole in
     let view = whole_inside c.args.self.now c.self.inside.nodes.items (stamped es ps) c.self.inside.events c.self.inside.failed c.self.view_is whole in
     let ran : Ran g.row.A.Denot c.args.self.now c.args.node (IsStep (called node c.args.call) node) node c.call-report.new.self c.call-report.result
-        c.self.inside.nodes.items es c.stamp_all-stamped.new.stamps.items ps c.call-report.new.out.items c.self.inside.events c.in-Some.place c.len-count.result c.stamp_all-stamped.result = record {
+    c.self.inside.nodes.items es c.stamp_all-stamped.new.stamps.items ps c.call-report.new.out.items c.self.inside.events c.in-Some.place c.len-count.result c.stamp_all-stamped.result = record {
       view = view;
       place = f;
       found_there = c.index_mut.ensures.value ∙ f.at node;
@@ -56,7 +56,7 @@ returns-clause-played g c =
     let whole : c.self.inside.failed ≡ false = ap (λ (w : WorldState). w.failed) c.self.view_is ∙ c.requires.whole in
     let view = whole_inside c.args.self.now c.self.inside.nodes.items (stamped es ps) c.self.inside.events c.self.inside.failed c.self.view_is whole in
     let ran : Ran g.row.A.Denot c.args.self.now c.args.node (IsStep (called node c.args.call) node) node c.call-report.new.self c.call-report.result
-        c.self.inside.nodes.items es c.stamp_all-stamped.new.stamps.items ps c.call-report.new.out.items c.self.inside.events c.in-Some.place c.len-count.result c.stamp_all-stamped.result = record {
+    c.self.inside.nodes.items es c.stamp_all-stamped.new.stamps.items ps c.call-report.new.out.items c.self.inside.events c.in-Some.place c.len-count.result c.stamp_all-stamped.result = record {
       view = view;
       place = f;
       found_there = c.index_mut.ensures.value ∙ f.at node;
@@ -77,7 +77,7 @@ returns-clause-not_played g c =
     let whole : c.self.inside.failed ≡ false = ap (λ (w : WorldState). w.failed) c.self.view_is ∙ c.requires.whole in
     let view = whole_inside c.args.self.now c.self.inside.nodes.items (stamped es ps) c.self.inside.events c.self.inside.failed c.self.view_is whole in
     let ran : Ran g.row.A.Denot c.args.self.now c.args.node (IsStep (called node c.args.call) node) node c.call-report.new.self c.call-report.result
-        c.self.inside.nodes.items es c.stamp_all-stamped.new.stamps.items ps c.call-report.new.out.items c.self.inside.events c.in-Some.place c.len-count.result c.stamp_all-stamped.result = record {
+    c.self.inside.nodes.items es c.stamp_all-stamped.new.stamps.items ps c.call-report.new.out.items c.self.inside.events c.in-Some.place c.len-count.result c.stamp_all-stamped.result = record {
       view = view;
       place = f;
       found_there = c.index_mut.ensures.value ∙ f.at node;

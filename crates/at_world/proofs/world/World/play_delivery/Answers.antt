@@ -58,7 +58,7 @@ invariant_of-self-2 g c =
     let whole : c.self.inside.failed ≡ false = ap (λ (w : WorldState). w.failed) c.self.view_is ∙ c.requires.whole in
     let view = whole_inside c.args.self.now c.self.inside.nodes.items (stamped es ps) c.self.inside.events c.self.inside.failed c.self.view_is whole in
     let ran : Ran g.row.A.Denot c.args.self.now c.args.node (Comes (Hears node bytes) node) node c.receive-report.new.self c.receive-report.result
-        c.self.inside.nodes.items es c.stamp_all-stamped.new.stamps.items ps c.receive-report.new.out.items c.self.inside.events c.in-Some.place c.len-count.result c.stamp_all-stamped.result = record {
+    c.self.inside.nodes.items es c.stamp_all-stamped.new.stamps.items ps c.receive-report.new.out.items c.self.inside.events c.in-Some.place c.len-count.result c.stamp_all-stamped.result = record {
       view = view;
       place = f;
       found_there = c.index_mut.ensures.value ∙ f.at node;
@@ -80,7 +80,7 @@ returns-clause-played g c =
     let whole : c.self.inside.failed ≡ false = ap (λ (w : WorldState). w.failed) c.self.view_is ∙ c.requires.whole in
     let view = whole_inside c.args.self.now c.self.inside.nodes.items (stamped es ps) c.self.inside.events c.self.inside.failed c.self.view_is whole in
     let ran : Ran g.row.A.Denot c.args.self.now c.args.node (Comes (Hears node bytes) node) node c.receive-report.new.self c.receive-report.result
-        c.self.inside.nodes.items es c.stamp_all-stamped.new.stamps.items ps c.receive-report.new.out.items c.self.inside.events c.in-Some.place c.len-count.result c.stamp_all-stamped.result = record {
+    c.self.inside.nodes.items es c.stamp_all-stamped.new.stamps.items ps c.receive-report.new.out.items c.self.inside.events c.in-Some.place c.len-count.result c.stamp_all-stamped.result = record {
       view = view;
       place = f;
       found_there = c.index_mut.ensures.value ∙ f.at node;
@@ -107,7 +107,7 @@ returns-clause-not_played g c =
     let whole : c.self.inside.failed ≡ false = ap (λ (w : WorldState). w.failed) c.self.view_is ∙ c.requires.whole in
     let view = whole_inside c.args.self.now c.self.inside.nodes.items (stamped es ps) c.self.inside.events c.self.inside.failed c.self.view_is whole in
     let ran : Ran g.row.A.Denot c.args.self.now c.args.node (Comes (Hears node bytes) node) node c.receive-report.new.self c.receive-report.result
-        c.self.inside.nodes.items es c.stamp_all-stamped.new.stamps.items ps c.receive-report.new.out.items c.self.inside.events c.in-Some.place c.len-count.result c.stamp_all-stamped.result = record {
+    c.self.inside.nodes.items es c.stamp_all-stamped.new.stamps.items ps c.receive-report.new.out.items c.self.inside.events c.in-Some.place c.len-count.result c.stamp_all-stamped.result = record {
       view = view;
       place = f;
       found_there = c.index_mut.ensures.value ∙ f.at node;
