@@ -1,5 +1,5 @@
 -- What is sent is heard, from the laws of the spellings.
-use Rattle.std.proofs.Common.{lit<, ◌≡◌, ◌⊎◌, inl, inr, ⊎_elim, ℕ, ◌^◌, ◌<◌, ◌≤◌, Bool, true, false, List, [], ◌++◌, length, refl, sym, ap, subst, ◌∙◌}
+use Rattle.std.proofs.Common.{lit<, ◌≡◌, ◌⊎◌, inl, inr, ℕ, ◌^◌, ◌<◌, ◌≤◌, Bool, List, [], ◌++◌, length, refl, ap, subst, ◌∙◌}
 use Rattle.std.proofs.lemmas.List.{append-nil}
 use Rattle.at_ddp.specs.Datagram.{Content as Datagram, IsAddress, AreBytes, BeginsWith, canonical, written}
 use Rattle.at_ddp.specs.Fault as ddp
@@ -13,10 +13,9 @@ use Rattle.at_zip.specs.Fault as zip
 use Rattle.at_zip.specs.Request.{RequestSpells, request_user}
 use Rattle.at_zip.specs.declared.fault.ZipFault.{ZipFault}
 use Rattle.at_node.specs.declared.event.Report.{Report}
-use Rattle.at_node.specs.declared.event.Report.TheVariants as report
-use Rattle.at_node.specs.Nodes.{NodeState, Outcome, idle}
+use Rattle.at_node.specs.Nodes.{NodeState, Outcome}
 use Rattle.at_node.specs.Steps.{atp_kind, zone_asked}
-use Rattle.at_node.specs.Hearing.{Nobody, Asker, Zones, Socket, socket_of, AtSocket, AtZones, AsksForPage, HearsAt, HearsPacket, HearsAtpFault, HearsDatagram, HearsDdpFault, Hears, Tells, TellsPage, TellsFault, told_by}
+use Rattle.at_node.specs.Hearing.{Nobody, Asker, Zones, Socket, socket_of, AtSocket, AtZones, HearsAt, HearsPacket, HearsAtpFault, Hears, Tells, told_by}
 
 -- ---- packets
 

@@ -1,19 +1,18 @@
 -- All that a world sends is spelled canonically.
-use Rattle.std.proofs.Common.{◌≡◌, ℕ, List, [], ◌∷◌, ◌++◌, map, take, Result, Ok, Err, refl, sym, ap, subst, ◌∙◌}
-use Rattle.std.specs.List.{AllByRecursion}
+use Rattle.std.proofs.Common.{ℕ, List, [], ◌∷◌, ◌++◌, map, take, Result, Ok, Err, refl, sym, subst}
 use Rattle.at_ddp.specs.Datagrams.{Posted}
 use Rattle.at_node.specs.declared.event.Report.{Report}
-use Rattle.at_node.specs.declared.event.Report.TheVariants.{Begun, Served, Zones, ZoneFault, Kept, Response, Again, Ignored, Refused, NoMemory}
+use Rattle.at_node.specs.declared.event.Report.TheVariants.{NoMemory}
 use Rattle.at_node.specs.Nodes.{NodeState, Outcome, Outgoing, posted, IsStep, Comes}
 use Rattle.at_node.specs.Steps.{called}
 use Rattle.at_node.specs.Hearing.{Hears}
-use Rattle.at_world.specs.Sents.{SentDatagram, stamp, IsCanonical, AreCanonical}
+use Rattle.at_world.specs.Sents.{SentDatagram, stamp, AreCanonical}
 use Rattle.at_world.specs.declared.event.Event.{Event}
 use Rattle.at_world.specs.declared.event.Event.TheVariants as event
 use Rattle.at_world.specs.declared.setup.Setup.{Setup}
 use Rattle.at_world.specs.declared.transcript.Transcript.{Transcript}
 use Rattle.at_world.specs.declared.transcript.PlayFault.{PlayFault}
-use Rattle.at_world.specs.Worlds.{WorldState, Plays, recorded}
+use Rattle.at_world.specs.Worlds.{WorldState, Plays}
 use Rattle.at_world.specs.Plays.{opening_world, Follows, IsPlay, SendsCanonically}
 
 all_posted : (event : ℕ) (out : List Outgoing) → AreCanonical (map (stamp event) (map posted out))
