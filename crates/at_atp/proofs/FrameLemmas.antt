@@ -1,11 +1,10 @@
 -- What is read is spelled so, what is spelled has no fault and is one packet, and what is written is spelled.
-use Rattle.std.proofs.Common.{lit<, lit≤, ◌≡◌, ◌⊎◌, inl, inr, ℕ, zero, suc, ◌+◌, ◌-◌, ◌*◌, ◌/◌, ◌%◌, ◌^◌, ◌<◌, ◌≤◌, Bool, true, false, List, [], ◌∷◌, ◌++◌, length, get_or, take, drop, refl, sym, ap, subst, ◌∙◌, arith}
+use Rattle.std.proofs.Common.{lit<, lit≤, ◌≡◌, ℕ, ◌+◌, ◌*◌, ◌/◌, ◌%◌, ◌^◌, ◌<◌, ◌≤◌, Bool, true, false, List, [], ◌∷◌, ◌++◌, length, get_or, drop, refl, sym, ap, ◌∙◌, arith}
 use Rattle.std.proofs.lemmas.List.{length-append}
-use Rattle.std.proofs.lemmas.List.Elements.{All-take, All-drop, All-replicate}
+use Rattle.std.proofs.lemmas.List.Elements.{All-take, All-drop, All-replicate, All-cons, All-append}
 use Rattle.std.proofs.lemmas.Bool.Decides.{nat_tests}
-use Rattle.std.specs.Prelude.{◌==◌, slice_range}
+use Rattle.std.specs.Prelude.{◌==◌}
 use mir.Val.{bool_byte}
-use Rattle.at_ddp.specs.Datagram.{AreBytes}
 use Rattle.at_ddp.proofs.Octets.{InBytes, bytes_of, high_byte, low_byte, same_number, append_parts}
 use Rattle.at_atp.specs.Frames.{Content, Request, Response, Release, read_timer, IsTimer, AreParts, IsLawful, bit, packet, SpellsRequest, SpellsResponse, SpellsRelease, Spells, spelled}
 use Rattle.at_atp.specs.Reading.{request_of, response_of, tid_in}
@@ -249,3 +248,32 @@ written_is_read (Release tid) ok = record {
   rest_fits = lit≤ tt;
   fields = refl;
 }
+
+-- ---- what is written fits a datagram
+
+packet_bytes : (control second tid : ℕ) (rest : List ℕ) → control < 256 → second < 256 → AreBytes rest → AreBytes (packet control second tid rest)
+packet_bytes control second tid rest c s r =
+    let number = All-cons (λ b. b < 256) (tid / 256 % 256) (tid % 256 ∷ rest) (omega arith) (All-cons (λ b. b < 256) (tid % 256) rest (omega arith) r) in
+    All-cons (λ b. b < 256) control (second ∷ tid / 256 % 256 ∷ tid % 256 ∷ rest) c (All-cons (λ b. b < 256) second (tid / 256 % 256 ∷ tid % 256 ∷ rest) s number)
+
+timer-lt : (xo : Bool) (timer : ℕ) → IsTimer xo timer → timer ≤ 4
+timer-lt true timer h = h
+timer-lt false timer h = omega arith
+
+pub written_fits : (f : Content) → IsLawful f → AreBytes (spelled f) × (length (spelled f) ≤ 586)
+unfolding spelled
+written_fits (Request mask xo timer tid user bytes) ok =
+    let p = ok.2 in
+    let four = p.four in
+    let fits = p.data_fits in (
+      packet_bytes (64 + 32 * bit xo + timer) mask tid (user ++ bytes) (omega (arith, bit-lt xo, timer-lt xo timer ok.1)) ok.0 (All-append (λ b. b < 256) user bytes p.user_bytes p.data_bytes),
+      omega (arith, length-append user bytes),
+    )
+written_fits (Response place eom sts tid user bytes) ok =
+    let p = ok.1 in
+    let four = p.four in
+    let fits = p.data_fits in (
+      packet_bytes (128 + 16 * bit eom + 8 * bit sts) place tid (user ++ bytes) (omega (arith, bit-lt eom, bit-lt sts)) (omega (arith, ok.0)) (All-append (λ b. b < 256) user bytes p.user_bytes p.data_bytes),
+      omega (arith, length-append user bytes),
+    )
+written_fits (Release tid) ok = (packet_bytes 192 0 tid (0 ∷ 0 ∷ 0 ∷ 0 ∷ []) (lit< tt) (lit< tt) (All-replicate (λ b. b < 256) 4 0 (lit< tt)), lit≤ tt)

@@ -3,4 +3,4 @@ mod FrameLemmas
 mod RecordLemmas
 mod RequestLemmas
 mod StepLemmas
-mod TableLemmas
+pub mod TableLemmas

@@ -1,19 +1,19 @@
 -- What a request does to a responder.
-use Rattle.std.proofs.Common.{◌≡◌, ℕ, ◌+◌, ◌-◌, ◌<◌, ◌≤◌, Bool, true, false, cond, leb, List, [], ◌∷◌, ◌++◌, length, set, get_or, take, drop, Option, Some, None, Result, Ok, Err, refl, sym, ap, subst, ◌∙◌, arith}
-use Rattle.std.specs.Prelude.{find, slice_get, IfOk, IfSome, is_none, nat_le, ◌&&◌, ◌==◌}
+use Rattle.std.proofs.Common.{◌≡◌, ℕ, ◌+◌, ◌-◌, ◌<◌, ◌≤◌, true, List, [], ◌∷◌, ◌++◌, length, set, take, drop, Some, None, Result, Ok, Err, refl, sym, ap, subst, ◌∙◌, arith}
+use Rattle.std.specs.Prelude.{find, slice_get, IfOk, is_none, nat_le, ◌==◌}
 use Rattle.std.proofs.lemmas.Bool.{true≢false, leb-true, le-leb, and_parts, eqb-true}
-use Rattle.std.proofs.lemmas.Option.{get_or_from_slice_get}
+use Rattle.std.proofs.lemmas.Option.{get_or_from_slice_get, slice_get-get_or}
 use Rattle.at_ddp.specs.Address.{same_address}
 use Rattle.at_ddp.proofs.Octets.{same_address-true}
 use Rattle.std.proofs.lemmas.List.{take_rest}
-use Rattle.at_ddp.specs.Outbox.{Outbox, Sends}
+use Rattle.at_ddp.specs.Outbox.{Outbox}
 use Rattle.at_atp.specs.Packets.{Packet}
 use Rattle.at_atp.specs.Tables.{replaced}
 use Rattle.at_atp.specs.declared.fault.AtpFault.{AtpFault}
-use Rattle.at_atp.specs.Records.{Record, Repeat, is_key, repeated, request_came, is_new_and_full, fit, Waiting, IsTaken, IsRepeat}
+use Rattle.at_atp.specs.Records.{Record, is_key, repeated, request_came, is_new_and_full, fit, Waiting, IsTaken, IsRepeat}
 use Rattle.at_atp.specs.declared.reception.Key.{Key}
 use Rattle.at_atp.specs.declared.reception.Reception.{Reception}
-use Rattle.at_atp.specs.declared.reception.Reception.TheVariants.{New}
+use Rattle.at_atp.specs.declared.reception.Reception.TheVariants.{Ignored, New}
 use Rattle.at_atp.proofs.TableLemmas.{Found}
 use Rattle.at_atp.proofs.StepLemmas.{sends_nothing}
 
@@ -53,6 +53,16 @@ pub taken_new_in : (rs new : List Record) (key : Key) (mask : ℕ) (r : Result R
     IfOk r (λ x. IsTaken (request_came rs key mask (find (is_key key) rs)) x new out out)
 taken_new_in rs new key mask (Ok x) out none h = taken_new rs new key mask x out none h.0 h.1
 taken_new_in rs new key mask (Err e) out none h = h
+
+-- a new request is handed up
+pub new_not_ignored : (rs : List Record) (key : Key) (mask : ℕ) → find (is_key key) rs ≡ None → (request_came rs key mask (find (is_key key) rs)).reception ≡ Ignored → ⊥
+new_not_ignored rs key mask none = rw none (λ h. cc)
+
+-- what has no effect on the requests has none on the record of its request
+pub again_ignored : (rs : List Record) (key : Key) (mask i : ℕ) → (f : Found (is_key key) rs i) → (request_came rs key mask (find (is_key key) rs)).reception ≡ Ignored →
+    (slice_get rs i ≡ Some f.entry) × ((repeated (f.entry).key mask (f.entry).state).reception ≡ Ignored)
+again_ignored rs key mask i f = rw f.first (λ h.
+    (slice_get-get_or rs i f.entry f.within ∙ ap Some (f.at f.entry), subst (λ k. (repeated k mask (f.entry).state).reception ≡ Ignored) (sym (own key f.entry f.passes)) h))
 
 -- ---- packets of an answer
 

@@ -1,5 +1,5 @@
 -- The numbers that a requester draws.
-use Rattle.std.proofs.Common.{◌≡◌, ℕ, zero, suc, ◌+◌, ◌-◌, ◌%◌, Bool, true, false, cond, List, Option, Some, refl, sym, ap, arith}
+use Rattle.std.proofs.Common.{◌≡◌, ℕ, zero, suc, ◌+◌, ◌-◌, ◌%◌, Bool, cond, List, Some, refl, arith}
 use Rattle.at_atp.specs.Requests.{Transaction, has_number, draw_from}
 
 pub draw-step : (tries first : ℕ) (standing : List Transaction) (b : Bool) → (tries ≡ 0 → ⊥) → has_number standing first ≡ b →

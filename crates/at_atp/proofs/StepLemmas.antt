@@ -1,5 +1,5 @@
 -- What a packet does to a requester.
-use Rattle.std.proofs.Common.{◌≡◌, ℕ, zero, suc, ◌+◌, ◌<◌, Bool, true, false, cond, List, [], ◌∷◌, ◌++◌, length, set, take, drop, Option, Some, None, Result, Ok, Err, refl, sym, ap, subst, ◌∙◌, arith}
+use Rattle.std.proofs.Common.{◌≡◌, ℕ, suc, Bool, true, false, cond, List, [], ◌++◌, set, Some, None, Result, Ok, Err, refl, sym, ap, ◌∙◌, arith}
 use Rattle.std.specs.Prelude.{find, remove, IfOk}
 use Rattle.std.proofs.lemmas.List.{append-nil, take-set, drop-set-lt}
 use Rattle.std.proofs.lemmas.Bool.{true≢false}
@@ -8,7 +8,7 @@ use Rattle.at_ddp.specs.declared.address.Address.{Address}
 use Rattle.at_atp.specs.Packets.{Packet}
 use Rattle.at_atp.specs.Answers.{Arrival, is_wanted, whole, with_part}
 use Rattle.at_atp.specs.Frames.{Response}
-use Rattle.at_atp.specs.Requests.{Transaction, Requests, is_of, Effect, release_by, came, is_finished, Heard, ignored, settled, heard, response_came, IsHeard, IsEffect}
+use Rattle.at_atp.specs.Requests.{Transaction, Requests, is_of, Effect, release_by, came, is_finished, is_ignored, heard, IsHeard, IsEffect}
 use Rattle.at_atp.specs.declared.step.Step.{Step}
 use Rattle.at_atp.specs.declared.step.Step.TheVariants.{Ignored, Finished}
 use Rattle.at_atp.specs.Tables.{replaced, without_first}
@@ -24,6 +24,12 @@ pub effect_finished : {A E : Type 0} (t : Transaction) (place : ℕ) (part : Arr
 effect_finished t place part sts packets (Err e) new before after wanted is h = h
 effect_finished t place part sts packets (Ok s) new before after wanted is h =
     rw (wanted, is) (record { is_step = h.0; is_new = λ b. absurd (true≢false b); sends = h.1 })
+
+-- the packet has no effect on the transaction that it came for, if none on the requester
+pub no_effect_some : (A : Type 0) (r : Requests) (from : Address) (place : ℕ) (eom sts : Bool) (tid : ℕ) (user bytes : List ℕ) (i : ℕ) (f : Found (is_of tid from) r.standing i) →
+    is_ignored (heard {A = A} r from (Response place eom sts tid user bytes)).step ≡ true →
+    is_ignored (came {A = A} f.entry place (record { eom = eom; packet = record { user = user; data_ = bytes } }) sts).step ≡ true
+no_effect_some A r from place eom sts tid user bytes i f = rw f.first (λ h. h)
 
 pub heard_none : {A : Type 0} (r : Requests) (from : Address) (place : ℕ) (eom sts : Bool) (tid : ℕ) (user bytes : List ℕ) (out : Outbox) → find (is_of tid from) r.standing ≡ None →
     IsHeard (heard {A = A} r from (Response place eom sts tid user bytes)) Ignored r out out

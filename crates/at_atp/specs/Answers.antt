@@ -1,5 +1,5 @@
 -- The packets of an answer that came, and those that are still wanted (Inside AppleTalk, ATP, "Transaction bitmap").
-use Rattle.std.specs.Prelude.{ℕ, zero, suc, ◌+◌, ◌*◌, if◌then◌else◌, Bool, true, false, is_none, List, [], ◌∷◌, ◌++◌, slice_set, option_map, Option, Some, None}
+use Rattle.std.specs.Prelude.{ℕ, zero, suc, ◌+◌, ◌*◌, if◌then◌else◌, Bool, false, is_none, List, [], ◌∷◌, ◌++◌, slice_set, option_map, Option, Some, None}
 use Rattle.at_atp.specs.Packets.{Packet}
 
 -- a packet that came, and whether the answer ends with it

@@ -94,6 +94,10 @@ abbrev pub is_finished : {A : Type 0} → Step A → Bool
 is_finished (step.Finished packets) = true
 is_finished other = false
 
+abbrev pub is_ignored : {A : Type 0} → Step A → Bool
+is_ignored step.Ignored = true
+is_ignored other = false
+
 -- what came of a packet: the step, the requester after it, and what is sent
 pub record Heard (A : Type 0) : Type 0 where
   pub step : Step A

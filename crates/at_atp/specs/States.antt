@@ -1,6 +1,5 @@
 -- What a record holds, as the definitions see it.
-use Rattle.std.specs.Prelude.{◌≡◌, ◌≤◌, true, List, length}
-use Rattle.at_atp.specs.Packets.{Packet}
+use Rattle.std.specs.Prelude.{◌≡◌, ◌≤◌, true, length}
 use Rattle.at_atp.specs.Records.{State, Waiting, Answered, Released, fit}
 use Rattle.at_atp.specs.declared.entry.Held.{Held}
 use Rattle.at_atp.specs.declared.entry.Held.TheVariants as held

@@ -1,4 +1,4 @@
-ghost use Rattle.std.specs.Prelude.{◌≡◌, ℕ, ◌+◌, ◌≤◌, ◌∷◌, [], length, true, false, if◌then◌else◌, IfOk, OnErr};
+ghost use Rattle.std.specs.Prelude.{◌≡◌, ℕ, ◌+◌, ◌≤◌, ◌∷◌, [], length, true, false, if◌then◌else◌, IfOk, OnErr, IsOk};
 ghost use Rattle.at_ddp.specs.Outbox.{Sends, HasRoomFor};
 ghost use Rattle.at_atp.specs.Frames.{Response, spelled};
 ghost use Rattle.at_atp.specs.Records.{Waiting, fit, responses, is_key, state_fault, asked_mask, repeated, IsRepeat};
@@ -85,6 +85,7 @@ impl<A: Allocator> Entry<A> {
         ensures ok { IfOk result (λ r. IsRepeat (repeated self.old.key mask self.old.state) r self.old self.new out.old out.new) }
         ensures unchanged { OnErr result (self.new ≡ self.old) }
         ensures nothing_sent { OnErr result (Sends out.old out.new []) }
+        ensures ignored { (repeated self.old.key mask self.old.state).reception ≡ Reception.Ignored → IsOk result }
     {
         let key = self.key;
         match &self.held {

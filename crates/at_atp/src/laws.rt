@@ -1,9 +1,18 @@
 //! Laws of the spellings. The functions do nothing: each contract is a law.
-ghost use Rattle.std.specs.Prelude.{◌≡◌, List, ℕ};
+ghost use Rattle.std.specs.Prelude.{◌≡◌, ◌≤◌, List, ℕ, length};
+ghost use Rattle.at_ddp.specs.Datagram.{AreBytes};
+ghost use Rattle.at_atp.specs.Fault.{Stands};
 ghost use Rattle.at_atp.specs.Frames.{Content, IsLawful, Spells, spelled};
+ghost use Rattle.at_atp.specs.declared.fault.AtpFault.{AtpFault};
 
-/// What is encoded is decoded again, and no bytes spell two packets.
+/// What is encoded is decoded again, no bytes spell two packets, and no fault stands in a spelling.
 pub fn what_is_written_is_read()
     ensures read { (f : Content) → IsLawful f → Spells (spelled f) f }
     ensures alone { (input : List ℕ) (f g : Content) → Spells input f → Spells input g → f ≡ g }
+    ensures faultless { (input : List ℕ) (f : Content) → Spells input f → (fault : AtpFault) → ¬ Stands fault input }
+{}
+
+/// What is encoded is bytes, and fits a datagram.
+pub fn what_is_written_fits()
+    ensures { (f : Content) → IsLawful f → AreBytes (spelled f) × (length (spelled f) ≤ 586) }
 {}

@@ -1,8 +1,8 @@
-ghost use Rattle.std.specs.Prelude.{◌≡◌, ◌≢◌, ◌↔◌, ◌+◌, ◌≤◌, ◌<◌, ◌∷◌, [], length, remove, if◌then◌else◌, IfOk, IfErr, OnErr, IsErrOf, Some, None};
+ghost use Rattle.std.specs.Prelude.{◌≡◌, ◌≢◌, ◌↔◌, ◌+◌, ◌≤◌, ◌<◌, ◌∷◌, [], length, remove, if◌then◌else◌, IfOk, IfErr, OnErr, IsOk, IsErrOf, true, Some, None};
 ghost use Rattle.std.specs.List.{position_from};
 ghost use Rattle.at_ddp.specs.Outbox.{Sends};
 ghost use Rattle.at_atp.specs.Frames.{content, spelled};
-ghost use Rattle.at_atp.specs.Requests.{no_requests, has_number, draw_from, next_number, beginning, begun, request_by, is_of, is_finished, heard, IsHeard};
+ghost use Rattle.at_atp.specs.Requests.{no_requests, has_number, draw_from, next_number, beginning, begun, request_by, is_of, is_finished, is_ignored, heard, IsHeard};
 
 use crate::fault::AtpFault;
 use crate::frame::{Frame, MAX_DATA};
@@ -100,6 +100,9 @@ impl<A: Allocator + Copy> Requester<A> {
         ensures ok { IfOk result (λ step. IsHeard (heard self.old from (content frame.now)) step self.new out.old out.new) }
         ensures unchanged { OnErr result (self.new ≡ self.old) }
         ensures nothing_sent { OnErr result (Sends out.old out.new []) }
+
+        // A packet that has no effect takes no memory.
+        ensures ignored { is_ignored (heard {A = A} self.old from (content frame.now)).step ≡ true → IsOk result }
     {
         let Frame::Response {
             place,

@@ -57,6 +57,9 @@ impl<A: Allocator + Copy> Responder<A> {
         ensures memory { IfErr result (λ fault. fault ≢ AtpFault.Full → fault ≡ AtpFault.NoMemory) }
         ensures unchanged { OnErr result (self.new ≡ self.old) }
         ensures nothing_sent { OnErr result (Sends out.old out.new []) }
+
+        // A packet that has no effect takes no memory.
+        ensures ignored { (taken self.old from (content frame.now)).reception ≡ Reception.Ignored → IsOk result }
     {
         let Frame::Request { mask, xo, tid, .. } = *frame else {
             return Ok(Reception::Ignored);
@@ -131,6 +134,7 @@ fn take_in<A: Allocator>(
     ensures memory { IfErr result (λ fault. fault ≢ AtpFault.Full → fault ≡ AtpFault.NoMemory) }
     ensures unchanged { OnErr result (entries.new.items ≡ entries.old.items) }
     ensures nothing_sent { OnErr result (Sends out.old out.new []) }
+    ensures ignored { (request_came entries.old.items key mask (find (is_key key) entries.old.items)).reception ≡ Reception.Ignored → IsOk result }
 {
     match place_of(entries, key) {
         None => add(entries, key, mask),
@@ -153,6 +157,7 @@ fn repeat<A: Allocator>(
         × IsRepeat (repeated old.key mask old.state) r old new out.old out.new × (entries.new.items ≡ slice_set entries.old.items index new)) }
     ensures unchanged { OnErr result (entries.new.items ≡ entries.old.items) }
     ensures nothing_sent { OnErr result (Sends out.old out.new []) }
+    ensures ignored { (old : Record) → slice_get entries.old.items index ≡ Some old → (repeated old.key mask old.state).reception ≡ Reception.Ignored → IsOk result }
 {
     let entry = &mut entries[index];
     entry.come_again(mask, out)

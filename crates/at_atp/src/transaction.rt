@@ -1,4 +1,4 @@
-ghost use Rattle.std.specs.Prelude.{◌≡◌, ◌+◌, ◌≤◌, ◌<◌, ◌∷◌, ℕ, List, length, is_some, Some, None, IfOk, OnOk, OnErr, true, false, [], replicate};
+ghost use Rattle.std.specs.Prelude.{◌≡◌, ◌+◌, ◌≤◌, ◌<◌, ◌∷◌, ℕ, List, length, is_some, Some, None, IfOk, OnOk, OnErr, IsOk, true, false, [], replicate};
 ghost use Rattle.at_ddp.specs.Outbox.{Sends};
 ghost use Rattle.at_atp.specs.Packets.{Packet as Arrived};
 ghost use Rattle.at_atp.specs.Answers.{Arrival, is_wanted, whole, with_part};
@@ -144,7 +144,7 @@ pub(crate) struct Arriving<'a> {
 }
 
 impl<A: Allocator + Copy> Transaction<A> {
-    ghost use Rattle.at_atp.specs.Requests.{came, was_kept, IsEffect};
+    ghost use Rattle.at_atp.specs.Requests.{came, was_kept, is_ignored, IsEffect};
     ghost use Rattle.at_atp.specs.Arriving.{arrival_of};
 
     // Takes a packet in that came from the address that was asked, under this transaction's number.
@@ -157,6 +157,7 @@ impl<A: Allocator + Copy> Transaction<A> {
         ensures ok { IfOk result (λ step. IsEffect (came self.old arriving.now.place (arrival_of arriving.now) arriving.now.sts) step self.new out.old out.new) }
         ensures unchanged { OnErr result (self.new ≡ self.old) }
         ensures nothing_sent { OnErr result (Sends out.old out.new []) }
+        ensures ignored { is_ignored (came {A = A} self.old arriving.now.place (arrival_of arriving.now) arriving.now.sts).step ≡ true → IsOk result }
     {
         if !self.wants(arriving.place) {
             return self.not_wanted(arriving.sts, out);
@@ -172,6 +173,7 @@ impl<A: Allocator + Copy> Transaction<A> {
     fn not_wanted(&self, sts: bool, out: &mut Outbox<A>) -> Result<Step<A>, AllocError>
         ensures ok { (place : ℕ) (part : Arrival) → is_wanted self.now.parts place ≡ false → IfOk result (λ step. IsEffect (came self.now place part sts) step self.now out.old out.new) }
         ensures nothing_sent { OnErr result (Sends out.old out.new []) }
+        ensures ignored { sts ≡ false → IsOk result }
     {
         if !sts {
             return Ok(Step::Ignored);

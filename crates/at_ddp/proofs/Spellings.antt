@@ -1,7 +1,6 @@
 -- No spelling begins another, and what is written is spelled.
-use Rattle.std.proofs.Common.{lit<, ◌≡◌, inr, ℕ, ◌+◌, ◌*◌, ◌/◌, ◌%◌, ◌^◌, ◌<◌, ◌≤◌, List, ◌++◌, length, get_or, drop, refl, sym, ap, ◌∙◌, arith}
-use Rattle.at_ddp.specs.Sum.{sum_of}
-use Rattle.at_ddp.specs.Datagram.{Content, written, canonical, after_sum, spelling, IsAddress, AreBytes, IsLawful, Spells, HasRightSum, BeginsWith}
+use Rattle.std.proofs.Common.{lit<, ◌≡◌, inr, ℕ, ◌+◌, ◌*◌, ◌^◌, ◌<◌, ◌≤◌, List, ◌++◌, length, get_or, drop, refl, sym, ap, ◌∙◌, arith}
+use Rattle.at_ddp.specs.Datagram.{Content, written, canonical, spelling, IsAddress, AreBytes, IsLawful, Spells, BeginsWith}
 use Rattle.at_ddp.specs.declared.address.Address.{Address}
 use Rattle.at_ddp.proofs.Octets.{same_number, append_parts}
 use Rattle.at_ddp.proofs.SumLemmas.{sum_of-lt}

@@ -1,3 +1,4 @@
 mod HearingLemmas
 mod PostLemmas
 mod ServingLemmas
+mod SentHeard

@@ -3,6 +3,7 @@
 
 mod asking;
 mod event;
+pub mod laws;
 mod node;
 mod serving;
 

@@ -90,6 +90,13 @@ impl<A: Allocator + Copy> Node<A> {
         }
     }
 
+    /// The node's number, 1 to 254.
+    pub fn number(&self) -> u8
+        ensures { result ≡ self.now.number }
+    {
+        self.number
+    }
+
     fn read_zones(&mut self, out: &mut Datagrams<A>) -> Report<A>
         ensures { IsStep (zones_called self.old self.old.router self.old.reading) self.old out.old.items result self.new out.new.items }
     {

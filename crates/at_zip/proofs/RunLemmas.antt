@@ -1,13 +1,14 @@
 -- The longest run of names that a room holds.
-use Rattle.std.proofs.Common.{◌≡◌, ℕ, suc, ◌+◌, ◌-◌, ◌<◌, ◌≤◌, Bool, true, false, IsTrue, List, [], ◌∷◌, ◌++◌, length, take, drop, refl, sym, ap, ◌∙◌, arith}
+use Rattle.std.proofs.Common.{◌≡◌, ℕ, suc, ◌+◌, ◌-◌, ◌/◌, ◌%◌, ◌<◌, ◌≤◌, Bool, true, false, IsTrue, List, [], ◌∷◌, ◌++◌, length, take, drop, refl, sym, ap, ◌∙◌, arith}
 use Rattle.std.specs.Prelude.{min, nat_eq, nat_le, if◌then◌else◌, All}
 use Rattle.std.proofs.lemmas.Bool.{le-leb, leb-true, leb-false}
 use Rattle.std.proofs.lemmas.Bool.Decides.{nat_tests}
 use Rattle.std.proofs.lemmas.List.{length-append, length-drop, take_at, drop_min}
-use Rattle.std.proofs.lemmas.List.Elements.{All-nil, All-cons, All-head, All-tail, All-drop}
+use Rattle.std.proofs.lemmas.List.Elements.{All-nil, All-cons, All-head, All-tail, All-drop, All-append}
 use Rattle.at_zip.specs.Zones.{IsName, IsTable}
 use Rattle.at_zip.specs.Names.{spelled}
-use Rattle.at_zip.specs.Page.{Page, IsLawful, IsPageFrom, longest_run, page_of}
+use Rattle.at_zip.specs.Page.{Page, IsLawful, IsPageFrom, longest_run, page_of, page_user, page_data}
+use Rattle.at_ddp.specs.Datagram.{AreBytes}
 use Rattle.at_zip.proofs.SpelledLemmas.{length-spelled-cons, count_le_spelled, same_page, same_test}
 
 pub run_fits : (room : ℕ) (names : List (List ℕ)) → length (spelled (longest_run room names)) ≤ room
@@ -145,3 +146,32 @@ is_page_run table left run start cut is =
     let fewer : length run ≤ length left = omega (arith, ap (length {A = List ℕ}) is, ap (length {A = List ℕ}) begins.1, length-append (longest_run 578 left) begins.0) in
     let len : length left ≡ length table - (start - 1) = ap (length {A = List ℕ}) from ∙ length-drop (start - 1) table in
     (names, same_end (length run) (length left) (start - 1) (length table) fewer len ∙ ap (λ (l : List (List ℕ)). nat_le (length table) (start - 1 + length l)) names)
+
+-- ---- a page fits one packet
+
+spelled_bytes : (names : List (List ℕ)) → All IsName names → AreBytes (spelled names)
+spelled_bytes [] each = All-nil (λ b. b < 256)
+spelled_bytes (name ∷ names) each =
+    let ok = All-head IsName name names each in
+    let rest = spelled_bytes names (All-tail IsName name names each) in
+    let fits = ok.fits in
+    All-cons (λ b. b < 256) (length name) (name ++ spelled names) (omega arith) (All-append (λ b. b < 256) name (spelled names) ok.bytes rest)
+
+pub page_bytes : (table : List (List ℕ)) (start : ℕ) → IsTable table → AreBytes (page_data (page_of table start))
+page_bytes table start ok = let lawful = page_is_lawful table start ok in spelled_bytes (page_of table start).names lawful.each
+
+pub page_fits : (table : List (List ℕ)) (start : ℕ) → length (page_data (page_of table start)) ≤ 578
+unfolding page_of
+page_fits table start = run_fits 578 (drop (start - 1) table)
+
+flag_fits : (last : Bool) → (if last then 1 else 0) < 256
+flag_fits true = omega arith
+flag_fits false = omega arith
+
+pub user_bytes : (p : Page) → AreBytes (page_user p)
+user_bytes p =
+    let n = length p.names in
+    let low = All-cons (λ b. b < 256) (n % 256) [] (omega arith) (All-nil (λ b. b < 256)) in
+    let count = All-cons (λ b. b < 256) (n / 256 % 256) (n % 256 ∷ []) (omega arith) low in
+    let flag = if p.last then 1 else 0 in
+    All-cons (λ b. b < 256) flag (0 ∷ n / 256 % 256 ∷ n % 256 ∷ []) (flag_fits p.last) (All-cons (λ b. b < 256) 0 (n / 256 % 256 ∷ n % 256 ∷ []) (omega arith) count)

@@ -1,9 +1,12 @@
 //! Laws of requests, pages and tables. The functions do nothing: each contract is a law.
 ghost use Rattle.std.specs.Prelude.{◌≡◌, ℕ, ◌^◌, ◌<◌, ◌≤◌, ◌++◌, true, List, length};
+ghost use Rattle.at_ddp.specs.Datagram.{AreBytes};
+ghost use Rattle.at_zip.specs.Fault.{IsFirstFault};
 ghost use Rattle.at_zip.specs.Names.{spelled};
 ghost use Rattle.at_zip.specs.Page.{Page, IsLawful, Spells, IsPageFrom, page_of, page_user, page_data};
 ghost use Rattle.at_zip.specs.Request.{RequestSpells, request_user};
 ghost use Rattle.at_zip.specs.Zones.{IsTable};
+ghost use Rattle.at_zip.specs.declared.fault.ZipFault.{ZipFault};
 
 /// What is written is read: the canonical bytes spell the request or the page that they are written for, and the
 /// page of a table is lawful.
@@ -13,10 +16,18 @@ pub fn what_is_written_is_read()
     ensures lawful { (table : List (List ℕ)) (start : ℕ) → IsTable table → IsLawful (page_of table start) }
 {}
 
-/// No bytes spell two requests or two pages.
+/// No bytes spell two requests or two pages, and no fault stands in a page.
 pub fn one_page_a_spelling()
     ensures request { (user : List ℕ) (m n : ℕ) → RequestSpells user m → RequestSpells user n → m ≡ n }
     ensures page { (user bytes : List ℕ) (p q : Page) → Spells user bytes p → Spells user bytes q → p ≡ q }
+    ensures faultless { (user bytes : List ℕ) (p : Page) → Spells user bytes p → (fault : ZipFault) → ¬ IsFirstFault fault user bytes }
+{}
+
+/// What is written for a page of a table fits one ATP packet: four user bytes, and at most 578 bytes of data.
+pub fn a_page_fits_one_packet()
+    ensures user { (table : List (List ℕ)) (start : ℕ) → AreBytes (page_user (page_of table start)) }
+    ensures bytes { (table : List (List ℕ)) (start : ℕ) → IsTable table → AreBytes (page_data (page_of table start)) }
+    ensures fits { (table : List (List ℕ)) (start : ℕ) → length (page_data (page_of table start)) ≤ 578 }
 {}
 
 /// The page from a place on is the longest run of names that 578 bytes hold, and no other page is.

@@ -1,6 +1,6 @@
-use Rattle.std.proofs.Common.{◌≡◌, ◌≤◌, ℕ, List, get_or, sym, ap, ◌∙◌, subst, arith}
+use Rattle.std.proofs.Common.{◌≡◌, ◌≤◌, get_or, sym, ap, ◌∙◌, subst, arith}
 use Rattle.at_ddp.proofs.Octets.{InBytes, number_in}
-use Rattle.at_atp.specs.Frames.{Content, Release, content, Spells}
+use Rattle.at_atp.specs.Frames.{Release, content, Spells}
 use Rattle.at_atp.specs.Reading.{tid_in}
 use Rattle.at_atp.proofs.FrameLemmas.{request_is_spelled, response_is_spelled, release_is_spelled}
 use Rattle.at_atp.proofs.frame.parse.Goals as goal

@@ -1,6 +1,6 @@
 use Rattle.at_atp.specs.Records.{is_key}
 use Rattle.at_atp.proofs.TableLemmas.{found_by, none_by}
-use Rattle.at_atp.proofs.RecordLemmas.{taken_new_in, taken_again, full_if, full_then, not_new}
+use Rattle.at_atp.proofs.RecordLemmas.{taken_new_in, taken_again, full_if, full_then, not_new, new_not_ignored, again_ignored}
 use Rattle.at_atp.proofs.responder.take_in.Goals as goal
 
 pub repeat-requires : goal.repeat-requires
@@ -29,3 +29,13 @@ pub returns-in-Err-clause-full : goal.returns-in-Err-clause-full
 returns-in-Err-clause-full g c =
     let f = found_by (is_key c.args.key) c.args.entries.now.items c.deref.result.now c.place_of.result c.in-Some.index c.deref.ensures.value c.place_of.ensures c.in-Some.is in
     (λ e. absurd (cc e), λ h. absurd (not_new c.args.entries.now.items c.args.key f.entry f.first h))
+
+pub returns-in-None-clause-ignored : goal.returns-in-None-clause-ignored
+returns-in-None-clause-ignored g c = λ h. absurd (new_not_ignored c.args.entries.now.items c.args.key c.args.mask
+    (none_by (is_key c.args.key) c.args.entries.now.items c.deref.result.now c.place_of.result c.deref.ensures.value c.place_of.ensures c.in-None.is) h)
+
+pub returns-in-Err-clause-ignored : goal.returns-in-Err-clause-ignored
+returns-in-Err-clause-ignored g c = λ h.
+    let f = found_by (is_key c.args.key) c.args.entries.now.items c.deref.result.now c.place_of.result c.in-Some.index c.deref.ensures.value c.place_of.ensures c.in-Some.is in
+    let again = again_ignored c.args.entries.now.items c.args.key c.args.mask c.in-Some.index f h in
+    c.in-Err.ensures.ignored f.entry again.0 again.1

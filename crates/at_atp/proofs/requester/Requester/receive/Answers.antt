@@ -1,9 +1,10 @@
-use Rattle.std.proofs.Common.{◌≡◌, List, sym, ap, ◌∙◌, arith}
+use Rattle.std.proofs.Common.{◌≡◌, sym, ap, ◌∙◌, arith}
 use Rattle.std.specs.List.{position_from}
+use Rattle.std.proofs.lemmas.Bool.{true≢false}
 use Rattle.std.proofs.lemmas.List.{length-set}
 use Rattle.at_atp.specs.Requests.{Requests, is_of}
 use Rattle.at_atp.proofs.TableLemmas.{found_by, not_found}
-use Rattle.at_atp.proofs.StepLemmas.{heard_none, heard_some}
+use Rattle.at_atp.proofs.StepLemmas.{heard_none, heard_some, no_effect_some}
 use Rattle.at_atp.proofs.requester.Requester.receive.Goals as goal
 
 pub returns-in_default-place_of-clause-ok : goal.returns-in_default-place_of-clause-ok
@@ -24,3 +25,10 @@ returns-clause-ok g c =
     let entry : c.index_mut-transaction.result.now ≡ f.entry = c.index_mut-transaction.ensures.value ∙ f.at c.index_mut-transaction.result.now in
     let e = rw entry at c.in_ok-step.ensures.ok in
     rw (← c.self.view_is, c.in-Response.is) (heard_some (record { next = c.self.inside.next; standing = c.self.inside.standing.items }) c.args.from _ _ _ _ _ _ c.in-Some.index c.in_ok-step.step c.take_in.new.self c.settle.new.standing.items c.args.out.now c.take_in.new.out f e c.settle.ensures)
+
+pub returns-in_err-step-clause-ignored : goal.returns-in_err-step-clause-ignored
+returns-in_err-step-clause-ignored g c =
+    let f = found_by (is_of c.in-Response.tid c.args.from) c.self.inside.standing.items c.deref.result.now c.place_of.result c.in-Some.index c.deref.ensures.value c.place_of.ensures c.in-Some.is in
+    let entry : c.index_mut-transaction.result.now ≡ f.entry = c.index_mut-transaction.ensures.value ∙ f.at c.index_mut-transaction.result.now in
+    let refused = rw entry at c.in_err-step.ensures.ignored in
+    rw (← c.self.view_is, c.in-Response.is) (λ h. absurd (true≢false (sym (refused (no_effect_some _ (record { next = c.self.inside.next; standing = c.self.inside.standing.items }) c.args.from _ _ _ _ _ _ c.in-Some.index f h)))))

@@ -1,4 +1,4 @@
-use Rattle.std.proofs.Common.{◌≡◌, List, [], Vec, Option, ap, sym, ◌∙◌, rules}
+use Rattle.std.proofs.Common.{◌≡◌, [], ap, ◌∙◌, rules}
 use Rattle.at_atp.specs.Answers.{Arrival, with_part, gathered}
 use Rattle.at_atp.specs.Arriving.{arrival_of}
 use Rattle.at_atp.specs.Requests.{Transaction}

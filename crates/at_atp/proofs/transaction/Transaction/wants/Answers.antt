@@ -1,4 +1,4 @@
-use Rattle.std.proofs.Common.{◌≡◌, true, length, sym, ap, subst, ◌∙◌, ◌<◌}
+use Rattle.std.proofs.Common.{sym, ap, ◌∙◌}
 use Rattle.at_atp.specs.Answers.{is_wanted}
 use Rattle.at_atp.specs.Requests.{Transaction}
 use Rattle.at_atp.proofs.AnswerLemmas.{wanted-within}

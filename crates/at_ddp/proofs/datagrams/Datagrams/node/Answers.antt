@@ -1,7 +1,7 @@
 use Rattle.std.proofs.Common.{◌≡◌, length, ap, ◌∙◌, sym, arith}
 use Rattle.std.specs.Prelude.{slice_get}
 use Rattle.std.proofs.lemmas.Option.{get_or_from_slice_get}
-use Rattle.at_ddp.specs.Datagrams.{Datagrams, Posted}
+use Rattle.at_ddp.specs.Datagrams.{Datagrams}
 use Rattle.at_ddp.specs.declared.datagrams.Mark.{Mark}
 use Rattle.at_ddp.proofs.MarkLemmas.{length-pieces, lies_in}
 use Rattle.at_ddp.proofs.datagrams.Datagrams.node.Goals as goal

@@ -1,4 +1,4 @@
-use Rattle.std.proofs.Common.{List, ℕ, [], ◌∷◌, ◌++◌, ap, ◌∙◌}
+use Rattle.std.proofs.Common.{List, [], ◌∷◌, ◌++◌, ap, ◌∙◌}
 use Rattle.at_ddp.specs.Datagrams.{Datagrams, Posted}
 use Rattle.at_ddp.proofs.MarkLemmas.{marks_after, pieces_after}
 use Rattle.at_ddp.proofs.datagrams.Datagrams.push.Goals as goal

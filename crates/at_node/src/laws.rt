@@ -1,0 +1,41 @@
+//! Laws of what a node hears. The functions do nothing but cite the laws of the layers below: each contract is a law.
+ghost use Rattle.std.specs.Prelude.{◌≡◌, ℕ, ◌^◌, ◌<◌, ◌≤◌, Bool, List};
+ghost use Rattle.at_ddp.specs.Datagram.{IsAddress, canonical, written};
+ghost use Rattle.at_ddp.specs.declared.address.Address.{Address};
+ghost use Rattle.at_atp.specs.Frames.{Content, Request, IsLawful, spelled};
+ghost use Rattle.at_atp.specs.Packets.{Packet};
+ghost use Rattle.at_zip.specs.Page.{Page, IsLawful as IsLawfulPage, page_user, page_data};
+ghost use Rattle.at_zip.specs.Request.{request_user};
+ghost use Rattle.at_node.specs.Nodes.{NodeState, Outcome};
+ghost use Rattle.at_node.specs.Steps.{atp_kind, zone_asked};
+ghost use Rattle.at_node.specs.Hearing.{Hears, AtSocket, AtZones, Tells, socket_of, told_by};
+ghost use Rattle.at_node.specs.declared.event.Report.{Report};
+
+use std::alloc::Allocator;
+
+/// What is sent is heard: bytes that were written for a packet do what that packet does at the socket that they go to.
+pub fn what_is_sent_is_heard<A: Allocator>()
+    ensures { (n : NodeState) (to from : Address) (f : Content) (o : Outcome A) → IsAddress to → IsAddress from → IsLawful f → Hears n (canonical to from atp_kind (spelled f)) o
+        → AtSocket n from (socket_of n (written to from atp_kind (spelled f))) f o }
+{
+    at_ddp::laws::what_is_written_is_read();
+    at_atp::laws::what_is_written_is_read();
+    at_atp::laws::what_is_written_fits();
+}
+
+/// A request that was written for the page from a place on is served that page, and no other.
+pub fn a_page_asked_for_is_served<A: Allocator>()
+    ensures { (n : NodeState) (from : Address) (table : List (List ℕ)) (mask : ℕ) (xo : Bool) (timer tid start : ℕ) (bytes : List ℕ) (o : Outcome A) → 1 ≤ start → start < 2 ^ 16
+        → AtZones n from table (Request mask xo timer tid (request_user start) bytes) o → o ≡ zone_asked n from (Request mask xo timer tid (request_user start) bytes) table start }
+{
+    at_zip::laws::what_is_written_is_read();
+    at_zip::laws::one_page_a_spelling();
+}
+
+/// A page that was written is the page that is told.
+pub fn a_page_written_is_told<A: Allocator>()
+    ensures { (p : Page) (r : Report A) → IsLawfulPage p → Tells (record { user = page_user p; data_ = page_data p }) r → r ≡ told_by p }
+{
+    at_zip::laws::what_is_written_is_read();
+    at_zip::laws::one_page_a_spelling();
+}

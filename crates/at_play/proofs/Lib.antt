@@ -1,0 +1,2 @@
+mod InputLemmas
+pub mod NumberLemmas

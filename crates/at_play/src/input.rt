@@ -1,0 +1,32 @@
+//! The bytes of a schedule.
+ghost use Rattle.std.specs.Prelude.{◌≡◌, ◌≤◌, IfOk, IfSome, vec_len};
+
+use crate::schedule::Fault;
+use std::alloc::Allocator;
+use std::io::{ErrorKind, Read};
+
+/// How many bytes a schedule has at most.
+pub(crate) const MAX_LEN: usize = 67_108_864;
+
+/// Reads to the end.
+pub(crate) fn read_bytes<A: Allocator, R: Read>(
+    alloc: A,
+    reader: &mut R,
+) -> Result<Vec<u8, A>, Fault>
+    ensures fits { IfOk result (λ bytes. vec_len bytes ≤ MAX_LEN) }
+    // What is read is all that there is, where a contract knows that.
+    ensures whole { IfOk result (λ bytes. IfSome (R.remaining reader.old) (λ all. bytes.items ≡ all)) }
+{
+    let mut bytes = Vec::new(alloc);
+    let mut part = [0; 4096];
+    for _ in 0..u64::MAX {
+        match reader.read(&mut part) {
+            Ok(0) => return Ok(bytes),
+            Ok(len) if len > MAX_LEN - bytes.len() => return Err(Fault::Unreadable),
+            Ok(len) => bytes.extend_from_slice(&part[..len])?,
+            Err(error) if error.kind() == ErrorKind::Interrupted => {}
+            Err(_) => return Err(Fault::Unreadable),
+        }
+    }
+    Err(Fault::Unreadable)
+}

@@ -1,0 +1,16 @@
+//! Schedules of events and what comes of them, as text: a schedule is read whole, played, and each event printed.
+#![tactic(auto)]
+
+mod draft;
+mod event_line;
+mod input;
+mod node_line;
+mod print;
+mod program;
+mod schedule;
+mod word;
+
+pub use program::{Status, play_text};
+
+#[cfg(test)]
+mod tests;

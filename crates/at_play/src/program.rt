@@ -1,0 +1,104 @@
+//! The play of a schedule, from its text to what is printed.
+ghost use Rattle.std.specs.Prelude.{◌≡◌, ◌<◌, length, true, IfOk, IfSome, IsErr};
+ghost use Rattle.at_world.specs.Setups.{is_lawful};
+
+use crate::input::{MAX_LEN, read_bytes};
+use crate::print::write_transcript;
+use crate::schedule::{Fault, Schedule, read_schedule};
+use at_world::{PlayFault, play};
+use std::alloc::Allocator;
+use std::io;
+use std::io::{Read, Write};
+
+/// How a play ended.
+#[derive(Clone, Copy, Debug, PartialEq, Eq)]
+pub enum Status {
+    /// Each event was played and printed.
+    Done,
+    /// The schedule has a fault, the play was stopped, or a write failed.
+    Failed,
+}
+
+impl Status {
+    ghost use Rattle.at_play.specs.Statuses.{code_of};
+
+    /// The status with which the program ends.
+    pub fn code(self) -> u8
+        ensures { result ≡ code_of self }
+    {
+        match self {
+            Status::Done => 0,
+            Status::Failed => 1,
+        }
+    }
+}
+
+/// Reads a schedule, plays it, and prints what came of each event.
+pub fn play_text<A: Allocator + Copy, R: Read, W: Write>(
+    alloc: A,
+    reader: &mut R,
+    writer: &mut W,
+) -> Status
+    // Where a contract knows what the reader gives: a schedule that is too long is not played.
+    ensures { IfSome (R.remaining reader.old) (λ all. MAX_LEN < length all → result ≡ Status.Failed) }
+{
+    let printed = match read(alloc, reader) {
+        Ok(schedule) => play_schedule(alloc, &schedule, writer),
+        Err(fault) => write_fault(writer, fault),
+    };
+    match printed {
+        Ok(status) => status,
+        Err(_) => Status::Failed,
+    }
+}
+
+fn read<A: Allocator + Copy, R: Read>(alloc: A, reader: &mut R) -> Result<Schedule<A>, Fault>
+    ensures lawful { IfOk result (λ s. is_lawful s.setup ≡ true) }
+    ensures too_long { IfSome (R.remaining reader.old) (λ all. MAX_LEN < length all → IsErr result) }
+{
+    let bytes = read_bytes(alloc, reader)?;
+    read_schedule(alloc, &bytes)
+}
+
+fn play_schedule<A: Allocator + Copy, W: Write>(
+    alloc: A,
+    schedule: &Schedule<A>,
+    writer: &mut W,
+) -> io::Result<Status>
+    requires { is_lawful schedule.now.setup ≡ true }
+{
+    match play(alloc, &schedule.setup, &schedule.events) {
+        Ok(transcript) => {
+            write_transcript(writer, &transcript)?;
+            writer.flush()?;
+            Ok(Status::Done)
+        }
+        Err(stop) => write_stop(writer, &stop),
+    }
+}
+
+fn write_stop<A: Allocator, W: Write>(writer: &mut W, stop: &PlayFault<A>) -> io::Result<Status>
+    ensures { IfOk result (λ status. status ≡ Status.Failed) }
+{
+    write_transcript(writer, &stop.transcript)?;
+    match stop.fault {
+        at_world::Fault::Refused(refusal) => {
+            writeln!(writer, "stopped {} at {}", refusal.number(), stop.at)?
+        }
+        at_world::Fault::NoMemory => writeln!(writer, "stopped nomemory at {}", stop.at)?,
+    }
+    writer.flush()?;
+    Ok(Status::Failed)
+}
+
+fn write_fault<W: Write>(writer: &mut W, fault: Fault) -> io::Result<Status>
+    ensures { IfOk result (λ status. status ≡ Status.Failed) }
+{
+    match fault {
+        Fault::Unreadable => writer.write_all(b"fault 0\n")?,
+        Fault::Line(number) => writeln!(writer, "fault {number}")?,
+        Fault::NoMemory => writer.write_all(b"stopped nomemory at 0\n")?,
+    }
+    writer.flush()?;
+    Ok(Status::Failed)
+}

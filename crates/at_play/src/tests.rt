@@ -1,0 +1,5 @@
+//! What no clause says: at which line a schedule is at fault, how reports print, and what comes of a read, a write or a
+//! request for memory that fails.
+mod faults;
+mod forms;
+mod streams;

@@ -1,0 +1,167 @@
+//! How reports print.
+use crate::print::{write_text, write_transcript};
+use crate::word::text;
+use at_atp::Packet;
+use at_ddp::{Bytes, Listed, Pascal};
+use at_node::Report;
+use at_world::{SentList, Transcript};
+use std::alloc::{AllocError, Global};
+use std::io;
+use std::io::{ErrorKind, Write};
+use std::test::Fail;
+
+// One report of each kind, and lists of no, one and more items.
+static PRINTED: &str = "0 begun 65535
+1 served 8
+2 zones
+3 zones %
+4 zones Lab %20%2F%3A%40%5B%60%7B%7E -_.=*09AZaz %00%7F%80%FF %25 %2B%2C
+5 zonefault 34
+6 kept
+7 response 0
+8 response 1 00000000:-
+9 response 65535 00010AFF:AA FEDCBA98:0001020304
+10 again
+11 ignored
+12 refused 60
+13 nomemory
+";
+
+fn names(alloc: Global, texts: &[&[u8]]) -> Result<Report<Global>, AllocError> {
+    let mut zones = Vec::new(alloc);
+    for text in texts {
+        if let Some(name) = Pascal::new(text) {
+            zones.push(name)?;
+        }
+    }
+    Ok(Report::Zones(Listed::from_vec(zones)))
+}
+
+fn response(
+    alloc: Global,
+    tid: u16,
+    parts: &[([u8; 4], &[u8])],
+) -> Result<Report<Global>, AllocError> {
+    let mut packets = Vec::new(alloc);
+    for (user, bytes) in parts {
+        packets.push(Packet::new(*user, Bytes::copy_of(alloc, bytes)?))?;
+    }
+    let packets = Listed::from_vec(packets);
+    Ok(Report::Response { tid, packets })
+}
+
+fn transcript(alloc: Global) -> Result<Transcript<Global>, AllocError> {
+    let mut reports = Vec::new(alloc);
+    reports.push(Report::Begun(65535))?;
+    reports.push(Report::Served(8))?;
+    reports.push(names(alloc, &[])?)?;
+    reports.push(names(alloc, &[b""])?)?;
+    reports.push(names(
+        alloc,
+        &[
+            b"Lab",
+            b" /:@[`{~",
+            b"-_.=*09AZaz",
+            b"\x00\x7f\x80\xff",
+            b"%",
+            b"+,",
+        ],
+    )?)?;
+    reports.push(Report::ZoneFault(34))?;
+    reports.push(Report::Kept)?;
+    reports.push(response(alloc, 0, &[])?)?;
+    reports.push(response(alloc, 1, &[([0; 4], b"")])?)?;
+    reports.push(response(
+        alloc,
+        65535,
+        &[
+            ([0, 1, 10, 255], b"\xaa"),
+            ([0xFE, 0xDC, 0xBA, 0x98], b"\0\x01\x02\x03\x04"),
+        ],
+    )?)?;
+    reports.push(Report::Again)?;
+    reports.push(Report::Ignored)?;
+    reports.push(Report::Refused(60))?;
+    reports.push(Report::NoMemory)?;
+    Ok(Transcript {
+        reports: Listed::from_vec(reports),
+        sent: SentList::new(alloc),
+    })
+}
+
+#[test]
+fn each_report_prints_as_its_line(rt: HostRuntime) -> Result<(), Fail> {
+    let transcript = transcript(rt.alloc())?;
+    let mut writer = Vec::new(rt.alloc());
+    write_transcript(&mut writer, &transcript)?;
+    assert_eq!(rt; writer.as_slice(), PRINTED.as_bytes());
+    Ok(())
+}
+
+// Takes so many writes, and refuses the one after them; what follows it would be taken again.
+#[derive(Drop)]
+struct Refusing {
+    left: u32,
+    has_refused: bool,
+    bytes: Vec<u8>,
+}
+
+impl Write for Refusing {
+    fn write(&mut self, buf: &[u8]) -> io::Result<usize> {
+        if self.left == 0 && !self.has_refused {
+            self.has_refused = true;
+            return Err(io::Error::from(ErrorKind::StorageFull));
+        }
+        self.left = self.left.saturating_sub(1);
+        self.bytes.extend_from_slice(buf)?;
+        Ok(buf.len())
+    }
+
+    fn flush(&mut self) -> io::Result<()> {
+        Ok(())
+    }
+}
+
+#[test]
+fn a_write_that_fails_is_told_and_none_follows_it(rt: HostRuntime) -> Result<(), Fail> {
+    let transcript = transcript(rt.alloc())?;
+    let mut refused = 0u32;
+    for left in 0..1000u32 {
+        let mut writer = Refusing {
+            left,
+            has_refused: false,
+            bytes: Vec::new(rt.alloc()),
+        };
+        let written = write_transcript(&mut writer, &transcript);
+        assert_eq!(rt; written.is_err(), writer.has_refused, "after {left} writes");
+        if writer.has_refused {
+            refused = left;
+            assert!(rt;
+                PRINTED.as_bytes().starts_with(writer.bytes.as_slice()),
+                "after {left} writes"
+            );
+        } else {
+            assert_eq!(rt;
+                writer.bytes.as_slice(),
+                PRINTED.as_bytes(),
+                "after {left} writes"
+            );
+        }
+    }
+    assert!(rt;
+        refused > 30 && refused < 900,
+        "a write was refused last after {refused} writes"
+    );
+    Ok(())
+}
+
+#[test]
+fn a_printed_name_is_read_as_it_was(rt: HostRuntime) -> Result<(), Fail> {
+    for byte in 0..=255u8 {
+        let name = Pascal::new(&[b'A', byte, b'4', b'1']).ok_or("a name")?;
+        let mut word = Vec::new(rt.alloc());
+        write_text(&mut word, name.bytes())?;
+        assert_eq!(rt; text(word.as_slice()), Some(name), "with byte {byte}");
+    }
+    Ok(())
+}

@@ -1,0 +1,4 @@
+mod Following
+mod SentLemmas
+mod SetupLemmas
+mod WorldLemmas

@@ -1,0 +1,6 @@
+use Rattle.std.proofs.Common.{◌≡◌, take}
+use Rattle.at_world.proofs.opening.copies_of.Given as goal
+
+-- the names so far are copied
+abbrev pub invariant-loop-name : goal.invariant-loop-name
+invariant-loop-name g l = l.copies.items ≡ take l.name-index l.names

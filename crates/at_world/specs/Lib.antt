@@ -1,0 +1,5 @@
+pub mod Plays
+pub mod Refusals
+pub mod Sents
+pub mod Setups
+pub mod Worlds

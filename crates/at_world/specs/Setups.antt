@@ -1,0 +1,47 @@
+-- Which setups are lawful.
+use Rattle.std.specs.Prelude.{ℕ, ◌+◌, ◌==◌, ◌&&◌, ◌||◌, nat_le, nat_lt, if◌then◌else◌, Bool, false, List, length, count_by, sum_by, is_none, Option, Some, None}
+use Rattle.std.specs.List.{list_all, list_any}
+use Rattle.at_world.specs.declared.setup.NodeSetup.{NodeSetup}
+use Rattle.at_world.specs.declared.setup.Setup.{Setup}
+
+abbrev pub is_byte : ℕ → Bool
+is_byte b = nat_lt b 256
+
+-- the name of a zone has 1 to 32 bytes (Inside AppleTalk, ZIP, "Zones and zone names")
+abbrev pub is_name : List ℕ → Bool
+is_name name = nat_lt 0 (length name) && nat_le (length name) 32 && list_all is_byte name
+
+abbrev pub is_zone : Option (List ℕ) → Bool
+is_zone None = false
+is_zone (Some name) = is_name name
+
+-- a node by itself: its number is 1 to 254, and its rooms hold something
+abbrev pub is_lawful_node : NodeSetup → Bool
+is_lawful_node n = nat_lt 0 n.node && nat_lt n.node 255 && nat_lt 0 n.receive_room && nat_lt 0 n.send_room
+
+-- one node of these has this node's number
+abbrev pub stands_once : List NodeSetup → NodeSetup → Bool
+stands_once ns n = count_by (λ m. m.node == n.node) ns == 1
+
+abbrev pub has_router : List NodeSetup → Bool
+has_router ns = list_any (λ n. n.router) ns
+
+-- with a router each node is in a zone, and without one none is
+abbrev pub are_in_zones : List NodeSetup → Bool
+are_in_zones ns = if has_router ns then list_all (λ n. is_zone n.zone) ns else list_all (λ n. is_none n.zone) ns
+
+abbrev pub are_lawful_nodes : List NodeSetup → Bool
+are_lawful_nodes ns =
+    nat_le (length ns) 16 && list_all is_lawful_node ns && list_all (stands_once ns) ns
+    && nat_le (count_by (λ n. n.router) ns) 1 && are_in_zones ns
+
+-- how many bytes the names spell to, each with its length before it
+abbrev pub spelled_len : List (List ℕ) → ℕ
+spelled_len names = sum_by (λ name. length name + 1) names
+
+-- a table that one page holds whole, and that is empty without a router
+abbrev pub is_lawful_table : Bool → List (List ℕ) → Bool
+is_lawful_table router names = list_all is_name names && nat_le (spelled_len names) 578 && (router || (length names == 0))
+
+abbrev pub is_lawful : {A : Type 0} → Setup A → Bool
+is_lawful s = nat_lt 0 s.net && nat_lt s.net 65536 && are_lawful_nodes s.nodes && is_lawful_table (has_router s.nodes) s.zones

@@ -1,0 +1,46 @@
+ghost use Rattle.std.specs.Prelude.{◌≡◌};
+
+use at_node::Call;
+
+/// What happens next in a world.
+#[derive(Clone, Copy, Debug, PartialEq, Eq)]
+pub enum Event {
+    /// A node's user calls.
+    Call { node: u8, call: Call },
+    /// The datagram of this number comes to a node: its first time, or again.
+    Deliver { which: u64, node: u8 },
+}
+
+/// Why an event is not played.
+#[derive(Clone, Copy, Debug, PartialEq, Eq)]
+pub enum Refusal {
+    /// At most 200,000 events are played, and none once more than 868,928 datagrams were sent.
+    Limit,
+    /// A datagram that is delivered was sent.
+    NoDatagram,
+    /// The node stands in the setup, and a datagram comes to its destination.
+    NotForNode,
+}
+
+impl Refusal {
+    ghost use Rattle.at_world.specs.Refusals.{number_of};
+
+    /// The number by which the refusal is reported.
+    pub fn number(self) -> u8
+        ensures { result ≡ number_of self }
+    {
+        match self {
+            Refusal::Limit => 73,
+            Refusal::NoDatagram => 70,
+            Refusal::NotForNode => 71,
+        }
+    }
+}
+
+/// Why a play stops before its end.
+#[derive(Clone, Copy, Debug, PartialEq, Eq)]
+pub enum Fault {
+    Refused(Refusal),
+    /// The world found no memory of its own.
+    NoMemory,
+}

@@ -1,0 +1,16 @@
+//! A world of nodes on one cable, in which any datagram may come late, again or never.
+#![tactic(auto)]
+
+mod event;
+mod opening;
+mod player;
+mod sent;
+mod setup;
+mod transcript;
+mod world;
+
+pub use event::{Event, Fault, Refusal};
+pub use player::play;
+pub use sent::{Sent, SentList};
+pub use setup::{NodeSetup, Setup};
+pub use transcript::{PlayFault, Transcript};

@@ -1,0 +1,72 @@
+ghost use Rattle.std.specs.Prelude.{◌≡◌, IfOk, Some, None, map, if◌then◌else◌};
+ghost use Rattle.at_world.specs.Plays.{opening_node, router_of};
+
+use crate::setup::{NodeSetup, Setup};
+use at_ddp::{Listed, Pascal};
+use at_node::Node;
+use at_zip::Zones;
+use std::alloc::{AllocError, Allocator};
+
+/// The nodes of a setup before anything happened.
+pub(crate) fn opening_nodes<A: Allocator + Copy>(
+    alloc: A,
+    setup: &Setup<A>,
+) -> Result<Vec<Node<A>, A>, AllocError>
+    ensures { IfOk result (λ nodes. nodes.items ≡ map (opening_node setup.now) setup.now.nodes) }
+{
+    let setups = setup.nodes.as_slice();
+    let router = router_of(setups);
+    let mut nodes = Vec::new(alloc);
+    for n in setups {
+        let zones = table_of(alloc, n.router, setup.zones.as_slice())?;
+        nodes.push(Node::new(alloc, setup.net, n.node, router, zones))?;
+    }
+    Ok(nodes)
+}
+
+fn router_of(nodes: &[NodeSetup]) -> Option<u8>
+    ensures { result ≡ router_of nodes.now }
+{
+    let router = nodes.iter().find(|n| n.router)?;
+    Some(router.node)
+}
+
+// The router's table: the names, copied.
+fn table_of<A: Allocator + Copy>(
+    alloc: A,
+    router: bool,
+    names: &[Pascal],
+) -> Result<Option<Zones<A>>, AllocError>
+    ensures { IfOk result (λ table. table ≡ (if router then Some names.now else None)) }
+{
+    if !router {
+        return Ok(None);
+    }
+    let copies = copies_of(alloc, names)?;
+    match Zones::new(Listed::from_vec(copies)) {
+        Ok(table) => Ok(Some(table)),
+        Err(_) => Err(AllocError),
+    }
+}
+
+fn copies_of<A: Allocator + Copy>(
+    alloc: A,
+    names: &[Pascal],
+) -> Result<Vec<Pascal, A>, AllocError>
+    ensures { IfOk result (λ copies. copies.items ≡ names.now) }
+{
+    let mut copies = Vec::new(alloc);
+    for name in names {
+        let Some(copy) = copy_of(name) else {
+            unreachable!();
+        };
+        copies.push(copy)?;
+    }
+    Ok(copies)
+}
+
+fn copy_of(name: &Pascal) -> Option<Pascal>
+    ensures { result ≡ Some name.now }
+{
+    Pascal::new(name.bytes())
+}

@@ -1,0 +1,84 @@
+ghost use Rattle.std.specs.Prelude.{◌≡◌, true, [], IfErr, ◌≤◌, length};
+ghost use Rattle.at_world.specs.Plays.{IsPlay};
+ghost use Rattle.at_world.specs.Setups.{is_lawful};
+
+use crate::event::{Event, Fault};
+use crate::sent::SentList;
+use crate::setup::Setup;
+use crate::transcript::{PlayFault, Transcript};
+use crate::world::World;
+use at_ddp::Listed;
+use at_node::Report;
+use std::alloc::Allocator;
+
+/// Plays events from the opening world up to the first that is refused.
+pub fn play<A: Allocator + Copy>(
+    alloc: A,
+    setup: &Setup<A>,
+    events: &[Event],
+) -> Result<Transcript<A>, PlayFault<A>>
+    requires { is_lawful setup.now ≡ true }
+    ensures follows { IsPlay setup.now events.now result }
+    ensures within { IfErr result (λ f. f.at ≤ length events.now) }
+{
+    let mut reports = Vec::new(alloc);
+    let mut world = match World::open(alloc, setup) {
+        Ok(world) => world,
+        Err(_) => return Err(unopened(alloc, reports)),
+    };
+    for (at, event) in events.iter().enumerate() {
+        let Ok(()) = reports.reserve(1) else {
+            return Err(stopped(Fault::NoMemory, at, reports, world));
+        };
+        match world.step(*event) {
+            Err(fault) => return Err(stopped(fault, at, reports, world)),
+            Ok(report) => reports.push(report).unwrap(),
+        }
+    }
+    Ok(transcript(reports, world))
+}
+
+// No world was opened, and no event played.
+fn unopened<A: Allocator + Copy>(alloc: A, reports: Vec<Report<A>, A>) -> PlayFault<A>
+    ensures fault { result.fault ≡ Fault.NoMemory }
+    ensures at { result.at ≡ 0 }
+    ensures reports { result.transcript.reports ≡ reports.items }
+    ensures sent { result.transcript.sent ≡ [] }
+{
+    PlayFault {
+        fault: Fault::NoMemory,
+        at: 0,
+        transcript: Transcript {
+            reports: Listed::from_vec(reports),
+            sent: SentList::new(alloc),
+        },
+    }
+}
+
+fn stopped<A: Allocator + Copy>(
+    fault: Fault,
+    at: usize,
+    reports: Vec<Report<A>, A>,
+    world: World<A>,
+) -> PlayFault<A>
+    ensures fault { result.fault ≡ fault }
+    ensures at { result.at ≡ at }
+    ensures reports { result.transcript.reports ≡ reports.items }
+    ensures sent { result.transcript.sent ≡ world.sent }
+{
+    PlayFault {
+        fault,
+        at,
+        transcript: transcript(reports, world),
+    }
+}
+
+fn transcript<A: Allocator + Copy>(reports: Vec<Report<A>, A>, world: World<A>) -> Transcript<A>
+    ensures reports { result.reports ≡ reports.items }
+    ensures sent { result.sent ≡ world.sent }
+{
+    Transcript {
+        reports: Listed::from_vec(reports),
+        sent: world.into_sent(),
+    }
+}

@@ -1,0 +1,101 @@
+ghost use Rattle.std.specs.Prelude.{◌≡◌, ◌<◌, ◌≤◌, ◌-◌, ◌++◌, length, take, replicate, slice_get, Some, [], OnOk, OnErr};
+ghost use Rattle.at_world.specs.Sents.{SentDatagram, stamped};
+
+use at_ddp::Datagrams;
+use std::alloc::{AllocError, Allocator, Global};
+use std::marker::Model;
+
+/// A datagram that was sent.
+#[derive(Clone, Copy, Debug, PartialEq, Eq)]
+pub struct Sent<'a> {
+    /// The number of the event that sent it.
+    pub event: u32,
+    /// The node that it goes to; 255 is every node.
+    pub to: u8,
+    pub bytes: &'a [u8],
+}
+
+/// All that was sent, by number from 0.
+#[derive(Drop)]
+pub struct SentList<A: Allocator = Global> {
+    list: Datagrams<A>,
+    // The event that sent each; datagrams that no event of a play sent have none, and are not counted.
+    events: Vec<u32, A>,
+}
+
+impl<A: Allocator> Model for SentList<A> {
+    ghost use Rattle.std.specs.Prelude.{◌≤◌, List, length};
+    ghost use Rattle.at_world.specs.Sents.{SentDatagram, stamped};
+
+    ghost Value = { List SentDatagram };
+
+    ghost view = { λ s. stamped s.events.items s.list.items };
+
+    ghost invariant = { λ s. length s.events.items ≤ length s.list.items };
+}
+
+impl<A: Allocator + Copy> SentList<A> {
+    pub fn new(alloc: A) -> SentList<A>
+        ensures { result ≡ [] }
+    {
+        SentList {
+            list: Datagrams::new(alloc),
+            events: Vec::new(alloc),
+        }
+    }
+}
+
+impl<A: Allocator> SentList<A> {
+    // The datagrams with the events that sent them.
+    pub(crate) fn of(list: Datagrams<A>, events: Vec<u32, A>) -> SentList<A>
+        requires { length events.items ≤ length list.items }
+        ensures { result ≡ stamped events.items list.items }
+    {
+        SentList { list, events }
+    }
+
+    pub fn len(&self) -> usize
+        ensures { result ≡ length self.now }
+    {
+        self.events.len()
+    }
+
+    pub fn get(&self, index: usize) -> Sent<'_>
+        requires { index < length self.now }
+        ensures { (s : SentDatagram) × (slice_get self.now index ≡ Some s) × (result.event ≡ s.event) × (result.to ≡ s.to) × (result.bytes.now ≡ s.bytes) }
+    {
+        Sent {
+            event: self.events[index],
+            to: self.list.node(index),
+            bytes: self.list.get(index),
+        }
+    }
+}
+
+// Stamps the datagrams that have no stamp yet, up to so many; without memory for all, none.
+pub(crate) fn stamp_all<A: Allocator>(
+    stamps: &mut Vec<u32, A>,
+    count: usize,
+    event: u32,
+) -> Result<(), AllocError>
+    requires { length stamps.old.items ≤ count }
+    ensures ok { OnOk result (stamps.new.items ≡ stamps.old.items ++ replicate (count - length stamps.old.items) event) }
+    ensures kept { OnErr result (stamps.new.items ≡ stamps.old.items) }
+{
+    let before = stamps.len();
+    let stamped = push_all(stamps, count - before, event);
+    if stamped.is_err() {
+        stamps.truncate(before);
+    }
+    stamped
+}
+
+fn push_all<A: Allocator>(stamps: &mut Vec<u32, A>, count: usize, event: u32) -> Result<(), AllocError>
+    ensures ok { OnOk result (stamps.new.items ≡ stamps.old.items ++ replicate count event) }
+    ensures kept { take (length stamps.old.items) stamps.new.items ≡ stamps.old.items }
+{
+    for _i in 0..count {
+        stamps.push(event)?;
+    }
+    Ok(())
+}

@@ -1,0 +1,20 @@
+use crate::event::Fault;
+use crate::sent::SentList;
+use at_ddp::Listed;
+use at_node::Report;
+use std::alloc::{Allocator, Global};
+
+/// What the nodes reported, one report an event, and all that they sent.
+#[derive(Drop)]
+pub struct Transcript<A: Allocator = Global> {
+    pub reports: Listed<Report<A>, A>,
+    pub sent: SentList<A>,
+}
+
+/// Why a play stopped, the place of the event that was not played, counted from 0, and the transcript so far.
+#[derive(Drop)]
+pub struct PlayFault<A: Allocator = Global> {
+    pub fault: Fault,
+    pub at: usize,
+    pub transcript: Transcript<A>,
+}
