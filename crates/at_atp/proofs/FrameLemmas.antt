@@ -5,6 +5,7 @@ use Rattle.std.proofs.lemmas.List.Elements.{All-take, All-drop, All-replicate, A
 use Rattle.std.proofs.lemmas.Bool.Decides.{nat_tests}
 use Rattle.std.specs.Prelude.{◌==◌}
 use mir.Val.{bool_byte}
+use Rattle.at_ddp.specs.Datagram.{AreBytes}
 use Rattle.at_ddp.proofs.Octets.{InBytes, bytes_of, high_byte, low_byte, same_number, append_parts}
 use Rattle.at_atp.specs.Frames.{Content, Request, Response, Release, read_timer, IsTimer, AreParts, IsLawful, bit, packet, SpellsRequest, SpellsResponse, SpellsRelease, Spells, spelled}
 use Rattle.at_atp.specs.Reading.{request_of, response_of, tid_in}
