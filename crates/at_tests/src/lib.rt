@@ -10,4 +10,6 @@ mod lists;
 #[cfg(test)]
 mod node;
 #[cfg(test)]
+mod played;
+#[cfg(test)]
 mod zip;
