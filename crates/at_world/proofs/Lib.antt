@@ -1,5 +1,11 @@
+mod Calls
 mod Canonical
 mod Following
+mod Requested
+mod Responded
+mod Runs
 mod SentLemmas
 mod SetupLemmas
+mod Tied
+mod TiedAtOpening
 mod WorldLemmas

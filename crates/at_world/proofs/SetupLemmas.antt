@@ -8,7 +8,7 @@ use Rattle.std.proofs.lemmas.List.Elements.{recursion_from_All}
 use Rattle.at_ddp.proofs.Octets.{InBytes, bytes_of}
 use Rattle.at_world.specs.Setups.{spelled_len, is_byte, is_name}
 
-spelled_len-cons : (name : List ℕ) (names : List (List ℕ)) → spelled_len (name ∷ names) ≡ length name + 1 + spelled_len names
+pub spelled_len-cons : (name : List ℕ) (names : List (List ℕ)) → spelled_len (name ∷ names) ≡ length name + 1 + spelled_len names
 spelled_len-cons name names = sum_by-cons (λ (n : List ℕ). length n + 1) name names
 
 pub fits_after : (name : List ℕ) (names : List (List ℕ)) (room : ℕ) → length name + 1 ≤ room →

@@ -1,3 +1,4 @@
+pub mod Machine
 pub mod Plays
 pub mod Refusals
 pub mod Sents

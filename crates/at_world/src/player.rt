@@ -1,4 +1,5 @@
 ghost use Rattle.std.specs.Prelude.{◌≡◌, true, [], IfErr, ◌≤◌, length};
+ghost use Rattle.at_world.specs.Machine.{IsRun};
 ghost use Rattle.at_world.specs.Plays.{IsPlay, SendsCanonically};
 ghost use Rattle.at_world.specs.Setups.{is_lawful};
 
@@ -19,9 +20,16 @@ pub fn play<A: Allocator + Copy>(
 ) -> Result<Transcript<A>, PlayFault<A>>
     requires { is_lawful setup.now ≡ true }
     ensures follows { IsPlay setup.now events.now result }
+    ensures machine { IsRun setup.now events.now result }
     ensures sent { SendsCanonically result }
     ensures within { IfErr result (λ f. f.at ≤ length events.now) }
 {
+    at_node::laws::what_is_sent_is_heard::<A>();
+    at_node::laws::a_page_asked_for_is_served::<A>();
+    at_node::laws::a_page_written_is_told::<A>();
+    at_zip::laws::what_is_written_is_read();
+    at_zip::laws::a_page_fits_one_packet();
+    at_zip::laws::a_small_table_is_one_page();
     play_all(alloc, setup, events)
 }
 

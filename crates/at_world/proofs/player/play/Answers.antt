@@ -1,5 +1,26 @@
 use Rattle.at_world.proofs.Canonical.{play_sends}
+use Rattle.at_world.proofs.TiedAtOpening.{tied_at_opening}
+use Rattle.at_world.proofs.Runs.{play_runs}
+use Rattle.at_world.proofs.Tied.{Laws}
 use Rattle.at_world.proofs.player.play.Goals as goal
 
 pub returns-clause-sent : goal.returns-clause-sent
 returns-clause-sent g c = play_sends g.row.A.Denot c.args.setup.now c.args.events.now c.play_all.result c.play_all.ensures.follows
+
+pub returns-clause-machine : goal.returns-clause-machine
+returns-clause-machine g c =
+    let A = g.row.A.Denot in
+    let read = c.what_is_written_is_read.ensures in
+    let fit = c.a_page_fits_one_packet.ensures in
+    let laws : Laws A = record {
+      heard = c.what_is_sent_is_heard.ensures;
+      served = c.a_page_asked_for_is_served.ensures;
+      told = c.a_page_written_is_told.ensures;
+      asks = read.request;
+      lawful = read.lawful;
+      user = fit.user;
+      bytes = fit.bytes;
+      fits = fit.fits;
+      whole = c.a_small_table_is_one_page.ensures;
+    } in
+    play_runs A laws c.args.setup.now c.args.events.now c.play_all.result (tied_at_opening A c.args.setup.now c.requires) c.play_all.ensures.follows

@@ -1,0 +1,166 @@
+-- The abstract machine: what the users of the nodes may be told. It has no packet, no record, no window and no timer; a
+-- transaction is known by who asked and under which number (Inside AppleTalk, ATP, "Transactions", and ZIP,
+-- "GetZoneList").
+use Rattle.std.specs.Prelude.{◌≡◌, ℕ, ◌<◌, ◌≤◌, ◌==◌, ◌&&◌, not, if◌then◌else◌, Bool, false, List, [], ◌∷◌, ◌++◌, length, filter, find, take, slice_index_or, option_map, Option, Some, Result, Ok, Err}
+use Rattle.at_ddp.specs.Address.{same_address}
+use Rattle.at_ddp.specs.declared.address.Address.{Address}
+use Rattle.at_atp.specs.Packets.{Packet}
+use Rattle.at_zip.specs.Page.{page_of, page_user, page_data}
+use Rattle.at_zip.specs.Request.{RequestSpells, request_user}
+use Rattle.at_node.specs.Steps.{asking, zones_at}
+use Rattle.at_node.specs.declared.event.Call.{Call}
+use Rattle.at_node.specs.declared.event.Call.TheVariants.{Zones}
+use Rattle.at_node.specs.declared.event.Report.{Report}
+use Rattle.at_node.specs.declared.event.Report.TheVariants as report
+use Rattle.at_world.specs.declared.event.Event.{Event}
+use Rattle.at_world.specs.declared.event.Event.TheVariants as event
+use Rattle.at_world.specs.declared.setup.Setup.{Setup}
+use Rattle.at_world.specs.declared.transcript.Transcript.{Transcript}
+use Rattle.at_world.specs.declared.transcript.PlayFault.{PlayFault}
+use Rattle.at_world.specs.Plays.{router_of}
+
+-- one beginning of a transaction: who asks, under which number, whom, and what, for how many packets, and whether
+-- exactly once; and the answers that were given to it since
+pub record Transaction : Type 0 where
+  pub requester : Address
+  pub tid : ℕ
+  pub responder : Address
+  pub user : List ℕ
+  pub data_ : List ℕ
+  pub wanted : ℕ
+  pub xo : Bool
+  pub answers : List (List Packet)
+
+-- a node reads the zone list since this moment
+pub record Reading : Type 0 where
+  pub node : ℕ
+  pub since : ℕ
+
+-- A moment is the state after an event, and the opening state is the first.
+pub record Machine : Type 0 where
+  pub net : ℕ
+  pub router : Option ℕ
+  pub table : List (List ℕ)  -- the router's zone table
+  pub past : List (List (List ℕ))  -- the table at each moment so far, this one included
+  pub asked : List Transaction  -- newest first
+  pub readings : List Reading
+
+abbrev pub opening_machine : {A : Type 0} → Setup A → Machine
+opening_machine s = record { net = s.net; router = router_of s.nodes; table = s.zones; past = s.zones ∷ []; asked = []; readings = [] }
+
+-- one moment more
+abbrev pub next : Machine → Machine
+next m = record m { past = m.past ++ m.table ∷ [] }
+
+-- ---- transactions
+
+abbrev pub is_transaction : Address → ℕ → Transaction → Bool
+is_transaction requester tid t = same_address t.requester requester && (t.tid == tid)
+
+-- the newest transaction of a requester under a number
+abbrev pub transaction_of : List Transaction → Address → ℕ → Option Transaction
+transaction_of ts requester tid = find (is_transaction requester tid) ts
+
+-- an answer is given to the newest transaction of a requester under a number
+abbrev pub answered : List Transaction → Address → ℕ → List Packet → List Transaction
+answered [] requester tid packets = []
+answered (t ∷ ts) requester tid packets =
+    if is_transaction requester tid t then record t { answers = t.answers ++ packets ∷ [] } ∷ ts
+    else t ∷ answered ts requester tid packets
+
+-- ---- readings of the zone list
+
+-- a node asks the router for the first page: one packet, at least once
+abbrev pub first_page : ℕ → ℕ → ℕ → ℕ → Transaction
+first_page net node router tid = record {
+  requester = asking net node;
+  tid = tid;
+  responder = zones_at net router;
+  user = request_user 1;
+  data_ = [];
+  wanted = 1;
+  xo = false;
+  answers = [];
+}
+
+-- the page of a table from a place on, as the one packet of an answer
+abbrev pub page_answer : List (List ℕ) → ℕ → List Packet
+page_answer table start = record { user = page_user (page_of table start); data_ = page_data (page_of table start) } ∷ []
+
+-- the moment since which a node reads the list
+abbrev pub since_of : List Reading → ℕ → Option ℕ
+since_of rs node = option_map (λ r. r.since) (find (λ r. r.node == node) rs)
+
+-- the readings of the other nodes
+abbrev pub without_reading : List Reading → ℕ → List Reading
+without_reading rs node = filter (λ r. not (r.node == node)) rs
+
+-- the table was this one at every moment from that one on
+abbrev pub StoodSince : List (List (List ℕ)) → ℕ → List (List ℕ) → Type 0
+StoodSince past since table = (moment : ℕ) → since ≤ moment → moment < length past → slice_index_or past moment [] ≡ table
+
+-- ---- the steps, one for each report
+
+-- a reading of the zone list begins, and its first transaction
+pub record BeginsReading (m : Machine) (node tid : ℕ) (m' : Machine) : Type 0 where
+  pub router : ℕ
+  pub is_router : m.router ≡ Some router
+  pub becomes : m' ≡ next (record m { asked = first_page m.net node router tid ∷ m.asked; readings = record { node = node; since = length m.past } ∷ m.readings })
+
+-- the router answers a transaction that asked it for the page from a place on: the page of the table of this moment
+pub record Serves (m : Machine) (node count : ℕ) (m' : Machine) : Type 0 where
+  pub is_router : m.router ≡ Some node
+  pub transaction : Transaction
+  pub requester : Address
+  pub tid : ℕ
+  pub asked : transaction_of m.asked requester tid ≡ Some transaction
+  pub asked_it : transaction.responder ≡ zones_at m.net node
+  pub start : ℕ
+  pub asks_from : RequestSpells transaction.user start
+  pub one : count ≤ 1
+  pub becomes : m' ≡ next (record m { asked = answered m.asked requester tid (page_answer m.table start) })
+
+-- a reading ends: what is told is the table, if that stood at every moment since the reading began
+pub record EndsReading (m : Machine) (node : ℕ) (names : List (List ℕ)) (m' : Machine) : Type 0 where
+  pub since : ℕ
+  pub began : since_of m.readings node ≡ Some since
+  pub tells : StoodSince m.past since m.table → names ≡ m.table
+  pub becomes : m' ≡ next (record m { readings = without_reading m.readings node })
+
+-- a call begins this transaction
+abbrev pub Begins : Machine → ℕ → Call → ℕ → Machine → Type 0
+Begins m node Zones tid m' = BeginsReading m node tid m'
+
+-- a call is answered by this report
+abbrev pub StepCall : {A : Type 0} → Machine → ℕ → Call → Report A → Machine → Type 0
+StepCall m node call (report.Begun tid) m' = Begins m node call tid m'
+StepCall m node call (report.Refused number) m' = m' ≡ next m
+StepCall m node call report.NoMemory m' = m' ≡ next m
+StepCall m node call r m' = ⊥
+
+-- something that came is answered by this report
+abbrev pub StepDelivery : {A : Type 0} → Machine → ℕ → Report A → Machine → Type 0
+StepDelivery m node (report.Served count) m' = Serves m node count m'
+StepDelivery m node (report.Zones names) m' = EndsReading m node names m'
+StepDelivery m node report.Kept m' = m' ≡ next m
+StepDelivery m node report.Again m' = m' ≡ next m
+StepDelivery m node report.Ignored m' = m' ≡ next m
+StepDelivery m node (report.Refused number) m' = m' ≡ next m
+StepDelivery m node report.NoMemory m' = m' ≡ next m
+StepDelivery m node r m' = ⊥
+
+abbrev pub Step : {A : Type 0} → Machine → Event → Report A → Machine → Type 0
+Step m (event.Call node call) r m' = StepCall m node call r m'
+Step m (event.Deliver which node) r m' = StepDelivery m node r m'
+
+-- the machine may give these reports to these events, one step after another
+abbrev pub Run : {A : Type 0} → Machine → List Event → List (Report A) → Machine → Type 0
+Run m [] [] m' = m' ≡ m
+Run m (e ∷ es) (r ∷ rs) m' = (mid : Machine) × Step m e r mid × Run mid es rs m'
+Run m [] (r ∷ rs) m' = ⊥
+Run m (e ∷ es) [] m' = ⊥
+
+-- the reports of what was played are a run of the machine
+abbrev pub IsRun : {A : Type 0} → Setup A → List Event → Result (Transcript A) (PlayFault A) → Type 0
+IsRun s events (Ok t) = (m : Machine) × Run (opening_machine s) events t.reports m
+IsRun s events (Err f) = (m : Machine) × Run (opening_machine s) (take f.at events) f.transcript.reports m
