@@ -5,12 +5,15 @@ mod draft;
 mod event_line;
 mod input;
 mod node_line;
+mod packet_lines;
 mod print;
 mod program;
 mod schedule;
+mod show;
 mod word;
 
 pub use program::{Status, play_text};
+pub use show::show_text;
 
 #[cfg(test)]
 mod tests;

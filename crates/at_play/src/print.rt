@@ -81,7 +81,7 @@ fn write_response<A: Allocator, W: Write>(
 }
 
 /// Pairs of hexadecimal digits, or `-` for no bytes.
-fn write_hex<W: Write>(writer: &mut W, bytes: &[u8]) -> io::Result<()> {
+pub(crate) fn write_hex<W: Write>(writer: &mut W, bytes: &[u8]) -> io::Result<()> {
     if bytes.is_empty() {
         return writer.write_all(b"-");
     }

@@ -10,12 +10,12 @@ use std::alloc::Allocator;
 use std::io;
 use std::io::{Read, Write};
 
-/// How a play ended.
+/// How a play, or the showing of a datagram, ended.
 #[derive(Clone, Copy, Debug, PartialEq, Eq)]
 pub enum Status {
-    /// Each event was played and printed.
+    /// Each event was played and printed, or the datagram shown.
     Done,
-    /// The schedule has a fault, the play was stopped, or a write failed.
+    /// The schedule or the datagram has a fault, the play was stopped, or a write failed.
     Failed,
 }
 

@@ -1,13 +1,15 @@
 //! What a command line asks for.
 use clap::error::ErrorKind;
 use clap::{Arg, Command, Error};
-use std::alloc::Global;
+use std::alloc::{AllocError, Global};
 
 /// What the words of a command line ask for.
 #[derive(Clone, Copy, Debug, PartialEq, Eq)]
 pub enum Request<'a> {
     /// To play this file, or the standard input for `-`.
     Play(&'a str),
+    /// To show the datagram that this word spells in hexadecimal digits.
+    Show(&'a str),
     /// Nothing that is known.
     Usage,
     /// The words could not be read for want of memory.
@@ -16,21 +18,27 @@ pub enum Request<'a> {
 
 /// Reads the words, of which the first is the program's name.
 pub fn request_of<'a>(alloc: Global, words: &'a [String]) -> Request<'a> {
-    match file_of(alloc, words) {
-        Ok(Some(file)) => Request::Play(file),
+    match asked_by(alloc, words) {
+        Ok(Some(request)) => request,
         Err(error) if error.kind() == ErrorKind::OutOfMemory => Request::NoMemory,
         _ => Request::Usage,
     }
 }
 
-// The file that is to be played.
-fn file_of<'a>(alloc: Global, words: &'a [String]) -> Result<Option<&'a str>, Error> {
-    let file = Arg::new(alloc, "FILE").required(true);
-    let play = Command::new(alloc, "play").arg(file)?;
-    let command = Command::new(alloc, "atnode").subcommand(play)?;
+// What the one subcommand and its one word ask for.
+fn asked_by<'a>(alloc: Global, words: &'a [String]) -> Result<Option<Request<'a>>, Error> {
+    let command = Command::new(alloc, "atnode")
+        .subcommand(subcommand(alloc, "play", "FILE")?)?
+        .subcommand(subcommand(alloc, "show", "HEX")?)?;
     let matches = command.try_get_matches_from(words)?;
     match matches.subcommand() {
-        Some((_, play)) => Ok(play.get_str("FILE")),
+        Some(("play", play)) => Ok(play.get_str("FILE").map(Request::Play)),
+        Some((_, show)) => Ok(show.get_str("HEX").map(Request::Show)),
         None => Ok(None),
     }
+}
+
+// A subcommand that takes one word.
+fn subcommand<'a>(alloc: Global, name: &'a str, word: &'a str) -> Result<Command<'a>, AllocError> {
+    Command::new(alloc, name).arg(Arg::new(alloc, word).required(true))
 }

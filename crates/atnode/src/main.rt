@@ -1,11 +1,11 @@
-//! Plays schedules of AppleTalk nodes on one cable: `atnode play FILE`.
+//! Plays schedules of AppleTalk nodes on one cable, and shows datagrams: `atnode play FILE`, `atnode show HEX`.
 #![tactic(auto)]
 
 mod command_line;
 #[cfg(test)]
 mod tests;
 
-use at_play::{Status, play_text};
+use at_play::{Status, play_text, show_text};
 use command_line::{Request, request_of};
 use std::env::Env;
 use std::io::{BufWriter, ErrorKind, Read};
@@ -30,6 +30,7 @@ fn run<R: Env + Files + Input + Print + AllocGlobal>(rt: &R) -> io::Result<u8> {
     };
     match request_of(rt.alloc(), words.as_slice()) {
         Request::Play(file) => play_file(rt, file),
+        Request::Show(word) => show_word(rt, word),
         Request::Usage => tell_usage(rt),
         Request::NoMemory => stop(rt),
     }
@@ -70,4 +71,13 @@ fn play_from<R: Print + AllocGlobal, I: Read>(rt: &R, reader: &mut I) -> io::Res
         Err(_) => return stop(rt),
     };
     Ok(play_text(rt.alloc(), reader, &mut writer).code())
+}
+
+// Shows the datagram that a word spells in hexadecimal digits.
+fn show_word<R: Print + AllocGlobal>(rt: &R, word: &str) -> io::Result<u8> {
+    let mut writer = match BufWriter::new(rt.alloc(), io::writer(rt)) {
+        Ok(writer) => writer,
+        Err(_) => return stop(rt),
+    };
+    Ok(show_text(rt.alloc(), word.as_bytes(), &mut writer).code())
 }

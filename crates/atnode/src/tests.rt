@@ -1,50 +1,56 @@
-//! Which command lines ask for a play.
+//! What command lines ask for.
 use crate::command_line::{Request, request_of};
 use std::test::Fail;
 
-// Words after the program's name, and the file that they ask to play.
-static LINES: [(&str, Option<&str>); 24] = [
-    ("play a", Some("a")),
-    ("play -", Some("-")),
-    ("play -- -", Some("-")),
-    ("play -- --help", Some("--help")),
-    ("play help", Some("help")),
-    ("", None),
-    ("play", None),
-    ("play --", None),
-    ("play a b", None),
-    ("play a -- b", None),
-    ("play -a", None),
-    ("play --file a", None),
-    ("play --help", None),
-    ("play -h", None),
-    ("play a --version", None),
-    ("help", None),
-    ("help play", None),
-    ("--help", None),
-    ("-h", None),
-    ("--version", None),
-    ("-V", None),
-    ("pla a", None),
-    ("udp a", None),
-    ("show 00", None),
+// Words after the program's name, and what they ask for.
+static LINES: [(&str, Request); 34] = [
+    ("play a", Request::Play("a")),
+    ("play -", Request::Play("-")),
+    ("play -- -", Request::Play("-")),
+    ("play -- --help", Request::Play("--help")),
+    ("play help", Request::Play("help")),
+    ("show 00", Request::Show("00")),
+    ("show -", Request::Show("-")),
+    ("show -- -", Request::Show("-")),
+    ("show help", Request::Show("help")),
+    ("show play", Request::Show("play")),
+    ("", Request::Usage),
+    ("play", Request::Usage),
+    ("play --", Request::Usage),
+    ("play a b", Request::Usage),
+    ("play a -- b", Request::Usage),
+    ("play -a", Request::Usage),
+    ("play --file a", Request::Usage),
+    ("play --help", Request::Usage),
+    ("play -h", Request::Usage),
+    ("play a --version", Request::Usage),
+    ("show", Request::Usage),
+    ("show 00 15", Request::Usage),
+    ("show -0", Request::Usage),
+    ("show --hex 00", Request::Usage),
+    ("show --help", Request::Usage),
+    ("help", Request::Usage),
+    ("help play", Request::Usage),
+    ("help show", Request::Usage),
+    ("--help", Request::Usage),
+    ("-h", Request::Usage),
+    ("--version", Request::Usage),
+    ("-V", Request::Usage),
+    ("pla a", Request::Usage),
+    ("udp a", Request::Usage),
 ];
 
 #[test]
-fn a_play_of_one_file_is_all_that_can_be_asked_for(rt: HostRuntime) -> Result<(), Fail> {
-    for (line, file) in LINES.iter() {
+fn a_play_or_a_show_of_one_word_is_all_that_can_be_asked_for(rt: HostRuntime) -> Result<(), Fail> {
+    for (line, want) in LINES.iter() {
         let mut words = Vec::new(rt.alloc());
         words.push(String::from_str(rt.alloc(), "atnode")?)?;
         for word in line.split_whitespace() {
             words.push(String::from_str(rt.alloc(), word)?)?;
         }
-        let want = match file {
-            Some(file) => Request::Play(file),
-            None => Request::Usage,
-        };
         assert_eq!(rt;
             request_of(rt.alloc(), words.as_slice()),
-            want,
+            *want,
             "at {line:?}"
         );
     }

@@ -87,10 +87,10 @@ fn a_schedule_has_at_most_67_108_864_bytes(rt: HostRuntime) -> Result<(), Fail> 
     Ok(())
 }
 
-// Takes nothing.
+/// Takes no writes, or no flush.
 #[derive(Drop)]
-struct Full {
-    takes_writes: bool,
+pub(super) struct Full {
+    pub(super) takes_writes: bool,
 }
 
 impl Write for Full {

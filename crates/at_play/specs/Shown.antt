@@ -1,0 +1,30 @@
+-- Which words in hexadecimal digits are shown without a refusal.
+use Rattle.std.specs.Prelude.{◌≡◌, ◌⊎◌, ℕ, ◌<◌, ◌==◌, MatchBool, List, [], ◌∷◌, length, Ok}
+use Rattle.hex.specs.Hex.{decode_of}
+use Rattle.at_ddp.specs.Datagram.{Content as Datagram, BeginsWith}
+use Rattle.at_atp.specs.Frames.{Content, Spells}
+
+-- the word is `-` and there are no bytes, or it has digits, two for each byte
+abbrev pub IsHex : List ℕ → List ℕ → Type 0
+IsHex word bytes = ((word ≡ 45 ∷ []) × (bytes ≡ [])) ⊎ ((0 < length word) × (decode_of word ≡ Ok bytes))
+
+-- the data is an ATP packet
+abbrev pub IsPacket : List ℕ → Type 0
+IsPacket bytes = (f : Content) × Spells bytes f
+
+-- of the protocols that are read, ATP is number 3; the data of any other is shown as it is
+abbrev pub IsReadable : ℕ → List ℕ → Type 0
+IsReadable kind bytes = MatchBool (kind == 3) (IsPacket bytes) (Unit {0})
+
+-- the bytes begin with a datagram whose data can be read
+pub record IsSound (bytes : List ℕ) : Type 0 where
+  pub datagram : Datagram
+  pub rest : List ℕ
+  pub begins : BeginsWith bytes datagram rest
+  pub readable : IsReadable datagram.kind datagram.data_
+
+-- the word spells such bytes
+pub record Shows (word : List ℕ) : Type 0 where
+  pub bytes : List ℕ
+  pub written : IsHex word bytes
+  pub sound : IsSound bytes
