@@ -188,32 +188,38 @@ fn answer(alloc: Global, bytes: &[u8]) -> Result<[Packet; 1], AllocError> {
     Ok([Packet::new([0; 4], Bytes::copy_of(alloc, bytes)?)])
 }
 
-// An answer that is refused for its packets, whether or not there is a request.
-fn compare_refused(rt: &impl Abort, alloc: Global) -> Result<(), AllocError> {
-    let mut answerer = Answerer::new(alloc);
+// Answers that are refused for their packets.
+fn compare_refused(
+    rt: &impl Abort,
+    alloc: Global,
+    answerer: &mut Answerer<Global>,
+) -> Result<(), AllocError> {
     answerer.compare_respond(rt, 0, &[], Err(AtpFault::EmptyAnswer));
     let many = bares(alloc, alloc, 9)?;
     answerer.compare_respond(rt, 0, &many, Err(AtpFault::AtpTooLong));
     let long = answer(alloc, &[0; 579])?;
     answerer.compare_respond(rt, 0, &long, Err(AtpFault::AtpTooLong));
-    assert_eq!(rt; answerer.refusals, 0);
     Ok(())
+}
+
+// What is sent is one packet, as long as a packet may be.
+fn compare_longest(rt: &impl Abort, list: &Datagrams<Global>) {
+    assert_eq!(rt; list.len(), 1);
+    let length = packet_at(list, 0).map(|(_, packet)| packet.len());
+    assert_eq!(rt; length, Some(586));
 }
 
 #[test]
 fn an_answer_is_refused_for_its_packets_before_its_request(rt: HostRuntime) -> Result<(), Fail> {
-    compare_refused(&rt, rt.alloc())?;
     let mut answerer = Answerer::new(rt.alloc());
+    compare_refused(&rt, rt.alloc(), &mut answerer)?;
     let longest = answer(rt.alloc(), &[0x5A; 578])?;
     answerer.compare_respond(&rt, 0, &longest, Err(AtpFault::NoSuch));
     answerer.compare_new(&rt, 1, 0);
     answerer.compare_respond(&rt, 1, &longest, Err(AtpFault::NoSuch));
     answerer.compare_respond(&rt, 0, &longest, Ok(1));
     assert_eq!(rt; answerer.refusals, 0);
-    let list = answerer.into_list();
-    assert_eq!(rt; list.len(), 1);
-    let length = packet_at(&list, 0).map(|(_, packet)| packet.len());
-    assert_eq!(rt; length, Some(586));
+    compare_longest(&rt, &answerer.into_list());
     Ok(())
 }
 
