@@ -2,14 +2,30 @@
 #![tactic(auto)]
 
 #[cfg(test)]
-mod atp;
+mod atp_frames;
 #[cfg(test)]
-mod ddp;
+mod atp_requester;
 #[cfg(test)]
-mod lists;
+mod atp_responder;
 #[cfg(test)]
-mod node;
+mod ddp_datagrams;
 #[cfg(test)]
-mod played;
+mod ddp_outbox;
+#[cfg(test)]
+mod ddp_texts;
+#[cfg(test)]
+mod node_played;
+#[cfg(test)]
+mod node_readings;
+#[cfg(test)]
+mod node_refusals;
+#[cfg(test)]
+mod schedule_failures;
+#[cfg(test)]
+mod schedule_limits;
+#[cfg(test)]
+mod schedules;
+#[cfg(test)]
+mod shared;
 #[cfg(test)]
 mod zip;

@@ -3,7 +3,8 @@ ghost use Rattle.std.specs.Prelude.{◌≤◌};
 
 use at_ddp::{Listed, Pascal};
 use at_zip::{
-    MAX_PAGE_DATA, MAX_ZONES, ZipFault, Zones, page, read_page, read_request, request_user,
+    MAX_PAGE_DATA, MAX_ZONES, PageView, ZipFault, Zones, page, read_page, read_request,
+    request_user,
 };
 use refusing::Refusing;
 use std::alloc::Global;
@@ -57,13 +58,12 @@ fn compare_page(
     start: u16,
     user: [u8; 4],
     bytes: &[u8],
-) -> Result<(), Fail>
+)
     requires { 1 ≤ start }
 {
-    let page = page(alloc, zones, start)?;
-    assert_eq!(rt; page.user, user, "from {start}");
-    assert_eq!(rt; page.data_.as_slice(), bytes, "from {start}");
-    Ok(())
+    let page = page(alloc, zones, start).expect(rt, "no page");
+    let parts = (page.user, page.data_.as_slice());
+    assert_eq!(rt; parts, (user, bytes), "from {start}");
 }
 
 // Compares what a page tells.
@@ -74,12 +74,16 @@ fn compare_reading(
     bytes: &[u8],
     is_last: bool,
     names: &[Pascal],
-) -> Result<(), Fail> {
-    let view = read_page(user, bytes)?;
-    assert_eq!(rt; view.is_last(), is_last, "of {user:?}");
-    assert_eq!(rt; view.count(), names.len(), "of {user:?}");
-    assert_eq!(rt; view.to_list(alloc)?.as_slice(), names, "of {user:?}");
-    Ok(())
+) {
+    let view = read_page(user, bytes).expect(rt, "the page is refused");
+    let told = (view.is_last(), view.count());
+    assert_eq!(rt; told, (is_last, names.len()), "of {user:?}");
+    compare_names(rt, alloc, &view, names);
+}
+
+fn compare_names(rt: &impl Abort, alloc: Global, view: &PageView<'_>, names: &[Pascal]) {
+    let list = view.to_list(alloc).expect(rt, "no list");
+    assert_eq!(rt; list.as_slice(), names);
 }
 
 #[test]
@@ -87,8 +91,8 @@ fn a_table_of_561_bytes_is_one_page(rt: HostRuntime) -> Result<(), Fail> {
     let zones = long_table(rt.alloc(), 17, &[])?;
     let bytes = spelled(rt.alloc(), 0, 17)?;
     assert_eq!(rt; bytes.len(), 561);
-    compare_page(&rt, rt.alloc(), &zones, 1, [1, 0, 0, 17], &bytes)?;
-    compare_reading(&rt, rt.alloc(), [1, 0, 0, 17], &bytes, true, zones.names())?;
+    compare_page(&rt, rt.alloc(), &zones, 1, [1, 0, 0, 17], &bytes);
+    compare_reading(&rt, rt.alloc(), [1, 0, 0, 17], &bytes, true, zones.names());
     Ok(())
 }
 
@@ -97,13 +101,13 @@ fn a_table_of_594_bytes_is_two_pages(rt: HostRuntime) -> Result<(), Fail> {
     let zones = long_table(rt.alloc(), 18, &[])?;
     let front = long_table(rt.alloc(), 17, &[])?;
     let bytes = spelled(rt.alloc(), 0, 17)?;
-    compare_page(&rt, rt.alloc(), &zones, 1, [0, 0, 0, 17], &bytes)?;
-    compare_reading(&rt, rt.alloc(), [0, 0, 0, 17], &bytes, false, front.names())?;
+    compare_page(&rt, rt.alloc(), &zones, 1, [0, 0, 0, 17], &bytes);
+    compare_reading(&rt, rt.alloc(), [0, 0, 0, 17], &bytes, false, front.names());
     let last = spelled(rt.alloc(), 17, 18)?;
-    compare_page(&rt, rt.alloc(), &zones, 18, [1, 0, 0, 1], &last)?;
+    compare_page(&rt, rt.alloc(), &zones, 18, [1, 0, 0, 1], &last);
     // Past the table.
-    compare_page(&rt, rt.alloc(), &zones, 19, [1, 0, 0, 0], &[])?;
-    compare_page(&rt, rt.alloc(), &zones, 65535, [1, 0, 0, 0], &[])?;
+    compare_page(&rt, rt.alloc(), &zones, 19, [1, 0, 0, 0], &[]);
+    compare_page(&rt, rt.alloc(), &zones, 65535, [1, 0, 0, 0], &[]);
     Ok(())
 }
 
@@ -112,11 +116,11 @@ fn a_page_holds_578_bytes_and_no_more(rt: HostRuntime) -> Result<(), Fail> {
     assert_eq!(rt; MAX_PAGE_DATA, 578);
     let mut bytes = spelled(rt.alloc(), 0, 17)?;
     let zones = long_table(rt.alloc(), 17, &[b'y'; 17])?;
-    compare_page(&rt, rt.alloc(), &zones, 1, [0, 0, 0, 17], &bytes)?;
+    compare_page(&rt, rt.alloc(), &zones, 1, [0, 0, 0, 17], &bytes);
     let zones = long_table(rt.alloc(), 17, &[b'y'; 16])?;
     bytes.extend_from_slice(b"\x10yyyyyyyyyyyyyyyy")?;
     assert_eq!(rt; bytes.len(), 578);
-    compare_page(&rt, rt.alloc(), &zones, 1, [1, 0, 0, 18], &bytes)?;
+    compare_page(&rt, rt.alloc(), &zones, 1, [1, 0, 0, 18], &bytes);
     Ok(())
 }
 
@@ -130,16 +134,16 @@ fn a_table_is_spelled_name_by_name(rt: HostRuntime) -> Result<(), Fail> {
         1,
         [1, 0, 0, 2],
         b"\x03Lab\x06Office",
-    )?;
-    compare_page(&rt, rt.alloc(), &zones, 2, [1, 0, 0, 1], b"\x06Office")?;
+    );
+    compare_page(&rt, rt.alloc(), &zones, 2, [1, 0, 0, 1], b"\x06Office");
     Ok(())
 }
 
 #[test]
 fn an_empty_table_is_a_page_without_names(rt: HostRuntime) -> Result<(), Fail> {
     let zones = table(rt.alloc(), &[])?;
-    compare_page(&rt, rt.alloc(), &zones, 1, [1, 0, 0, 0], &[])?;
-    compare_reading(&rt, rt.alloc(), [1, 0, 0, 0], &[], true, &[])?;
+    compare_page(&rt, rt.alloc(), &zones, 1, [1, 0, 0, 0], &[]);
+    compare_reading(&rt, rt.alloc(), [1, 0, 0, 0], &[], true, &[]);
     Ok(())
 }
 
@@ -187,24 +191,26 @@ fn any_flag_but_0_is_the_last_page_and_what_follows_the_names_is_ignored(
             b"\x03Lab\x00\xFF",
             is_last,
             zones.names(),
-        )?;
+        );
     }
     Ok(())
 }
+
+// User bytes, and the place that they ask from.
+static REQUESTS: [([u8; 4], Result<u16, ZipFault>); 5] = [
+    ([8, 0, 0, 1], Ok(1)),
+    ([8, 0xFF, 0x12, 0x34], Ok(0x1234)),
+    ([8, 0, 0, 0], Err(ZipFault::NotZip)),
+    ([7, 0, 0, 1], Err(ZipFault::NotZip)),
+    ([9, 0, 0, 1], Err(ZipFault::NotZip)),
+];
 
 #[test]
 fn a_request_names_the_place_that_it_asks_from(rt: HostRuntime) {
     assert_eq!(rt; request_user(1), [8, 0, 0, 1]);
     assert_eq!(rt; request_user(0x1234), [8, 0, 0x12, 0x34]);
-    let requests = [
-        ([8, 0, 0, 1], Ok(1)),
-        ([8, 0xFF, 0x12, 0x34], Ok(0x1234)),
-        ([8, 0, 0, 0], Err(ZipFault::NotZip)),
-        ([7, 0, 0, 1], Err(ZipFault::NotZip)),
-        ([9, 0, 0, 1], Err(ZipFault::NotZip)),
-    ];
-    for (user, start) in requests {
-        assert_eq!(rt; read_request(user), start, "of {user:?}");
+    for (user, start) in REQUESTS.iter() {
+        assert_eq!(rt; read_request(*user), *start, "of {user:?}");
     }
     assert_eq!(rt; ZipFault::NotZip.number(), Some(30));
 }
@@ -219,24 +225,36 @@ fn names(alloc: Global, count: usize, last: &[u8]) -> Result<Listed<Pascal>, Fai
     Ok(Listed::from_vec(list))
 }
 
+// The number of names of a list and its last name, each with the fault of such a table and its number.
+static NO_TABLES: [(usize, &[u8], ZipFault, u8); 4] = [
+    (1025, b"Office", ZipFault::TooManyZones, 34),
+    // The number of names is looked at first.
+    (1025, b"", ZipFault::TooManyZones, 34),
+    (1024, b"", ZipFault::BadZone, 32),
+    (1, b"", ZipFault::BadZone, 32),
+];
+
 #[test]
 fn a_table_has_at_most_1024_names_and_none_is_empty(rt: HostRuntime) -> Result<(), Fail> {
     assert_eq!(rt; MAX_ZONES, 1024);
     let most = Zones::new(names(rt.alloc(), 1024, b"Office")?)?;
     assert_eq!(rt; most.names().len(), 1024);
-    let refused: [(usize, &[u8], ZipFault, u8); 4] = [
-        (1025, b"Office", ZipFault::TooManyZones, 34),
-        // The number of names is looked at first.
-        (1025, b"", ZipFault::TooManyZones, 34),
-        (1024, b"", ZipFault::BadZone, 32),
-        (1, b"", ZipFault::BadZone, 32),
-    ];
-    for (count, last, fault, number) in refused {
-        let refused = Zones::new(names(rt.alloc(), count, last)?);
-        assert_eq!(rt; refused.err(), Some(fault), "of {count} names");
-        assert_eq!(rt; fault.number(), Some(number), "of {fault:?}");
+    for (count, last, fault, number) in NO_TABLES.iter() {
+        let refused = Zones::new(names(rt.alloc(), *count, last)?).err();
+        assert_eq!(rt; refused, Some(*fault), "of {count} names");
+        assert_eq!(rt; fault.number(), Some(*number), "of {fault:?}");
     }
     Ok(())
+}
+
+// All names of a view take one request for memory.
+fn compare_refusals(rt: &impl Abort, alloc: Global, view: &PageView<'_>, names: &[Pascal]) {
+    let heap = Refusing::new(alloc, 0);
+    assert!(rt; view.to_list(&heap).is_err());
+    let list = view.to_list(&heap).expect(rt, "no list");
+    assert_eq!(rt; list.as_slice(), names);
+    let heap = Refusing::new(alloc, 1);
+    assert!(rt; view.to_list(&heap).is_ok());
 }
 
 #[test]
@@ -246,13 +264,7 @@ fn no_memory_for_a_page_or_its_names_is_told(rt: HostRuntime) -> Result<(), Fail
     assert_eq!(rt; page(&heap, &zones, 1).err(), Some(ZipFault::NoMemory));
     let whole = page(&heap, &zones, 1)?;
     assert_eq!(rt; whole.data_.as_slice(), b"\x03Lab\x06Office".as_slice());
-
     let view = read_page(whole.user, whole.data_.as_slice())?;
-    let heap = Refusing::new(rt.alloc(), 0);
-    assert!(rt; view.to_list(&heap).is_err());
-    assert_eq!(rt; view.to_list(&heap)?.as_slice(), zones.names());
-    // All names take one request.
-    let heap = Refusing::new(rt.alloc(), 1);
-    assert!(rt; view.to_list(&heap).is_ok());
+    compare_refusals(&rt, rt.alloc(), &view, zones.names());
     Ok(())
 }

@@ -1,0 +1,271 @@
+//! The side of a transaction that answers.
+use crate::shared::{ASKER, ATP, SERVER, compare_sent, packet_at, request, response};
+use at_atp::{AtpFault, Frame, Key, Packet, Reception, Responder};
+use at_ddp::{Bytes, Datagrams, Outbox};
+use refusing::Refusing;
+use std::alloc::{AllocError, Allocator, Global};
+use std::process::Abort;
+use std::test::Fail;
+
+fn key(tid: u16) -> Key {
+    Key { from: ASKER, tid }
+}
+
+// A side that answers, what it sent, and how many of its calls found no memory.
+#[derive(Drop)]
+struct Answerer<A: Allocator> {
+    responder: Responder<A>,
+    out: Outbox<A>,
+    refusals: u64,
+}
+
+impl<A: Allocator + Copy> Answerer<A> {
+    fn new(alloc: A) -> Answerer<A> {
+        Answerer {
+            responder: Responder::new(alloc),
+            out: Outbox::over(Datagrams::new(alloc), SERVER, ATP),
+            refusals: 0,
+        }
+    }
+
+    fn receive(&mut self, frame: &Frame<'_>) -> Result<Reception, AtpFault> {
+        self.responder.receive(ASKER, frame, &mut self.out)
+    }
+
+    // Takes a packet in, and takes it in again where there was no memory.
+    fn receive_again(&mut self, frame: &Frame<'_>) -> Result<Reception, AtpFault> {
+        match self.receive(frame) {
+            Err(AtpFault::NoMemory) => {
+                self.refusals = self.refusals.saturating_add(1);
+                self.receive(frame)
+            }
+            reception => reception,
+        }
+    }
+
+    fn respond(&mut self, tid: u16, packets: &[Packet<A>]) -> Result<u8, AtpFault> {
+        self.responder.respond(key(tid), packets, &mut self.out)
+    }
+
+    // Answers, and answers again where there was no memory.
+    fn respond_again(&mut self, tid: u16, packets: &[Packet<A>]) -> Result<u8, AtpFault> {
+        match self.respond(tid, packets) {
+            Err(AtpFault::NoMemory) => {
+                self.refusals = self.refusals.saturating_add(1);
+                self.respond(tid, packets)
+            }
+            count => count,
+        }
+    }
+
+    // Takes a request in that has this mask and this number, and compares what comes of it.
+    fn compare_request(
+        &mut self,
+        rt: &impl Abort,
+        mask: u8,
+        tid: u16,
+        want: Result<Reception, AtpFault>,
+    ) {
+        let reception = self.receive_again(&request(mask, tid));
+        assert_eq!(rt; reception, want, "of request {tid} for {mask:02X}");
+    }
+
+    // Takes a request in that is new.
+    fn compare_new(&mut self, rt: &impl Abort, mask: u8, tid: u16) {
+        self.compare_request(rt, mask, tid, Ok(Reception::New(key(tid))));
+    }
+
+    // Answers, and compares how many packets are sent.
+    fn compare_respond(
+        &mut self,
+        rt: &impl Abort,
+        tid: u16,
+        packets: &[Packet<A>],
+        want: Result<u8, AtpFault>,
+    ) {
+        let count = self.respond_again(tid, packets);
+        assert_eq!(rt;
+            count,
+            want,
+            "to request {tid} by {} packets",
+            packets.len()
+        );
+    }
+
+    fn compare_undo(&mut self, rt: &impl Abort, tid: u16, want: Result<(), AtpFault>) {
+        assert_eq!(rt; self.responder.undo(key(tid)), want, "of request {tid}");
+    }
+
+    fn into_list(self) -> Datagrams<A> {
+        self.out.into_list()
+    }
+}
+
+// A packet without data, which needs no memory.
+fn bare<A: Allocator>(alloc: A, user: u8) -> Packet<A> {
+    Packet::new([user; 4], Bytes::from_vec(Vec::new(alloc)))
+}
+
+// An answer of so many packets without data, whose user bytes are their numbers from 1.
+fn bares<A: Allocator + Copy>(
+    global: Global,
+    alloc: A,
+    count: u8,
+) -> Result<Vec<Packet<A>>, AllocError> {
+    let mut packets = Vec::new(global);
+    for index in 0..count {
+        packets.push(bare(alloc, index.saturating_add(1)))?;
+    }
+    Ok(packets)
+}
+
+// Of two requests the second mask counts. The request is new again once it is answered, and then the last packet of the
+// answer is not asked for.
+fn answer_twice<A: Allocator + Copy>(
+    rt: &impl Abort,
+    answerer: &mut Answerer<A>,
+    packets: &[Packet<A>],
+) {
+    answerer.compare_new(rt, 2, 9);
+    answerer.compare_request(rt, 0xFD, 9, Ok(Reception::Again(0)));
+    answerer.compare_respond(rt, 9, packets, Ok(2));
+    answerer.compare_respond(rt, 9, packets, Err(AtpFault::NoSuch));
+    answerer.compare_new(rt, 3, 9);
+    answerer.compare_respond(rt, 9, packets, Ok(2));
+}
+
+// What is sent for it.
+static SENT: [&[u8]; 4] = [
+    b"\x80\x00\0\x09\x01\x01\x01\x01",
+    b"\x90\x02\0\x09\x03\x03\x03\x03",
+    b"\x80\x00\0\x09\x01\x01\x01\x01",
+    b"\x80\x01\0\x09\x02\x02\x02\x02",
+];
+
+// Answers a request twice, and tells how many calls found no memory.
+fn play_answerer<A: Allocator + Copy>(
+    rt: &impl Abort,
+    global: Global,
+    alloc: A,
+) -> Result<u64, AllocError> {
+    let mut answerer = Answerer::new(alloc);
+    answer_twice(rt, &mut answerer, &bares(global, alloc, 3)?);
+    let refusals = answerer.refusals;
+    compare_sent(rt, &answerer.into_list(), 5, &SENT);
+    Ok(refusals)
+}
+
+#[test]
+fn an_answer_is_sent_as_far_as_it_was_asked_for(rt: HostRuntime) -> Result<(), Fail> {
+    assert_eq!(rt; play_answerer(&rt, rt.alloc(), rt.alloc())?, 0);
+    Ok(())
+}
+
+// Plays with one request for memory refused after those that are granted, and tells how many calls found none.
+fn play_refused(rt: &impl Abort, global: Global, granted: u64) -> Result<u64, AllocError> {
+    let heap = Refusing::new(global, granted);
+    let refused = play_answerer(rt, global, &heap)?;
+    assert_eq!(rt;
+        refused,
+        u64::from(heap.has_refused()),
+        "after {granted} requests"
+    );
+    Ok(refused)
+}
+
+#[test]
+fn no_memory_for_an_answer_leaves_its_request_waiting(rt: HostRuntime) -> Result<(), Fail> {
+    let mut refusals = 0u64;
+    for granted in 0..20u64 {
+        refusals = refusals.saturating_add(play_refused(&rt, rt.alloc(), granted)?);
+    }
+    assert!(rt; 1 < refusals && refusals < 20, "{refusals} refusals");
+    Ok(())
+}
+
+// An answer of one packet with these data.
+fn answer(alloc: Global, bytes: &[u8]) -> Result<[Packet; 1], AllocError> {
+    Ok([Packet::new([0; 4], Bytes::copy_of(alloc, bytes)?)])
+}
+
+// Answers that are refused for their packets.
+fn compare_refused(
+    rt: &impl Abort,
+    alloc: Global,
+    answerer: &mut Answerer<Global>,
+) -> Result<(), AllocError> {
+    answerer.compare_respond(rt, 0, &[], Err(AtpFault::EmptyAnswer));
+    let many = bares(alloc, alloc, 9)?;
+    answerer.compare_respond(rt, 0, &many, Err(AtpFault::AtpTooLong));
+    let long = answer(alloc, &[0; 579])?;
+    answerer.compare_respond(rt, 0, &long, Err(AtpFault::AtpTooLong));
+    Ok(())
+}
+
+// What is sent is one packet, as long as a packet may be.
+fn compare_longest(rt: &impl Abort, list: &Datagrams<Global>) {
+    assert_eq!(rt; list.len(), 1);
+    let length = packet_at(list, 0).map(|(_, packet)| packet.len());
+    assert_eq!(rt; length, Some(586));
+}
+
+#[test]
+fn an_answer_is_refused_for_its_packets_before_its_request(rt: HostRuntime) -> Result<(), Fail> {
+    let mut answerer = Answerer::new(rt.alloc());
+    compare_refused(&rt, rt.alloc(), &mut answerer)?;
+    let longest = answer(rt.alloc(), &[0x5A; 578])?;
+    answerer.compare_respond(&rt, 0, &longest, Err(AtpFault::NoSuch));
+    answerer.compare_new(&rt, 1, 0);
+    answerer.compare_respond(&rt, 1, &longest, Err(AtpFault::NoSuch));
+    answerer.compare_respond(&rt, 0, &longest, Ok(1));
+    assert_eq!(rt; answerer.refusals, 0);
+    compare_longest(&rt, &answerer.into_list());
+    Ok(())
+}
+
+#[test]
+fn a_request_that_is_undone_is_new_again(rt: HostRuntime) {
+    let mut answerer = Answerer::new(rt.alloc());
+    answerer.compare_undo(&rt, 0, Err(AtpFault::NoSuch));
+    answerer.compare_new(&rt, 1, 0);
+    answerer.compare_undo(&rt, 1, Err(AtpFault::NoSuch));
+    answerer.compare_undo(&rt, 0, Ok(()));
+    answerer.compare_undo(&rt, 0, Err(AtpFault::NoSuch));
+    answerer.compare_new(&rt, 1, 0);
+    assert_eq!(rt; answerer.refusals, 0);
+    assert!(rt; answerer.into_list().is_empty());
+}
+
+fn compare_ignored<A: Allocator + Copy>(
+    rt: &impl Abort,
+    answerer: &mut Answerer<A>,
+    frame: &Frame<'_>,
+) {
+    assert_eq!(rt;
+        answerer.receive(frame),
+        Ok(Reception::Ignored),
+        "of {frame:?}"
+    );
+}
+
+#[test]
+fn what_asks_for_nothing_is_ignored_by_the_side_that_answers(rt: HostRuntime) {
+    let mut answerer = Answerer::new(rt.alloc());
+    compare_ignored(&rt, &mut answerer, &request(0, 9));
+    compare_ignored(&rt, &mut answerer, &Frame::Release { tid: 9 });
+    compare_ignored(&rt, &mut answerer, &response(0, true, true, b""));
+    assert!(rt; answerer.into_list().is_empty());
+}
+
+#[test]
+fn at_most_64_records_stand(rt: HostRuntime) {
+    let mut answerer = Answerer::new(rt.alloc());
+    for tid in 0..64u16 {
+        answerer.compare_new(&rt, 1, tid);
+    }
+    answerer.compare_request(&rt, 1, 64, Err(AtpFault::Full));
+    answerer.compare_request(&rt, 1, 63, Ok(Reception::Again(0)));
+    answerer.compare_undo(&rt, 63, Ok(()));
+    answerer.compare_new(&rt, 1, 64);
+    assert_eq!(rt; answerer.refusals, 0);
+}

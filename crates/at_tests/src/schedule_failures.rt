@@ -1,0 +1,167 @@
+//! Plays that find no memory, and plays whose writes fail.
+use crate::shared::{ZONE_LIST, ZONE_LIST_PLAYED, played};
+use at_play::{Status, play_text};
+use refusing::Refusing;
+use std::alloc::Global;
+use std::io;
+use std::io::ErrorKind;
+use std::process::Abort;
+
+// What is printed of the zone list where one request for memory is refused: the play stops before an event, or a node
+// reports it. What comes after such a report lacks what the node did not send, or has the list from the second answer.
+static SHORT_OF_MEMORY: [(&str, Status); 7] = [
+    ("stopped nomemory at 0\n", Status::Failed),
+    (
+        "0 begun 0
+sent 0 1 00156711000A000A01050680034001000008000001
+stopped nomemory at 1
+",
+        Status::Failed,
+    ),
+    (
+        "0 begun 0
+sent 0 1 00156711000A000A01050680034001000008000001
+1 served 1
+sent 1 5 0020CA71000A000A05018006039000000001000002034C6162064F6666696365
+stopped nomemory at 2
+",
+        Status::Failed,
+    ),
+    (
+        "0 begun 0
+sent 0 1 00156711000A000A01050680034001000008000001
+1 served 1
+sent 1 5 0020CA71000A000A05018006039000000001000002034C6162064F6666696365
+2 zones Lab Office
+stopped nomemory at 3
+",
+        Status::Failed,
+    ),
+    (
+        "0 nomemory
+stopped 70 at 1
+",
+        Status::Failed,
+    ),
+    (
+        "0 begun 0
+sent 0 1 00156711000A000A01050680034001000008000001
+1 nomemory
+stopped 70 at 2
+",
+        Status::Failed,
+    ),
+    (
+        "0 begun 0
+sent 0 1 00156711000A000A01050680034001000008000001
+1 served 1
+sent 1 5 0020CA71000A000A05018006039000000001000002034C6162064F6666696365
+2 nomemory
+3 zones Lab Office
+",
+        Status::Done,
+    ),
+];
+
+// Whether this is what comes of a request for memory that is refused.
+fn is_told(printed: &[u8], status: Status) -> bool {
+    for (text, want) in SHORT_OF_MEMORY.iter() {
+        if printed == text.as_bytes() && status == *want {
+            return true;
+        }
+    }
+    false
+}
+
+// Plays with one request for memory refused after those that are granted, and tells whether one was.
+fn play_refused(rt: &impl Abort, alloc: Global, granted: u64) -> bool {
+    let heap = Refusing::new(alloc, granted);
+    let (printed, status) = played(&heap, alloc, ZONE_LIST);
+    let printed = printed.as_slice();
+    if heap.has_refused() {
+        assert!(rt;
+            is_told(printed, status),
+            "after {granted} requests: {printed:?}"
+        );
+        return true;
+    }
+    assert_eq!(rt;
+        printed,
+        ZONE_LIST_PLAYED.as_bytes(),
+        "after {granted} requests"
+    );
+    assert_eq!(rt; status, Status::Done, "after {granted} requests");
+    false
+}
+
+#[test]
+fn each_request_for_memory_that_is_refused_is_told_in_its_place(rt: HostRuntime) {
+    let mut refusals = 0u64;
+    for granted in 0..100u64 {
+        refusals = refusals.saturating_add(u64::from(play_refused(&rt, rt.alloc(), granted)));
+    }
+    assert!(rt; 6 < refusals && refusals < 100, "{refusals} refusals");
+}
+
+// Takes so many writes, and refuses the one after them; what follows it would be taken again.
+#[derive(Drop)]
+struct Scarce {
+    left: u32,
+    has_refused: bool,
+    bytes: Vec<u8>,
+}
+
+impl io::Write for Scarce {
+    fn write(&mut self, buf: &[u8]) -> io::Result<usize> {
+        if self.left == 0 && !self.has_refused {
+            self.has_refused = true;
+            return Err(io::Error::from(ErrorKind::StorageFull));
+        }
+        self.left = self.left.saturating_sub(1);
+        self.bytes.extend_from_slice(buf)?;
+        Ok(buf.len())
+    }
+
+    fn flush(&mut self) -> io::Result<()> {
+        Ok(())
+    }
+}
+
+// What is printed before a write that fails is the beginning of the whole.
+fn compare_cut(rt: &impl Abort, status: Status, printed: &[u8]) {
+    assert_eq!(rt; status.code(), 1, "of {printed:?}");
+    assert!(rt;
+        ZONE_LIST_PLAYED.as_bytes().starts_with(printed),
+        "of {printed:?}"
+    );
+}
+
+fn compare_whole(rt: &impl Abort, status: Status, printed: &[u8]) {
+    assert_eq!(rt; status.code(), 0, "of {printed:?}");
+    assert_eq!(rt; printed, ZONE_LIST_PLAYED.as_bytes());
+}
+
+// Plays with one write refused after those that are taken, and tells whether one was.
+fn write_refused(rt: &impl Abort, alloc: Global, left: u32) -> bool {
+    let mut writer = Scarce {
+        left,
+        has_refused: false,
+        bytes: Vec::new(alloc),
+    };
+    let status = play_text(alloc, &mut ZONE_LIST.as_bytes(), &mut writer);
+    if writer.has_refused {
+        compare_cut(rt, status, &writer.bytes);
+    } else {
+        compare_whole(rt, status, &writer.bytes);
+    }
+    writer.has_refused
+}
+
+#[test]
+fn a_write_that_fails_ends_the_program(rt: HostRuntime) {
+    let mut refusals = 0u32;
+    for left in 0..1000u32 {
+        refusals = refusals.saturating_add(u32::from(write_refused(&rt, rt.alloc(), left)));
+    }
+    assert!(rt; 0 < refusals && refusals < 1000, "{refusals} refusals");
+}
