@@ -2,5 +2,6 @@ mod AnswerLemmas
 mod FrameLemmas
 mod RecordLemmas
 mod RequestLemmas
+mod RetryLemmas
 mod StepLemmas
 pub mod TableLemmas

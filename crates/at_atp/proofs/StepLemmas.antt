@@ -35,7 +35,7 @@ pub heard_none : {A : Type 0} (r : Requests) (from : Address) (place : ℕ) (eom
     IsHeard (heard {A = A} r from (Response place eom sts tid user bytes)) Ignored r out out
 heard_none r from place eom sts tid user bytes out is = rw is (record { is_step = refl; is_new = refl; sends = sends_nothing out })
 
-remove-set : {X : Type 0} (xs : List X) (i : ℕ) (y : X) → remove (set xs i y) i ≡ remove xs i
+pub remove-set : {X : Type 0} (xs : List X) (i : ℕ) (y : X) → remove (set xs i y) i ≡ remove xs i
 remove-set xs i y = λ j. take-set xs i y j ++ drop-set-lt (suc i) xs i y (omega arith) j
 
 -- the transaction that the packet came for took it in

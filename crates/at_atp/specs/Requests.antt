@@ -1,5 +1,5 @@
 -- The side that asks, and what each call does to it (Inside AppleTalk, ATP, "Transactions").
-use Rattle.std.specs.Prelude.{◌≡◌, ℕ, zero, suc, ◌+◌, ◌%◌, ◌≤◌, ◌==◌, ◌&&◌, nat_lt, if◌then◌else◌, Bool, true, false, List, [], ◌∷◌, ◌++◌, length, find, replicate, Option, Some, None}
+use Rattle.std.specs.Prelude.{◌≡◌, ℕ, zero, suc, ◌+◌, ◌%◌, ◌≤◌, ◌==◌, ◌&&◌, nat_lt, if◌then◌else◌, Bool, true, false, List, [], ◌∷◌, ◌++◌, length, find, option_map, replicate, Option, Some, None}
 use Rattle.std.specs.List.{list_any}
 use Rattle.at_ddp.specs.Address.{same_address}
 use Rattle.at_ddp.specs.Outbox.{Outbox, Sends}
@@ -8,6 +8,8 @@ use Rattle.at_atp.specs.Packets.{Packet}
 use Rattle.at_atp.specs.Answers.{Arrival, is_wanted, mask_of, whole, with_part}
 use Rattle.at_atp.specs.Frames.{Content, Request, Response, Release, spelled}
 use Rattle.at_atp.specs.Tables.{replaced, without_first}
+use Rattle.at_atp.specs.declared.step.Retry.{Retry}
+use Rattle.at_atp.specs.declared.step.Retry.TheVariants as retry
 use Rattle.at_atp.specs.declared.step.Step.{Step}
 use Rattle.at_atp.specs.declared.step.Step.TheVariants as step
 
@@ -34,6 +36,9 @@ pub record IsTransaction (t : Transaction) : Type 0 where
   pub data_fits : length t.data_ ≤ 578
   pub few : length t.parts ≤ 8
 
+abbrev pub is_numbered : ℕ → Transaction → Bool
+is_numbered tid t = t.tid == tid
+
 -- is a transaction open under this number?
 abbrev pub has_number : List Transaction → ℕ → Bool
 has_number standing tid = list_any (λ t. t.tid == tid) standing
@@ -42,6 +47,11 @@ has_number standing tid = list_any (λ t. t.tid == tid) standing
 abbrev pub draw_from : ℕ → ℕ → List Transaction → Option ℕ
 draw_from zero first standing = None
 draw_from (suc tries) first standing = if has_number standing first then draw_from tries ((first + 1) % 65536) standing else Some first
+
+-- the requester once the transaction of a number is closed
+abbrev pub closing : Requests → Option ℕ → Requests
+closing r None = r
+closing r (Some tid) = record r { standing = without_first (is_numbered tid) r.standing }
 
 -- the number that the next transaction gets; none where 32 are open
 abbrev pub next_number : Requests → Option ℕ
@@ -125,6 +135,33 @@ abbrev pub heard : {A : Type 0} → Requests → Address → Content → Heard A
 heard r from (Response place eom sts tid user bytes) = response_came r (is_of tid from) place (record { eom = eom; packet = record { user = user; data_ = bytes } }) sts (find (is_of tid from) r.standing)
 heard r from (Request mask xo timer tid user bytes) = ignored r
 heard r from (Release tid) = ignored r
+
+-- what came of a retry: the requester after it, and what is sent
+pub record Retried : Type 0 where
+  pub step : Retry
+  pub after : Requests
+  pub sent : List (Address × List ℕ)
+
+-- with a retry left, one is taken and the transaction asked again; with none left it is closed
+abbrev pub retried_with : Requests → ℕ → Transaction → ℕ → Retried
+retried_with r tid t zero = record { step = retry.Failed; after = record r { standing = without_first (is_numbered tid) r.standing }; sent = [] }
+retried_with r tid t (suc left) = record {
+  step = retry.AskedAgain;
+  after = record r { standing = replaced (is_numbered tid) (record t { retries = left }) r.standing };
+  sent = (t.to, spelled (request_by t)) ∷ [];
+}
+
+-- a retry of the open transaction of this number, if there is one
+abbrev pub retried : Requests → ℕ → Option Retried
+retried r tid = option_map (λ t. retried_with r tid t t.retries) (find (is_numbered tid) r.standing)
+
+-- the step, the new requester and what was sent are those of a retry
+pub record IsRetried (r : Requests) (tid : ℕ) (s : Retry) (new : Requests) (before after : Outbox) : Type 0 where
+  pub effect : Retried
+  pub is_retry : retried r tid ≡ Some effect
+  pub is_step : s ≡ effect.step
+  pub is_new : new ≡ effect.after
+  pub sends : Sends before after effect.sent
 
 -- the step, the new requester and what was sent are these
 pub record IsHeard {A : Type 0} (h : Heard A) (s : Step A) (new : Requests) (before after : Outbox) : Type 0 where

@@ -1,20 +1,18 @@
-ghost use Rattle.std.specs.Prelude.{◌≡◌, ◌≢◌, ◌↔◌, ◌+◌, ◌≤◌, ◌<◌, ◌∷◌, [], length, remove, if◌then◌else◌, IfOk, IfErr, OnErr, IsOk, IsErrOf, true, Some, None};
+ghost use Rattle.std.specs.Prelude.{◌≡◌, ◌≢◌, ◌↔◌, ◌+◌, ◌≤◌, ◌<◌, ◌∷◌, [], length, remove, if◌then◌else◌, IfOk, IfErr, IfSome, OnErr, IsOk, IsErrOf, true, Some, None};
 ghost use Rattle.std.specs.List.{position_from};
 ghost use Rattle.at_ddp.specs.Outbox.{Sends};
 ghost use Rattle.at_atp.specs.Frames.{content, spelled};
-ghost use Rattle.at_atp.specs.Requests.{no_requests, has_number, draw_from, next_number, beginning, begun, request_by, is_of, is_finished, is_ignored, heard, IsHeard};
+ghost use Rattle.at_atp.specs.Requests.{no_requests, next_number, closing, beginning, begun, request_by, is_of, is_finished, is_ignored, is_numbered, heard, retried, IsHeard, IsRetried};
 
 use crate::fault::AtpFault;
 use crate::frame::{Frame, MAX_DATA};
+use crate::numbers::next_of;
 use crate::sending::send;
-use crate::step::Step;
+use crate::step::{Retry, Step};
 use crate::transaction::{Arriving, Asking, Transaction};
 use at_ddp::{Address, Outbox};
 use std::alloc::{AllocError, Allocator, Global};
 use std::marker::Model;
-
-/// How many transactions may be open.
-const OPEN: usize = 32;
 
 /// The transactions that one socket asked for and that are still open.
 #[derive(Drop)]
@@ -40,6 +38,21 @@ impl<A: Allocator + Copy> Requester<A> {
             alloc,
             next: 0,
             standing: Vec::new(alloc),
+        }
+    }
+
+    /// The number that the next transaction gets, or none where no number can be given. A transaction that is to be
+    /// closed before counts as closed.
+    pub fn next_number(&self, closed: Option<u16>) -> Option<u16>
+        ensures { result ≡ next_number (closing self.now closed) }
+    {
+        let standing = self.standing.as_slice();
+        let Some(tid) = closed else {
+            return next_of(standing, &standing[..0], self.next);
+        };
+        match place_numbered(standing, tid) {
+            Some(index) => next_of(&standing[..index], &standing[index + 1..], self.next),
+            None => next_of(standing, &standing[..0], self.next),
         }
     }
 
@@ -71,7 +84,7 @@ impl<A: Allocator + Copy> Requester<A> {
         if bytes.len() > MAX_DATA {
             return Err(AtpFault::AtpTooLong);
         }
-        let Some(tid) = next_number(&self.standing, self.next) else {
+        let Some(tid) = self.next_number(None) else {
             return Err(AtpFault::Full);
         };
         let asking = Asking {
@@ -130,6 +143,30 @@ impl<A: Allocator + Copy> Requester<A> {
         settle(&mut self.standing, index, &step);
         Ok(step)
     }
+
+    /// Takes one of the retries of the transaction that is open under this number, and sends its request again, for the
+    /// packets still wanted. Where no retry is left, it closes the transaction, which takes no memory.
+    pub fn retry(&mut self, tid: u16, out: &mut Outbox<A>) -> Result<Retry, AtpFault>
+        ensures ok { IfOk result (λ step. IsRetried self.old tid step self.new out.old out.new) }
+        ensures missing { IsErrOf result AtpFault.NoSuch ↔ (retried self.old tid ≡ None) }
+        ensures memory { IfErr result (λ fault. fault ≢ AtpFault.NoSuch → fault ≡ AtpFault.NoMemory) }
+        ensures unchanged { OnErr result (self.new ≡ self.old) }
+        ensures nothing_sent { OnErr result (Sends out.old out.new []) }
+        ensures closes { IfSome (retried self.old tid) (λ effect. effect.step ≡ Retry.Failed → IsOk result) }
+    {
+        let Some(index) = place_numbered(&self.standing, tid) else {
+            return Err(AtpFault::NoSuch);
+        };
+        let transaction = &mut self.standing[index];
+        match transaction.take_retry(out) {
+            Err(AllocError) => Err(AtpFault::NoMemory),
+            Ok(true) => Ok(Retry::AskedAgain),
+            Ok(false) => {
+                drop(self.standing.remove(index));
+                Ok(Retry::Failed)
+            }
+        }
+    }
 }
 
 // Closes the transaction at an index, if it finished.
@@ -142,35 +179,12 @@ fn settle<A: Allocator>(standing: &mut Vec<Transaction<A>, A>, index: usize, ste
     }
 }
 
-// Whether a transaction is open under this number.
-fn uses<A: Allocator>(standing: &[Transaction<A>], tid: u16) -> bool
-    ensures { result ≡ has_number standing.now tid }
+// Where the transaction of this number stands.
+fn place_numbered<A: Allocator>(standing: &[Transaction<A>], tid: u16) -> Option<usize>
+    ensures first { result ≡ position_from (is_numbered tid) 0 standing.now }
+    ensures within { IfSome result (λ index. index < length standing.now) }
 {
-    standing.iter().any(|t| t.tid() == tid)
-}
-
-// The first number from `first` on that is not open, of so many tries.
-fn free_number<A: Allocator>(standing: &[Transaction<A>], first: u16, tries: usize) -> Option<u16>
-    ensures { result ≡ draw_from tries first standing.now }
-{
-    if tries == 0 {
-        None
-    } else if uses(standing, first) {
-        free_number(standing, first.wrapping_add(1), tries - 1)
-    } else {
-        Some(first)
-    }
-}
-
-// The number that the next transaction gets, where `next` is to be tried first.
-fn next_number<A: Allocator>(standing: &[Transaction<A>], next: u16) -> Option<u16>
-    ensures { result ≡ next_number (record { next = next; standing = standing.now }) }
-{
-    if standing.len() < OPEN {
-        free_number(standing, next, standing.len() + 1)
-    } else {
-        None
-    }
+    standing.iter().position(|t| t.tid() == tid)
 }
 
 // Where the transaction of this number stands, if it asked this address.

@@ -1,4 +1,4 @@
-ghost use Rattle.std.specs.Prelude.{◌≡◌, ◌≢◌, ◌↔◌, ◌<◌, ◌≤◌, ◌∷◌, slice_get, slice_set, [], ◌++◌, length, true, find, IfOk, IfErr, IfSome, OnOk, OnErr, IsOk, IsErrOf, Some, None, Err};
+ghost use Rattle.std.specs.Prelude.{◌≡◌, ◌≢◌, ◌↔◌, ◌<◌, ◌≤◌, ◌∷◌, slice_get, slice_set, [], ◌++◌, length, true, find, is_some, IfOk, IfErr, IfSome, OnOk, OnErr, IsOk, IsErrOf, Some, None, Err};
 ghost use Rattle.std.specs.List.{position_from};
 ghost use Rattle.at_ddp.specs.Outbox.{Sends};
 ghost use Rattle.at_atp.specs.Frames.{content};
@@ -89,6 +89,13 @@ impl<A: Allocator + Copy> Responder<A> {
         out.room(packets.len() as u32, PACKET_LEN)?;
         let mask = forget(&mut self.entries, key);
         Ok(send_answer(out, key, 0, mask, packets))
+    }
+
+    /// Whether a record of this request stands, whatever became of it.
+    pub fn holds(&self, key: Key) -> bool
+        ensures { result ≡ is_some (find (is_key key) self.now) }
+    {
+        entry_of(&self.entries, key).is_some()
     }
 
     /// Takes the record of a request that waits away again. It takes no memory.

@@ -14,3 +14,12 @@ pub enum Step<A: Allocator = Global> {
     /// The transaction ended with these packets.
     Finished(Listed<Packet<A>, A>),
 }
+
+/// What came of a retry.
+#[derive(Clone, Copy, Debug, PartialEq, Eq)]
+pub enum Retry {
+    /// The packets still wanted were asked for again.
+    AskedAgain,
+    /// No retry was left, and the transaction is closed.
+    Failed,
+}

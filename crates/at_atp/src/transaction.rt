@@ -1,8 +1,8 @@
-ghost use Rattle.std.specs.Prelude.{◌≡◌, ◌+◌, ◌≤◌, ◌<◌, ◌∷◌, ℕ, List, length, is_some, Some, None, IfOk, OnOk, OnErr, IsOk, true, false, [], replicate};
+ghost use Rattle.std.specs.Prelude.{◌≡◌, ◌+◌, ◌-◌, ◌≤◌, ◌<◌, ◌∷◌, nat_lt, if◌then◌else◌, ℕ, List, length, is_some, Some, None, IfOk, OnOk, OnErr, IsOk, true, false, [], replicate};
 ghost use Rattle.at_ddp.specs.Outbox.{Sends};
 ghost use Rattle.at_atp.specs.Packets.{Packet as Arrived};
 ghost use Rattle.at_atp.specs.Answers.{Arrival, is_wanted, whole, with_part};
-ghost use Rattle.at_atp.specs.Frames.{content, CanBeWritten, data_of};
+ghost use Rattle.at_atp.specs.Frames.{content, CanBeWritten, data_of, spelled};
 ghost use Rattle.at_atp.specs.Requests.{beginning, is_of, request_by, release_by};
 
 use crate::frame::{Frame, PACKET_LEN};
@@ -123,6 +123,23 @@ impl<A: Allocator> Transaction<A> {
             return Ok(());
         }
         send(out, self.to, &Frame::Release { tid: self.tid })
+    }
+
+    // Takes a retry and sends the request again, if there is one left.
+    pub(crate) fn take_retry(&mut self, out: &mut Outbox<A>) -> Result<bool, AllocError>
+        ensures taken { IfOk result (λ taken. taken ≡ nat_lt 0 self.old.retries) }
+        ensures state { OnOk result (self.new ≡ record self.old { retries = self.old.retries - 1 }) }
+        ensures sent { OnOk result (Sends out.old out.new (if nat_lt 0 self.old.retries then (self.old.to, spelled (request_by self.old)) ∷ [] else [])) }
+        ensures unchanged { OnErr result (self.new ≡ self.old) }
+        ensures nothing_sent { OnErr result (Sends out.old out.new []) }
+        ensures none { self.old.retries ≡ 0 → IsOk result }
+    {
+        if self.retries == 0 {
+            return Ok(false);
+        }
+        send(out, self.to, &self.request())?;
+        self.retries -= 1;
+        Ok(true)
     }
 
     fn keep_part(&mut self, place: u8, part: Part<A>)

@@ -1,18 +1,6 @@
-//! Tests over the crates of the repository, from outside them.
+//! Tests of nodes and of whole schedules, from outside their crates.
 #![tactic(auto)]
 
-#[cfg(test)]
-mod atp_frames;
-#[cfg(test)]
-mod atp_requester;
-#[cfg(test)]
-mod atp_responder;
-#[cfg(test)]
-mod ddp_datagrams;
-#[cfg(test)]
-mod ddp_outbox;
-#[cfg(test)]
-mod ddp_texts;
 #[cfg(test)]
 mod node_played;
 #[cfg(test)]
@@ -27,5 +15,3 @@ mod schedule_limits;
 mod schedules;
 #[cfg(test)]
 mod shared;
-#[cfg(test)]
-mod zip;

@@ -1,7 +1,7 @@
 //! A node that tests play events on, with what it sent.
-use crate::shared::at;
 use at_ddp::{Address, Datagrams, Listed, Pascal, encode};
 use at_node::{Call, Node, Report};
+use at_samples::at;
 use at_zip::Zones;
 use std::alloc::{AllocError, Allocator, Global};
 use std::process::Abort;

@@ -1,8 +1,8 @@
 //! Readings of the zone list.
 use crate::node_played::{ANSWERED, ASKED, Played, Told, asker, datagram, router};
-use crate::shared::{ASKER, ROUTER};
 use at_ddp::Address;
 use at_node::Node;
+use at_samples::{ASKER, ROUTER};
 use refusing::Refusing;
 use std::alloc::{Allocator, Global};
 use std::process::Abort;

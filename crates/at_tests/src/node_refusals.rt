@@ -1,7 +1,7 @@
 //! What a node ignores and refuses.
 use crate::node_played::{ANSWERED, Played, Told, asker, datagram, router};
-use crate::shared::{ASKER, EMPTY, ROUTER};
 use at_ddp::Address;
+use at_samples::{ASKER, EMPTY, ROUTER};
 use std::alloc::Global;
 use std::process::Abort;
 use std::test::Fail;

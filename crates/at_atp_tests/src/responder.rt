@@ -1,7 +1,8 @@
 //! The side of a transaction that answers.
-use crate::shared::{ASKER, ATP, SERVER, compare_sent, packet_at, request, response};
+use crate::shared::{ATP, compare_sent, packet_at, request, response};
 use at_atp::{AtpFault, Frame, Key, Packet, Reception, Responder};
 use at_ddp::{Bytes, Datagrams, Outbox};
+use at_samples::{ASKER, SERVER};
 use refusing::Refusing;
 use std::alloc::{AllocError, Allocator, Global};
 use std::process::Abort;
@@ -90,6 +91,10 @@ impl<A: Allocator + Copy> Answerer<A> {
             "to request {tid} by {} packets",
             packets.len()
         );
+    }
+
+    fn compare_holds(&self, rt: &impl Abort, tid: u16, want: bool) {
+        assert_eq!(rt; self.responder.holds(key(tid)), want, "request {tid}");
     }
 
     fn compare_undo(&mut self, rt: &impl Abort, tid: u16, want: Result<(), AtpFault>) {
@@ -229,7 +234,10 @@ fn a_request_that_is_undone_is_new_again(rt: HostRuntime) {
     answerer.compare_undo(&rt, 0, Err(AtpFault::NoSuch));
     answerer.compare_new(&rt, 1, 0);
     answerer.compare_undo(&rt, 1, Err(AtpFault::NoSuch));
+    answerer.compare_holds(&rt, 0, true);
+    answerer.compare_holds(&rt, 1, false);
     answerer.compare_undo(&rt, 0, Ok(()));
+    answerer.compare_holds(&rt, 0, false);
     answerer.compare_undo(&rt, 0, Err(AtpFault::NoSuch));
     answerer.compare_new(&rt, 1, 0);
     assert_eq!(rt; answerer.refusals, 0);

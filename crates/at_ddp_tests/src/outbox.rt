@@ -1,6 +1,6 @@
 //! The list of datagrams that an outbox appends to.
-use crate::shared::{ASKER, EMPTY, ROUTER, ZERO, at};
 use at_ddp::{Datagrams, Outbox};
+use at_samples::{ASKER, EMPTY, ROUTER, ZERO, at};
 use refusing::Refusing;
 use std::alloc::{AllocError, Allocator, Global};
 use std::fs;

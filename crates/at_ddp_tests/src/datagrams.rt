@@ -1,6 +1,6 @@
 //! Datagrams as bytes, and their checksum.
-use crate::shared::{ASKER, EMPTY, ROUTER, ZERO};
 use at_ddp::{Datagram, DdpFault, decode, encode, rotating_sum};
+use at_samples::{ASKER, EMPTY, ROUTER, ZERO};
 use refusing::Refusing;
 use std::alloc::{Allocator, Global};
 use std::process::Abort;

@@ -1,7 +1,8 @@
 //! The side of a transaction that asks.
-use crate::shared::{ASKER, ATP, SERVER, compare_sent, response};
+use crate::shared::{ATP, compare_sent, response};
 use at_atp::{AtpFault, Frame, Packet, Requester, Step};
 use at_ddp::{Address, Datagrams, Listed, Outbox};
+use at_samples::{ASKER, SERVER};
 use refusing::Refusing;
 use std::alloc::{AllocError, Allocator, Global};
 use std::process::Abort;

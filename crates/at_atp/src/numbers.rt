@@ -1,0 +1,55 @@
+ghost use Rattle.std.specs.Prelude.{◌≡◌, ◌++◌};
+ghost use Rattle.at_atp.specs.Requests.{has_number, draw_from, next_number};
+
+use crate::transaction::Transaction;
+use std::alloc::Allocator;
+
+/// How many transactions may be open.
+const OPEN: usize = 32;
+
+/// The number that the next transaction gets where these are open, and `next` is to be tried first.
+pub(crate) fn next_of<A: Allocator>(
+    front: &[Transaction<A>],
+    back: &[Transaction<A>],
+    next: u16,
+) -> Option<u16>
+    ensures { result ≡ next_number (record { next = next; standing = front.now ++ back.now }) }
+{
+    let open = front.len() + back.len();
+    if open < OPEN {
+        free_number(front, back, next, open + 1)
+    } else {
+        None
+    }
+}
+
+// The first number from `first` on that is not open, of so many tries.
+fn free_number<A: Allocator>(
+    front: &[Transaction<A>],
+    back: &[Transaction<A>],
+    first: u16,
+    tries: usize,
+) -> Option<u16>
+    ensures { result ≡ draw_from tries first (front.now ++ back.now) }
+{
+    if tries == 0 {
+        None
+    } else if is_open(front, back, first) {
+        free_number(front, back, first.wrapping_add(1), tries - 1)
+    } else {
+        Some(first)
+    }
+}
+
+// Whether a transaction is open under this number.
+fn is_open<A: Allocator>(front: &[Transaction<A>], back: &[Transaction<A>], tid: u16) -> bool
+    ensures { result ≡ has_number (front.now ++ back.now) tid }
+{
+    uses(front, tid) || uses(back, tid)
+}
+
+fn uses<A: Allocator>(standing: &[Transaction<A>], tid: u16) -> bool
+    ensures { result ≡ has_number standing.now tid }
+{
+    standing.iter().any(|t| t.tid() == tid)
+}

@@ -1,0 +1,13 @@
+//! Tests of transactions, from outside their crate.
+#![tactic(auto)]
+
+#[cfg(test)]
+mod frames;
+#[cfg(test)]
+mod requester;
+#[cfg(test)]
+mod responder;
+#[cfg(test)]
+mod retries;
+#[cfg(test)]
+mod shared;

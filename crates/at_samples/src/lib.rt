@@ -1,0 +1,51 @@
+//! What several crates of tests share: addresses, a datagram, and what stands in a list of datagrams.
+#![tactic(auto)]
+
+ghost use Rattle.std.specs.Prelude.{◌≡◌, option_map, slice_get};
+
+use at_ddp::{Address, Datagrams};
+use std::alloc::Allocator;
+
+/// The socket that asks.
+pub const ASKER: Address = Address {
+    net: 10,
+    node: 5,
+    socket: 128,
+};
+
+/// The router's socket for zones.
+pub const ROUTER: Address = Address {
+    net: 10,
+    node: 1,
+    socket: 6,
+};
+
+/// A socket that answers.
+pub const SERVER: Address = Address {
+    net: 10,
+    node: 7,
+    socket: 129,
+};
+
+/// The address of which every part is 0.
+pub const ZERO: Address = Address {
+    net: 0,
+    node: 0,
+    socket: 0,
+};
+
+/// To socket 6 of node 1, from socket 128 of node 5, of type 3, with no data.
+pub static EMPTY: [u8; 13] = [
+    0x00, 0x0D, 0x0F, 0x26, 0x00, 0x0A, 0x00, 0x0A, 0x01, 0x05, 0x06, 0x80, 0x03,
+];
+
+/// The node and the bytes of the datagram at an index, if there is one.
+pub fn at<A: Allocator>(list: &Datagrams<A>, index: usize) -> Option<(u8, &[u8])>
+    ensures { option_map (λ r. record { node = r.0; bytes = r.1.now }) result ≡ slice_get list.now.items index }
+{
+    if index < list.len() {
+        Some((list.node(index), list.get(index)))
+    } else {
+        None
+    }
+}
