@@ -1,16 +1,13 @@
 -- What a retry does to a requester.
-use Rattle.std.proofs.Common.{◌≡◌, ◌≢◌, ◌↔◌, ℕ, zero, suc, ◌-◌, Bool, true, false, cond, List, [], ◌∷◌, set, Option, Some, None, Result, Ok, Err, refl, sym, ap, subst, ◌∙◌, arith}
-use Rattle.std.specs.Prelude.{find, remove, option_map, nat_lt, IfSome, IsErrOf}
+use Rattle.std.proofs.Common.{◌≡◌, ℕ, zero, suc, ◌-◌, true, false, cond, List, [], ◌∷◌, set, Some, None, refl, sym, ap, subst, ◌∙◌, arith}
+use Rattle.std.specs.Prelude.{find, remove, option_map, nat_lt, IfSome}
 use Rattle.std.proofs.lemmas.Bool.{false≢true}
 use Rattle.std.proofs.lemmas.Bool.Decides.{nat_tests}
 use Rattle.at_ddp.specs.Outbox.{Outbox, Sends}
 use Rattle.at_ddp.specs.declared.address.Address.{Address}
 use Rattle.at_atp.specs.Frames.{spelled}
-use Rattle.at_atp.specs.Requests.{Transaction, Requests, Retried, is_numbered, retried_with, retried, request_by, IsRetried}
+use Rattle.at_atp.specs.Requests.{Transaction, Requests, is_numbered, retried_with, retried, request_by, IsRetried}
 use Rattle.at_atp.specs.Tables.{replaced}
-use Rattle.at_atp.specs.declared.fault.AtpFault.{AtpFault}
-use Rattle.at_atp.specs.declared.fault.AtpFault.TheVariants.{NoSuch, NoMemory}
-use Rattle.at_atp.specs.declared.step.Retry.{Retry}
 use Rattle.at_atp.specs.declared.step.Retry.TheVariants.{AskedAgain, Failed}
 use Rattle.at_atp.proofs.StepLemmas.{remove-set}
 use Rattle.at_atp.proofs.TableLemmas.{Found}

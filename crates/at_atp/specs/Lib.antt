@@ -8,3 +8,4 @@ pub mod Records
 pub mod Requests
 pub mod States
 pub mod Tables
+pub mod Wholes

@@ -1,9 +1,17 @@
 //! Laws of the spellings. The functions do nothing: each contract is a law.
-ghost use Rattle.std.specs.Prelude.{◌≡◌, ◌≤◌, List, ℕ, length};
+ghost use Rattle.std.specs.Prelude.{◌≡◌, ◌↔◌, ◌≤◌, ◌++◌, ◌∷◌, [], List, ℕ, Bool, length, find, replicate, Some, None};
 ghost use Rattle.at_ddp.specs.Datagram.{AreBytes};
+ghost use Rattle.at_ddp.specs.declared.address.Address.{Address};
 ghost use Rattle.at_atp.specs.Fault.{Stands};
-ghost use Rattle.at_atp.specs.Frames.{Content, IsLawful, Spells, spelled};
+ghost use Rattle.at_atp.specs.Answers.{mask_of, whole};
+ghost use Rattle.at_atp.specs.Frames.{Content, Response, IsLawful, Spells, spelled};
+ghost use Rattle.at_atp.specs.Packets.{Packet};
+ghost use Rattle.at_atp.specs.Requests.{Transaction, Requests, is_numbered, next_number, beginning, begun, came, heard};
+ghost use Rattle.at_atp.specs.Wholes.{Came, firsts, after_all, NoneFinishes, Move, Hears, moved_all, StaysOpen, arrived};
+ghost use Rattle.at_atp.specs.declared.step.Step.TheVariants.{Finished};
 ghost use Rattle.at_atp.specs.declared.fault.AtpFault.{AtpFault};
+
+use std::alloc::Allocator;
 
 /// What is encoded is decoded again, no bytes spell two packets, and no fault stands in a spelling.
 pub fn what_is_written_is_read()
@@ -15,4 +23,25 @@ pub fn what_is_written_is_read()
 /// What is encoded is bytes, and fits a datagram.
 pub fn what_is_written_fits()
     ensures { (f : Content) → IsLawful f → AreBytes (spelled f) × (length (spelled f) ≤ 586) }
+{}
+
+/// Whatever comes for a transaction, in whatever order: the places that it still wants are those of the packets that came
+/// first, and it ends just when these are the whole response, and with that response.
+pub fn a_transaction_ends_by_its_whole_response<A: Allocator>()
+    ensures wants { (t : Transaction) (wanted : ℕ) (all : List Came) → t.parts ≡ replicate wanted None → mask_of (after_all A t all).parts ≡ mask_of (firsts wanted all) }
+    ensures ends { (t : Transaction) (wanted : ℕ) (all : List Came) (c : Came) (packets : List Packet) → t.parts ≡ replicate wanted None → 1 ≤ wanted → NoneFinishes A t all
+        → ((came {A = A} (after_all A t all) c.place c.part c.sts).step ≡ Finished packets) ↔ (whole (firsts wanted (all ++ c ∷ [])) ≡ Some packets) }
+{}
+
+/// The same of a requester and all that it does from the beginning of a transaction on, while this is open: others begin,
+/// any packets come from anywhere, and any number is retried. The places that it asks for again are those that are still
+/// wanted, and what it hands up is the whole response.
+pub fn a_requester_hands_up_whole_responses<A: Allocator>()
+    ensures wants { (r : Requests) (tid : ℕ) (to : Address) (user bytes : List ℕ) (wanted : ℕ) (xo : Bool) (retries : ℕ) (ms : List Move) (t : Transaction) → next_number r ≡ Some tid
+        → StaysOpen A (begun r (beginning tid to user bytes wanted xo retries)) tid ms → find (is_numbered tid) (moved_all A (begun r (beginning tid to user bytes wanted xo retries)) ms).standing ≡ Some t
+        → mask_of t.parts ≡ mask_of (firsts wanted (arrived to tid ms)) }
+    ensures ends { (r : Requests) (tid : ℕ) (to : Address) (user bytes : List ℕ) (wanted : ℕ) (xo : Bool) (retries : ℕ) (ms : List Move) (from : Address) (place : ℕ) (eom sts : Bool) (words data_ : List ℕ) (packets : List Packet) → next_number r ≡ Some tid
+        → StaysOpen A (begun r (beginning tid to user bytes wanted xo retries)) tid ms
+        → (heard {A = A} (moved_all A (begun r (beginning tid to user bytes wanted xo retries)) ms) from (Response place eom sts tid words data_)).step ≡ Finished packets
+        → whole (firsts wanted (arrived to tid (ms ++ Hears from (Response place eom sts tid words data_) ∷ []))) ≡ Some packets }
 {}

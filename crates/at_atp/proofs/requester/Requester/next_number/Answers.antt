@@ -1,4 +1,4 @@
-use Rattle.std.proofs.Common.{◌≡◌, ◌∙◌, ap, sym, arith, suc}
+use Rattle.std.proofs.Common.{◌∙◌, arith}
 use Rattle.at_atp.specs.Requests.{Requests, is_numbered}
 use Rattle.at_atp.proofs.RequestLemmas.{drawn_without, drawn_as_it_is}
 use Rattle.at_atp.proofs.TableLemmas.{found_by, none_by}

@@ -1,7 +1,7 @@
-use Rattle.std.proofs.Common.{◌≡◌, refl, sym, subst, ◌∙◌, arith, Some}
-use Rattle.at_atp.specs.Requests.{Requests, Transaction, is_numbered, retried}
+use Rattle.std.proofs.Common.{◌≡◌, refl, sym, ◌∙◌, arith}
+use Rattle.at_atp.specs.Requests.{Requests, is_numbered}
 use Rattle.at_atp.proofs.RetryLemmas.{not_open, is_open, asked_again, closed, not_closing, closes_nothing}
-use Rattle.at_atp.proofs.TableLemmas.{Found, found_by, none_by}
+use Rattle.at_atp.proofs.TableLemmas.{found_by, none_by}
 use Rattle.at_atp.proofs.requester.Requester.retry.Goals as goal
 
 pub returns-in_default-clause-missing : goal.returns-in_default-clause-missing
