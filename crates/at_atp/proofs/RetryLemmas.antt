@@ -5,7 +5,7 @@ use Rattle.std.proofs.lemmas.Bool.{false≢true}
 use Rattle.std.proofs.lemmas.Bool.Decides.{nat_tests}
 use Rattle.at_ddp.specs.Outbox.{Outbox, Sends}
 use Rattle.at_ddp.specs.declared.address.Address.{Address}
-use Rattle.at_atp.specs.Frames.{spelled}
+use Rattle.at_atp.specs.Frames.{Content, spelled_all}
 use Rattle.at_atp.specs.Requests.{Transaction, Requests, is_numbered, retried_with, retried, request_by, IsRetried}
 use Rattle.at_atp.specs.Tables.{replaced}
 use Rattle.at_atp.specs.declared.step.Retry.TheVariants.{AskedAgain, Failed}
@@ -26,11 +26,11 @@ positive : (n : ℕ) → nat_lt 0 (suc n) ≡ true
 positive n = grind (arith, nat_tests)
 
 -- the request of this transaction, if there is a retry
-abbrev pub asking_of : Transaction → List (Address × List ℕ)
-asking_of t = cond (nat_lt 0 t.retries) ((t.to, spelled (request_by t)) ∷ []) []
+abbrev pub asking_of : Transaction → List (Address × Content)
+asking_of t = cond (nat_lt 0 t.retries) ((t.to, request_by t) ∷ []) []
 
 pub asked_again : (r : Requests) (tid i : ℕ) (f : Found (is_numbered tid) r.standing i) (old new : Transaction) (before after : Outbox) → old ≡ f.entry → true ≡ nat_lt 0 old.retries →
-    new ≡ record old { retries = old.retries - 1 } → Sends before after (asking_of old) → IsRetried r tid AskedAgain (record { next = r.next; standing = set r.standing i new }) before after
+    new ≡ record old { retries = old.retries - 1 } → Sends before after (spelled_all (asking_of old)) → IsRetried r tid AskedAgain (record { next = r.next; standing = set r.standing i new }) before after
 asked_again r tid i f old new before after is left state sent = go f.entry.retries refl
   where
     e : Transaction
@@ -46,11 +46,11 @@ asked_again r tid i f old new before after is left state sent = go f.entry.retri
           is_retry = open_at r tid i f ∙ ap (λ k. Some (retried_with r tid e k)) some;
           is_step = refl;
           is_new = λ j. record { next = r.next; standing = (sym (f.set_is new) ∙ ap (λ t. replaced (is_numbered tid) t r.standing) same) j };
-          sends = subst (Sends before after) (ap asking_of is ∙ ap (λ k. cond (nat_lt 0 k) ((e.to, spelled (request_by e)) ∷ []) []) some ∙ ap (λ b. cond b ((e.to, spelled (request_by e)) ∷ []) []) (positive n)) sent;
+          sends = subst (λ xs. Sends before after (spelled_all xs)) (ap asking_of is ∙ ap (λ k. cond (nat_lt 0 k) ((e.to, request_by e) ∷ []) []) some ∙ ap (λ b. cond b ((e.to, request_by e) ∷ []) []) (positive n)) sent;
         }
 
 pub closed : (r : Requests) (tid i : ℕ) (f : Found (is_numbered tid) r.standing i) (old new : Transaction) (standing : List Transaction) (before after : Outbox) → old ≡ f.entry → false ≡ nat_lt 0 old.retries →
-    Sends before after (asking_of old) → standing ≡ remove (set r.standing i new) i → IsRetried r tid Failed (record { next = r.next; standing = standing }) before after
+    Sends before after (spelled_all (asking_of old)) → standing ≡ remove (set r.standing i new) i → IsRetried r tid Failed (record { next = r.next; standing = standing }) before after
 closed r tid i f old new standing before after is left sent gone = go f.entry.retries refl
   where
     e : Transaction
@@ -63,7 +63,7 @@ closed r tid i f old new standing before after is left sent gone = go f.entry.re
       is_retry = open_at r tid i f ∙ ap (λ k. Some (retried_with r tid e k)) none;
       is_step = refl;
       is_new = λ j. record { next = r.next; standing = (gone ∙ remove-set r.standing i new ∙ sym f.gone_is) j };
-      sends = subst (Sends before after) (ap asking_of is ∙ ap (λ k. cond (nat_lt 0 k) ((e.to, spelled (request_by e)) ∷ []) []) none) sent;
+      sends = subst (λ xs. Sends before after (spelled_all xs)) (ap asking_of is ∙ ap (λ k. cond (nat_lt 0 k) ((e.to, request_by e) ∷ []) []) none) sent;
     }
 
 -- what finds no memory has a retry left

@@ -7,7 +7,7 @@ use Rattle.at_ddp.specs.Outbox.{Outbox, Sends}
 use Rattle.at_ddp.specs.declared.address.Address.{Address}
 use Rattle.at_atp.specs.Packets.{Packet}
 use Rattle.at_atp.specs.Answers.{Arrival, is_wanted, whole, with_part}
-use Rattle.at_atp.specs.Frames.{Response}
+use Rattle.at_atp.specs.Frames.{Response, spelled_all}
 use Rattle.at_atp.specs.Requests.{Transaction, Requests, is_of, Effect, release_by, came, is_finished, is_ignored, heard, IsHeard, IsEffect}
 use Rattle.at_atp.specs.declared.step.Step.{Step}
 use Rattle.at_atp.specs.declared.step.Step.TheVariants.{Ignored, Finished}
@@ -19,7 +19,7 @@ sends_nothing o = record { items = sym (append-nil o.items); from = refl; kind =
 
 -- the effect of a packet with which the answer is there
 pub effect_finished : {A E : Type 0} (t : Transaction) (place : ℕ) (part : Arrival) (sts : Bool) (packets : List Packet) (r : Result (Step A) E) (new : Transaction) (before after : Outbox) →
-    is_wanted t.parts place ≡ true → whole (with_part t.parts place part) ≡ Some packets → IfOk r (λ s. (s ≡ Finished packets) × Sends before after (release_by t)) →
+    is_wanted t.parts place ≡ true → whole (with_part t.parts place part) ≡ Some packets → IfOk r (λ s. (s ≡ Finished packets) × Sends before after (spelled_all (release_by t))) →
     IfOk r (λ s. IsEffect (came {A = A} t place part sts) s new before after)
 effect_finished t place part sts packets (Err e) new before after wanted is h = h
 effect_finished t place part sts packets (Ok s) new before after wanted is h =

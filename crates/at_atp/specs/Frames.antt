@@ -1,7 +1,8 @@
 -- ATP packets and their spellings (Inside AppleTalk, ATP, "Packet format").
-use Rattle.std.specs.Prelude.{◌≡◌, ℕ, ◌+◌, ◌*◌, ◌^◌, ◌<◌, ◌≤◌, Bool, true, false, nat_le, if◌then◌else◌, List, [], ◌∷◌, ◌++◌, length}
+use Rattle.std.specs.Prelude.{◌≡◌, ℕ, ◌+◌, ◌*◌, ◌^◌, ◌<◌, ◌≤◌, Bool, true, false, nat_le, if◌then◌else◌, List, [], ◌∷◌, ◌++◌, length, map}
 use Rattle.std.specs.Int.{to_be_bytes, w16}
 use Rattle.at_ddp.specs.Datagram.{AreBytes}
+use Rattle.at_ddp.specs.declared.address.Address.{Address}
 use Rattle.at_atp.specs.declared.frame.Frame.{Frame}
 use Rattle.at_atp.specs.declared.frame.Frame.TheVariants as frame
 
@@ -100,6 +101,10 @@ unfoldable pub spelled : Content → List ℕ
 spelled (Request mask xo timer tid user bytes) = packet (64 + 32 * bit xo + timer) mask tid (user ++ bytes)
 spelled (Response place eom sts tid user bytes) = packet (128 + 16 * bit eom + 8 * bit sts) place tid (user ++ bytes)
 spelled (Release tid) = packet 192 0 tid (0 ∷ 0 ∷ 0 ∷ 0 ∷ [])
+
+-- packets with their destinations, as they are sent
+abbrev pub spelled_all : List (Address × Content) → List (Address × List ℕ)
+spelled_all sent = map (λ (s : Address × Content). (s.0, spelled s.1)) sent
 
 -- what a packet that is to be written needs, its data's length aside
 abbrev pub CanBeWritten : Content → Type 0

@@ -5,7 +5,7 @@ use Rattle.at_ddp.specs.Address.{same_address}
 use Rattle.at_ddp.specs.Outbox.{Outbox, Sends}
 use Rattle.at_ddp.specs.declared.address.Address.{Address}
 use Rattle.at_atp.specs.Packets.{Packet}
-use Rattle.at_atp.specs.Frames.{Content, Request, Response, Release, spelled}
+use Rattle.at_atp.specs.Frames.{Content, Request, Response, Release, spelled_all}
 use Rattle.at_atp.specs.Tables.{replaced, without_first}
 use Rattle.at_atp.specs.declared.fault.AtpFault.{AtpFault}
 use Rattle.at_atp.specs.declared.fault.AtpFault.TheVariants.{AtpTooLong, NoSuch, EmptyAnswer, Gone}
@@ -35,17 +35,17 @@ abbrev pub fit : List Packet → Bool
 fit packets = list_all (λ p. nat_le (length p.data_) 578) packets
 
 -- The packets whose bits are set in the mask, from a place on: bit 0 is that place's. The last packet of the answer ends it.
-abbrev pub responses : Key → ℕ → ℕ → List Packet → List (Address × List ℕ)
+abbrev pub responses : Key → ℕ → ℕ → List Packet → List (Address × Content)
 responses key place mask [] = []
 responses key place mask (p ∷ ps) =
-    (if mask % 2 == 1 then (key.from, spelled (Response place (length ps == 0) false key.tid p.user p.data_)) ∷ [] else [])
+    (if mask % 2 == 1 then (key.from, Response place (length ps == 0) false key.tid p.user p.data_) ∷ [] else [])
     ++ responses key (place + 1) (mask / 2) ps
 
 -- what came of a packet: whether a request is handed up, the records after it, and what is sent
 pub record Taken : Type 0 where
   pub reception : Reception
   pub after : List Record
-  pub sent : List (Address × List ℕ)
+  pub sent : List (Address × Content)
 
 abbrev pub passed : List Record → Taken
 passed rs = record { reception = reception.Ignored; after = rs; sent = [] }
@@ -54,7 +54,7 @@ passed rs = record { reception = reception.Ignored; after = rs; sent = [] }
 pub record Repeat : Type 0 where
   pub reception : Reception
   pub state : State
-  pub sent : List (Address × List ℕ)
+  pub sent : List (Address × Content)
 
 abbrev pub repeated : Key → ℕ → State → Repeat
 repeated key mask (Waiting old) = record { reception = reception.Again 0; state = Waiting mask; sent = [] }
@@ -110,24 +110,24 @@ asked_mask (Answered packets) = 0
 asked_mask Released = 0
 
 -- the packets of an answer that its request asked for
-abbrev pub asked_for : Option Record → Key → List Packet → List (Address × List ℕ)
+abbrev pub asked_for : Option Record → Key → List Packet → List (Address × Content)
 asked_for None key packets = []
 asked_for (Some r) key packets = responses key 0 (asked_mask r.state) packets
 
 -- the answer was given: so many packets were sent, and the record is gone
 pub record IsAnswered (old new : List Record) (key : Key) (packets : List Packet) (count : ℕ) (before after : Outbox) : Type 0 where
   pub is_new : new ≡ without_first (is_key key) old
-  pub sends : Sends before after (asked_for (find (is_key key) old) key packets)
+  pub sends : Sends before after (spelled_all (asked_for (find (is_key key) old) key packets))
   pub counts : count ≡ length (asked_for (find (is_key key) old) key packets)
 
 -- the reception, the new records and what was sent are these
 pub record IsTaken (t : Taken) (r : Reception) (new : List Record) (before after : Outbox) : Type 0 where
   pub is_reception : r ≡ t.reception
   pub is_new : new ≡ t.after
-  pub sends : Sends before after t.sent
+  pub sends : Sends before after (spelled_all t.sent)
 
 -- the reception, the record and what was sent are these
 pub record IsRepeat (e : Repeat) (r : Reception) (old new : Record) (before after : Outbox) : Type 0 where
   pub is_reception : r ≡ e.reception
   pub is_new : new ≡ record old { state = e.state }
-  pub sends : Sends before after e.sent
+  pub sends : Sends before after (spelled_all e.sent)

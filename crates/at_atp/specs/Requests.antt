@@ -6,7 +6,7 @@ use Rattle.at_ddp.specs.Outbox.{Outbox, Sends}
 use Rattle.at_ddp.specs.declared.address.Address.{Address}
 use Rattle.at_atp.specs.Packets.{Packet}
 use Rattle.at_atp.specs.Answers.{Arrival, is_wanted, mask_of, whole, with_part}
-use Rattle.at_atp.specs.Frames.{Content, Request, Response, Release, spelled}
+use Rattle.at_atp.specs.Frames.{Content, Request, Response, Release, spelled_all}
 use Rattle.at_atp.specs.Tables.{replaced, without_first}
 use Rattle.at_atp.specs.declared.step.Retry.{Retry}
 use Rattle.at_atp.specs.declared.step.Retry.TheVariants as retry
@@ -76,14 +76,14 @@ is_of tid from t = (t.tid == tid) && same_address t.to from
 pub record Effect (A : Type 0) : Type 0 where
   pub step : Step A
   pub after : Transaction
-  pub sent : List (Address × List ℕ)
+  pub sent : List (Address × Content)
 
 -- an exactly-once transaction tells the responder that the answer came whole
-abbrev pub release_by : Transaction → List (Address × List ℕ)
-release_by t = if t.xo then (t.to, spelled (Release t.tid)) ∷ [] else []
+abbrev pub release_by : Transaction → List (Address × Content)
+release_by t = if t.xo then (t.to, Release t.tid) ∷ [] else []
 
 abbrev pub asked_again : {A : Type 0} → Transaction → Effect A
-asked_again t = record { step = step.AskAgain; after = t; sent = (t.to, spelled (request_by t)) ∷ [] }
+asked_again t = record { step = step.AskAgain; after = t; sent = (t.to, request_by t) ∷ [] }
 
 -- a packet came that was wanted: the answer is there, or others are still wanted
 abbrev pub was_kept : {A : Type 0} → Transaction → Bool → Option (List Packet) → Effect A
@@ -112,7 +112,7 @@ is_ignored other = false
 pub record Heard (A : Type 0) : Type 0 where
   pub step : Step A
   pub after : Requests
-  pub sent : List (Address × List ℕ)
+  pub sent : List (Address × Content)
 
 abbrev pub ignored : {A : Type 0} → Requests → Heard A
 ignored r = record { step = step.Ignored; after = r; sent = [] }
@@ -140,7 +140,7 @@ heard r from (Release tid) = ignored r
 pub record Retried : Type 0 where
   pub step : Retry
   pub after : Requests
-  pub sent : List (Address × List ℕ)
+  pub sent : List (Address × Content)
 
 -- with a retry left, one is taken and the transaction asked again; with none left it is closed
 abbrev pub retried_with : Requests → ℕ → Transaction → ℕ → Retried
@@ -148,7 +148,7 @@ retried_with r tid t zero = record { step = retry.Failed; after = record r { sta
 retried_with r tid t (suc left) = record {
   step = retry.AskedAgain;
   after = record r { standing = replaced (is_numbered tid) (record t { retries = left }) r.standing };
-  sent = (t.to, spelled (request_by t)) ∷ [];
+  sent = (t.to, request_by t) ∷ [];
 }
 
 -- a retry of the open transaction of this number, if there is one
@@ -161,16 +161,16 @@ pub record IsRetried (r : Requests) (tid : ℕ) (s : Retry) (new : Requests) (be
   pub is_retry : retried r tid ≡ Some effect
   pub is_step : s ≡ effect.step
   pub is_new : new ≡ effect.after
-  pub sends : Sends before after effect.sent
+  pub sends : Sends before after (spelled_all effect.sent)
 
 -- the step, the new requester and what was sent are these
 pub record IsHeard {A : Type 0} (h : Heard A) (s : Step A) (new : Requests) (before after : Outbox) : Type 0 where
   pub is_step : s ≡ h.step
   pub is_new : new ≡ h.after
-  pub sends : Sends before after h.sent
+  pub sends : Sends before after (spelled_all h.sent)
 
 -- the step and what was sent are those of a packet's effect, and so is the transaction, if it is still open
 pub record IsEffect {A : Type 0} (e : Effect A) (s : Step A) (new : Transaction) (before after : Outbox) : Type 0 where
   pub is_step : s ≡ e.step
   pub is_new : is_finished e.step ≡ false → new ≡ e.after
-  pub sends : Sends before after e.sent
+  pub sends : Sends before after (spelled_all e.sent)

@@ -1,6 +1,6 @@
 ghost use Rattle.std.specs.Prelude.{◌≡◌, ℕ, ◌+◌, ◌≤◌, ◌∷◌, [], length, true, false, if◌then◌else◌, IfOk, OnErr, IsOk};
 ghost use Rattle.at_ddp.specs.Outbox.{Sends, HasRoomFor};
-ghost use Rattle.at_atp.specs.Frames.{Response, spelled};
+ghost use Rattle.at_atp.specs.Frames.{Response, spelled_all};
 ghost use Rattle.at_atp.specs.Records.{Waiting, fit, responses, is_key, state_fault, asked_mask, repeated, IsRepeat};
 
 use crate::fault::AtpFault;
@@ -114,7 +114,7 @@ pub(crate) fn send_answer<A: Allocator>(
     requires fits { fit packets.now ≡ true }
     requires few { place + length packets.now ≤ 8 }
     requires room { HasRoomFor out.old (length packets.now) 586 }
-    ensures sent { Sends out.old out.new (responses key place mask packets.now) }
+    ensures sent { Sends out.old out.new (spelled_all (responses key place mask packets.now)) }
     ensures count { result ≡ length (responses key place mask packets.now) }
     ensures few { result ≤ length packets.now }
 {
@@ -140,7 +140,7 @@ fn send_if<A: Allocator>(
     requires place { place ≤ 7 }
     requires fits { length packet.now.data_ ≤ 578 }
     requires room { HasRoomFor out.old 1 586 }
-    ensures sent { Sends out.old out.new (if asked then (key.from, spelled (Response place eom false key.tid packet.now.user packet.now.data_)) ∷ [] else []) }
+    ensures sent { Sends out.old out.new (spelled_all (if asked then (key.from, Response place eom false key.tid packet.now.user packet.now.data_) ∷ [] else [])) }
     ensures room { (n : ℕ) → HasRoomFor out.old (n + 1) 586 → HasRoomFor out.new n 586 }
 {
     if !asked {

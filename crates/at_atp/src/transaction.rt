@@ -2,7 +2,7 @@ ghost use Rattle.std.specs.Prelude.{◌≡◌, ◌+◌, ◌-◌, ◌≤◌, ◌<
 ghost use Rattle.at_ddp.specs.Outbox.{Sends};
 ghost use Rattle.at_atp.specs.Packets.{Packet as Arrived};
 ghost use Rattle.at_atp.specs.Answers.{Arrival, is_wanted, whole, with_part};
-ghost use Rattle.at_atp.specs.Frames.{content, CanBeWritten, data_of, spelled};
+ghost use Rattle.at_atp.specs.Frames.{content, CanBeWritten, data_of, spelled_all};
 ghost use Rattle.at_atp.specs.Requests.{beginning, is_of, request_by, release_by};
 
 use crate::frame::{Frame, PACKET_LEN};
@@ -116,7 +116,7 @@ impl<A: Allocator> Transaction<A> {
 
     // Tells the responder that the answer came whole, if this is for exactly-once.
     fn release(&self, out: &mut Outbox<A>) -> Result<(), AllocError>
-        ensures ok { OnOk result (Sends out.old out.new (release_by self.now)) }
+        ensures ok { OnOk result (Sends out.old out.new (spelled_all (release_by self.now))) }
         ensures err { OnErr result (Sends out.old out.new []) }
     {
         if !self.xo {
@@ -129,7 +129,7 @@ impl<A: Allocator> Transaction<A> {
     pub(crate) fn take_retry(&mut self, out: &mut Outbox<A>) -> Result<bool, AllocError>
         ensures taken { IfOk result (λ taken. taken ≡ nat_lt 0 self.old.retries) }
         ensures state { OnOk result (self.new ≡ record self.old { retries = self.old.retries - 1 }) }
-        ensures sent { OnOk result (Sends out.old out.new (if nat_lt 0 self.old.retries then (self.old.to, spelled (request_by self.old)) ∷ [] else [])) }
+        ensures sent { OnOk result (Sends out.old out.new (spelled_all (if nat_lt 0 self.old.retries then (self.old.to, request_by self.old) ∷ [] else []))) }
         ensures unchanged { OnErr result (self.new ≡ self.old) }
         ensures nothing_sent { OnErr result (Sends out.old out.new []) }
         ensures none { self.old.retries ≡ 0 → IsOk result }
@@ -232,7 +232,7 @@ impl<A: Allocator + Copy> Transaction<A> {
     ) -> Result<Step<A>, AllocError>
         requires within { arriving.now.place < length self.old.parts }
         ensures ok { (packets : List Arrived) → whole (with_part self.old.parts arriving.now.place (arrival_of arriving.now)) ≡ Some packets →
-            IfOk result (λ step. (step ≡ Step.Finished packets) × Sends out.old out.new (release_by self.old)) }
+            IfOk result (λ step. (step ≡ Step.Finished packets) × Sends out.old out.new (spelled_all (release_by self.old))) }
         ensures unchanged { OnErr result (self.new ≡ self.old) }
         ensures nothing_sent { OnErr result (Sends out.old out.new []) }
     {

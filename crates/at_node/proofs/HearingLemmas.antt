@@ -17,7 +17,7 @@ use Rattle.std.proofs.lemmas.Bool.{eq-eqb, ne_eqb, false≢true, true≢false}
 use Rattle.at_ddp.specs.Datagram.{Content as Datagram}
 use Rattle.at_ddp.specs.declared.address.Address.{Address}
 use Rattle.at_atp.specs.Frames as Frames
-use Rattle.at_atp.specs.Frames.{Content}
+use Rattle.at_atp.specs.Frames.{Content, spelled_all}
 use Rattle.at_atp.specs.declared.frame.Frame.{Frame}
 use Rattle.at_atp.specs.declared.frame.Frame.TheVariants as frames
 use Rattle.at_atp.specs.Packets.{Packet}
@@ -120,7 +120,7 @@ page_heard n tid p h (step.Finished packets) told mine t = rw mine (record { tol
 -- a packet of the transaction that reads the zone list
 pub comes_page : {A : Type 0} (n : NodeState) (from : Address) (f : Content) (s : Step A) (told : Report A) (before after : List Posted) (new : NodeState) →
     s ≡ (heard {A = A} n.requester from f).step → is_reading n.reading (tid_of f) ≡ true → Tells (packet_in f) told →
-    new ≡ record n { reading = reading_after n.reading s; requester = (heard {A = A} n.requester from f).after } → after ≡ before ++ map posted (sent_by (asking n.net n.number) atp_kind (heard {A = A} n.requester from f).sent) →
+    new ≡ record n { reading = reading_after n.reading s; requester = (heard {A = A} n.requester from f).after } → after ≡ before ++ map posted (sent_by (asking n.net n.number) atp_kind (spelled_all (heard {A = A} n.requester from f).sent)) →
     Comes (AtSocket n from Asker f) n before (reported told s) new after
 comes_page {A} n from f s told before after new is mine t same sent =
     let h : Heard A = heard n.requester from f in
@@ -150,7 +150,7 @@ only_response A n from (Frames.Release tid) apart e = absurd (cc)
 -- any other packet
 pub comes_other : {A : Type 0} (n : NodeState) (from : Address) (f : Content) (s : Step A) (before after : List Posted) (new : NodeState) →
     s ≡ (heard {A = A} n.requester from f).step → ((place : ℕ) (eom sts : Bool) (tid : ℕ) (user bytes : List ℕ) → f ≡ Frames.Response place eom sts tid user bytes → is_reading n.reading tid ≡ false) →
-    new ≡ record n { requester = (heard {A = A} n.requester from f).after } → after ≡ before ++ map posted (sent_by (asking n.net n.number) atp_kind (heard {A = A} n.requester from f).sent) →
+    new ≡ record n { requester = (heard {A = A} n.requester from f).after } → after ≡ before ++ map posted (sent_by (asking n.net n.number) atp_kind (spelled_all (heard {A = A} n.requester from f).sent)) →
     Comes (AtSocket n from Asker f) n before (reported_other (tid_of f) s) new after
 comes_other {A} n from f s before after new is apart same sent =
     let h : Heard A = heard n.requester from f in

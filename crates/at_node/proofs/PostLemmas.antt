@@ -5,6 +5,7 @@ use Rattle.std.specs.Prelude.{find, IfOk, OnOk, OnErr}
 use Rattle.std.proofs.lemmas.List.{append-nil}
 use Rattle.at_ddp.specs.Outbox.{Outbox, Sends, finished}
 use Rattle.at_ddp.specs.declared.address.Address.{Address}
+use Rattle.at_atp.specs.Frames.{spelled_all}
 use Rattle.at_atp.specs.Packets.{Packet}
 use Rattle.at_atp.specs.Records.{Record, Taken, is_key, asked_for, IsTaken, IsAnswered}
 use Rattle.at_atp.specs.declared.fault.AtpFault.{AtpFault}
@@ -24,12 +25,12 @@ posts before after pushes start items own kind s same from is_kind is =
     is ∙ s.items ∙ (λ i. same i ++ map (finished (from i) (is_kind i)) pushes) ∙ ap (λ l. start ++ l) (posted-sent_by own kind pushes)
 
 pub taken_posts : (r : Result Reception AtpFault) (t : Taken) (new : List Record) (before after : Outbox) (start items : List Posted) (own : Address) → IfOk r (λ x. IsTaken t x new before after) →
-    before.items ≡ start → before.from ≡ own → before.kind ≡ atp_kind → items ≡ after.items → OnOk r (items ≡ start ++ map posted (sent_by own atp_kind t.sent))
-taken_posts (Ok x) t new before after start items own h same from kind is = posts before after t.sent start items own atp_kind h.sends same from kind is
+    before.items ≡ start → before.from ≡ own → before.kind ≡ atp_kind → items ≡ after.items → OnOk r (items ≡ start ++ map posted (sent_by own atp_kind (spelled_all t.sent)))
+taken_posts (Ok x) t new before after start items own h same from kind is = posts before after (spelled_all t.sent) start items own atp_kind h.sends same from kind is
 taken_posts (Err e) t new before after start items own h same from kind is = h
 
 pub answered_posts : {E : Type 0} (r : Result ℕ E) (old new : List Record) (key : Key) (packets : List Packet) (before after : Outbox) (start items : List Posted) (own : Address) → IfOk r (λ count. IsAnswered old new key packets count before after) →
-    before.items ≡ start → before.from ≡ own → before.kind ≡ atp_kind → items ≡ after.items → OnOk r (items ≡ start ++ map posted (sent_by own atp_kind (asked_for (find (is_key key) old) key packets)))
+    before.items ≡ start → before.from ≡ own → before.kind ≡ atp_kind → items ≡ after.items → OnOk r (items ≡ start ++ map posted (sent_by own atp_kind (spelled_all (asked_for (find (is_key key) old) key packets))))
 answered_posts (Ok n) old new key packets before after start items own h same from kind is = posts before after _ start items own atp_kind h.sends same from kind is
 answered_posts (Err e) old new key packets before after start items own h same from kind is = h
 

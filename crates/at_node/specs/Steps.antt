@@ -2,7 +2,7 @@
 use Rattle.std.specs.Prelude.{ℕ, ◌==◌, if◌then◌else◌, Bool, false, List, [], ◌∷◌, length, find, Option, Some, None}
 use Rattle.at_ddp.specs.declared.address.Address.{Address}
 use Rattle.at_atp.specs.Packets.{Packet}
-use Rattle.at_atp.specs.Frames.{Content, Request, Response, Release, spelled}
+use Rattle.at_atp.specs.Frames.{Content, Request, Response, Release, spelled, spelled_all}
 use Rattle.at_atp.specs.Requests.{Transaction, Heard, next_number, beginning, begun, request_by, is_finished}
 use Rattle.at_atp.specs.Records.{Taken, is_key, taken, finds_no_place, asked_for}
 use Rattle.at_atp.specs.Tables.{without_first}
@@ -73,7 +73,7 @@ tid_of (Release tid) = tid
 
 -- a packet was heard: the report, and the reading after it
 abbrev pub after_heard : {A : Type 0} → NodeState → Heard A → Report A → Option ℕ → Outcome A
-after_heard n h r reading = record { report = r; node = record n { reading = reading; requester = h.after }; out = sent_by (asking n.net n.number) atp_kind h.sent }
+after_heard n h r reading = record { report = r; node = record n { reading = reading; requester = h.after }; out = sent_by (asking n.net n.number) atp_kind (spelled_all h.sent) }
 
 -- what is reported of a step of a transaction that ends with this report
 abbrev pub reported : {A : Type 0} → Report A → Step A → Report A
@@ -104,11 +104,11 @@ abbrev pub zone_served : {A : Type 0} → NodeState → Taken → Key → Packet
 zone_served n t key packet = record {
   report = report.Served (length (asked_for (find (is_key key) t.after) key (packet ∷ [])));
   node = record n { served = without_first (is_key key) t.after };
-  out = sent_by (zones_at n.net n.number) atp_kind (asked_for (find (is_key key) t.after) key (packet ∷ []));
+  out = sent_by (zones_at n.net n.number) atp_kind (spelled_all (asked_for (find (is_key key) t.after) key (packet ∷ [])));
 }
 
 abbrev pub zone_taken : {A : Type 0} → NodeState → Taken → Report A → Outcome A
-zone_taken n t r = record { report = r; node = record n { served = t.after }; out = sent_by (zones_at n.net n.number) atp_kind t.sent }
+zone_taken n t r = record { report = r; node = record n { served = t.after }; out = sent_by (zones_at n.net n.number) atp_kind (spelled_all t.sent) }
 
 abbrev pub at_zones : {A : Type 0} → NodeState → Taken → Packet → Reception → Outcome A
 at_zones n t packet reception.Ignored = zone_taken n t report.Ignored

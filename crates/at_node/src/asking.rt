@@ -1,5 +1,5 @@
 ghost use Rattle.std.specs.Prelude.{◌≡◌, ◌↔◌, ◌++◌, ◌∷◌, [], map, None, Some, IfOk, IfSome, OnErr, IsErrOf, false};
-ghost use Rattle.at_atp.specs.Frames.{content, spelled};
+ghost use Rattle.at_atp.specs.Frames.{content, spelled, spelled_all};
 ghost use Rattle.at_atp.specs.Requests.{Heard, next_number, beginning, begun, request_by, heard};
 ghost use Rattle.at_node.specs.Nodes.{posted, sent_by};
 ghost use Rattle.at_node.specs.Hearing.{Tells};
@@ -49,7 +49,7 @@ pub(crate) fn hear<A: Allocator + Copy>(
 ) -> Result<Step<A>, AllocError>
     ensures step { IfOk result (λ step. step ≡ (heard requester.old from (content frame.now)).step) }
     ensures state { IfOk result (λ step. requester.new ≡ (heard {A = A} requester.old from (content frame.now)).after) }
-    ensures sent { IfOk result (λ step. out.new.items ≡ out.old.items ++ map posted (sent_by own atp_kind (heard {A = A} requester.old from (content frame.now)).sent)) }
+    ensures sent { IfOk result (λ step. out.new.items ≡ out.old.items ++ map posted (sent_by own atp_kind (spelled_all (heard {A = A} requester.old from (content frame.now)).sent))) }
     ensures unchanged { OnErr result (requester.new ≡ requester.old) }
     ensures nothing_sent { OnErr result (out.new.items ≡ out.old.items) }
 {

@@ -1,5 +1,5 @@
 ghost use Rattle.std.specs.Prelude.{◌≡◌, ◌≢◌, ◌↔◌, ◌≤◌, ◌++◌, ◌∷◌, [], map, length, find, None, Some, true, IfOk, IfErr, OnOk, OnErr, IsErrOf};
-ghost use Rattle.at_atp.specs.Frames.{content};
+ghost use Rattle.at_atp.specs.Frames.{content, spelled_all};
 ghost use Rattle.at_atp.specs.Records.{Taken, taken, finds_no_place, record_fault, is_key, asked_for};
 ghost use Rattle.at_atp.specs.Tables.{without_first};
 ghost use Rattle.at_node.specs.Nodes.{NodeState, posted, sent_by, IsStep};
@@ -53,7 +53,7 @@ fn take<A: Allocator + Copy>(
 ) -> Result<Reception, AtpFault>
     ensures reception { IfOk result (λ r. r ≡ (taken served.old from (content frame.now)).reception) }
     ensures state { OnOk result (served.new ≡ (taken served.old from (content frame.now)).after) }
-    ensures sent { OnOk result (out.new.items ≡ out.old.items ++ map posted (sent_by own atp_kind (taken served.old from (content frame.now)).sent)) }
+    ensures sent { OnOk result (out.new.items ≡ out.old.items ++ map posted (sent_by own atp_kind (spelled_all (taken served.old from (content frame.now)).sent))) }
     ensures full { IsErrOf result AtpFault.Full ↔ (finds_no_place served.old from (content frame.now) ≡ true) }
     ensures unchanged { OnErr result (served.new ≡ served.old) }
     ensures nothing_sent { OnErr result (out.new.items ≡ out.old.items) }
@@ -75,7 +75,7 @@ fn answer<A: Allocator + Copy>(
 ) -> Result<u8, AtpFault>
     ensures state { OnOk result (served.new ≡ without_first (is_key key) served.old) }
     ensures count { IfOk result (λ count. count ≡ length (asked_for (find (is_key key) served.old) key packets.now)) }
-    ensures sent { OnOk result (out.new.items ≡ out.old.items ++ map posted (sent_by own atp_kind (asked_for (find (is_key key) served.old) key packets.now))) }
+    ensures sent { OnOk result (out.new.items ≡ out.old.items ++ map posted (sent_by own atp_kind (spelled_all (asked_for (find (is_key key) served.old) key packets.now)))) }
     ensures unchanged { OnErr result (served.new ≡ served.old) }
     ensures nothing_sent { OnErr result (out.new.items ≡ out.old.items) }
 {
@@ -118,7 +118,7 @@ fn serve<A: Allocator + Copy>(
     requires waits { record_fault (find (is_key key) served.old) ≡ None }
     ensures state { served.new ≡ without_first (is_key key) served.old }
     ensures count { IfOk result (λ count. count ≡ length (asked_for (find (is_key key) served.old) key (page_packet zones.now start ∷ []))) }
-    ensures sent { OnOk result (out.new.items ≡ out.old.items ++ map posted (sent_by own atp_kind (asked_for (find (is_key key) served.old) key (page_packet zones.now start ∷ [])))) }
+    ensures sent { OnOk result (out.new.items ≡ out.old.items ++ map posted (sent_by own atp_kind (spelled_all (asked_for (find (is_key key) served.old) key (page_packet zones.now start ∷ []))))) }
     ensures nothing_sent { OnErr result (out.new.items ≡ out.old.items) }
 {
     let answered = match page_answer(alloc, zones, start) {

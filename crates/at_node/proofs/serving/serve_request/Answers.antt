@@ -3,7 +3,7 @@ use Rattle.std.proofs.lemmas.List.{append-nil}
 use Rattle.at_node.specs.Nodes.{posted, sent_by}
 use Rattle.at_node.specs.Steps.{atp_kind}
 use Rattle.std.specs.Prelude.{find}
-use Rattle.at_atp.specs.Frames.{content}
+use Rattle.at_atp.specs.Frames.{content, spelled_all}
 use Rattle.at_atp.specs.Records.{taken, is_key, record_fault, Record}
 use Rattle.at_atp.specs.Tables.{without_first}
 use Rattle.at_node.proofs.ServingLemmas.{is_new, waits, undone}
@@ -21,5 +21,5 @@ returns-in-Err-serve g c = λ n same at.
     let back : c.serve.new.served ≡ n.served =
     c.serve.ensures.state ∙ ap (without_first (is_key c.in-Ok-New.key)) c.in-Ok-New.ensures.state ∙ undone c.args.served.now (taken c.args.served.now c.args.from (content c.args.frame.now)) c.in-Ok-New.key new ∙ sym same in
     let quiet : c.take.new.out.items ≡ c.args.out.now.items =
-    c.in-Ok-New.ensures.sent ∙ ap (λ pushes. c.args.out.now.items ++ map posted (sent_by c.args.own atp_kind pushes)) new.nothing ∙ append-nil c.args.out.now.items in
+    c.in-Ok-New.ensures.sent ∙ ap (λ pushes. c.args.out.now.items ++ map posted (sent_by c.args.own atp_kind (spelled_all pushes))) new.nothing ∙ append-nil c.args.out.now.items in
     ((λ i. record n { served = back i }), c.in-Err-serve.ensures.nothing_sent ∙ quiet)

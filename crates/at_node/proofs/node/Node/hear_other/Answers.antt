@@ -1,5 +1,5 @@
 use Rattle.std.proofs.Common.{ap, ◌∙◌, ◌≡◌, ◌++◌, map}
-use Rattle.at_atp.specs.Frames.{content}
+use Rattle.at_atp.specs.Frames.{content, spelled_all}
 use Rattle.at_atp.specs.Requests.{heard}
 use Rattle.at_node.specs.Nodes.{NodeState, posted, sent_by}
 use Rattle.at_node.specs.Steps.{asking, atp_kind}
@@ -13,7 +13,7 @@ returns g c =
     c.in-Ok.ensures.step ∙ ap (λ (n : NodeState). (heard {A = g.row.A.Denot} n.requester c.args.from (content c.args.frame.now)).step) c.self.view_is in
     let requester : c.hear.new.requester ≡ (heard {A = g.row.A.Denot} c.args.self.now.requester c.args.from (content c.args.frame.now)).after =
     c.in-Ok.ensures.state ∙ ap (λ (n : NodeState). (heard {A = g.row.A.Denot} n.requester c.args.from (content c.args.frame.now)).after) c.self.view_is in
-    let sent : c.hear.new.out.items ≡ c.args.out.now.items ++ map posted (sent_by (asking c.args.self.now.net c.args.self.now.number) atp_kind (heard {A = g.row.A.Denot} c.args.self.now.requester c.args.from (content c.args.frame.now)).sent) =
-    c.in-Ok.ensures.sent ∙ (λ i. c.args.out.now.items ++ map posted (sent_by (c.at-own.ensures i) atp_kind (heard {A = g.row.A.Denot} (c.self.view_is i).requester c.args.from (content c.args.frame.now)).sent)) in
+    let sent : c.hear.new.out.items ≡ c.args.out.now.items ++ map posted (sent_by (asking c.args.self.now.net c.args.self.now.number) atp_kind (spelled_all (heard {A = g.row.A.Denot} c.args.self.now.requester c.args.from (content c.args.frame.now)).sent)) =
+    c.in-Ok.ensures.sent ∙ (λ i. c.args.out.now.items ++ map posted (sent_by (c.at-own.ensures i) atp_kind (spelled_all (heard {A = g.row.A.Denot} (c.self.view_is i).requester c.args.from (content c.args.frame.now)).sent))) in
     let same = ap (λ (n : NodeState). record n { requester = c.hear.new.requester }) c.self.view_is ∙ (λ i. record c.args.self.now { requester = requester i }) in
     rw (c.reported_other.ensures, c.tid_of.ensures) (comes_other c.args.self.now c.args.from (content c.args.frame.now) c.in-Ok.step c.args.out.now.items c.hear.new.out.items _ step c.requires same sent)
