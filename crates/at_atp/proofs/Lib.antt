@@ -1,6 +1,15 @@
+mod Alls
 mod AnswerLemmas
 mod FrameLemmas
+mod Lawfulness
 mod MoveLemmas
+mod Carried
+mod Hearings
+mod Beginnings
+mod Histories
+mod NetworkLemmas
+mod Takings
+mod Newest
 mod OpenLemmas
 mod RecordLemmas
 mod RequestLemmas

@@ -23,7 +23,7 @@ pub taken_new : (rs new : List Record) (key : Key) (mask : ℕ) (r : Reception) 
 taken_new rs new key mask r out none is added = rw none (record { is_reception = is; is_new = added; sends = sends_nothing out })
 
 -- what a record's key is
-own : (key : Key) (r : Record) → is_key key r ≡ true → r.key ≡ key
+pub own : (key : Key) (r : Record) → is_key key r ≡ true → r.key ≡ key
 own key r h =
     let both = and_parts (same_address r.key.from key.from) (r.key.tid == key.tid) h in
     let from = same_address-true r.key.from key.from both.0 in

@@ -5,6 +5,9 @@ ghost use Rattle.at_ddp.specs.declared.address.Address.{Address};
 ghost use Rattle.at_atp.specs.Fault.{Stands};
 ghost use Rattle.at_atp.specs.Answers.{mask_of, whole};
 ghost use Rattle.at_atp.specs.Frames.{Content, Response, IsLawful, Spells, spelled};
+ghost use Rattle.std.specs.List.{AllByRecursion};
+ghost use Rattle.at_atp.specs.Lawfully.{IsInRange, IsLawfullySent};
+ghost use Rattle.at_atp.specs.Network.{Happening, AllTimely, GivesAnswers, after};
 ghost use Rattle.at_atp.specs.Packets.{Packet};
 ghost use Rattle.at_atp.specs.Requests.{Transaction, Requests, is_numbered, next_number, beginning, begun, came, heard};
 ghost use Rattle.at_atp.specs.Wholes.{Came, firsts, after_all, NoneFinishes, Move, Hears, moved_all, StaysOpen, arrived};
@@ -44,4 +47,16 @@ pub fn a_requester_hands_up_whole_responses<A: Allocator>()
         → StaysOpen A (begun r (beginning tid to user bytes wanted xo retries)) tid ms
         → (heard {A = A} (moved_all A (begun r (beginning tid to user bytes wanted xo retries)) ms) from (Response place eom sts tid words data_)).step ≡ Finished packets
         → whole (firsts wanted (arrived to tid (ms ++ Hears from (Response place eom sts tid words data_) ∷ []))) ≡ Some packets }
+{}
+
+/// Whatever is lost, repeated or reordered, what finishes a transaction is packets of answers that were given to it, at the
+/// responder that it asked, since it began, as long as no packet outlives the number that it carries. Requests in time,
+/// records and open transactions are of the newest transactions of their numbers.
+pub fn responses_are_answers<A: Allocator>()
+    ensures { (history : List Happening) → AllTimely A history → GivesAnswers A (after A history) }
+{}
+
+/// What is sent can be spelled, where what is asked and answered is in range.
+pub fn what_is_sent_is_lawful<A: Allocator>()
+    ensures { (history : List Happening) → AllByRecursion IsInRange history → AllByRecursion IsLawfullySent (after A history).sent }
 {}

@@ -1,0 +1,97 @@
+-- What every timely history leaves true of a network.
+use Rattle.std.proofs.Common.{◌≡◌, ℕ, ◌+◌, ◌<◌, true, List, [], ◌∷◌, Option, Some, None, refl, subst, arith}
+use Rattle.std.specs.Prelude.{slice_get}
+use Rattle.std.proofs.lemmas.Bool.{eqb-true}
+use Rattle.at_ddp.specs.declared.address.Address.{Address}
+use Rattle.at_atp.specs.Network.{Network, Sent, Happening, Begins, Answers, Hears, Takes, Serves, Retries, Other, begins, answers, handed_up, hears, takes, takes_in, serves, retries, is_fresh, done, tick, after, IsTimely, AllTimely, GivesAnswers}
+use Rattle.at_atp.specs.Packets.{Packet}
+use Rattle.at_atp.specs.Records.{is_key, taken, answer_fault}
+use Rattle.at_atp.specs.Requests as requests
+use Rattle.at_atp.specs.Requests.{heard, is_numbered, next_number, retried}
+use Rattle.at_atp.specs.Transactions.{transaction_of}
+use Rattle.at_atp.specs.declared.fault.AtpFault.{AtpFault}
+use Rattle.at_atp.specs.declared.reception.Key.{Key}
+use Rattle.at_atp.specs.declared.reception.Reception.{Reception}
+use Rattle.at_atp.specs.declared.reception.Reception.TheVariants as reception
+use Rattle.at_atp.proofs.Alls.{all_implied, all_at, all_found}
+use Rattle.at_atp.proofs.Beginnings.{begins_sound, later}
+use Rattle.at_atp.proofs.Carried.{Tells, Holds, Waits}
+use Rattle.at_atp.proofs.Hearings.{heard_sound}
+use Rattle.at_atp.proofs.NetworkLemmas.{Fresh, Sound, hears_sound, takes_sound, serves_sound, retries_sound, gives_sound}
+use Rattle.at_atp.proofs.RecordLemmas.{own}
+
+done_sound : (A : Type 0) (n : Network) (h : Happening) → Sound n.event n → IsTimely n h → Sound (n.event + 1) (done A n h)
+done_sound A n (Begins who to user bytes wanted xo times) sound timely = begins_sound n who to user bytes wanted xo times sound timely
+done_sound A n (Answers at key packets) sound timely = gives_sound n at key packets (later n sound)
+done_sound A n (Hears which) sound timely = hears_sound A n which (later n sound) timely
+done_sound A n (Takes which) sound timely = takes_sound n which (later n sound) timely
+done_sound A n (Serves which packets) sound timely = serves_sound n which packets (later n sound) timely
+done_sound A n (Retries who tid) sound timely = retries_sound n who tid (later n sound)
+done_sound A n Other sound timely = later n sound
+
+-- no happening counts events but the tick
+given : (n : Network) (at : Address) (key : Key) (packets : List Packet) (o : Option AtpFault) → (answers n at key packets o).event ≡ n.event
+given n at key packets None = refl
+given n at key packets (Some f) = refl
+
+handed : (n : Network) (at : Address) (packets : List Packet) (r : Reception) → (handed_up n at packets r).event ≡ n.event
+handed n at packets (reception.New key) = given n at key packets (answer_fault (n.responders at) key packets)
+handed n at packets (reception.Again count) = refl
+handed n at packets reception.Ignored = refl
+
+same_event : (A : Type 0) (n : Network) (h : Happening) → (done A n h).event ≡ n.event
+same_event A n (Begins who to user bytes wanted xo times) = go (next_number (n.requesters who))
+  where
+    go : (o : Option ℕ) → (begins n who to user bytes wanted xo times o).event ≡ n.event
+    go None = refl
+    go (Some tid) = refl
+same_event A n (Answers at key packets) = given n at key packets (answer_fault (n.responders at) key packets)
+same_event A n (Hears which) = go (slice_get n.sent which)
+  where
+    go : (o : Option Sent) → (hears A n o).event ≡ n.event
+    go None = refl
+    go (Some s) = refl
+same_event A n (Takes which) = go (slice_get n.sent which)
+  where
+    go : (o : Option Sent) → (takes_in n o).event ≡ n.event
+    go None = refl
+    go (Some s) = refl
+same_event A n (Serves which packets) = go (slice_get n.sent which)
+  where
+    go : (o : Option Sent) → (serves n packets o).event ≡ n.event
+    go None = refl
+    go (Some s) = handed (takes n s) s.to packets (taken (n.responders s.to) s.from s.packet).reception
+same_event A n (Retries who tid) = go (retried (n.requesters who) tid)
+  where
+    go : (o : Option requests.Retried) → (retries n who o).event ≡ n.event
+    go None = refl
+    go (Some r) = refl
+same_event A n Other = refl
+
+ticked : (e : ℕ) (n : Network) → n.event ≡ e → Sound (e + 1) n → Sound (tick n).event (tick n)
+ticked e n same s = record { past = all_implied (λ x. x.event < e + 1) (λ x. x.event < n.event + 1) n.sent (λ x lt. omega (arith, same)) s.past; sent = s.sent; standing = s.standing; records = s.records }
+
+history_sound : (A : Type 0) (history : List Happening) → AllTimely A history → Sound (after A history).event (after A history)
+history_sound A [] timely = record { past = tt; sent = tt; standing = λ who. tt; records = λ at. tt }
+history_sound A (h ∷ hs) timely = ticked (after A hs).event (done A (after A hs) h) (same_event A (after A hs) h) (done_sound A (after A hs) h (history_sound A hs timely.1) timely.0)
+
+sound_gives : (A : Type 0) (events : ℕ) (n : Network) → Sound events n → GivesAnswers A n
+sound_gives A events n sound = record {
+  finished = λ which s packets is fresh ends. (heard_sound A n.asked s.to s.from (n.requesters s.to) s.packet (sound.standing s.to) (told which s is fresh)).finished packets ends;
+  requested = λ which s mask xo timer tid user bytes is fresh same. subst (Tells n.asked s.from s.to) same (told which s is fresh);
+  recorded = λ at key r is.
+      let found = all_found (Waits n.asked at) (is_key key) (n.responders at) r (sound.records at) is in
+      let a = (found.0).asked in
+      record { transaction = a.transaction; newest = subst (λ (k : Key). transaction_of n.asked k.from k.tid ≡ Some a.transaction) (own key r found.1) a.newest; asked_it = a.asked_it };
+  standing = λ who tid t is.
+      let found = all_found (Holds n.asked who) (is_numbered tid) (n.requesters who).standing t (sound.standing who) is in
+      let h = found.0 in
+      let a = h.asked in
+      (record { transaction = a.transaction; newest = subst (λ k. transaction_of n.asked who k ≡ Some a.transaction) (eqb-true t.tid tid found.1) a.newest; asked_it = a.asked_it }, h.user, h.bytes, h.wanted, h.xo);
+}
+  where
+    told : (which : ℕ) (s : Sent) → slice_get n.sent which ≡ Some s → is_fresh n.drawn s ≡ true → Tells n.asked s.from s.to s.packet
+    told which s is fresh = all_at (Fresh n.drawn n.asked) n.sent which s sound.sent is fresh
+
+pub gives_answers : (A : Type 0) (history : List Happening) → AllTimely A history → GivesAnswers A (after A history)
+gives_answers A history timely = sound_gives A (after A history).event (after A history) (history_sound A history timely)

@@ -1,0 +1,319 @@
+-- What a network sends can be spelled, where what is asked and answered is in range.
+use Rattle.std.proofs.Common.{◌≡◌, ℕ, zero, suc, ◌+◌, ◌*◌, ◌%◌, ◌/◌, ◌^◌, ◌<◌, ◌≤◌, Bool, true, false, cond, List, [], ◌∷◌, ◌++◌, length, Option, Some, None, refl, subst, arith, lit<, lit≤}
+use Rattle.std.specs.Prelude.{find, slice_get, option_map, nat_le, nat_lt, ◌==◌, ◌&&◌}
+use Rattle.std.specs.List.{AllByRecursion}
+use Rattle.std.proofs.lemmas.Bool.{leb-true}
+use Rattle.std.proofs.lemmas.List.{length-set, length-replicate}
+use Rattle.std.proofs.Math.Pow.{pow_mono}
+use Rattle.std.proofs.Math.Nat.{pow-suc}
+use Rattle.at_ddp.specs.Datagram.{IsAddress}
+use Rattle.at_ddp.specs.declared.address.Address.{Address}
+use Rattle.at_atp.specs.Answers.{Arrival, is_wanted, mask_of, whole, with_part}
+use Rattle.at_atp.specs.Frames.{Content, Request, Response, Release, IsTimer, IsLawful}
+use Rattle.at_atp.specs.Frames as frames
+use Rattle.at_atp.specs.Lawfully.{IsPacket, IsAsking, IsInRange, IsLawfullySent}
+use Rattle.at_atp.specs.Network.{Network, Sent, Happening, Begins, Answers, Hears, Takes, Serves, Retries, Other, stamped, with_requester, with_responder, begins, begun, answers, gives, hears, takes, takes_in, handed_up, serves, retries, done, after}
+use Rattle.at_atp.specs.Packets.{Packet}
+use Rattle.at_atp.specs.Records.{State, Waiting, Answered, Released, Record, Taken, is_key, responses, repeated, came_again, request_came, passed, is_passed_over, taken, answer_fault, asked_for, asked_mask, fit, record_fault}
+use Rattle.at_atp.specs.Requests.{Transaction, Requests, Retried, has_number, draw_from, next_number, beginning, request_by, came, came_for, was_kept, is_finished, is_of, response_came, Effect, Heard, heard, is_numbered, retried_with, retried}
+use Rattle.at_atp.specs.Tables.{replaced, without_first}
+use Rattle.at_atp.specs.declared.fault.AtpFault.{AtpFault}
+use Rattle.at_atp.specs.declared.fault.AtpFault.TheVariants.{AtpTooLong}
+use Rattle.at_atp.specs.declared.reception.Key.{Key}
+use Rattle.at_atp.specs.declared.reception.Reception.{Reception}
+use Rattle.at_atp.specs.declared.reception.Reception.TheVariants as reception
+use Rattle.at_atp.proofs.Alls.{all_both, all_replaced, all_without, all_at, all_found}
+use Rattle.at_atp.proofs.NetworkLemmas.{put_all}
+use Rattle.at_atp.proofs.RecordLemmas.{own}
+
+-- ---- masks and numbers
+
+mask_fits : (parts : List (Option Arrival)) → mask_of parts < 2 ^ length parts
+mask_fits [] = lit< tt
+mask_fits (None ∷ parts) = let rest = mask_fits parts in let twice = pow-suc 2 (length parts) in omega (arith, rest, twice)
+mask_fits (Some part ∷ parts) = go (mask_fits parts) part.eom
+  where
+    go : mask_of parts < 2 ^ length parts → (b : Bool) → cond b 0 (2 * mask_of parts) < 2 ^ suc (length parts)
+    go rest true = let twice = pow-suc 2 (length parts) in omega (arith, rest, twice)
+    go rest false = let twice = pow-suc 2 (length parts) in omega (arith, rest, twice)
+
+few_bits : (parts : List (Option Arrival)) → length parts ≤ 8 → mask_of parts < 256
+few_bits parts few =
+    let m = mask_fits parts in
+    let wide : 2 ^ length parts ≤ 2 ^ 8 = pow_mono few in
+    omega (arith, m, wide)
+
+draw_fits : (tries first : ℕ) (l : List Transaction) (k : ℕ) → first < 65536 → draw_from tries first l ≡ Some k → k < 65536
+draw_fits zero first l k fits h = absurd (cc)
+draw_fits (suc tries) first l k fits h = go (has_number l first) h (λ g. draw_fits tries ((first + 1) % 65536) l k (omega arith) g)
+  where
+    go : (b : Bool) → cond b (draw_from tries ((first + 1) % 65536) l) (Some first) ≡ Some k → (draw_from tries ((first + 1) % 65536) l ≡ Some k → k < 65536) → k < 65536
+    go true g ih = ih g
+    go false g ih = let same : first ≡ k = cc in subst (λ i. i < 65536) same fits
+
+number_fits : (r : Requests) (k : ℕ) → r.next < 65536 → next_number r ≡ Some k → k < 65536
+number_fits r k fits h = go (nat_lt (length r.standing) 32) h
+  where
+    go : (b : Bool) → cond b (draw_from (length r.standing + 1) r.next r.standing) None ≡ Some k → k < 65536
+    go true g = draw_fits (length r.standing + 1) r.next r.standing k fits g
+    go false g = absurd (cc)
+
+-- ---- parties whose state is in range
+
+pub record FitsOpen (t : Transaction) : Type 0 where
+  pub tid : t.tid < 65536
+  pub to : IsAddress t.to
+  pub asks : IsPacket (record { user = t.user; data_ = t.data_ })
+  pub few : length t.parts ≤ 8
+
+pub record FitsRequests (r : Requests) : Type 0 where
+  pub next : r.next < 65536
+  pub standing : AllByRecursion FitsOpen r.standing
+
+abbrev FitsState : State → Type 0
+FitsState (Waiting mask) = Unit {0}
+FitsState (Answered packets) = (length packets ≤ 8) × AllByRecursion IsPacket packets
+FitsState Released = Unit {0}
+
+pub record FitsRecord (r : Record) : Type 0 where
+  pub from : IsAddress r.key.from
+  pub tid : r.key.tid < 65536
+  pub state : FitsState r.state
+
+abbrev FitSent : List (Address × Content) → Type 0
+FitSent sent = AllByRecursion (λ s. IsAddress s.0 × IsLawful s.1) sent
+
+pub record Fits (n : Network) : Type 0 where
+  pub requesters : (who : Address) → FitsRequests (n.requesters who)
+  pub responders : (at : Address) → AllByRecursion FitsRecord (n.responders at)
+  pub sent : AllByRecursion IsLawfullySent n.sent
+
+-- ---- what is sent
+
+parts_of : (tid : ℕ) (p : Packet) → tid < 65536 → IsPacket p → frames.AreParts tid p.user p.data_
+parts_of tid p fits is = record { tid_fits = fits; four = is.four; user_bytes = is.user; data_bytes = is.bytes; data_fits = is.fits }
+
+no_timer : (xo : Bool) → IsTimer xo 0
+no_timer true = lit≤ tt
+no_timer false = refl
+
+asks_fit : (t : Transaction) → FitsOpen t → IsAddress t.to × IsLawful (request_by t)
+asks_fit t f = (f.to, (few_bits t.parts f.few, no_timer t.xo, parts_of t.tid (record { user = t.user; data_ = t.data_ }) f.tid f.asks))
+
+responses_fit : (key : Key) (place mask : ℕ) (packets : List Packet) → IsAddress key.from → key.tid < 65536 → place + length packets ≤ 8 → AllByRecursion IsPacket packets → FitSent (responses key place mask packets)
+responses_fit key place mask [] from tid few all = tt
+responses_fit key place mask (p ∷ ps) from tid few all =
+    all_both (λ s. IsAddress s.0 × IsLawful s.1) (cond (mask % 2 == 1) ((key.from, Response place (length ps == 0) false key.tid p.user p.data_) ∷ []) []) (responses key (place + 1) (mask / 2) ps)
+    (go (mask % 2 == 1))
+    (responses_fit key (place + 1) (mask / 2) ps from tid (omega (arith, few)) all.1)
+  where
+    go : (b : Bool) → FitSent (cond b ((key.from, Response place (length ps == 0) false key.tid p.user p.data_) ∷ []) [])
+    go true = ((from, (omega (arith, few), parts_of key.tid p tid all.0)), tt)
+    go false = tt
+
+stamped_fits : (event : ℕ) (from : Address) (xs : List (Address × Content)) → IsAddress from → FitSent xs → AllByRecursion IsLawfullySent (stamped event from xs)
+stamped_fits event from [] f h = tt
+stamped_fits event from (x ∷ xs) f h = (record { from_fits = f; to_fits = h.0.0; lawful = h.0.1 }, stamped_fits event from xs f h.1)
+
+more_fits : (event : ℕ) (from : Address) (sent : List Sent) (xs : List (Address × Content)) → AllByRecursion IsLawfullySent sent → IsAddress from → FitSent xs → AllByRecursion IsLawfullySent (sent ++ stamped event from xs)
+more_fits event from sent xs all f h = all_both IsLawfullySent sent (stamped event from xs) all (stamped_fits event from xs f h)
+
+requester_fits : (n : Network) (who : Address) (r : Requests) (sent : List (Address × Content)) → Fits n → IsAddress who → FitsRequests r → FitSent sent → Fits (with_requester n who r sent)
+requester_fits n who r sent fits f all h = record { requesters = put_all (λ a x. FitsRequests x) n.requesters who r fits.requesters all; responders = fits.responders; sent = more_fits n.event who n.sent sent fits.sent f h }
+
+responder_fits : (n : Network) (at : Address) (rs : List Record) (sent : List (Address × Content)) → Fits n → IsAddress at → AllByRecursion FitsRecord rs → FitSent sent → Fits (with_responder n at rs sent)
+responder_fits n at rs sent fits f all h = record { requesters = fits.requesters; responders = put_all (λ a x. AllByRecursion FitsRecord x) n.responders at rs fits.responders all; sent = more_fits n.event at n.sent sent fits.sent f h }
+
+-- ---- a packet comes to a requester
+
+pub record FitsEffect (A : Type 0) (e : Effect A) : Type 0 where
+  pub after : FitsOpen e.after
+  pub sent : FitSent e.sent
+
+came_fits : (A : Type 0) (t : Transaction) (place : ℕ) (part : Arrival) (sts : Bool) → FitsOpen t → FitsEffect A (came {A = A} t place part sts)
+came_fits A t place part sts f = go (is_wanted t.parts place) sts
+  where
+    kept : FitsOpen (record t { parts = with_part t.parts place part })
+    kept = record { tid = f.tid; to = f.to; asks = f.asks; few = let few = f.few in omega (arith, few, length-set t.parts place (Some part)) }
+
+    released : (b : Bool) → FitSent (cond b ((t.to, Release t.tid) ∷ []) [])
+    released true = ((f.to, f.tid), tt)
+    released false = tt
+
+    keeps : (s : Bool) (o : Option (List Packet)) → FitsEffect A (was_kept {A = A} (record t { parts = with_part t.parts place part }) s o)
+    keeps s (Some packets) = record { after = kept; sent = released t.xo }
+    keeps true None = record { after = kept; sent = (asks_fit (record t { parts = with_part t.parts place part }) kept, tt) }
+    keeps false None = record { after = kept; sent = tt }
+
+    go : (b s : Bool) → FitsEffect A (came_for {A = A} t place part s b)
+    go true s = keeps s (whole (with_part t.parts place part))
+    go false true = record { after = f; sent = (asks_fit t f, tt) }
+    go false false = record { after = f; sent = tt }
+
+pub record FitsHeard (A : Type 0) (h : Heard A) : Type 0 where
+  pub after : FitsRequests h.after
+  pub sent : FitSent h.sent
+
+heard_fits : (A : Type 0) (r : Requests) (from : Address) (f : Content) → FitsRequests r → FitsHeard A (heard {A = A} r from f)
+heard_fits A r from (Request mask xo timer tid user bytes) fits = record { after = fits; sent = tt }
+heard_fits A r from (Release tid) fits = record { after = fits; sent = tt }
+heard_fits A r from (Response place eom sts tid user bytes) fits = go (find (is_of tid from) r.standing) refl
+  where
+    standing : (e : Effect A) → FitsOpen e.after → (b : Bool) → AllByRecursion FitsOpen (cond b (without_first (is_of tid from) r.standing) (replaced (is_of tid from) e.after r.standing))
+    standing e f true = all_without FitsOpen (is_of tid from) r.standing fits.standing
+    standing e f false = all_replaced FitsOpen (is_of tid from) e.after r.standing fits.standing f
+
+    go : (o : Option Transaction) → find (is_of tid from) r.standing ≡ o → FitsHeard A (response_came {A = A} r (is_of tid from) place (record { eom = eom; packet = record { user = user; data_ = bytes } }) sts o)
+    go None e = record { after = fits; sent = tt }
+    go (Some t) e =
+        let found = all_found FitsOpen (is_of tid from) r.standing t fits.standing e in
+        let c = came_fits A t place (record { eom = eom; packet = record { user = user; data_ = bytes } }) sts found.0 in
+        record { after = record { next = fits.next; standing = standing (came {A = A} t place (record { eom = eom; packet = record { user = user; data_ = bytes } }) sts) c.after (is_finished (came {A = A} t place (record { eom = eom; packet = record { user = user; data_ = bytes } }) sts).step) }; sent = c.sent }
+
+pub record FitsRetried (r : Retried) : Type 0 where
+  pub after : FitsRequests r.after
+  pub sent : FitSent r.sent
+
+retry_fits : (r : Requests) (tid : ℕ) (t : Transaction) (n : ℕ) → FitsRequests r → FitsOpen t → FitsRetried (retried_with r tid t n)
+retry_fits r tid t zero fits f = record { after = record { next = fits.next; standing = all_without FitsOpen (is_numbered tid) r.standing fits.standing }; sent = tt }
+retry_fits r tid t (suc n) fits f = record {
+  after = record { next = fits.next; standing = all_replaced FitsOpen (is_numbered tid) (record t { retries = n }) r.standing fits.standing (record { tid = f.tid; to = f.to; asks = f.asks; few = f.few }) };
+  sent = (asks_fit t f, tt);
+}
+
+retried_fits : (r : Requests) (tid : ℕ) (x : Retried) → FitsRequests r → retried r tid ≡ Some x → FitsRetried x
+retried_fits r tid x fits is = go (find (is_numbered tid) r.standing) refl is
+  where
+    go : (o : Option Transaction) → find (is_numbered tid) r.standing ≡ o → option_map (λ (t : Transaction). retried_with r tid t t.retries) o ≡ Some x → FitsRetried x
+    go None e g = absurd (cc)
+    go (Some t) e g =
+        let same : retried_with r tid t t.retries ≡ x = cc in
+        subst FitsRetried same (retry_fits r tid t t.retries fits (all_found FitsOpen (is_numbered tid) r.standing t fits.standing e).0)
+
+-- ---- a packet comes to a responder
+
+pub record FitsTaken (t : Taken) : Type 0 where
+  pub after : AllByRecursion FitsRecord t.after
+  pub sent : FitSent t.sent
+
+again_fits : (rs : List Record) (key : Key) (mask : ℕ) (r : Record) → AllByRecursion FitsRecord rs → FitsRecord r → IsAddress key.from → key.tid < 65536 → FitsTaken (came_again rs key r (repeated key mask r.state))
+again_fits rs key mask r all f from tid = go r.state f.state
+  where
+    same : (s : State) → FitsState s → AllByRecursion FitsRecord (replaced (is_key key) (record r { state = s }) rs)
+    same s k = all_replaced FitsRecord (is_key key) (record r { state = s }) rs all (record { from = f.from; tid = f.tid; state = k })
+
+    go : (s : State) → FitsState s → FitsTaken (came_again rs key r (repeated key mask s))
+    go (Waiting old) k = record { after = same (Waiting mask) tt; sent = tt }
+    go (Answered packets) k = record { after = same (Answered packets) k; sent = responses_fit key 0 mask packets from tid (let few = k.0 in omega (arith, few)) k.1 }
+    go Released k = record { after = same Released tt; sent = tt }
+
+taken_fits : (rs : List Record) (from : Address) (f : Content) → AllByRecursion FitsRecord rs → IsAddress from → IsLawful f → FitsTaken (taken rs from f)
+taken_fits rs from (Response place eom sts tid user bytes) all fits lawful = record { after = all; sent = tt }
+taken_fits rs from (Release tid) all fits lawful = record { after = all; sent = tt }
+taken_fits rs from (Request mask xo timer tid user bytes) all fits lawful = go (is_passed_over xo mask)
+  where
+    numbered : tid < 65536
+    numbered = lawful.2.tid_fits
+
+    came_in : (o : Option Record) → find (is_key (record { from = from; tid = tid })) rs ≡ o → FitsTaken (request_came rs (record { from = from; tid = tid }) mask o)
+    came_in None e = record { after = all_both FitsRecord rs (record { key = record { from = from; tid = tid }; state = Waiting mask } ∷ []) all (record { from = fits; tid = numbered; state = tt }, tt); sent = tt }
+    came_in (Some r) e = again_fits rs (record { from = from; tid = tid }) mask r all (all_found FitsRecord (is_key (record { from = from; tid = tid })) rs r all e).0 fits numbered
+
+    go : (b : Bool) → FitsTaken (cond b (passed rs) (request_came rs (record { from = from; tid = tid }) mask (find (is_key (record { from = from; tid = tid })) rs)))
+    go true = record { after = all; sent = tt }
+    go false = came_in (find (is_key (record { from = from; tid = tid })) rs) refl
+
+-- ---- answers
+
+few_packets : (rs : List Record) (key : Key) (packets : List Packet) → answer_fault rs key packets ≡ None → length packets ≤ 8
+few_packets rs key [] h = absurd (cc)
+few_packets rs key (p ∷ ps) h = go (nat_le (length (p ∷ ps)) 8) refl (fit (p ∷ ps)) h
+  where
+    go : (b : Bool) → nat_le (length (p ∷ ps)) 8 ≡ b → (c : Bool) → cond (b && c) (record_fault (find (is_key key) rs)) (Some AtpTooLong) ≡ None → length (p ∷ ps) ≤ 8
+    go true e c g = leb-true (length (p ∷ ps)) 8 e
+    go false e c g = absurd (cc)
+
+gave_fits : (n : Network) (at : Address) (key : Key) (packets : List Packet) → Fits n → IsAddress at → AllByRecursion IsPacket packets → (o : Option AtpFault) → answer_fault (n.responders at) key packets ≡ o → Fits (answers n at key packets o)
+gave_fits n at key packets fits f all (Some x) e = fits
+gave_fits n at key packets fits f all None e = record {
+  requesters = fits.requesters;
+  responders = put_all (λ a x. AllByRecursion FitsRecord x) n.responders at (without_first (is_key key) (n.responders at)) fits.responders (all_without FitsRecord (is_key key) (n.responders at) (fits.responders at));
+  sent = more_fits n.event at n.sent (asked_for (find (is_key key) (n.responders at)) key packets) fits.sent f (go (find (is_key key) (n.responders at)) refl);
+}
+  where
+    go : (r : Option Record) → find (is_key key) (n.responders at) ≡ r → FitSent (asked_for r key packets)
+    go None g = tt
+    go (Some r) g =
+        let found = all_found FitsRecord (is_key key) (n.responders at) r (fits.responders at) g in
+        let same = own key r found.1 in
+        let few = few_packets (n.responders at) key packets e in
+        responses_fit key 0 (asked_mask r.state) packets (subst (λ (k : Key). IsAddress k.from) same (found.0).from) (subst (λ (k : Key). k.tid < 65536) same (found.0).tid) (omega (arith, few)) all
+
+gives_fits : (n : Network) (at : Address) (key : Key) (packets : List Packet) → Fits n → IsAddress at → AllByRecursion IsPacket packets → Fits (gives n at key packets)
+gives_fits n at key packets fits f all = gave_fits n at key packets fits f all (answer_fault (n.responders at) key packets) refl
+
+-- ---- histories
+
+takes_fits : (n : Network) (which : ℕ) (s : Sent) → Fits n → slice_get n.sent which ≡ Some s → Fits (takes n s)
+takes_fits n which s fits e =
+    let l = all_at IsLawfullySent n.sent which s fits.sent e in
+    let t = taken_fits (n.responders s.to) s.from s.packet (fits.responders s.to) l.from_fits l.lawful in
+    responder_fits n s.to (taken (n.responders s.to) s.from s.packet).after (taken (n.responders s.to) s.from s.packet).sent fits l.to_fits t.after t.sent
+
+handed_fits : (n : Network) (at : Address) (packets : List Packet) (r : Reception) → Fits n → IsAddress at → AllByRecursion IsPacket packets → Fits (handed_up n at packets r)
+handed_fits n at packets (reception.New key) fits f all = gives_fits n at key packets fits f all
+handed_fits n at packets (reception.Again count) fits f all = fits
+handed_fits n at packets reception.Ignored fits f all = fits
+
+begun_fits : (n : Network) (who to : Address) (user bytes : List ℕ) (wanted : ℕ) (xo : Bool) (times tid : ℕ) → Fits n → IsAsking who to user bytes wanted → tid < 65536 → Fits (begun n who (beginning tid to user bytes wanted xo times))
+begun_fits n who to user bytes wanted xo times tid fits a numbered =
+    let before = fits.requesters who in
+    record {
+      requesters = put_all (λ b x. FitsRequests x) n.requesters who _ fits.requesters (record { next = omega arith; standing = all_both FitsOpen (n.requesters who).standing (beginning tid to user bytes wanted xo times ∷ []) before.standing (it, tt) });
+      responders = fits.responders;
+      sent = more_fits n.event who n.sent ((to, request_by (beginning tid to user bytes wanted xo times)) ∷ []) fits.sent a.who_fits (asks_fit (beginning tid to user bytes wanted xo times) it, tt);
+    }
+  where
+    it : FitsOpen (beginning tid to user bytes wanted xo times)
+    it = record { tid = numbered; to = a.to_fits; asks = a.asks; few = let few = a.few in omega (arith, few, length-replicate {A = Option Arrival} wanted None) }
+
+done_fits : (A : Type 0) (n : Network) (h : Happening) → Fits n → IsInRange h → Fits (done A n h)
+done_fits A n (Begins who to user bytes wanted xo times) fits range = go (next_number (n.requesters who)) refl
+  where
+    go : (o : Option ℕ) → next_number (n.requesters who) ≡ o → Fits (begins n who to user bytes wanted xo times o)
+    go None e = fits
+    go (Some tid) e = begun_fits n who to user bytes wanted xo times tid fits range (number_fits (n.requesters who) tid (fits.requesters who).next e)
+done_fits A n (Answers at key packets) fits range = gives_fits n at key packets fits range.0 range.1
+done_fits A n (Hears which) fits range = go (slice_get n.sent which) refl
+  where
+    go : (o : Option Sent) → slice_get n.sent which ≡ o → Fits (hears A n o)
+    go None e = fits
+    go (Some s) e =
+        let l = all_at IsLawfullySent n.sent which s fits.sent e in
+        let h = heard_fits A (n.requesters s.to) s.from s.packet (fits.requesters s.to) in
+        requester_fits n s.to (heard {A = A} (n.requesters s.to) s.from s.packet).after (heard {A = A} (n.requesters s.to) s.from s.packet).sent fits l.to_fits h.after h.sent
+done_fits A n (Takes which) fits range = go (slice_get n.sent which) refl
+  where
+    go : (o : Option Sent) → slice_get n.sent which ≡ o → Fits (takes_in n o)
+    go None e = fits
+    go (Some s) e = takes_fits n which s fits e
+done_fits A n (Serves which packets) fits range = go (slice_get n.sent which) refl
+  where
+    go : (o : Option Sent) → slice_get n.sent which ≡ o → Fits (serves n packets o)
+    go None e = fits
+    go (Some s) e = handed_fits (takes n s) s.to packets (taken (n.responders s.to) s.from s.packet).reception (takes_fits n which s fits e) (all_at IsLawfullySent n.sent which s fits.sent e).to_fits range
+done_fits A n (Retries who tid) fits range = go (retried (n.requesters who) tid) refl
+  where
+    go : (o : Option Retried) → retried (n.requesters who) tid ≡ o → Fits (retries n who o)
+    go None e = fits
+    go (Some x) e = let r = retried_fits (n.requesters who) tid x (fits.requesters who) e in requester_fits n who x.after x.sent fits range r.after r.sent
+done_fits A n Other fits range = fits
+
+history_fits : (A : Type 0) (history : List Happening) → AllByRecursion IsInRange history → Fits (after A history)
+history_fits A [] range = record { requesters = λ who. record { next = lit< tt; standing = tt }; responders = λ at. tt; sent = tt }
+history_fits A (h ∷ hs) range =
+    let f = done_fits A (after A hs) h (history_fits A hs range.1) range.0 in
+    record { requesters = f.requesters; responders = f.responders; sent = f.sent }
+
+pub lawfully_sent : (A : Type 0) (history : List Happening) → AllByRecursion IsInRange history → AllByRecursion IsLawfullySent (after A history).sent
+lawfully_sent A history range = (history_fits A history range).sent

@@ -1,0 +1,159 @@
+-- What a timely history leaves true of a network.
+use Rattle.std.proofs.Common.{◌≡◌, ℕ, ◌+◌, ◌<◌, Bool, true, false, cond, List, [], ◌∷◌, ◌++◌, Option, Some, None, refl, subst, ◌∙◌, arith}
+use Rattle.std.specs.Prelude.{find, slice_get}
+use Rattle.std.specs.List.{AllByRecursion}
+use Rattle.at_ddp.specs.Address.{same_address}
+use Rattle.at_ddp.specs.declared.address.Address.{Address}
+use Rattle.at_ddp.proofs.Octets.{same_address-true}
+use Rattle.at_atp.specs.Frames.{Content}
+use Rattle.at_atp.specs.Network.{Network, Sent, Drawn, owner, number_of, is_fresh, put, stamped, with_requester, with_responder, answers, gives, hears, takes, takes_in, handed_up, serves, retries, ComesInTime}
+use Rattle.at_atp.specs.Packets.{Packet}
+use Rattle.at_atp.specs.Records.{Record, is_key, taken, answer_fault, asked_for, asked_mask}
+use Rattle.at_atp.specs.Requests.{Requests, Retried, heard, retried}
+use Rattle.at_atp.specs.Tables.{without_first}
+use Rattle.at_atp.specs.Transactions.{Transaction, transaction_of, answered}
+use Rattle.at_atp.specs.declared.fault.AtpFault.{AtpFault}
+use Rattle.at_atp.specs.declared.reception.Key.{Key}
+use Rattle.at_atp.specs.declared.reception.Reception.{Reception}
+use Rattle.at_atp.specs.declared.reception.Reception.TheVariants as reception
+use Rattle.at_atp.proofs.Alls.{all_implied, all_both, all_without, all_at, all_found}
+use Rattle.at_atp.proofs.Carried.{Tells, tells_kept, Holds, holds_kept, Waits, waits_kept}
+use Rattle.at_atp.proofs.Hearings.{TellsAll, heard_sound, retried_sound}
+use Rattle.at_atp.proofs.Newest.{Keeps, answered_keeps, answered_joins}
+use Rattle.at_atp.proofs.RecordLemmas.{own}
+use Rattle.at_atp.proofs.Takings.{answer_tells, taken_sound}
+
+-- what is sent while no later event drew its number is of the newest transaction of that number
+abbrev pub Fresh : List Drawn → List Transaction → Sent → Type 0
+Fresh drawn asked s = is_fresh drawn s ≡ true → Tells asked s.from s.to s.packet
+
+-- a network after so many events
+pub record Sound (events : ℕ) (n : Network) : Type 0 where
+  pub past : AllByRecursion (λ s. s.event < events) n.sent
+  pub sent : AllByRecursion (Fresh n.drawn n.asked) n.sent
+  pub standing : (who : Address) → AllByRecursion (Holds n.asked who) (n.requesters who).standing
+  pub records : (at : Address) → AllByRecursion (Waits n.asked at) (n.responders at)
+
+-- ---- what changes at one address
+
+pub put_all : {X : Type 0} (P : Address → X → Type 0) (f : Address → X) (at : Address) (x : X) → ((a : Address) → P a (f a)) → P at x → (a : Address) → P a (put f at x a)
+put_all {X} P f at x all is a = go (same_address at a) refl
+  where
+    go : (b : Bool) → same_address at a ≡ b → P a (cond b x (f a))
+    go true e = subst (λ y. P y x) (same_address-true at a e) is
+    go false e = all a
+
+-- ---- what is sent
+
+stamped_past : (event : ℕ) (from : Address) (xs : List (Address × Content)) → AllByRecursion (λ (s : Sent). s.event < event + 1) (stamped event from xs)
+stamped_past event from [] = tt
+stamped_past event from (x ∷ xs) = (omega arith, stamped_past event from xs)
+
+stamped_fresh : (drawn : List Drawn) (asked : List Transaction) (event : ℕ) (from : Address) (xs : List (Address × Content)) → TellsAll asked from xs → AllByRecursion (Fresh drawn asked) (stamped event from xs)
+stamped_fresh drawn asked event from [] h = tt
+stamped_fresh drawn asked event from (x ∷ xs) h = ((λ _. h.0), stamped_fresh drawn asked event from xs h.1)
+
+pub more_past : (event : ℕ) (from : Address) (sent : List Sent) (xs : List (Address × Content)) → AllByRecursion (λ s. s.event < event + 1) sent → AllByRecursion (λ s. s.event < event + 1) (sent ++ stamped event from xs)
+more_past event from sent xs h = all_both (λ s. s.event < event + 1) sent (stamped event from xs) h (stamped_past event from xs)
+
+pub more_fresh : (drawn : List Drawn) (asked : List Transaction) (event : ℕ) (from : Address) (sent : List Sent) (xs : List (Address × Content)) → AllByRecursion (Fresh drawn asked) sent → TellsAll asked from xs → AllByRecursion (Fresh drawn asked) (sent ++ stamped event from xs)
+more_fresh drawn asked event from sent xs h tells = all_both (Fresh drawn asked) sent (stamped event from xs) h (stamped_fresh drawn asked event from xs tells)
+
+-- ---- one party that changes, among the same transactions
+
+requester_sound : (n : Network) (who : Address) (r : Requests) (sent : List (Address × Content)) → Sound (n.event + 1) n → AllByRecursion (Holds n.asked who) r.standing → TellsAll n.asked who sent → Sound (n.event + 1) (with_requester n who r sent)
+requester_sound n who r sent s standing tells = record {
+  past = more_past n.event who n.sent sent s.past;
+  sent = more_fresh n.drawn n.asked n.event who n.sent sent s.sent tells;
+  standing = put_all (λ a x. AllByRecursion (Holds n.asked a) x.standing) n.requesters who r s.standing standing;
+  records = s.records;
+}
+
+responder_sound : (n : Network) (at : Address) (rs : List Record) (sent : List (Address × Content)) → Sound (n.event + 1) n → AllByRecursion (Waits n.asked at) rs → TellsAll n.asked at sent → Sound (n.event + 1) (with_responder n at rs sent)
+responder_sound n at rs sent s records tells = record {
+  past = more_past n.event at n.sent sent s.past;
+  sent = more_fresh n.drawn n.asked n.event at n.sent sent s.sent tells;
+  standing = s.standing;
+  records = put_all (λ a x. AllByRecursion (Waits n.asked a) x) n.responders at rs s.records records;
+}
+
+-- ---- packets that come, and retries
+
+tells_at : (events : ℕ) (n : Network) (which : ℕ) (s : Sent) → Sound events n → slice_get n.sent which ≡ Some s → is_fresh n.drawn s ≡ true → Tells n.asked s.from s.to s.packet
+tells_at events n which s sound is fresh = all_at (Fresh n.drawn n.asked) n.sent which s sound.sent is fresh
+
+pub hears_sound : (A : Type 0) (n : Network) (which : ℕ) → Sound (n.event + 1) n → ComesInTime n which → Sound (n.event + 1) (hears A n (slice_get n.sent which))
+hears_sound A n which sound timely = go (slice_get n.sent which) refl
+  where
+    go : (o : Option Sent) → slice_get n.sent which ≡ o → Sound (n.event + 1) (hears A n o)
+    go None e = sound
+    go (Some s) e =
+        let h = heard_sound A n.asked s.to s.from (n.requesters s.to) s.packet (sound.standing s.to) (tells_at (n.event + 1) n which s sound e (timely s e)) in
+        requester_sound n s.to (heard {A = A} (n.requesters s.to) s.from s.packet).after (heard {A = A} (n.requesters s.to) s.from s.packet).sent sound h.standing h.sent
+
+took_sound : (n : Network) (which : ℕ) (s : Sent) → Sound (n.event + 1) n → ComesInTime n which → slice_get n.sent which ≡ Some s → Sound (n.event + 1) (takes n s)
+took_sound n which s sound timely e =
+    let t = taken_sound n.asked s.to s.from (n.responders s.to) s.packet (sound.records s.to) (tells_at (n.event + 1) n which s sound e (timely s e)) in
+    responder_sound n s.to (taken (n.responders s.to) s.from s.packet).after (taken (n.responders s.to) s.from s.packet).sent sound t.records t.sent
+
+pub takes_sound : (n : Network) (which : ℕ) → Sound (n.event + 1) n → ComesInTime n which → Sound (n.event + 1) (takes_in n (slice_get n.sent which))
+takes_sound n which sound timely = go (slice_get n.sent which) refl
+  where
+    go : (o : Option Sent) → slice_get n.sent which ≡ o → Sound (n.event + 1) (takes_in n o)
+    go None e = sound
+    go (Some s) e = took_sound n which s sound timely e
+
+pub retries_sound : (n : Network) (who : Address) (tid : ℕ) → Sound (n.event + 1) n → Sound (n.event + 1) (retries n who (retried (n.requesters who) tid))
+retries_sound n who tid sound = go (retried (n.requesters who) tid) refl
+  where
+    go : (o : Option Retried) → retried (n.requesters who) tid ≡ o → Sound (n.event + 1) (retries n who o)
+    go None e = sound
+    go (Some x) e = let r = retried_sound n.asked who (n.requesters who) tid x (sound.standing who) e in requester_sound n who x.after x.sent sound r.standing r.sent
+
+-- ---- answers
+
+-- the answer of a request that waits joins its transaction, and is sent
+gave_sound : (n : Network) (at : Address) (key : Key) (packets : List Packet) → Sound (n.event + 1) n → answer_fault (n.responders at) key packets ≡ None → Sound (n.event + 1) (answers n at key packets None)
+gave_sound n at key packets sound free = record {
+  past = more_past n.event at n.sent (asked_for (find (is_key key) (n.responders at)) key packets) sound.past;
+  sent = more_fresh n.drawn (answered n.asked key.from key.tid packets) n.event at n.sent (asked_for (find (is_key key) (n.responders at)) key packets) (all_implied (Fresh n.drawn n.asked) (Fresh n.drawn (answered n.asked key.from key.tid packets)) n.sent fresh_kept sound.sent) (tells (find (is_key key) (n.responders at)) refl);
+  standing = λ who. all_implied (Holds n.asked who) (Holds (answered n.asked key.from key.tid packets) who) (n.requesters who).standing (λ t h. holds_kept n.asked (answered n.asked key.from key.tid packets) who t (keeps who t.tid) h) (sound.standing who);
+  records = put_all (λ a x. AllByRecursion (Waits (answered n.asked key.from key.tid packets) a) x) n.responders at (without_first (is_key key) (n.responders at)) (λ a. waiting a) (all_without (Waits (answered n.asked key.from key.tid packets) at) (is_key key) (n.responders at) (waiting at));
+}
+  where
+    keeps : (who : Address) (tid : ℕ) → Keeps n.asked (answered n.asked key.from key.tid packets) who tid
+    keeps who tid = answered_keeps n.asked key.from key.tid packets who tid
+
+    fresh_kept : (s : Sent) → Fresh n.drawn n.asked s → Fresh n.drawn (answered n.asked key.from key.tid packets) s
+    fresh_kept s h = λ f. tells_kept n.asked (answered n.asked key.from key.tid packets) s.from s.to s.packet (keeps (owner s.from s.to s.packet) (number_of s.packet)) (h f)
+
+    waiting : (a : Address) → AllByRecursion (Waits (answered n.asked key.from key.tid packets) a) (n.responders a)
+    waiting a = all_implied (Waits n.asked a) (Waits (answered n.asked key.from key.tid packets) a) (n.responders a) (λ r h. waits_kept n.asked (answered n.asked key.from key.tid packets) a r (keeps r.key.from r.key.tid) h) (sound.records a)
+
+    tells : (o : Option Record) → find (is_key key) (n.responders at) ≡ o → TellsAll (answered n.asked key.from key.tid packets) at (asked_for o key packets)
+    tells None e = tt
+    tells (Some r) e =
+        let found = all_found (Waits n.asked at) (is_key key) (n.responders at) r (sound.records at) e in
+        let same = own key r found.1 in
+        let newest = subst (λ (k : Key). transaction_of n.asked k.from k.tid ≡ Some ((found.0).asked).transaction) same ((found.0).asked).newest in
+        let more = answered_joins n.asked key.from key.tid packets ((found.0).asked).transaction newest in
+        answer_tells (answered n.asked key.from key.tid packets) at key (record { transaction = more.0; newest = more.1; asked_it = more.2.responder ∙ ((found.0).asked).asked_it }) (asked_mask r.state) packets more.3
+
+pub gives_sound : (n : Network) (at : Address) (key : Key) (packets : List Packet) → Sound (n.event + 1) n → Sound (n.event + 1) (gives n at key packets)
+gives_sound n at key packets sound = go (answer_fault (n.responders at) key packets) refl
+  where
+    go : (o : Option AtpFault) → answer_fault (n.responders at) key packets ≡ o → Sound (n.event + 1) (answers n at key packets o)
+    go None e = gave_sound n at key packets sound e
+    go (Some f) e = sound
+
+handed_sound : (n : Network) (at : Address) (packets : List Packet) (r : Reception) → Sound (n.event + 1) n → Sound (n.event + 1) (handed_up n at packets r)
+handed_sound n at packets (reception.New key) sound = gives_sound n at key packets sound
+handed_sound n at packets (reception.Again count) sound = sound
+handed_sound n at packets reception.Ignored sound = sound
+
+pub serves_sound : (n : Network) (which : ℕ) (packets : List Packet) → Sound (n.event + 1) n → ComesInTime n which → Sound (n.event + 1) (serves n packets (slice_get n.sent which))
+serves_sound n which packets sound timely = go (slice_get n.sent which) refl
+  where
+    go : (o : Option Sent) → slice_get n.sent which ≡ o → Sound (n.event + 1) (serves n packets o)
+    go None e = sound
+    go (Some s) e = handed_sound (takes n s) s.to packets (taken (n.responders s.to) s.from s.packet).reception (took_sound n which s sound timely e)

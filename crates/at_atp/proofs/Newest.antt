@@ -1,0 +1,88 @@
+-- The newest transaction of a number, as others begin and answers join.
+use Rattle.std.proofs.Common.{◌≡◌, ℕ, Bool, true, false, cond, List, [], ◌∷◌, ◌++◌, Some, refl, sym, ap, subst, ◌∙◌, lit<}
+use Rattle.std.specs.List.{Contains}
+use Rattle.std.proofs.lemmas.List.Elements.{Contains-append_left, Contains-append_right}
+use Rattle.at_ddp.specs.declared.address.Address.{Address}
+use Rattle.at_atp.specs.Packets.{Packet}
+use Rattle.at_atp.specs.Transactions.{Transaction, is_transaction, transaction_of, Asked, answered, IsPart}
+
+-- the same transaction, perhaps with more answers
+pub record Extends (old new : Transaction) : Type 0 where
+  pub responder : new.responder ≡ old.responder
+  pub user : new.user ≡ old.user
+  pub bytes : new.data_ ≡ old.data_
+  pub wanted : new.wanted ≡ old.wanted
+  pub xo : new.xo ≡ old.xo
+  pub answers : (a : List Packet) → Contains old.answers a → Contains new.answers a
+
+pub itself : (t : Transaction) → Extends t t
+itself t = record { responder = refl; user = refl; bytes = refl; wanted = refl; xo = refl; answers = λ a c. c }
+
+-- the newest transaction of a number is there as before, perhaps with more answers
+abbrev pub Keeps : List Transaction → List Transaction → Address → ℕ → Type 0
+Keeps old new who tid = (t : Transaction) → transaction_of old who tid ≡ Some t → (u : Transaction) × (transaction_of new who tid ≡ Some u) × Extends t u
+
+pub keeps_itself : (ts : List Transaction) (who : Address) (tid : ℕ) → Keeps ts ts who tid
+keeps_itself ts who tid = λ t is. (t, is, itself t)
+
+-- another begins
+pub begun_keeps : (ts : List Transaction) (t : Transaction) (who : Address) (tid : ℕ) → is_transaction who tid t ≡ false → Keeps ts (t ∷ ts) who tid
+begun_keeps ts t who tid apart = λ u is. (u, rw apart is, itself u)
+
+some_same : (t u : Transaction) → Some t ≡ Some u → t ≡ u
+some_same t u h = cc
+
+-- an answer joins
+abbrev joined : Transaction → List Packet → Transaction
+joined t packets = record t { answers = t.answers ++ packets ∷ [] }
+
+extends_joined : (t : Transaction) (packets : List Packet) → Extends t (joined t packets)
+extends_joined t packets = record { responder = refl; user = refl; bytes = refl; wanted = refl; xo = refl; answers = λ a c. Contains-append_left t.answers (packets ∷ []) a c }
+
+one : (packets : List Packet) → Contains (packets ∷ []) packets
+one packets = (0, lit< tt, refl)
+
+pub answered_keeps : (ts : List Transaction) (from : Address) (tid : ℕ) (packets : List Packet) (who : Address) (k : ℕ) → Keeps ts (answered ts from tid packets) who k
+answered_keeps [] from tid packets who k = λ t is. absurd (cc)
+answered_keeps (t ∷ ts) from tid packets who k = go (answered_keeps ts from tid packets who k) (is_transaction from tid t) (is_transaction who k t) refl
+  where
+    go : Keeps ts (answered ts from tid packets) who k → (a b : Bool) → is_transaction who k t ≡ b → Keeps (t ∷ ts) (cond a (joined t packets ∷ ts) (t ∷ answered ts from tid packets)) who k
+    go ih true true e = λ u is.
+        let same : t ≡ u = some_same t u (sym (ap (λ b. cond b (Some t) (transaction_of ts who k)) e) ∙ is) in
+        (joined t packets, ap (λ b. cond b (Some (joined t packets)) (transaction_of ts who k)) e, subst (λ x. Extends x (joined t packets)) same (extends_joined t packets))
+    go ih true false e = λ u is. (u, ap (λ b. cond b (Some (joined t packets)) (transaction_of ts who k)) e ∙ sym (ap (λ b. cond b (Some t) (transaction_of ts who k)) e) ∙ is, itself u)
+    go ih false true e = λ u is.
+        let same : t ≡ u = some_same t u (sym (ap (λ b. cond b (Some t) (transaction_of ts who k)) e) ∙ is) in
+        (t, ap (λ b. cond b (Some t) (transaction_of (answered ts from tid packets) who k)) e, subst (λ x. Extends x t) same (itself t))
+    go ih false false e = λ u is.
+        let more = ih u (sym (ap (λ b. cond b (Some t) (transaction_of ts who k)) e) ∙ is) in
+        (more.0, ap (λ b. cond b (Some t) (transaction_of (answered ts from tid packets) who k)) e ∙ more.1, more.2)
+
+-- the answer is among those of its transaction
+pub answered_joins : (ts : List Transaction) (from : Address) (tid : ℕ) (packets : List Packet) (t : Transaction) → transaction_of ts from tid ≡ Some t →
+    (u : Transaction) × (transaction_of (answered ts from tid packets) from tid ≡ Some u) × Extends t u × Contains u.answers packets
+answered_joins [] from tid packets t is = absurd (cc)
+answered_joins (x ∷ ts) from tid packets t is = go (λ h. answered_joins ts from tid packets t h) (is_transaction from tid x) refl is
+  where
+    go : (transaction_of ts from tid ≡ Some t → (u : Transaction) × (transaction_of (answered ts from tid packets) from tid ≡ Some u) × Extends t u × Contains u.answers packets) →
+        (a : Bool) → is_transaction from tid x ≡ a → cond a (Some x) (transaction_of ts from tid) ≡ Some t →
+        (u : Transaction) × (transaction_of (cond a (joined x packets ∷ ts) (x ∷ answered ts from tid packets)) from tid ≡ Some u) × Extends t u × Contains u.answers packets
+    go ih true e h =
+        let same : x ≡ t = some_same x t h in
+        (joined x packets, ap (λ b. cond b (Some (joined x packets)) (transaction_of ts from tid)) e, subst (λ y. Extends y (joined x packets)) same (extends_joined x packets), Contains-append_right x.answers (packets ∷ []) packets (one packets))
+    go ih false e h =
+        let more = ih h in
+        (more.0, ap (λ b. cond b (Some x) (transaction_of (answered ts from tid packets) from tid)) e ∙ more.1, more.2, more.3)
+
+-- what was known of the newest transaction is known of it still
+pub asked_kept : (old new : List Transaction) (who : Address) (tid : ℕ) (responder : Address) → Keeps old new who tid → (a : Asked old who tid responder) → (b : Asked new who tid responder) × Extends a.transaction b.transaction
+asked_kept old new who tid responder keeps a =
+    let more = keeps a.transaction a.newest in
+    (record { transaction = more.0; newest = more.1; asked_it = more.2.responder ∙ a.asked_it }, more.2)
+
+pub part_kept : (t u : Transaction) (place : ℕ) (ends : Bool) (p : Packet) → Extends t u → IsPart t place ends p → IsPart u place ends p
+part_kept t u place ends p extends part = record { answer = part.answer; given = extends.answers part.answer part.given; there = part.there; is_end = part.is_end }
+
+-- there is only one newest transaction
+pub one_newest : (ts : List Transaction) (who : Address) (tid : ℕ) (a b : Address) (x : Asked ts who tid a) (y : Asked ts who tid b) → x.transaction ≡ y.transaction
+one_newest ts who tid a b x y = some_same x.transaction y.transaction (sym x.newest ∙ y.newest)

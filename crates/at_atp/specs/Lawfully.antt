@@ -1,0 +1,38 @@
+-- Networks in which all that is asked and answered is in range (Inside AppleTalk, ATP, "Packet format").
+use Rattle.std.specs.Prelude.{◌≡◌, ℕ, ◌≤◌, List, length}
+use Rattle.std.specs.List.{AllByRecursion}
+use Rattle.at_ddp.specs.Datagram.{AreBytes, IsAddress}
+use Rattle.at_ddp.specs.declared.address.Address.{Address}
+use Rattle.at_atp.specs.Frames.{IsLawful}
+use Rattle.at_atp.specs.Network.{Happening, Begins, Answers, Hears, Takes, Serves, Retries, Other, Sent}
+use Rattle.at_atp.specs.Packets.{Packet}
+
+-- four user bytes, and at most 578 bytes of data
+pub record IsPacket (p : Packet) : Type 0 where
+  pub four : length p.user ≡ 4
+  pub user : AreBytes p.user
+  pub bytes : AreBytes p.data_
+  pub fits : length p.data_ ≤ 578
+
+-- what a transaction is to ask, and whom
+pub record IsAsking (who to : Address) (user bytes : List ℕ) (wanted : ℕ) : Type 0 where
+  pub who_fits : IsAddress who
+  pub to_fits : IsAddress to
+  pub asks : IsPacket (record { user = user; data_ = bytes })
+  pub few : wanted ≤ 8
+
+-- what is asked or answered by it is in range
+abbrev pub IsInRange : Happening → Type 0
+IsInRange (Begins who to user bytes wanted xo times) = IsAsking who to user bytes wanted
+IsInRange (Answers at key packets) = IsAddress at × AllByRecursion IsPacket packets
+IsInRange (Serves which packets) = AllByRecursion IsPacket packets
+IsInRange (Hears which) = Unit {0}
+IsInRange (Takes which) = Unit {0}
+IsInRange (Retries who tid) = IsAddress who
+IsInRange Other = Unit {0}
+
+-- a packet that was sent can be spelled, and so can its addresses
+pub record IsLawfullySent (s : Sent) : Type 0 where
+  pub from_fits : IsAddress s.from
+  pub to_fits : IsAddress s.to
+  pub lawful : IsLawful s.packet

@@ -1,0 +1,204 @@
+-- A network of requesters and responders that ask and answer each other, at any addresses, in which each packet may come
+-- late, again or never (Inside AppleTalk, ATP, "Transactions").
+use Rattle.std.specs.Prelude.{◌≡◌, ℕ, ◌+◌, ◌==◌, ◌&&◌, ◌||◌, not, nat_le, if◌then◌else◌, Bool, true, List, [], ◌∷◌, ◌++◌, length, map, find, slice_get, Option, Some, None}
+use Rattle.std.specs.List.{list_all}
+use Rattle.at_ddp.specs.Address.{same_address}
+use Rattle.at_ddp.specs.declared.address.Address.{Address}
+use Rattle.at_atp.specs.Frames.{Content, Request, Response, Release}
+use Rattle.at_atp.specs.Packets.{Packet}
+use Rattle.at_atp.specs.Records.{Record, is_key, taken, answer_fault, asked_for}
+use Rattle.at_atp.specs.Requests as requests
+use Rattle.at_atp.specs.Requests.{Requests, Retried, no_requests, next_number, beginning, request_by, heard, is_numbered, retried}
+use Rattle.at_atp.specs.Tables.{without_first}
+use Rattle.at_atp.specs.Transactions.{Transaction, Asked, answered, IsResponse}
+use Rattle.at_atp.specs.declared.fault.AtpFault.{AtpFault}
+use Rattle.at_atp.specs.declared.reception.Key.{Key}
+use Rattle.at_atp.specs.declared.reception.Reception.{Reception}
+use Rattle.at_atp.specs.declared.reception.Reception.TheVariants as reception
+use Rattle.at_atp.specs.declared.step.Step.TheVariants as step
+
+-- a packet that was sent, with the event that sent it
+pub record Sent : Type 0 where
+  pub event : ℕ
+  pub from : Address
+  pub to : Address
+  pub packet : Content
+
+-- a number that a requester drew, with the event
+pub record Drawn : Type 0 where
+  pub event : ℕ
+  pub who : Address
+  pub tid : ℕ
+
+pub record Network : Type 0 where
+  pub event : ℕ  -- how many events there were
+  pub requesters : Address → Requests
+  pub responders : Address → List Record
+  pub sent : List Sent  -- all that was ever sent
+  pub drawn : List Drawn  -- all numbers that were ever drawn
+  pub asked : List Transaction  -- newest first
+
+-- before anything happened
+abbrev pub opening : Network
+opening = record { event = 0; requesters = λ _. no_requests; responders = λ _. []; sent = []; drawn = []; asked = [] }
+
+-- ---- numbers that are not reused
+
+-- whose number a packet carries: the requester's
+abbrev pub owner : Address → Address → Content → Address
+owner from to (Request mask xo timer tid user bytes) = from
+owner from to (Response place eom sts tid user bytes) = to
+owner from to (Release tid) = from
+
+abbrev pub number_of : Content → ℕ
+number_of (Request mask xo timer tid user bytes) = tid
+number_of (Response place eom sts tid user bytes) = tid
+number_of (Release tid) = tid
+
+-- this is another number, or no later event than that one drew it
+abbrev pub is_no_later : Address → ℕ → ℕ → Drawn → Bool
+is_no_later who tid event x = not (same_address x.who who && (x.tid == tid)) || nat_le x.event event
+
+-- no later event than the one that sent a packet drew the number that it carries
+abbrev pub is_fresh : List Drawn → Sent → Bool
+is_fresh drawn s = list_all (is_no_later (owner s.from s.to s.packet) (number_of s.packet) s.event) drawn
+
+-- no responder holds a record under this number
+abbrev pub NoneHolds : (Address → List Record) → Address → ℕ → Type 0
+NoneHolds responders who tid = (at : Address) → find (is_key (record { from = who; tid = tid })) (responders at) ≡ None
+
+-- ---- what happens
+
+pub data Happening : Type 0 where
+  -- a transaction begins under the next number
+  Begins : (who to : Address) (user bytes : List ℕ) (wanted : ℕ) (xo : Bool) (retries : ℕ) → Happening
+  -- the request of a record is answered
+  Answers : (at : Address) (key : Key) (packets : List Packet) → Happening
+  -- a packet comes to the requester at the address that it was sent to
+  Hears : (which : ℕ) → Happening
+  -- a packet comes to the responder at the address that it was sent to
+  Takes : (which : ℕ) → Happening
+  -- the same, and a request that is new there is answered at once
+  Serves : (which : ℕ) (packets : List Packet) → Happening
+  -- a transaction is retried
+  Retries : (who : Address) (tid : ℕ) → Happening
+  -- nothing of this network
+  Other : Happening
+
+-- a new value at one address
+abbrev pub put : {X : Type 0} → (Address → X) → Address → X → Address → X
+put f at x a = if same_address at a then x else f a
+
+abbrev pub stamped : ℕ → Address → List (Address × Content) → List Sent
+stamped event from sent = map (λ (s : Address × Content). record { event = event; from = from; to = s.0; packet = s.1 }) sent
+
+-- a requester becomes this one, and sends
+abbrev pub with_requester : Network → Address → Requests → List (Address × Content) → Network
+with_requester n who after sent = record n { requesters = put n.requesters who after; sent = n.sent ++ stamped n.event who sent }
+
+-- a responder becomes this one, and sends
+abbrev pub with_responder : Network → Address → List Record → List (Address × Content) → Network
+with_responder n at after sent = record n { responders = put n.responders at after; sent = n.sent ++ stamped n.event at sent }
+
+abbrev pub new_transaction : Address → requests.Transaction → Transaction
+new_transaction who t = record { requester = who; tid = t.tid; responder = t.to; user = t.user; data_ = t.data_; wanted = length t.parts; xo = t.xo; answers = [] }
+
+abbrev pub begun : Network → Address → requests.Transaction → Network
+begun n who t = record n {
+  requesters = put n.requesters who (requests.begun (n.requesters who) t);
+  sent = n.sent ++ stamped n.event who ((t.to, request_by t) ∷ []);
+  drawn = n.drawn ++ record { event = n.event; who = who; tid = t.tid } ∷ [];
+  asked = new_transaction who t ∷ n.asked;
+}
+
+abbrev pub begins : Network → Address → Address → List ℕ → List ℕ → ℕ → Bool → ℕ → Option ℕ → Network
+begins n who to user bytes wanted xo retries None = n
+begins n who to user bytes wanted xo retries (Some tid) = begun n who (beginning tid to user bytes wanted xo retries)
+
+-- an answer that is not refused is sent, and joins the answers of its transaction
+abbrev pub answers : Network → Address → Key → List Packet → Option AtpFault → Network
+answers n at key packets (Some fault) = n
+answers n at key packets None = record n {
+  responders = put n.responders at (without_first (is_key key) (n.responders at));
+  sent = n.sent ++ stamped n.event at (asked_for (find (is_key key) (n.responders at)) key packets);
+  asked = answered n.asked key.from key.tid packets;
+}
+
+abbrev pub gives : Network → Address → Key → List Packet → Network
+gives n at key packets = answers n at key packets (answer_fault (n.responders at) key packets)
+
+abbrev pub hears : (A : Type 0) → Network → Option Sent → Network
+hears A n None = n
+hears A n (Some s) = with_requester n s.to (heard {A = A} (n.requesters s.to) s.from s.packet).after (heard {A = A} (n.requesters s.to) s.from s.packet).sent
+
+abbrev pub takes : Network → Sent → Network
+takes n s = with_responder n s.to (taken (n.responders s.to) s.from s.packet).after (taken (n.responders s.to) s.from s.packet).sent
+
+abbrev pub takes_in : Network → Option Sent → Network
+takes_in n None = n
+takes_in n (Some s) = takes n s
+
+-- a request that was handed up is answered
+abbrev pub handed_up : Network → Address → List Packet → Reception → Network
+handed_up n at packets (reception.New key) = gives n at key packets
+handed_up n at packets other = n
+
+abbrev pub serves : Network → List Packet → Option Sent → Network
+serves n packets None = n
+serves n packets (Some s) = handed_up (takes n s) s.to packets (taken (n.responders s.to) s.from s.packet).reception
+
+abbrev pub retries : Network → Address → Option Retried → Network
+retries n who None = n
+retries n who (Some r) = with_requester n who r.after r.sent
+
+abbrev pub done : (A : Type 0) → Network → Happening → Network
+done A n (Begins who to user bytes wanted xo times) = begins n who to user bytes wanted xo times (next_number (n.requesters who))
+done A n (Answers at key packets) = gives n at key packets
+done A n (Hears which) = hears A n (slice_get n.sent which)
+done A n (Takes which) = takes_in n (slice_get n.sent which)
+done A n (Serves which packets) = serves n packets (slice_get n.sent which)
+done A n (Retries who tid) = retries n who (retried (n.requesters who) tid)
+done A n Other = n
+
+-- one event more
+abbrev pub tick : Network → Network
+tick n = record n { event = n.event + 1 }
+
+-- the network after a history, whose newest happening stands first
+abbrev pub after : (A : Type 0) → List Happening → Network
+after A [] = opening
+after A (h ∷ hs) = tick (done A (after A hs) h)
+
+-- ---- histories in which no packet outlives its number
+
+abbrev pub ComesInTime : Network → ℕ → Type 0
+ComesInTime n which = (s : Sent) → slice_get n.sent which ≡ Some s → is_fresh n.drawn s ≡ true
+
+-- each packet comes before its number is drawn again, and no number is drawn while a record is held under it
+abbrev pub IsTimely : Network → Happening → Type 0
+IsTimely n (Begins who to user bytes wanted xo times) = (tid : ℕ) → next_number (n.requesters who) ≡ Some tid → NoneHolds n.responders who tid
+IsTimely n (Answers at key packets) = Unit {0}
+IsTimely n (Hears which) = ComesInTime n which
+IsTimely n (Takes which) = ComesInTime n which
+IsTimely n (Serves which packets) = ComesInTime n which
+IsTimely n (Retries who tid) = Unit {0}
+IsTimely n Other = Unit {0}
+
+abbrev pub AllTimely : (A : Type 0) → List Happening → Type 0
+AllTimely A [] = Unit {0}
+AllTimely A (h ∷ hs) = IsTimely (after A hs) h × AllTimely A hs
+
+-- ---- what holds after such a history
+
+pub record GivesAnswers (A : Type 0) (n : Network) : Type 0 where
+  -- what a packet in time finishes is a response to the newest transaction of its number, of answers given where it asked
+  pub finished : (which : ℕ) (s : Sent) (packets : List Packet) → slice_get n.sent which ≡ Some s → is_fresh n.drawn s ≡ true
+      → (heard {A = A} (n.requesters s.to) s.from s.packet).step ≡ step.Finished packets → (a : Asked n.asked s.to (number_of s.packet) s.from) × IsResponse a.transaction packets
+  -- a request in time is that of the newest transaction of its number, and came where that asked
+  pub requested : (which : ℕ) (s : Sent) (mask : ℕ) (xo : Bool) (timer tid : ℕ) (user bytes : List ℕ) → slice_get n.sent which ≡ Some s → is_fresh n.drawn s ≡ true
+      → s.packet ≡ Request mask xo timer tid user bytes → (a : Asked n.asked s.from tid s.to) × (a.transaction.user ≡ user) × (a.transaction.data_ ≡ bytes) × (a.transaction.xo ≡ xo)
+  -- so is a record
+  pub recorded : (at : Address) (key : Key) (r : Record) → find (is_key key) (n.responders at) ≡ Some r → Asked n.asked key.from key.tid at
+  -- and so is an open transaction
+  pub standing : (who : Address) (tid : ℕ) (t : requests.Transaction) → find (is_numbered tid) (n.requesters who).standing ≡ Some t
+      → (a : Asked n.asked who tid t.to) × (a.transaction.user ≡ t.user) × (a.transaction.data_ ≡ t.data_) × (a.transaction.wanted ≡ length t.parts) × (a.transaction.xo ≡ t.xo)
