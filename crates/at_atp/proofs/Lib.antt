@@ -17,4 +17,5 @@ mod RequesterLemmas
 mod RetryLemmas
 mod StepLemmas
 pub mod TableLemmas
+mod TurnLemmas
 mod WholeLemmas

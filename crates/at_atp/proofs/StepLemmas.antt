@@ -1,9 +1,9 @@
 -- What a packet does to a requester.
 use Rattle.std.proofs.Common.{◌≡◌, ℕ, suc, Bool, true, false, cond, List, [], ◌++◌, set, Some, None, Result, Ok, Err, refl, sym, ap, ◌∙◌, arith}
-use Rattle.std.specs.Prelude.{find, remove, IfOk}
+use Rattle.std.specs.Prelude.{find, remove, map, IfOk}
 use Rattle.std.proofs.lemmas.List.{append-nil, take-set, drop-set-lt}
 use Rattle.std.proofs.lemmas.Bool.{true≢false}
-use Rattle.at_ddp.specs.Outbox.{Outbox, Sends}
+use Rattle.at_ddp.specs.Outbox.{Outbox, Sends, finished}
 use Rattle.at_ddp.specs.declared.address.Address.{Address}
 use Rattle.at_atp.specs.Packets.{Packet}
 use Rattle.at_atp.specs.Answers.{Arrival, is_wanted, whole, with_part}
@@ -16,6 +16,13 @@ use Rattle.at_atp.proofs.TableLemmas.{Found}
 
 pub sends_nothing : (o : Outbox) → Sends o o []
 sends_nothing o = record { items = sym (append-nil o.items); from = refl; kind = refl }
+
+pub sends_later : (before between after : Outbox) (sent : List (Address × List ℕ)) → Sends before between [] → Sends between after sent → Sends before after sent
+sends_later before between after sent none some = record {
+  items = some.items ∙ (λ i. (none.items ∙ append-nil before.items) i ++ map (finished (none.from i) (none.kind i)) sent);
+  from = some.from ∙ none.from;
+  kind = some.kind ∙ none.kind;
+}
 
 -- the effect of a packet with which the answer is there
 pub effect_finished : {A E : Type 0} (t : Transaction) (place : ℕ) (part : Arrival) (sts : Bool) (packets : List Packet) (r : Result (Step A) E) (new : Transaction) (before after : Outbox) →

@@ -1,5 +1,5 @@
 -- The side that asks, and what each call does to it (Inside AppleTalk, ATP, "Transactions").
-use Rattle.std.specs.Prelude.{◌≡◌, ℕ, zero, suc, ◌+◌, ◌%◌, ◌≤◌, ◌==◌, ◌&&◌, nat_lt, if◌then◌else◌, Bool, true, false, List, [], ◌∷◌, ◌++◌, length, find, option_map, replicate, Option, Some, None}
+use Rattle.std.specs.Prelude.{◌≡◌, ℕ, zero, suc, ◌+◌, ◌%◌, ◌≤◌, ◌==◌, ◌&&◌, not, nat_lt, if◌then◌else◌, Bool, true, false, List, [], ◌∷◌, ◌++◌, length, find, option_map, replicate, Option, Some, None}
 use Rattle.std.specs.List.{list_any}
 use Rattle.at_ddp.specs.Address.{same_address}
 use Rattle.at_ddp.specs.Outbox.{Outbox, Sends}
@@ -135,6 +135,22 @@ abbrev pub heard : {A : Type 0} → Requests → Address → Content → Heard A
 heard r from (Response place eom sts tid user bytes) = response_came r (is_of tid from) place (record { eom = eom; packet = record { user = user; data_ = bytes } }) sts (find (is_of tid from) r.standing)
 heard r from (Request mask xo timer tid user bytes) = ignored r
 heard r from (Release tid) = ignored r
+
+abbrev pub is_response : Content → Bool
+is_response (Response place eom sts tid user bytes) = true
+is_response (Request mask xo timer tid user bytes) = false
+is_response (Release tid) = false
+
+-- is this transaction there, and at-least-once?
+abbrev pub is_at_least_once : Option Transaction → Bool
+is_at_least_once None = false
+is_at_least_once (Some t) = not t.xo
+
+-- would this packet end an at-least-once transaction?
+abbrev pub finishes : (A : Type 0) → Requests → Address → Content → Bool
+finishes A r from (Response place eom sts tid user bytes) = is_at_least_once (find (is_of tid from) r.standing) && is_finished (heard {A = A} r from (Response place eom sts tid user bytes)).step
+finishes A r from (Request mask xo timer tid user bytes) = false
+finishes A r from (Release tid) = false
 
 -- what came of a retry: the requester after it, and what is sent
 pub record Retried : Type 0 where

@@ -14,6 +14,7 @@ mod responder;
 mod sending;
 mod step;
 mod transaction;
+mod turning;
 
 pub use fault::AtpFault;
 pub use frame::{Frame, HEADER_LEN, MAX_DATA, decode, encode};

@@ -1,4 +1,4 @@
-ghost use Rattle.std.specs.Prelude.{◌≡◌, ◌++◌};
+ghost use Rattle.std.specs.Prelude.{◌≡◌, ◌+◌, ◌<◌, ◌++◌, length, IsSome};
 ghost use Rattle.at_atp.specs.Requests.{has_number, draw_from, next_number};
 
 use crate::transaction::Transaction;
@@ -13,7 +13,8 @@ pub(crate) fn next_of<A: Allocator>(
     back: &[Transaction<A>],
     next: u16,
 ) -> Option<u16>
-    ensures { result ≡ next_number (record { next = next; standing = front.now ++ back.now }) }
+    ensures number { result ≡ next_number (record { next = next; standing = front.now ++ back.now }) }
+    ensures some { length front.now + length back.now < 32 → IsSome result }
 {
     let open = front.len() + back.len();
     if open < OPEN {

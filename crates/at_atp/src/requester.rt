@@ -17,9 +17,9 @@ use std::marker::Model;
 /// The transactions that one socket asked for and that are still open.
 #[derive(Drop)]
 pub struct Requester<A: Allocator = Global> {
-    alloc: A,
-    next: u16,
-    standing: Vec<Transaction<A>, A>,
+    pub(crate) alloc: A,
+    pub(crate) next: u16,
+    pub(crate) standing: Vec<Transaction<A>, A>,
 }
 
 impl<A: Allocator> Model for Requester<A> {
@@ -28,6 +28,10 @@ impl<A: Allocator> Model for Requester<A> {
     ghost Value = { Requests };
 
     ghost view = { λ r. record { next = r.next; standing = r.standing.items } };
+
+    ghost use Rattle.std.specs.Prelude.{◌≤◌, length};
+
+    ghost invariant = { λ r. length r.standing.items ≤ 32 };
 }
 
 impl<A: Allocator + Copy> Requester<A> {
@@ -188,7 +192,11 @@ fn place_numbered<A: Allocator>(standing: &[Transaction<A>], tid: u16) -> Option
 }
 
 // Where the transaction of this number stands, if it asked this address.
-fn place_of<A: Allocator>(standing: &[Transaction<A>], tid: u16, from: Address) -> Option<usize>
+pub(crate) fn place_of<A: Allocator>(
+    standing: &[Transaction<A>],
+    tid: u16,
+    from: Address,
+) -> Option<usize>
     ensures { result ≡ position_from (is_of tid from) 0 standing.now }
 {
     standing.iter().position(|t| t.is_of(tid, from))

@@ -1,6 +1,6 @@
-ghost use Rattle.std.specs.Prelude.{◌≡◌, ◌≢◌, ◌↔◌, ◌<◌, ◌≤◌, ◌∷◌, slice_get, slice_set, [], ◌++◌, length, true, find, is_some, IfOk, IfErr, IfSome, OnOk, OnErr, IsOk, IsErrOf, Some, None, Err};
+ghost use Rattle.std.specs.Prelude.{◌≡◌, ℕ, ◌≢◌, ◌↔◌, ◌<◌, ◌≤◌, ◌∷◌, slice_get, slice_set, [], ◌++◌, length, true, find, is_some, IfOk, IfErr, IfSome, OnOk, OnErr, IsOk, IsErrOf, Some, None, Err};
 ghost use Rattle.std.specs.List.{position_from};
-ghost use Rattle.at_ddp.specs.Outbox.{Sends};
+ghost use Rattle.at_ddp.specs.Outbox.{Sends, HasRoomFor};
 ghost use Rattle.at_atp.specs.Frames.{content};
 ghost use Rattle.std.specs.Option.{option_copied};
 ghost use Rattle.at_atp.specs.Records.{Record, repeated, request_came, is_new_and_full, IsRepeat, Waiting, fit, is_key, taken, finds_no_place, record_fault, answer_fault, asked_mask, IsTaken, IsAnswered};
@@ -82,6 +82,9 @@ impl<A: Allocator + Copy> Responder<A> {
         ensures memory { answer_fault self.old key packets.now ≡ None → IfErr result (λ fault. fault ≡ AtpFault.NoMemory) }
         ensures unchanged { OnErr result (self.new ≡ self.old) }
         ensures nothing_sent { OnErr result (Sends out.old out.new []) }
+
+        // No memory is refused where there is room for eight full packets.
+        ensures room { HasRoomFor out.old 8 586 → answer_fault self.old key packets.now ≡ None → IsOk result }
     {
         if let Some(fault) = answer_fault(&self.entries, key, packets) {
             return Err(fault);
@@ -89,6 +92,22 @@ impl<A: Allocator + Copy> Responder<A> {
         out.room(packets.len() as u32, PACKET_LEN)?;
         let mask = forget(&mut self.entries, key);
         Ok(send_answer(out, key, 0, mask, packets))
+    }
+
+    /// Makes room for the largest answer to a request that waits. An answer to it then takes no memory.
+    pub fn room(&self, key: Key, out: &mut Outbox<A>) -> Result<(), AtpFault>
+        ensures ok { OnOk result (HasRoomFor out.new 8 586) }
+        ensures refuses { IfSome (record_fault (find (is_key key) self.now)) (λ fault. result ≡ Err fault) }
+        ensures memory { record_fault (find (is_key key) self.now) ≡ None → IfErr result (λ fault. fault ≡ AtpFault.NoMemory) }
+        ensures succeeds { record_fault (find (is_key key) self.now) ≡ None → HasRoomFor out.old 8 586 → IsOk result }
+        ensures nothing_sent { Sends out.old out.new [] }
+        ensures kept { (n size : ℕ) → HasRoomFor out.old n size → HasRoomFor out.new n size }
+    {
+        if let Some(fault) = record_fault(&self.entries, key) {
+            return Err(fault);
+        }
+        out.room(PACKETS as u32, PACKET_LEN)?;
+        Ok(())
     }
 
     /// Whether a record of this request stands, whatever became of it.

@@ -1,9 +1,9 @@
-ghost use Rattle.std.specs.Prelude.{◌≡◌, ◌+◌, ◌-◌, ◌≤◌, ◌<◌, ◌∷◌, nat_lt, if◌then◌else◌, ℕ, List, length, is_some, Some, None, IfOk, OnOk, OnErr, IsOk, true, false, [], replicate};
+ghost use Rattle.std.specs.Prelude.{◌≡◌, ◌+◌, ◌-◌, ◌≤◌, ◌<◌, ◌∷◌, ◌&&◌, Bool, not, nat_lt, if◌then◌else◌, ℕ, List, length, is_some, Some, None, IfOk, OnOk, OnErr, IsOk, true, false, [], replicate};
 ghost use Rattle.at_ddp.specs.Outbox.{Sends};
 ghost use Rattle.at_atp.specs.Packets.{Packet as Arrived};
 ghost use Rattle.at_atp.specs.Answers.{Arrival, is_wanted, whole, with_part};
 ghost use Rattle.at_atp.specs.Frames.{content, CanBeWritten, data_of, spelled_all};
-ghost use Rattle.at_atp.specs.Requests.{beginning, is_of, request_by, release_by};
+ghost use Rattle.at_atp.specs.Requests.{beginning, is_of, request_by, release_by, came, is_finished};
 
 use crate::frame::{Frame, PACKET_LEN};
 use crate::part::{Part, completes, gather, is_wanted, mask_of};
@@ -99,6 +99,13 @@ impl<A: Allocator> Transaction<A> {
         }
     }
 
+    // Whether a packet for this place would end it, and it is for at-least-once.
+    pub(crate) fn would_end(&self, place: u8, eom: bool) -> bool
+        ensures { (part : Arrival) (sts : Bool) → part.eom ≡ eom → result ≡ (not self.now.xo && is_finished (came {A = A} self.now place part sts).step) }
+    {
+        !self.xo && self.wants(place) && self.completes(place, eom)
+    }
+
     fn wants(&self, place: u8) -> bool
         ensures wanted { result ≡ is_wanted self.now.parts place }
         ensures within { result ≡ true → place < length self.now.parts }
@@ -118,6 +125,7 @@ impl<A: Allocator> Transaction<A> {
     fn release(&self, out: &mut Outbox<A>) -> Result<(), AllocError>
         ensures ok { OnOk result (Sends out.old out.new (spelled_all (release_by self.now))) }
         ensures err { OnErr result (Sends out.old out.new []) }
+        ensures untouched { self.now.xo ≡ false → out.new ≡ out.old }
     {
         if !self.xo {
             return Ok(());
@@ -161,7 +169,7 @@ pub(crate) struct Arriving<'a> {
 }
 
 impl<A: Allocator + Copy> Transaction<A> {
-    ghost use Rattle.at_atp.specs.Requests.{came, was_kept, is_ignored, IsEffect};
+    ghost use Rattle.at_atp.specs.Requests.{was_kept, is_ignored, IsEffect};
     ghost use Rattle.at_atp.specs.Arriving.{arrival_of};
 
     // Takes a packet in that came from the address that was asked, under this transaction's number.
@@ -224,7 +232,7 @@ impl<A: Allocator + Copy> Transaction<A> {
     }
 
     // A packet came with which the answer is there.
-    fn finish(
+    pub(crate) fn finish(
         &mut self,
         alloc: A,
         arriving: &Arriving<'_>,
@@ -235,6 +243,7 @@ impl<A: Allocator + Copy> Transaction<A> {
             IfOk result (λ step. (step ≡ Step.Finished packets) × Sends out.old out.new (spelled_all (release_by self.old))) }
         ensures unchanged { OnErr result (self.new ≡ self.old) }
         ensures nothing_sent { OnErr result (Sends out.old out.new []) }
+        ensures untouched { self.old.xo ≡ false → out.new ≡ out.old }
     {
         let part = Part::copy_of(alloc, arriving.eom, arriving.user, arriving.bytes)?;
         let packets = Vec::with_capacity(alloc, self.parts.len())?;
