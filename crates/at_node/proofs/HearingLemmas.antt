@@ -1,6 +1,6 @@
 -- What comes of a packet, and of one that is refused.
-use Rattle.std.proofs.Common.{◌≡◌, ℕ, Bool, true, false, cond, List, ◌++◌, map, Option, Some, None, refl, sym, ap, subst, ◌∙◌, inl, inr, arith, Bor}
-use Rattle.std.specs.Prelude.{IfSome, ◌==◌, is_none}
+use Rattle.std.proofs.Common.{◌≡◌, ℕ, Bool, true, false, cond, List, ◌++◌, map, Option, Some, None, Result, Ok, Err, refl, sym, ap, subst, ◌∙◌, inl, inr, arith, Bor}
+use Rattle.std.specs.Prelude.{IfSome, OnOk, IsOk, ◌==◌, is_none}
 use Rattle.std.proofs.lemmas.List.{append-nil}
 use Rattle.at_ddp.specs.Datagrams.{Posted}
 use Rattle.at_ddp.specs.Fault as ddp
@@ -21,13 +21,15 @@ use Rattle.at_atp.specs.Frames.{Content, spelled_all}
 use Rattle.at_atp.specs.declared.frame.Frame.{Frame}
 use Rattle.at_atp.specs.declared.frame.Frame.TheVariants as frames
 use Rattle.at_atp.specs.Packets.{Packet}
+use Rattle.at_atp.specs.declared.reception.Key.{Key}
 use Rattle.at_atp.specs.Requests.{Heard, heard, is_finished}
 use Rattle.at_atp.specs.declared.step.Step.{Step}
 use Rattle.at_atp.specs.declared.step.Step.TheVariants as step
-use Rattle.at_node.specs.Hearing.{Tells, HearsAt, HearsAtpFault, AtAsking, AtSocket, Asker, Nobody, socket_of, router_socket, is_mine}
-use Rattle.at_node.specs.Steps.{asking, atp_kind, tid_of, packet_in, is_reading, after_heard, reported, reported_other, reading_after, zone_asked}
+use Rattle.at_node.specs.Hearing.{Serves, is_asked, Tells, HearsAt, HearsAtpFault, AtAsking, AtSocket, Asker, Nobody, Service, socket_of, router_socket, is_mine}
+use Rattle.at_node.specs.Steps.{refused_as, asking, atp_kind, tid_of, packet_in, is_reading, after_heard, reported, reported_other, reading_after, zone_asked}
+use Rattle.at_node.specs.declared.service.Reply.{Reply}
 use Rattle.at_node.specs.declared.event.Report.{Report}
-use Rattle.at_node.specs.declared.event.Report.TheVariants.{Begun, Served, Zones, ZoneFault, Kept, Response, Again, Ignored, Refused, NoMemory}
+use Rattle.at_node.specs.declared.event.Report.TheVariants.{Begun, Answered, Served, Asked, Zones, ZoneFault, ZonesFailed, Kept, Response, Failed, Again, Ignored, Refused, NoMemory}
 use Rattle.at_node.specs.Nodes.{NodeState, Outcome, idle, posted, sent_by, Exactly, IsStep, Comes}
 
 -- each fault that stands has a number
@@ -58,13 +60,34 @@ zip_number zips.EmptyPage user bytes h = (33, refl)
 zip_number zips.TooManyZones user bytes h = (34, refl)
 zip_number zips.NoMemory user bytes h = absurd h
 
+pub when_ok : {T E : Type 0} (r : Result T E) (P : Type 0) → OnOk r P → IsOk r → P
+when_ok (Ok x) P h is = h
+when_ok (Err e) P h is = absurd (cc)
+
 pub when_some : {X : Type 0} (o : Option X) (x : X) (P : X → Type 0) → o ≡ Some x → IfSome o P → P x
 when_some {X} o x P is h = subst (λ (y : Option X). IfSome y P) is h
 
 -- a refusal by a number
-pub comes_refused : {A : Type 0} (P : Outcome A → Type 0) (n : NodeState) (before : List Posted) (r : Report A) (number : Option ℕ) (k : ℕ) → number ≡ Some k → IfSome number (λ i. r ≡ Refused i) → P (idle n (Refused k)) → Comes P n before r n before
+pub comes_refused : {A : Type 0} (P : Outcome A → Type 0) (n : NodeState) (before : List Posted) (r : Report A) (number : Option ℕ) (k : ℕ) → number ≡ Some k → r ≡ refused_as number → P (idle n (Refused k)) → Comes P n before r n before
 comes_refused P n before r number k is h p =
-    subst (λ x. Comes P n before x n before) (sym (when_some number k (λ i. r ≡ Refused i) is h)) (idle n (Refused k), p, (refl, refl, sym (append-nil before)))
+    subst (λ x. Comes P n before x n before) (sym (h ∙ ap refused_as is)) (idle n (Refused k), p, (refl, refl, sym (append-nil before)))
+
+-- the service was not called
+pub not_served : {A S : Type 0} (serves : S → Key → List ℕ → List ℕ → Reply A → S → Type 0) (r : Report A) (said : Reply A) (s : S) → is_asked r ≡ false → Serves serves r said s s
+not_served serves (Begun tid) said s h = refl
+not_served serves (Answered n) said s h = refl
+not_served serves (Served n) said s h = refl
+not_served serves (Asked key user bytes) said s h = absurd (true≢false h)
+not_served serves (Zones zs) said s h = refl
+not_served serves (ZoneFault n) said s h = refl
+not_served serves ZonesFailed said s h = refl
+not_served serves Kept said s h = refl
+not_served serves (Response tid ps) said s h = refl
+not_served serves (Failed tid) said s h = refl
+not_served serves Again said s h = refl
+not_served serves Ignored said s h = refl
+not_served serves (Refused n) said s h = refl
+not_served serves NoMemory said s h = refl
 
 pub comes_ignored : {A : Type 0} (P : Outcome A → Type 0) (n : NodeState) (before : List Posted) → P (idle n Ignored) → Comes P n before Ignored n before
 comes_ignored P n before p = (idle n Ignored, p, (refl, refl, sym (append-nil before)))
@@ -73,6 +96,10 @@ comes_ignored P n before p = (idle n Ignored, p, (refl, refl, sym (append-nil be
 pub comes_wider : {A : Type 0} (P Q : Outcome A → Type 0) (old : NodeState) (before : List Posted) (r : Report A) (new : NodeState) (after : List Posted) → ((o : Outcome A) → P o → Q o) → Comes P old before r new after → Comes Q old before r new after
 comes_wider P Q old before NoMemory new after f h = h
 comes_wider P Q old before (Begun tid) new after f h = (h.0, f h.0 h.1, h.2)
+comes_wider P Q old before (Answered n) new after f h = (h.0, f h.0 h.1, h.2)
+comes_wider P Q old before (Asked key user bytes) new after f h = (h.0, f h.0 h.1, h.2)
+comes_wider P Q old before ZonesFailed new after f h = (h.0, f h.0 h.1, h.2)
+comes_wider P Q old before (Failed tid) new after f h = (h.0, f h.0 h.1, h.2)
 comes_wider P Q old before (Served n) new after f h = (h.0, f h.0 h.1, h.2)
 comes_wider P Q old before (Zones zs) new after f h = (h.0, f h.0 h.1, h.2)
 comes_wider P Q old before (ZoneFault n) new after f h = (h.0, f h.0 h.1, h.2)
@@ -86,6 +113,10 @@ comes_wider P Q old before (Refused n) new after f h = (h.0, f h.0 h.1, h.2)
 pub comes_with : {A : Type 0} (P : Outcome A → Type 0) (o : Outcome A) (old : NodeState) (before : List Posted) (r : Report A) (new : NodeState) (after : List Posted) → P o → Exactly o before r new after → (r ≡ NoMemory → ⊥) → Comes P old before r new after
 comes_with P o old before NoMemory new after p e some = absurd (some refl)
 comes_with P o old before (Begun tid) new after p e some = (o, p, e)
+comes_with P o old before (Answered n) new after p e some = (o, p, e)
+comes_with P o old before (Asked key user bytes) new after p e some = (o, p, e)
+comes_with P o old before ZonesFailed new after p e some = (o, p, e)
+comes_with P o old before (Failed tid) new after p e some = (o, p, e)
 comes_with P o old before (Served n) new after p e some = (o, p, e)
 comes_with P o old before (Zones zs) new after p e some = (o, p, e)
 comes_with P o old before (ZoneFault n) new after p e some = (o, p, e)
@@ -118,13 +149,13 @@ page_heard n tid p h step.AskAgain told mine t = refl
 page_heard n tid p h (step.Finished packets) told mine t = rw mine (record { told = told; tells = t; outcome = refl })
 
 -- a packet of the transaction that reads the zone list
-pub comes_page : {A : Type 0} (n : NodeState) (from : Address) (f : Content) (s : Step A) (told : Report A) (before after : List Posted) (new : NodeState) →
+pub comes_page : {A : Type 0} (said : Reply A) (n : NodeState) (from : Address) (f : Content) (s : Step A) (told : Report A) (before after : List Posted) (new : NodeState) →
     s ≡ (heard {A = A} n.requester from f).step → is_reading n.reading (tid_of f) ≡ true → Tells (packet_in f) told →
     new ≡ record n { reading = reading_after n.reading s; requester = (heard {A = A} n.requester from f).after } → after ≡ before ++ map posted (sent_by (asking n.net n.number) atp_kind (spelled_all (heard {A = A} n.requester from f).sent)) →
-    Comes (AtSocket n from Asker f) n before (reported told s) new after
-comes_page {A} n from f s told before after new is mine t same sent =
+    Comes (AtSocket said n from Asker f) n before (reported told s) new after
+comes_page {A} said n from f s told before after new is mine t same sent =
     let h : Heard A = heard n.requester from f in
-    comes_with (AtSocket n from Asker f) (after_heard n h (reported told s) (reading_after n.reading s)) n before (reported told s) new after
+    comes_with (AtSocket said n from Asker f) (after_heard n h (reported told s) (reading_after n.reading s)) n before (reported told s) new after
     (subst (λ x. AtAsking n (tid_of f) (packet_in f) h x (after_heard n h (reported told s) (reading_after n.reading s))) is (page_heard n (tid_of f) (packet_in f) h s told mine t))
     (refl, same, sent) (page_some (packet_in f) told s t)
 
@@ -148,13 +179,13 @@ only_response A n from (Frames.Response place eom sts tid user bytes) apart e = 
 only_response A n from (Frames.Release tid) apart e = absurd (cc)
 
 -- any other packet
-pub comes_other : {A : Type 0} (n : NodeState) (from : Address) (f : Content) (s : Step A) (before after : List Posted) (new : NodeState) →
+pub comes_other : {A : Type 0} (said : Reply A) (n : NodeState) (from : Address) (f : Content) (s : Step A) (before after : List Posted) (new : NodeState) →
     s ≡ (heard {A = A} n.requester from f).step → ((place : ℕ) (eom sts : Bool) (tid : ℕ) (user bytes : List ℕ) → f ≡ Frames.Response place eom sts tid user bytes → is_reading n.reading tid ≡ false) →
     new ≡ record n { requester = (heard {A = A} n.requester from f).after } → after ≡ before ++ map posted (sent_by (asking n.net n.number) atp_kind (spelled_all (heard {A = A} n.requester from f).sent)) →
-    Comes (AtSocket n from Asker f) n before (reported_other (tid_of f) s) new after
-comes_other {A} n from f s before after new is apart same sent =
+    Comes (AtSocket said n from Asker f) n before (reported_other (tid_of f) s) new after
+comes_other {A} said n from f s before after new is apart same sent =
     let h : Heard A = heard n.requester from f in
-    comes_with (AtSocket n from Asker f) (after_heard n h (reported_other (tid_of f) s) n.reading) n before (reported_other (tid_of f) s) new after
+    comes_with (AtSocket said n from Asker f) (after_heard n h (reported_other (tid_of f) s) n.reading) n before (reported_other (tid_of f) s) new after
     (subst (λ x. AtAsking n (tid_of f) (packet_in f) h x (after_heard n h (reported_other (tid_of f) s) n.reading)) is (other_heard n (tid_of f) (packet_in f) h s (λ e. only_response A n from f apart (ap is_finished (sym is) ∙ e))))
     (refl, same, sent) (other_some (tid_of f) s)
 
@@ -169,10 +200,16 @@ for_asker n d h e = rw (h, eq-eqb d.to.socket 128 e) refl
 pub for_router : (n : NodeState) (d : Datagram) → is_mine n d ≡ true → d.to.socket ≡ 6 → socket_of n d ≡ router_socket n.table
 for_router n d h e =
     let apart : (d.to.socket == 128) ≡ false = ne_eqb d.to.socket 128 (λ f. let wrong : ◌≡◌ {A = ℕ} 6 128 = sym e ∙ f in omega arith) in
-    rw (h, apart, eq-eqb d.to.socket 6 e) refl
+    let other : (d.to.socket == 129) ≡ false = ne_eqb d.to.socket 129 (λ f. let wrong : ◌≡◌ {A = ℕ} 6 129 = sym e ∙ f in omega arith) in
+    rw (h, apart, other, eq-eqb d.to.socket 6 e) refl
 
-pub for_no_socket : (n : NodeState) (d : Datagram) → (d.to.socket ≡ 128 → ⊥) → (d.to.socket ≡ 6 → ⊥) → socket_of n d ≡ Nobody
-for_no_socket n d a b = rw (ne_eqb d.to.socket 128 a, ne_eqb d.to.socket 6 b) (go (is_mine n d))
+pub for_service : (n : NodeState) (d : Datagram) → is_mine n d ≡ true → d.to.socket ≡ 129 → socket_of n d ≡ Service
+for_service n d h e =
+    let apart : (d.to.socket == 128) ≡ false = ne_eqb d.to.socket 128 (λ f. let wrong : ◌≡◌ {A = ℕ} 129 128 = sym e ∙ f in omega arith) in
+    rw (h, apart, eq-eqb d.to.socket 129 e) refl
+
+pub for_no_socket : (n : NodeState) (d : Datagram) → (d.to.socket ≡ 128 → ⊥) → (d.to.socket ≡ 129 → ⊥) → (d.to.socket ≡ 6 → ⊥) → socket_of n d ≡ Nobody
+for_no_socket n d a c b = rw (ne_eqb d.to.socket 128 a, ne_eqb d.to.socket 129 c, ne_eqb d.to.socket 6 b) (go (is_mine n d))
   where
     go : (b : Bool) → cond b Nobody Nobody ≡ Nobody
     go true = refl
@@ -184,36 +221,47 @@ pub none_of : {X : Type 0} (o : Option X) → is_none o ≡ true → o ≡ None
 none_of None h = refl
 none_of (Some x) h = absurd (false≢true h)
 
-pub for_no_router : {A : Type 0} (n : NodeState) (d : Datagram) (before : List Posted) (table : Option (List (List ℕ))) → table ≡ None → Comes {A = A} (HearsAt n d (router_socket table)) n before Ignored n before
-for_no_router n d before table is = rw is (idle n Ignored, refl, (refl, refl, sym (append-nil before)))
+pub for_no_router : {A : Type 0} (said : Reply A) (n : NodeState) (d : Datagram) (before : List Posted) (table : Option (List (List ℕ))) → table ≡ None → Comes {A = A} (HearsAt said n d (router_socket table)) n before Ignored n before
+for_no_router said n d before table is = rw is (idle n Ignored, refl, (refl, refl, sym (append-nil before)))
 
-pub router_fault : {A : Type 0} (n : NodeState) (d : Datagram) (table : Option (List (List ℕ))) (o : Outcome A) → is_none table ≡ false → HearsAtpFault n d o → HearsAt n d (router_socket table) o
-router_fault n d None o h f = absurd (true≢false h)
-router_fault n d (Some table) o h f = inr f
+pub router_fault : {A : Type 0} (said : Reply A) (n : NodeState) (d : Datagram) (table : Option (List (List ℕ))) (o : Outcome A) → is_none table ≡ false → HearsAtpFault n d o → HearsAt said n d (router_socket table) o
+router_fault said n d None o h f = absurd (true≢false h)
+router_fault said n d (Some table) o h f = inr f
 
-pub router_packet : {A : Type 0} (n : NodeState) (d : Datagram) (table : Option (List (List ℕ))) (f : Content) → is_none table ≡ false → Frames.Spells d.data_ f → (o : Outcome A) → AtSocket n d.from (router_socket table) f o → HearsAt n d (router_socket table) o
-router_packet n d None f h spelled o at = absurd (true≢false h)
-router_packet n d (Some table) f h spelled o at = inl (record { packet = f; spelled = spelled; outcome = at })
+pub router_packet : {A : Type 0} (said : Reply A) (n : NodeState) (d : Datagram) (table : Option (List (List ℕ))) (f : Content) → is_none table ≡ false → Frames.Spells d.data_ f → (o : Outcome A) → AtSocket said n d.from (router_socket table) f o → HearsAt said n d (router_socket table) o
+router_packet said n d None f h spelled o at = absurd (true≢false h)
+router_packet said n d (Some table) f h spelled o at = inl (record { packet = f; spelled = spelled; outcome = at })
 
-pub no_request : (A : Type 0) (n : NodeState) (from : Address) (table : Option (List (List ℕ))) (f : Content) → ((mask : ℕ) (xo : Bool) (timer tid : ℕ) (user bytes : List ℕ) → f ≡ Frames.Request mask xo timer tid user bytes → ⊥) →
-    AtSocket {A = A} n from (router_socket table) f (idle n Ignored)
-no_request A n from None f apart = refl
-no_request A n from (Some table) (Frames.Request mask xo timer tid user bytes) apart = absurd (apart mask xo timer tid user bytes refl)
-no_request A n from (Some table) (Frames.Response place eom sts tid user bytes) apart = refl
-no_request A n from (Some table) (Frames.Release tid) apart = refl
+pub no_request : (A : Type 0) (said : Reply A) (n : NodeState) (from : Address) (table : Option (List (List ℕ))) (f : Content) → ((mask : ℕ) (xo : Bool) (timer tid : ℕ) (user bytes : List ℕ) → f ≡ Frames.Request mask xo timer tid user bytes → ⊥) →
+    AtSocket {A = A} said n from (router_socket table) f (idle n Ignored)
+no_request A said n from None f apart = refl
+no_request A said n from (Some table) (Frames.Request mask xo timer tid user bytes) apart = absurd (apart mask xo timer tid user bytes refl)
+no_request A said n from (Some table) (Frames.Response place eom sts tid user bytes) apart = refl
+no_request A said n from (Some table) (Frames.Release tid) apart = refl
 
-pub bad_request : (A : Type 0) (n : NodeState) (from : Address) (table : Option (List (List ℕ))) (mask : ℕ) (xo : Bool) (timer tid : ℕ) (user bytes : List ℕ) → ((start : ℕ) → ¬ RequestSpells user start) →
-    AtSocket {A = A} n from (router_socket table) (Frames.Request mask xo timer tid user bytes) (idle n Ignored)
-bad_request A n from None mask xo timer tid user bytes none = refl
-bad_request A n from (Some table) mask xo timer tid user bytes none = inr (none, refl)
+-- anything but a request is nothing to the service
+pub no_question : (A : Type 0) (said : Reply A) (n : NodeState) (from : Address) (f : Content) → ((mask : ℕ) (xo : Bool) (timer tid : ℕ) (user bytes : List ℕ) → f ≡ Frames.Request mask xo timer tid user bytes → ⊥) →
+    AtSocket {A = A} said n from Service f (idle n Ignored)
+no_question A said n from (Frames.Request mask xo timer tid user bytes) apart = absurd (apart mask xo timer tid user bytes refl)
+no_question A said n from (Frames.Response place eom sts tid user bytes) apart = refl
+no_question A said n from (Frames.Release tid) apart = refl
 
-pub good_request : (A : Type 0) (n : NodeState) (from : Address) (table : Option (List (List ℕ))) (t : List (List ℕ)) (mask : ℕ) (xo : Bool) (timer tid : ℕ) (user bytes : List ℕ) (start : ℕ) → table ≡ Some t → RequestSpells user start →
-    AtSocket {A = A} n from (router_socket table) (Frames.Request mask xo timer tid user bytes) (zone_asked n from (Frames.Request mask xo timer tid user bytes) t start)
-good_request A n from table t mask xo timer tid user bytes start is asks = rw is (inl (record { start = start; asks = asks; outcome = refl }))
+pub bad_request : (A : Type 0) (said : Reply A) (n : NodeState) (from : Address) (table : Option (List (List ℕ))) (mask : ℕ) (xo : Bool) (timer tid : ℕ) (user bytes : List ℕ) → ((start : ℕ) → ¬ RequestSpells user start) →
+    AtSocket {A = A} said n from (router_socket table) (Frames.Request mask xo timer tid user bytes) (idle n Ignored)
+bad_request A said n from None mask xo timer tid user bytes none = refl
+bad_request A said n from (Some table) mask xo timer tid user bytes none = inr (none, refl)
+
+pub good_request : (A : Type 0) (said : Reply A) (n : NodeState) (from : Address) (table : Option (List (List ℕ))) (t : List (List ℕ)) (mask : ℕ) (xo : Bool) (timer tid : ℕ) (user bytes : List ℕ) (start : ℕ) → table ≡ Some t → RequestSpells user start →
+    AtSocket {A = A} said n from (router_socket table) (Frames.Request mask xo timer tid user bytes) (zone_asked n from (Frames.Request mask xo timer tid user bytes) t start)
+good_request A said n from table t mask xo timer tid user bytes start is asks = rw is (inl (record { start = start; asks = asks; outcome = refl }))
 
 pub step_comes : {A : Type 0} (P : Outcome A → Type 0) (o : Outcome A) (old : NodeState) (before : List Posted) (r : Report A) (new : NodeState) (after : List Posted) → P o → IsStep o old before r new after → Comes P old before r new after
 step_comes P o old before NoMemory new after p e = e
 step_comes P o old before (Begun tid) new after p e = (o, p, e)
+step_comes P o old before (Answered n) new after p e = (o, p, e)
+step_comes P o old before (Asked key user bytes) new after p e = (o, p, e)
+step_comes P o old before ZonesFailed new after p e = (o, p, e)
+step_comes P o old before (Failed tid) new after p e = (o, p, e)
 step_comes P o old before (Served n) new after p e = (o, p, e)
 step_comes P o old before (Zones zs) new after p e = (o, p, e)
 step_comes P o old before (ZoneFault n) new after p e = (o, p, e)

@@ -1,3 +1,4 @@
+mod DrawingLemmas
 mod HearingLemmas
 mod PostLemmas
 mod ServingLemmas

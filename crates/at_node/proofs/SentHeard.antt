@@ -12,10 +12,11 @@ use Rattle.at_zip.specs.Page as page
 use Rattle.at_zip.specs.Fault as zip
 use Rattle.at_zip.specs.Request.{RequestSpells, request_user}
 use Rattle.at_zip.specs.declared.fault.ZipFault.{ZipFault}
+use Rattle.at_node.specs.declared.service.Reply.{Reply}
 use Rattle.at_node.specs.declared.event.Report.{Report}
 use Rattle.at_node.specs.Nodes.{NodeState, Outcome}
 use Rattle.at_node.specs.Steps.{atp_kind, zone_asked}
-use Rattle.at_node.specs.Hearing.{Nobody, Asker, Zones, Socket, socket_of, AtSocket, AtZones, HearsAt, HearsPacket, HearsAtpFault, Hears, Tells, told_by}
+use Rattle.at_node.specs.Hearing.{Nobody, Asker, Service, Zones, Socket, socket_of, AtSocket, AtZones, HearsAt, HearsPacket, HearsAtpFault, Hears, Tells, told_by}
 
 -- ---- packets
 
@@ -24,18 +25,19 @@ pub record PacketLaws : Type 0 where
   pub alone : (input : List ℕ) (f g : Content) → Spells input f → Spells input g → f ≡ g
   pub faultless : (input : List ℕ) (f : Content) → Spells input f → (fault : AtpFault) → ¬ atp.Stands fault input
 
-one_packet_heard : (A : Type 0) (n : NodeState) (d : Datagram) (socket : Socket) (f : Content) (o : Outcome A) → PacketLaws → IsLawful f → d.data_ ≡ spelled f →
-    HearsPacket n d socket o ⊎ HearsAtpFault n d o → AtSocket n d.from socket f o
-one_packet_heard A n d socket f o laws ok is (inl h) =
-    subst (λ g. AtSocket n d.from socket g o) (laws.alone (spelled f) h.packet f (subst (λ bytes. Spells bytes h.packet) is h.spelled) (laws.reads f ok)) h.outcome
-one_packet_heard A n d socket f o laws ok is (inr h) =
+one_packet_heard : (A : Type 0) (said : Reply A) (n : NodeState) (d : Datagram) (socket : Socket) (f : Content) (o : Outcome A) → PacketLaws → IsLawful f → d.data_ ≡ spelled f →
+    HearsPacket said n d socket o ⊎ HearsAtpFault n d o → AtSocket said n d.from socket f o
+one_packet_heard A said n d socket f o laws ok is (inl h) =
+    subst (λ g. AtSocket said n d.from socket g o) (laws.alone (spelled f) h.packet f (subst (λ bytes. Spells bytes h.packet) is h.spelled) (laws.reads f ok)) h.outcome
+one_packet_heard A said n d socket f o laws ok is (inr h) =
     let first = h.first in
     absurd (laws.faultless (spelled f) f (laws.reads f ok) h.fault (subst (atp.Stands h.fault) is first.stands))
 
-at_socket : (A : Type 0) (n : NodeState) (d : Datagram) (socket : Socket) (f : Content) (o : Outcome A) → PacketLaws → IsLawful f → d.data_ ≡ spelled f → HearsAt n d socket o → AtSocket n d.from socket f o
-at_socket A n d Nobody f o laws ok is h = h
-at_socket A n d Asker f o laws ok is h = one_packet_heard A n d Asker f o laws ok is h
-at_socket A n d (Zones table) f o laws ok is h = one_packet_heard A n d (Zones table) f o laws ok is h
+at_socket : (A : Type 0) (said : Reply A) (n : NodeState) (d : Datagram) (socket : Socket) (f : Content) (o : Outcome A) → PacketLaws → IsLawful f → d.data_ ≡ spelled f → HearsAt said n d socket o → AtSocket said n d.from socket f o
+at_socket A said n d Nobody f o laws ok is h = h
+at_socket A said n d Asker f o laws ok is h = one_packet_heard A said n d Asker f o laws ok is h
+at_socket A said n d Service f o laws ok is h = one_packet_heard A said n d Service f o laws ok is h
+at_socket A said n d (Zones table) f o laws ok is h = one_packet_heard A said n d (Zones table) f o laws ok is h
 
 -- ---- datagrams
 
@@ -52,13 +54,13 @@ begins laws to from f to_fits from_fits ok =
     subst (λ bytes. BeginsWith bytes (written to from atp_kind (spelled f)) []) (append-nil (canonical to from atp_kind (spelled f)))
     (laws.reads to from atp_kind (spelled f) [] to_fits from_fits (lit< tt) fits.0 fits.1)
 
-pub heard_as_sent : (A : Type 0) (n : NodeState) (to from : Address) (f : Content) (o : Outcome A) → DatagramLaws → PacketLaws → IsAddress to → IsAddress from → IsLawful f →
-    Hears n (canonical to from atp_kind (spelled f)) o → AtSocket n from (socket_of n (written to from atp_kind (spelled f))) f o
-heard_as_sent A n to from f o laws packets to_fits from_fits ok (inl h) =
+pub heard_as_sent : (A : Type 0) (said : Reply A) (n : NodeState) (to from : Address) (f : Content) (o : Outcome A) → DatagramLaws → PacketLaws → IsAddress to → IsAddress from → IsLawful f →
+    Hears said n (canonical to from atp_kind (spelled f)) o → AtSocket said n from (socket_of n (written to from atp_kind (spelled f))) f o
+heard_as_sent A said n to from f o laws packets to_fits from_fits ok (inl h) =
     let sent = written to from atp_kind (spelled f) in
     let same = laws.alone (canonical to from atp_kind (spelled f)) h.datagram sent h.rest [] h.begins (begins laws to from f to_fits from_fits ok) in
-    at_socket A n sent (socket_of n sent) f o packets ok refl (subst (λ (d : Datagram). HearsAt n d (socket_of n d) o) same.0 h.outcome)
-heard_as_sent A n to from f o laws packets to_fits from_fits ok (inr h) =
+    at_socket A said n sent (socket_of n sent) f o packets ok refl (subst (λ (d : Datagram). HearsAt said n d (socket_of n d) o) same.0 h.outcome)
+heard_as_sent A said n to from f o laws packets to_fits from_fits ok (inr h) =
     let first = h.first in
     absurd (laws.faultless (canonical to from atp_kind (spelled f)) (written to from atp_kind (spelled f)) [] (begins laws to from f to_fits from_fits ok) h.fault first.stands)
 

@@ -1,5 +1,5 @@
 -- What comes of bytes that a node receives: the first fault that stands in them, or the step of what they spell.
-use Rattle.std.specs.Prelude.{◌≡◌, ℕ, ◌==◌, ◌&&◌, ◌||◌, if◌then◌else◌, Bool, MatchBool, List, Option, Some, None, ◌⊎◌}
+use Rattle.std.specs.Prelude.{◌≡◌, ℕ, ◌==◌, ◌&&◌, ◌||◌, ◌≤◌, if◌then◌else◌, Bool, true, false, MatchBool, List, length, Option, Some, None, ◌⊎◌}
 use Rattle.at_ddp.specs.Datagram.{Content as Datagram, BeginsWith}
 use Rattle.at_ddp.specs.Fault as ddp
 use Rattle.at_ddp.specs.declared.address.Address.{Address}
@@ -8,17 +8,23 @@ use Rattle.at_atp.specs.Frames.{Content, Request, Response, Release, Spells}
 use Rattle.at_atp.specs.Fault as atp
 use Rattle.at_atp.specs.Packets.{Packet}
 use Rattle.at_atp.specs.Requests.{Heard, heard}
+use Rattle.at_atp.specs.Records.{fit}
 use Rattle.at_atp.specs.declared.fault.AtpFault.{AtpFault}
+use Rattle.at_atp.specs.declared.reception.Key.{Key}
+use Rattle.at_atp.specs.declared.reception.Reception.{Reception}
+use Rattle.at_atp.specs.declared.reception.Reception.TheVariants as reception
 use Rattle.at_atp.specs.declared.step.Step.{Step}
 use Rattle.at_atp.specs.declared.step.Step.TheVariants as step
 use Rattle.at_zip.specs.Page as page
 use Rattle.at_zip.specs.Fault as zip
 use Rattle.at_zip.specs.Request.{RequestSpells}
 use Rattle.at_zip.specs.declared.fault.ZipFault.{ZipFault}
+use Rattle.at_node.specs.declared.service.Reply.{Reply}
+use Rattle.at_node.specs.declared.service.Reply.TheVariants as reply
 use Rattle.at_node.specs.declared.event.Report.{Report}
 use Rattle.at_node.specs.declared.event.Report.TheVariants as report
 use Rattle.at_node.specs.Nodes.{NodeState, Outcome, idle}
-use Rattle.at_node.specs.Steps.{atp_kind, is_reading, packet_in, tid_of, after_heard, zone_asked}
+use Rattle.at_node.specs.Steps.{atp_kind, is_reading, packet_in, tid_of, after_heard, zone_asked, service_asked}
 
 -- what the page that ended a reading tells: for now a reading takes one page, so a page that is not the last is refused
 -- as a list too long
@@ -66,10 +72,17 @@ AtZones n from table (Request mask xo timer tid user bytes) o =
 AtZones n from table (Response place eom sts tid user bytes) o = o ≡ idle n report.Ignored
 AtZones n from table (Release tid) o = o ≡ idle n report.Ignored
 
+-- a packet came for the service's socket: anything but a request is ignored
+abbrev pub AtService : {A : Type 0} → Reply A → NodeState → Address → Content → Outcome A → Type 0
+AtService said n from (Request mask xo timer tid user bytes) o = o ≡ service_asked n from (Request mask xo timer tid user bytes) user bytes said
+AtService said n from (Response place eom sts tid user bytes) o = o ≡ idle n report.Ignored
+AtService said n from (Release tid) o = o ≡ idle n report.Ignored
+
 -- which socket of a node a datagram is for
 pub data Socket : Type 0 where
   Nobody : Socket
   Asker : Socket
+  Service : Socket
   Zones : (table : List (List ℕ)) → Socket
 
 abbrev pub router_socket : Option (List (List ℕ)) → Socket
@@ -82,19 +95,20 @@ is_mine n d = ((d.to.net == n.net) || (d.to.net == 0)) && (d.to.node == n.number
 
 abbrev pub socket_of : NodeState → Datagram → Socket
 socket_of n d =
-    if is_mine n d then (if d.to.socket == 128 then Asker else (if d.to.socket == 6 then router_socket n.table else Nobody))
+    if is_mine n d then (if d.to.socket == 128 then Asker else (if d.to.socket == 129 then Service else (if d.to.socket == 6 then router_socket n.table else Nobody)))
     else Nobody
 
 -- what an ATP packet does at a socket
-abbrev pub AtSocket : {A : Type 0} → NodeState → Address → Socket → Content → Outcome A → Type 0
-AtSocket n from Nobody f o = o ≡ idle n report.Ignored
-AtSocket {A} n from Asker f o = AtAsking n (tid_of f) (packet_in f) (heard n.requester from f) (heard {A = A} n.requester from f).step o
-AtSocket n from (Zones table) f o = AtZones n from table f o
+abbrev pub AtSocket : {A : Type 0} → Reply A → NodeState → Address → Socket → Content → Outcome A → Type 0
+AtSocket said n from Nobody f o = o ≡ idle n report.Ignored
+AtSocket {A} said n from Asker f o = AtAsking n (tid_of f) (packet_in f) (heard n.requester from f) (heard {A = A} n.requester from f).step o
+AtSocket said n from Service f o = AtService said n from f o
+AtSocket said n from (Zones table) f o = AtZones n from table f o
 
-pub record HearsPacket {A : Type 0} (n : NodeState) (d : Datagram) (socket : Socket) (o : Outcome A) : Type 0 where
+pub record HearsPacket {A : Type 0} (said : Reply A) (n : NodeState) (d : Datagram) (socket : Socket) (o : Outcome A) : Type 0 where
   pub packet : Content
   pub spelled : Spells d.data_ packet
-  pub outcome : AtSocket n d.from socket packet o
+  pub outcome : AtSocket said n d.from socket packet o
 
 pub record HearsAtpFault {A : Type 0} (n : NodeState) (d : Datagram) (o : Outcome A) : Type 0 where
   pub fault : AtpFault
@@ -104,16 +118,17 @@ pub record HearsAtpFault {A : Type 0} (n : NodeState) (d : Datagram) (o : Outcom
   pub outcome : o ≡ idle n (report.Refused number)
 
 -- what a datagram does at a socket: for nobody it is ignored, whatever its data
-abbrev pub HearsAt : {A : Type 0} → NodeState → Datagram → Socket → Outcome A → Type 0
-HearsAt n d Nobody o = o ≡ idle n report.Ignored
-HearsAt n d Asker o = HearsPacket n d Asker o ⊎ HearsAtpFault n d o
-HearsAt n d (Zones table) o = HearsPacket n d (Zones table) o ⊎ HearsAtpFault n d o
+abbrev pub HearsAt : {A : Type 0} → Reply A → NodeState → Datagram → Socket → Outcome A → Type 0
+HearsAt said n d Nobody o = o ≡ idle n report.Ignored
+HearsAt said n d Asker o = HearsPacket said n d Asker o ⊎ HearsAtpFault n d o
+HearsAt said n d Service o = HearsPacket said n d Service o ⊎ HearsAtpFault n d o
+HearsAt said n d (Zones table) o = HearsPacket said n d (Zones table) o ⊎ HearsAtpFault n d o
 
-pub record HearsDatagram {A : Type 0} (n : NodeState) (bytes : List ℕ) (o : Outcome A) : Type 0 where
+pub record HearsDatagram {A : Type 0} (said : Reply A) (n : NodeState) (bytes : List ℕ) (o : Outcome A) : Type 0 where
   pub datagram : Datagram
   pub rest : List ℕ
   pub begins : BeginsWith bytes datagram rest
-  pub outcome : HearsAt n datagram (socket_of n datagram) o
+  pub outcome : HearsAt said n datagram (socket_of n datagram) o
 
 pub record HearsDdpFault {A : Type 0} (n : NodeState) (bytes : List ℕ) (o : Outcome A) : Type 0 where
   pub fault : DdpFault
@@ -122,6 +137,21 @@ pub record HearsDdpFault {A : Type 0} (n : NodeState) (bytes : List ℕ) (o : Ou
   pub numbered : ddp.number_of fault ≡ Some number
   pub outcome : o ≡ idle n (report.Refused number)
 
--- what comes of received bytes
-abbrev pub Hears : {A : Type 0} → NodeState → List ℕ → Outcome A → Type 0
-Hears n bytes o = HearsDatagram n bytes o ⊎ HearsDdpFault n bytes o
+-- what comes of received bytes, at a node whose service would say this to a new request
+abbrev pub Hears : {A : Type 0} → Reply A → NodeState → List ℕ → Outcome A → Type 0
+Hears said n bytes o = HearsDatagram said n bytes o ⊎ HearsDdpFault n bytes o
+
+-- a request was handed to the service
+abbrev pub is_asked : {A : Type 0} → Report A → Bool
+is_asked (report.Asked key user bytes) = true
+is_asked other = false
+
+-- The service was called once where a new request was handed to it, and said this; otherwise it stays as it was.
+abbrev pub Serves : {A S : Type 0} → (S → Key → List ℕ → List ℕ → Reply A → S → Type 0) → Report A → Reply A → S → S → Type 0
+Serves serves (report.Asked key user bytes) said before after = serves before key user bytes said after
+Serves serves r said before after = after ≡ before
+
+-- an answer that can be sent: 1 to 8 packets of at most 578 bytes each
+abbrev pub IsReply : {A : Type 0} → Reply A → Type 0
+IsReply (reply.Now packets) = (1 ≤ length packets) × (length packets ≤ 8) × (fit packets ≡ true)
+IsReply reply.Later = Unit {0}

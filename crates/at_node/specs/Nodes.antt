@@ -9,7 +9,8 @@ use Rattle.at_node.specs.declared.event.Report.{Report}
 use Rattle.at_node.specs.declared.event.Report.TheVariants as report
 
 -- a node: its network and number, the number of the cable's router, the router's zone table where this node is the
--- router, the transaction that reads the zone list, its requester, and the records of zone requests
+-- router, the transaction that reads the zone list, its requester, the records of zone requests, and those of the
+-- requests for its service
 pub record NodeState : Type 0 where
   pub net : ℕ
   pub number : ℕ
@@ -18,9 +19,10 @@ pub record NodeState : Type 0 where
   pub reading : Option ℕ
   pub requester : Requests
   pub served : List Record
+  pub service : List Record
 
 abbrev pub opening : ℕ → ℕ → Option ℕ → Option (List (List ℕ)) → NodeState
-opening net number router table = record { net = net; number = number; router = router; table = table; reading = None; requester = no_requests; served = [] }
+opening net number router table = record { net = net; number = number; router = router; table = table; reading = None; requester = no_requests; served = []; service = [] }
 
 -- a datagram that a node sends
 pub record Outgoing : Type 0 where

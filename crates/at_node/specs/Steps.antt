@@ -1,11 +1,15 @@
 -- What each call and each packet does to a node (Inside AppleTalk, ZIP, "GetZoneList", over ATP).
-use Rattle.std.specs.Prelude.{ℕ, ◌==◌, if◌then◌else◌, Bool, false, List, [], ◌∷◌, length, find, Option, Some, None}
+use Rattle.std.specs.Prelude.{ℕ, ◌==◌, nat_lt, if◌then◌else◌, Bool, true, false, List, [], ◌∷◌, length, find, Option, Some, None}
 use Rattle.at_ddp.specs.declared.address.Address.{Address}
 use Rattle.at_atp.specs.Packets.{Packet}
 use Rattle.at_atp.specs.Frames.{Content, Request, Response, Release, spelled, spelled_all}
-use Rattle.at_atp.specs.Requests.{Transaction, Heard, next_number, beginning, begun, request_by, is_finished}
-use Rattle.at_atp.specs.Records.{Taken, is_key, taken, finds_no_place, asked_for}
+use Rattle.at_atp.specs.Requests.{Transaction, Requests, Heard, Retried, next_number, beginning, begun, request_by, is_finished, retried}
+use Rattle.at_atp.specs.Records.{Record, Taken, is_key, taken, finds_no_place, asked_for, answer_fault}
+use Rattle.at_atp.specs.Fault.{number_of}
+use Rattle.at_atp.specs.declared.fault.AtpFault.{AtpFault}
 use Rattle.at_atp.specs.Tables.{without_first}
+use Rattle.at_atp.specs.declared.step.Retry.{Retry}
+use Rattle.at_atp.specs.declared.step.Retry.TheVariants as retry
 use Rattle.at_atp.specs.declared.step.Step.{Step}
 use Rattle.at_atp.specs.declared.step.Step.TheVariants as step
 use Rattle.at_atp.specs.declared.reception.Key.{Key}
@@ -14,14 +18,21 @@ use Rattle.at_atp.specs.declared.reception.Reception.TheVariants as reception
 use Rattle.at_zip.specs.Page.{page_of, page_user, page_data}
 use Rattle.at_zip.specs.Request.{request_user}
 use Rattle.at_node.specs.declared.event.Call.{Call}
-use Rattle.at_node.specs.declared.event.Call.TheVariants.{Zones}
+use Rattle.at_node.specs.declared.event.Call.TheVariants.{Zones, Ask, Answer}
+use Rattle.at_node.specs.declared.event.Timer.{Timer}
+use Rattle.at_node.specs.declared.event.Timer.TheVariants as timer
+use Rattle.at_node.specs.declared.service.Reply.{Reply}
+use Rattle.at_node.specs.declared.service.Reply.TheVariants as reply
 use Rattle.at_node.specs.declared.event.Report.{Report}
 use Rattle.at_node.specs.declared.event.Report.TheVariants as report
 use Rattle.at_node.specs.Nodes.{NodeState, Outcome, idle, sent_by}
 
--- the sockets of a node: 128 asks, and 6 is the router's for zones
+-- the sockets of a node: 128 asks, 129 is its service's, and 6 is the router's for zones
 abbrev pub asking : ℕ → ℕ → Address
 asking net number = record { net = net; node = number; socket = 128 }
+
+abbrev pub serving : ℕ → ℕ → Address
+serving net number = record { net = net; node = number; socket = 129 }
 
 abbrev pub zones_at : ℕ → ℕ → Address
 zones_at net number = record { net = net; node = number; socket = 6 }
@@ -32,6 +43,14 @@ atp_kind = 3
 
 -- ---- calls
 
+-- a transaction begins, and its request is sent
+abbrev pub asks : {A : Type 0} → NodeState → Option ℕ → Transaction → Outcome A
+asks n reading t = record {
+  report = report.Begun t.tid;
+  node = record n { reading = reading; requester = begun n.requester t };
+  out = sent_by (asking n.net n.number) atp_kind ((t.to, spelled (request_by t)) ∷ []);
+}
+
 -- the transaction by which a node asks its router for the zone list, from the first name on: one packet, asked for at
 -- most four times
 abbrev pub zone_transaction : NodeState → ℕ → ℕ → Transaction
@@ -39,26 +58,73 @@ zone_transaction n router tid = beginning tid (zones_at n.net router) (request_u
 
 abbrev pub reading_begins : {A : Type 0} → NodeState → ℕ → Option ℕ → Outcome A
 reading_begins n router None = idle n (report.Refused 14)
-reading_begins n router (Some tid) =
-    record {
-      report = report.Begun tid;
-      node = record n { reading = Some tid; requester = begun n.requester (zone_transaction n router tid) };
-      out = sent_by (asking n.net n.number) atp_kind ((zones_at n.net router, spelled (request_by (zone_transaction n router tid))) ∷ []);
-    }
+reading_begins n router (Some tid) = asks n (Some tid) (zone_transaction n router tid)
 
 abbrev pub zones_called : {A : Type 0} → NodeState → Option ℕ → Option ℕ → Outcome A
 zones_called n None reading = idle n (report.Refused 60)
 zones_called n (Some router) (Some tid) = idle n (report.Refused 63)
 zones_called n (Some router) None = reading_begins n router (next_number n.requester)
 
-abbrev pub called : {A : Type 0} → NodeState → Call → Outcome A
+-- the node's user asks a socket of this network for so many packets, at least once
+abbrev pub asked_as : {A : Type 0} → NodeState → Address → List ℕ → List ℕ → ℕ → ℕ → Option ℕ → Outcome A
+asked_as n to user bytes wanted retries None = idle n (report.Refused 14)
+asked_as n to user bytes wanted retries (Some tid) = asks n n.reading (beginning tid to user bytes wanted false retries)
+
+abbrev pub ask_called : {A : Type 0} → NodeState → Address → List ℕ → List ℕ → ℕ → ℕ → Outcome A
+ask_called n to user bytes wanted retries =
+    if nat_lt 578 (length bytes) then idle n (report.Refused 13)
+    else asked_as n to user bytes wanted retries (next_number n.requester)
+
+-- what a refusal of the transaction protocol is reported as
+abbrev pub refused_as : {A : Type 0} → Option ℕ → Report A
+refused_as None = report.NoMemory
+refused_as (Some number) = report.Refused number
+
+-- the node's user answers a request that was handed up
+abbrev pub answered_with : {A : Type 0} → NodeState → Key → List Packet → Option AtpFault → Outcome A
+answered_with n key packets (Some fault) = idle n (refused_as (number_of fault))
+answered_with n key packets None = record {
+  report = report.Answered (length (asked_for (find (is_key key) n.service) key packets));
+  node = record n { service = without_first (is_key key) n.service };
+  out = sent_by (serving n.net n.number) atp_kind (spelled_all (asked_for (find (is_key key) n.service) key packets));
+}
+
+abbrev pub answer_called : {A : Type 0} → NodeState → Key → List Packet → Outcome A
+answer_called n key packets = answered_with n key packets (answer_fault n.service key packets)
+
+-- a socket of the node's own network
+abbrev pub at_socket : NodeState → ℕ → ℕ → Address
+at_socket n node socket = record { net = n.net; node = node; socket = socket }
+
+abbrev pub called : {A : Type 0} → NodeState → Call A → Outcome A
 called n Zones = zones_called n n.router n.reading
+called n (Ask node socket user bytes wanted retries) = ask_called n (at_socket n node socket) user bytes wanted retries
+called n (Answer node socket tid packets) = answer_called n (record { from = at_socket n node socket; tid = tid }) packets
 
--- ---- packets for the socket that asks
+-- ---- timers
 
+-- is this the transaction that reads the zone list?
 abbrev pub is_reading : Option ℕ → ℕ → Bool
 is_reading None tid = false
 is_reading (Some t) tid = t == tid
+
+-- with no retry left the transaction is closed; one that reads the zone list ends the reading
+abbrev pub after_failing : {A : Type 0} → NodeState → ℕ → Requests → Bool → Outcome A
+after_failing n tid after true = record { report = report.ZonesFailed; node = record n { reading = None; requester = after }; out = [] }
+after_failing n tid after false = record { report = report.Failed tid; node = record n { requester = after }; out = [] }
+
+abbrev pub after_retry : {A : Type 0} → NodeState → ℕ → Retried → Retry → Outcome A
+after_retry n tid r retry.AskedAgain = record { report = report.Again; node = record n { requester = r.after }; out = sent_by (asking n.net n.number) atp_kind (spelled_all r.sent) }
+after_retry n tid r retry.Failed = after_failing n tid r.after (is_reading n.reading tid)
+
+abbrev pub retry_fired : {A : Type 0} → NodeState → ℕ → Option Retried → Outcome A
+retry_fired n tid None = idle n (report.Refused 15)
+retry_fired n tid (Some r) = after_retry n tid r r.step
+
+abbrev pub timed : {A : Type 0} → NodeState → Timer → Outcome A
+timed n (timer.Retry tid) = retry_fired n tid (retried n.requester tid)
+
+-- ---- packets for the socket that asks
 
 -- the user bytes and the data of a packet
 abbrev pub packet_in : Content → Packet
@@ -120,3 +186,36 @@ abbrev pub zone_asked : {A : Type 0} → NodeState → Address → Content → L
 zone_asked n from frame table start =
     if finds_no_place n.served from frame then idle n (report.Refused 14)
     else at_zones n (taken n.served from frame) (page_packet table start) (taken n.served from frame).reception
+
+-- ---- requests for the service
+
+abbrev pub service_taken : {A : Type 0} → NodeState → Taken → Report A → Outcome A
+service_taken n t r = record { report = r; node = record n { service = t.after }; out = sent_by (serving n.net n.number) atp_kind (spelled_all t.sent) }
+
+-- the records once the service replied to a request, and what is sent then
+abbrev pub after_reply : {A : Type 0} → List Record → Key → Reply A → List Record
+after_reply rs key reply.Later = rs
+after_reply rs key (reply.Now packets) = without_first (is_key key) rs
+
+abbrev pub sent_by_reply : {A : Type 0} → List Record → Key → Reply A → List (Address × Content)
+sent_by_reply rs key reply.Later = []
+sent_by_reply rs key (reply.Now packets) = asked_for (find (is_key key) rs) key packets
+
+-- a new request was handed to the service, which answers it at once or later
+abbrev pub handed_up : {A : Type 0} → NodeState → Taken → Key → List ℕ → List ℕ → Reply A → Outcome A
+handed_up n t key user bytes r = record {
+  report = report.Asked key user bytes;
+  node = record n { service = after_reply t.after key r };
+  out = sent_by (serving n.net n.number) atp_kind (spelled_all (sent_by_reply t.after key r));
+}
+
+abbrev pub at_service : {A : Type 0} → NodeState → Taken → List ℕ → List ℕ → Reply A → Reception → Outcome A
+at_service n t user bytes said reception.Ignored = service_taken n t report.Ignored
+at_service n t user bytes said (reception.Again count) = service_taken n t report.Again
+at_service n t user bytes said (reception.New key) = handed_up n t key user bytes said
+
+-- a request came for the service, which would say this to a new one
+abbrev pub service_asked : {A : Type 0} → NodeState → Address → Content → List ℕ → List ℕ → Reply A → Outcome A
+service_asked n from frame user bytes said =
+    if finds_no_place n.service from frame then idle n (report.Refused 14)
+    else at_service n (taken n.service from frame) user bytes said (taken n.service from frame).reception

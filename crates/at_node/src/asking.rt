@@ -1,14 +1,14 @@
-ghost use Rattle.std.specs.Prelude.{◌≡◌, ◌↔◌, ◌++◌, ◌∷◌, [], map, None, Some, IfOk, IfSome, OnErr, IsErrOf, false};
+ghost use Rattle.std.specs.Prelude.{◌≡◌, ◌↔◌, ◌<◌, ◌≤◌, length, ◌++◌, ◌∷◌, [], map, None, Some, IfOk, IfSome, OnErr, IsErrOf, false};
 ghost use Rattle.at_atp.specs.Frames.{content, spelled, spelled_all};
-ghost use Rattle.at_atp.specs.Requests.{Heard, next_number, beginning, begun, request_by, heard};
+ghost use Rattle.at_atp.specs.Requests.{Heard, Retried, next_number, beginning, begun, request_by, heard, retried};
 ghost use Rattle.at_node.specs.Nodes.{posted, sent_by};
-ghost use Rattle.at_node.specs.Hearing.{Tells};
+ghost use Rattle.at_node.specs.Hearing.{Tells, is_asked};
 ghost use Rattle.at_node.specs.Steps.{atp_kind, tid_of, reported, reported_other, reading_after};
 ghost use Rattle.at_zip.specs.Fault.{number_of as zip_number};
 ghost use Rattle.at_zip.specs.Request.{request_user};
 
 use crate::event::Report;
-use at_atp::{AtpFault, Frame, Requester, Step};
+use at_atp::{AtpFault, Frame, Requester, Retry, Step};
 use at_ddp::{Address, Datagrams, Outbox};
 use at_zip::{ZipFault, read_page, request_user};
 use std::alloc::{AllocError, Allocator};
@@ -17,25 +17,83 @@ use std::mem;
 /// The protocol of ATP's datagrams.
 pub(crate) const ATP: u8 = 3;
 
-// Begins the transaction that asks a router for the zone list.
-pub(crate) fn begin_reading<A: Allocator + Copy>(
+// What a transaction is to ask, at least once.
+#[derive(Clone, Copy)]
+pub(crate) struct Question<'a> {
+    pub to: Address,
+    pub user: [u8; 4],
+    pub bytes: &'a [u8],
+    pub wanted: u8,
+    pub retries: u8,
+}
+
+// The question for the zone list, from the first name on: one packet, asked for at most four times.
+pub(crate) fn read_from(router: Address) -> Question<'static>
+    ensures to { result.to ≡ router }
+    ensures user { result.user ≡ request_user 1 }
+    ensures bytes { result.bytes.now ≡ [] }
+    ensures wanted { result.wanted ≡ 1 }
+    ensures retries { result.retries ≡ 3 }
+{
+    Question {
+        to: router,
+        user: request_user(1),
+        bytes: &[],
+        wanted: 1,
+        retries: 3,
+    }
+}
+
+// Begins a transaction.
+pub(crate) fn begin<A: Allocator + Copy>(
     alloc: A,
     requester: &mut Requester<A>,
     own: Address,
-    router: Address,
+    question: &Question<'_>,
     out: &mut Datagrams<A>,
 ) -> Result<u16, AtpFault>
+    requires some { 1 ≤ question.now.wanted }
+    requires few { question.now.wanted ≤ 8 }
     ensures drawn { IfOk result (λ tid. next_number requester.old ≡ Some tid) }
-    ensures state { IfOk result (λ tid. requester.new ≡ begun requester.old (beginning tid router (request_user 1) [] 1 false 3)) }
-    ensures sent { IfOk result (λ tid. out.new.items ≡ out.old.items ++ map posted (sent_by own atp_kind ((router, spelled (request_by (beginning tid router (request_user 1) [] 1 false 3))) ∷ []))) }
-    ensures full { IsErrOf result AtpFault.Full ↔ (next_number requester.old ≡ None) }
+    ensures state { IfOk result (λ tid. requester.new ≡ begun requester.old (beginning tid question.now.to question.now.user question.now.bytes.now question.now.wanted false question.now.retries)) }
+    ensures sent { IfOk result (λ tid. out.new.items ≡ out.old.items ++ map posted (sent_by own atp_kind ((question.now.to, spelled (request_by (beginning tid question.now.to question.now.user question.now.bytes.now question.now.wanted false question.now.retries))) ∷ []))) }
+    ensures fits { IfOk result (λ tid. length question.now.bytes.now ≤ 578) }
+    ensures too_long { IsErrOf result AtpFault.AtpTooLong ↔ (578 < length question.now.bytes.now) }
+    ensures full { IsErrOf result AtpFault.Full ↔ ((length question.now.bytes.now ≤ 578) × (next_number requester.old ≡ None)) }
+    ensures unchanged { OnErr result (requester.new ≡ requester.old) }
+    ensures nothing_sent { OnErr result (out.new.items ≡ out.old.items) }
+{
+    let Question {
+        to,
+        user,
+        bytes,
+        wanted,
+        retries,
+    } = *question;
+    let mut outbox = Outbox::over(mem::replace(out, Datagrams::new(alloc)), own, ATP);
+    let begun = requester.begin(to, user, bytes, wanted, false, retries, &mut outbox);
+    *out = outbox.into_list();
+    begun
+}
+
+// Retries a transaction.
+pub(crate) fn retry<A: Allocator + Copy>(
+    alloc: A,
+    requester: &mut Requester<A>,
+    own: Address,
+    tid: u16,
+    out: &mut Datagrams<A>,
+) -> Result<Retry, AtpFault>
+    ensures ok { IfOk result (λ step. (effect : Retried) × (retried requester.old tid ≡ Some effect) × (step ≡ effect.step) × (requester.new ≡ effect.after)
+        × (out.new.items ≡ out.old.items ++ map posted (sent_by own atp_kind (spelled_all effect.sent)))) }
+    ensures missing { IsErrOf result AtpFault.NoSuch ↔ (retried requester.old tid ≡ None) }
     ensures unchanged { OnErr result (requester.new ≡ requester.old) }
     ensures nothing_sent { OnErr result (out.new.items ≡ out.old.items) }
 {
     let mut outbox = Outbox::over(mem::replace(out, Datagrams::new(alloc)), own, ATP);
-    let begun = requester.begin(router, request_user(1), &[], 1, false, 3, &mut outbox);
+    let step = requester.retry(tid, &mut outbox);
     *out = outbox.into_list();
-    begun
+    step
 }
 
 // Hands a packet to the requester.
@@ -65,7 +123,8 @@ pub(crate) fn told<A: Allocator + Copy>(
     user: [u8; 4],
     bytes: &[u8],
 ) -> Result<Report<A>, AllocError>
-    ensures { IfOk result (λ r. Tells (record { user = user; data_ = bytes.now }) r) }
+    ensures tells { IfOk result (λ r. Tells (record { user = user; data_ = bytes.now }) r) }
+    ensures not_asked { IfOk result (λ r. is_asked r ≡ false) }
 {
     match read_page(user, bytes) {
         Err(fault) => Ok(zone_fault(fault)),
@@ -80,7 +139,8 @@ pub(crate) fn told<A: Allocator + Copy>(
 }
 
 fn zone_fault<A: Allocator>(fault: ZipFault) -> Report<A>
-    ensures { IfSome (zip_number fault) (λ n. result ≡ Report.ZoneFault n) }
+    ensures fault { IfSome (zip_number fault) (λ n. result ≡ Report.ZoneFault n) }
+    ensures not_asked { is_asked result ≡ false }
 {
     match fault.number() {
         Some(number) => Report::ZoneFault(number),
@@ -90,7 +150,8 @@ fn zone_fault<A: Allocator>(fault: ZipFault) -> Report<A>
 
 // What is reported of a step of a transaction that ends with this report.
 pub(crate) fn reported<A: Allocator>(ends: Report<A>, step: Step<A>) -> Report<A>
-    ensures { result ≡ reported ends step }
+    ensures report { result ≡ reported ends step }
+    ensures not_asked { is_asked ends ≡ false → is_asked result ≡ false }
 {
     match step {
         Step::Ignored => Report::Ignored,
@@ -102,7 +163,8 @@ pub(crate) fn reported<A: Allocator>(ends: Report<A>, step: Step<A>) -> Report<A
 
 // What is reported of a step of any other transaction.
 pub(crate) fn reported_other<A: Allocator>(tid: u16, step: Step<A>) -> Report<A>
-    ensures { result ≡ reported_other tid step }
+    ensures report { result ≡ reported_other tid step }
+    ensures not_asked { is_asked result ≡ false }
 {
     match step {
         Step::Ignored => Report::Ignored,

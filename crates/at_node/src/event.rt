@@ -1,12 +1,39 @@
-use at_atp::Packet;
-use at_ddp::{Listed, Pascal};
+use crate::packet_count::PacketCount;
+use at_atp::{Key, Packet};
+use at_ddp::{Bytes, Listed, Pascal};
 use std::alloc::{Allocator, Global};
 
 /// What a node's user calls.
-#[derive(Clone, Copy, Debug, PartialEq, Eq)]
-pub enum Call {
+#[derive(Drop)]
+pub enum Call<A: Allocator = Global> {
     /// Reads the router's zone list.
     Zones,
+    /// Asks a socket of the cable, at least once.
+    Ask {
+        node: u8,
+        socket: u8,
+        user: [u8; 4],
+        /// At most 578 bytes.
+        data_: Bytes<A>,
+        wanted: PacketCount,
+        /// How often the request may be sent again.
+        retries: u8,
+    },
+    /// Answers a request that was handed to the service: who asked, under which number, and the answer, of 1 to 8 packets
+    /// with at most 578 bytes each.
+    Answer {
+        node: u8,
+        socket: u8,
+        tid: u16,
+        packets: Listed<Packet<A>, A>,
+    },
+}
+
+/// A timer that fires.
+#[derive(Clone, Copy, Debug, PartialEq, Eq)]
+pub enum Timer {
+    /// The answer to a transaction is late.
+    Retry { tid: u16 },
 }
 
 /// What came of an event.
@@ -14,12 +41,22 @@ pub enum Call {
 pub enum Report<A: Allocator = Global> {
     /// A transaction was begun under this number.
     Begun(u16),
+    /// A request was answered, and so many packets were sent.
+    Answered(u8),
     /// The router answered a zone request with so many packets.
     Served(u8),
+    /// A request was handed to the service: who asked under which number, and what.
+    Asked {
+        key: Key,
+        user: [u8; 4],
+        data_: Bytes<A>,
+    },
     /// A reading of the zone list ended with these zones.
     Zones(Listed<Pascal, A>),
     /// A reading of the zone list ended by a page that was refused, with the refusal's number.
     ZoneFault(u8),
+    /// A reading of the zone list ended since no retry was left.
+    ZonesFailed,
     /// A packet of an answer was kept, and others are still wanted.
     Kept,
     /// A transaction ended with these packets.
@@ -27,6 +64,8 @@ pub enum Report<A: Allocator = Global> {
         tid: u16,
         packets: Listed<Packet<A>, A>,
     },
+    /// A transaction ended since no retry was left.
+    Failed(u16),
     /// Something was sent again, or a request that waits came again.
     Again,
     /// A packet that has no effect.

@@ -10,13 +10,14 @@ ghost use Rattle.at_node.specs.Nodes.{NodeState, Outcome};
 ghost use Rattle.at_node.specs.Steps.{atp_kind, zone_asked};
 ghost use Rattle.at_node.specs.Hearing.{Hears, AtSocket, AtZones, Tells, socket_of, told_by};
 ghost use Rattle.at_node.specs.declared.event.Report.{Report};
+ghost use Rattle.at_node.specs.declared.service.Reply.{Reply};
 
 use std::alloc::Allocator;
 
 /// What is sent is heard: bytes that were written for a packet do what that packet does at the socket that they go to.
 pub fn what_is_sent_is_heard<A: Allocator>()
-    ensures { (n : NodeState) (to from : Address) (f : Content) (o : Outcome A) → IsAddress to → IsAddress from → IsLawful f → Hears n (canonical to from atp_kind (spelled f)) o
-        → AtSocket n from (socket_of n (written to from atp_kind (spelled f))) f o }
+    ensures { (said : Reply A) (n : NodeState) (to from : Address) (f : Content) (o : Outcome A) → IsAddress to → IsAddress from → IsLawful f → Hears said n (canonical to from atp_kind (spelled f)) o
+        → AtSocket said n from (socket_of n (written to from atp_kind (spelled f))) f o }
 {
     at_ddp::laws::what_is_written_is_read();
     at_atp::laws::what_is_written_is_read();

@@ -1,42 +1,45 @@
-ghost use Rattle.std.specs.Prelude.{◌≡◌, ℕ, Bool, true, false, List, IfSome};
+ghost use Rattle.std.specs.Prelude.{◌≡◌, ℕ, List, false};
 ghost use Rattle.at_ddp.specs.Datagram.{content};
-ghost use Rattle.at_atp.specs.Frames.{Response, content as packet};
-ghost use Rattle.at_node.specs.Hearing.{Asker, AtSocket, HearsAt, Hears, is_mine, socket_of, router_socket};
-ghost use Rattle.at_node.specs.Nodes.{Comes, IsStep, opening};
-ghost use Rattle.at_node.specs.Steps.{called, zones_called, is_reading, tid_of, packet_in};
+ghost use Rattle.at_node.specs.Hearing.{HearsAt, Hears, Serves, is_mine, is_asked, socket_of};
+ghost use Rattle.at_node.specs.Nodes.{Comes, opening};
+ghost use Rattle.at_node.specs.Steps.{refused_as};
+ghost use Rattle.at_node.specs.declared.service.Reply.{Reply};
 
-use crate::asking::{
-    ATP, begin_reading, hear, reading_after, reported, reported_other, tid_of, told,
-};
-use crate::event::{Call, Report};
-use crate::serving::serve_request;
-use at_atp::{AtpFault, Frame, Requester, Responder};
+use crate::asking::ATP;
+use crate::event::Report;
+use crate::service::Service;
+use at_atp::{Requester, Responder};
 use at_ddp::{Address, Datagram, Datagrams, decode};
-use at_zip::{Zones, read_request};
+use at_zip::Zones;
 use std::alloc::{Allocator, Global};
 use std::marker::Model;
 
 /// The socket that asks.
-const ASKING: u8 = 128;
+pub(crate) const ASKING: u8 = 128;
+
+/// The socket of the node's service.
+pub(crate) const SERVICE: u8 = 129;
 
 /// The router's socket for zones.
-const ZONES: u8 = 6;
+pub(crate) const ZONES: u8 = 6;
 
 /// A node of a cable.
 #[derive(Drop)]
 pub struct Node<A: Allocator = Global> {
-    alloc: A,
-    net: u16,
+    pub(crate) alloc: A,
+    pub(crate) net: u16,
     number: u8,
     // The number of the cable's router.
-    router: Option<u8>,
+    pub(crate) router: Option<u8>,
     // The table, where this node is the router.
-    zones: Option<Zones<A>>,
+    pub(crate) zones: Option<Zones<A>>,
     // The transaction that reads the zone list.
-    reading: Option<u16>,
-    requester: Requester<A>,
+    pub(crate) reading: Option<u16>,
+    pub(crate) requester: Requester<A>,
     // The zone requests that came.
-    served: Responder<A>,
+    pub(crate) served: Responder<A>,
+    // The requests that came for the service.
+    pub(crate) service: Responder<A>,
 }
 
 impl<A: Allocator> Model for Node<A> {
@@ -44,7 +47,7 @@ impl<A: Allocator> Model for Node<A> {
 
     ghost Value = { NodeState };
 
-    ghost view = { λ n. record { net = n.net; number = n.number; router = n.router; table = n.zones; reading = n.reading; requester = n.requester; served = n.served } };
+    ghost view = { λ n. record { net = n.net; number = n.number; router = n.router; table = n.zones; reading = n.reading; requester = n.requester; served = n.served; service = n.service } };
 }
 
 impl<A: Allocator + Copy> Node<A> {
@@ -68,24 +71,22 @@ impl<A: Allocator + Copy> Node<A> {
             reading: None,
             requester: Requester::new(alloc),
             served: Responder::new(alloc),
+            service: Responder::new(alloc),
         }
     }
 
-    /// Plays a call of the node's user; what it sends goes to the end of the list.
-    pub fn call(&mut self, call: Call, out: &mut Datagrams<A>) -> Report<A>
-        ensures { IsStep (called self.old call) self.old out.old.items result self.new out.new.items }
-    {
-        match call {
-            Call::Zones => self.read_zones(out),
-        }
-    }
-
-    /// Takes received bytes in; what they make the node send goes to the end of the list.
-    pub fn receive(&mut self, bytes: &[u8], out: &mut Datagrams<A>) -> Report<A>
-        ensures { Comes (Hears self.old bytes.now) self.old out.old.items result self.new out.new.items }
+    /// Takes received bytes in; what they make the node send goes to the end of the list. A new request for the service is
+    /// handed to it.
+    pub fn receive<S: Service<A>>(
+        &mut self,
+        service: &mut S,
+        bytes: &[u8],
+        out: &mut Datagrams<A>,
+    ) -> Report<A>
+        ensures { (said : Reply A) × Comes (Hears said self.old bytes.now) self.old out.old.items result self.new out.new.items × Serves S.serves result said service.old service.new }
     {
         match decode(bytes) {
-            Ok((datagram, _)) => self.take_in(&datagram, out),
+            Ok((datagram, _)) => self.take_in(service, &datagram, out),
             Err(fault) => refused(fault.number()),
         }
     }
@@ -97,33 +98,8 @@ impl<A: Allocator + Copy> Node<A> {
         self.number
     }
 
-    fn read_zones(&mut self, out: &mut Datagrams<A>) -> Report<A>
-        ensures { IsStep (zones_called self.old self.old.router self.old.reading) self.old out.old.items result self.new out.new.items }
-    {
-        let Some(router) = self.router else {
-            return Report::Refused(60);
-        };
-        if self.reading.is_some() {
-            return Report::Refused(63);
-        }
-        let own = self.at(ASKING);
-        let to = Address {
-            net: self.net,
-            node: router,
-            socket: ZONES,
-        };
-        match begin_reading(self.alloc, &mut self.requester, own, to, out) {
-            Ok(tid) => {
-                self.reading = Some(tid);
-                Report::Begun(tid)
-            }
-            Err(AtpFault::Full) => Report::Refused(14),
-            Err(_) => Report::NoMemory,
-        }
-    }
-
     // A socket of this node.
-    fn at(&self, socket: u8) -> Address
+    pub(crate) fn at(&self, socket: u8) -> Address
         ensures { result ≡ record { net = self.now.net; node = self.now.number; socket = socket } }
     {
         Address {
@@ -133,14 +109,22 @@ impl<A: Allocator + Copy> Node<A> {
         }
     }
 
-    fn take_in(&mut self, datagram: &Datagram<'_>, out: &mut Datagrams<A>) -> Report<A>
-        ensures { Comes (HearsAt self.old (content datagram.now) (socket_of self.old (content datagram.now))) self.old out.old.items result self.new out.new.items }
+    fn take_in<S: Service<A>>(
+        &mut self,
+        service: &mut S,
+        datagram: &Datagram<'_>,
+        out: &mut Datagrams<A>,
+    ) -> Report<A>
+        ensures { (said : Reply A) × Comes (HearsAt said self.old (content datagram.now) (socket_of self.old (content datagram.now))) self.old out.old.items result self.new out.new.items × Serves S.serves result said service.old service.new }
     {
         if !self.is_mine(datagram) {
             return Report::Ignored;
         }
         if datagram.to.socket == ASKING {
             return self.take_answer(datagram, out);
+        }
+        if datagram.to.socket == SERVICE {
+            return self.take_question(service, datagram, out);
         }
         if datagram.to.socket == ZONES {
             return self.take_request(datagram, out);
@@ -154,114 +138,12 @@ impl<A: Allocator + Copy> Node<A> {
         let to = datagram.to;
         (to.net == self.net || to.net == 0) && to.node == self.number && datagram.kind == ATP
     }
-
-    // A datagram for the socket that asks.
-    fn take_answer(&mut self, datagram: &Datagram<'_>, out: &mut Datagrams<A>) -> Report<A>
-        ensures { Comes (HearsAt self.old (content datagram.now) Asker) self.old out.old.items result self.new out.new.items }
-    {
-        match at_atp::decode(datagram.data_) {
-            Ok(frame) => self.hear_packet(datagram.from, &frame, out),
-            Err(fault) => refused(fault.number()),
-        }
-    }
-
-    // A datagram for the socket that serves zones, where this node is the router.
-    fn take_request(&mut self, datagram: &Datagram<'_>, out: &mut Datagrams<A>) -> Report<A>
-        ensures { Comes (HearsAt self.old (content datagram.now) (router_socket self.old.table)) self.old out.old.items result self.new out.new.items }
-    {
-        if self.zones.is_none() {
-            return Report::Ignored;
-        }
-        match at_atp::decode(datagram.data_) {
-            Ok(frame) => self.serve_packet(datagram.from, &frame, out),
-            Err(fault) => refused(fault.number()),
-        }
-    }
-
-    fn hear_packet(&mut self, from: Address, frame: &Frame<'_>, out: &mut Datagrams<A>) -> Report<A>
-        ensures { Comes (AtSocket self.old from Asker (packet frame.now)) self.old out.old.items result self.new out.new.items }
-    {
-        match frame {
-            Frame::Response {
-                tid,
-                user,
-                data_,
-                ..
-            } if self.reading == Some(*tid) => self.hear_page(from, frame, *user, data_, out),
-            _ => self.hear_other(from, frame, out),
-        }
-    }
-
-    // A packet of the transaction that reads the zone list.
-    fn hear_page(
-        &mut self,
-        from: Address,
-        frame: &Frame<'_>,
-        user: [u8; 4],
-        bytes: &[u8],
-        out: &mut Datagrams<A>,
-    ) -> Report<A>
-        requires reading { is_reading self.old.reading (tid_of (packet frame.now)) ≡ true }
-        requires packet { packet_in (packet frame.now) ≡ record { user = user; data_ = bytes.now } }
-        ensures { Comes (AtSocket self.old from Asker (packet frame.now)) self.old out.old.items result self.new out.new.items }
-    {
-        let Ok(told) = told(self.alloc, user, bytes) else {
-            return Report::NoMemory;
-        };
-        let own = self.at(ASKING);
-        let Ok(step) = hear(self.alloc, &mut self.requester, own, from, frame, out) else {
-            return Report::NoMemory;
-        };
-        self.reading = reading_after(self.reading, &step);
-        reported(told, step)
-    }
-
-    // Any other packet for the socket that asks.
-    fn hear_other(&mut self, from: Address, frame: &Frame<'_>, out: &mut Datagrams<A>) -> Report<A>
-        requires { (place : ℕ) (eom sts : Bool) (tid : ℕ) (user data_ : List ℕ) → packet frame.now ≡ Response place eom sts tid user data_ → is_reading self.old.reading tid ≡ false }
-        ensures { Comes (AtSocket self.old from Asker (packet frame.now)) self.old out.old.items result self.new out.new.items }
-    {
-        let own = self.at(ASKING);
-        let Ok(step) = hear(self.alloc, &mut self.requester, own, from, frame, out) else {
-            return Report::NoMemory;
-        };
-        reported_other(tid_of(frame), step)
-    }
-
-    fn serve_packet(
-        &mut self,
-        from: Address,
-        frame: &Frame<'_>,
-        out: &mut Datagrams<A>,
-    ) -> Report<A>
-        ensures { Comes (AtSocket self.old from (router_socket self.old.table) (packet frame.now)) self.old out.old.items result self.new out.new.items }
-    {
-        let own = self.at(ZONES);
-        let Some(zones) = &self.zones else {
-            return Report::Ignored;
-        };
-        let Frame::Request { user, .. } = frame else {
-            return Report::Ignored;
-        };
-        match read_request(*user) {
-            Ok(start) => serve_request(
-                self.alloc,
-                &mut self.served,
-                own,
-                from,
-                frame,
-                zones,
-                start,
-                out,
-            ),
-            Err(_) => Report::Ignored,
-        }
-    }
 }
 
 // A refusal by its number.
-fn refused<A: Allocator>(number: Option<u8>) -> Report<A>
-    ensures { IfSome number (λ n. result ≡ Report.Refused n) }
+pub(crate) fn refused<A: Allocator>(number: Option<u8>) -> Report<A>
+    ensures report { result ≡ refused_as number }
+    ensures not_asked { is_asked result ≡ false }
 {
     match number {
         Some(number) => Report::Refused(number),

@@ -1,20 +1,70 @@
-ghost use Rattle.std.specs.Prelude.{◌≡◌, ◌≢◌, ◌↔◌, ◌≤◌, ◌++◌, ◌∷◌, [], map, length, find, None, Some, true, IfOk, IfErr, OnOk, OnErr, IsErrOf};
+ghost use Rattle.std.specs.Prelude.{◌≡◌, ◌≢◌, ◌↔◌, ◌≤◌, ◌++◌, ◌∷◌, [], map, length, find, None, Some, true, false, IfOk, IfErr, OnOk, OnErr, IsErrOf};
 ghost use Rattle.at_atp.specs.Frames.{content, spelled_all};
 ghost use Rattle.at_atp.specs.Records.{Taken, taken, finds_no_place, record_fault, is_key, asked_for};
 ghost use Rattle.at_atp.specs.Tables.{without_first};
-ghost use Rattle.at_node.specs.Nodes.{NodeState, posted, sent_by, IsStep};
+ghost use Rattle.at_ddp.specs.Datagram.{content as written};
+ghost use Rattle.at_node.specs.Hearing.{AtSocket, HearsAt, router_socket, is_asked};
+ghost use Rattle.at_node.specs.declared.service.Reply.{Reply as Said};
+ghost use Rattle.at_node.specs.Nodes.{Comes, NodeState, posted, sent_by, IsStep};
 ghost use Rattle.at_node.specs.Steps.{atp_kind, page_packet, zones_at, zone_asked};
 
-use crate::asking::ATP;
 use crate::event::Report;
+use crate::node::{Node, ZONES, refused};
+use crate::responding::{answer, take};
 use at_atp::{AtpFault, Frame, Key, Packet, Reception, Responder};
-use at_ddp::{Address, Datagrams, Outbox};
-use at_zip::{Zones, page};
+use at_ddp::{Address, Datagram, Datagrams};
+use at_zip::{Zones, page, read_request};
 use std::alloc::{AllocError, Allocator};
-use std::mem;
+
+impl<A: Allocator + Copy> Node<A> {
+    // A datagram for the socket that serves zones, where this node is the router.
+    pub(crate) fn take_request(&mut self, datagram: &Datagram<'_>, out: &mut Datagrams<A>) -> Report<A>
+        ensures comes { (said : Said A) → Comes (HearsAt said self.old (written datagram.now) (router_socket self.old.table)) self.old out.old.items result self.new out.new.items }
+        ensures not_asked { is_asked result ≡ false }
+    {
+        if self.zones.is_none() {
+            return Report::Ignored;
+        }
+        match at_atp::decode(datagram.data_) {
+            Ok(frame) => self.serve_packet(datagram.from, &frame, out),
+            Err(fault) => refused(fault.number()),
+        }
+    }
+
+    fn serve_packet(
+        &mut self,
+        from: Address,
+        frame: &Frame<'_>,
+        out: &mut Datagrams<A>,
+    ) -> Report<A>
+        ensures comes { (said : Said A) → Comes (AtSocket said self.old from (router_socket self.old.table) (content frame.now)) self.old out.old.items result self.new out.new.items }
+        ensures not_asked { is_asked result ≡ false }
+    {
+        let own = self.at(ZONES);
+        let Some(zones) = &self.zones else {
+            return Report::Ignored;
+        };
+        let Frame::Request { user, .. } = frame else {
+            return Report::Ignored;
+        };
+        match read_request(*user) {
+            Ok(start) => serve_request(
+                self.alloc,
+                &mut self.served,
+                own,
+                from,
+                frame,
+                zones,
+                start,
+                out,
+            ),
+            Err(_) => Report::Ignored,
+        }
+    }
+}
 
 // Takes a request in that asks for the page from a place on.
-pub(crate) fn serve_request<A: Allocator + Copy>(
+fn serve_request<A: Allocator + Copy>(
     alloc: A,
     served: &mut Responder<A>,
     own: Address,
@@ -25,8 +75,9 @@ pub(crate) fn serve_request<A: Allocator + Copy>(
     out: &mut Datagrams<A>,
 ) -> Report<A>
     requires { 1 ≤ start }
-    ensures { (n : NodeState) → n.served ≡ served.old → zones_at n.net n.number ≡ own →
+    ensures step { (n : NodeState) → n.served ≡ served.old → zones_at n.net n.number ≡ own →
         IsStep (zone_asked n from (content frame.now) zones.now start) n out.old.items result (record n { served = served.new }) out.new.items }
+    ensures not_asked { is_asked result ≡ false }
 {
     match take(alloc, served, own, from, frame, out) {
         Err(AtpFault::Full) => Report::Refused(14),
@@ -40,49 +91,6 @@ pub(crate) fn serve_request<A: Allocator + Copy>(
             }
         }
     }
-}
-
-// Hands a packet to the responder.
-fn take<A: Allocator + Copy>(
-    alloc: A,
-    served: &mut Responder<A>,
-    own: Address,
-    from: Address,
-    frame: &Frame<'_>,
-    out: &mut Datagrams<A>,
-) -> Result<Reception, AtpFault>
-    ensures reception { IfOk result (λ r. r ≡ (taken served.old from (content frame.now)).reception) }
-    ensures state { OnOk result (served.new ≡ (taken served.old from (content frame.now)).after) }
-    ensures sent { OnOk result (out.new.items ≡ out.old.items ++ map posted (sent_by own atp_kind (spelled_all (taken served.old from (content frame.now)).sent))) }
-    ensures full { IsErrOf result AtpFault.Full ↔ (finds_no_place served.old from (content frame.now) ≡ true) }
-    ensures unchanged { OnErr result (served.new ≡ served.old) }
-    ensures nothing_sent { OnErr result (out.new.items ≡ out.old.items) }
-{
-    let mut outbox = Outbox::over(mem::replace(out, Datagrams::new(alloc)), own, ATP);
-    let reception = served.receive(from, frame, &mut outbox);
-    *out = outbox.into_list();
-    reception
-}
-
-// Answers a request that waits.
-fn answer<A: Allocator + Copy>(
-    alloc: A,
-    served: &mut Responder<A>,
-    own: Address,
-    key: Key,
-    packets: &[Packet<A>],
-    out: &mut Datagrams<A>,
-) -> Result<u8, AtpFault>
-    ensures state { OnOk result (served.new ≡ without_first (is_key key) served.old) }
-    ensures count { IfOk result (λ count. count ≡ length (asked_for (find (is_key key) served.old) key packets.now)) }
-    ensures sent { OnOk result (out.new.items ≡ out.old.items ++ map posted (sent_by own atp_kind (spelled_all (asked_for (find (is_key key) served.old) key packets.now)))) }
-    ensures unchanged { OnErr result (served.new ≡ served.old) }
-    ensures nothing_sent { OnErr result (out.new.items ≡ out.old.items) }
-{
-    let mut outbox = Outbox::over(mem::replace(out, Datagrams::new(alloc)), own, ATP);
-    let answered = served.respond(key, packets, &mut outbox);
-    *out = outbox.into_list();
-    answered
 }
 
 // The page of the table from a place on, as an answer of one packet.

@@ -7,4 +7,4 @@ returns g c =
     let packets = c.what_is_written_is_read-2.ensures in
     let laws : DatagramLaws = record { reads = read.read; alone = read.alone; faultless = read.faultless; fits = c.what_is_written_fits.ensures } in
     let packet_laws : PacketLaws = record { reads = packets.read; alone = packets.alone; faultless = packets.faultless } in
-    λ n to from f o to_fits from_fits ok h. heard_as_sent g.row.A.Denot n to from f o laws packet_laws to_fits from_fits ok h
+    λ said n to from f o to_fits from_fits ok h. heard_as_sent g.row.A.Denot said n to from f o laws packet_laws to_fits from_fits ok h

@@ -14,8 +14,8 @@ serve-requires-clause-waits g c =
     let new = is_new c.args.served.now c.args.from (content c.args.frame.now) c.in-Ok-New.key (sym c.in-Ok-New.ensures.reception ∙ c.in-Ok-New.field-0-is) in
     ap (λ (rs : List Record). record_fault (find (is_key c.in-Ok-New.key) rs)) c.in-Ok-New.ensures.state ∙ waits c.args.served.now (taken c.args.served.now c.args.from (content c.args.frame.now)) c.in-Ok-New.key new
 
-pub returns-in-Err-serve : goal.returns-in-Err-serve
-returns-in-Err-serve g c = λ n same at.
+pub returns-in-Err-serve-clause-step : goal.returns-in-Err-serve-clause-step
+returns-in-Err-serve-clause-step g c = λ n same at.
     let t = taken c.args.served.now c.args.from (content c.args.frame.now) in
     let new = is_new c.args.served.now c.args.from (content c.args.frame.now) c.in-Ok-New.key (sym c.in-Ok-New.ensures.reception ∙ c.in-Ok-New.field-0-is) in
     let back : c.serve.new.served ≡ n.served =

@@ -6,8 +6,8 @@ use Rattle.at_node.specs.Steps.{asking, atp_kind}
 use Rattle.at_node.proofs.HearingLemmas.{comes_other}
 use Rattle.at_node.proofs.node.Node.hear_other.Goals as goal
 
-pub returns : goal.returns
-returns g c =
+pub returns-clause-comes : goal.returns-clause-comes
+returns-clause-comes g c = λ said.
     let now = c.args.self.now in
     let step : c.in-Ok.step ≡ (heard {A = g.row.A.Denot} c.args.self.now.requester c.args.from (content c.args.frame.now)).step =
     c.in-Ok.ensures.step ∙ ap (λ (n : NodeState). (heard {A = g.row.A.Denot} n.requester c.args.from (content c.args.frame.now)).step) c.self.view_is in
@@ -16,4 +16,4 @@ returns g c =
     let sent : c.hear.new.out.items ≡ c.args.out.now.items ++ map posted (sent_by (asking c.args.self.now.net c.args.self.now.number) atp_kind (spelled_all (heard {A = g.row.A.Denot} c.args.self.now.requester c.args.from (content c.args.frame.now)).sent)) =
     c.in-Ok.ensures.sent ∙ (λ i. c.args.out.now.items ++ map posted (sent_by (c.at-own.ensures i) atp_kind (spelled_all (heard {A = g.row.A.Denot} (c.self.view_is i).requester c.args.from (content c.args.frame.now)).sent))) in
     let same = ap (λ (n : NodeState). record n { requester = c.hear.new.requester }) c.self.view_is ∙ (λ i. record c.args.self.now { requester = requester i }) in
-    rw (c.reported_other.ensures, c.tid_of.ensures) (comes_other c.args.self.now c.args.from (content c.args.frame.now) c.in-Ok.step c.args.out.now.items c.hear.new.out.items _ step c.requires same sent)
+    rw (c.reported_other.ensures.report, c.tid_of.ensures) (comes_other said c.args.self.now c.args.from (content c.args.frame.now) c.in-Ok.step c.args.out.now.items c.hear.new.out.items _ step c.requires same sent)

@@ -6,8 +6,8 @@ use Rattle.at_node.specs.Steps.{asking, atp_kind, reading_after}
 use Rattle.at_node.proofs.HearingLemmas.{comes_page}
 use Rattle.at_node.proofs.node.Node.hear_page.Goals as goal
 
-pub returns : goal.returns
-returns g c =
+pub returns-clause-comes : goal.returns-clause-comes
+returns-clause-comes g c = λ said.
     let now = c.args.self.now in
     let step : c.in-Ok-hear.step ≡ (heard {A = g.row.A.Denot} c.args.self.now.requester c.args.from (content c.args.frame.now)).step =
     c.in-Ok-hear.ensures.step ∙ ap (λ (n : NodeState). (heard {A = g.row.A.Denot} n.requester c.args.from (content c.args.frame.now)).step) c.self.view_is in
@@ -17,5 +17,5 @@ returns g c =
     c.in-Ok-hear.ensures.sent ∙ (λ i. c.args.out.now.items ++ map posted (sent_by (c.at-own.ensures i) atp_kind (spelled_all (heard {A = g.row.A.Denot} (c.self.view_is i).requester c.args.from (content c.args.frame.now)).sent))) in
     let reading = c.reading_after-self-inside.ensures ∙ ap (λ (n : NodeState). reading_after n.reading c.in-Ok-hear.step) c.self.view_is in
     let same = ap (λ (n : NodeState). record n { reading = c.reading_after-self-inside.result; requester = c.hear.new.requester }) c.self.view_is ∙ (λ i. record c.args.self.now { reading = reading i; requester = requester i }) in
-    let tells = rw (← c.requires.packet) at c.in-Ok.ensures in
-    rw c.reported.ensures (comes_page c.args.self.now c.args.from (content c.args.frame.now) c.in-Ok-hear.step c.in-Ok.told c.args.out.now.items c.hear.new.out.items _ step c.requires.reading tells same sent)
+    let tells = rw (← c.requires.packet) at c.in-Ok.ensures.tells in
+    rw c.reported.ensures.report (comes_page said c.args.self.now c.args.from (content c.args.frame.now) c.in-Ok-hear.step c.in-Ok.told c.args.out.now.items c.hear.new.out.items _ step c.requires.reading tells same sent)

@@ -6,29 +6,29 @@ use Rattle.at_node.specs.Hearing.{AtSocket, router_socket}
 use Rattle.at_node.proofs.HearingLemmas.{comes_ignored, step_comes, no_request, not_frame, bad_request, good_request}
 use Rattle.at_node.proofs.node.Node.serve_packet.Goals as goal
 
-pub returns-in_default : goal.returns-in_default
-returns-in_default g c =
+pub returns-in_default-clause-comes : goal.returns-in_default-clause-comes
+returns-in_default-clause-comes g c = λ said.
     let none = ap (λ (n : NodeState). n.table) (sym c.self.view_is) ∙ c.in_default.is in
-    comes_ignored (AtSocket c.args.self.now c.args.from (router_socket c.args.self.now.table) (content c.args.frame.now)) c.args.self.now c.args.out.now.items (rw none refl)
+    comes_ignored (AtSocket said c.args.self.now c.args.from (router_socket c.args.self.now.table) (content c.args.frame.now)) c.args.self.now c.args.out.now.items (rw none refl)
 
-pub returns-in_default-frame : goal.returns-in_default-frame
-returns-in_default-frame g c =
-    comes_ignored (AtSocket c.args.self.now c.args.from (router_socket c.args.self.now.table) (content c.args.frame.now)) c.args.self.now c.args.out.now.items
-    (no_request g.row.A.Denot c.args.self.now c.args.from c.args.self.now.table (content c.args.frame.now) (not_frame c.args.frame.now c.in_default-frame.not-Request))
+pub returns-in_default-frame-clause-comes : goal.returns-in_default-frame-clause-comes
+returns-in_default-frame-clause-comes g c = λ said.
+    comes_ignored (AtSocket said c.args.self.now c.args.from (router_socket c.args.self.now.table) (content c.args.frame.now)) c.args.self.now c.args.out.now.items
+    (no_request g.row.A.Denot said c.args.self.now c.args.from c.args.self.now.table (content c.args.frame.now) (not_frame c.args.frame.now c.in_default-frame.not-Request))
 
-pub returns-in-Ok : goal.returns-in-Ok
-returns-in-Ok g c =
+pub returns-in-Ok-clause-comes : goal.returns-in-Ok-clause-comes
+returns-in-Ok-clause-comes g c = λ said.
     let some : c.args.self.now.table ≡ Some c.in-Some.zones = ap (λ (n : NodeState). n.table) (sym c.self.view_is) ∙ c.in-Some.is in
-    let step = c.serve_request.ensures c.args.self.now (ap (λ (n : NodeState). n.served) (sym c.self.view_is)) (sym c.at-own.ensures) in
+    let step = c.serve_request.ensures.step c.args.self.now (ap (λ (n : NodeState). n.served) (sym c.self.view_is)) (sym c.at-own.ensures) in
     let same = ap (λ (n : NodeState). record n { served = c.serve_request.new.served }) c.self.view_is in
-    let asks : AtSocket {A = g.row.A.Denot} c.args.self.now c.args.from (router_socket c.args.self.now.table) (content c.args.frame.now) (zone_asked c.args.self.now c.args.from (content c.args.frame.now) c.in-Some.zones c.in-Ok.start) =
-    rw c.in-Request.is (good_request g.row.A.Denot c.args.self.now c.args.from c.args.self.now.table c.in-Some.zones c.in-Request.mask c.in-Request.xo c.in-Request.timer c.in-Request.tid c.in-Request.user c.in-Request.data_.now c.in-Ok.start some c.in-Ok.ensures.found) in
-    subst (λ (x : NodeState). Comes (AtSocket c.args.self.now c.args.from (router_socket c.args.self.now.table) (content c.args.frame.now)) c.args.self.now c.args.out.now.items c.serve_request.result x c.serve_request.new.out.items) (sym same)
-    (step_comes (AtSocket c.args.self.now c.args.from (router_socket c.args.self.now.table) (content c.args.frame.now)) (zone_asked c.args.self.now c.args.from (content c.args.frame.now) c.in-Some.zones c.in-Ok.start)
+    let asks : AtSocket {A = g.row.A.Denot} said c.args.self.now c.args.from (router_socket c.args.self.now.table) (content c.args.frame.now) (zone_asked c.args.self.now c.args.from (content c.args.frame.now) c.in-Some.zones c.in-Ok.start) =
+    rw c.in-Request.is (good_request g.row.A.Denot said c.args.self.now c.args.from c.args.self.now.table c.in-Some.zones c.in-Request.mask c.in-Request.xo c.in-Request.timer c.in-Request.tid c.in-Request.user c.in-Request.data_.now c.in-Ok.start some c.in-Ok.ensures.found) in
+    subst (λ (x : NodeState). Comes (AtSocket said c.args.self.now c.args.from (router_socket c.args.self.now.table) (content c.args.frame.now)) c.args.self.now c.args.out.now.items c.serve_request.result x c.serve_request.new.out.items) (sym same)
+    (step_comes (AtSocket said c.args.self.now c.args.from (router_socket c.args.self.now.table) (content c.args.frame.now)) (zone_asked c.args.self.now c.args.from (content c.args.frame.now) c.in-Some.zones c.in-Ok.start)
     c.args.self.now c.args.out.now.items c.serve_request.result (record c.args.self.now { served = c.serve_request.new.served }) c.serve_request.new.out.items asks step)
 
-pub returns-in-Err : goal.returns-in-Err
-returns-in-Err g c =
-    comes_ignored (AtSocket c.args.self.now c.args.from (router_socket c.args.self.now.table) (content c.args.frame.now)) c.args.self.now c.args.out.now.items
-    (rw c.in-Request.is (bad_request g.row.A.Denot c.args.self.now c.args.from c.args.self.now.table c.in-Request.mask c.in-Request.xo c.in-Request.timer c.in-Request.tid c.in-Request.user c.in-Request.data_.now
+pub returns-in-Err-clause-comes : goal.returns-in-Err-clause-comes
+returns-in-Err-clause-comes g c = λ said.
+    comes_ignored (AtSocket said c.args.self.now c.args.from (router_socket c.args.self.now.table) (content c.args.frame.now)) c.args.self.now c.args.out.now.items
+    (rw c.in-Request.is (bad_request g.row.A.Denot said c.args.self.now c.args.from c.args.self.now.table c.in-Request.mask c.in-Request.xo c.in-Request.timer c.in-Request.tid c.in-Request.user c.in-Request.data_.now
     (λ start h. absurd (cc (c.in-Err.ensures.only start h)))))

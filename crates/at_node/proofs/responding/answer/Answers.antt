@@ -2,7 +2,7 @@ use Rattle.std.proofs.Common.{ap, ◌∙◌}
 use Rattle.at_ddp.specs.Datagrams.{Datagrams}
 use Rattle.at_ddp.specs.Outbox.{Outbox}
 use Rattle.at_node.proofs.PostLemmas.{answered_posts, nothing_posted}
-use Rattle.at_node.proofs.serving.answer.Goals as goal
+use Rattle.at_node.proofs.responding.answer.Goals as goal
 
 pub returns-clause-sent : goal.returns-clause-sent
 returns-clause-sent g c = answered_posts c.respond-answered.result c.args.served.now c.respond-answered.new.self c.args.key c.args.packets.now c.over-outbox.result c.respond-answered.new.out c.args.out.now.items c.into_list.result.items c.args.own c.respond-answered.ensures.ok

@@ -2,7 +2,7 @@ use Rattle.std.proofs.Common.{ap, ◌∙◌}
 use Rattle.at_ddp.specs.Datagrams.{Datagrams}
 use Rattle.at_ddp.specs.Outbox.{Outbox}
 use Rattle.at_node.proofs.PostLemmas.{taken_posts}
-use Rattle.at_node.proofs.serving.take.Goals as goal
+use Rattle.at_node.proofs.responding.take.Goals as goal
 
 pub returns-clause-sent : goal.returns-clause-sent
 returns-clause-sent g c = taken_posts c.receive-reception.result _ c.receive-reception.new.self c.over-outbox.result c.receive-reception.new.out c.args.out.now.items c.into_list.result.items c.args.own c.receive-reception.ensures.ok

@@ -1,0 +1,46 @@
+-- Numbers that are not to be reused while a packet or a record has them.
+use Rattle.std.specs.Prelude.{◌≡◌, ℕ, ◌==◌, ◌&&◌, ◌||◌, Bool, List, Option, Some, None}
+use Rattle.std.specs.List.{list_any}
+use Rattle.at_ddp.specs.Datagram.{Content as Datagram, BeginsWith}
+use Rattle.at_atp.specs.Frames.{Content, Spells}
+use Rattle.at_atp.specs.Network.{owner, number_of}
+use Rattle.at_atp.specs.Records.{is_from}
+use Rattle.at_node.specs.declared.drawing.Draw.{Draw}
+use Rattle.at_node.specs.declared.drawing.Draw.TheVariants.{Tid}
+use Rattle.at_node.specs.declared.drawing.Input.{Input}
+use Rattle.at_node.specs.declared.drawing.Input.TheVariants as input
+use Rattle.at_node.specs.declared.event.Call.{Call}
+use Rattle.at_node.specs.declared.event.Report.{Report}
+use Rattle.at_node.specs.declared.event.Report.TheVariants as report
+use Rattle.at_node.specs.Nodes.{NodeState}
+use Rattle.at_node.specs.Steps.{atp_kind, called}
+
+-- the number that was drawn where this was reported
+abbrev pub drawn_by : {A : Type 0} → Report A → Option Draw
+drawn_by (report.Begun tid) = Some (Tid tid)
+drawn_by other = None
+
+-- the number that a call draws here, if no memory is refused
+abbrev pub draw_of : {A : Type 0} → NodeState → Call A → Option Draw
+draw_of n call = drawn_by (called n call).report
+
+-- the same of whatever comes: for now only calls draw
+abbrev pub draw_of_input : {A : Type 0} → NodeState → Input A → Option Draw
+draw_of_input n (input.Call call) = draw_of n call.now
+draw_of_input n (input.Timer timer) = None
+draw_of_input n (input.Received bytes) = None
+
+-- does a record stand here under this number of the node?
+abbrev pub holds : NodeState → ℕ → Draw → Bool
+holds n node (Tid tid) = list_any (is_from node tid) n.served || list_any (is_from node tid) n.service
+
+-- bytes begin with a datagram that carries this number of the node
+pub record Carries (bytes : List ℕ) (node : ℕ) (draw : Draw) : Type 0 where
+  pub datagram : Datagram
+  pub rest : List ℕ
+  pub begins : BeginsWith bytes datagram rest
+  pub is_atp : datagram.kind ≡ atp_kind
+  pub packet : Content
+  pub spelled : Spells datagram.data_ packet
+  pub is_owner : (owner datagram.from datagram.to packet).node ≡ node
+  pub is_draw : draw ≡ Tid (number_of packet)

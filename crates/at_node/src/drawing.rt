@@ -1,0 +1,118 @@
+ghost use Rattle.std.specs.Prelude.{◌≡◌, ◌↔◌, ℕ, Some, IfSome, option_map};
+ghost use Rattle.std.specs.List.{Contains};
+ghost use Rattle.at_atp.specs.Network.{owner};
+ghost use Rattle.at_atp.specs.Frames.{content};
+ghost use Rattle.at_atp.specs.Requests.{next_number};
+ghost use Rattle.at_node.specs.Drawing.{Carries, draw_of, draw_of_input, holds};
+ghost use Rattle.at_node.specs.declared.drawing.Draw.{Draw as Drawn};
+ghost use Rattle.at_node.specs.declared.drawing.Draw.TheVariants.{Tid};
+
+use crate::asking::{ATP, tid_of};
+use crate::event::{Call, Timer};
+use crate::node::Node;
+use at_atp::{Frame, MAX_DATA};
+use at_ddp::{Address, decode};
+use std::alloc::{Allocator, Global};
+
+/// A number that a node draws, and that is not to be drawn again while a packet or a record has it.
+#[derive(Clone, Copy, Debug, PartialEq, Eq, Hash)]
+pub enum Draw {
+    /// The number of a transaction.
+    Tid(u16),
+}
+
+/// What comes to a node next.
+#[derive(Clone, Copy)]
+pub enum Input<'a, A: Allocator = Global> {
+    Call(&'a Call<A>),
+    Timer(Timer),
+    Received(&'a [u8]),
+}
+
+impl<A: Allocator + Copy> Node<A> {
+    /// The number that this would draw here, if no memory is refused.
+    pub fn draw_of(&self, input: &Input<'_, A>) -> Option<Draw>
+        ensures { result ≡ draw_of_input self.now input.now }
+    {
+        match input {
+            Input::Call(call) => self.draw_of_call(call),
+            Input::Timer(_) => None,
+            Input::Received(_) => None,
+        }
+    }
+
+    /// Whether a record stands here under this number of a node.
+    pub fn holds(&self, node: u8, draw: Draw) -> bool
+        ensures { result ≡ holds self.now node draw }
+    {
+        match draw {
+            Draw::Tid(tid) => {
+                self.served.holds_number(node, tid) || self.service.holds_number(node, tid)
+            }
+        }
+    }
+
+    fn draw_of_call(&self, call: &Call<A>) -> Option<Draw>
+        ensures { result ≡ draw_of self.now call.now }
+    {
+        match call {
+            Call::Zones => {
+                if self.router.is_none() || self.reading.is_some() {
+                    return None;
+                }
+                self.next_draw()
+            }
+            Call::Ask { data_, .. } => {
+                if data_.as_slice().len() > MAX_DATA {
+                    return None;
+                }
+                self.next_draw()
+            }
+            Call::Answer { .. } => None,
+        }
+    }
+
+    fn next_draw(&self) -> Option<Draw>
+        ensures { result ≡ option_map (λ tid. Tid tid) (next_number self.now.requester) }
+    {
+        let tid = self.requester.next_number(None)?;
+        Some(Draw::Tid(tid))
+    }
+}
+
+/// The numbers that a datagram carries, each with the node that draws it; none where the bytes begin with no datagram, or
+/// it has no packet.
+pub fn carried(bytes: &[u8]) -> [Option<(u8, Draw)>; 2]
+    ensures { (node : ℕ) (draw : Drawn) → Contains result (Some (node, draw)) ↔ Carries bytes.now node draw }
+{
+    [owned(bytes), None]
+}
+
+// The transaction number in a datagram.
+fn owned(bytes: &[u8]) -> Option<(u8, Draw)>
+    ensures found { IfSome result (λ r. Carries bytes.now r.0 r.1) }
+    ensures only { (node : ℕ) (draw : Drawn) → Carries bytes.now node draw → result ≡ Some (node, draw) }
+{
+    let Ok((datagram, _)) = decode(bytes) else {
+        return None;
+    };
+    if datagram.kind != ATP {
+        return None;
+    }
+    let Ok(frame) = at_atp::decode(datagram.data_) else {
+        return None;
+    };
+    let owner = owner(datagram.from, datagram.to, &frame);
+    Some((owner.node, Draw::Tid(tid_of(&frame))))
+}
+
+// Whose number a packet carries.
+fn owner(from: Address, to: Address, frame: &Frame<'_>) -> Address
+    ensures { result ≡ owner from to (content frame.now) }
+{
+    match frame {
+        Frame::Request { .. } => from,
+        Frame::Response { .. } => to,
+        Frame::Release { .. } => from,
+    }
+}

@@ -1,0 +1,57 @@
+ghost use Rattle.std.specs.Prelude.{◌≡◌, ◌↔◌, ◌++◌, map, length, find, None, Err, true, IfOk, IfErr, IfSome, OnOk, OnErr, IsErrOf};
+ghost use Rattle.at_atp.specs.Frames.{content, spelled_all};
+ghost use Rattle.at_atp.specs.Records.{taken, finds_no_place, answer_fault, is_key, asked_for};
+ghost use Rattle.at_atp.specs.Tables.{without_first};
+ghost use Rattle.at_node.specs.Nodes.{posted, sent_by};
+ghost use Rattle.at_node.specs.Steps.{atp_kind};
+
+use crate::asking::ATP;
+use at_atp::{AtpFault, Frame, Key, Packet, Reception, Responder};
+use at_ddp::{Address, Datagrams, Outbox};
+use std::alloc::Allocator;
+use std::mem;
+
+// Hands a packet to the responder.
+pub(crate) fn take<A: Allocator + Copy>(
+    alloc: A,
+    served: &mut Responder<A>,
+    own: Address,
+    from: Address,
+    frame: &Frame<'_>,
+    out: &mut Datagrams<A>,
+) -> Result<Reception, AtpFault>
+    ensures reception { IfOk result (λ r. r ≡ (taken served.old from (content frame.now)).reception) }
+    ensures state { OnOk result (served.new ≡ (taken served.old from (content frame.now)).after) }
+    ensures sent { OnOk result (out.new.items ≡ out.old.items ++ map posted (sent_by own atp_kind (spelled_all (taken served.old from (content frame.now)).sent))) }
+    ensures full { IsErrOf result AtpFault.Full ↔ (finds_no_place served.old from (content frame.now) ≡ true) }
+    ensures unchanged { OnErr result (served.new ≡ served.old) }
+    ensures nothing_sent { OnErr result (out.new.items ≡ out.old.items) }
+{
+    let mut outbox = Outbox::over(mem::replace(out, Datagrams::new(alloc)), own, ATP);
+    let reception = served.receive(from, frame, &mut outbox);
+    *out = outbox.into_list();
+    reception
+}
+
+// Answers a request that waits.
+pub(crate) fn answer<A: Allocator + Copy>(
+    alloc: A,
+    served: &mut Responder<A>,
+    own: Address,
+    key: Key,
+    packets: &[Packet<A>],
+    out: &mut Datagrams<A>,
+) -> Result<u8, AtpFault>
+    ensures state { OnOk result (served.new ≡ without_first (is_key key) served.old) }
+    ensures count { IfOk result (λ count. count ≡ length (asked_for (find (is_key key) served.old) key packets.now)) }
+    ensures sent { OnOk result (out.new.items ≡ out.old.items ++ map posted (sent_by own atp_kind (spelled_all (asked_for (find (is_key key) served.old) key packets.now)))) }
+    ensures refuses { IfSome (answer_fault served.old key packets.now) (λ fault. result ≡ Err fault) }
+    ensures memory { answer_fault served.old key packets.now ≡ None → IfErr result (λ fault. fault ≡ AtpFault.NoMemory) }
+    ensures unchanged { OnErr result (served.new ≡ served.old) }
+    ensures nothing_sent { OnErr result (out.new.items ≡ out.old.items) }
+{
+    let mut outbox = Outbox::over(mem::replace(out, Datagrams::new(alloc)), own, ATP);
+    let answered = served.respond(key, packets, &mut outbox);
+    *out = outbox.into_list();
+    answered
+}
