@@ -1,3 +1,4 @@
+pub mod Draws
 pub mod Machine
 pub mod Plays
 pub mod Refusals

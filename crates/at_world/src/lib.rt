@@ -1,6 +1,7 @@
 //! A world of nodes on one cable, in which any datagram may come late, again or never.
 #![tactic(auto)]
 
+mod draws;
 mod event;
 mod opening;
 mod player;
