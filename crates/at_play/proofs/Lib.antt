@@ -1,2 +1,3 @@
 mod InputLemmas
 pub mod NumberLemmas
+mod ShownLemmas

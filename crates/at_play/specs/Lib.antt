@@ -1,2 +1,4 @@
+pub mod HexFaults
+pub mod Printers
 pub mod Shown
 pub mod Statuses
