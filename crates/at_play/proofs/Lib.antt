@@ -1,3 +1,4 @@
 mod InputLemmas
 pub mod NumberLemmas
+mod PrintLemmas
 mod ShownLemmas

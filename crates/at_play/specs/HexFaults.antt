@@ -1,6 +1,6 @@
 -- What is printed of a word that spells no bytes.
 use Rattle.std.specs.Prelude.{ℕ, List, codes}
-use Rattle.at_play.specs.Printers.{no_memory_line}
+use Rattle.at_play.specs.Lines.{no_memory_line}
 use Rattle.at_play.specs.declared.show.HexFault.{HexFault}
 use Rattle.at_play.specs.declared.show.HexFault.TheVariants.{NoHex, NoMemory}
 

@@ -1,4 +1,10 @@
 //! How datagrams and packets print, a line each.
+ghost use Rattle.std.specs.List.{concat};
+ghost use Rattle.at_atp.specs.Frames.{content as packet_of};
+ghost use Rattle.at_ddp.specs.Datagram.{content};
+ghost use Rattle.at_play.specs.Lines.{address_text, header_line, packet_line, parts, raw_line, sum_text};
+ghost use Rattle.at_play.specs.Printers.{Prints};
+
 use crate::print::write_hex;
 use crate::printer::Printer;
 use at_atp::Frame;
@@ -6,11 +12,9 @@ use at_ddp::{Address, Datagram, HEADER_LEN};
 use std::io::Write;
 
 /// The line of a datagram's header; so many bytes follow the datagram.
-pub(crate) fn write_header<W: Write>(
-    printer: &mut Printer<W>,
-    datagram: &Datagram<'_>,
-    rest: usize,
-) {
+pub(crate) fn write_header<W: Write>(printer: &mut Printer<W>, datagram: &Datagram<'_>, rest: usize)
+    ensures { Prints W.contents printer.old printer.new (header_line (content datagram.now) rest) }
+{
     let len = HEADER_LEN as u64 + datagram.data_.len() as u64;
     write!(printer, "ddp length {len} hops {} sum ", datagram.hops);
     write_sum(printer, datagram.sum);
@@ -22,15 +26,19 @@ pub(crate) fn write_header<W: Write>(
 }
 
 // Four digits, or that no sum was computed.
-fn write_sum<W: Write>(printer: &mut Printer<W>, sum: u16) {
+fn write_sum<W: Write>(printer: &mut Printer<W>, sum: u16)
+    ensures { Prints W.contents printer.old printer.new (sum_text sum) }
+{
     if sum == 0 {
         printer.write_all(b"none");
     } else {
-        write!(printer, "{sum:04X}");
+        write_hex(printer, &sum.to_be_bytes());
     }
 }
 
-fn write_address<W: Write>(printer: &mut Printer<W>, address: Address) {
+fn write_address<W: Write>(printer: &mut Printer<W>, address: Address)
+    ensures { Prints W.contents printer.old printer.new (address_text address) }
+{
     write!(
         printer,
         "{}.{}.{}",
@@ -39,14 +47,18 @@ fn write_address<W: Write>(printer: &mut Printer<W>, address: Address) {
 }
 
 /// The line of data that is not read.
-pub(crate) fn write_raw<W: Write>(printer: &mut Printer<W>, bytes: &[u8]) {
+pub(crate) fn write_raw<W: Write>(printer: &mut Printer<W>, bytes: &[u8])
+    ensures { Prints W.contents printer.old printer.new (raw_line bytes.now) }
+{
     printer.write_all(b"raw ");
     write_hex(printer, bytes);
     printer.write_all(b"\n");
 }
 
 /// The line of an ATP packet.
-pub(crate) fn write_frame<W: Write>(printer: &mut Printer<W>, frame: &Frame<'_>) {
+pub(crate) fn write_frame<W: Write>(printer: &mut Printer<W>, frame: &Frame<'_>)
+    ensures { Prints W.contents printer.old printer.new (packet_line (packet_of frame.now)) }
+{
     match frame {
         Frame::Request {
             mask,
@@ -56,11 +68,9 @@ pub(crate) fn write_frame<W: Write>(printer: &mut Printer<W>, frame: &Frame<'_>)
             user,
             data_,
         } => {
-            write!(
-                printer,
-                "atp request mask {mask:02X} xo {} timer {timer} id {tid}",
-                u8::from(*xo)
-            );
+            printer.write_all(b"atp request mask ");
+            write_hex(printer, &[*mask]);
+            write!(printer, " xo {} timer {timer} id {tid}", u8::from(*xo));
             write_parts(printer, *user, data_);
         }
         Frame::Response {
@@ -84,7 +94,9 @@ pub(crate) fn write_frame<W: Write>(printer: &mut Printer<W>, frame: &Frame<'_>)
 }
 
 // The user bytes and the data, at the end of a packet's line.
-fn write_parts<W: Write>(printer: &mut Printer<W>, user: [u8; 4], bytes: &[u8]) {
+fn write_parts<W: Write>(printer: &mut Printer<W>, user: [u8; 4], bytes: &[u8])
+    ensures { Prints W.contents printer.old printer.new (concat (parts user bytes.now)) }
+{
     printer.write_all(b" user ");
     write_hex(printer, &user);
     printer.write_all(b" data ");

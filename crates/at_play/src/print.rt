@@ -1,4 +1,7 @@
 //! What is printed of a play.
+ghost use Rattle.at_play.specs.Lines.{hex_text, pairs};
+ghost use Rattle.at_play.specs.Printers.{Prints};
+
 use crate::printer::Printer;
 use at_atp::Packet;
 use at_ddp::Pascal;
@@ -78,10 +81,19 @@ fn write_response<A: Allocator, W: Write>(
 }
 
 /// Pairs of hexadecimal digits, or `-` for no bytes.
-pub(crate) fn write_hex<W: Write>(printer: &mut Printer<W>, bytes: &[u8]) {
+pub(crate) fn write_hex<W: Write>(printer: &mut Printer<W>, bytes: &[u8])
+    ensures { Prints W.contents printer.old printer.new (hex_text bytes.now) }
+{
     if bytes.is_empty() {
         printer.write_all(b"-");
+    } else {
+        write_pairs(printer, bytes);
     }
+}
+
+fn write_pairs<W: Write>(printer: &mut Printer<W>, bytes: &[u8])
+    ensures { Prints W.contents printer.old printer.new (pairs bytes.now) }
+{
     for byte in bytes {
         write!(printer, "{byte:02X}");
     }

@@ -1,5 +1,5 @@
 //! A writer that keeps in mind whether a write to it failed.
-ghost use Rattle.std.specs.Prelude.{◌≡◌, ◌↔◌, IfSome};
+ghost use Rattle.std.specs.Prelude.{◌≡◌, ◌↔◌, [], IfSome};
 ghost use Rattle.at_play.specs.Printers.{HasFailed, Prints};
 
 use crate::program::Status;
@@ -25,8 +25,7 @@ impl<W: Write> Printer<W> {
     }
 
     pub(crate) fn write_all(&mut self, bytes: &[u8])
-        ensures stopped { HasFailed self.old → self.new ≡ self.old }
-        ensures printed { Prints W.contents self.old self.new bytes.now }
+        ensures { Prints W.contents self.old self.new bytes.now }
     {
         if !self.has_failed {
             self.has_failed = self.writer.write_all(bytes).is_err();
@@ -45,7 +44,7 @@ impl<W: Write> Printer<W> {
 
     /// Flushes, and hands on the status, or `Failed` where a write or the flush failed.
     pub(crate) fn finish(&mut self, status: Status) -> Status
-        ensures stopped { HasFailed self.old → self.new ≡ self.old }
+        ensures printed { Prints W.contents self.old self.new [] }
         ensures done { (result ≡ Status.Done) ↔ ((status ≡ Status.Done) × ¬ HasFailed self.new) }
     {
         if !self.has_failed {

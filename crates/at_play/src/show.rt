@@ -1,7 +1,9 @@
 //! What `show` prints of a datagram that a word spells in hexadecimal digits.
-ghost use Rattle.std.specs.Prelude.{◌≡◌, ◌↔◌, ◌≤◌, ◌<◌, ◌/◌, List, ℕ, length, OnOk, IfErr, IsErrOf, vec_capacity};
-ghost use Rattle.at_play.specs.Printers.{HasFailed, Prints, refusal_line};
+ghost use Rattle.std.specs.Prelude.{◌≡◌, ◌↔◌, ◌≤◌, ◌<◌, ◌/◌, ◌++◌, List, ℕ, length, OnOk, IfErr, IsErrOf, vec_capacity};
+ghost use Rattle.at_play.specs.Printers.{HasFailed, Prints};
+ghost use Rattle.at_ddp.specs.Datagram.{content};
 ghost use Rattle.at_play.specs.HexFaults.{fault_line};
+ghost use Rattle.at_play.specs.Lines.{BytesText, DataText, PacketText, WordText, header_line, refusal_line};
 ghost use Rattle.at_play.specs.Shown.{IsHex, IsPacket, IsReadable, IsSound, Shows};
 
 use crate::packet_lines::{write_frame, write_header, write_raw};
@@ -31,6 +33,7 @@ pub fn show_text<A: Allocator, W: Write>(
     printer: &mut Printer<W>,
 ) -> Status
     ensures done { result ≡ Status.Done → Shows word.now × ¬ HasFailed printer.new }
+    ensures printed { (text : List ℕ) × WordText word.now (vec_capacity room.old) text × Prints W.contents printer.old printer.new text }
     // It fails only where the word is not to be shown, room was missing, or a write failed.
     ensures only { Shows word.now → length word.now / 2 ≤ vec_capacity room.old → ¬ HasFailed printer.new → result ≡ Status.Done }
 {
@@ -76,7 +79,8 @@ fn show_fault<W: Write>(fault: HexFault, printer: &mut Printer<W>) -> Status
 }
 
 fn show_bytes<W: Write>(bytes: &[u8], printer: &mut Printer<W>) -> Status
-    ensures { (result ≡ Status.Done) ↔ IsSound bytes.now }
+    ensures done { (result ≡ Status.Done) ↔ IsSound bytes.now }
+    ensures printed { (text : List ℕ) × BytesText bytes.now text × Prints W.contents printer.old printer.new text }
 {
     match at_ddp::decode(bytes) {
         Ok((datagram, rest)) => show_datagram(&datagram, rest.len(), printer),
@@ -86,7 +90,9 @@ fn show_bytes<W: Write>(bytes: &[u8], printer: &mut Printer<W>) -> Status
 
 // The header's line, and the line of what the datagram carries.
 fn show_datagram<W: Write>(datagram: &Datagram<'_>, rest: usize, printer: &mut Printer<W>) -> Status
-    ensures { (result ≡ Status.Done) ↔ IsReadable datagram.now.kind datagram.now.data_.now }
+    ensures done { (result ≡ Status.Done) ↔ IsReadable datagram.now.kind datagram.now.data_.now }
+    ensures printed { (text : List ℕ) × DataText datagram.now.kind datagram.now.data_.now text
+        × Prints W.contents printer.old printer.new (header_line (content datagram.now) rest ++ text) }
 {
     write_header(printer, datagram, rest);
     if datagram.kind == ATP {
@@ -98,7 +104,8 @@ fn show_datagram<W: Write>(datagram: &Datagram<'_>, rest: usize, printer: &mut P
 }
 
 fn show_packet<W: Write>(bytes: &[u8], printer: &mut Printer<W>) -> Status
-    ensures { (result ≡ Status.Done) ↔ IsPacket bytes.now }
+    ensures done { (result ≡ Status.Done) ↔ IsPacket bytes.now }
+    ensures printed { (text : List ℕ) × PacketText bytes.now text × Prints W.contents printer.old printer.new text }
 {
     match at_atp::decode(bytes) {
         Ok(frame) => {
