@@ -1,5 +1,6 @@
 mod Calls
 mod Canonical
+mod DrawLemmas
 mod Following
 mod Requested
 mod Responded

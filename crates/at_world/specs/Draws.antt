@@ -3,27 +3,32 @@ use Rattle.std.specs.Prelude.{ℕ, ◌==◌, ◌&&◌, nat_le, if◌then◌else�
 use Rattle.at_node.specs.declared.drawing.Draw.{Draw}
 use Rattle.at_node.specs.declared.drawing.Draw.TheVariants.{Tid}
 
+-- each number of each node that was ever drawn, with the event of its last draw
+abbrev pub Draws : Type 0
+Draws = List ((ℕ × Draw) × ℕ)
+
 abbrev pub same_draw : Draw → Draw → Bool
 same_draw (Tid a) (Tid b) = a == b
 
--- the event of the last draw of each number of each node
-abbrev pub Draws : Type 0
-Draws = ℕ → Draw → Option ℕ
+abbrev pub is_number : ℕ → Draw → ℕ × Draw → Bool
+is_number node draw number = (node == number.0) && same_draw draw number.1
 
-abbrev pub nothing_drawn : Draws
-nothing_drawn node draw = None
+-- the event that drew a number of a node last
+abbrev pub last_of : Draws → ℕ → Draw → Option ℕ
+last_of [] node draw = None
+last_of (d ∷ ds) node draw = if is_number node draw d.0 then Some d.1 else last_of ds node draw
 
--- an event drew this number of a node, or none
+-- an event drew this number of a node
+abbrev pub drawn_at : Draws → ℕ → Draw → ℕ → Draws
+drawn_at [] node draw event = ((node, draw), event) ∷ []
+drawn_at (d ∷ ds) node draw event = if is_number node draw d.0 then (d.0, event) ∷ ds else d ∷ drawn_at ds node draw event
+
+-- the same, if it drew one
 abbrev pub noted : Draws → ℕ → ℕ → Option Draw → Draws
-noted last k event None = last
-noted last k event (Some drawn) = λ node draw. if (k == node) && same_draw drawn draw then Some event else last node draw
+noted ds node event None = ds
+noted ds node event (Some draw) = drawn_at ds node draw event
 
 -- no later event than this one drew it
 abbrev pub is_no_later : Option ℕ → ℕ → Bool
 is_no_later None event = true
 is_no_later (Some drawn) event = nat_le drawn event
-
--- the same from a list that has each number once
-abbrev pub last_in : List ((ℕ × Draw) × ℕ) → Draws
-last_in [] node draw = None
-last_in (e ∷ es) node draw = if (node == e.0.0) && same_draw draw e.0.1 then Some e.1 else last_in es node draw

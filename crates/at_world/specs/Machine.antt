@@ -5,11 +5,13 @@ use Rattle.std.specs.Prelude.{◌≡◌, ℕ, ◌<◌, ◌≤◌, ◌==◌, ◌&
 use Rattle.at_ddp.specs.Address.{same_address}
 use Rattle.at_ddp.specs.declared.address.Address.{Address}
 use Rattle.at_atp.specs.Packets.{Packet}
+use Rattle.at_atp.specs.Transactions.{Transaction, Asked, transaction_of, answered, IsResponse}
+use Rattle.at_atp.specs.declared.reception.Key.{Key}
 use Rattle.at_zip.specs.Page.{page_of, page_user, page_data}
 use Rattle.at_zip.specs.Request.{RequestSpells, request_user}
-use Rattle.at_node.specs.Steps.{asking, zones_at}
+use Rattle.at_node.specs.Steps.{asking, serving, zones_at}
 use Rattle.at_node.specs.declared.event.Call.{Call}
-use Rattle.at_node.specs.declared.event.Call.TheVariants.{Zones}
+use Rattle.at_node.specs.declared.event.Call.TheVariants.{Zones, Ask, Answer}
 use Rattle.at_node.specs.declared.event.Report.{Report}
 use Rattle.at_node.specs.declared.event.Report.TheVariants as report
 use Rattle.at_world.specs.declared.event.Event.{Event}
@@ -18,18 +20,6 @@ use Rattle.at_world.specs.declared.setup.Setup.{Setup}
 use Rattle.at_world.specs.declared.transcript.Transcript.{Transcript}
 use Rattle.at_world.specs.declared.transcript.PlayFault.{PlayFault}
 use Rattle.at_world.specs.Plays.{router_of}
-
--- one beginning of a transaction: who asks, under which number, whom, and what, for how many packets, and whether
--- exactly once; and the answers that were given to it since
-pub record Transaction : Type 0 where
-  pub requester : Address
-  pub tid : ℕ
-  pub responder : Address
-  pub user : List ℕ
-  pub data_ : List ℕ
-  pub wanted : ℕ
-  pub xo : Bool
-  pub answers : List (List Packet)
 
 -- a node reads the zone list since this moment
 pub record Reading : Type 0 where
@@ -51,22 +41,6 @@ opening_machine s = record { net = s.net; router = router_of s.nodes; table = s.
 -- one moment more
 abbrev pub next : Machine → Machine
 next m = record m { past = m.past ++ m.table ∷ [] }
-
--- ---- transactions
-
-abbrev pub is_transaction : Address → ℕ → Transaction → Bool
-is_transaction requester tid t = same_address t.requester requester && (t.tid == tid)
-
--- the newest transaction of a requester under a number
-abbrev pub transaction_of : List Transaction → Address → ℕ → Option Transaction
-transaction_of ts requester tid = find (is_transaction requester tid) ts
-
--- an answer is given to the newest transaction of a requester under a number
-abbrev pub answered : List Transaction → Address → ℕ → List Packet → List Transaction
-answered [] requester tid packets = []
-answered (t ∷ ts) requester tid packets =
-    if is_transaction requester tid t then record t { answers = t.answers ++ packets ∷ [] } ∷ ts
-    else t ∷ answered ts requester tid packets
 
 -- ---- readings of the zone list
 
@@ -101,22 +75,46 @@ StoodSince past since table = (moment : ℕ) → since ≤ moment → moment < l
 
 -- ---- the steps, one for each report
 
+-- a socket of the cable
+abbrev pub at_net : Machine → ℕ → ℕ → Address
+at_net m node socket = record { net = m.net; node = node; socket = socket }
+
 -- a reading of the zone list begins, and its first transaction
 pub record BeginsReading (m : Machine) (node tid : ℕ) (m' : Machine) : Type 0 where
   pub router : ℕ
   pub is_router : m.router ≡ Some router
   pub becomes : m' ≡ next (record m { asked = first_page m.net node router tid ∷ m.asked; readings = record { node = node; since = length m.past } ∷ m.readings })
 
+-- a transaction begins, without answers
+pub record BeginsAsking (m : Machine) (node : ℕ) (responder : Address) (user bytes : List ℕ) (wanted tid : ℕ) (m' : Machine) : Type 0 where
+  pub becomes : m' ≡ next (record m { asked = record { requester = asking m.net node; tid = tid; responder = responder; user = user; data_ = bytes; wanted = wanted; xo = false; answers = [] } ∷ m.asked })
+
+-- a node's user answers the newest transaction of a requester under a number, which asked the node's service
+pub record GivesAnswer (m : Machine) (node : ℕ) (requester : Address) (tid : ℕ) (packets : List Packet) (count : ℕ) (m' : Machine) : Type 0 where
+  pub asked : Asked m.asked requester tid (serving m.net node)
+  pub few : count ≤ length packets
+  pub becomes : m' ≡ next (record m { asked = answered m.asked requester tid packets })
+
+-- the service is handed what such a transaction asks
+pub record IsAsked (m : Machine) (node : ℕ) (key : Key) (user bytes : List ℕ) : Type 0 where
+  pub asked : Asked m.asked key.from key.tid (serving m.net node)
+  pub is_user : (asked.transaction).user ≡ user
+  pub is_data : (asked.transaction).data_ ≡ bytes
+
+-- what ends a node's transaction is a response to it
+pub record IsAnswered (m : Machine) (node tid : ℕ) (packets : List Packet) : Type 0 where
+  pub transaction : Transaction
+  pub newest : transaction_of m.asked (asking m.net node) tid ≡ Some transaction
+  pub response : IsResponse transaction packets
+
 -- the router answers a transaction that asked it for the page from a place on: the page of the table of this moment
 pub record Serves (m : Machine) (node count : ℕ) (m' : Machine) : Type 0 where
   pub is_router : m.router ≡ Some node
-  pub transaction : Transaction
   pub requester : Address
   pub tid : ℕ
-  pub asked : transaction_of m.asked requester tid ≡ Some transaction
-  pub asked_it : transaction.responder ≡ zones_at m.net node
+  pub asked : Asked m.asked requester tid (zones_at m.net node)
   pub start : ℕ
-  pub asks_from : RequestSpells transaction.user start
+  pub asks_from : RequestSpells (asked.transaction).user start
   pub one : count ≤ 1
   pub becomes : m' ≡ next (record m { asked = answered m.asked requester tid (page_answer m.table start) })
 
@@ -127,13 +125,28 @@ pub record EndsReading (m : Machine) (node : ℕ) (names : List (List ℕ)) (m' 
   pub tells : StoodSince m.past since m.table → names ≡ m.table
   pub becomes : m' ≡ next (record m { readings = without_reading m.readings node })
 
+-- a reading ends without a list
+pub record FailsReading (m : Machine) (node : ℕ) (m' : Machine) : Type 0 where
+  pub since : ℕ
+  pub began : since_of m.readings node ≡ Some since
+  pub becomes : m' ≡ next (record m { readings = without_reading m.readings node })
+
 -- a call begins this transaction
-abbrev pub Begins : Machine → ℕ → Call → ℕ → Machine → Type 0
+abbrev pub Begins : {A : Type 0} → Machine → ℕ → Call A → ℕ → Machine → Type 0
 Begins m node Zones tid m' = BeginsReading m node tid m'
+Begins m node (Ask k socket user bytes wanted retries) tid m' = BeginsAsking m node (at_net m k socket) user bytes wanted tid m'
+Begins m node (Answer k socket number packets) tid m' = ⊥
+
+-- a call gives this answer, of which so many packets are sent
+abbrev pub Answers : {A : Type 0} → Machine → ℕ → Call A → ℕ → Machine → Type 0
+Answers m node (Answer k socket tid packets) count m' = GivesAnswer m node (at_net m k socket) tid packets count m'
+Answers m node Zones count m' = ⊥
+Answers m node (Ask k socket user bytes wanted retries) count m' = ⊥
 
 -- a call is answered by this report
-abbrev pub StepCall : {A : Type 0} → Machine → ℕ → Call → Report A → Machine → Type 0
+abbrev pub StepCall : {A : Type 0} → Machine → ℕ → Call A → Report A → Machine → Type 0
 StepCall m node call (report.Begun tid) m' = Begins m node call tid m'
+StepCall m node call (report.Answered count) m' = Answers m node call count m'
 StepCall m node call (report.Refused number) m' = m' ≡ next m
 StepCall m node call report.NoMemory m' = m' ≡ next m
 StepCall m node call r m' = ⊥
@@ -141,6 +154,8 @@ StepCall m node call r m' = ⊥
 -- something that came is answered by this report
 abbrev pub StepDelivery : {A : Type 0} → Machine → ℕ → Report A → Machine → Type 0
 StepDelivery m node (report.Served count) m' = Serves m node count m'
+StepDelivery m node (report.Asked key user bytes) m' = IsAsked m node key user bytes × (m' ≡ next m)
+StepDelivery m node (report.Response tid packets) m' = IsAnswered m node tid packets × (m' ≡ next m)
 StepDelivery m node (report.Zones names) m' = EndsReading m node names m'
 StepDelivery m node report.Kept m' = m' ≡ next m
 StepDelivery m node report.Again m' = m' ≡ next m
@@ -149,18 +164,28 @@ StepDelivery m node (report.Refused number) m' = m' ≡ next m
 StepDelivery m node report.NoMemory m' = m' ≡ next m
 StepDelivery m node r m' = ⊥
 
-abbrev pub Step : {A : Type 0} → Machine → Event → Report A → Machine → Type 0
+-- a timer is answered by this report
+abbrev pub StepTimer : {A : Type 0} → Machine → ℕ → Report A → Machine → Type 0
+StepTimer m node report.Again m' = m' ≡ next m
+StepTimer m node (report.Failed tid) m' = m' ≡ next m
+StepTimer m node report.ZonesFailed m' = FailsReading m node m'
+StepTimer m node (report.Refused number) m' = m' ≡ next m
+StepTimer m node report.NoMemory m' = m' ≡ next m
+StepTimer m node r m' = ⊥
+
+abbrev pub Step : {A : Type 0} → Machine → Event A → Report A → Machine → Type 0
 Step m (event.Call node call) r m' = StepCall m node call r m'
 Step m (event.Deliver which node) r m' = StepDelivery m node r m'
+Step m (event.Timer node timer) r m' = StepTimer m node r m'
 
 -- the machine may give these reports to these events, one step after another
-abbrev pub Run : {A : Type 0} → Machine → List Event → List (Report A) → Machine → Type 0
+abbrev pub Run : {A : Type 0} → Machine → List (Event A) → List (Report A) → Machine → Type 0
 Run m [] [] m' = m' ≡ m
 Run m (e ∷ es) (r ∷ rs) m' = (mid : Machine) × Step m e r mid × Run mid es rs m'
 Run m [] (r ∷ rs) m' = ⊥
 Run m (e ∷ es) [] m' = ⊥
 
 -- the reports of what was played are a run of the machine
-abbrev pub IsRun : {A : Type 0} → Setup A → List Event → Result (Transcript A) (PlayFault A) → Type 0
+abbrev pub IsRun : {A : Type 0} → Setup A → List (Event A) → Result (Transcript A) (PlayFault A) → Type 0
 IsRun s events (Ok t) = (m : Machine) × Run (opening_machine s) events t.reports m
 IsRun s events (Err f) = (m : Machine) × Run (opening_machine s) (take f.at events) f.transcript.reports m

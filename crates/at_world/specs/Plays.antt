@@ -11,7 +11,7 @@ use Rattle.at_world.specs.declared.setup.Setup.{Setup}
 use Rattle.at_world.specs.declared.transcript.Transcript.{Transcript}
 use Rattle.at_world.specs.declared.transcript.PlayFault.{PlayFault}
 use Rattle.at_world.specs.Sents.{AreCanonical}
-use Rattle.at_world.specs.Worlds.{WorldState, refusal, Plays}
+use Rattle.at_world.specs.Worlds.{WorldState, IsPlayable, Refuses, Plays}
 
 -- the number of the cable's router
 abbrev pub router_of : List NodeSetup → Option ℕ
@@ -23,30 +23,30 @@ opening_node s n = opening s.net n.node (router_of s.nodes) (if n.router then So
 
 -- the world before anything happened
 abbrev pub opening_world : {A : Type 0} → Setup A → WorldState
-opening_world s = record { nodes = map (opening_node s) s.nodes; sent = []; events = 0; failed = false }
+opening_world s = record { nodes = map (opening_node s) s.nodes; sent = []; last = []; events = 0; failed = false }
 
 -- From the first world these events, none of them refused, give these reports and the last world.
-abbrev pub Follows : {A : Type 0} → WorldState → List Event → List (Report A) → WorldState → Type 0
+abbrev pub Follows : {A : Type 0} → WorldState → List (Event A) → List (Report A) → WorldState → Type 0
 Follows w [] [] w' = w' ≡ w
-Follows w (e ∷ es) (r ∷ rs) w' = (mid : WorldState) × (refusal w e ≡ None) × Plays w e r mid × Follows mid es rs w'
+Follows w (e ∷ es) (r ∷ rs) w' = (mid : WorldState) × IsPlayable w e × Plays w e r mid × Follows mid es rs w'
 Follows w [] (r ∷ rs) w' = ⊥
 Follows w (e ∷ es) [] w' = ⊥
 
 -- why a play stopped: the first event that is left is refused so, or memory was wanted
-abbrev pub IsRefused : WorldState → Option Event → Refusal → Type 0
+abbrev pub IsRefused : {A : Type 0} → WorldState → Option (Event A) → Refusal → Type 0
 IsRefused w None r = ⊥
-IsRefused w (Some e) r = refusal w e ≡ Some r
+IsRefused w (Some e) r = Refuses w e r
 
-abbrev pub StopsAt : WorldState → Option Event → Fault → Type 0
+abbrev pub StopsAt : {A : Type 0} → WorldState → Option (Event A) → Fault → Type 0
 StopsAt w e fault.NoMemory = Unit {0}
 StopsAt w e (fault.Refused r) = IsRefused w e r
 
 -- these events were played, with this transcript
-abbrev pub IsPlayed : {A : Type 0} → Setup A → List Event → Transcript A → WorldState → Type 0
+abbrev pub IsPlayed : {A : Type 0} → Setup A → List (Event A) → Transcript A → WorldState → Type 0
 IsPlayed s events t w = Follows (opening_world s) events t.reports w × (t.sent ≡ w.sent)
 
 -- what a play answers: the whole of it, or the events before the first that was not played
-abbrev pub IsPlay : {A : Type 0} → Setup A → List Event → Result (Transcript A) (PlayFault A) → Type 0
+abbrev pub IsPlay : {A : Type 0} → Setup A → List (Event A) → Result (Transcript A) (PlayFault A) → Type 0
 IsPlay s events (Ok t) = (w : WorldState) × IsPlayed s events t w
 IsPlay s events (Err f) = (w : WorldState) × IsPlayed s (take f.at events) f.transcript w × StopsAt w (slice_get events f.at) f.fault
 

@@ -1,12 +1,21 @@
 -- What a world is, which events it refuses, and what each event does to it.
 use Rattle.std.specs.Prelude.{◌≡◌, ℕ, ◌+◌, ◌==◌, ◌||◌, nat_le, nat_lt, if◌then◌else◌, Bool, true, false, List, [], ◌++◌, length, map, find, slice_get, Option, Some, None}
+use Rattle.std.specs.List.{list_any}
 use Rattle.at_ddp.specs.Datagrams.{Posted}
 use Rattle.at_atp.specs.Tables.{replaced}
+use Rattle.at_node.specs.declared.drawing.Draw.{Draw}
+use Rattle.at_node.specs.declared.drawing.Input.{Input}
+use Rattle.at_node.specs.declared.drawing.Input.TheVariants as input
 use Rattle.at_node.specs.declared.event.Call.{Call}
 use Rattle.at_node.specs.declared.event.Report.{Report}
+use Rattle.at_node.specs.declared.event.Timer.{Timer}
+use Rattle.at_node.specs.declared.service.Reply.{Reply}
+use Rattle.at_node.specs.declared.service.Reply.TheVariants as reply
+use Rattle.at_node.specs.Drawing.{Carries, drawn_by, draw_of, draw_of_input, holds}
 use Rattle.at_node.specs.Nodes.{NodeState, IsStep, Comes}
-use Rattle.at_node.specs.Steps.{called}
-use Rattle.at_node.specs.Hearing.{Hears}
+use Rattle.at_node.specs.Steps.{called, timed}
+use Rattle.at_node.specs.Hearing.{Hears, is_asked}
+use Rattle.at_world.specs.Draws.{Draws, last_of, noted, is_no_later}
 use Rattle.at_world.specs.Sents.{SentDatagram, stamp}
 use Rattle.at_world.specs.declared.event.Event.{Event}
 use Rattle.at_world.specs.declared.event.Event.TheVariants as event
@@ -18,6 +27,7 @@ use Rattle.at_world.specs.declared.event.Fault.TheVariants as fault
 pub record WorldState : Type 0 where
   pub nodes : List NodeState
   pub sent : List SentDatagram  -- all that was ever sent, by number
+  pub last : Draws  -- the event of the last draw of each number of each node
   pub events : ℕ  -- how many were played
   pub failed : Bool  -- the world found no memory of its own
 
@@ -45,52 +55,100 @@ abbrev pub delivery_refusal : WorldState → ℕ → Option SentDatagram → Opt
 delivery_refusal w k None = Some refusals.NoDatagram
 delivery_refusal w k (Some s) = if is_for s k then node_refusal (node_at w k) else Some refusals.NotForNode
 
-abbrev pub refusal_at : WorldState → Event → Option Refusal
+abbrev pub refusal_at : {A : Type 0} → WorldState → Event A → Option Refusal
 refusal_at w (event.Call k call) = node_refusal (node_at w k)
 refusal_at w (event.Deliver which k) = delivery_refusal w k (slice_get w.sent which)
+refusal_at w (event.Timer k timer) = node_refusal (node_at w k)
 
--- why an event is refused, the first reason that there is
-abbrev pub refusal : WorldState → Event → Option Refusal
+-- why an event is refused whatever its numbers, the first reason that there is
+abbrev pub refusal : {A : Type 0} → WorldState → Event A → Option Refusal
 refusal w e = if is_over w then Some refusals.Limit else refusal_at w e
+
+-- no number that a datagram carries was drawn by a later event than the one that sent it
+abbrev pub IsFresh : WorldState → SentDatagram → Type 0
+IsFresh w s = (node : ℕ) (draw : Draw) → Carries s.bytes node draw → is_no_later (last_of w.last node draw) s.event ≡ true
+
+-- some node holds a record under a number of a node, if there is one
+abbrev pub holds_some : List NodeState → ℕ → Option Draw → Bool
+holds_some nodes k None = false
+holds_some nodes k (Some draw) = list_any (λ n. holds n k draw) nodes
+
+-- no node holds a record under a number that would be drawn
+abbrev pub IsFree : WorldState → ℕ → Option Draw → Type 0
+IsFree w k draw = holds_some w.nodes k draw ≡ false
+
+-- No packet outlives the number that it carries: a datagram comes before its numbers are drawn again, and no number is
+-- drawn while a record is held under it. For now only calls draw.
+abbrev pub IsTimely : {A : Type 0} → WorldState → Event A → Type 0
+IsTimely w (event.Call k call) = (n : NodeState) → node_at w k ≡ Some n → IsFree w k (draw_of n call)
+IsTimely w (event.Deliver which k) = (s : SentDatagram) → slice_get w.sent which ≡ Some s → IsFresh w s
+IsTimely w (event.Timer k timer) = Unit {0}
+
+-- an event that no reason refuses
+pub record IsPlayable {A : Type 0} (w : WorldState) (e : Event A) : Type 0 where
+  pub allowed : refusal w e ≡ None
+  pub timely : IsTimely w e
+
+-- why an event is refused: the first reason in the order of limit, datagram, node, time
+abbrev pub Refuses : {A : Type 0} → WorldState → Event A → Refusal → Type 0
+Refuses w e refusals.Untimely = (refusal w e ≡ None) × ¬ IsTimely w e
+Refuses w e r = refusal w e ≡ Some r
+
+-- a number, if there is one, was drawn by no later event
+abbrev pub is_in_time : Draws → Option (ℕ × Draw) → ℕ → Bool
+is_in_time last None event = true
+is_in_time last (Some number) event = is_no_later (last_of last number.0 number.1) event
 
 -- ---- steps
 
--- the world once a node's step and what it sent are booked
-abbrev pub recorded : WorldState → ℕ → NodeState → List Posted → WorldState
-recorded w k after out = record {
+-- the world once a node's step, what it drew and what it sent are booked
+abbrev pub recorded : {A : Type 0} → WorldState → ℕ → Report A → NodeState → List Posted → WorldState
+recorded w k r after out = record {
   nodes = replaced (is_numbered k) after w.nodes;
   sent = w.sent ++ map (stamp w.events) out;
+  last = noted w.last k w.events (drawn_by r);
   events = w.events + 1;
   failed = false;
 }
 
--- the node's call, and nothing else
-pub record PlaysCall {A : Type 0} (w : WorldState) (k : ℕ) (call : Call) (r : Report A) (w' : WorldState) : Type 0 where
+-- a node's step is one of these, and nothing else happens
+pub record PlaysAt {A : Type 0} (w : WorldState) (k : ℕ) (S : NodeState → List Posted → Report A → NodeState → List Posted → Type 0) (r : Report A) (w' : WorldState) : Type 0 where
   pub node : NodeState
   pub stands : node_at w k ≡ Some node
   pub after : NodeState
   pub out : List Posted
-  pub steps : IsStep (called node call) node [] r after out
-  pub booked : w' ≡ recorded w k after out
+  pub steps : S node [] r after out
+  pub booked : w' ≡ recorded w k r after out
 
--- the node hears the bytes that were sent, and nothing else happens
+-- a node whose service leaves every answer for later receives bytes
+abbrev pub Receives : {A : Type 0} → List ℕ → NodeState → List Posted → Report A → NodeState → List Posted → Type 0
+Receives {A} bytes n before r after out = (said : Reply A) × Comes (Hears said n bytes) n before r after out × (is_asked r ≡ true → said ≡ reply.Later)
+
+-- a node takes what comes to it
+abbrev pub Takes : {A : Type 0} → Input A → NodeState → List Posted → Report A → NodeState → List Posted → Type 0
+Takes (input.Call call) n before r after out = IsStep (called n call.now) n before r after out
+Takes (input.Timer timer) n before r after out = IsStep (timed n timer) n before r after out
+Takes (input.Received bytes) n before r after out = Receives bytes.now n before r after out
+
 pub record PlaysDelivery {A : Type 0} (w : WorldState) (which k : ℕ) (r : Report A) (w' : WorldState) : Type 0 where
   pub datagram : SentDatagram
   pub was_sent : slice_get w.sent which ≡ Some datagram
   pub is_for_it : is_for datagram k ≡ true
-  pub node : NodeState
-  pub stands : node_at w k ≡ Some node
-  pub after : NodeState
-  pub out : List Posted
-  pub steps : Comes (Hears node datagram.bytes) node [] r after out
-  pub booked : w' ≡ recorded w k after out
+  pub plays : PlaysAt w k (Receives datagram.bytes) r w'
 
--- the world after an event that is answered by a report
-abbrev pub Plays : {A : Type 0} → WorldState → Event → Report A → WorldState → Type 0
-Plays w (event.Call k call) r w' = PlaysCall w k call r w'
+-- the world after an event that is answered by a report: the node's own step, over the bytes that were sent
+abbrev pub Plays : {A : Type 0} → WorldState → Event A → Report A → WorldState → Type 0
+Plays w (event.Call k call) r w' = PlaysAt w k (λ n before said after out. IsStep (called n call) n before said after out) r w'
 Plays w (event.Deliver which k) r w' = PlaysDelivery w which k r w'
+Plays w (event.Timer k timer) r w' = PlaysAt w k (λ n before said after out. IsStep (timed n timer) n before said after out) r w'
 
 -- why an event was not played
-abbrev pub IsFault : WorldState → Event → Fault → WorldState → Type 0
-IsFault w e (fault.Refused r) w' = (refusal w e ≡ Some r) × (w' ≡ w)
+abbrev pub IsFault : {A : Type 0} → WorldState → Event A → Fault → WorldState → Type 0
+IsFault w e (fault.Refused r) w' = Refuses w e r × (w' ≡ w)
 IsFault w e fault.NoMemory w' = (w'.failed ≡ true) × (w'.sent ≡ w.sent)
+
+-- why a node did not take what came to it
+abbrev pub IsNotTaken : {A : Type 0} → WorldState → ℕ → Input A → Fault → WorldState → Type 0
+IsNotTaken w k i (fault.Refused refusals.Untimely) w' = ((n : NodeState) × (node_at w k ≡ Some n) × ¬ IsFree w k (draw_of_input n i)) × (w' ≡ w)
+IsNotTaken w k i (fault.Refused r) w' = (node_refusal (node_at w k) ≡ Some r) × (w' ≡ w)
+IsNotTaken w k i fault.NoMemory w' = (w'.failed ≡ true) × (w'.sent ≡ w.sent)

@@ -1,5 +1,5 @@
-ghost use Rattle.std.specs.Prelude.{◌≡◌, OnOk, OnErr, Option};
-ghost use Rattle.at_world.specs.Draws.{nothing_drawn, noted};
+ghost use Rattle.std.specs.Prelude.{◌≡◌, [], OnOk};
+ghost use Rattle.at_world.specs.Draws.{last_of, drawn_at};
 
 use at_node::Draw;
 use indexmap::IndexMap;
@@ -16,18 +16,16 @@ pub(crate) struct LastDraws<A: Allocator> {
 }
 
 impl<A: Allocator> Model for LastDraws<A> {
-    ghost use Rattle.std.specs.Prelude.{ℕ, Option};
-    ghost use Rattle.at_node.specs.declared.drawing.Draw.{Draw as Drawn};
-    ghost use Rattle.at_world.specs.Draws.{last_in};
+    ghost use Rattle.at_world.specs.Draws.{Draws};
 
-    ghost Value = { ℕ → Drawn → Option ℕ };
+    ghost Value = { Draws };
 
-    ghost view = { λ d. last_in d.events.entries };
+    ghost view = { λ d. d.events.entries };
 }
 
 impl<A: Allocator + Copy> LastDraws<A> {
     pub(crate) fn new(alloc: A) -> LastDraws<A>
-        ensures { result ≡ nothing_drawn }
+        ensures { result ≡ [] }
     {
         LastDraws {
             events: IndexMap::new(alloc),
@@ -36,14 +34,14 @@ impl<A: Allocator + Copy> LastDraws<A> {
 
     /// The event that drew a number last.
     pub(crate) fn last(&self, node: u8, draw: Draw) -> Option<u32>
-        ensures { result ≡ self.now node draw }
+        ensures { result ≡ last_of self.now node draw }
     {
         self.events.get(&(node, draw)).copied()
     }
 
     /// An event drew a number.
     pub(crate) fn note(&mut self, node: u8, draw: Draw, event: u32) -> Result<(), AllocError>
-        ensures ok { OnOk result (self.new ≡ noted self.old node event (Option.Some draw)) }
+        ensures ok { OnOk result (self.new ≡ drawn_at self.old node draw event) }
     {
         self.events.insert((node, draw), event)?;
         Ok(())

@@ -1,14 +1,17 @@
 ghost use Rattle.std.specs.Prelude.{◌≡◌};
 
-use at_node::Call;
+use at_node::{Call, Timer};
+use std::alloc::{Allocator, Global};
 
 /// What happens next in a world.
-#[derive(Clone, Copy, Debug, PartialEq, Eq)]
-pub enum Event {
+#[derive(Drop)]
+pub enum Event<A: Allocator = Global> {
     /// A node's user calls.
-    Call { node: u8, call: Call },
+    Call { node: u8, call: Call<A> },
     /// The datagram of this number comes to a node: its first time, or again.
     Deliver { which: u64, node: u8 },
+    /// A timer of a node fires.
+    Timer { node: u8, timer: Timer },
 }
 
 /// Why an event is not played.
@@ -20,6 +23,9 @@ pub enum Refusal {
     NoDatagram,
     /// The node stands in the setup, and a datagram comes to its destination.
     NotForNode,
+    /// No number that a datagram carries was drawn again since it was sent, and no number is drawn under which a node
+    /// holds a record.
+    Untimely,
 }
 
 impl Refusal {
@@ -33,6 +39,7 @@ impl Refusal {
             Refusal::Limit => 73,
             Refusal::NoDatagram => 70,
             Refusal::NotForNode => 71,
+            Refusal::Untimely => 72,
         }
     }
 }

@@ -16,7 +16,7 @@ use std::alloc::Allocator;
 pub fn play<A: Allocator + Copy>(
     alloc: A,
     setup: &Setup<A>,
-    events: &[Event],
+    events: &[Event<A>],
 ) -> Result<Transcript<A>, PlayFault<A>>
     requires { is_lawful setup.now ≡ true }
     ensures follows { IsPlay setup.now events.now result }
@@ -36,7 +36,7 @@ pub fn play<A: Allocator + Copy>(
 fn play_all<A: Allocator + Copy>(
     alloc: A,
     setup: &Setup<A>,
-    events: &[Event],
+    events: &[Event<A>],
 ) -> Result<Transcript<A>, PlayFault<A>>
     ensures follows { IsPlay setup.now events.now result }
     ensures within { IfErr result (λ f. f.at ≤ length events.now) }
@@ -50,7 +50,7 @@ fn play_all<A: Allocator + Copy>(
         let Ok(()) = reports.reserve(1) else {
             return Err(stopped(Fault::NoMemory, at, reports, world));
         };
-        match world.step(*event) {
+        match world.step(event) {
             Err(fault) => return Err(stopped(fault, at, reports, world)),
             Ok(report) => reports.push(report).unwrap(),
         }

@@ -1,14 +1,19 @@
-ghost use Rattle.std.specs.Prelude.{◌≡◌, ◌==◌, ◌||◌, IfOk, IfErr, IsOk, IsErr, None, false};
-ghost use Rattle.std.specs.List.{position_from};
+ghost use Rattle.std.specs.Prelude.{◌≡◌, ◌==◌, ◌||◌, IfOk, IfErr, IsOk, IsErr, OnOk, OnErr, None, false, true, ◌≤◌, ◌-◌, ◌++◌, length, replicate, ℕ};
+ghost use Rattle.std.specs.List.{position_from, list_any};
+ghost use Rattle.at_node.specs.Drawing.{Carries, drawn_by, draw_of_input, holds};
+ghost use Rattle.at_node.specs.Nodes.{NodeState};
+ghost use Rattle.at_node.specs.declared.drawing.Draw.{Draw as Drawn};
+ghost use Rattle.at_world.specs.Draws.{last_of, noted, is_no_later};
 ghost use Rattle.at_world.specs.Plays.{opening_world};
-ghost use Rattle.at_world.specs.Worlds.{Plays, PlaysCall, PlaysDelivery, IsFault, refusal, refusal_at, is_over, is_numbered};
+ghost use Rattle.at_world.specs.Worlds.{IsNotTaken, holds_some, is_in_time, IsPlayable, IsFree, Plays, PlaysAt, PlaysDelivery, Takes, IsFault, Refuses, refusal, refusal_at, node_refusal, node_at, is_over, is_numbered};
 
+use crate::draws::LastDraws;
 use crate::event::{Event, Fault, Refusal};
 use crate::opening::opening_nodes;
 use crate::sent::{SentList, stamp_all};
 use crate::setup::Setup;
 use at_ddp::{Bytes, Datagrams};
-use at_node::{Call, Node, Report};
+use at_node::{Deferring, Draw, Input, Node, Report, carried};
 use std::alloc::{AllocError, Allocator};
 use std::marker::Model;
 
@@ -26,6 +31,7 @@ pub(crate) struct World<A: Allocator> {
     datagrams: Datagrams<A>,
     // The event that sent each datagram; a world that failed may lack the last ones.
     stamps: Vec<u32, A>,
+    last: LastDraws<A>,
     events: u32,
     failed: bool,
 }
@@ -37,7 +43,7 @@ impl<A: Allocator> Model for World<A> {
 
     ghost Value = { WorldState };
 
-    ghost view = { λ w. record { nodes = w.nodes.items; sent = stamped w.stamps.items w.datagrams.items; events = w.events; failed = w.failed } };
+    ghost view = { λ w. record { nodes = w.nodes.items; sent = stamped w.stamps.items w.datagrams.items; last = w.last; events = w.events; failed = w.failed } };
 
     ghost invariant = { λ w. (length w.stamps.items ≤ length w.datagrams.items) × (w.failed ≡ false → length w.stamps.items ≡ length w.datagrams.items) };
 }
@@ -53,6 +59,7 @@ impl<A: Allocator + Copy> World<A> {
             nodes,
             datagrams: Datagrams::new(alloc),
             stamps: Vec::new(alloc),
+            last: LastDraws::new(alloc),
             events: 0,
             failed: false,
         })
@@ -66,9 +73,9 @@ impl<A: Allocator + Copy> World<A> {
     }
 
     /// Plays an event, or says why not. A world that found no memory has failed.
-    pub(crate) fn step(&mut self, event: Event) -> Result<Report<A>, Fault>
-        ensures played { IfOk result (λ report. (refusal self.old event ≡ None) × Plays self.old event report self.new) }
-        ensures not_played { IfErr result (λ fault. IsFault self.old event fault self.new) }
+    pub(crate) fn step(&mut self, event: &Event<A>) -> Result<Report<A>, Fault>
+        ensures played { IfOk result (λ report. IsPlayable self.old event.now × Plays self.old event.now report self.new) }
+        ensures not_played { IfErr result (λ fault. IsFault self.old event.now fault self.new) }
     {
         if self.failed {
             return Err(Fault::NoMemory);
@@ -77,8 +84,9 @@ impl<A: Allocator + Copy> World<A> {
             return Err(Fault::Refused(Refusal::Limit));
         }
         match event {
-            Event::Call { node, call } => self.play_call(node, call),
-            Event::Deliver { which, node } => self.play_delivery(which, node),
+            Event::Call { node, call } => self.play(*node, &Input::Call(call)),
+            Event::Deliver { which, node } => self.deliver(*which, *node),
+            Event::Timer { node, timer } => self.play(*node, &Input::Timer(*timer)),
         }
     }
 
@@ -88,28 +96,42 @@ impl<A: Allocator + Copy> World<A> {
         self.events >= MAX_EVENTS || self.stamps.len() > MAX_DATAGRAMS
     }
 
-    fn play_call(&mut self, node: u8, call: Call) -> Result<Report<A>, Fault>
+    // A node takes what comes to it, unless it would draw a number that some node holds.
+    fn play(&mut self, node: u8, input: &Input<'_, A>) -> Result<Report<A>, Fault>
         requires whole { self.old.failed ≡ false }
         requires runs { is_over self.old ≡ false }
-        ensures played { IfOk result (λ report. (refusal_at self.old (Event.Call node call) ≡ None) × PlaysCall self.old node call report self.new) }
-        ensures not_played { IfErr result (λ fault. IsFault self.old (Event.Call node call) fault self.new) }
+        ensures played { IfOk result (λ report. PlaysAt self.old node (Takes input.now) report self.new) }
+        ensures free { IfOk result (λ report. (n : NodeState) → node_at self.old node ≡ Some n → IsFree self.old node (draw_of_input n input.now)) }
+        ensures not_played { IfErr result (λ fault. IsNotTaken self.old node input.now fault self.new) }
     {
         let Some(place) = place_of(&self.nodes, node) else {
             return Err(Fault::Refused(Refusal::NotForNode));
         };
-        let report = self.nodes[place].call(call, &mut self.datagrams);
+        let draw = self.nodes[place].draw_of(input);
+        if is_held(&self.nodes, node, draw) {
+            return Err(Fault::Refused(Refusal::Untimely));
+        }
+        let report = take(&mut self.nodes[place], input, &mut self.datagrams);
         let count = self.datagrams.len();
-        let stamped = stamp_all(&mut self.stamps, count, self.events);
-        self.failed = stamped.is_err();
+        let drawn = drawn_by(&report);
+        let booked = book(
+            &mut self.stamps,
+            &mut self.last,
+            count,
+            node,
+            drawn,
+            self.events,
+        );
+        self.failed = booked.is_err();
         self.events += 1;
-        kept(stamped, report)
+        kept(booked, report)
     }
 
-    fn play_delivery(&mut self, which: u64, node: u8) -> Result<Report<A>, Fault>
+    fn deliver(&mut self, which: u64, node: u8) -> Result<Report<A>, Fault>
         requires whole { self.old.failed ≡ false }
         requires runs { is_over self.old ≡ false }
-        ensures played { IfOk result (λ report. (refusal_at self.old (Event.Deliver which node) ≡ None) × PlaysDelivery self.old which node report self.new) }
-        ensures not_played { IfErr result (λ fault. IsFault self.old (Event.Deliver which node) fault self.new) }
+        ensures played { IfOk result (λ report. IsPlayable {A = A} self.old (Event.Deliver which node) × PlaysDelivery self.old which node report self.new) }
+        ensures not_played { IfErr result (λ fault. IsFault {A = A} self.old (Event.Deliver which node) fault self.new) }
     {
         if which >= self.stamps.len() as u64 {
             return Err(Fault::Refused(Refusal::NoDatagram));
@@ -118,31 +140,71 @@ impl<A: Allocator + Copy> World<A> {
         if !is_for(self.datagrams.node(which), node) {
             return Err(Fault::Refused(Refusal::NotForNode));
         }
-        let Some(place) = place_of(&self.nodes, node) else {
+        if place_of(&self.nodes, node).is_none() {
             return Err(Fault::Refused(Refusal::NotForNode));
-        };
+        }
+        if !is_fresh(&self.last, self.datagrams.get(which), self.stamps[which]) {
+            return Err(Fault::Refused(Refusal::Untimely));
+        }
         let Ok(bytes) = Bytes::copy_of(self.alloc, self.datagrams.get(which)) else {
             self.failed = true;
             return Err(Fault::NoMemory);
         };
-        let report = self.nodes[place].receive(bytes.as_slice(), &mut self.datagrams);
-        let count = self.datagrams.len();
-        let stamped = stamp_all(&mut self.stamps, count, self.events);
-        self.failed = stamped.is_err();
-        self.events += 1;
-        kept(stamped, report)
+        self.play(node, &Input::Received(bytes.as_slice()))
     }
 }
 
-// The report, if all that was sent found its stamp.
-fn kept<A: Allocator>(
-    stamped: Result<(), AllocError>,
-    report: Report<A>,
-) -> Result<Report<A>, Fault>
-    ensures ok { IfOk result (λ r. (r ≡ report) × IsOk stamped) }
-    ensures err { IfErr result (λ fault. (fault ≡ Fault.NoMemory) × IsErr stamped) }
+// A node takes what comes to it; its service leaves every answer for later.
+fn take<A: Allocator + Copy>(
+    node: &mut Node<A>,
+    input: &Input<'_, A>,
+    out: &mut Datagrams<A>,
+) -> Report<A>
+    ensures { Takes input.now node.old out.old.items result node.new out.new.items }
 {
-    match stamped {
+    match input {
+        Input::Call(call) => node.call(call, out),
+        Input::Timer(timer) => node.timer(*timer, out),
+        Input::Received(bytes) => node.receive(&mut Deferring, bytes, out),
+    }
+}
+
+// The number that was drawn where this was reported.
+fn drawn_by<A: Allocator>(report: &Report<A>) -> Option<Draw>
+    ensures { result ≡ drawn_by report.now }
+{
+    match report {
+        Report::Begun(tid) => Some(Draw::Tid(*tid)),
+        _ => None,
+    }
+}
+
+// Books what an event drew and sent; without memory for all, nothing of what it sent.
+fn book<A: Allocator + Copy>(
+    stamps: &mut Vec<u32, A>,
+    last: &mut LastDraws<A>,
+    count: usize,
+    node: u8,
+    drawn: Option<Draw>,
+    event: u32,
+) -> Result<(), AllocError>
+    requires { length stamps.old.items ≤ count }
+    ensures drawn { OnOk result (last.new ≡ noted last.old node event drawn) }
+    ensures stamped { OnOk result (stamps.new.items ≡ stamps.old.items ++ replicate (count - length stamps.old.items) event) }
+    ensures kept { OnErr result (stamps.new.items ≡ stamps.old.items) }
+{
+    if let Some(draw) = drawn {
+        last.note(node, draw, event)?;
+    }
+    stamp_all(stamps, count, event)
+}
+
+// The report, if all that was drawn and sent was booked.
+fn kept<A: Allocator>(booked: Result<(), AllocError>, report: Report<A>) -> Result<Report<A>, Fault>
+    ensures ok { IfOk result (λ r. (r ≡ report) × IsOk booked) }
+    ensures err { IfErr result (λ fault. (fault ≡ Fault.NoMemory) × IsErr booked) }
+{
+    match booked {
         Ok(()) => Ok(report),
         Err(AllocError) => Err(Fault::NoMemory),
     }
@@ -153,6 +215,42 @@ fn is_for(to: u8, node: u8) -> bool
     ensures { result ≡ ((to == node) || (to == 255)) }
 {
     to == node || to == 255
+}
+
+// Whether some node holds a record under a number that a node would draw.
+fn is_held<A: Allocator + Copy>(nodes: &[Node<A>], node: u8, draw: Option<Draw>) -> bool
+    ensures { result ≡ holds_some nodes.now node draw }
+{
+    match draw {
+        None => false,
+        Some(draw) => nodes.iter().any(|n| n.holds(node, draw)),
+    }
+}
+
+// Whether no number that these bytes carry was drawn by a later event.
+fn is_fresh<A: Allocator + Copy>(last: &LastDraws<A>, bytes: &[u8], event: u32) -> bool
+    ensures fresh { result ≡ true → (node : ℕ) (draw : Drawn) → Carries bytes.now node draw → is_no_later (last_of last.now node draw) event ≡ true }
+    ensures stale { result ≡ false → (node : ℕ) × (draw : Drawn) × Carries bytes.now node draw × (is_no_later (last_of last.now node draw) event ≡ false) }
+{
+    let [first, second] = carried(bytes);
+    is_no_later(last, first, event) && is_no_later(last, second, event)
+}
+
+// Whether no later event drew a number of a node.
+fn is_no_later<A: Allocator + Copy>(
+    last: &LastDraws<A>,
+    number: Option<(u8, Draw)>,
+    event: u32,
+) -> bool
+    ensures { result ≡ is_in_time last.now number event }
+{
+    let Some((node, draw)) = number else {
+        return true;
+    };
+    match last.last(node, draw) {
+        None => true,
+        Some(drawn) => drawn <= event,
+    }
 }
 
 // Where the node of a number stands.

@@ -1,0 +1,23 @@
+-- The list of last draws, as a map keeps it.
+use Rattle.std.proofs.Common.{◌≡◌, ℕ, Bool, true, false, cond, List, [], ◌∷◌, Option, Some, None, refl, sym, ap, subst, ◌∙◌}
+use Rattle.std.specs.Prelude.{◌==◌, ◌&&◌, option_map}
+use Rattle.std.specs.Map.{lookup}
+use Rattle.indexmap.specs.IndexMap.{insert_entry}
+use Rattle.at_node.specs.declared.drawing.Draw.{Draw}
+use Rattle.at_node.specs.declared.drawing.Draw.TheVariants.{Tid}
+use Rattle.at_world.specs.Draws.{Draws, same_draw, is_number, last_of, drawn_at}
+
+module _ (eq_node : ℕ → ℕ → Bool) (eq_draw : Draw → Draw → Bool) (nodes : (a b : ℕ) → eq_node a b ≡ (a == b)) (tids : (a b : ℕ) → eq_draw (Tid a) (Tid b) ≡ (a == b)) where
+  draws : (x y : Draw) → eq_draw x y ≡ same_draw x y
+  draws (Tid a) (Tid b) = tids a b
+
+  pub alike : (node : ℕ) (draw : Draw) (number : ℕ × Draw) → (eq_node node number.0 && eq_draw draw number.1) ≡ is_number node draw number
+  alike node draw number = λ i. nodes node number.0 i && draws draw number.1 i
+
+  pub inserted : (es : Draws) (node : ℕ) (draw : Draw) (event : ℕ) → insert_entry (λ (k l : ℕ × Draw). eq_node k.0 l.0 && eq_draw k.1 l.1) es (node, draw) event ≡ drawn_at es node draw event
+  inserted [] node draw event = refl
+  inserted (e ∷ es) node draw event = λ i. cond (alike node draw e.0 i) ((e.0, event) ∷ es) (e ∷ inserted es node draw event i)
+
+  pub found : (es : Draws) (node : ℕ) (draw : Draw) → lookup (λ (l : ℕ × Draw). eq_node node l.0 && eq_draw draw l.1) es ≡ last_of es node draw
+  found [] node draw = refl
+  found (e ∷ es) node draw = λ i. cond (alike node draw e.0 i) (Some e.1) (found es node draw i)
