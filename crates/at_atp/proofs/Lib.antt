@@ -1,6 +1,7 @@
 mod Alls
 mod AnswerLemmas
 mod FrameLemmas
+mod LawLemmas
 mod Lawfulness
 mod MoveLemmas
 mod Carried
