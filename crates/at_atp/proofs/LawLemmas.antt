@@ -1,24 +1,22 @@
 -- What the layer above rests on of the definitions: numbers that stay open, new requests that wait, answers that join.
 use Rattle.std.proofs.Common.{◌≡◌, ℕ, zero, suc, ◌+◌, ◌≤◌, Bool, true, false, cond, List, [], ◌∷◌, ◌++◌, length, Option, Some, None, refl, sym, ap, subst, ◌∙◌, arith, lit≤}
-use Rattle.std.specs.Prelude.{find, option_map, ◌==◌, ◌&&◌, ◌||◌, ◌/◌, ◌%◌}
+use Rattle.std.specs.Prelude.{find, option_map, ◌==◌, ◌||◌, ◌/◌, ◌%◌}
 use Rattle.std.specs.List.{AllByRecursion}
-use Rattle.std.proofs.lemmas.Bool.{true≢false, false≢true, and_parts, eq-eqb, eqb-true}
-use Rattle.std.proofs.lemmas.List.{length-append}
+use Rattle.std.proofs.lemmas.Bool.{true≢false, and_parts, eq-eqb, eqb-true}
 use Rattle.at_ddp.specs.Address.{same_address}
 use Rattle.at_ddp.specs.declared.address.Address.{Address}
 use Rattle.at_ddp.proofs.Octets.{same_address_itself}
-use Rattle.at_atp.specs.Answers.{Arrival}
 use Rattle.at_atp.specs.Frames.{Content, Request, Response, Release}
 use Rattle.at_atp.specs.Network.{number_of}
 use Rattle.at_atp.specs.Packets.{Packet}
 use Rattle.at_atp.specs.Records.{State, Waiting, Answered, Released, Record, is_key, responses, repeated, came_again, request_came, passed, is_passed_over, taken, record_fault, asked_for, asked_mask}
-use Rattle.at_atp.specs.Requests.{Transaction, Requests, Effect, Retried, has_number, is_numbered, is_of, came, is_finished, settled, response_came, heard, retried_with, retried}
+use Rattle.at_atp.specs.Requests.{Transaction, Requests, Effect, Retried, has_number, is_numbered, is_of, came, is_finished, response_came, heard, retried_with, retried}
 use Rattle.at_atp.specs.Tables.{replaced, without_first}
 use Rattle.at_atp.specs.Transactions as exchanges
 use Rattle.at_atp.specs.Transactions.{Asked, answered}
 use Rattle.at_atp.specs.declared.reception.Key.{Key}
 use Rattle.at_atp.specs.declared.reception.Reception.TheVariants.{New}
-use Rattle.at_atp.specs.declared.step.Retry.TheVariants.{Failed, AskedAgain}
+use Rattle.at_atp.specs.declared.step.Retry.TheVariants.{Failed}
 use Rattle.at_atp.proofs.Alls.{all_found}
 use Rattle.at_atp.proofs.Newest.{answered_keeps, asked_kept}
 use Rattle.at_atp.proofs.MoveLemmas.{kept_tid}
@@ -86,7 +84,7 @@ heard_stays A r from (Response place eom sts k user bytes) tid h other = go (fin
     go (Some t) e away =
         let found = all_found (λ (x : Transaction). Unit {0}) (is_of k from) r.standing t (all_units r.standing) e in
         settles t (came {A = A} t place (record { eom = eom; packet = record { user = user; data_ = bytes } }) sts) (of_number k from t found.1) (kept_tid A t place (record { eom = eom; packet = record { user = user; data_ = bytes } }) sts)
-          (is_finished (came {A = A} t place (record { eom = eom; packet = record { user = user; data_ = bytes } }) sts).step) away
+        (is_finished (came {A = A} t place (record { eom = eom; packet = record { user = user; data_ = bytes } }) sts).step) away
 
 pub retried_stays : (r : Requests) (other tid : ℕ) (e : Retried) → retried r other ≡ Some e → has_number r.standing tid ≡ true → (e.step ≡ Failed → (other == tid) ≡ false) → has_number (e.after).standing tid ≡ true
 retried_stays r other tid e is h away = go (find (is_numbered other) r.standing) refl is
@@ -125,9 +123,12 @@ IsWaiting from tid key after sent = (record_fault (find (is_key key) after) ≡ 
 came_new : (rs : List Record) (from : Address) (tid mask : ℕ) (key : Key) (o : Option Record) → find (is_key (record { from = from; tid = tid })) rs ≡ o → (request_came rs (record { from = from; tid = tid }) mask o).reception ≡ New key →
     IsWaiting from tid key (request_came rs (record { from = from; tid = tid }) mask o).after (request_came rs (record { from = from; tid = tid }) mask o).sent
 came_new rs from tid mask key None none h =
-    let same = same_new (record { from = from; tid = tid }) key h in
-    (ap (λ k. record_fault (find (is_key k) (rs ++ record { key = record { from = from; tid = tid }; state = Waiting mask } ∷ []))) (sym same)
-     ∙ ap record_fault (find_last (is_key (record { from = from; tid = tid })) rs (record { key = record { from = from; tid = tid }; state = Waiting mask }) none (its_own (record { from = from; tid = tid }) mask)), refl, sym same)
+    let same = same_new (record { from = from; tid = tid }) key h in (
+      ap (λ k. record_fault (find (is_key k) (rs ++ record { key = record { from = from; tid = tid }; state = Waiting mask } ∷ []))) (sym same)
+          ∙ ap record_fault (find_last (is_key (record { from = from; tid = tid })) rs (record { key = record { from = from; tid = tid }; state = Waiting mask }) none (its_own (record { from = from; tid = tid }) mask)),
+      refl,
+      sym same,
+    )
 came_new rs from tid mask key (Some r) some h = go r.state h
   where
     go : (s : State) → (came_again rs (record { from = from; tid = tid }) r (repeated (record { from = from; tid = tid }) mask s)).reception ≡ New key → IsWaiting from tid key (came_again rs (record { from = from; tid = tid }) r (repeated (record { from = from; tid = tid }) mask s)).after (came_again rs (record { from = from; tid = tid }) r (repeated (record { from = from; tid = tid }) mask s)).sent

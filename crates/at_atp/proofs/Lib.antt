@@ -12,6 +12,7 @@ mod NetworkLemmas
 mod Takings
 mod Newest
 mod OpenLemmas
+mod Ranges
 mod RecordLemmas
 mod RequestLemmas
 mod RequesterLemmas
