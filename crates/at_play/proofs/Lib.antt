@@ -1,2 +1,4 @@
 mod InputLemmas
 pub mod NumberLemmas
+mod PrintLemmas
+mod ShownLemmas

@@ -7,11 +7,13 @@ mod input;
 mod node_line;
 mod packet_lines;
 mod print;
+mod printer;
 mod program;
 mod schedule;
 mod show;
 mod word;
 
+pub use printer::Printer;
 pub use program::{Status, play_text};
 pub use show::show_text;
 

@@ -1,52 +1,64 @@
 //! How datagrams and packets print, a line each.
+ghost use Rattle.std.specs.List.{concat};
+ghost use Rattle.at_atp.specs.Frames.{content as packet_of};
+ghost use Rattle.at_ddp.specs.Datagram.{content};
+ghost use Rattle.at_play.specs.Lines.{address_text, header_line, packet_line, parts, raw_line, sum_text};
+ghost use Rattle.at_play.specs.Printers.{Prints};
+
 use crate::print::write_hex;
+use crate::printer::Printer;
 use at_atp::Frame;
 use at_ddp::{Address, Datagram, HEADER_LEN};
-use std::io;
 use std::io::Write;
 
 /// The line of a datagram's header; so many bytes follow the datagram.
-pub(crate) fn write_header<W: Write>(
-    writer: &mut W,
-    datagram: &Datagram<'_>,
-    rest: usize,
-) -> io::Result<()> {
+pub(crate) fn write_header<W: Write>(printer: &mut Printer<W>, datagram: &Datagram<'_>, rest: usize)
+    ensures { Prints W.contents printer.old printer.new (header_line (content datagram.now) rest) }
+{
     let len = HEADER_LEN as u64 + datagram.data_.len() as u64;
-    write!(writer, "ddp length {len} hops {} sum ", datagram.hops)?;
-    write_sum(writer, datagram.sum)?;
-    writer.write_all(b" from ")?;
-    write_address(writer, datagram.from)?;
-    writer.write_all(b" to ")?;
-    write_address(writer, datagram.to)?;
-    writeln!(writer, " type {} rest {rest}", datagram.kind)
+    write!(printer, "ddp length {len} hops {} sum ", datagram.hops);
+    write_sum(printer, datagram.sum);
+    printer.write_all(b" from ");
+    write_address(printer, datagram.from);
+    printer.write_all(b" to ");
+    write_address(printer, datagram.to);
+    writeln!(printer, " type {} rest {rest}", datagram.kind);
 }
 
 // Four digits, or that no sum was computed.
-fn write_sum<W: Write>(writer: &mut W, sum: u16) -> io::Result<()> {
+fn write_sum<W: Write>(printer: &mut Printer<W>, sum: u16)
+    ensures { Prints W.contents printer.old printer.new (sum_text sum) }
+{
     if sum == 0 {
-        writer.write_all(b"none")
+        printer.write_all(b"none");
     } else {
-        write!(writer, "{sum:04X}")
+        write_hex(printer, &sum.to_be_bytes());
     }
 }
 
-fn write_address<W: Write>(writer: &mut W, address: Address) -> io::Result<()> {
+fn write_address<W: Write>(printer: &mut Printer<W>, address: Address)
+    ensures { Prints W.contents printer.old printer.new (address_text address) }
+{
     write!(
-        writer,
+        printer,
         "{}.{}.{}",
         address.net, address.node, address.socket
-    )
+    );
 }
 
 /// The line of data that is not read.
-pub(crate) fn write_raw<W: Write>(writer: &mut W, bytes: &[u8]) -> io::Result<()> {
-    writer.write_all(b"raw ")?;
-    write_hex(writer, bytes)?;
-    writer.write_all(b"\n")
+pub(crate) fn write_raw<W: Write>(printer: &mut Printer<W>, bytes: &[u8])
+    ensures { Prints W.contents printer.old printer.new (raw_line bytes.now) }
+{
+    printer.write_all(b"raw ");
+    write_hex(printer, bytes);
+    printer.write_all(b"\n");
 }
 
 /// The line of an ATP packet.
-pub(crate) fn write_frame<W: Write>(writer: &mut W, frame: &Frame<'_>) -> io::Result<()> {
+pub(crate) fn write_frame<W: Write>(printer: &mut Printer<W>, frame: &Frame<'_>)
+    ensures { Prints W.contents printer.old printer.new (packet_line (packet_of frame.now)) }
+{
     match frame {
         Frame::Request {
             mask,
@@ -56,12 +68,10 @@ pub(crate) fn write_frame<W: Write>(writer: &mut W, frame: &Frame<'_>) -> io::Re
             user,
             data_,
         } => {
-            write!(
-                writer,
-                "atp request mask {mask:02X} xo {} timer {timer} id {tid}",
-                u8::from(*xo)
-            )?;
-            write_parts(writer, *user, data_)
+            printer.write_all(b"atp request mask ");
+            write_hex(printer, &[*mask]);
+            write!(printer, " xo {} timer {timer} id {tid}", u8::from(*xo));
+            write_parts(printer, *user, data_);
         }
         Frame::Response {
             place,
@@ -72,22 +82,24 @@ pub(crate) fn write_frame<W: Write>(writer: &mut W, frame: &Frame<'_>) -> io::Re
             data_,
         } => {
             write!(
-                writer,
+                printer,
                 "atp response place {place} eom {} sts {} id {tid}",
                 u8::from(*eom),
                 u8::from(*sts)
-            )?;
-            write_parts(writer, *user, data_)
+            );
+            write_parts(printer, *user, data_);
         }
-        Frame::Release { tid } => writeln!(writer, "atp release id {tid}"),
+        Frame::Release { tid } => writeln!(printer, "atp release id {tid}"),
     }
 }
 
 // The user bytes and the data, at the end of a packet's line.
-fn write_parts<W: Write>(writer: &mut W, user: [u8; 4], bytes: &[u8]) -> io::Result<()> {
-    writer.write_all(b" user ")?;
-    write_hex(writer, &user)?;
-    writer.write_all(b" data ")?;
-    write_hex(writer, bytes)?;
-    writer.write_all(b"\n")
+fn write_parts<W: Write>(printer: &mut Printer<W>, user: [u8; 4], bytes: &[u8])
+    ensures { Prints W.contents printer.old printer.new (concat (parts user bytes.now)) }
+{
+    printer.write_all(b" user ");
+    write_hex(printer, &user);
+    printer.write_all(b" data ");
+    write_hex(printer, bytes);
+    printer.write_all(b"\n");
 }

@@ -1,109 +1,116 @@
 //! What is printed of a play.
+ghost use Rattle.at_play.specs.Lines.{hex_text, pairs};
+ghost use Rattle.at_play.specs.Printers.{Prints};
+
+use crate::printer::Printer;
 use at_atp::Packet;
 use at_ddp::Pascal;
 use at_node::Report;
 use at_world::{SentList, Transcript};
 use std::alloc::Allocator;
-use std::io;
 use std::io::Write;
 
 /// Prints each report, and after it the datagrams that its event sent.
 pub(crate) fn write_transcript<A: Allocator, W: Write>(
-    writer: &mut W,
+    printer: &mut Printer<W>,
     transcript: &Transcript<A>,
-) -> io::Result<()> {
+) {
     let mut number = 0;
     for (event, report) in transcript.reports.as_slice().iter().enumerate() {
-        write!(writer, "{event} ")?;
-        write_report(writer, report)?;
-        writer.write_all(b"\n")?;
-        number = write_sent(writer, &transcript.sent, number, event)?;
+        write!(printer, "{event} ");
+        write_report(printer, report);
+        printer.write_all(b"\n");
+        number = write_sent(printer, &transcript.sent, number, event);
     }
-    Ok(())
 }
 
 // Prints the datagrams that an event sent, of which this is the first if it sent any. Hands back the number after theirs.
 fn write_sent<A: Allocator, W: Write>(
-    writer: &mut W,
+    printer: &mut Printer<W>,
     list: &SentList<A>,
     first: usize,
     event: usize,
-) -> io::Result<usize> {
+) -> usize {
     for number in first..list.len() {
         let sent = list.get(number);
         if sent.event as usize != event {
-            return Ok(number);
+            return number;
         }
-        write!(writer, "sent {number} {} ", sent.to)?;
-        write_hex(writer, sent.bytes)?;
-        writer.write_all(b"\n")?;
+        write!(printer, "sent {number} {} ", sent.to);
+        write_hex(printer, sent.bytes);
+        printer.write_all(b"\n");
     }
-    Ok(list.len())
+    list.len()
 }
 
-fn write_report<A: Allocator, W: Write>(writer: &mut W, report: &Report<A>) -> io::Result<()> {
+fn write_report<A: Allocator, W: Write>(printer: &mut Printer<W>, report: &Report<A>) {
     match report {
-        Report::Begun(tid) => write!(writer, "begun {tid}"),
-        Report::Served(count) => write!(writer, "served {count}"),
-        Report::Zones(zones) => write_zones(writer, zones.as_slice()),
-        Report::ZoneFault(number) => write!(writer, "zonefault {number}"),
-        Report::Kept => writer.write_all(b"kept"),
-        Report::Response { tid, packets } => write_response(writer, *tid, packets.as_slice()),
-        Report::Again => writer.write_all(b"again"),
-        Report::Ignored => writer.write_all(b"ignored"),
-        Report::Refused(number) => write!(writer, "refused {number}"),
-        Report::NoMemory => writer.write_all(b"nomemory"),
+        Report::Begun(tid) => write!(printer, "begun {tid}"),
+        Report::Served(count) => write!(printer, "served {count}"),
+        Report::Zones(zones) => write_zones(printer, zones.as_slice()),
+        Report::ZoneFault(number) => write!(printer, "zonefault {number}"),
+        Report::Kept => printer.write_all(b"kept"),
+        Report::Response { tid, packets } => write_response(printer, *tid, packets.as_slice()),
+        Report::Again => printer.write_all(b"again"),
+        Report::Ignored => printer.write_all(b"ignored"),
+        Report::Refused(number) => write!(printer, "refused {number}"),
+        Report::NoMemory => printer.write_all(b"nomemory"),
     }
 }
 
-fn write_zones<W: Write>(writer: &mut W, zones: &[Pascal]) -> io::Result<()> {
-    writer.write_all(b"zones")?;
+fn write_zones<W: Write>(printer: &mut Printer<W>, zones: &[Pascal]) {
+    printer.write_all(b"zones");
     for zone in zones {
-        writer.write_all(b" ")?;
-        write_text(writer, zone.bytes())?;
+        printer.write_all(b" ");
+        write_text(printer, zone.bytes());
     }
-    Ok(())
 }
 
 fn write_response<A: Allocator, W: Write>(
-    writer: &mut W,
+    printer: &mut Printer<W>,
     tid: u16,
     packets: &[Packet<A>],
-) -> io::Result<()> {
-    write!(writer, "response {tid}")?;
+) {
+    write!(printer, "response {tid}");
     for packet in packets {
-        writer.write_all(b" ")?;
-        write_hex(writer, &packet.user())?;
-        writer.write_all(b":")?;
-        write_hex(writer, packet.data_())?;
+        printer.write_all(b" ");
+        write_hex(printer, &packet.user());
+        printer.write_all(b":");
+        write_hex(printer, packet.data_());
     }
-    Ok(())
 }
 
 /// Pairs of hexadecimal digits, or `-` for no bytes.
-pub(crate) fn write_hex<W: Write>(writer: &mut W, bytes: &[u8]) -> io::Result<()> {
+pub(crate) fn write_hex<W: Write>(printer: &mut Printer<W>, bytes: &[u8])
+    ensures { Prints W.contents printer.old printer.new (hex_text bytes.now) }
+{
     if bytes.is_empty() {
-        return writer.write_all(b"-");
+        printer.write_all(b"-");
+    } else {
+        write_pairs(printer, bytes);
     }
+}
+
+fn write_pairs<W: Write>(printer: &mut Printer<W>, bytes: &[u8])
+    ensures { Prints W.contents printer.old printer.new (pairs bytes.now) }
+{
     for byte in bytes {
-        write!(writer, "{byte:02X}")?;
+        write!(printer, "{byte:02X}");
     }
-    Ok(())
 }
 
 /// Letters, digits and a few signs as they are, `%` and two digits for every other byte, and `%` for the empty text.
-pub(crate) fn write_text<W: Write>(writer: &mut W, text: &[u8]) -> io::Result<()> {
+pub(crate) fn write_text<W: Write>(printer: &mut Printer<W>, text: &[u8]) {
     if text.is_empty() {
-        return writer.write_all(b"%");
+        printer.write_all(b"%");
     }
     for byte in text {
         if stands_for_itself(*byte) {
-            writer.write_all(&[*byte])?;
+            printer.write_all(&[*byte]);
         } else {
-            write!(writer, "%{byte:02X}")?;
+            write!(printer, "%{byte:02X}");
         }
     }
-    Ok(())
 }
 
 fn stands_for_itself(byte: u8) -> bool {

@@ -1,13 +1,14 @@
 //! The play of a schedule, from its text to what is printed.
 ghost use Rattle.std.specs.Prelude.{◌≡◌, ◌<◌, length, true, IfOk, IfSome, IsErr};
+ghost use Rattle.at_play.specs.Printers.{HasFailed};
 ghost use Rattle.at_world.specs.Setups.{is_lawful};
 
 use crate::input::{MAX_LEN, read_bytes};
 use crate::print::write_transcript;
+use crate::printer::Printer;
 use crate::schedule::{Fault, Schedule, read_schedule};
 use at_world::{PlayFault, play};
 use std::alloc::Allocator;
-use std::io;
 use std::io::{Read, Write};
 
 /// How a play, or the showing of a datagram, ended.
@@ -37,19 +38,17 @@ impl Status {
 pub fn play_text<A: Allocator + Copy, R: Read, W: Write>(
     alloc: A,
     reader: &mut R,
-    writer: &mut W,
+    printer: &mut Printer<W>,
 ) -> Status
     // Where a contract knows what the reader gives: a schedule that is too long is not played.
-    ensures { IfSome (R.remaining reader.old) (λ all. MAX_LEN < length all → result ≡ Status.Failed) }
+    ensures too_long { IfSome (R.remaining reader.old) (λ all. MAX_LEN < length all → result ≡ Status.Failed) }
+    ensures printed { result ≡ Status.Done → ¬ HasFailed printer.new }
 {
-    let printed = match read(alloc, reader) {
-        Ok(schedule) => play_schedule(alloc, &schedule, writer),
-        Err(fault) => write_fault(writer, fault),
+    let status = match read(alloc, reader) {
+        Ok(schedule) => play_schedule(alloc, &schedule, printer),
+        Err(fault) => print_fault(fault, printer),
     };
-    match printed {
-        Ok(status) => status,
-        Err(_) => Status::Failed,
-    }
+    printer.finish(status)
 }
 
 fn read<A: Allocator + Copy, R: Read>(alloc: A, reader: &mut R) -> Result<Schedule<A>, Fault>
@@ -63,42 +62,39 @@ fn read<A: Allocator + Copy, R: Read>(alloc: A, reader: &mut R) -> Result<Schedu
 fn play_schedule<A: Allocator + Copy, W: Write>(
     alloc: A,
     schedule: &Schedule<A>,
-    writer: &mut W,
-) -> io::Result<Status>
+    printer: &mut Printer<W>,
+) -> Status
     requires { is_lawful schedule.now.setup ≡ true }
 {
     match play(alloc, &schedule.setup, &schedule.events) {
         Ok(transcript) => {
-            write_transcript(writer, &transcript)?;
-            writer.flush()?;
-            Ok(Status::Done)
+            write_transcript(printer, &transcript);
+            Status::Done
         }
-        Err(stop) => write_stop(writer, &stop),
+        Err(stop) => print_stop(&stop, printer),
     }
 }
 
-fn write_stop<A: Allocator, W: Write>(writer: &mut W, stop: &PlayFault<A>) -> io::Result<Status>
-    ensures { IfOk result (λ status. status ≡ Status.Failed) }
+fn print_stop<A: Allocator, W: Write>(stop: &PlayFault<A>, printer: &mut Printer<W>) -> Status
+    ensures { result ≡ Status.Failed }
 {
-    write_transcript(writer, &stop.transcript)?;
+    write_transcript(printer, &stop.transcript);
     match stop.fault {
         at_world::Fault::Refused(refusal) => {
-            writeln!(writer, "stopped {} at {}", refusal.number(), stop.at)?
+            writeln!(printer, "stopped {} at {}", refusal.number(), stop.at);
         }
-        at_world::Fault::NoMemory => writeln!(writer, "stopped nomemory at {}", stop.at)?,
+        at_world::Fault::NoMemory => writeln!(printer, "stopped nomemory at {}", stop.at),
     }
-    writer.flush()?;
-    Ok(Status::Failed)
+    Status::Failed
 }
 
-fn write_fault<W: Write>(writer: &mut W, fault: Fault) -> io::Result<Status>
-    ensures { IfOk result (λ status. status ≡ Status.Failed) }
+fn print_fault<W: Write>(fault: Fault, printer: &mut Printer<W>) -> Status
+    ensures { result ≡ Status.Failed }
 {
     match fault {
-        Fault::Unreadable => writer.write_all(b"fault 0\n")?,
-        Fault::Line(number) => writeln!(writer, "fault {number}")?,
-        Fault::NoMemory => writer.write_all(b"stopped nomemory at 0\n")?,
+        Fault::Unreadable => printer.write_all(b"fault 0\n"),
+        Fault::Line(number) => writeln!(printer, "fault {number}"),
+        Fault::NoMemory => printer.write_all(b"stopped nomemory at 0\n"),
     }
-    writer.flush()?;
-    Ok(Status::Failed)
+    Status::Failed
 }

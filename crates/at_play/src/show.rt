@@ -1,14 +1,16 @@
 //! What `show` prints of a datagram that a word spells in hexadecimal digits.
-ghost use Rattle.std.specs.Prelude.{◌≡◌, List, ℕ, IfOk, IfErr};
+ghost use Rattle.std.specs.Prelude.{◌≡◌, ◌↔◌, ◌≤◌, ◌<◌, ◌/◌, ◌++◌, List, ℕ, length, OnOk, IfErr, IsErrOf, vec_capacity};
+ghost use Rattle.at_play.specs.Printers.{HasFailed, Prints};
 ghost use Rattle.at_ddp.specs.Datagram.{content};
+ghost use Rattle.at_play.specs.HexFaults.{fault_line};
+ghost use Rattle.at_play.specs.Lines.{BytesText, DataText, PacketText, WordText, header_line, refusal_line};
 ghost use Rattle.at_play.specs.Shown.{IsHex, IsPacket, IsReadable, IsSound, Shows};
 
 use crate::packet_lines::{write_frame, write_header, write_raw};
+use crate::printer::Printer;
 use crate::program::Status;
 use at_ddp::Datagram;
-use hex::FromHexError;
 use std::alloc::Allocator;
-use std::io;
 use std::io::Write;
 
 /// The protocol of ATP's datagrams.
@@ -24,96 +26,104 @@ enum HexFault {
 }
 
 /// Prints the datagram that a word spells in hexadecimal digits, its header and its packet, or the number of the first
-/// refusal. What follows the datagram is counted only.
-pub fn show_text<A: Allocator, W: Write>(alloc: A, word: &[u8], writer: &mut W) -> Status
-    ensures { result ≡ Status.Done → Shows word.now }
+/// refusal. What follows the datagram is counted only. The bytes are put into the room.
+pub fn show_text<A: Allocator, W: Write>(
+    word: &[u8],
+    room: &mut Vec<u8, A>,
+    printer: &mut Printer<W>,
+) -> Status
+    ensures done { result ≡ Status.Done → Shows word.now × ¬ HasFailed printer.new }
+    ensures printed { (text : List ℕ) × WordText word.now (vec_capacity room.old) text × Prints W.contents printer.old printer.new text }
+    // It fails only where the word is not to be shown, room was missing, or a write failed.
+    ensures only { Shows word.now → length word.now / 2 ≤ vec_capacity room.old → ¬ HasFailed printer.new → result ≡ Status.Done }
 {
-    let shown = match bytes_of(alloc, word) {
-        Ok(bytes) => show_bytes(&bytes, writer),
-        Err(fault) => show_fault(fault, writer),
+    let status = match bytes_of(word, room) {
+        Ok(()) => show_bytes(room.as_slice(), printer),
+        Err(fault) => show_fault(fault, printer),
     };
-    match shown {
-        Ok(status) => status,
-        Err(_) => Status::Failed,
-    }
+    printer.finish(status)
 }
 
-// The bytes that a word spells, pairs of digits in either case, or `-` for none.
-fn bytes_of<A: Allocator>(alloc: A, word: &[u8]) -> Result<Vec<u8, A>, HexFault>
-    ensures found { IfOk result (λ bytes. IsHex word.now bytes.items) }
-    ensures fault { IfErr result (λ fault. fault ≡ HexFault.NoHex → (bytes : List ℕ) → ¬ IsHex word.now bytes) }
+// Puts the bytes that a word spells into the room, for pairs of digits in either case, or none for `-`.
+fn bytes_of<A: Allocator>(word: &[u8], room: &mut Vec<u8, A>) -> Result<(), HexFault>
+    ensures found { OnOk result (IsHex word.now room.new.items) }
+    ensures fault { IsErrOf result HexFault.NoHex → (bytes : List ℕ) → ¬ IsHex word.now bytes }
+    // Memory is refused only where room was missing.
+    ensures memory { IsErrOf result HexFault.NoMemory → vec_capacity room.old < length word.now / 2 }
 {
     if word.is_empty() {
         return Err(HexFault::NoHex);
     }
+    room.clear();
     if word == b"-".as_slice() {
-        return Ok(Vec::new(alloc));
+        return Ok(());
     }
-    match hex::decode(alloc, word) {
-        Ok(bytes) => Ok(bytes),
-        Err(FromHexError::OutOfMemory) => Err(HexFault::NoMemory),
+    if room.resize(word.len() / 2, 0).is_err() {
+        return Err(HexFault::NoMemory);
+    }
+    match hex::decode_to_slice(word, room.as_mut_slice()) {
+        Ok(()) => Ok(()),
         Err(_) => Err(HexFault::NoHex),
     }
 }
 
-fn show_fault<W: Write>(fault: HexFault, writer: &mut W) -> io::Result<Status>
-    ensures { IfOk result (λ status. status ≡ Status.Failed) }
+fn show_fault<W: Write>(fault: HexFault, printer: &mut Printer<W>) -> Status
+    ensures failed { result ≡ Status.Failed }
+    ensures printed { Prints W.contents printer.old printer.new (fault_line fault) }
 {
     match fault {
-        HexFault::NoHex => writer.write_all(b"fault 1\n")?,
-        HexFault::NoMemory => writer.write_all(b"stopped nomemory at 0\n")?,
+        HexFault::NoHex => printer.write_all(b"fault 1\n"),
+        HexFault::NoMemory => printer.write_all(b"stopped nomemory at 0\n"),
     }
-    writer.flush()?;
-    Ok(Status::Failed)
+    Status::Failed
 }
 
-fn show_bytes<W: Write>(bytes: &[u8], writer: &mut W) -> io::Result<Status>
-    ensures { IfOk result (λ status. status ≡ Status.Done → IsSound bytes.now) }
+fn show_bytes<W: Write>(bytes: &[u8], printer: &mut Printer<W>) -> Status
+    ensures done { (result ≡ Status.Done) ↔ IsSound bytes.now }
+    ensures printed { (text : List ℕ) × BytesText bytes.now text × Prints W.contents printer.old printer.new text }
 {
-    let status = match at_ddp::decode(bytes) {
-        Ok((datagram, rest)) => show_datagram(&datagram, rest.len(), writer)?,
-        Err(fault) => show_refusal(fault.number(), writer)?,
-    };
-    writer.flush()?;
-    Ok(status)
+    match at_ddp::decode(bytes) {
+        Ok((datagram, rest)) => show_datagram(&datagram, rest.len(), printer),
+        Err(refusal) => show_refusal(refusal.number(), printer),
+    }
 }
 
 // The header's line, and the line of what the datagram carries.
-fn show_datagram<W: Write>(
-    datagram: &Datagram<'_>,
-    rest: usize,
-    writer: &mut W,
-) -> io::Result<Status>
-    ensures { IfOk result (λ status. status ≡ Status.Done → IsReadable datagram.now.kind datagram.now.data_.now) }
+fn show_datagram<W: Write>(datagram: &Datagram<'_>, rest: usize, printer: &mut Printer<W>) -> Status
+    ensures done { (result ≡ Status.Done) ↔ IsReadable datagram.now.kind datagram.now.data_.now }
+    ensures printed { (text : List ℕ) × DataText datagram.now.kind datagram.now.data_.now text
+        × Prints W.contents printer.old printer.new (header_line (content datagram.now) rest ++ text) }
 {
-    write_header(writer, datagram, rest)?;
+    write_header(printer, datagram, rest);
     if datagram.kind == ATP {
-        show_packet(datagram.data_, writer)
+        show_packet(datagram.data_, printer)
     } else {
-        write_raw(writer, datagram.data_)?;
-        Ok(Status::Done)
+        write_raw(printer, datagram.data_);
+        Status::Done
     }
 }
 
-fn show_packet<W: Write>(bytes: &[u8], writer: &mut W) -> io::Result<Status>
-    ensures { IfOk result (λ status. status ≡ Status.Done → IsPacket bytes.now) }
+fn show_packet<W: Write>(bytes: &[u8], printer: &mut Printer<W>) -> Status
+    ensures done { (result ≡ Status.Done) ↔ IsPacket bytes.now }
+    ensures printed { (text : List ℕ) × PacketText bytes.now text × Prints W.contents printer.old printer.new text }
 {
     match at_atp::decode(bytes) {
         Ok(frame) => {
-            write_frame(writer, &frame)?;
-            Ok(Status::Done)
+            write_frame(printer, &frame);
+            Status::Done
         }
-        Err(fault) => show_refusal(fault.number(), writer),
+        Err(fault) => show_refusal(fault.number(), printer),
     }
 }
 
 // The refusal's number, in the place of the line of what was refused.
-fn show_refusal<W: Write>(number: Option<u8>, writer: &mut W) -> io::Result<Status>
-    ensures { IfOk result (λ status. status ≡ Status.Failed) }
+fn show_refusal<W: Write>(number: Option<u8>, printer: &mut Printer<W>) -> Status
+    ensures failed { result ≡ Status.Failed }
+    ensures printed { Prints W.contents printer.old printer.new (refusal_line number) }
 {
     match number {
-        Some(number) => writeln!(writer, "refused {number}")?,
-        None => writer.write_all(b"stopped nomemory at 0\n")?,
+        Some(number) => writeln!(printer, "refused {number}"),
+        None => printer.write_all(b"stopped nomemory at 0\n"),
     }
-    Ok(Status::Failed)
+    Status::Failed
 }

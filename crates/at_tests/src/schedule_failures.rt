@@ -1,6 +1,6 @@
 //! Plays that find no memory, and plays whose writes fail.
 use crate::shared::{ZONE_LIST, ZONE_LIST_PLAYED, played};
-use at_play::{Status, play_text};
+use at_play::{Printer, Status, play_text};
 use refusing::Refusing;
 use std::alloc::Global;
 use std::io;
@@ -148,7 +148,8 @@ fn write_refused(rt: &impl Abort, alloc: Global, left: u32) -> bool {
         has_refused: false,
         bytes: Vec::new(alloc),
     };
-    let status = play_text(alloc, &mut ZONE_LIST.as_bytes(), &mut writer);
+    let mut printer = Printer::new(&mut writer);
+    let status = play_text(alloc, &mut ZONE_LIST.as_bytes(), &mut printer);
     if writer.has_refused {
         compare_cut(rt, status, &writer.bytes);
     } else {

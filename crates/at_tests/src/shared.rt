@@ -1,5 +1,5 @@
 //! What the files of schedules share: one of them, and its play.
-use at_play::{Status, play_text};
+use at_play::{Printer, Status, play_text};
 use std::alloc::{Allocator, Global};
 
 // A reading of the zone list, whose answer comes twice.
@@ -28,6 +28,7 @@ pub(crate) fn played<A: Allocator + Copy>(
     text: &str,
 ) -> (Vec<u8>, Status) {
     let mut writer = Vec::new(global);
-    let status = play_text(alloc, &mut text.as_bytes(), &mut writer);
+    let mut printer = Printer::new(&mut writer);
+    let status = play_text(alloc, &mut text.as_bytes(), &mut printer);
     (writer, status)
 }

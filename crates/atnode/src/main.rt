@@ -5,7 +5,7 @@ mod command_line;
 #[cfg(test)]
 mod tests;
 
-use at_play::{Status, play_text, show_text};
+use at_play::{Printer, Status, play_text, show_text};
 use command_line::{Request, request_of};
 use std::env::Env;
 use std::io::{BufWriter, ErrorKind, Read};
@@ -66,18 +66,19 @@ fn play_file<R: Files + Input + Print + AllocGlobal>(rt: &R, file: &str) -> io::
 }
 
 fn play_from<R: Print + AllocGlobal, I: Read>(rt: &R, reader: &mut I) -> io::Result<u8> {
-    let mut writer = match BufWriter::new(rt.alloc(), io::writer(rt)) {
-        Ok(writer) => writer,
+    let mut printer = match BufWriter::new(rt.alloc(), io::writer(rt)) {
+        Ok(writer) => Printer::new(writer),
         Err(_) => return stop(rt),
     };
-    Ok(play_text(rt.alloc(), reader, &mut writer).code())
+    Ok(play_text(rt.alloc(), reader, &mut printer).code())
 }
 
 // Shows the datagram that a word spells in hexadecimal digits.
 fn show_word<R: Print + AllocGlobal>(rt: &R, word: &str) -> io::Result<u8> {
-    let mut writer = match BufWriter::new(rt.alloc(), io::writer(rt)) {
-        Ok(writer) => writer,
+    let mut printer = match BufWriter::new(rt.alloc(), io::writer(rt)) {
+        Ok(writer) => Printer::new(writer),
         Err(_) => return stop(rt),
     };
-    Ok(show_text(rt.alloc(), word.as_bytes(), &mut writer).code())
+    let mut room = Vec::new(rt.alloc());
+    Ok(show_text(word.as_bytes(), &mut room, &mut printer).code())
 }

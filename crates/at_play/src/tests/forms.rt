@@ -1,6 +1,7 @@
 //! How reports print.
 use crate::print::{write_text, write_transcript};
 use crate::word::text;
+use crate::{Printer, Status};
 use at_atp::Packet;
 use at_ddp::{Bytes, Listed, Pascal};
 use at_node::Report;
@@ -93,7 +94,7 @@ fn transcript(alloc: Global) -> Result<Transcript<Global>, AllocError> {
 fn each_report_prints_as_its_line(rt: HostRuntime) -> Result<(), Fail> {
     let transcript = transcript(rt.alloc())?;
     let mut writer = Vec::new(rt.alloc());
-    write_transcript(&mut writer, &transcript)?;
+    write_transcript(&mut Printer::new(&mut writer), &transcript);
     assert_eq!(rt; writer.as_slice(), PRINTED.as_bytes());
     Ok(())
 }
@@ -132,8 +133,10 @@ fn a_write_that_fails_is_told_and_none_follows_it(rt: HostRuntime) -> Result<(),
             has_refused: false,
             bytes: Vec::new(rt.alloc()),
         };
-        let written = write_transcript(&mut writer, &transcript);
-        assert_eq!(rt; written.is_err(), writer.has_refused, "after {left} writes");
+        let mut printer = Printer::new(&mut writer);
+        write_transcript(&mut printer, &transcript);
+        let has_failed = printer.finish(Status::Done) == Status::Failed;
+        assert_eq!(rt; has_failed, writer.has_refused, "after {left} writes");
         if writer.has_refused {
             refused = left;
             assert!(rt;
@@ -160,7 +163,7 @@ fn a_printed_name_is_read_as_it_was(rt: HostRuntime) -> Result<(), Fail> {
     for byte in 0..=255u8 {
         let name = Pascal::new(&[b'A', byte, b'4', b'1']).ok_or("a name")?;
         let mut word = Vec::new(rt.alloc());
-        write_text(&mut word, name.bytes())?;
+        write_text(&mut Printer::new(&mut word), name.bytes());
         assert_eq!(rt; text(word.as_slice()), Some(name), "with byte {byte}");
     }
     Ok(())

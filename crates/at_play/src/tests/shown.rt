@@ -1,6 +1,6 @@
 //! What is shown of datagrams in hexadecimal digits.
 use super::streams::Full;
-use crate::{Status, show_text};
+use crate::{Printer, Status, show_text};
 use at_ddp::{Address, encode};
 use refusing::Refusing;
 use std::alloc::{Allocator, Global};
@@ -155,7 +155,8 @@ fault 1
 
 fn shown<A: Allocator>(alloc: A, global: Global, word: &str) -> (Vec<u8>, Status) {
     let mut writer = Vec::new(global);
-    let status = show_text(alloc, word.as_bytes(), &mut writer);
+    let mut room = Vec::new(alloc);
+    let status = show_text(word.as_bytes(), &mut room, &mut Printer::new(&mut writer));
     (writer, status)
 }
 
@@ -215,8 +216,9 @@ fn no_memory_for_the_bytes_is_told(rt: HostRuntime) {
 fn a_write_or_a_flush_that_fails_ends_the_show(rt: HostRuntime) {
     for takes_writes in [false, true] {
         for word in ["000DFFFF000000000000000000", "00", "0"] {
-            let mut writer = Full { takes_writes };
-            let status = show_text(rt.alloc(), word.as_bytes(), &mut writer);
+            let mut printer = Printer::new(Full { takes_writes });
+            let mut room = Vec::new(rt.alloc());
+            let status = show_text(word.as_bytes(), &mut room, &mut printer);
             assert_eq!(rt; status, Status::Failed, "at {word:?}");
         }
     }

@@ -1,6 +1,6 @@
 //! What comes of a read, a write or a request for memory that fails.
 use crate::schedule::{Fault, read_schedule};
-use crate::{Status, play_text};
+use crate::{Printer, Status, play_text};
 use refusing::Refusing;
 use std::alloc::{AllocError, Global};
 use std::io;
@@ -40,7 +40,7 @@ impl Read for Slow<'_> {
 // What is printed, where the play fails.
 fn printed<R: Read>(alloc: Global, reader: &mut R) -> Option<Vec<u8>> {
     let mut writer = Vec::new(alloc);
-    match play_text(alloc, reader, &mut writer) {
+    match play_text(alloc, reader, &mut Printer::new(&mut writer)) {
         Status::Failed => Some(writer),
         Status::Done => None,
     }
@@ -111,8 +111,8 @@ impl Write for Full {
 fn a_write_or_a_flush_that_fails_ends_the_play(rt: HostRuntime) {
     for takes_writes in [false, true] {
         for text in ["fault", "net 1", "net 1\ncall 5 zones\n"] {
-            let mut writer = Full { takes_writes };
-            let status = play_text(rt.alloc(), &mut text.as_bytes(), &mut writer);
+            let mut printer = Printer::new(Full { takes_writes });
+            let status = play_text(rt.alloc(), &mut text.as_bytes(), &mut printer);
             assert_eq!(rt; status, Status::Failed, "at {text:?}");
         }
     }
@@ -146,7 +146,8 @@ fn each_request_for_memory_that_is_refused_is_told(rt: HostRuntime) {
 fn no_memory_for_the_bytes_stops_before_the_first_event(rt: HostRuntime) -> Result<(), Fail> {
     let heap = Refusing::new(rt.alloc(), 0);
     let mut writer = Vec::new(rt.alloc());
-    let status = play_text(&heap, &mut b"fault".as_slice(), &mut writer);
+    let mut printer = Printer::new(&mut writer);
+    let status = play_text(&heap, &mut b"fault".as_slice(), &mut printer);
     assert_eq!(rt; status, Status::Failed);
     assert_eq!(rt; writer.as_slice(), b"stopped nomemory at 0\n".as_slice());
     Ok(())

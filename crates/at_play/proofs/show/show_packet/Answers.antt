@@ -1,0 +1,12 @@
+use Rattle.at_atp.specs.Frames.{content}
+use Rattle.at_atp.specs.Fault.{number_of}
+use Rattle.at_play.specs.Lines.{packet_line, refusal_line, Read, Refused}
+use Rattle.at_play.proofs.show.show_packet.Goals as goal
+
+pub returns-in-Ok-clause-printed : goal.returns-in-Ok-clause-printed
+returns-in-Ok-clause-printed g c =
+    (packet_line (content c.in-Ok.frame), Read (content c.in-Ok.frame) c.in-Ok.ensures.found, c.write_frame.ensures)
+
+pub returns-in-Err-clause-printed : goal.returns-in-Err-clause-printed
+returns-in-Err-clause-printed g c =
+    (refusal_line (number_of c.in-Err.fault), Refused c.in-Err.fault c.in-Err.ensures.fault, rw c.number.ensures at c.show_refusal.ensures.printed)
