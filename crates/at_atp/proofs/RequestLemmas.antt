@@ -14,20 +14,20 @@ draw-step (suc tries) first standing b some is =
     let less : suc tries - 1 ≡ tries = omega arith in
     rw (is, less) refl
 
+-- the list without its entry at i, by the two parts around it
+pub parts_around : {X : Type 0} (i n : ℕ) (xs ys : List X) → n ≡ suc i → xs ≡ ys → take i xs ++ take (length xs - n) (drop n xs) ≡ remove ys i
+parts_around i n xs ys after same = ap (λ l. take i xs ++ l) (take_rest xs n) ∙ (λ j. take i (same j) ++ drop (after j) (same j))
+
 -- the number that is drawn once the transaction at a place is closed
 pub drawn_without : (r : Requests) (tid i n : ℕ) (xs : List Transaction) (f : Found (is_numbered tid) r.standing i) → n ≡ suc i → xs ≡ r.standing →
     next_number (record { next = r.next; standing = take i xs ++ take (length xs - n) (drop n xs) }) ≡ next_number (closing r (Some tid))
 drawn_without r tid i n xs f after same =
-    ap (λ l. next_number (record { next = r.next; standing = l })) (ap (λ l. take i xs ++ l) (take_rest xs n) ∙ (λ j. take i (same j) ++ drop (after j) (same j)) ∙ sym f.gone_is)
+    ap (λ l. next_number (record { next = r.next; standing = l })) (parts_around i n xs r.standing after same ∙ sym f.gone_is)
 
 pub drawn_as_it_is : (r : Requests) (tid : ℕ) (xs : List Transaction) → find (is_numbered tid) r.standing ≡ None → xs ≡ r.standing →
     next_number (record { next = r.next; standing = xs ++ [] }) ≡ next_number (closing r (Some tid))
 drawn_as_it_is r tid xs none same =
     ap (λ l. next_number (record { next = r.next; standing = l })) (append-nil xs ∙ same ∙ sym (without_none (is_numbered tid) r.standing none))
-
--- the list without its entry at i, by the two parts around it
-pub parts_around : {X : Type 0} (i n : ℕ) (xs ys : List X) → n ≡ suc i → xs ≡ ys → take i xs ++ take (length xs - n) (drop n xs) ≡ remove ys i
-parts_around i n xs ys after same = ap (λ l. take i xs ++ l) (take_rest xs n) ∙ (λ j. take i (same j) ++ drop (after j) (same j))
 
 -- ---- a number is left where fewer are open than are tried
 

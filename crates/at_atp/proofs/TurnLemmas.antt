@@ -1,7 +1,6 @@
 -- What a packet does that ends an at-least-once transaction.
-use Rattle.std.proofs.Common.{◌≡◌, ℕ, ◌<◌, Bool, true, false, List, [], length, Option, Some, None, Result, Ok, Err, IsSome, refl, sym, ap, ◌∙◌}
+use Rattle.std.proofs.Common.{◌≡◌, ℕ, ◌<◌, Bool, true, false, List, [], length, Option, Some, None, Result, Ok, Err, refl, sym, ap, ◌∙◌}
 use Rattle.std.specs.Prelude.{find, remove, IfOk, not, ◌&&◌}
-use Rattle.std.specs.List.{position_from}
 use Rattle.std.proofs.lemmas.Bool.{false≢true, and_parts, not-true}
 use Rattle.at_ddp.specs.declared.address.Address.{Address}
 use Rattle.at_atp.specs.Packets.{Packet}
@@ -10,21 +9,21 @@ use Rattle.at_atp.specs.Frames.{Response}
 use Rattle.at_atp.specs.Requests.{Transaction, Requests, is_of, next_number, beginning, is_at_least_once, came, came_for, was_kept, is_finished, heard, finishes}
 use Rattle.at_atp.specs.declared.step.Step.TheVariants.{Finished}
 use Rattle.at_atp.proofs.AnswerLemmas.{wanted-within}
-use Rattle.at_atp.proofs.TableLemmas.{Found, none_by}
+use Rattle.at_atp.proofs.TableLemmas.{Found}
 
 -- the transaction is at-least-once, and with the packet its answer is there
 pub record Ended (t : Transaction) (place : ℕ) (part : Arrival) : Type 0 where
-  pub once : t.xo ≡ false
+  pub not_xo : t.xo ≡ false
   pub wanted : is_wanted t.parts place ≡ true
   pub within : place < length t.parts
   pub packets : List Packet
   pub is_whole : whole (with_part t.parts place part) ≡ Some packets
 
 ended : (A : Type 0) (t : Transaction) (place : ℕ) (part : Arrival) (sts : Bool) → t.xo ≡ false → is_finished (came {A = A} t place part sts).step ≡ true → Ended t place part
-ended A t place part sts once h = wants (is_wanted t.parts place) refl sts h
+ended A t place part sts not_xo h = wants (is_wanted t.parts place) refl sts h
   where
     kept : (o : Option (List Packet)) → whole (with_part t.parts place part) ≡ o → is_wanted t.parts place ≡ true → (s : Bool) → is_finished (was_kept {A = A} (record t { parts = with_part t.parts place part }) s o).step ≡ true → Ended t place part
-    kept (Some packets) is wanted s g = record { once = once; wanted = wanted; within = wanted-within t.parts place wanted; packets = packets; is_whole = is }
+    kept (Some packets) is wanted s g = record { not_xo = not_xo; wanted = wanted; within = wanted-within t.parts place wanted; packets = packets; is_whole = is }
     kept None is wanted true g = absurd (false≢true g)
     kept None is wanted false g = absurd (false≢true g)
 
@@ -59,12 +58,7 @@ ended_at A r from place eom sts tid user bytes i f h =
 pub heard_end : (A : Type 0) (r : Requests) (from : Address) (place : ℕ) (eom sts : Bool) (tid : ℕ) (user bytes : List ℕ) (i : ℕ) (f : Found (is_of tid from) r.standing i) →
     (e : Ended f.entry place (record { eom = eom; packet = record { user = user; data_ = bytes } })) →
     heard {A = A} r from (Response place eom sts tid user bytes) ≡ record { step = Finished e.packets; after = record { next = r.next; standing = remove r.standing i }; sent = [] }
-heard_end A r from place eom sts tid user bytes i f e = rw (f.first, e.wanted, e.is_whole, e.once, f.gone_is) refl
-
--- what is found by a search over a copy of the list
-pub finds : {X : Type 0} (p : X → Bool) (xs given : List X) (r : Option ℕ) → given ≡ xs → r ≡ position_from p 0 given → (find p xs ≡ None → ⊥) → IsSome r
-finds p xs given (Some i) same is some = refl
-finds p xs given None same is some = absurd (some (none_by p xs given None same is refl))
+heard_end A r from place eom sts tid user bytes i f e = rw (f.first, e.wanted, e.is_whole, e.not_xo, f.gone_is) refl
 
 -- a transaction that begins under a number that was drawn
 pub drawn_next : {E : Type 0} (r : Requests) (tid : ℕ) (o : Result Transaction E) (to : Address) (user : List ℕ) (retries : ℕ) → next_number r ≡ Some tid →

@@ -10,4 +10,8 @@ mod responder;
 #[cfg(test)]
 mod retries;
 #[cfg(test)]
+mod rooms;
+#[cfg(test)]
 mod shared;
+#[cfg(test)]
+mod turns;

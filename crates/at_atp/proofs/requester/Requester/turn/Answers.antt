@@ -5,8 +5,8 @@ use Rattle.at_ddp.specs.Outbox.{Outbox, HasRoomFor, Sends}
 use Rattle.at_atp.specs.Frames.{Content, content, spelled}
 use Rattle.at_atp.specs.Requests.{Requests, Transaction, is_of, begun, beginning, request_by}
 use Rattle.at_atp.proofs.StepLemmas.{remove-set, sends_later}
-use Rattle.at_atp.proofs.TableLemmas.{found_by}
-use Rattle.at_atp.proofs.TurnLemmas.{finishes_some, ended_at, heard_end, finds}
+use Rattle.at_atp.proofs.TableLemmas.{found_by, some_by}
+use Rattle.at_atp.proofs.TurnLemmas.{finishes_some, ended_at, heard_end}
 use Rattle.at_atp.proofs.requester.Requester.turn.Goals as goal
 
 pub unwrap-index-requires : goal.unwrap-index-requires
@@ -14,7 +14,7 @@ unwrap-index-requires g c =
     let r : Requests = record { next = c.self.inside.next; standing = c.self.inside.standing.items } in
     let answer = rw c.unwrap-tid.ensures at c.answer_in.ensures.answer in
     let ends = rw (← c.self.view_is, answer) at c.requires in
-    finds (is_of c.unwrap-tid.result.0 c.args.from) r.standing c.deref.result.now c.place_of.result c.deref.ensures.value c.place_of.ensures (finishes_some _ r c.args.from _ _ _ _ _ _ ends)
+    some_by (is_of c.unwrap-tid.result.0 c.args.from) r.standing c.deref.result.now c.place_of.result c.deref.ensures.value c.place_of.ensures (finishes_some _ r c.args.from _ _ _ _ _ _ ends)
 
 pub following-requires : goal.following-requires
 following-requires g c =
@@ -55,7 +55,7 @@ unwrap-requires g c =
     let ends = rw (← c.self.view_is, answer) at c.requires in
     let entry : c.index_mut-ended.result.now ≡ f.entry = c.index_mut-ended.ensures.value ∙ f.at c.index_mut-ended.result.now in
     let e = ended_at _ r c.args.from _ _ _ _ _ _ c.unwrap-index.result f ends in
-    let once : c.index_mut-ended.result.now.xo ≡ false = ap (λ (t : Transaction). t.xo) entry ∙ e.once in
+    let once : c.index_mut-ended.result.now.xo ≡ false = ap (λ (t : Transaction). t.xo) entry ∙ e.not_xo in
     let untouched : c.finish.new.out ≡ c.room.new.self = c.in_ok-step.ensures.untouched once in
     (c.send.ensures.room 0 586 (subst (λ (o : Outbox). HasRoomFor o 1 586) (sym untouched) c.in_ok-room.ensures.ok) (omega (arith, c.request.ensures.fits))).0
 
@@ -107,7 +107,7 @@ returns-clause-sent g c =
     let ends = rw (← c.self.view_is, answer) at c.requires in
     let entry : c.index_mut-ended.result.now ≡ f.entry = c.index_mut-ended.ensures.value ∙ f.at c.index_mut-ended.result.now in
     let e = ended_at _ r c.args.from _ _ _ _ _ _ c.unwrap-index.result f ends in
-    let once : c.index_mut-ended.result.now.xo ≡ false = ap (λ (t : Transaction). t.xo) entry ∙ e.once in
+    let once : c.index_mut-ended.result.now.xo ≡ false = ap (λ (t : Transaction). t.xo) entry ∙ e.not_xo in
     let untouched : c.finish.new.out ≡ c.room.new.self = c.in_ok-step.ensures.untouched once in
     let asks : c.in_ok-next.next ≡ beginning c.pass_on.result c.args.from c.args.user [] 1 false c.args.retries = c.in_ok-next.ensures.asks ∙ ap (λ n. beginning n c.args.from c.args.user [] 1 false c.args.retries) (sym c.pass_on.ensures.number) in
     let asked : content c.request.result ≡ request_by (beginning c.pass_on.result c.args.from c.args.user [] 1 false c.args.retries) = c.request.ensures.request ∙ ap request_by asks in

@@ -1,0 +1,109 @@
+//! Room that is made for an answer before it is given.
+use crate::shared::{ATP, request};
+use at_atp::{AtpFault, Key, Packet, Reception, Responder};
+use at_ddp::{Bytes, Datagrams, Outbox};
+use at_samples::{ASKER, SERVER};
+use refusing::Refusing;
+use std::alloc::{AllocError, Allocator, Global};
+use std::process::Abort;
+use std::test::Fail;
+
+const KEY: Key = Key {
+    from: ASKER,
+    tid: 9,
+};
+
+// A side that answers, and what it sent. Its functions have no contract, so that no proof carries the room from one call
+// to the next.
+#[derive(Drop)]
+struct Answerer<A: Allocator> {
+    responder: Responder<A>,
+    out: Outbox<A>,
+}
+
+impl<A: Allocator + Copy> Answerer<A> {
+    fn new(alloc: A) -> Answerer<A> {
+        Answerer {
+            responder: Responder::new(alloc),
+            out: Outbox::over(Datagrams::new(alloc), SERVER, ATP),
+        }
+    }
+
+    // Takes a request for eight packets in.
+    fn receive(&mut self) -> Result<Reception, AtpFault> {
+        let frame = request(0xFF, KEY.tid);
+        self.responder.receive(ASKER, &frame, &mut self.out)
+    }
+
+    fn room(&mut self) -> Result<(), AtpFault> {
+        self.responder.room(KEY, &mut self.out)
+    }
+
+    fn compare_new(&mut self, rt: &impl Abort) {
+        assert_eq!(rt; self.receive(), Ok(Reception::New(KEY)));
+    }
+
+    fn compare_room(&mut self, rt: &impl Abort, want: Result<(), AtpFault>) {
+        assert_eq!(rt; self.room(), want);
+    }
+
+    // Answers, all packets of which are asked for.
+    fn compare_respond(&mut self, rt: &impl Abort, packets: &[Packet<A>]) {
+        let count = self.responder.respond(KEY, packets, &mut self.out);
+        assert_eq!(rt; count.map(usize::from), Ok(packets.len()));
+    }
+}
+
+// The largest answer: eight packets of 578 bytes.
+fn largest<A: Allocator + Copy>(global: Global, alloc: A) -> Result<Vec<Packet<A>>, AllocError> {
+    let mut packets = Vec::new(global);
+    for _place in 0..8u8 {
+        let bytes = Bytes::copy_of(alloc, &[0x5A; 578])?;
+        packets.push(Packet::new([0; 4], bytes))?;
+    }
+    Ok(packets)
+}
+
+#[test]
+fn room_is_made_only_while_a_request_waits(rt: HostRuntime) -> Result<(), Fail> {
+    let mut answerer = Answerer::new(rt.alloc());
+    let packets = largest(rt.alloc(), rt.alloc())?;
+    answerer.compare_room(&rt, Err(AtpFault::NoSuch));
+    answerer.compare_new(&rt);
+    answerer.compare_room(&rt, Ok(()));
+    answerer.compare_room(&rt, Ok(()));
+    answerer.compare_respond(&rt, &packets);
+    answerer.compare_room(&rt, Err(AtpFault::NoSuch));
+    assert_eq!(rt; answerer.out.into_list().len(), 8);
+    Ok(())
+}
+
+// Makes room and answers with one request for memory refused, and tells whether it was the room's.
+fn is_room_refused<A: Allocator + Copy>(rt: &impl Abort, global: Global, alloc: A) -> bool {
+    let mut answerer = Answerer::new(alloc);
+    let Ok(packets) = largest(global, alloc) else {
+        return false;
+    };
+    if answerer.receive().is_err() {
+        return false;
+    }
+    let first = answerer.room();
+    if first.is_err() {
+        assert_eq!(rt; first, Err(AtpFault::NoMemory));
+        answerer.compare_room(rt, Ok(()));
+    }
+    answerer.compare_respond(rt, &packets);
+    first.is_err()
+}
+
+#[test]
+fn an_answer_takes_no_memory_once_there_is_room(rt: HostRuntime) {
+    let mut refusals = 0u32;
+    for granted in 0..20u64 {
+        let heap = Refusing::new(rt.alloc(), granted);
+        if is_room_refused(&rt, rt.alloc(), &heap) {
+            refusals = refusals.saturating_add(1);
+        }
+    }
+    assert!(rt; refusals > 0);
+}
