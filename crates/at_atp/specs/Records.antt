@@ -131,3 +131,7 @@ pub record IsRepeat (e : Repeat) (r : Reception) (old new : Record) (before afte
   pub is_reception : r ≡ e.reception
   pub is_new : new ≡ record old { state = e.state }
   pub sends : Sends before after (spelled_all e.sent)
+
+-- a record of this number of some requester at the node
+abbrev pub is_from : ℕ → ℕ → Record → Bool
+is_from node tid r = (r.key.from.node == node) && (r.key.tid == tid)

@@ -1,7 +1,7 @@
 ghost use Rattle.std.specs.Prelude.{◌≡◌, ℕ, ◌+◌, ◌≤◌, ◌∷◌, [], length, true, false, if◌then◌else◌, IfOk, OnErr, IsOk};
 ghost use Rattle.at_ddp.specs.Outbox.{Sends, HasRoomFor};
 ghost use Rattle.at_atp.specs.Frames.{Response, spelled_all};
-ghost use Rattle.at_atp.specs.Records.{Waiting, fit, responses, is_key, state_fault, asked_mask, repeated, IsRepeat};
+ghost use Rattle.at_atp.specs.Records.{Waiting, fit, responses, is_key, is_from, state_fault, asked_mask, repeated, IsRepeat};
 
 use crate::fault::AtpFault;
 use crate::frame::{Frame, PACKET_LEN};
@@ -53,6 +53,13 @@ impl<A: Allocator> Entry<A> {
         ensures { result ≡ is_key key self.now }
     {
         self.key.from == key.from && self.key.tid == key.tid
+    }
+
+    // Whether the request has this number of a requester at this node.
+    pub(crate) fn is_from(&self, node: u8, tid: u16) -> bool
+        ensures { result ≡ is_from node tid self.now }
+    {
+        self.key.from.node == node && self.key.tid == tid
     }
 
     // Why the request can't be answered.

@@ -3,7 +3,8 @@ ghost use Rattle.std.specs.List.{position_from};
 ghost use Rattle.at_ddp.specs.Outbox.{Sends, HasRoomFor};
 ghost use Rattle.at_atp.specs.Frames.{content};
 ghost use Rattle.std.specs.Option.{option_copied};
-ghost use Rattle.at_atp.specs.Records.{Record, repeated, request_came, is_new_and_full, IsRepeat, Waiting, fit, is_key, taken, finds_no_place, record_fault, answer_fault, asked_mask, IsTaken, IsAnswered};
+ghost use Rattle.std.specs.List.{list_any};
+ghost use Rattle.at_atp.specs.Records.{is_from, Record, repeated, request_came, is_new_and_full, IsRepeat, Waiting, fit, is_key, taken, finds_no_place, record_fault, answer_fault, asked_mask, IsTaken, IsAnswered};
 ghost use Rattle.at_atp.specs.Tables.{without_first};
 
 use crate::entry::{Entry, send_answer};
@@ -115,6 +116,13 @@ impl<A: Allocator + Copy> Responder<A> {
         ensures { result ≡ is_some (find (is_key key) self.now) }
     {
         entry_of(&self.entries, key).is_some()
+    }
+
+    /// Whether a record stands of this number of a requester at this node.
+    pub fn holds_number(&self, node: u8, tid: u16) -> bool
+        ensures { result ≡ list_any (is_from node tid) self.now }
+    {
+        self.entries.iter().any(|e| e.is_from(node, tid))
     }
 
     /// Takes the record of a request that waits away again. It takes no memory.
