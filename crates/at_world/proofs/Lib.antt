@@ -2,6 +2,8 @@ mod Calls
 mod Canonical
 mod DrawLemmas
 mod Following
+mod Places
+mod Times
 mod Requested
 mod Responded
 mod Runs
