@@ -2,6 +2,7 @@ mod Calls
 mod Canonical
 mod DrawLemmas
 mod Following
+mod FreshLemmas
 mod Requested
 mod Responded
 mod Runs
