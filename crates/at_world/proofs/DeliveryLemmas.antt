@@ -8,7 +8,6 @@ use Rattle.std.specs.Prelude.{slice_get, ◌==◌, ◌||◌, if◌then◌else◌
 use Rattle.at_node.specs.Drawing.{Carries}
 use Rattle.at_node.specs.Nodes.{NodeState}
 use Rattle.at_node.specs.declared.drawing.Draw.{Draw}
-use Rattle.at_node.specs.declared.drawing.Input.{Input}
 use Rattle.at_node.specs.declared.drawing.Input.TheVariants as input
 use Rattle.at_node.specs.declared.event.Report.{Report}
 use Rattle.at_world.specs.Draws.{Draws, last_of, is_no_later}

@@ -1,5 +1,5 @@
 -- Whether what a datagram carries is in time, by the two numbers that it may carry.
-use Rattle.std.proofs.Common.{◌≡◌, ℕ, zero, suc, ◌+◌, ◌<◌, Bool, true, false, List, [], ◌∷◌, length, get_or, Option, Some, None, refl, sym, subst, arith}
+use Rattle.std.proofs.Common.{◌≡◌, ℕ, zero, suc, ◌<◌, true, false, List, [], ◌∷◌, length, get_or, Option, Some, None, refl, subst, arith}
 use Rattle.std.specs.List.{Contains}
 use Rattle.at_node.specs.declared.drawing.Draw.{Draw}
 use Rattle.at_world.specs.Draws.{Draws, last_of, is_no_later}

@@ -3,8 +3,7 @@ use Rattle.std.proofs.Common.{◌≡◌, ℕ, zero, suc, ◌+◌, ◌-◌, ◌�
 use Rattle.std.proofs.lemmas.Bool.{true≢false}
 use Rattle.std.proofs.lemmas.Bool.Decides.{nat_tests}
 use Rattle.std.proofs.lemmas.List.{append-nil, length-append}
-use Rattle.std.proofs.lemmas.Option.{slice_get_past}
-use Rattle.std.specs.Prelude.{slice_get, ◌==◌, if◌then◌else◌, nat_le, nat_lt, ◌||◌, find, Result, Ok, Err, IfOk, IfErr, IsOk, IsErr, OnOk, OnErr}
+use Rattle.std.specs.Prelude.{nat_le, nat_lt, ◌||◌, find, Result, Ok, Err, IfOk, IfErr, IsOk, IsErr, OnOk, OnErr}
 use Rattle.std.specs.Result.{is_err}
 use Rattle.std.specs.declared.alloc.AllocError.{AllocError}
 use Rattle.at_ddp.specs.Datagrams.{Posted}
@@ -12,7 +11,6 @@ use Rattle.at_atp.proofs.TableLemmas.{Found}
 use Rattle.at_node.specs.declared.drawing.Draw.{Draw}
 use Rattle.at_node.specs.declared.drawing.Input.{Input}
 use Rattle.at_node.specs.declared.drawing.Input.TheVariants as input
-use Rattle.at_node.specs.declared.event.Call.{Call}
 use Rattle.at_node.specs.declared.event.Report.{Report}
 use Rattle.at_node.specs.declared.event.Report.TheVariants.{NoMemory}
 use Rattle.at_node.specs.Drawing.{drawn_by, draw_of_input}
@@ -21,13 +19,10 @@ use Rattle.at_node.specs.Nodes.{NodeState, Outcome, posted, IsStep, Comes}
 use Rattle.at_node.specs.Steps.{called, timed}
 use Rattle.at_world.specs.Draws.{Draws, noted}
 use Rattle.at_world.specs.Sents.{SentDatagram, stamp, stamped}
-use Rattle.at_world.specs.declared.event.Event.{Event}
-use Rattle.at_world.specs.declared.event.Event.TheVariants as event
-use Rattle.at_world.specs.declared.event.Refusal.{Refusal}
-use Rattle.at_world.specs.declared.event.Refusal.TheVariants.{NotForNode, NoDatagram}
+use Rattle.at_world.specs.declared.event.Refusal.TheVariants.{NotForNode}
 use Rattle.at_world.specs.declared.event.Fault.{Fault}
 use Rattle.at_world.specs.declared.event.Fault.TheVariants as fault
-use Rattle.at_world.specs.Worlds.{WorldState, is_over, is_numbered, node_at, node_refusal, refusal, refusal_at, holds_some, recorded, PlaysAt, Takes, Receives, IsNotTaken, IsFault, PlaysDelivery, delivery_refusal, is_for}
+use Rattle.at_world.specs.Worlds.{WorldState, is_over, is_numbered, node_at, node_refusal, holds_some, recorded, PlaysAt, Takes, IsNotTaken}
 
 -- ---- what a node sends goes behind what was there
 
@@ -154,7 +149,7 @@ ran_ok A w k S given after report nodes es es' ps ps' last last' draw events i c
       out = s.out;
       steps = s.steps;
       booked = ap (λ b. world_after nodes i after es' ps' last' events b) is
-      ∙ booked A w k report nodes es es' ps ps' s.out last last' draw events i count after ran.view ran.place ran.same s.is ran.counted ran.draws ran.drawn ran.stamps;
+          ∙ booked A w k report nodes es es' ps ps' s.out last last' draw events i count after ran.view ran.place ran.same s.is ran.counted ran.draws ran.drawn ran.stamps;
     }
 ran_ok A w k S given after report nodes es es' ps ps' last last' draw events i count (Err e) failed ran is ok = absurd (cc)
 

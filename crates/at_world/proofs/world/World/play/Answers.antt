@@ -3,7 +3,7 @@ use Rattle.std.proofs.lemmas.Bool.{true≢false}
 use Rattle.at_atp.proofs.TableLemmas.{found_by, none_by}
 use Rattle.at_world.specs.Sents.{stamped}
 use Rattle.at_world.specs.Worlds.{WorldState, is_numbered, Takes}
-use Rattle.at_world.proofs.WorldLemmas.{takes_splits, has_room, node_stands, none_stands, held_at, few_events, whole_inside, Ran, ran_ok, ran_err, ran_invariant, world_after, taken, not_taken, if_ok}
+use Rattle.at_world.proofs.WorldLemmas.{takes_splits, has_room, node_stands, none_stands, held_at, whole_inside, Ran, ran_ok, ran_err, ran_invariant, world_after, taken, not_taken, if_ok}
 use Rattle.at_world.proofs.world.World.play.Goals as goal
 
 pub returns-in_default-clause-not_played : goal.returns-in_default-clause-not_played
