@@ -3,6 +3,7 @@ mod Canonical
 mod DeliveryLemmas
 mod DrawLemmas
 mod Following
+mod Moves
 mod Places
 mod Times
 mod FreshLemmas

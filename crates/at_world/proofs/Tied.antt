@@ -1,34 +1,61 @@
--- What ties a world to the machine, and how a step keeps it.
-use Rattle.std.proofs.Common.{◌≡◌, ◌⊎◌, ⊎_elim, inl, inr, ℕ, ◌^◌, ◌<◌, ◌≤◌, Bool, true, false, cond, List, [], ◌∷◌, ◌++◌, length, map, Option, Some, None, refl, sym, subst, ◌∙◌}
-use Rattle.std.specs.Prelude.{find, ◌==◌}
-use Rattle.std.specs.List.{AllByRecursion}
-use Rattle.std.proofs.lemmas.Bool.{true≢false, eq-eqb, eqb-true, ne_eqb}
+-- What ties a world to the machine, through a history of the network of its requesters and responders.
+use Rattle.std.proofs.Common.{◌≡◌, ℕ, ◌+◌, ◌^◌, ◌<◌, ◌≤◌, Bool, true, false, cond, List, [], ◌∷◌, ◌++◌, length, map, Option, Some, None, refl, sym, ap, subst, ◌∙◌, arith}
+use Rattle.std.specs.Prelude.{find, ◌==◌, ◌&&◌}
+use Rattle.std.specs.List.{AllByRecursion, Contains}
+use Rattle.std.proofs.lemmas.Bool.{true≢false, eq-eqb, eqb-true}
+use Rattle.std.proofs.lemmas.List.{append-nil}
+use Rattle.at_ddp.specs.Address.{same_address}
 use Rattle.at_ddp.specs.Datagram.{canonical, written, IsAddress, AreBytes}
-use Rattle.at_ddp.specs.Datagrams.{Posted}
 use Rattle.at_ddp.specs.declared.address.Address.{Address}
-use Rattle.at_atp.specs.Frames.{Content, Request, Response, IsLawful, spelled}
+use Rattle.at_ddp.proofs.Octets.{same_address-true, same_address_itself}
+use Rattle.at_atp.specs.Frames.{Content, IsLawful, spelled, spelled_all}
+use Rattle.at_atp.specs.Lawfully.{IsInRange, IsLawfullySent}
+use Rattle.at_atp.specs.Network.{Network, Sent, Happening, owner, number_of, after, done, put, stamped, IsTimely, AllTimely, GivesAnswers}
+use Rattle.at_atp.specs.Packets.{Packet}
+use Rattle.at_atp.specs.Records.{Record, is_key, taken, record_fault, asked_for}
+use Rattle.at_atp.specs.Requests.{Requests, Retried, has_number, next_number, is_finished, heard, retried}
 use Rattle.at_atp.specs.Tables.{replaced}
+use Rattle.at_atp.specs.Transactions.{Transaction, Asked, answered}
+use Rattle.at_atp.specs.declared.reception.Key.{Key}
+use Rattle.at_atp.specs.declared.reception.Reception.TheVariants.{New}
+use Rattle.at_atp.specs.declared.step.Retry.TheVariants.{Failed}
 use Rattle.at_zip.specs.Names as names
 use Rattle.at_zip.specs.Page.{Page, IsLawful as IsLawfulPage, page_of, page_user, page_data}
 use Rattle.at_zip.specs.Request.{RequestSpells, request_user}
 use Rattle.at_zip.specs.Zones.{IsTable}
+use Rattle.at_node.specs.Drawing.{Carries, drawn_by}
+use Rattle.at_node.specs.Hearing.{Hears, AtSocket, Tells, socket_of, told_by}
+use Rattle.at_node.specs.Nodes.{NodeState, Outcome, Outgoing, posted, sent_by}
+use Rattle.at_node.specs.Steps.{asking, serving, zones_at, atp_kind}
+use Rattle.at_node.specs.declared.drawing.Draw.TheVariants.{Tid}
 use Rattle.at_node.specs.declared.event.Report.{Report}
-use Rattle.at_node.specs.Hearing.{Hears, AtSocket, AtZones, Tells, socket_of, told_by}
-use Rattle.at_node.specs.Nodes.{NodeState, Outcome, posted, idle}
-use Rattle.at_node.specs.Steps.{asking, zones_at, atp_kind, zone_asked, zone_transaction}
-use Rattle.at_world.specs.Machine.{Machine, Transaction, Reading, transaction_of, since_of, next, Step}
-use Rattle.at_world.specs.declared.event.Event.{Event}
+use Rattle.at_node.specs.declared.service.Reply.{Reply}
+use Rattle.at_world.specs.Draws.{noted}
+use Rattle.at_world.specs.Machine.{Machine, Reading, since_of, next, page_answer, Step}
 use Rattle.at_world.specs.Sents.{SentDatagram, stamp}
 use Rattle.at_world.specs.Worlds.{WorldState, is_numbered, node_at, recorded}
+use Rattle.at_world.specs.declared.event.Event.{Event}
+use Rattle.at_world.proofs.Places.{at_after, requester_at, requester_after, records_at, records_after}
+use Rattle.at_world.proofs.Times.{IsNoted}
 
--- what the layers below promise of what is written and heard
+-- what the layers below promise
 pub record Laws (A : Type 0) : Type 0 where
-  pub heard : (n : NodeState) (to from : Address) (f : Content) (o : Outcome A) → IsAddress to → IsAddress from → IsLawful f → Hears n (canonical to from atp_kind (spelled f)) o
-      → AtSocket n from (socket_of n (written to from atp_kind (spelled f))) f o
-  pub served : (n : NodeState) (from : Address) (table : List (List ℕ)) (mask : ℕ) (xo : Bool) (timer tid start : ℕ) (bytes : List ℕ) (o : Outcome A) → 1 ≤ start → start < 2 ^ 16
-      → AtZones n from table (Request mask xo timer tid (request_user start) bytes) o → o ≡ zone_asked n from (Request mask xo timer tid (request_user start) bytes) table start
+  pub hears : (said : Reply A) (n : NodeState) (to from : Address) (f : Content) (o : Outcome A) → IsAddress to → IsAddress from → IsLawful f → Hears said n (canonical to from atp_kind (spelled f)) o
+      → AtSocket said n from (socket_of n (written to from atp_kind (spelled f))) f o
+  pub carries : (to from : Address) (f : Content) → IsAddress to → IsAddress from → IsLawful f → Carries (canonical to from atp_kind (spelled f)) (owner from to f).node (Tid (number_of f))
+  pub answers : (history : List Happening) → AllTimely A history → GivesAnswers A (after A history)
+  pub lawful_sent : (history : List Happening) → AllByRecursion IsInRange history → AllByRecursion IsLawfullySent (after A history).sent
+  pub drawn : (r : Requests) (tid : ℕ) → next_number r ≡ Some tid → has_number r.standing tid ≡ false
+  pub heard_stays : (r : Requests) (from : Address) (f : Content) (tid : ℕ) → has_number r.standing tid ≡ true → (is_finished (heard {A = A} r from f).step ≡ true → (number_of f == tid) ≡ false) → has_number (heard {A = A} r from f).after.standing tid ≡ true
+  pub retried_stays : (r : Requests) (other tid : ℕ) (e : Retried) → retried r other ≡ Some e → has_number r.standing tid ≡ true → (e.step ≡ Failed → (other == tid) ≡ false) → has_number e.after.standing tid ≡ true
+  pub new_waits : (rs : List Record) (from : Address) (f : Content) (key : Key) → (taken rs from f).reception ≡ New key
+      → (record_fault (find (is_key key) (taken rs from f).after) ≡ None) × ((taken rs from f).sent ≡ []) × (key ≡ record { from = from; tid = number_of f })
+  pub few : (o : Option Record) (key : Key) (packets : List Packet) → length (asked_for o key packets) ≤ length packets
+  pub joins : (ts : List Transaction) (from : Address) (tid : ℕ) (packets : List Packet) (who : Address) (k : ℕ) (responder : Address) (a : Asked ts who k responder)
+      → (b : Asked (answered ts from tid packets) who k responder) × (b.transaction.user ≡ a.transaction.user)
   pub told : (p : Page) (r : Report A) → IsLawfulPage p → Tells (record { user = page_user p; data_ = page_data p }) r → r ≡ told_by p
   pub asks : (start : ℕ) → 1 ≤ start → start < 2 ^ 16 → RequestSpells (request_user start) start
+  pub one_start : (user : List ℕ) (m k : ℕ) → RequestSpells user m → RequestSpells user k → m ≡ k
   pub lawful : (table : List (List ℕ)) (start : ℕ) → IsTable table → IsLawfulPage (page_of table start)
   pub user : (table : List (List ℕ)) (start : ℕ) → AreBytes (page_user (page_of table start))
   pub bytes : (table : List (List ℕ)) (start : ℕ) → IsTable table → AreBytes (page_data (page_of table start))
@@ -44,172 +71,141 @@ pub record Fixed (m : Machine) : Type 0 where
   pub table : IsTable m.table
   pub small : length (names.spelled m.table) ≤ 578
 
--- a node that reads the list has one transaction open, and one that does not has none
-pub record Reads (m : Machine) (n : NodeState) (tid : ℕ) : Type 0 where
-  pub router : ℕ
-  pub is_router : m.router ≡ Some router
-  pub stands : n.requester.standing ≡ zone_transaction n router tid ∷ []
-  pub since : ℕ
-  pub began : since_of m.readings n.number ≡ Some since
-
-abbrev pub IsReading : Machine → NodeState → Option ℕ → Type 0
-IsReading m n None = n.requester.standing ≡ []
-IsReading m n (Some tid) = Reads m n tid
-
 pub record TiedNode (m : Machine) (k : ℕ) (n : NodeState) : Type 0 where
   pub net : n.net ≡ m.net
   pub number : n.number ≡ k
   pub small : k < 256
   pub router : n.router ≡ m.router
-  pub table : (t : List (List ℕ)) → n.table ≡ Some t → t ≡ m.table
-  pub served : n.served ≡ []
-  pub next_fits : n.requester.next < 2 ^ 16
-  pub reading : IsReading m n n.reading
+  pub table : (t : List (List ℕ)) → n.table ≡ Some t → (t ≡ m.table) × (m.router ≡ Some k)
 
--- the newest transaction of this key asks the router for the first page
-pub record Asked (net : ℕ) (ts : List Transaction) (requester : Address) (tid router : ℕ) : Type 0 where
-  pub transaction : Transaction
-  pub newest : transaction_of ts requester tid ≡ Some transaction
-  pub responder : transaction.responder ≡ zones_at net router
-  pub user : transaction.user ≡ request_user 1
-
--- the request for the first page, and the packet that answers it
-abbrev pub first_request : ℕ → Content
-first_request tid = Request 1 false 0 tid (request_user 1) []
-
-abbrev pub first_response : List (List ℕ) → ℕ → Content
-first_response table tid = Response 0 true false tid (page_user (page_of table 1)) (page_data (page_of table 1))
-
--- who sent, to whom and under which number
-pub record Parties (router : Option ℕ) : Type 0 where
-  pub node : ℕ
-  pub node_fits : node < 256
+-- a node that reads the list has a transaction open that asked the router for the first page
+pub record Reads (net : ℕ) (router : Option ℕ) (asked : List Transaction) (readings : List Reading) (k : ℕ) (standing : Requests) (tid : ℕ) : Type 0 where
   pub server : ℕ
   pub is_router : router ≡ Some server
-  pub tid : ℕ
-  pub tid_fits : tid < 2 ^ 16
+  pub first : Asked asked (asking net k) tid (zones_at net server)
+  pub user : (first.transaction).user ≡ request_user 1
+  pub is_open : has_number standing.standing tid ≡ true
+  pub since : ℕ
+  pub began : since_of readings k ≡ Some since
 
-pub record SentRequest (m : Machine) (s : SentDatagram) : Type 0 where
-  pub parties : Parties m.router
-  pub asked : Asked m.net m.asked (asking m.net parties.node) parties.tid parties.server
-  pub bytes : s.bytes ≡ canonical (zones_at m.net parties.server) (asking m.net parties.node) atp_kind (spelled (first_request parties.tid))
+abbrev pub IsReading : Machine → ℕ → Requests → Option ℕ → Type 0
+IsReading m k standing None = Unit {0}
+IsReading m k standing (Some tid) = Reads m.net m.router m.asked m.readings k standing tid
 
-pub record SentResponse (net : ℕ) (router : Option ℕ) (table : List (List ℕ)) (s : SentDatagram) : Type 0 where
-  pub parties : Parties router
-  pub bytes : s.bytes ≡ canonical (asking net parties.node) (zones_at net parties.server) atp_kind (spelled (first_response table parties.tid))
+-- the answers to what asked the router are pages of its table
+abbrev pub PagesOf : Machine → Transaction → Type 0
+PagesOf m t = (server : ℕ) (answer : List Packet) → m.router ≡ Some server → t.responder ≡ zones_at m.net server → Contains t.answers answer → (start : ℕ) × RequestSpells t.user start × (answer ≡ page_answer m.table start)
 
-abbrev pub TiedSent : Machine → SentDatagram → Type 0
-TiedSent m s = SentRequest m s ⊎ SentResponse m.net m.router m.table s
+abbrev pub OnNet : Machine → Transaction → Type 0
+OnNet m t = ((t.requester).net ≡ m.net) × ((t.responder).net ≡ m.net)
 
-pub record Tied (w : WorldState) (m : Machine) : Type 0 where
+-- a packet as the world has it
+abbrev pub spelled_sent : Sent → SentDatagram
+spelled_sent s = record { event = s.event; to = (s.to).node; bytes = canonical s.to s.from atp_kind (spelled s.packet) }
+
+pub record Tied (A : Type 0) (w : WorldState) (m : Machine) : Type 0 where
   pub fixed : Fixed m
+  pub history : List Happening
+  pub timely : AllTimely A history
+  pub in_range : AllByRecursion IsInRange history
+  pub events : w.events ≡ (after A history).event
+  pub requesters : (who : Address) → (after A history).requesters who ≡ requester_at m.net w.nodes who
+  pub responders : (at : Address) → (after A history).responders at ≡ records_at m.net w.nodes at
+  pub sent : w.sent ≡ map spelled_sent (after A history).sent
+  pub drawn : AllByRecursion (IsNoted w.last w.events) (after A history).drawn
+  pub asked : (after A history).asked ≡ m.asked
   pub nodes : (k : ℕ) (n : NodeState) → node_at w k ≡ Some n → TiedNode m k n
-  pub sent : AllByRecursion (TiedSent m) w.sent
-
--- ---- what stays
+  pub readings : (k : ℕ) (n : NodeState) → node_at w k ≡ Some n → IsReading m k n.requester n.reading
+  pub pages : AllByRecursion (PagesOf m) m.asked
+  pub nets : AllByRecursion (OnNet m) m.asked
 
 -- the machine a moment later, with these transactions and readings
 abbrev pub moved : Machine → List Transaction → List Reading → Machine
 moved m asked readings = next (record m { asked = asked; readings = readings })
 
-fixed_kept : (m : Machine) (asked : List Transaction) (readings : List Reading) → Fixed m → Fixed (moved m asked readings)
-fixed_kept m asked readings f = record { net = f.net; router = f.router; table = f.table; small = f.small }
+-- ---- values at one address
 
-reading_kept : (m : Machine) (asked : List Transaction) (readings : List Reading) (n : NodeState) (reading : Option ℕ) → since_of readings n.number ≡ since_of m.readings n.number → IsReading m n reading → IsReading (moved m asked readings) n reading
-reading_kept m asked readings n None same h = h
-reading_kept m asked readings n (Some tid) same h = record { router = h.router; is_router = h.is_router; stands = h.stands; since = h.since; began = same ∙ h.began }
+pub put_same : {X : Type 0} (f g : Address → X) (at : Address) (x : X) (a : Address) → f a ≡ g a → put f at x a ≡ put g at x a
+put_same f g at x a same = ap (λ y. cond (same_address at a) x y) same
 
-pub node_kept : (m : Machine) (asked : List Transaction) (readings : List Reading) (k : ℕ) (n : NodeState) → since_of readings k ≡ since_of m.readings k → TiedNode m k n → TiedNode (moved m asked readings) k n
-node_kept m asked readings k n same t = record {
-  net = t.net;
-  number = t.number;
-  small = t.small;
-  router = t.router;
-  table = t.table;
-  served = t.served;
-  next_fits = t.next_fits;
-  reading = reading_kept m asked readings n n.reading (subst (λ j. since_of readings j ≡ since_of m.readings j) (sym t.number) same) t.reading;
-}
-
--- what was asked of the router is still asked of it
-abbrev pub Keeps : Machine → List Transaction → Type 0
-Keeps m asked = (requester : Address) (tid router : ℕ) → m.router ≡ Some router → Asked m.net m.asked requester tid router → Asked m.net asked requester tid router
-
-one_sent_kept : (m : Machine) (asked : List Transaction) (readings : List Reading) (s : SentDatagram) → Keeps m asked → TiedSent m s → TiedSent (moved m asked readings) s
-one_sent_kept m asked readings s keeps (inl q) =
-    let p = q.parties in
-    inl (record { parties = p; asked = keeps (asking m.net p.node) p.tid p.server p.is_router q.asked; bytes = q.bytes })
-one_sent_kept m asked readings s keeps (inr a) = inr a
-
-sent_kept : (m : Machine) (asked : List Transaction) (readings : List Reading) (sent : List SentDatagram) → Keeps m asked → AllByRecursion (TiedSent m) sent → AllByRecursion (TiedSent (moved m asked readings)) sent
-sent_kept m asked readings [] keeps h = tt
-sent_kept m asked readings (s ∷ sent) keeps h = (one_sent_kept m asked readings s keeps h.0, sent_kept m asked readings sent keeps h.1)
-
-both_sent : (P : SentDatagram → Type 0) (xs ys : List SentDatagram) → AllByRecursion P xs → AllByRecursion P ys → AllByRecursion P (xs ++ ys)
-both_sent P [] ys a b = b
-both_sent P (x ∷ xs) ys a b = (a.0, both_sent P xs ys a.1 b)
-
--- the node that is found once one of them has changed: that one, or another as it was
-pub found_after : (k j : ℕ) (x n : NodeState) (nodes : List NodeState) → x.number ≡ k → find (is_numbered j) (replaced (is_numbered k) x nodes) ≡ Some n →
-    ((j ≡ k) × (n ≡ x)) ⊎ (((j == k) ≡ false) × (find (is_numbered j) nodes ≡ Some n))
-found_after k j x n [] same h = absurd (cc)
-found_after k j x n (y ∷ ys) same h = go (λ g. found_after k j x n ys same g) (y.number == k) refl h
+-- putting what is there changes nothing
+pub put_itself : {X : Type 0} (f : Address → X) (at : Address) (x : X) → f at ≡ x → (a : Address) → f a ≡ put f at x a
+put_itself f at x is a = go (same_address at a) refl
   where
-    one : (z : NodeState) → Some z ≡ Some n → n ≡ z
-    one z e = cc
+    go : (b : Bool) → same_address at a ≡ b → f a ≡ cond b x (f a)
+    go true e = ap f (sym (same_address-true at a e)) ∙ is
+    go false e = refl
 
-    apart : (a : ℕ) → a ≡ k → (j == k) ≡ false → (a == j) ≡ false
-    apart a is other = ne_eqb a j (λ p. true≢false (sym (eq-eqb j k (sym p ∙ is)) ∙ other))
+pub put_here : {X : Type 0} (f : Address → X) (at : Address) (x : X) → put f at x at ≡ x
+put_here f at x = ap (λ b. cond b x (f at)) (same_address_itself at)
 
-    at_it : (b : Bool) → (j == k) ≡ b → y.number ≡ k → cond (x.number == j) (Some x) (find (is_numbered j) ys) ≡ Some n → ((j ≡ k) × (n ≡ x)) ⊎ (((j == k) ≡ false) × (find (is_numbered j) (y ∷ ys) ≡ Some n))
-    at_it true e is g =
-        let here = eqb-true j k e in
-        inl (here, one x (subst (λ b. cond b (Some x) (find (is_numbered j) ys) ≡ Some n) (eq-eqb x.number j (same ∙ sym here)) g))
-    at_it false e is g =
-        let rest : find (is_numbered j) ys ≡ Some n = subst (λ b. cond b (Some x) (find (is_numbered j) ys) ≡ Some n) (apart x.number same e) g in
-        inr (e, rw (apart y.number is e) rest)
+-- ---- what a node sends
 
-    before_it : (find (is_numbered j) (replaced (is_numbered k) x ys) ≡ Some n → ((j ≡ k) × (n ≡ x)) ⊎ (((j == k) ≡ false) × (find (is_numbered j) ys ≡ Some n))) → (b : Bool) → (y.number == j) ≡ b → (y.number == k) ≡ false → cond b (Some y) (find (is_numbered j) (replaced (is_numbered k) x ys)) ≡ Some n →
-        ((j ≡ k) × (n ≡ x)) ⊎ (((j == k) ≡ false) × (find (is_numbered j) (y ∷ ys) ≡ Some n))
-    before_it ih true e away g = inr (subst (λ i. (i == k) ≡ false) (eqb-true y.number j e) away, rw e g)
-    before_it ih false e away g = ⊎_elim
-        (λ (l : (j ≡ k) × (n ≡ x)). inl l)
-        (λ (l : ((j == k) ≡ false) × (find (is_numbered j) ys ≡ Some n)). inr (l.0, rw e l.1))
-        (ih g)
+pub posted_as_sent : (event : ℕ) (own : Address) (xs : List (Address × Content)) → map (stamp event) (map posted (sent_by own atp_kind (spelled_all xs))) ≡ map spelled_sent (stamped event own xs)
+posted_as_sent event own [] = refl
+posted_as_sent event own (x ∷ xs) = ap (λ l. record { event = event; to = (x.0).node; bytes = canonical x.0 own atp_kind (spelled x.1) } ∷ l) (posted_as_sent event own xs)
 
-    go : (find (is_numbered j) (replaced (is_numbered k) x ys) ≡ Some n → ((j ≡ k) × (n ≡ x)) ⊎ (((j == k) ≡ false) × (find (is_numbered j) ys ≡ Some n))) → (b : Bool) → (y.number == k) ≡ b → find (is_numbered j) (cond b (x ∷ ys) (y ∷ replaced (is_numbered k) x ys)) ≡ Some n →
-        ((j ≡ k) × (n ≡ x)) ⊎ (((j == k) ≡ false) × (find (is_numbered j) (y ∷ ys) ≡ Some n))
-    go ih true e g = at_it (j == k) refl (eqb-true y.number k e) g
-    go ih false e g = before_it ih (y.number == j) refl e g
+map_both : {X Y : Type 0} (f : X → Y) (xs ys : List X) → map f (xs ++ ys) ≡ map f xs ++ map f ys
+map_both f [] ys = refl
+map_both f (x ∷ xs) ys = ap (λ l. f x ∷ l) (map_both f xs ys)
 
--- one step: the node after it, what it sent, and the machine's new transactions and readings
-tied_next : (w : WorldState) (m : Machine) (k : ℕ) (x : NodeState) (out : List Posted) (asked : List Transaction) (readings : List Reading) → Tied w m →
-    TiedNode (moved m asked readings) k x → ((j : ℕ) → (j == k) ≡ false → since_of readings j ≡ since_of m.readings j) → Keeps m asked → AllByRecursion (TiedSent (moved m asked readings)) (map (stamp w.events) out) →
-    Tied (recorded w k x out) (moved m asked readings)
-tied_next w m k x out asked readings t mine others keeps sent = record {
-  fixed = fixed_kept m asked readings t.fixed;
-  nodes = λ j n h. ⊎_elim
-      (λ (l : (j ≡ k) × (n ≡ x)). subst (λ i. TiedNode (moved m asked readings) i n) (sym l.0) (subst (λ y. TiedNode (moved m asked readings) k y) (sym l.1) mine))
-      (λ (l : ((j == k) ≡ false) × (find (is_numbered j) w.nodes ≡ Some n)). node_kept m asked readings j n (others j l.0) (t.nodes j n l.1))
-      (found_after k j x n w.nodes mine.number h);
-  sent = both_sent (TiedSent (moved m asked readings)) w.sent (map (stamp w.events) out) (sent_kept m asked readings w.sent keeps t.sent) sent;
-}
+-- ---- one step
 
-pub keeps_all : (m : Machine) → Keeps m m.asked
-keeps_all m requester tid router is h = h
+-- what a step of the network and of a node has to be for the world to stay tied
+pub record Next (A : Type 0) (w : WorldState) (m : Machine) (n : Network) (k : ℕ) (x : NodeState) (r : Report A) (out : List Outgoing) (asked : List Transaction) (readings : List Reading) : Type 0 where
+  pub happening : Happening
+  pub timely : IsTimely n happening
+  pub in_range : IsInRange happening
+  pub same_event : (done A n happening).event ≡ n.event
+  pub requesters : (who : Address) → (done A n happening).requesters who ≡ put n.requesters (asking m.net k) x.requester who
+  pub responders : (at : Address) → (done A n happening).responders at ≡ put (put n.responders (serving m.net k) x.service) (zones_at m.net k) x.served at
+  pub more : List Sent
+  pub sent : (done A n happening).sent ≡ n.sent ++ more
+  pub posts : map (stamp w.events) (map posted out) ≡ map spelled_sent more
+  pub drawn : AllByRecursion (IsNoted (noted w.last k w.events (drawn_by r)) (w.events + 1)) (done A n happening).drawn
+  pub is_asked : (done A n happening).asked ≡ asked
+  pub mine : TiedNode m k x
+  pub reading : IsReading (moved m asked readings) k x.requester x.reading
+  pub others : (j : ℕ) → (k == j) ≡ false → since_of readings j ≡ since_of m.readings j
+  pub still : (j tid server : ℕ) → (k == j) ≡ false → (a : Asked m.asked (asking m.net j) tid (zones_at m.net server)) → (b : Asked asked (asking m.net j) tid (zones_at m.net server)) × ((b.transaction).user ≡ (a.transaction).user)
+  pub pages : AllByRecursion (PagesOf m) asked
+  pub nets : AllByRecursion (OnNet m) asked
 
--- a step that changes nothing
-pub tied_idle : (w : WorldState) (m : Machine) (k : ℕ) (n : NodeState) → Tied w m → node_at w k ≡ Some n → Tied (recorded w k n []) (next m)
-tied_idle w m k n t stands =
-    tied_next w m k n [] m.asked m.readings t (node_kept m m.asked m.readings k n refl (t.nodes k n stands)) (λ j apart. refl) (keeps_all m) tt
+-- a node that is found after the step: that of the step, or another as it was
+found_after : (k j : ℕ) (x old n : NodeState) (nodes : List NodeState) (P : NodeState → Type 0) → x.number ≡ k → find (is_numbered k) nodes ≡ Some old → find (is_numbered j) (replaced (is_numbered k) x nodes) ≡ Some n →
+    (k ≡ j → P x) → ((k == j) ≡ false → find (is_numbered j) nodes ≡ Some n → P n) → P n
+found_after k j x old n nodes P same stands h mine other = go (k == j) refl (sym (at_after k j x old nodes same stands) ∙ h)
+  where
+    go : (b : Bool) → (k == j) ≡ b → cond b (Some x) (find (is_numbered j) nodes) ≡ Some n → P n
+    go true e g = let one : x ≡ n = cc in subst P one (mine (eqb-true k j e))
+    go false e g = other e g
 
--- the machine follows this outcome of a node's step
-abbrev pub Good : {A : Type 0} → WorldState → Machine → ℕ → Event → Outcome A → Type 0
-Good w m k e o = (m' : Machine) × Step m e o.report m' × Tied (recorded w k o.node (map posted o.out)) m'
+module _ (A : Type 0) (w : WorldState) (m : Machine) (k : ℕ) (old x : NodeState) (r : Report A) (out : List Outgoing) (asked : List Transaction) (readings : List Reading) where
+  reading_kept : (j : ℕ) (n : NodeState) (reading : Option ℕ) → (t : Tied A w m) → Next A w m (after A t.history) k x r out asked readings → (k == j) ≡ false → IsReading m j n.requester reading → IsReading (moved m asked readings) j n.requester reading
+  reading_kept j n None t s apart h = tt
+  reading_kept j n (Some tid) t s apart h =
+      let more = s.still j tid h.server apart h.first in
+      record { server = h.server; is_router = h.is_router; first = more.0; user = more.1 ∙ h.user; is_open = h.is_open; since = h.since; began = s.others j apart ∙ h.began }
 
-pub good_next : (A : Type 0) (w : WorldState) (m : Machine) (k : ℕ) (e : Event) (o : Outcome A) (asked : List Transaction) (readings : List Reading) → Tied w m → Step m e o.report (moved m asked readings) →
-    TiedNode (moved m asked readings) k o.node → ((j : ℕ) → (j == k) ≡ false → since_of readings j ≡ since_of m.readings j) → Keeps m asked → AllByRecursion (TiedSent (moved m asked readings)) (map (stamp w.events) (map posted o.out)) → Good w m k e o
-good_next A w m k e o asked readings t step mine others keeps sent = (moved m asked readings, step, tied_next w m k o.node (map posted o.out) asked readings t mine others keeps sent)
+  node_kept : (j : ℕ) (n : NodeState) → TiedNode m j n → TiedNode (moved m asked readings) j n
+  node_kept j n h = record { net = h.net; number = h.number; small = h.small; router = h.router; table = h.table }
 
-pub good_idle : (A : Type 0) (w : WorldState) (m : Machine) (k : ℕ) (n : NodeState) (e : Event) (r : Report A) (o : Outcome A) → Tied w m → node_at w k ≡ Some n → Step m e r (next m) → o ≡ idle n r → Good w m k e o
-good_idle A w m k n e r o t stands step is = subst (λ x. Good w m k e x) (sym is) (next m, step, tied_idle w m k n t stands)
+  pub tied_next : (t : Tied A w m) → node_at w k ≡ Some old → Next A w m (after A t.history) k x r out asked readings → Tied A (recorded w k r x (map posted out)) (moved m asked readings)
+  tied_next t stands s = record {
+    fixed = let f = t.fixed in record { net = f.net; router = f.router; table = f.table; small = f.small };
+    history = s.happening ∷ t.history;
+    timely = (s.timely, t.timely);
+    in_range = (s.in_range, t.in_range);
+    events = ap (λ e. e + 1) (t.events ∙ sym s.same_event);
+    requesters = λ who. s.requesters who ∙ put_same (after A t.history).requesters (requester_at m.net w.nodes) (asking m.net k) x.requester who (t.requesters who) ∙ sym (requester_after m.net w.nodes k old x (s.mine).number stands who);
+    responders = λ at. s.responders at
+        ∙ put_same (put (after A t.history).responders (serving m.net k) x.service) (put (records_at m.net w.nodes) (serving m.net k) x.service) (zones_at m.net k) x.served at (put_same (after A t.history).responders (records_at m.net w.nodes) (serving m.net k) x.service at (t.responders at))
+        ∙ sym (records_after m.net w.nodes k old x (s.mine).number stands at);
+    sent = (λ i. t.sent i ++ s.posts i) ∙ sym (map_both spelled_sent (after A t.history).sent s.more) ∙ ap (map spelled_sent) (sym s.sent);
+    drawn = s.drawn;
+    asked = s.is_asked;
+    nodes = λ j n h. found_after k j x old n w.nodes (TiedNode (moved m asked readings) j) (s.mine).number stands h (λ e. subst (λ i. TiedNode (moved m asked readings) i x) e (node_kept k x s.mine)) (λ e g. node_kept j n (t.nodes j n g));
+    readings = λ j n h. found_after k j x old n w.nodes (λ y. IsReading (moved m asked readings) j y.requester y.reading) (s.mine).number stands h (λ e. subst (λ i. IsReading (moved m asked readings) i x.requester x.reading) e s.reading) (λ e g. reading_kept j n n.reading t s e (t.readings j n g));
+    pages = s.pages;
+    nets = s.nets;
+  }

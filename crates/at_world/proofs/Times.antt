@@ -1,5 +1,5 @@
 -- What is timely in a world is timely in the network of its requesters and responders.
-use Rattle.std.proofs.Common.{◌≡◌, ℕ, ◌<◌, ◌≤◌, Bool, true, false, cond, List, [], ◌∷◌, Option, Some, None, refl, sym, ap, subst, ◌∙◌, arith}
+use Rattle.std.proofs.Common.{◌≡◌, ℕ, ◌+◌, ◌<◌, ◌≤◌, Bool, true, false, cond, List, [], ◌∷◌, Option, Some, None, refl, sym, ap, subst, ◌∙◌, arith}
 use Rattle.std.specs.Prelude.{find, nat_le, ◌==◌, ◌&&◌, ◌||◌, not}
 use Rattle.std.specs.List.{AllByRecursion, list_all, list_any}
 use Rattle.std.proofs.lemmas.Bool.{true≢false, false≢true, and_parts, eq-eqb, eqb-true, le-leb, leb-true}
@@ -61,12 +61,12 @@ last_after (e ∷ ds) node draw event j d = go (last_after ds node draw event j 
     turned a b = go (a == b) refl
       where
         other : (c : Bool) → (b == a) ≡ c → c ≡ true → (a == b) ≡ false → ⊥
-        other true g t no = true≢false (sym (eq-eqb a b (sym (eqb-true b a g))) ∙ no)
-        other false g t no = false≢true t
+        other true g t apart = true≢false (sym (eq-eqb a b (sym (eqb-true b a g))) ∙ apart)
+        other false g t apart = false≢true t
 
         back : (c : Bool) → (b == a) ≡ c → (a == b) ≡ false → false ≡ c
-        back true g no = absurd (other true g refl no)
-        back false g no = refl
+        back true g apart = absurd (other true g refl apart)
+        back false g apart = refl
 
         go : (c : Bool) → (a == b) ≡ c → c ≡ (b == a)
         go true g = sym (eq-eqb b a (sym (eqb-true a b g)))
@@ -149,12 +149,12 @@ none_of_key net k tid (r ∷ rs) h =
     go (is_key (record { from = asking net k; tid = tid }) r) refl both.0 (none_of_key net k tid rs both.1)
   where
     go : (b : Bool) → is_key (record { from = asking net k; tid = tid }) r ≡ b → is_from k tid r ≡ false → find (is_key (record { from = asking net k; tid = tid })) rs ≡ None → cond b (Some r) (find (is_key (record { from = asking net k; tid = tid })) rs) ≡ None
-    go false e no ih = ih
-    go true e no ih =
+    go false e apart ih = ih
+    go true e apart ih =
         let both = and_parts (same_address r.key.from (asking net k)) (r.key.tid == tid) e in
         let from : r.key.from ≡ asking net k = same_address-true r.key.from (asking net k) both.0 in
         let mine : is_from k tid r ≡ true = λ i. eq-eqb (r.key.from).node k (ap (λ (a : Address). a.node) from) i && both.1 i in
-        absurd (true≢false (sym mine ∙ no))
+        absurd (true≢false (sym mine ∙ apart))
 
 -- no node of the list holds a record, nor does the one that is found
 not_held : (k : ℕ) (draw : Draw) (j : ℕ) (n : NodeState) (nodes : List NodeState) → list_any (λ x. holds x k draw) nodes ≡ false → find (is_numbered j) nodes ≡ Some n → holds n k draw ≡ false
@@ -164,8 +164,8 @@ not_held k draw j n (y ∷ ys) h is =
     go (y.number == j) is both.0 (λ g. not_held k draw j n ys both.1 g)
   where
     go : (b : Bool) → cond b (Some y) (find (is_numbered j) ys) ≡ Some n → holds y k draw ≡ false → (find (is_numbered j) ys ≡ Some n → holds n k draw ≡ false) → holds n k draw ≡ false
-    go true g no ih = let same : y ≡ n = cc in subst (λ x. holds x k draw ≡ false) same no
-    go false g no ih = ih g
+    go true g apart ih = let same : y ≡ n = cc in subst (λ x. holds x k draw ≡ false) same apart
+    go false g apart ih = ih g
 
 none_held_by : (net k tid : ℕ) (o : Option NodeState) (nodes : List NodeState) (j : ℕ) → list_any (λ x. holds x k (Tid tid)) nodes ≡ false → find (is_numbered j) nodes ≡ o →
     (find (is_key (record { from = asking net k; tid = tid })) (service_of o) ≡ None) × (find (is_key (record { from = asking net k; tid = tid })) (served_of o) ≡ None)

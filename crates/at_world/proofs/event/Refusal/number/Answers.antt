@@ -1,3 +1,4 @@
 use Rattle.at_world.proofs.Places.{records_after}
+use Rattle.at_world.proofs.Moves.{begun_next}
 use Rattle.at_world.proofs.Times.{none_holds}
 use Rattle.at_world.proofs.event.Refusal.number.Goals as goal
