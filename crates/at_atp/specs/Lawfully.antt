@@ -14,6 +14,12 @@ pub record IsPacket (p : Packet) : Type 0 where
   pub bytes : AreBytes p.data_
   pub fits : length p.data_ ≤ 578
 
+-- four user bytes, and data of bytes
+pub record AreWords (p : Packet) : Type 0 where
+  pub four : length p.user ≡ 4
+  pub user : AreBytes p.user
+  pub bytes : AreBytes p.data_
+
 -- what a transaction is to ask, and whom
 pub record IsAsking (who to : Address) (user bytes : List ℕ) (wanted : ℕ) : Type 0 where
   pub who_fits : IsAddress who

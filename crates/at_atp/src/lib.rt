@@ -15,6 +15,7 @@ mod sending;
 mod step;
 mod transaction;
 mod turning;
+mod words;
 
 pub use fault::AtpFault;
 pub use frame::{Frame, HEADER_LEN, MAX_DATA, decode, encode};
@@ -23,3 +24,4 @@ pub use reception::{Key, Reception};
 pub use requester::Requester;
 pub use responder::Responder;
 pub use step::{Retry, Step};
+pub use words::{ranges_of, ranges_of_bytes};

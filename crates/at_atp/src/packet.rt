@@ -1,5 +1,7 @@
 ghost use Rattle.std.specs.Prelude.{◌≡◌};
+ghost use Rattle.at_atp.specs.Lawfully.{AreWords};
 
+use crate::words::ranges_of_bytes;
 use at_ddp::Bytes;
 use std::alloc::{Allocator, Global};
 use std::marker::Model;
@@ -36,5 +38,14 @@ impl<A: Allocator> Packet<A> {
         ensures { result.now ≡ self.now.data_ }
     {
         self.data_.as_slice()
+    }
+
+    /// What the types of its parts say of them. It does nothing.
+    pub fn ranges(&self)
+        ensures { AreWords self.now }
+    {
+        ranges_of_bytes(&self.user);
+        let bytes = &self.data_;
+        ranges_of_bytes(bytes.as_slice());
     }
 }

@@ -1,3 +1,4 @@
+pub mod Calls
 pub mod Drawing
 pub mod Hearing
 pub mod Nodes

@@ -1,5 +1,7 @@
+ghost use Rattle.at_node.specs.Calls.{IsCall};
+
 use crate::packet_count::PacketCount;
-use at_atp::{Key, Packet};
+use at_atp::{Key, Packet, ranges_of, ranges_of_bytes};
 use at_ddp::{Bytes, Listed, Pascal};
 use std::alloc::{Allocator, Global};
 
@@ -27,6 +29,39 @@ pub enum Call<A: Allocator = Global> {
         tid: u16,
         packets: Listed<Packet<A>, A>,
     },
+}
+
+impl<A: Allocator> Call<A> {
+    /// What the types of its parts say of them. It does nothing but pass them by.
+    pub fn ranges(&self)
+        ensures { IsCall self.now }
+    {
+        match self {
+            Call::Zones => {}
+            Call::Ask {
+                node,
+                socket,
+                user,
+                data_,
+                wanted,
+                ..
+            } => {
+                let _who = (*node, *socket);
+                ranges_of_bytes(user);
+                ranges_of_bytes(data_.as_slice());
+                wanted.get();
+            }
+            Call::Answer {
+                node,
+                socket,
+                tid,
+                packets,
+            } => {
+                let _key = (*node, *socket, *tid);
+                ranges_of(packets.as_slice());
+            }
+        }
+    }
 }
 
 /// A timer that fires.

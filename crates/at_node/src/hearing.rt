@@ -15,7 +15,11 @@ use std::alloc::Allocator;
 
 impl<A: Allocator + Copy> Node<A> {
     // A datagram for the socket that asks.
-    pub(crate) fn take_answer(&mut self, datagram: &Datagram<'_>, out: &mut Datagrams<A>) -> Report<A>
+    pub(crate) fn take_answer(
+        &mut self,
+        datagram: &Datagram<'_>,
+        out: &mut Datagrams<A>,
+    ) -> Report<A>
         ensures comes { (said : Said A) → Comes (HearsAt said self.old (content datagram.now) Asker) self.old out.old.items result self.new out.new.items }
         ensures not_asked { is_asked result ≡ false }
     {

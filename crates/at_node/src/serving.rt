@@ -18,7 +18,11 @@ use std::alloc::{AllocError, Allocator};
 
 impl<A: Allocator + Copy> Node<A> {
     // A datagram for the socket that serves zones, where this node is the router.
-    pub(crate) fn take_request(&mut self, datagram: &Datagram<'_>, out: &mut Datagrams<A>) -> Report<A>
+    pub(crate) fn take_request(
+        &mut self,
+        datagram: &Datagram<'_>,
+        out: &mut Datagrams<A>,
+    ) -> Report<A>
         ensures comes { (said : Said A) → Comes (HearsAt said self.old (written datagram.now) (router_socket self.old.table)) self.old out.old.items result self.new out.new.items }
         ensures not_asked { is_asked result ≡ false }
     {

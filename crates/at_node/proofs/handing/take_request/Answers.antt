@@ -22,8 +22,11 @@ returns-in-Err-hand_up g c =
     let still : record_fault (find (is_key c.in-Ok-New.key) c.hand_up.new.records) ≡ None = ap (λ (rs : List Record). record_fault (find (is_key c.in-Ok-New.key) rs)) (c.in-Err-hand_up.ensures.unchanged ∙ c.in-Ok-New.ensures.state) ∙ waits c.args.records.now (taken c.args.records.now c.args.from (content c.args.frame.now)) c.in-Ok-New.key new in
     let gone = when_ok c.undo.result _ c.undo.ensures.ok (c.undo.ensures.succeeds still) in
     let quiet : c.take.new.out.items ≡ c.args.out.now.items =
-    c.in-Ok-New.ensures.sent ∙ ap (λ pushes. c.args.out.now.items ++ map posted (sent_by c.args.own atp_kind (spelled_all pushes))) new.nothing ∙ append-nil c.args.out.now.items in
-    (Later, (λ n same at.
-      let back : c.undo.new.self ≡ n.service =
-      gone ∙ ap (without_first (is_key c.in-Ok-New.key)) (c.in-Err-hand_up.ensures.unchanged ∙ c.in-Ok-New.ensures.state) ∙ undone c.args.records.now (taken c.args.records.now c.args.from (content c.args.frame.now)) c.in-Ok-New.key new ∙ sym same in
-      ((λ i. record n { service = back i }), c.in-Err-hand_up.ensures.nothing_sent ∙ quiet)), c.in-Err-hand_up.ensures.not_asked)
+    c.in-Ok-New.ensures.sent ∙ ap (λ pushes. c.args.out.now.items ++ map posted (sent_by c.args.own atp_kind (spelled_all pushes))) new.nothing ∙ append-nil c.args.out.now.items in (
+      Later,
+      (λ n same at.
+          let back : c.undo.new.self ≡ n.service =
+          gone ∙ ap (without_first (is_key c.in-Ok-New.key)) (c.in-Err-hand_up.ensures.unchanged ∙ c.in-Ok-New.ensures.state) ∙ undone c.args.records.now (taken c.args.records.now c.args.from (content c.args.frame.now)) c.in-Ok-New.key new ∙ sym same in
+          ((λ i. record n { service = back i }), c.in-Err-hand_up.ensures.nothing_sent ∙ quiet)),
+      c.in-Err-hand_up.ensures.not_asked,
+    )

@@ -8,9 +8,12 @@ use Rattle.at_node.proofs.HearingLemmas.{comes_ignored, step_comes, no_question,
 use Rattle.at_node.proofs.node.Node.take_packet.Goals as goal
 
 pub returns-in_default : goal.returns-in_default
-returns-in_default g c =
-    (Later, comes_ignored (AtSocket Later c.args.self.now c.args.from Service (content c.args.frame.now)) c.args.self.now c.args.out.now.items
-    (no_question g.row.A.Denot Later c.args.self.now c.args.from (content c.args.frame.now) (not_frame c.args.frame.now c.in_default.not-Request)), refl)
+returns-in_default g c = (
+  Later,
+  comes_ignored (AtSocket Later c.args.self.now c.args.from Service (content c.args.frame.now)) c.args.self.now c.args.out.now.items
+      (no_question g.row.A.Denot Later c.args.self.now c.args.from (content c.args.frame.now) (not_frame c.args.frame.now c.in_default.not-Request)),
+  refl,
+)
 
 pub returns : goal.returns
 returns g c =
@@ -18,7 +21,10 @@ returns g c =
     let step = r.1 c.args.self.now (ap (λ (n : NodeState). n.service) (sym c.self.view_is)) (sym c.at-own.ensures) in
     let same = ap (λ (n : NodeState). record n { service = c.take_request.new.records }) c.self.view_is in
     let asks : AtSocket {A = g.row.A.Denot} r.0 c.args.self.now c.args.from Service (content c.args.frame.now) (service_asked c.args.self.now c.args.from (content c.args.frame.now) c.in-Request.user c.in-Request.data_.now r.0) =
-    rw c.in-Request.is refl in
-    (r.0, subst (λ (x : NodeState). Comes (AtSocket r.0 c.args.self.now c.args.from Service (content c.args.frame.now)) c.args.self.now c.args.out.now.items c.take_request.result x c.take_request.new.out.items) (sym same)
-    (step_comes (AtSocket r.0 c.args.self.now c.args.from Service (content c.args.frame.now)) (service_asked c.args.self.now c.args.from (content c.args.frame.now) c.in-Request.user c.in-Request.data_.now r.0)
-    c.args.self.now c.args.out.now.items c.take_request.result (record c.args.self.now { service = c.take_request.new.records }) c.take_request.new.out.items asks step), r.2)
+    rw c.in-Request.is refl in (
+      r.0,
+      subst (λ (x : NodeState). Comes (AtSocket r.0 c.args.self.now c.args.from Service (content c.args.frame.now)) c.args.self.now c.args.out.now.items c.take_request.result x c.take_request.new.out.items) (sym same)
+          (step_comes (AtSocket r.0 c.args.self.now c.args.from Service (content c.args.frame.now)) (service_asked c.args.self.now c.args.from (content c.args.frame.now) c.in-Request.user c.in-Request.data_.now r.0)
+          c.args.self.now c.args.out.now.items c.take_request.result (record c.args.self.now { service = c.take_request.new.records }) c.take_request.new.out.items asks step),
+      r.2,
+    )

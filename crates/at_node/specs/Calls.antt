@@ -1,0 +1,13 @@
+-- Calls whose parts are in the range of their types.
+use Rattle.std.specs.Prelude.{◌≡◌, ◌<◌, ◌≤◌, length}
+use Rattle.std.specs.List.{AllByRecursion}
+use Rattle.at_ddp.specs.Datagram.{AreBytes}
+use Rattle.at_atp.specs.Lawfully.{AreWords}
+use Rattle.at_node.specs.declared.event.Call.{Call}
+use Rattle.at_node.specs.declared.event.Call.TheVariants.{Zones, Ask, Answer}
+
+-- the parts of a call are in the range of their types
+abbrev pub IsCall : {A : Type 0} → Call A → Type 0
+IsCall Zones = Unit {0}
+IsCall (Ask node socket user bytes wanted retries) = (node < 256) × (socket < 256) × (length user ≡ 4) × AreBytes user × AreBytes bytes × (1 ≤ wanted) × (wanted ≤ 8)
+IsCall (Answer node socket tid packets) = (node < 256) × (socket < 256) × (tid < 65536) × AllByRecursion AreWords packets
