@@ -1,92 +1,236 @@
 -- What a node's calls are in the machine.
-use Rattle.std.proofs.Common.{◌≡◌, inl, ℕ, ◌+◌, ◌^◌, ◌<◌, Bool, true, false, cond, List, [], ◌∷◌, ◌++◌, length, Option, Some, None, refl, sym, ap, subst, ◌∙◌, arith}
-use Rattle.std.specs.Prelude.{◌==◌, nat_lt}
-use Rattle.std.proofs.lemmas.Bool.{true≢false, eq-eqb, ne_eqb}
+use Rattle.std.proofs.Common.{◌≡◌, ℕ, ◌+◌, ◌^◌, ◌<◌, ◌≤◌, Bool, true, false, cond, List, [], ◌∷◌, ◌++◌, length, map, replicate, Option, Some, None, refl, sym, ap, subst, ◌∙◌, arith, lit<, lit≤}
+use Rattle.std.specs.Prelude.{find, ◌==◌, ◌&&◌, ◌||◌, nat_lt, nat_le}
+use Rattle.std.specs.List.{AllByRecursion, All, list_all}
+use Rattle.std.proofs.lemmas.Bool.{true≢false, false≢true, eq-eqb, eqb-true, and_parts, leb-true}
+use Rattle.std.proofs.lemmas.Bool.Decides.{nat_tests}
+use Rattle.std.proofs.lemmas.List.{length-replicate}
+use Rattle.at_ddp.specs.Datagram.{IsAddress, AreBytes}
+use Rattle.at_ddp.specs.declared.address.Address.{Address}
 use Rattle.at_ddp.proofs.Octets.{same_address_itself}
-use Rattle.at_ddp.specs.Datagram.{canonical}
-use Rattle.at_atp.specs.Frames.{spelled}
-use Rattle.at_atp.specs.Requests.{Requests, Transaction as Pending, draw_from, next_number}
+use Rattle.at_atp.specs.Fault.{number_of}
+use Rattle.at_atp.specs.Frames.{spelled_all}
+use Rattle.at_atp.specs.Lawfully.{IsPacket, AreWords, IsAsking}
+use Rattle.at_atp.specs.Network as network
+use Rattle.at_atp.specs.Network.{Network, Answers, after, done, put, stamped, new_transaction}
+use Rattle.at_atp.specs.Packets.{Packet}
+use Rattle.at_atp.specs.Answers as arrivals
+use Rattle.at_atp.specs.Records.{Record, State, Waiting, Answered, Released, is_key, answer_fault, record_fault, asked_for, fit}
+use Rattle.at_atp.specs.Requests as requests
+use Rattle.at_atp.specs.Requests.{Requests, has_number, next_number, beginning, request_by}
+use Rattle.at_atp.specs.Tables.{without_first}
+use Rattle.at_atp.specs.Transactions.{Transaction, is_transaction, transaction_of, Asked, answered}
+use Rattle.at_atp.specs.declared.fault.AtpFault.{AtpFault}
+use Rattle.at_atp.specs.declared.fault.AtpFault.TheVariants.{AtpTooLong}
+use Rattle.at_atp.specs.declared.reception.Key.{Key}
+use Rattle.at_zip.specs.Request.{request_user}
+use Rattle.at_node.specs.Calls.{IsCall}
+use Rattle.at_node.specs.Drawing.{drawn_by, draw_of}
+use Rattle.at_node.specs.Nodes.{NodeState, Outcome, posted, idle}
+use Rattle.at_node.specs.Steps.{asking, serving, zones_at, at_socket, zone_transaction, reading_begins, zones_called, asked_as, ask_called, refused_as, answered_with, answer_called, called}
+use Rattle.at_node.specs.declared.drawing.Draw.TheVariants.{Tid}
 use Rattle.at_node.specs.declared.event.Call.{Call}
-use Rattle.at_node.specs.declared.event.Call.TheVariants.{Zones}
-use Rattle.at_node.specs.Nodes.{NodeState}
-use Rattle.at_node.specs.Steps.{asking, zones_at, atp_kind, zone_transaction, reading_begins, zones_called, called}
+use Rattle.at_node.specs.declared.event.Call.TheVariants.{Zones, Ask, Answer}
+use Rattle.at_node.specs.declared.event.Report.{Report}
+use Rattle.at_node.specs.declared.event.Report.TheVariants as report
+use Rattle.at_world.specs.Machine.{Machine, Reading, first_page, since_of, next, at_net, Step}
+use Rattle.at_world.specs.Worlds.{WorldState, node_at, recorded, holds_some}
+use Rattle.at_world.specs.declared.event.Event.{Event}
 use Rattle.at_world.specs.declared.event.Event.TheVariants as event
-use Rattle.at_world.specs.Machine.{Machine, Transaction, Reading, is_transaction, first_page, since_of, next}
-use Rattle.at_world.specs.Worlds.{WorldState, node_at}
-use Rattle.at_world.proofs.Tied.{IsReading, Asked, first_request, Tied, Keeps, tied_idle, Good, good_next}
+use Rattle.at_world.proofs.Moves.{asker_is, service_is, served_is, idle_next, begun_next, gave_next, with_service, pages_elsewhere}
+use Rattle.at_world.proofs.Tied.{Laws, TiedNode, IsReading, Reads, Tied, Next, moved, tied_next}
+use Rattle.at_world.proofs.Times.{none_holds}
 
--- a transaction that asks the router for the first page leaves those that did so
-keeps_begun : (m : Machine) (k router tid : ℕ) → m.router ≡ Some router → Keeps m (first_page m.net k router tid ∷ m.asked)
-keeps_begun m k router tid is requester other server is_server a = go (is_transaction requester other t) refl
+-- the machine follows this outcome of a node's step
+abbrev pub Good : (A : Type 0) → WorldState → Machine → ℕ → Event A → Outcome A → Type 0
+Good A w m k e o = (m' : Machine) × Step m e o.report m' × Tied A (recorded w k o.report o.node (map posted o.out)) m'
+
+pub good_next : (A : Type 0) (w : WorldState) (m : Machine) (k : ℕ) (n : NodeState) (e : Event A) (o : Outcome A) (asked : List Transaction) (readings : List Reading) (t : Tied A w m) → node_at w k ≡ Some n → Next A w m (after A t.history) k o.node o.report o.out asked readings →
+    Step m e o.report (moved m asked readings) → Good A w m k e o
+good_next A w m k n e o asked readings t stands s step = (moved m asked readings, step, tied_next A w m k n o.node o.report o.out asked readings t stands s)
+
+pub good_idle : (A : Type 0) (w : WorldState) (m : Machine) (k : ℕ) (n : NodeState) (e : Event A) (r : Report A) (t : Tied A w m) → node_at w k ≡ Some n → Step m e r (next m) → Good A w m k e (idle n r)
+good_idle A w m k n e r t stands step = good_next A w m k n e (idle n r) m.asked m.readings t stands (idle_next A w m k n t stands r) step
+
+-- ---- numbers that are open
+
+pub open_more : (ts us : List requests.Transaction) (tid : ℕ) → has_number ts tid ≡ true → has_number (ts ++ us) tid ≡ true
+open_more [] us tid h = absurd (false≢true h)
+open_more (t ∷ ts) us tid h = go (t.tid == tid) h (open_more ts us tid)
   where
-    t : Transaction
-    t = first_page m.net k router tid
+    go : (b : Bool) → (b || has_number ts tid) ≡ true → (has_number ts tid ≡ true → has_number (ts ++ us) tid ≡ true) → (b || has_number (ts ++ us) tid) ≡ true
+    go true g ih = refl
+    go false g ih = ih g
 
-    same : router ≡ server
-    same = let e : Some router ≡ Some server = sym is ∙ is_server in cc
+pub open_last : (ts : List requests.Transaction) (t : requests.Transaction) → has_number (ts ++ t ∷ []) t.tid ≡ true
+open_last [] t = rw (eq-eqb t.tid t.tid refl) refl
+open_last (u ∷ ts) t = go (u.tid == t.tid) (open_last ts t)
+  where
+    go : (b : Bool) → has_number (ts ++ t ∷ []) t.tid ≡ true → (b || has_number (ts ++ t ∷ []) t.tid) ≡ true
+    go true h = refl
+    go false h = h
 
-    go : (b : Bool) → is_transaction requester other t ≡ b → Asked m.net (t ∷ m.asked) requester other server
-    go true e = record { transaction = t; newest = rw e refl; responder = ap (zones_at m.net) same; user = refl }
-    go false e = record { transaction = a.transaction; newest = rw e a.newest; responder = a.responder; user = a.user }
+module _ (A : Type 0) (laws : Laws A) (w : WorldState) (m : Machine) (k : ℕ) (n : NodeState) (t : Tied A w m) (stands : node_at w k ≡ Some n) where
+  pub asking_fits : IsAddress (asking m.net k)
+  asking_fits = let f = t.fixed in let its = t.nodes k n stands in record { net = f.net; node = its.small; socket = lit< tt }
 
-asked_now : (m : Machine) (k router tid : ℕ) → Asked m.net (first_page m.net k router tid ∷ m.asked) (asking m.net k) tid router
-asked_now m k router tid = record { transaction = first_page m.net k router tid; newest = rw (same_address_itself (asking m.net k), eq-eqb tid tid refl) refl; responder = refl; user = refl }
+  pub serving_fits : IsAddress (serving m.net k)
+  serving_fits = let f = t.fixed in let its = t.nodes k n stands in record { net = f.net; node = its.small; socket = lit< tt }
 
--- a new reading is not one of another node
-others_read : (rs : List Reading) (k since j : ℕ) → (j == k) ≡ false → since_of (record { node = k; since = since } ∷ rs) j ≡ since_of rs j
-others_read rs k since j apart =
-    let away : (k == j) ≡ false = ne_eqb k j (λ p. true≢false (sym (eq-eqb j k (sym p)) ∙ apart)) in
-    rw away refl
+  there_fits : (node socket : ℕ) → node < 256 → socket < 256 → IsAddress (at_socket n node socket)
+  there_fits node socket a b =
+      let f = t.fixed in
+      let its = t.nodes k n stands in
+      record { net = subst (λ i. i < 2 ^ 16) (sym its.net) f.net; node = a; socket = b }
 
--- with nothing open the number to try next is drawn
-drawn_next : (r : Requests) (tid : ℕ) → r.standing ≡ [] → next_number r ≡ Some tid → r.next ≡ tid
-drawn_next r tid none is =
-    let e : Some r.next ≡ Some tid = sym (ap (λ (l : List Pending). cond (nat_lt (length l) 32) (draw_from (length l + 1) r.next l) None) none) ∙ is in
-    cc
+  -- a transaction that begins is not the one that reads the list
+  reading_begun : (to : Address) (user bytes : List ℕ) (wanted retries tid : ℕ) (reading : Option ℕ) → next_number n.requester ≡ Some tid → IsReading m k n.requester reading →
+      IsReading (moved m (new_transaction (asking m.net k) (beginning tid to user bytes wanted false retries) ∷ m.asked) m.readings) k (requests.begun n.requester (beginning tid to user bytes wanted false retries)) reading
+  reading_begun to user bytes wanted retries tid None drawn h = tt
+  reading_begun to user bytes wanted retries tid (Some number) drawn h =
+      let free = laws.drawn n.requester tid drawn in
+      let a = h.first in
+      record {
+        server = h.server;
+        is_router = h.is_router;
+        first = record { transaction = a.transaction; newest = ap (λ b. cond b (Some (new_transaction (asking m.net k) (beginning tid to user bytes wanted false retries))) (transaction_of m.asked (asking m.net k) number)) (apart free h.is_open (tid == number) refl) ∙ a.newest; asked_it = a.asked_it };
+        user = h.user;
+        is_open = open_more n.requester.standing (beginning tid to user bytes wanted false retries ∷ []) number h.is_open;
+        since = h.since;
+        began = h.began;
+      }
+    where
+      apart : has_number n.requester.standing tid ≡ false → has_number n.requester.standing number ≡ true → (b : Bool) → (tid == number) ≡ b → is_transaction (asking m.net k) number (new_transaction (asking m.net k) (beginning tid to user bytes wanted false retries)) ≡ false
+      apart free opened false e = λ i. same_address_itself (asking m.net k) i && e i
+      apart free opened true e = absurd (true≢false (sym opened ∙ ap (has_number n.requester.standing) (sym (eqb-true tid number e)) ∙ free))
 
-good_begun : (A : Type 0) (w : WorldState) (m : Machine) (k : ℕ) (n : NodeState) → Tied w m → node_at w k ≡ Some n → (router : ℕ) → n.router ≡ Some router → n.reading ≡ None →
-    (drawn : Option ℕ) → next_number n.requester ≡ drawn → Good {A = A} w m k (event.Call k Zones) (reading_begins n router drawn)
-good_begun A w m k n t stands router is none None is_drawn = (next m, refl, tied_idle w m k n t stands)
-good_begun A w m k n t stands router is none (Some tid) is_drawn =
-    let its = t.nodes k n stands in
-    let is_router : m.router ≡ Some router = sym its.router ∙ is in
-    let nothing : n.requester.standing ≡ [] = subst (IsReading m n) none its.reading in
-    let tid_fits : tid < 2 ^ 16 = subst (λ i. i < 2 ^ 16) (drawn_next n.requester tid nothing is_drawn) its.next_fits in
-    let asked = first_page m.net k router tid ∷ m.asked in
-    let reading : Reading = record { node = k; since = length m.past } in
-    good_next A w m k (event.Call k Zones) (reading_begins n router (Some tid)) asked (reading ∷ m.readings) t
-    (record { router = router; is_router = is_router; becomes = refl })
-    (record {
-      net = its.net;
-      number = its.number;
-      small = its.small;
-      router = its.router;
-      table = its.table;
-      served = its.served;
-      next_fits = omega arith;
-      reading = record {
-        router = router;
-        is_router = is_router;
-        stands = ap (λ l. l ++ zone_transaction n router tid ∷ []) nothing;
-        since = length m.past;
-        began = rw (eq-eqb k n.number (sym its.number)) refl;
-      };
-    })
-    (λ j apart. others_read m.readings k (length m.past) j apart)
-    (keeps_begun m k router tid is_router) (
-      inl (record {
-        parties = record { node = k; node_fits = its.small; server = router; is_router = is_router; tid = tid; tid_fits = tid_fits };
-        asked = asked_now m k router tid;
-        bytes = λ i. canonical (zones_at (its.net i) router) (asking (its.net i) (its.number i)) atp_kind (spelled (first_request tid));
-      }),
-      tt,
-    )
+  -- ---- the zone list
 
-good_zones : (A : Type 0) (w : WorldState) (m : Machine) (k : ℕ) (n : NodeState) → Tied w m → node_at w k ≡ Some n → (router reading : Option ℕ) → n.router ≡ router → n.reading ≡ reading →
-    Good {A = A} w m k (event.Call k Zones) (zones_called n router reading)
-good_zones A w m k n t stands None reading is none = (next m, refl, tied_idle w m k n t stands)
-good_zones A w m k n t stands (Some router) (Some tid) is none = (next m, refl, tied_idle w m k n t stands)
-good_zones A w m k n t stands (Some router) None is none = good_begun A w m k n t stands router is none (next_number n.requester) refl
+  good_begun : (router : ℕ) → n.router ≡ Some router → (drawn : Option ℕ) → next_number n.requester ≡ drawn → holds_some w.nodes k (drawn_by {A = A} (reading_begins n router drawn).report) ≡ false → Good A w m k (event.Call k Zones) (reading_begins n router drawn)
+  good_begun router is None is_drawn free = good_idle A w m k n (event.Call k Zones) (report.Refused 14) t stands refl
+  good_begun router is (Some tid) is_drawn free =
+      let its = t.nodes k n stands in
+      let fixed = t.fixed in
+      let is_router : m.router ≡ Some router = sym its.router ∙ is in
+      let rs : List Reading = record { node = k; since = length m.past } ∷ m.readings in
+      good_next A w m k n (event.Call k Zones) (reading_begins n router (Some tid)) (new_transaction (asking m.net k) (zone_transaction n router tid) ∷ m.asked) (record { node = k; since = length m.past } ∷ m.readings) t stands
+      (begun_next A w m k n t stands (zones_at n.net router) (request_user 1) [] 1 3 tid (Some tid) (record { node = k; since = length m.past } ∷ m.readings) is_drawn
+        (none_holds m.net k tid w.nodes (after A t.history).responders t.responders free)
+        (record { who_fits = asking_fits; to_fits = there_fits router 6 (fixed.router router is_router) (lit< tt); asks = first_asks; few = lit≤ tt })
+        its.net
+        (record {
+          server = router;
+          is_router = is_router;
+          first = record { transaction = new_transaction (asking m.net k) (zone_transaction n router tid); newest = λ i. cond (same_address_itself (asking m.net k) i && eq-eqb tid tid refl i) (Some (new_transaction (asking m.net k) (zone_transaction n router tid))) (transaction_of m.asked (asking m.net k) tid); asked_it = ap (λ net. zones_at net router) its.net };
+          user = refl;
+          is_open = open_last n.requester.standing (zone_transaction n router tid);
+          since = length m.past;
+          began = ap (λ b. option_map (λ (r : Reading). r.since) (cond b (Some (record { node = k; since = length m.past })) (find (λ (r : Reading). r.node == k) m.readings))) (eq-eqb k k refl);
+        })
+        (λ j apart. ap (λ b. option_map (λ (r : Reading). r.since) (cond b (Some (record { node = k; since = length m.past })) (find (λ (r : Reading). r.node == j) m.readings))) apart))
+      (record { router = router; is_router = is_router; becomes = λ i. next (record m { asked = new_transaction (asking m.net k) (beginning tid (zones_at (its.net i) router) (request_user 1) [] 1 false 3) ∷ m.asked; readings = record { node = k; since = length m.past } ∷ m.readings }) })
+    where
+      first_asks : IsPacket (record { user = request_user 1; data_ = [] })
+      first_asks = ?
 
-pub good_called : (A : Type 0) (w : WorldState) (m : Machine) (k : ℕ) (n : NodeState) (call : Call) → Tied w m → node_at w k ≡ Some n → Good {A = A} w m k (event.Call k call) (called n call)
-good_called A w m k n Zones t stands = good_zones A w m k n t stands n.router n.reading refl refl
+  good_zones : (router reading : Option ℕ) → n.router ≡ router → holds_some w.nodes k (drawn_by {A = A} (zones_called n router reading).report) ≡ false → Good A w m k (event.Call k Zones) (zones_called n router reading)
+  good_zones None reading is free = good_idle A w m k n (event.Call k Zones) (report.Refused 60) t stands refl
+  good_zones (Some router) (Some tid) is free = good_idle A w m k n (event.Call k Zones) (report.Refused 63) t stands refl
+  good_zones (Some router) None is free = good_begun router is (next_number n.requester) refl free
+
+  -- ---- asking
+
+  module _ (node socket : ℕ) (user bytes : List ℕ) (wanted retries : ℕ) (range : IsCall {A = A} (Ask node socket user bytes wanted retries)) where
+    good_asked : length bytes ≤ 578 → (drawn : Option ℕ) → next_number n.requester ≡ drawn → holds_some w.nodes k (drawn_by {A = A} (asked_as n (at_socket n node socket) user bytes wanted retries drawn).report) ≡ false →
+        Good A w m k (event.Call k (Ask node socket user bytes wanted retries)) (asked_as n (at_socket n node socket) user bytes wanted retries drawn)
+    good_asked few None is_drawn free = good_idle A w m k n (event.Call k (Ask node socket user bytes wanted retries)) (report.Refused 14) t stands refl
+    good_asked few (Some tid) is_drawn free =
+        let its = t.nodes k n stands in
+        good_next A w m k n (event.Call k (Ask node socket user bytes wanted retries)) (asked_as n (at_socket n node socket) user bytes wanted retries (Some tid)) (new_transaction (asking m.net k) (beginning tid (at_socket n node socket) user bytes wanted false retries) ∷ m.asked) m.readings t stands
+        (begun_next A w m k n t stands (at_socket n node socket) user bytes wanted retries tid n.reading m.readings is_drawn
+          (none_holds m.net k tid w.nodes (after A t.history).responders t.responders free)
+          (record { who_fits = asking_fits; to_fits = there_fits node socket range.0 range.1; asks = record { four = range.2; user = range.3; bytes = range.4; fits = few }; few = range.6 })
+          its.net
+          (reading_begun (at_socket n node socket) user bytes wanted retries tid n.reading is_drawn (t.readings k n stands))
+          (λ j apart. refl))
+        (record { becomes = λ i. next (record m { asked = record { requester = asking m.net k; tid = tid; responder = record { net = its.net i; node = node; socket = socket }; user = user; data_ = bytes; wanted = length-replicate {A = Option arrivals.Arrival} wanted None i; xo = false; answers = [] } ∷ m.asked }) })
+
+    good_ask : (b : Bool) → nat_lt 578 (length bytes) ≡ b → holds_some w.nodes k (drawn_by {A = A} (cond b (idle n (report.Refused 13)) (asked_as n (at_socket n node socket) user bytes wanted retries (next_number n.requester))).report) ≡ false →
+        Good A w m k (event.Call k (Ask node socket user bytes wanted retries)) (cond b (idle n (report.Refused 13)) (asked_as n (at_socket n node socket) user bytes wanted retries (next_number n.requester)))
+    good_ask true e free = good_idle A w m k n (event.Call k (Ask node socket user bytes wanted retries)) (report.Refused 13) t stands refl
+    good_ask false e free = good_asked (few_bytes (length bytes) e) (next_number n.requester) refl free
+      where
+        few_bytes : (len : ℕ) → nat_lt 578 len ≡ false → len ≤ 578
+        few_bytes len h = grind (arith, nat_tests)
+
+  -- ---- answers
+
+  -- an answer that is not refused has a record, and packets that fit
+  found_record : (rs : List Record) (key : Key) (packets : List Packet) → answer_fault rs key packets ≡ None → ((r : Record) × (find (is_key key) rs ≡ Some r)) × (fit packets ≡ true)
+  found_record rs key [] h = absurd (cc)
+  found_record rs key (p ∷ ps) h = go (nat_le (length (p ∷ ps)) 8) (fit (p ∷ ps)) refl h
+    where
+      stands_there : (o : Option Record) → find (is_key key) rs ≡ o → record_fault o ≡ None → (r : Record) × (find (is_key key) rs ≡ Some r)
+      stands_there None e g = absurd (cc)
+      stands_there (Some r) e g = (r, e)
+
+      go : (b c : Bool) → fit (p ∷ ps) ≡ c → cond (b && c) (record_fault (find (is_key key) rs)) (Some AtpTooLong) ≡ None → ((r : Record) × (find (is_key key) rs ≡ Some r)) × (fit (p ∷ ps) ≡ true)
+      go true true e g = (stands_there (find (is_key key) rs) refl g, e)
+      go true false e g = absurd (cc)
+      go false c e g = absurd (cc)
+
+  packets_fit : (packets : List Packet) → fit packets ≡ true → AllByRecursion AreWords packets → AllByRecursion IsPacket packets
+  packets_fit [] h all = tt
+  packets_fit (p ∷ ps) h all =
+      let both = and_parts (nat_le (length p.data_) 578) (fit ps) h in
+      let a = all.0 in
+      (record { four = a.four; user = a.user; bytes = a.bytes; fits = leb-true (length p.data_) 578 both.0 }, packets_fit ps both.1 all.1)
+
+  -- a refusal of an answer
+  good_refused : (e : Event A) (number : Option ℕ) → ((i : ℕ) → Step m e (report.Refused i) (next m)) → Step m e report.NoMemory (next m) → Good A w m k e (idle n (refused_as number))
+  good_refused e None refused none = good_idle A w m k n e report.NoMemory t stands none
+  good_refused e (Some i) refused none = good_idle A w m k n e (report.Refused i) t stands (refused i)
+
+  module _ (node socket tid : ℕ) (packets : List Packet) (range : IsCall {A = A} (Answer node socket tid packets)) where
+    key : Key
+    key = record { from = at_socket n node socket; tid = tid }
+
+    is_done : answer_fault n.service (record { from = at_socket n node socket; tid = tid }) packets ≡ None → done A (after A t.history) (Answers (serving m.net k) (record { from = at_socket n node socket; tid = tid }) packets) ≡ network.answers (after A t.history) (serving m.net k) (record { from = at_socket n node socket; tid = tid }) packets None
+    is_done free = ap (λ f. network.answers (after A t.history) (serving m.net k) (record { from = at_socket n node socket; tid = tid }) packets f) (ap (λ rs. answer_fault rs (record { from = at_socket n node socket; tid = tid }) packets) (service_is A w m k n t stands) ∙ free)
+
+    good_answer : (fault : Option AtpFault) → answer_fault n.service (record { from = at_socket n node socket; tid = tid }) packets ≡ fault →
+        Good A w m k (event.Call k (Answer node socket tid packets)) (answered_with n (record { from = at_socket n node socket; tid = tid }) packets fault)
+    good_answer (Some fault) is = good_refused (event.Call k (Answer node socket tid packets)) (number_of fault) (λ i. refl) refl
+    good_answer None is =
+        let its = t.nodes k n stands in
+        let found = found_record n.service (record { from = at_socket n node socket; tid = tid }) packets is in
+        let gives = laws.answers t.history t.timely in
+        let held = ap (find (is_key (record { from = at_socket n node socket; tid = tid }))) (service_is A w m k n t stands) ∙ found.0.1 in
+        let asked = subst (λ ts. Asked ts (at_socket n node socket) tid (serving m.net k)) t.asked (gives.recorded (serving m.net k) (record { from = at_socket n node socket; tid = tid }) found.0.0 held) in
+        let done_is = is_done is in
+        good_next A w m k n (event.Call k (Answer node socket tid packets)) (answered_with n (record { from = at_socket n node socket; tid = tid }) packets None) (answered m.asked (at_socket n node socket) tid packets) m.readings t stands
+        (gave_next A w m k n t stands laws (Answers (serving m.net k) (record { from = at_socket n node socket; tid = tid }) packets) (report.Answered (length (asked_for (find (is_key (record { from = at_socket n node socket; tid = tid })) n.service) (record { from = at_socket n node socket; tid = tid }) packets)))
+          serving (at_socket n node socket) tid packets (serving m.net k) asked n.served (without_first (is_key (record { from = at_socket n node socket; tid = tid })) n.service) (asked_for (find (is_key (record { from = at_socket n node socket; tid = tid })) n.service) (record { from = at_socket n node socket; tid = tid }) packets)
+          tt (serving_fits, packets_fit packets found.1 range.3)
+          (ap (λ (x : Network). x.event) done_is)
+          (λ who. ap (λ (x : Network). x.requesters who) done_is)
+          (λ at. ap (λ (x : Network). x.responders at) done_is ∙ ap (λ rs. put (after A t.history).responders (serving m.net k) (without_first (is_key (record { from = at_socket n node socket; tid = tid })) rs) at) (service_is A w m k n t stands) ∙ with_service A w m k n t stands (without_first (is_key (record { from = at_socket n node socket; tid = tid })) n.service) at)
+          (ap (λ (x : Network). x.sent) done_is ∙ ap (λ rs. (after A t.history).sent ++ stamped (after A t.history).event (serving m.net k) (asked_for (find (is_key (record { from = at_socket n node socket; tid = tid })) rs) (record { from = at_socket n node socket; tid = tid }) packets)) (service_is A w m k n t stands))
+          (ap (λ (x : Network). x.drawn) done_is)
+          (ap (λ (x : Network). x.asked) done_is)
+          (pages_elsewhere m asked.transaction packets k asked.asked_it))
+        (record {
+          asked = subst (λ (a : Address). Asked m.asked a tid (serving m.net k)) (there its.net) asked;
+          few = laws.few (find (is_key (record { from = at_socket n node socket; tid = tid })) n.service) (record { from = at_socket n node socket; tid = tid }) packets;
+          becomes = λ i. next (record m { asked = answered m.asked (there its.net i) tid packets });
+        })
+      where
+        there : n.net ≡ m.net → at_socket n node socket ≡ at_net m node socket
+        there same = λ i. record { net = same i; node = node; socket = socket }
+
+  -- ---- calls
+
+  pub good_called : (call : Call A) → IsCall call → holds_some w.nodes k (draw_of n call) ≡ false → Good A w m k (event.Call k call) (called n call)
+  good_called Zones range free = good_zones n.router n.reading refl free
+  good_called (Ask node socket user bytes wanted retries) range free = good_ask node socket user bytes wanted retries range (nat_lt 578 (length bytes)) refl free
+  good_called (Answer node socket tid packets) range free = good_answer node socket tid packets range (answer_fault n.service (record { from = at_socket n node socket; tid = tid }) packets) refl
