@@ -37,7 +37,7 @@ of_playing A w k S r w' sent all p =
     subst (λ (v : WorldState). AreCanonical v.sent) (sym p.booked) (both w.sent (map (stamp w.events) p.out) sent (all p.node p.after p.out p.steps))
 
 of_event : (A : Type 0) (w : WorldState) (e : Event A) (r : Report A) (w' : WorldState) → AreCanonical w.sent → Plays w e r w' → AreCanonical w'.sent
-of_event A w (event.Call k call) r w' sent p = of_playing A w k _ r w' sent (λ n after out steps. of_step A w.events (called n call) n r after out steps) p
+of_event A w (event.Call k call) r w' sent p = of_playing A w k _ r w' sent (λ n after out steps. of_step A w.events (called n call) n r after out steps) p.0
 of_event A w (event.Deliver which k) r w' sent p =
     of_playing A w k _ r w' sent (λ n after out steps. of_coming A w.events (Hears steps.0 n p.datagram.bytes) n r after out steps.1) p.plays
 of_event A w (event.Timer k timer) r w' sent p = of_playing A w k _ r w' sent (λ n after out steps. of_step A w.events (timed n timer) n r after out steps) p

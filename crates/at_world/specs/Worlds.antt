@@ -11,6 +11,7 @@ use Rattle.at_node.specs.declared.event.Report.{Report}
 use Rattle.at_node.specs.declared.event.Timer.{Timer}
 use Rattle.at_node.specs.declared.service.Reply.{Reply}
 use Rattle.at_node.specs.declared.service.Reply.TheVariants as reply
+use Rattle.at_node.specs.Calls.{IsCall}
 use Rattle.at_node.specs.Drawing.{Carries, drawn_by, draw_of, draw_of_input, holds}
 use Rattle.at_node.specs.Nodes.{NodeState, IsStep, Comes}
 use Rattle.at_node.specs.Steps.{called, timed}
@@ -136,9 +137,10 @@ pub record PlaysDelivery {A : Type 0} (w : WorldState) (which k : ℕ) (r : Repo
   pub is_for_it : is_for datagram k ≡ true
   pub plays : PlaysAt w k (Receives datagram.bytes) r w'
 
--- the world after an event that is answered by a report: the node's own step, over the bytes that were sent
+-- the world after an event that is answered by a report: the node's own step, over the bytes that were sent; a call's
+-- parts are in the range of their types
 abbrev pub Plays : {A : Type 0} → WorldState → Event A → Report A → WorldState → Type 0
-Plays w (event.Call k call) r w' = PlaysAt w k (λ n before said after out. IsStep (called n call) n before said after out) r w'
+Plays w (event.Call k call) r w' = PlaysAt w k (λ n before said after out. IsStep (called n call) n before said after out) r w' × IsCall call
 Plays w (event.Deliver which k) r w' = PlaysDelivery w which k r w'
 Plays w (event.Timer k timer) r w' = PlaysAt w k (λ n before said after out. IsStep (timed n timer) n before said after out) r w'
 

@@ -84,7 +84,10 @@ impl<A: Allocator + Copy> World<A> {
             return Err(Fault::Refused(Refusal::Limit));
         }
         match event {
-            Event::Call { node, call } => self.play(*node, &Input::Call(call)),
+            Event::Call { node, call } => {
+                call.ranges();
+                self.play(*node, &Input::Call(call))
+            }
             Event::Deliver { which, node } => self.deliver(*which, *node),
             Event::Timer { node, timer } => self.play(*node, &Input::Timer(*timer)),
         }
