@@ -73,24 +73,24 @@ module _ (A : Type 0) (w : WorldState) (m : Machine) (k : ℕ) (n : NodeState) (
   sockets_apart = λ i. eq-eqb m.net m.net refl i && eq-eqb k k refl i && false
 
   -- the zone socket's records, once the service's are put
-  zones_still : (rs : List Record) → put (after A t.history).responders (serving m.net k) rs (zones_at m.net k) ≡ n.served
-  zones_still rs = ap (λ b. cond b rs ((after A t.history).responders (zones_at m.net k))) sockets_apart ∙ served_is
+  pub zones_still : (rs : List Record) → put (after A t.history).responders (serving m.net k) rs (zones_at m.net k) ≡ n.served
+  pub zones_still rs = ap (λ b. cond b rs ((after A t.history).responders (zones_at m.net k))) sockets_apart ∙ served_is
 
-  requesters_stay : (who : Address) → (after A t.history).requesters who ≡ put (after A t.history).requesters (asking m.net k) n.requester who
-  requesters_stay who = put_itself (after A t.history).requesters (asking m.net k) n.requester asker_is who
+  pub requesters_stay : (who : Address) → (after A t.history).requesters who ≡ put (after A t.history).requesters (asking m.net k) n.requester who
+  pub requesters_stay who = put_itself (after A t.history).requesters (asking m.net k) n.requester asker_is who
 
-  with_service : (rs : List Record) (at : Address) → put (after A t.history).responders (serving m.net k) rs at ≡ put (put (after A t.history).responders (serving m.net k) rs) (zones_at m.net k) n.served at
+  pub with_service : (rs : List Record) (at : Address) → put (after A t.history).responders (serving m.net k) rs at ≡ put (put (after A t.history).responders (serving m.net k) rs) (zones_at m.net k) n.served at
   with_service rs at = put_itself (put (after A t.history).responders (serving m.net k) rs) (zones_at m.net k) n.served (zones_still rs) at
 
-  with_served : (rs : List Record) (at : Address) → put (after A t.history).responders (zones_at m.net k) rs at ≡ put (put (after A t.history).responders (serving m.net k) n.service) (zones_at m.net k) rs at
+  pub with_served : (rs : List Record) (at : Address) → put (after A t.history).responders (zones_at m.net k) rs at ≡ put (put (after A t.history).responders (serving m.net k) n.service) (zones_at m.net k) rs at
   with_served rs at = put_same (after A t.history).responders (put (after A t.history).responders (serving m.net k) n.service) (zones_at m.net k) rs at (put_itself (after A t.history).responders (serving m.net k) n.service service_is at)
 
   responders_stay : (at : Address) → (after A t.history).responders at ≡ put (put (after A t.history).responders (serving m.net k) n.service) (zones_at m.net k) n.served at
   responders_stay at = put_itself (after A t.history).responders (serving m.net k) n.service service_is at ∙ with_service n.service at
 
-  reading_stays : (reading : Option ℕ) → IsReading m k n.requester reading → IsReading (moved m m.asked m.readings) k n.requester reading
-  reading_stays None h = tt
-  reading_stays (Some tid) h = record { server = h.server; is_router = h.is_router; first = h.first; user = h.user; is_open = h.is_open; since = h.since; began = h.began }
+  pub reading_stays : (reading : Option ℕ) → IsReading m k n.requester reading → IsReading (moved m m.asked m.readings) k n.requester reading
+  pub reading_stays None h = tt
+  pub reading_stays (Some tid) h = record { server = h.server; is_router = h.is_router; first = h.first; user = h.user; is_open = h.is_open; since = h.since; began = h.began }
 
   -- what a socket of this node posts
   posts_from : (socket : ℕ → ℕ → Address) (sent : List (Address × Content)) → map (stamp w.events) (map posted (sent_by (socket n.net n.number) atp_kind (spelled_all sent))) ≡ map spelled_sent (stamped (after A t.history).event (socket m.net k) sent)
