@@ -5,6 +5,7 @@ use Rattle.std.specs.List.{AllByRecursion, All, list_all}
 use Rattle.std.proofs.lemmas.Bool.{true≢false, false≢true, eq-eqb, eqb-true, and_parts, leb-true}
 use Rattle.std.proofs.lemmas.Bool.Decides.{nat_tests}
 use Rattle.std.proofs.lemmas.List.{length-replicate}
+use Rattle.std.proofs.lemmas.List.Elements.{All-from_recursion, All-nil}
 use Rattle.at_ddp.specs.Datagram.{IsAddress, AreBytes}
 use Rattle.at_ddp.specs.declared.address.Address.{Address}
 use Rattle.at_ddp.proofs.Octets.{same_address_itself}
@@ -131,7 +132,7 @@ module _ (A : Type 0) (laws : Laws A) (w : WorldState) (m : Machine) (k : ℕ) (
       (record { router = router; is_router = is_router; becomes = λ i. next (record m { asked = new_transaction (asking m.net k) (beginning tid (zones_at (its.net i) router) (request_user 1) [] 1 false 3) ∷ m.asked; readings = record { node = k; since = length m.past } ∷ m.readings }) })
     where
       first_asks : IsPacket (record { user = request_user 1; data_ = [] })
-      first_asks = ?
+      first_asks = record { four = refl; user = All-from_recursion (λ b. b < 256) (request_user 1) (lit< tt, (lit< tt, (lit< tt, (lit< tt, tt)))); bytes = All-nil (λ b. b < 256); fits = lit≤ tt }
 
   good_zones : (router reading : Option ℕ) → n.router ≡ router → holds_some w.nodes k (drawn_by {A = A} (zones_called n router reading).report) ≡ false → Good A w m k (event.Call k Zones) (zones_called n router reading)
   good_zones None reading is free = good_idle A w m k n (event.Call k Zones) (report.Refused 60) t stands refl

@@ -13,5 +13,6 @@ mod Runs
 mod SentLemmas
 mod SetupLemmas
 mod Tied
+mod Timers
 mod TiedAtOpening
 mod WorldLemmas

@@ -74,10 +74,10 @@ module _ (A : Type 0) (w : WorldState) (m : Machine) (k : ℕ) (n : NodeState) (
 
   -- the zone socket's records, once the service's are put
   pub zones_still : (rs : List Record) → put (after A t.history).responders (serving m.net k) rs (zones_at m.net k) ≡ n.served
-  pub zones_still rs = ap (λ b. cond b rs ((after A t.history).responders (zones_at m.net k))) sockets_apart ∙ served_is
+  zones_still rs = ap (λ b. cond b rs ((after A t.history).responders (zones_at m.net k))) sockets_apart ∙ served_is
 
   pub requesters_stay : (who : Address) → (after A t.history).requesters who ≡ put (after A t.history).requesters (asking m.net k) n.requester who
-  pub requesters_stay who = put_itself (after A t.history).requesters (asking m.net k) n.requester asker_is who
+  requesters_stay who = put_itself (after A t.history).requesters (asking m.net k) n.requester asker_is who
 
   pub with_service : (rs : List Record) (at : Address) → put (after A t.history).responders (serving m.net k) rs at ≡ put (put (after A t.history).responders (serving m.net k) rs) (zones_at m.net k) n.served at
   with_service rs at = put_itself (put (after A t.history).responders (serving m.net k) rs) (zones_at m.net k) n.served (zones_still rs) at
@@ -89,8 +89,8 @@ module _ (A : Type 0) (w : WorldState) (m : Machine) (k : ℕ) (n : NodeState) (
   responders_stay at = put_itself (after A t.history).responders (serving m.net k) n.service service_is at ∙ with_service n.service at
 
   pub reading_stays : (reading : Option ℕ) → IsReading m k n.requester reading → IsReading (moved m m.asked m.readings) k n.requester reading
-  pub reading_stays None h = tt
-  pub reading_stays (Some tid) h = record { server = h.server; is_router = h.is_router; first = h.first; user = h.user; is_open = h.is_open; since = h.since; began = h.began }
+  reading_stays None h = tt
+  reading_stays (Some tid) h = record { server = h.server; is_router = h.is_router; first = h.first; user = h.user; is_open = h.is_open; since = h.since; began = h.began }
 
   -- what a socket of this node posts
   posts_from : (socket : ℕ → ℕ → Address) (sent : List (Address × Content)) → map (stamp w.events) (map posted (sent_by (socket n.net n.number) atp_kind (spelled_all sent))) ≡ map spelled_sent (stamped (after A t.history).event (socket m.net k) sent)

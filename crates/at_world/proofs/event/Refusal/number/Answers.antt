@@ -1,4 +1,4 @@
 use Rattle.at_world.proofs.Places.{records_after}
-use Rattle.at_world.proofs.Calls.{good_called}
+use Rattle.at_world.proofs.Timers.{good_timed}
 use Rattle.at_world.proofs.Times.{none_holds}
 use Rattle.at_world.proofs.event.Refusal.number.Goals as goal

@@ -1,0 +1,101 @@
+-- What the timers of a node are in the machine.
+use Rattle.std.proofs.Common.{◌≡◌, ℕ, zero, suc, ◌+◌, ◌<◌, Bool, true, false, cond, List, [], ◌∷◌, Option, Some, None, refl, sym, ap, subst, ◌∙◌}
+use Rattle.std.specs.Prelude.{find, filter, option_map, not, ◌==◌}
+use Rattle.std.proofs.lemmas.Bool.{true≢false, false≢true, eq-eqb, eqb-true}
+use Rattle.at_ddp.specs.declared.address.Address.{Address}
+use Rattle.at_atp.specs.Network as network
+use Rattle.at_atp.specs.Network.{Network, Retries, after, done, with_requester}
+use Rattle.at_atp.specs.Requests.{Requests, Retried, Transaction, has_number, is_numbered, retried_with, retried}
+use Rattle.at_atp.specs.declared.step.Retry.{Retry}
+use Rattle.at_atp.specs.declared.step.Retry.TheVariants as retry
+use Rattle.at_node.specs.Nodes.{NodeState, Outcome}
+use Rattle.at_node.specs.Steps.{asking, is_reading, after_failing, after_retry, retry_fired, timed}
+use Rattle.at_node.specs.declared.event.Report.TheVariants as report
+use Rattle.at_node.specs.declared.event.Timer.{Timer}
+use Rattle.at_node.specs.declared.event.Timer.TheVariants as timer
+use Rattle.at_world.specs.Machine.{Machine, Reading, since_of, without_reading, next}
+use Rattle.at_world.specs.Worlds.{WorldState, node_at}
+use Rattle.at_world.specs.declared.event.Event.TheVariants as event
+use Rattle.at_world.proofs.Calls.{Good, good_next, good_idle, asking_fits}
+use Rattle.at_world.proofs.Moves.{asker_is, asker_next}
+use Rattle.at_world.proofs.Tied.{Laws, IsReading, Tied, moved}
+
+-- the end of a reading leaves the others
+pub others_left : (rs : List Reading) (k j : ℕ) → (k == j) ≡ false → since_of (without_reading rs k) j ≡ since_of rs j
+others_left [] k j apart = refl
+others_left (r ∷ rs) k j apart = go (others_left rs k j apart) (r.node == k) refl (r.node == j) refl
+  where
+    go : since_of (without_reading rs k) j ≡ since_of rs j → (b : Bool) → (r.node == k) ≡ b → (c : Bool) → (r.node == j) ≡ c → since_of (cond (not b) (r ∷ without_reading rs k) (without_reading rs k)) j ≡ since_of (r ∷ rs) j
+    go ih true e true f = absurd (true≢false (sym (eq-eqb k j (sym (eqb-true r.node k e) ∙ eqb-true r.node j f)) ∙ apart))
+    go ih true e false f = rw f ih
+    go ih false e true f = rw f refl
+    go ih false e false f = rw f ih
+
+-- what is closed without an answer sends nothing
+failed_sends : (r : Requests) (tid : ℕ) (x : Retried) → retried r tid ≡ Some x → x.step ≡ retry.Failed → x.sent ≡ []
+failed_sends r tid x is failed = go (find (is_numbered tid) r.standing) is
+  where
+    quiet : (t : Transaction) (n : ℕ) → (retried_with r tid t n).step ≡ retry.Failed → (retried_with r tid t n).sent ≡ []
+    quiet t zero h = refl
+    quiet t (suc n) h = absurd (cc)
+
+    go : (o : Option Transaction) → option_map (λ (t : Transaction). retried_with r tid t t.retries) o ≡ Some x → x.sent ≡ []
+    go None g = absurd (cc)
+    go (Some t) g = let same : retried_with r tid t t.retries ≡ x = cc in ap (λ (y : Retried). y.sent) (sym same) ∙ quiet t t.retries (ap (λ (y : Retried). y.step) same ∙ failed)
+
+module _ (A : Type 0) (laws : Laws A) (w : WorldState) (m : Machine) (k : ℕ) (n : NodeState) (t : Tied A w m) (stands : node_at w k ≡ Some n) (tid : ℕ) where
+  is_done : (r : Retried) → retried n.requester tid ≡ Some r → done A (after A t.history) (Retries (asking m.net k) tid) ≡ with_requester (after A t.history) (asking m.net k) r.after r.sent
+  is_done r is = ap (network.retries (after A t.history) (asking m.net k)) (ap (λ q. retried q tid) (asker_is A w m k n t stands) ∙ is)
+
+  -- a reading whose transaction is another, or asks again, goes on
+  reading_goes_on : (r : Retried) → retried n.requester tid ≡ Some r → (reading : Option ℕ) → (r.step ≡ retry.Failed → is_reading reading tid ≡ false) → IsReading m k n.requester reading → IsReading (moved m m.asked m.readings) k r.after reading
+  reading_goes_on r is None away h = tt
+  reading_goes_on r is (Some number) away h = record {
+    server = h.server;
+    is_router = h.is_router;
+    first = h.first;
+    user = h.user;
+    is_open = laws.retried_stays n.requester tid number r is h.is_open (λ failed. turned (tid == number) refl (away failed));
+    since = h.since;
+    began = h.began;
+  }
+    where
+      turned : (b : Bool) → (tid == number) ≡ b → (number == tid) ≡ false → b ≡ false
+      turned false e apart = refl
+      turned true e apart = absurd (true≢false (sym (eq-eqb number tid (sym (eqb-true tid number e))) ∙ apart))
+
+  ends : (reading : Option ℕ) → n.reading ≡ reading → is_reading reading tid ≡ true → (since : ℕ) × (since_of m.readings k ≡ Some since)
+  ends None is h = absurd (false≢true h)
+  ends (Some number) is h = let r = subst (IsReading m k n.requester) is (t.readings k n stands) in (r.since, r.began)
+
+  good_failing : (r : Retried) → retried n.requester tid ≡ Some r → r.step ≡ retry.Failed → (b : Bool) → is_reading n.reading tid ≡ b → Good A w m k (event.Timer k (timer.Retry tid)) (after_failing n tid r.after b)
+  good_failing r is failed true e =
+      let began = ends n.reading refl e in
+      good_next A w m k n (event.Timer k (timer.Retry tid)) (after_failing n tid r.after true) m.asked (without_reading m.readings k) t stands
+      (asker_next A w m k n t stands (Retries (asking m.net k) tid) r.after None [] report.ZonesFailed (without_reading m.readings k) tt (asking_fits A laws w m k n t stands)
+        (is_done r is ∙ ap (with_requester (after A t.history) (asking m.net k) r.after) (failed_sends n.requester tid r is failed)) tt (λ j apart. others_left m.readings k j apart))
+      (record { since = began.0; began = began.1; becomes = refl })
+  good_failing r is failed false e =
+      good_next A w m k n (event.Timer k (timer.Retry tid)) (after_failing n tid r.after false) m.asked m.readings t stands
+      (asker_next A w m k n t stands (Retries (asking m.net k) tid) r.after n.reading [] (report.Failed tid) m.readings tt (asking_fits A laws w m k n t stands)
+        (is_done r is ∙ ap (with_requester (after A t.history) (asking m.net k) r.after) (failed_sends n.requester tid r is failed))
+        (reading_goes_on r is n.reading (λ f. e) (t.readings k n stands)) (λ j apart. refl))
+      refl
+
+  good_retried : (r : Retried) → retried n.requester tid ≡ Some r → (s : Retry) → r.step ≡ s → Good A w m k (event.Timer k (timer.Retry tid)) (after_retry n tid r s)
+  good_retried r is retry.AskedAgain step =
+      good_next A w m k n (event.Timer k (timer.Retry tid)) (after_retry n tid r retry.AskedAgain) m.asked m.readings t stands
+      (asker_next A w m k n t stands (Retries (asking m.net k) tid) r.after n.reading r.sent report.Again m.readings tt (asking_fits A laws w m k n t stands) (is_done r is)
+        (reading_goes_on r is n.reading (λ failed. absurd (never r.step step failed)) (t.readings k n stands)) (λ j apart. refl))
+      refl
+    where
+      never : (x : Retry) → x ≡ retry.AskedAgain → x ≡ retry.Failed → ⊥
+      never x a b = cc
+  good_retried r is retry.Failed step = good_failing r is step (is_reading n.reading tid) refl
+
+  good_fired : (o : Option Retried) → retried n.requester tid ≡ o → Good A w m k (event.Timer k (timer.Retry tid)) (retry_fired n tid o)
+  good_fired None is = good_idle A w m k n (event.Timer k (timer.Retry tid)) (report.Refused 15) t stands refl
+  good_fired (Some r) is = good_retried r is r.step refl
+
+pub good_timed : (A : Type 0) (laws : Laws A) (w : WorldState) (m : Machine) (k : ℕ) (n : NodeState) (t : Tied A w m) (stands : node_at w k ≡ Some n) (time : Timer) → Good A w m k (event.Timer k time) (timed n time)
+good_timed A laws w m k n t stands (timer.Retry tid) = good_fired A laws w m k n t stands tid (retried n.requester tid) refl
