@@ -1,5 +1,6 @@
 mod Calls
 mod Canonical
+mod Coming
 mod DeliveryLemmas
 mod DrawLemmas
 mod Following

@@ -1,169 +1,185 @@
--- The first page, asked for and served.
-use Rattle.std.proofs.Common.{lit<, ◌≡◌, inr, ℕ, ◌^◌, ◌<◌, Bool, true, false, cond, List, [], ◌∷◌, ◌++◌, Option, Some, None, refl, sym, ap, subst, ◌∙◌, arith}
-use Rattle.std.specs.Prelude.{◌==◌, ◌&&◌, ◌||◌}
-use Rattle.std.proofs.lemmas.Bool.{and_parts, eq-eqb, eqb-true}
-use Rattle.std.proofs.lemmas.List.Elements.{All-from_recursion, All-nil}
-use Rattle.at_ddp.proofs.Octets.{same_address_itself}
-use Rattle.at_ddp.specs.Datagram.{Content as Datagram, IsAddress, canonical, written}
+-- What a request that comes to a node's service, or to the router's zone socket, is in the machine.
+use Rattle.std.proofs.Common.{◌≡◌, ◌⊎◌, inl, inr, ℕ, zero, suc, ◌<◌, ◌≤◌, Bool, true, false, cond, List, [], ◌∷◌, ◌++◌, length, Option, Some, None, refl, sym, ap, subst, ◌∙◌, arith, lit<, lit≤}
+use Rattle.std.specs.Prelude.{find, slice_get, nat_le, ◌==◌, ◌&&◌}
+use Rattle.std.specs.List.{AllByRecursion, Contains}
+use Rattle.std.proofs.lemmas.Bool.{true≢false, false≢true, le-leb}
+use Rattle.std.proofs.lemmas.List.{append-nil}
+use Rattle.std.proofs.lemmas.List.Elements.{Contains-append_cases}
+use Rattle.at_ddp.specs.Address.{same_address}
 use Rattle.at_ddp.specs.declared.address.Address.{Address}
-use Rattle.at_atp.specs.Frames.{IsLawful, spelled}
+use Rattle.at_atp.specs.Frames.{Content, Request, spelled_all}
+use Rattle.at_atp.specs.Lawfully.{IsPacket}
+use Rattle.at_atp.specs.Network as network
+use Rattle.at_atp.specs.Network.{Network, Sent, Takes, Serves, after, done, put, stamped, with_responder}
 use Rattle.at_atp.specs.Packets.{Packet}
-use Rattle.at_atp.specs.Records.{Record, finds_no_place, taken}
-use Rattle.at_zip.specs.Request.{RequestSpells, request_user}
+use Rattle.at_atp.specs.Records.{Record, Taken, is_key, taken, finds_no_place, record_fault, answer_fault, asked_for, fit}
+use Rattle.at_atp.specs.Tables.{without_first}
+use Rattle.at_atp.specs.Transactions.{Transaction, transaction_of, Asked, answered}
+use Rattle.at_atp.specs.declared.fault.AtpFault.{AtpFault}
+use Rattle.at_atp.specs.declared.fault.AtpFault.TheVariants.{AtpTooLong}
+use Rattle.at_atp.specs.declared.reception.Key.{Key}
+use Rattle.at_atp.specs.declared.reception.Reception.{Reception}
+use Rattle.at_atp.specs.declared.reception.Reception.TheVariants as reception
+use Rattle.at_zip.specs.Page.{page_of, page_user, page_data}
+use Rattle.at_zip.specs.Request.{RequestSpells}
+use Rattle.at_node.specs.Hearing.{is_asked}
+use Rattle.at_node.specs.Nodes.{NodeState, Outcome, idle}
+use Rattle.at_node.specs.Steps.{serving, zones_at, page_packet, zone_served, zone_taken, at_zones, zone_asked, service_taken, after_reply, sent_by_reply, handed_up, at_service, service_asked}
 use Rattle.at_node.specs.declared.event.Report.TheVariants as report
-use Rattle.at_node.specs.Hearing.{Hears, Nobody, AtSocket, is_mine, router_socket, socket_of}
-use Rattle.at_node.specs.Nodes.{NodeState, Outcome, idle, sent_by}
-use Rattle.at_node.specs.Steps.{asking, zones_at, atp_kind, page_packet, at_zones, zone_asked}
-use Rattle.at_world.specs.declared.event.Event.TheVariants as event
-use Rattle.at_world.specs.Machine.{Machine, Transaction, is_transaction, transaction_of, answered, page_answer}
-use Rattle.at_world.specs.Sents.{SentDatagram}
+use Rattle.at_node.specs.declared.service.Reply.{Reply}
+use Rattle.at_node.specs.declared.service.Reply.TheVariants as reply
+use Rattle.at_world.specs.Machine.{Machine, next, page_answer, Step}
 use Rattle.at_world.specs.Worlds.{WorldState, node_at}
-use Rattle.at_world.proofs.Tied.{Laws, IsReading, TiedNode, Asked, first_request, first_response, Parties, SentRequest, Tied, Keeps, node_kept, Good, good_next, good_idle}
+use Rattle.at_world.specs.declared.event.Event.TheVariants as event
+use Rattle.at_world.proofs.Calls.{Good, good_next, good_idle}
+use Rattle.at_world.proofs.Moves.{service_is, served_is, service_next, zones_next, gave_next, with_served}
+use Rattle.at_world.proofs.Tied.{Laws, TiedNode, PagesOf, Tied, moved, put_here}
 
--- ---- an answer leaves what was asked
+module _ (A : Type 0) (laws : Laws A) (w : WorldState) (m : Machine) (which k : ℕ) (n : NodeState) (t : Tied A w m) (stands : node_at w k ≡ Some n) (s : Sent) (was_sent : slice_get (after A t.history).sent which ≡ Some s)
+  (fresh : network.is_fresh (after A t.history).drawn s ≡ true) (timely : network.ComesInTime (after A t.history) which)
+  (mask : ℕ) (xo : Bool) (timer tid : ℕ) (user bytes : List ℕ) (packet_is : s.packet ≡ Request mask xo timer tid user bytes) where
 
--- a transaction that asks the same
-record Same (net : ℕ) (ts : List Transaction) (requester : Address) (tid : ℕ) (t : Transaction) : Type 0 where
-  pub transaction : Transaction
-  pub newest : transaction_of ts requester tid ≡ Some transaction
-  pub responder : transaction.responder ≡ t.responder
-  pub user : transaction.user ≡ t.user
+  -- the newest transaction of this number, which asked this
+  pub asks : (a : Asked m.asked s.from tid s.to) × ((a.transaction).user ≡ user) × ((a.transaction).data_ ≡ bytes)
+  asks =
+      let gives = laws.answers t.history t.timely in
+      let p = gives.requested which s mask xo timer tid user bytes was_sent fresh packet_is in
+      let a = p.0 in
+      (record { transaction = a.transaction; newest = (λ i. transaction_of (sym t.asked i) s.from tid) ∙ a.newest; asked_it = a.asked_it }, p.1, p.2)
 
-still_asked : (net : ℕ) (ts : List Transaction) (who : Address) (tid : ℕ) (packets : List Packet) (requester : Address) (other : ℕ) (t : Transaction) → transaction_of ts requester other ≡ Some t → Same net (answered ts who tid packets) requester other t
-still_asked net [] who tid packets requester other t h = absurd (cc)
-still_asked net (x ∷ ts) who tid packets requester other t h = go (λ g. still_asked net ts who tid packets requester other t g) (is_transaction who tid x) refl (is_transaction requester other x) refl h
-  where
-    one : Some x ≡ Some t → x ≡ t
-    one e = cc
+  -- ---- the service
 
-    go : (transaction_of ts requester other ≡ Some t → Same net (answered ts who tid packets) requester other t) → (b : Bool) → is_transaction who tid x ≡ b → (c : Bool) → is_transaction requester other x ≡ c → cond c (Some x) (transaction_of ts requester other) ≡ Some t →
-        Same net (cond b (record x { answers = x.answers ++ packets ∷ [] } ∷ ts) (x ∷ answered ts who tid packets)) requester other t
-    go ih true e true f g = record { transaction = record x { answers = x.answers ++ packets ∷ [] }; newest = rw f refl; responder = ap (λ (y : Transaction). y.responder) (one g); user = ap (λ (y : Transaction). y.user) (one g) }
-    go ih true e false f g = record { transaction = t; newest = rw f g; responder = refl; user = refl }
-    go ih false e true f g = record { transaction = x; newest = rw f refl; responder = ap (λ (y : Transaction). y.responder) (one g); user = ap (λ (y : Transaction). y.user) (one g) }
-    go ih false e false f g =
-        let rest = ih g in
-        record { transaction = rest.transaction; newest = rw f rest.newest; responder = rest.responder; user = rest.user }
+  module _ (to_is : s.to ≡ serving m.net k) where
+    its_records : (after A t.history).responders s.to ≡ n.service
+    its_records = ap (after A t.history).responders to_is ∙ service_is A w m k n t stands
 
-keeps_answered : (m : Machine) (who : Address) (tid : ℕ) (packets : List Packet) → Keeps m (answered m.asked who tid packets)
-keeps_answered m who tid packets requester other router is a =
-    let s = still_asked m.net m.asked who tid packets requester other a.transaction a.newest in
-    record { transaction = s.transaction; newest = s.newest; responder = s.responder ∙ a.responder; user = s.user ∙ a.user }
+    is_taken : done A (after A t.history) (Takes which) ≡ with_responder (after A t.history) (serving m.net k) (taken n.service s.from (Request mask xo timer tid user bytes)).after (taken n.service s.from (Request mask xo timer tid user bytes)).sent
+    is_taken = ap (network.takes_in (after A t.history)) was_sent ∙ (λ i. with_responder (after A t.history) (to_is i) (taken (its_records i) s.from (packet_is i)).after (taken (its_records i) s.from (packet_is i)).sent)
 
--- ---- what a node without records does
+    good_service : (said : Reply A) (o : Outcome A) (r : Reception) → (is_asked o.report ≡ true → said ≡ reply.Later) → (taken n.service s.from (Request mask xo timer tid user bytes)).reception ≡ r →
+        o ≡ at_service n (taken n.service s.from (Request mask xo timer tid user bytes)) user bytes said r → Good A w m k (event.Deliver which k) o
+    good_service said o reception.Ignored later is at = subst (Good A w m k (event.Deliver which k)) (sym at)
+        (good_next A w m k n (event.Deliver which k) (service_taken n (taken n.service s.from (Request mask xo timer tid user bytes)) report.Ignored) m.asked m.readings t stands
+          (service_next A w m k n t stands (Takes which) (taken n.service s.from (Request mask xo timer tid user bytes)).after (taken n.service s.from (Request mask xo timer tid user bytes)).sent report.Ignored timely tt is_taken) refl)
+    good_service said o (reception.Again count) later is at = subst (Good A w m k (event.Deliver which k)) (sym at)
+        (good_next A w m k n (event.Deliver which k) (service_taken n (taken n.service s.from (Request mask xo timer tid user bytes)) report.Again) m.asked m.readings t stands
+          (service_next A w m k n t stands (Takes which) (taken n.service s.from (Request mask xo timer tid user bytes)).after (taken n.service s.from (Request mask xo timer tid user bytes)).sent report.Again timely tt is_taken) refl)
+    good_service said o (reception.New key) later is at =
+        let is_later : said ≡ reply.Later = later (ap (λ (x : Outcome A). is_asked x.report) at) in
+        let waits = laws.new_waits n.service s.from (Request mask xo timer tid user bytes) key is in
+        let a = asks in
+        subst (Good A w m k (event.Deliver which k)) (sym (at ∙ ap (handed_up n (taken n.service s.from (Request mask xo timer tid user bytes)) key user bytes) is_later))
+        (good_next A w m k n (event.Deliver which k) (handed_up n (taken n.service s.from (Request mask xo timer tid user bytes)) key user bytes reply.Later) m.asked m.readings t stands
+          (service_next A w m k n t stands (Takes which) (taken n.service s.from (Request mask xo timer tid user bytes)).after [] (report.Asked key user bytes) timely tt
+            (is_taken ∙ ap (with_responder (after A t.history) (serving m.net k) (taken n.service s.from (Request mask xo timer tid user bytes)).after) waits.1))
+          (record { asked = record { transaction = (a.0).transaction; newest = (λ i. transaction_of m.asked (waits.2 i).from (waits.2 i).tid) ∙ (a.0).newest; asked_it = (a.0).asked_it ∙ to_is }; is_user = a.1; is_data = a.2 }, refl))
 
--- the response that serves the first page
-abbrev served_by : {A : Type 0} → NodeState → Address → ℕ → List (List ℕ) → Outcome A
-served_by n from tid table = record { report = report.Served 1; node = record n { served = [] }; out = sent_by (zones_at n.net n.number) atp_kind ((from, spelled (first_response table tid)) ∷ []) }
+    pub good_question : (said : Reply A) (o : Outcome A) → (is_asked o.report ≡ true → said ≡ reply.Later) → o ≡ service_asked n s.from (Request mask xo timer tid user bytes) user bytes said → Good A w m k (event.Deliver which k) o
+    good_question said o later at = go (finds_no_place n.service s.from (Request mask xo timer tid user bytes)) at
+      where
+        go : (b : Bool) → o ≡ cond b (idle n (report.Refused 14)) (at_service n (taken n.service s.from (Request mask xo timer tid user bytes)) user bytes said (taken n.service s.from (Request mask xo timer tid user bytes)).reception) → Good A w m k (event.Deliver which k) o
+        go true e = subst (Good A w m k (event.Deliver which k)) (sym e) (good_idle A w m k n (event.Deliver which k) (report.Refused 14) t stands refl)
+        go false e = good_service said o (taken n.service s.from (Request mask xo timer tid user bytes)).reception later refl e
 
-served_first : (A : Type 0) (n : NodeState) (from : Address) (tid : ℕ) (table : List (List ℕ)) → n.served ≡ [] →
-    zone_asked {A = A} n from (first_request tid) table 1 ≡ served_by n from tid table
-served_first A n from tid table none = ap asked none ∙ rw (same_address_itself from, eq-eqb tid tid refl) refl
-  where
-    asked : List Record → Outcome A
-    asked rs =
-        cond (finds_no_place rs from (first_request tid)) (idle n (report.Refused 14))
-        (at_zones n (taken rs from (first_request tid)) (page_packet table 1) (taken rs from (first_request tid)).reception)
+  -- ---- the router's zone socket
 
--- ---- whose socket a datagram is for
+  module _ (to_is : s.to ≡ zones_at m.net k) (start : ℕ) (asks_from : RequestSpells user start) (is_router : m.router ≡ Some k) where
+    its_served : (after A t.history).responders s.to ≡ n.served
+    its_served = ap (after A t.history).responders to_is ∙ served_is A w m k n t stands
 
-pub is_its : (n : NodeState) (d : Datagram) → is_mine n d ≡ true → d.to.node ≡ n.number
-is_its n d h =
-    let outer = and_parts (((d.to.net == n.net) || (d.to.net == 0)) && (d.to.node == n.number)) (d.kind == atp_kind) h in
-    let inner = and_parts ((d.to.net == n.net) || (d.to.net == 0)) (d.to.node == n.number) outer.0 in
-    eqb-true d.to.node n.number inner.1
+    is_served : done A (after A t.history) (Takes which) ≡ with_responder (after A t.history) (zones_at m.net k) (taken n.served s.from (Request mask xo timer tid user bytes)).after (taken n.served s.from (Request mask xo timer tid user bytes)).sent
+    is_served = ap (network.takes_in (after A t.history)) was_sent ∙ (λ i. with_responder (after A t.history) (to_is i) (taken (its_served i) s.from (packet_is i)).after (taken (its_served i) s.from (packet_is i)).sent)
 
--- ---- the request comes
+    page_fits : IsPacket (page_packet m.table start)
+    page_fits = let f = t.fixed in record { four = refl; user = laws.user m.table start; bytes = laws.bytes m.table start f.table; fits = laws.fits m.table start }
 
-lawful_request : (tid : ℕ) → tid < 2 ^ 16 → IsLawful (first_request tid)
-lawful_request tid fits = (
-  lit< tt,
-  refl,
-  record { tid_fits = fits; four = refl; user_bytes = All-from_recursion (λ b. b < 256) (request_user 1) (lit< tt, (lit< tt, (lit< tt, (lit< tt, tt)))); data_bytes = All-nil (λ b. b < 256); data_fits = omega arith },
-)
+    -- the page can be answered
+    no_fault : (rs : List Record) (key : Key) → record_fault (find (is_key key) rs) ≡ None → answer_fault rs key (page_answer m.table start) ≡ None
+    no_fault rs key waits = ap (λ b. cond (nat_le 1 8 && (b && true)) (record_fault (find (is_key key) rs)) (Some AtpTooLong)) (le-leb (length (page_data (page_of m.table start))) 578 (laws.fits m.table start)) ∙ waits
 
-pub asking_fits : (net node : ℕ) → net < 2 ^ 16 → node < 256 → IsAddress (asking net node)
-asking_fits net node a b = record { net = a; node = b; socket = lit< tt }
+    -- the network once the request came and was answered
+    T : Taken
+    T = taken n.served s.from (Request mask xo timer tid user bytes)
 
-pub zones_fit : (net node : ℕ) → net < 2 ^ 16 → node < 256 → IsAddress (zones_at net node)
-zones_fit net node a b = record { net = a; node = b; socket = lit< tt }
+    came : Network
+    came = with_responder (after A t.history) (zones_at m.net k) (taken n.served s.from (Request mask xo timer tid user bytes)).after (taken n.served s.from (Request mask xo timer tid user bytes)).sent
 
-module _ (A : Type 0) (laws : Laws A) (w : WorldState) (m : Machine) (which k : ℕ) (n : NodeState) (t : Tied w m) (stands : node_at w k ≡ Some n) where
-  its : TiedNode m k n
-  its = t.nodes k n stands
+    is_answered : (key : Key) → (taken n.served s.from (Request mask xo timer tid user bytes)).reception ≡ reception.New key →
+        done A (after A t.history) (Serves which (page_answer m.table start)) ≡ network.answers (with_responder (after A t.history) (zones_at m.net k) (taken n.served s.from (Request mask xo timer tid user bytes)).after (taken n.served s.from (Request mask xo timer tid user bytes)).sent) (zones_at m.net k) key (page_answer m.table start) None
+    is_answered key is =
+        let waits = laws.new_waits n.served s.from (Request mask xo timer tid user bytes) key is in
+        ap (network.serves (after A t.history) (page_answer m.table start)) was_sent
+        ∙ (λ i. network.handed_up (with_responder (after A t.history) (to_is i) (taken (its_served i) s.from (packet_is i)).after (taken (its_served i) s.from (packet_is i)).sent) (to_is i) (page_answer m.table start) (taken (its_served i) s.from (packet_is i)).reception)
+        ∙ ap (network.handed_up (with_responder (after A t.history) (zones_at m.net k) (taken n.served s.from (Request mask xo timer tid user bytes)).after (taken n.served s.from (Request mask xo timer tid user bytes)).sent) (zones_at m.net k) (page_answer m.table start)) is
+        ∙ ap (network.answers (with_responder (after A t.history) (zones_at m.net k) (taken n.served s.from (Request mask xo timer tid user bytes)).after (taken n.served s.from (Request mask xo timer tid user bytes)).sent) (zones_at m.net k) key (page_answer m.table start))
+          (ap (λ rs. answer_fault rs key (page_answer m.table start)) (put_here (after A t.history).responders (zones_at m.net k) (taken n.served s.from (Request mask xo timer tid user bytes)).after) ∙ no_fault (taken n.served s.from (Request mask xo timer tid user bytes)).after key waits.0)
 
-  -- the router serves the table's first page
-  good_served : (p : Parties m.router) (o : Outcome A) (table : List (List ℕ)) → Asked m.net m.asked (asking m.net p.node) p.tid p.server → p.server ≡ n.number → n.table ≡ Some table →
-      o ≡ zone_asked n (asking m.net p.node) (first_request p.tid) table 1 → Good w m k (event.Deliver which k) o
-  good_served p o table a here has is =
-      let from = asking m.net p.node in
-      let answers = answered m.asked from p.tid (page_answer m.table 1) in
-      let whole : table ≡ m.table = its.table table has in
-      let its_number : p.server ≡ k = here ∙ its.number in
-      subst (λ (x : Outcome A). Good w m k (event.Deliver which k) x) (sym (is ∙ served_first A n from p.tid table its.served))
-      (good_next A w m k (event.Deliver which k) (served_by n from p.tid table) answers m.readings t
-      (record {
-        is_router = p.is_router ∙ ap (λ j. Some j) its_number;
-        transaction = a.transaction;
-        requester = from;
-        tid = p.tid;
-        asked = a.newest;
-        asked_it = a.responder ∙ ap (zones_at m.net) its_number;
-        start = 1;
-        asks_from = subst (λ user. RequestSpells user 1) (sym a.user) (laws.asks 1 (omega arith) (lit< tt));
-        one = omega arith;
-        becomes = refl;
-      })
-      (node_kept m answers m.readings k (record n { served = [] }) refl (record {
-        net = its.net;
-        number = its.number;
-        small = its.small;
-        router = its.router;
-        table = its.table;
-        served = refl;
-        next_fits = its.next_fits;
-        reading = without_records n.reading its.reading;
-      }))
-      (λ j apart. refl)
-      (keeps_answered m from p.tid (page_answer m.table 1)) (
-        inr (record {
-          parties = p;
-          bytes = λ i. canonical from (zones_at (its.net i) (sym here i)) atp_kind (spelled (first_response (whole i) p.tid));
-        }),
-        tt,
-      ))
-    where
-      without_records : (reading : Option ℕ) → IsReading m n reading → IsReading m (record n { served = [] }) reading
-      without_records None h = h
-      without_records (Some tid) h = record { router = h.router; is_router = h.is_router; stands = h.stands; since = h.since; began = h.began }
+    put_twice : (f : Address → List Record) (at : Address) (x y : List Record) (a : Address) → put (put f at x) at y a ≡ put f at y a
+    put_twice f at x y a = go (same_address at a)
+      where
+        go : (b : Bool) → cond b y (cond b x (f a)) ≡ cond b y (f a)
+        go true = refl
+        go false = refl
 
-  at_router : (p : Parties m.router) (o : Outcome A) (table : Option (List (List ℕ))) → Asked m.net m.asked (asking m.net p.node) p.tid p.server → p.server ≡ n.number → n.table ≡ table →
-      AtSocket n (asking m.net p.node) (router_socket table) (first_request p.tid) o → Good w m k (event.Deliver which k) o
-  at_router p o None a here has h = good_idle A w m k n (event.Deliver which k) report.Ignored o t stands refl h
-  at_router p o (Some table) a here has h = good_served p o table a here has (laws.served n (asking m.net p.node) table 1 false 0 p.tid 1 [] o (omega arith) (lit< tt) h)
+    one_answer : (x y : List Packet) → Contains (x ∷ []) y → x ≡ y
+    one_answer x y (zero, lt, is) = is
+    one_answer x y (suc i, lt, is) = absurd (omega arith)
 
-  -- the request for the first page comes to a node
-  pub good_request : (s : SentDatagram) (q : SentRequest m s) (o : Outcome A) → Hears n s.bytes o → Good w m k (event.Deliver which k) o
-  good_request s q o h = go (is_mine n d) refl at
-    where
-      p : Parties m.router
-      p = q.parties
+    pages_more : (a : Transaction) → a.user ≡ user → PagesOf m a → PagesOf m (record a { answers = a.answers ++ page_answer m.table start ∷ [] })
+    pages_more a same pages server answer router here among = go (Contains-append_cases a.answers (page_answer m.table start ∷ []) answer among)
+      where
+        go : Contains a.answers answer ⊎ Contains (page_answer m.table start ∷ []) answer → (from : ℕ) × RequestSpells a.user from × (answer ≡ page_answer m.table from)
+        go (inl old) = pages server answer router here old
+        go (inr new) = (start, subst (λ u. RequestSpells u start) (sym same) asks_from, sym (one_answer (page_answer m.table start) answer new))
 
-      to : Address
-      to = zones_at m.net p.server
+    good_served : (key : Key) (o : Outcome A) → (taken n.served s.from (Request mask xo timer tid user bytes)).reception ≡ reception.New key → o ≡ zone_served n (taken n.served s.from (Request mask xo timer tid user bytes)) key (page_packet m.table start) → Good A w m k (event.Deliver which k) o
+    good_served key o is at =
+        let waits = laws.new_waits n.served s.from (Request mask xo timer tid user bytes) key is in
+        let d = is_answered key is in
+        let a = asks in
+        let here = put_here (after A t.history).responders (zones_at m.net k) (taken n.served s.from (Request mask xo timer tid user bytes)).after in
+        let asked : Asked m.asked s.from tid (zones_at m.net k) = record { transaction = (a.0).transaction; newest = (a.0).newest; asked_it = (a.0).asked_it ∙ to_is } in
+        subst (Good A w m k (event.Deliver which k)) (sym at)
+        (good_next A w m k n (event.Deliver which k) (zone_served n (taken n.served s.from (Request mask xo timer tid user bytes)) key (page_packet m.table start)) (answered m.asked s.from tid (page_answer m.table start)) m.readings t stands
+          (gave_next A w m k n t stands laws (Serves which (page_answer m.table start)) (report.Served (length (asked_for (find (is_key key) (taken n.served s.from (Request mask xo timer tid user bytes)).after) key (page_answer m.table start))))
+            zones_at s.from tid (page_answer m.table start) (zones_at m.net k) asked (without_first (is_key key) (taken n.served s.from (Request mask xo timer tid user bytes)).after) n.service
+            (asked_for (find (is_key key) (taken n.served s.from (Request mask xo timer tid user bytes)).after) key (page_answer m.table start))
+            timely (page_fits, tt)
+            (ap (λ (x : Network). x.event) d)
+            (λ who. ap (λ (x : Network). x.requesters who) d)
+            (λ at. ap (λ (x : Network). x.responders at) d
+              ∙ ap (λ rs. put (put (after A t.history).responders (zones_at m.net k) (taken n.served s.from (Request mask xo timer tid user bytes)).after) (zones_at m.net k) (without_first (is_key key) rs) at) here
+              ∙ put_twice (after A t.history).responders (zones_at m.net k) (taken n.served s.from (Request mask xo timer tid user bytes)).after (without_first (is_key key) (taken n.served s.from (Request mask xo timer tid user bytes)).after) at
+              ∙ with_served A w m k n t stands (without_first (is_key key) (taken n.served s.from (Request mask xo timer tid user bytes)).after) at)
+            (ap (λ (x : Network). x.sent) d
+              ∙ (λ i. ((after A t.history).sent ++ stamped (after A t.history).event (zones_at m.net k) (waits.1 i)) ++ stamped (after A t.history).event (zones_at m.net k) (asked_for (find (is_key key) (here i)) key (page_answer m.table start)))
+              ∙ ap (λ l. l ++ stamped (after A t.history).event (zones_at m.net k) (asked_for (find (is_key key) (taken n.served s.from (Request mask xo timer tid user bytes)).after) key (page_answer m.table start))) (append-nil (after A t.history).sent))
+            (ap (λ (x : Network). x.drawn) d)
+            (ap (λ (x : Network). x.asked) d ∙ (λ i. answered (after A t.history).asked (waits.2 i).from (waits.2 i).tid (page_answer m.table start)))
+            (pages_more (a.0).transaction a.1))
+          (record {
+            is_router = is_router;
+            requester = s.from;
+            tid = tid;
+            asked = asked;
+            start = start;
+            asks_from = subst (λ u. RequestSpells u start) (sym a.1) asks_from;
+            one = laws.few (find (is_key key) (taken n.served s.from (Request mask xo timer tid user bytes)).after) key (page_answer m.table start);
+            becomes = refl;
+          }))
 
-      from : Address
-      from = asking m.net p.node
+    good_zones : (o : Outcome A) (r : Reception) → (taken n.served s.from (Request mask xo timer tid user bytes)).reception ≡ r → o ≡ at_zones n (taken n.served s.from (Request mask xo timer tid user bytes)) (page_packet m.table start) r → Good A w m k (event.Deliver which k) o
+    good_zones o reception.Ignored is at = subst (Good A w m k (event.Deliver which k)) (sym at)
+        (good_next A w m k n (event.Deliver which k) (zone_taken n (taken n.served s.from (Request mask xo timer tid user bytes)) report.Ignored) m.asked m.readings t stands
+          (zones_next A w m k n t stands (Takes which) (taken n.served s.from (Request mask xo timer tid user bytes)).after (taken n.served s.from (Request mask xo timer tid user bytes)).sent report.Ignored timely tt is_served) refl)
+    good_zones o (reception.Again count) is at = subst (Good A w m k (event.Deliver which k)) (sym at)
+        (good_next A w m k n (event.Deliver which k) (zone_taken n (taken n.served s.from (Request mask xo timer tid user bytes)) report.Again) m.asked m.readings t stands
+          (zones_next A w m k n t stands (Takes which) (taken n.served s.from (Request mask xo timer tid user bytes)).after (taken n.served s.from (Request mask xo timer tid user bytes)).sent report.Again timely tt is_served) refl)
+    good_zones o (reception.New key) is at = good_served key o is at
 
-      d : Datagram
-      d = written to from atp_kind (spelled (first_request p.tid))
-
-      at : AtSocket n from (socket_of n d) (first_request p.tid) o
-      at =
-          let fixed = t.fixed in
-          laws.heard n to from (first_request p.tid) o (zones_fit m.net p.server fixed.net (fixed.router p.server p.is_router)) (asking_fits m.net p.node fixed.net p.node_fits) (lawful_request p.tid p.tid_fits)
-          (subst (λ bytes. Hears n bytes o) q.bytes h)
-
-      go : (b : Bool) → is_mine n d ≡ b → AtSocket n from (cond b (router_socket n.table) Nobody) (first_request p.tid) o → Good w m k (event.Deliver which k) o
-      go false e g = good_idle A w m k n (event.Deliver which k) report.Ignored o t stands refl g
-      go true e g = at_router p o n.table q.asked (is_its n d e) refl g
+    pub good_page : (o : Outcome A) → o ≡ zone_asked n s.from (Request mask xo timer tid user bytes) m.table start → Good A w m k (event.Deliver which k) o
+    good_page o at = go (finds_no_place n.served s.from (Request mask xo timer tid user bytes)) at
+      where
+        go : (b : Bool) → o ≡ cond b (idle n (report.Refused 14)) (at_zones n (taken n.served s.from (Request mask xo timer tid user bytes)) (page_packet m.table start) (taken n.served s.from (Request mask xo timer tid user bytes)).reception) → Good A w m k (event.Deliver which k) o
+        go true e = subst (Good A w m k (event.Deliver which k)) (sym e) (good_idle A w m k n (event.Deliver which k) (report.Refused 14) t stands refl)
+        go false e = good_zones o (taken n.served s.from (Request mask xo timer tid user bytes)).reception refl e

@@ -1,157 +1,141 @@
--- The first page comes to the node that reads the list.
-use Rattle.std.proofs.Common.{◌≡◌, ℕ, ◌^◌, ◌<◌, Bool, true, false, cond, not, List, [], ◌∷◌, Option, Some, None, refl, sym, ap, subst, ◌∙◌, arith}
-use Rattle.std.specs.Prelude.{MatchBool, find, ◌==◌}
-use Rattle.std.proofs.lemmas.Bool.{true≢false, and_parts, eq-eqb, eqb-true}
-use Rattle.at_ddp.specs.Address.{same_address}
-use Rattle.at_ddp.specs.Datagram.{Content as Datagram, written}
+-- What a packet that comes to a node's asking socket is in the machine.
+use Rattle.std.proofs.Common.{◌≡◌, ◌⊎◌, inl, inr, ℕ, zero, suc, ◌<◌, Bool, true, false, cond, List, [], ◌∷◌, length, Option, Some, None, refl, sym, ap, subst, ◌∙◌, arith, lit<, lit≤}
+use Rattle.std.specs.Prelude.{slice_get, MatchBool, ◌==◌, ◌&&◌}
+use Rattle.std.specs.List.{AllByRecursion, Contains}
+use Rattle.std.proofs.lemmas.Bool.{true≢false, false≢true, eq-eqb, eqb-true}
 use Rattle.at_ddp.specs.declared.address.Address.{Address}
-use Rattle.at_atp.specs.Answers.{Arrival}
-use Rattle.at_atp.specs.Frames.{IsLawful, spelled}
+use Rattle.at_atp.specs.Frames.{Content, Request, Response, Release}
+use Rattle.at_atp.specs.Network as network
+use Rattle.at_atp.specs.Network.{Sent, Hears, number_of, after, done, with_requester}
 use Rattle.at_atp.specs.Packets.{Packet}
-use Rattle.at_atp.specs.Requests.{Requests, Transaction as Pending, Heard, heard, ignored, is_of, response_came}
+use Rattle.at_atp.specs.Requests.{Requests, Heard, has_number, is_finished, heard}
+use Rattle.at_atp.specs.Transactions.{Transaction, transaction_of, Asked, IsPart, IsResponse}
+use Rattle.at_atp.specs.declared.step.Step.{Step as Stepped}
 use Rattle.at_atp.specs.declared.step.Step.TheVariants as step
 use Rattle.at_zip.specs.Page.{Page, page_of, page_user, page_data}
+use Rattle.at_zip.specs.Request.{RequestSpells, request_user}
+use Rattle.at_node.specs.Hearing.{Asker, AtAsking, AtSocket, EndsReading, Tells, told_by}
+use Rattle.at_node.specs.Nodes.{NodeState, Outcome, idle}
+use Rattle.at_node.specs.Steps.{asking, zones_at, is_reading, packet_in, after_heard}
 use Rattle.at_node.specs.declared.event.Report.{Report}
 use Rattle.at_node.specs.declared.event.Report.TheVariants as report
-use Rattle.at_node.specs.Hearing.{Hears, Asker, Nobody, AtAsking, AtSocket, EndsReading, Tells, is_mine, socket_of, told_by}
-use Rattle.at_node.specs.Nodes.{NodeState, Outcome}
-use Rattle.at_node.specs.Steps.{asking, zones_at, atp_kind, is_reading, page_packet, after_heard, zone_transaction}
-use Rattle.at_world.specs.declared.event.Event.TheVariants as event
-use Rattle.at_world.specs.Machine.{Machine, Reading, since_of, without_reading}
-use Rattle.at_world.specs.Sents.{SentDatagram}
+use Rattle.at_node.specs.declared.service.Reply.{Reply}
+use Rattle.at_world.specs.Machine.{Machine, since_of, without_reading, next, page_answer, Step}
 use Rattle.at_world.specs.Worlds.{WorldState, node_at}
-use Rattle.at_world.proofs.Requested.{asking_fits, zones_fit}
-use Rattle.at_world.proofs.Tied.{Laws, Fixed, Reads, IsReading, TiedNode, first_response, Parties, SentResponse, Tied, keeps_all, Good, good_next, good_idle}
+use Rattle.at_world.specs.declared.event.Event.TheVariants as event
+use Rattle.at_world.proofs.Calls.{Good, good_next, good_idle}
+use Rattle.at_world.proofs.Coming.{Comes, requester_on_net}
+use Rattle.at_world.proofs.Moves.{one_of, asker_is, asker_next}
+use Rattle.at_world.proofs.Tied.{Laws, IsReading, Reads, PagesOf, Tied, moved}
+use Rattle.at_world.proofs.Timers.{others_left}
 
--- ---- readings
+some_transaction : (a b : Transaction) → Some a ≡ Some b → a ≡ b
+some_transaction a b h = cc
 
--- the end of a reading leaves the others
-others_left : (rs : List Reading) (k j : ℕ) → (j == k) ≡ false → since_of (without_reading rs k) j ≡ since_of rs j
-others_left [] k j apart = refl
-others_left (r ∷ rs) k j apart = go (others_left rs k j apart) (r.node == k) refl (r.node == j) refl
-  where
-    go : since_of (without_reading rs k) j ≡ since_of rs j → (b : Bool) → (r.node == k) ≡ b → (c : Bool) → (r.node == j) ≡ c → since_of (cond (not b) (r ∷ without_reading rs k) (without_reading rs k)) j ≡ since_of (r ∷ rs) j
-    go ih true e true f = absurd (true≢false (sym (eq-eqb j k (sym (eqb-true r.node j f) ∙ eqb-true r.node k e)) ∙ apart))
-    go ih true e false f = rw f ih
-    go ih false e true f = rw f refl
-    go ih false e false f = rw f ih
+-- what stands in an answer of one packet
+only_packet : (p q : Packet) (place : ℕ) → slice_get (p ∷ []) place ≡ Some q → p ≡ q
+only_packet p q zero h = cc
+only_packet p q (suc place) h = absurd (cc)
 
--- ---- what the requester does
+module _ (A : Type 0) (laws : Laws A) (w : WorldState) (m : Machine) (which k : ℕ) (n : NodeState) (t : Tied A w m) (stands : node_at w k ≡ Some n) (s : Sent) (was_sent : slice_get (after A t.history).sent which ≡ Some s)
+  (fresh : network.is_fresh (after A t.history).drawn s ≡ true) (timely : network.ComesInTime (after A t.history) which) (to_is : s.to ≡ asking m.net k)
+  (place : ℕ) (eom sts : Bool) (tid : ℕ) (user bytes : List ℕ) (packet_is : s.packet ≡ Response place eom sts tid user bytes) where
+  h : Heard A
+  h = heard n.requester s.from (Response place eom sts tid user bytes)
 
--- with nothing open a response is ignored
-none_open : (A : Type 0) (r : Requests) (from : Address) (table : List (List ℕ)) (tid : ℕ) → r.standing ≡ [] → heard {A = A} r from (first_response table tid) ≡ ignored r
-none_open A r from table tid none = ap (λ (l : List Pending). response_came {A = A} r (is_of tid from) 0 (part table) false (find (is_of tid from) l)) none
-  where
-    part : List (List ℕ) → Arrival
-    part table = record { eom = true; packet = record { user = page_user (page_of table 1); data_ = page_data (page_of table 1) } }
+  its_requester : (after A t.history).requesters s.to ≡ n.requester
+  its_requester = ap (after A t.history).requesters to_is ∙ asker_is A w m k n t stands
 
--- it ends the one transaction that asked for it
-finished : (A : Type 0) (n : NodeState) (router tid other : ℕ) (from : Address) (table : List (List ℕ)) → n.requester.standing ≡ zone_transaction n router other ∷ [] → is_of tid from (zone_transaction n router other) ≡ true →
-    heard {A = A} n.requester from (first_response table tid)
-    ≡ record { step = step.Finished (record { user = page_user (page_of table 1); data_ = page_data (page_of table 1) } ∷ []); after = record { next = n.requester.next; standing = [] }; sent = [] }
-finished A n router tid other from table stands is = ap came stands ∙ rw is (rw is refl)
-  where
-    came : List Pending → Heard A
-    came l = response_came (record { next = n.requester.next; standing = l }) (is_of tid from) 0 (record { eom = true; packet = record { user = page_user (page_of table 1); data_ = page_data (page_of table 1) } }) false (find (is_of tid from) l)
+  is_done : done A (after A t.history) (Hears which) ≡ with_requester (after A t.history) (asking m.net k) (heard {A = A} n.requester s.from (Response place eom sts tid user bytes)).after (heard {A = A} n.requester s.from (Response place eom sts tid user bytes)).sent
+  is_done = ap (network.hears A (after A t.history)) was_sent ∙ (λ i. with_requester (after A t.history) (to_is i) (heard {A = A} (its_requester i) s.from (packet_is i)).after (heard {A = A} (its_requester i) s.from (packet_is i)).sent)
 
--- and any other leaves it
-not_its : (A : Type 0) (n : NodeState) (router tid other : ℕ) (from : Address) (table : List (List ℕ)) → n.requester.standing ≡ zone_transaction n router other ∷ [] → is_of tid from (zone_transaction n router other) ≡ false →
-    heard {A = A} n.requester from (first_response table tid) ≡ ignored n.requester
-not_its A n router tid other from table stands is = ap came stands ∙ rw is refl
-  where
-    came : List Pending → Heard A
-    came l = response_came n.requester (is_of tid from) 0 (record { eom = true; packet = record { user = page_user (page_of table 1); data_ = page_data (page_of table 1) } }) false (find (is_of tid from) l)
+  -- the newest transaction of this number, of which the packet is a part of an answer
+  part : (a : Asked m.asked (asking m.net k) tid s.from) × IsPart a.transaction place eom (record { user = user; data_ = bytes })
+  part =
+      let gives = laws.answers t.history t.timely in
+      let p = gives.responded which s place eom sts tid user bytes was_sent fresh packet_is in
+      let a = p.0 in
+      (record { transaction = a.transaction; newest = (λ i. transaction_of (sym t.asked i) (sym to_is i) tid) ∙ a.newest; asked_it = a.asked_it }, p.1)
 
-lawful_response : (A : Type 0) → Laws A → (m : Machine) → Fixed m → (tid : ℕ) → tid < 2 ^ 16 → IsLawful (first_response m.table tid)
-lawful_response A laws m fixed tid fits =
-    (omega arith, record { tid_fits = fits; four = refl; user_bytes = laws.user m.table 1; data_bytes = laws.bytes m.table 1 fixed.table; data_fits = laws.fits m.table 1 })
+  reading_goes_on : (reading : Option ℕ) → (is_finished (heard {A = A} n.requester s.from (Response place eom sts tid user bytes)).step ≡ true → is_reading reading tid ≡ false) → IsReading m k n.requester reading →
+      IsReading (moved m m.asked m.readings) k (heard {A = A} n.requester s.from (Response place eom sts tid user bytes)).after reading
+  reading_goes_on None away r = tt
+  reading_goes_on (Some number) away r = record {
+    server = r.server;
+    is_router = r.is_router;
+    first = r.first;
+    user = r.user;
+    is_open = laws.heard_stays n.requester s.from (Response place eom sts tid user bytes) number r.is_open (λ finished. turned (tid == number) refl (away finished));
+    since = r.since;
+    began = r.began;
+  }
+    where
+      turned : (b : Bool) → (tid == number) ≡ b → (number == tid) ≡ false → b ≡ false
+      turned false e apart = refl
+      turned true e apart = absurd (true≢false (sym (eq-eqb number tid (sym (eqb-true tid number e))) ∙ apart))
 
-module _ (A : Type 0) (laws : Laws A) (w : WorldState) (m : Machine) (which k : ℕ) (n : NodeState) (t : Tied w m) (stands : node_at w k ≡ Some n) where
-  its : TiedNode m k n
-  its = t.nodes k n stands
+  -- a step of a transaction that goes on, or of another than the reading's
+  good_step : (r : Report A) (o : Outcome A) → (is_finished (heard {A = A} n.requester s.from (Response place eom sts tid user bytes)).step ≡ true → is_reading n.reading tid ≡ false) → Step m (event.Deliver which k) r (next m) →
+      o ≡ after_heard n (heard {A = A} n.requester s.from (Response place eom sts tid user bytes)) r n.reading → Good A w m k (event.Deliver which k) o
+  good_step r o away does is = subst (Good A w m k (event.Deliver which k)) (sym is)
+      (good_next A w m k n (event.Deliver which k) (after_heard n (heard {A = A} n.requester s.from (Response place eom sts tid user bytes)) r n.reading) m.asked m.readings t stands
+        (asker_next A w m k n t stands (Hears which) (heard {A = A} n.requester s.from (Response place eom sts tid user bytes)).after n.reading (heard {A = A} n.requester s.from (Response place eom sts tid user bytes)).sent r m.readings timely tt is_done
+          (reading_goes_on n.reading away (t.readings k n stands)) (λ j apart. refl))
+        does)
 
-  abbrev its_page : Packet
-  its_page = page_packet m.table 1
+  -- ---- the end of a reading
 
-  ignoring : (from : Address) (tid : ℕ) (o : Outcome A) → heard {A = A} n.requester from (first_response m.table tid) ≡ ignored n.requester →
-      AtSocket n from Asker (first_response m.table tid) o → Good w m k (event.Deliver which k) o
-  ignoring from tid o is h =
-      good_idle A w m k n (event.Deliver which k) report.Ignored o t stands refl (subst (λ (x : Heard A). AtAsking n tid its_page x x.step o) is h)
+  reads : (reading : Option ℕ) → n.reading ≡ reading → is_reading reading tid ≡ true → Reads m.net m.router m.asked m.readings k n.requester tid
+  reads None is e = absurd (false≢true e)
+  reads (Some number) is e = subst (λ i. Reads m.net m.router m.asked m.readings k n.requester i) (eqb-true number tid e) (subst (IsReading m k n.requester) is (t.readings k n stands))
 
-  -- what is told is the router's table
-  told_table : (r : Report A) → Tells its_page r → r ≡ report.Zones m.table
-  told_table r told =
+  -- the packet is the first page
+  is_page : Reads m.net m.router m.asked m.readings k n.requester tid → ◌≡◌ {A = Packet} (record { user = user; data_ = bytes }) (record { user = page_user (page_of m.table 1); data_ = page_data (page_of m.table 1) })
+  is_page r =
+      let p = part in
+      let a = p.0 in
+      let one : a.transaction ≡ (r.first).transaction = some_transaction a.transaction (r.first).transaction (sym a.newest ∙ (r.first).newest) in
+      let q = p.1 in
+      let pages = one_of (PagesOf m) m.asked (asking m.net k) tid (r.first).transaction (r.first).newest t.pages in
+      let page = pages.0 r.server q.answer r.is_router (r.first).asked_it (subst (λ (x : Transaction). Contains x.answers q.answer) one q.given) in
+      let start : page.0 ≡ 1 = laws.one_start (request_user 1) page.0 1 (subst (λ l. RequestSpells l page.0) r.user page.1) (laws.asks 1 (omega arith) (lit< tt)) in
+      let there = ap (λ l. slice_get l place) (sym (page.2 ∙ ap (page_answer m.table) start)) ∙ q.there in
+      sym (only_packet (record { user = page_user (page_of m.table 1); data_ = page_data (page_of m.table 1) }) (record { user = user; data_ = bytes }) place there)
+
+  told_table : Reads m.net m.router m.asked m.readings k n.requester tid → (r : Report A) → Tells (record { user = user; data_ = bytes }) r → r ≡ report.Zones m.table
+  told_table reading r tells =
       let fixed = t.fixed in
-      laws.told (page_of m.table 1) r (laws.lawful m.table 1 fixed.table) told ∙ ap (λ (p : Page). told_by {A = A} p) (laws.whole m.table fixed.small)
+      laws.told (page_of m.table 1) r (laws.lawful m.table 1 fixed.table) (subst (λ (p : Packet). Tells p r) (is_page reading) tells) ∙ ap (λ (p : Page). told_by {A = A} p) (laws.whole m.table fixed.small)
 
-  -- the reading ends
-  good_end : (from : Address) (tid other : ℕ) (o : Outcome A) → n.reading ≡ Some other → (r : Reads m n other) → is_of tid from (zone_transaction n r.router other) ≡ true →
-      AtSocket n from Asker (first_response m.table tid) o → Good w m k (event.Deliver which k) o
-  good_end from tid other o reads r is h =
-      let left = without_reading m.readings k in
-      subst (λ (x : Outcome A). Good w m k (event.Deliver which k) x) (sym outcome)
-      (good_next A w m k (event.Deliver which k) (after_heard n ended (report.Zones m.table) None) m.asked left t
-      (record { since = r.since; began = subst (λ j. since_of m.readings j ≡ Some r.since) its.number r.began; tells = λ stood. refl; becomes = refl })
-      (record {
-        net = its.net;
-        number = its.number;
-        small = its.small;
-        router = its.router;
-        table = its.table;
-        served = its.served;
-        next_fits = its.next_fits;
-        reading = refl;
-      })
-      (λ j apart. others_left m.readings k j apart)
-      (keeps_all m)
-      tt)
-    where
-      ended : Heard A
-      ended = record { step = step.Finished (its_page ∷ []); after = record { next = n.requester.next; standing = [] }; sent = [] }
+  good_end : (o : Outcome A) → is_reading n.reading tid ≡ true → EndsReading n (heard {A = A} n.requester s.from (Response place eom sts tid user bytes)) (record { user = user; data_ = bytes }) o → Good A w m k (event.Deliver which k) o
+  good_end o mine e =
+      let r = reads n.reading refl mine in
+      let outcome : o ≡ after_heard n (heard {A = A} n.requester s.from (Response place eom sts tid user bytes)) (report.Zones m.table) None = e.outcome ∙ ap (λ x. after_heard n (heard {A = A} n.requester s.from (Response place eom sts tid user bytes)) x None) (told_table r e.told e.tells) in
+      subst (Good A w m k (event.Deliver which k)) (sym outcome)
+      (good_next A w m k n (event.Deliver which k) (after_heard n (heard {A = A} n.requester s.from (Response place eom sts tid user bytes)) (report.Zones m.table) None) m.asked (without_reading m.readings k) t stands
+        (asker_next A w m k n t stands (Hears which) (heard {A = A} n.requester s.from (Response place eom sts tid user bytes)).after None (heard {A = A} n.requester s.from (Response place eom sts tid user bytes)).sent (report.Zones m.table) (without_reading m.readings k) timely tt is_done
+          tt (λ j apart. others_left m.readings k j apart))
+        (record { since = r.since; began = r.began; tells = λ stood. refl; becomes = refl }))
 
-      same : other ≡ tid
-      same = let parts = and_parts (other == tid) (same_address (zones_at n.net r.router) from) is in eqb-true other tid parts.0
+  -- ---- the end of another transaction
 
-      reading : is_reading n.reading tid ≡ true
-      reading = ap (λ x. is_reading x tid) reads ∙ eq-eqb other tid same
+  response : (packets : List Packet) → (heard {A = A} n.requester s.from (Response place eom sts tid user bytes)).step ≡ step.Finished packets → (a : Transaction) × (transaction_of m.asked (asking m.net k) tid ≡ Some a) × IsResponse a packets
+  response packets ended =
+      let gives = laws.answers t.history t.timely in
+      let f = gives.finished which s packets was_sent fresh ((λ i. (heard {A = A} (its_requester i) s.from (packet_is i)).step) ∙ ended) in
+      let a = f.0 in
+      (a.transaction, (λ i. transaction_of (sym t.asked i) (sym to_is i) (number_of (sym packet_is i))) ∙ a.newest, f.1)
 
-      ends : EndsReading n ended its_page o
-      ends = subst (λ b. MatchBool b (EndsReading n ended its_page o) (o ≡ after_heard n ended (report.Response tid (its_page ∷ [])) n.reading)) reading
-          (subst (λ (x : Heard A). AtAsking n tid its_page x x.step o) (finished A n r.router tid other from m.table r.stands is) h)
+  good_finished : (packets : List Packet) (o : Outcome A) → (heard {A = A} n.requester s.from (Response place eom sts tid user bytes)).step ≡ step.Finished packets → (b : Bool) → is_reading n.reading tid ≡ b →
+      MatchBool b (EndsReading n (heard {A = A} n.requester s.from (Response place eom sts tid user bytes)) (record { user = user; data_ = bytes }) o) (o ≡ after_heard n (heard {A = A} n.requester s.from (Response place eom sts tid user bytes)) (report.Response tid packets) n.reading) → Good A w m k (event.Deliver which k) o
+  good_finished packets o ended true e x = good_end o e x
+  good_finished packets o ended false e x =
+      let r = response packets ended in
+      good_step (report.Response tid packets) o (λ finished. e) (record { transaction = r.0; newest = r.1; response = r.2 }, refl) x
 
-      outcome : o ≡ after_heard n ended (report.Zones m.table) None
-      outcome = ends.outcome ∙ ap (λ x. after_heard n ended x None) (told_table ends.told ends.tells)
-
-  at_asker : (from : Address) (tid : ℕ) (o : Outcome A) (reading : Option ℕ) → n.reading ≡ reading → IsReading m n reading → AtSocket n from Asker (first_response m.table tid) o → Good w m k (event.Deliver which k) o
-  at_asker from tid o None reads r h = ignoring from tid o (none_open A n.requester from m.table tid r) h
-  at_asker from tid o (Some other) reads r h = go (is_of tid from (zone_transaction n r.router other)) refl
-    where
-      go : (b : Bool) → is_of tid from (zone_transaction n r.router other) ≡ b → Good w m k (event.Deliver which k) o
-      go true e = good_end from tid other o reads r e h
-      go false e = ignoring from tid o (not_its A n r.router tid other from m.table r.stands e) h
-
-  -- the first page comes to a node
-  pub good_response : (s : SentDatagram) (q : SentResponse m.net m.router m.table s) (o : Outcome A) → Hears n s.bytes o → Good w m k (event.Deliver which k) o
-  good_response s q o h = go (is_mine n d) refl at
-    where
-      p : Parties m.router
-      p = q.parties
-
-      to : Address
-      to = asking m.net p.node
-
-      from : Address
-      from = zones_at m.net p.server
-
-      d : Datagram
-      d = written to from atp_kind (spelled (first_response m.table p.tid))
-
-      at : AtSocket n from (socket_of n d) (first_response m.table p.tid) o
-      at =
-          let fixed = t.fixed in
-          laws.heard n to from (first_response m.table p.tid) o (asking_fits m.net p.node fixed.net p.node_fits) (zones_fit m.net p.server fixed.net (fixed.router p.server p.is_router)) (lawful_response A laws m fixed p.tid p.tid_fits)
-          (subst (λ bytes. Hears n bytes o) q.bytes h)
-
-      go : (b : Bool) → is_mine n d ≡ b → AtSocket n from (cond b Asker Nobody) (first_response m.table p.tid) o → Good w m k (event.Deliver which k) o
-      go false e g = good_idle A w m k n (event.Deliver which k) report.Ignored o t stands refl g
-      go true e g = at_asker from p.tid o n.reading refl its.reading g
+  pub good_heard : (x : Stepped A) (o : Outcome A) → (heard {A = A} n.requester s.from (Response place eom sts tid user bytes)).step ≡ x →
+      AtAsking n tid (record { user = user; data_ = bytes }) (heard {A = A} n.requester s.from (Response place eom sts tid user bytes)) x o → Good A w m k (event.Deliver which k) o
+  good_heard step.Ignored o is at = good_step report.Ignored o (λ finished. absurd (false≢true (ap is_finished (sym is) ∙ finished))) refl at
+  good_heard step.Kept o is at = good_step report.Kept o (λ finished. absurd (false≢true (ap is_finished (sym is) ∙ finished))) refl at
+  good_heard step.AskAgain o is at = good_step report.Again o (λ finished. absurd (false≢true (ap is_finished (sym is) ∙ finished))) refl at
+  good_heard (step.Finished packets) o is at = good_finished packets o is (is_reading n.reading tid) refl at

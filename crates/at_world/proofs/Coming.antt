@@ -1,0 +1,70 @@
+-- What is known of a datagram that comes in time.
+use Rattle.std.proofs.Common.{◌≡◌, ℕ, zero, suc, Bool, true, false, List, [], ◌∷◌, map, Some, None, refl, sym, ap, subst, ◌∙◌}
+use Rattle.std.specs.Prelude.{slice_get, ◌==◌, ◌&&◌}
+use Rattle.std.specs.List.{AllByRecursion}
+use Rattle.std.proofs.lemmas.Bool.{and_parts, eqb-true}
+use Rattle.at_ddp.specs.Address.{same_address}
+use Rattle.at_ddp.specs.declared.address.Address.{Address}
+use Rattle.at_ddp.proofs.Octets.{same_address-true}
+use Rattle.at_atp.specs.Lawfully.{IsLawfullySent}
+use Rattle.at_atp.specs.Network.{Sent, owner, number_of, is_fresh, ComesInTime, after}
+use Rattle.at_atp.specs.Transactions.{Transaction, Asked}
+use Rattle.at_node.specs.declared.drawing.Draw.TheVariants.{Tid}
+use Rattle.at_world.specs.Draws.{last_of, is_no_later}
+use Rattle.at_world.specs.Machine.{Machine}
+use Rattle.at_world.specs.Sents.{SentDatagram}
+use Rattle.at_world.specs.Worlds.{WorldState, IsFresh}
+use Rattle.at_world.proofs.Moves.{one_of}
+use Rattle.at_world.proofs.Tied.{Laws, OnNet, Tied, spelled_sent}
+use Rattle.at_world.proofs.Times.{in_time}
+
+sent_at : (P : Sent → Type 0) (sent : List Sent) (i : ℕ) (s : Sent) → AllByRecursion P sent → slice_get sent i ≡ Some s → P s
+sent_at P [] i s h is = absurd (cc)
+sent_at P (x ∷ sent) zero s h is = let same : x ≡ s = cc in subst P same h.0
+sent_at P (x ∷ sent) (suc i) s h is = sent_at P sent i s h.1 is
+
+-- a packet of the network at the same place
+sent_in : (sent : List Sent) (i : ℕ) (d : SentDatagram) → slice_get (map spelled_sent sent) i ≡ Some d → (s : Sent) × (slice_get sent i ≡ Some s) × (d ≡ spelled_sent s)
+sent_in [] i d is = absurd (cc)
+sent_in (s ∷ sent) zero d is = let same : spelled_sent s ≡ d = cc in (s, refl, sym same)
+sent_in (s ∷ sent) (suc i) d is = sent_in sent i d is
+
+some_sent : (a b : Sent) → Some a ≡ Some b → a ≡ b
+some_sent a b h = cc
+
+pub record Comes (A : Type 0) (w : WorldState) (m : Machine) (t : Tied A w m) (which : ℕ) (d : SentDatagram) : Type 0 where
+  pub packet : Sent
+  pub was_sent : slice_get (after A t.history).sent which ≡ Some packet
+  pub spells : d ≡ spelled_sent packet
+  pub lawful : IsLawfullySent packet
+  pub fresh : is_fresh (after A t.history).drawn packet ≡ true
+  pub timely : ComesInTime (after A t.history) which
+
+pub comes : (A : Type 0) (laws : Laws A) (w : WorldState) (m : Machine) (t : Tied A w m) (which : ℕ) (d : SentDatagram) → slice_get w.sent which ≡ Some d → IsFresh w d → Comes A w m t which d
+comes A laws w m t which d is fresh =
+    let s = sent_in (after A t.history).sent which d (ap (λ l. slice_get l which) (sym t.sent) ∙ is) in
+    let lawful = sent_at IsLawfullySent (after A t.history).sent which s.0 (laws.lawful_sent t.history t.in_range) s.1 in
+    let carried = laws.carries (s.0).to (s.0).from (s.0).packet lawful.to_fits lawful.from_fits lawful.lawful in
+    let late = subst (λ (x : SentDatagram). IsFresh w x) s.2 fresh in
+    let in_the_world = late (owner (s.0).from (s.0).to (s.0).packet).node (Tid (number_of (s.0).packet)) carried in
+    let in_the_network = in_time w.last w.events (owner (s.0).from (s.0).to (s.0).packet) (number_of (s.0).packet) (s.0).event (after A t.history).drawn t.drawn in_the_world in
+    record {
+      packet = s.0;
+      was_sent = s.1;
+      spells = s.2;
+      lawful = lawful;
+      fresh = in_the_network;
+      timely = λ x at. subst (λ (y : Sent). is_fresh (after A t.history).drawn y ≡ true) (some_sent s.0 x (sym s.1 ∙ at)) in_the_network;
+    }
+
+-- who asked, and whom, is on the cable
+pub requester_on_net : (m : Machine) (who : Address) (tid : ℕ) (responder : Address) → AllByRecursion (OnNet m) m.asked → Asked m.asked who tid responder → who.net ≡ m.net
+requester_on_net m who tid responder nets a =
+    let one = one_of (OnNet m) m.asked who tid a.transaction a.newest nets in
+    let both = and_parts (same_address (a.transaction).requester who) ((a.transaction).tid == tid) one.1 in
+    ap (λ (x : Address). x.net) (sym (same_address-true (a.transaction).requester who both.0)) ∙ (one.0).0
+
+pub responder_on_net : (m : Machine) (who : Address) (tid : ℕ) (responder : Address) → AllByRecursion (OnNet m) m.asked → Asked m.asked who tid responder → responder.net ≡ m.net
+responder_on_net m who tid responder nets a =
+    let one = one_of (OnNet m) m.asked who tid a.transaction a.newest nets in
+    ap (λ (x : Address). x.net) (sym a.asked_it) ∙ (one.0).1
