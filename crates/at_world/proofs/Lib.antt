@@ -1,6 +1,7 @@
 mod Calls
 mod Canonical
 mod Coming
+mod Deliveries
 mod DeliveryLemmas
 mod DrawLemmas
 mod Following

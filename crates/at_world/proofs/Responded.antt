@@ -37,6 +37,14 @@ only_packet : (p q : Packet) (place : ℕ) → slice_get (p ∷ []) place ≡ So
 only_packet p q zero h = cc
 only_packet p q (suc place) h = absurd (cc)
 
+-- a response in time is to the newest transaction of its number, whose requester it comes to
+pub part_of : (A : Type 0) (laws : Laws A) (w : WorldState) (m : Machine) (which : ℕ) (t : Tied A w m) (s : Sent) → slice_get (after A t.history).sent which ≡ Some s → network.is_fresh (after A t.history).drawn s ≡ true →
+    (place : ℕ) (eom sts : Bool) (tid : ℕ) (user bytes : List ℕ) → s.packet ≡ Response place eom sts tid user bytes → Asked m.asked s.to tid s.from
+part_of A laws w m which t s was_sent fresh place eom sts tid user bytes is =
+    let gives = laws.answers t.history t.timely in
+    let p = gives.responded which s place eom sts tid user bytes was_sent fresh is in
+    subst (λ ts. Asked ts s.to tid s.from) t.asked p.0
+
 module _ (A : Type 0) (laws : Laws A) (w : WorldState) (m : Machine) (which k : ℕ) (n : NodeState) (t : Tied A w m) (stands : node_at w k ≡ Some n) (s : Sent) (was_sent : slice_get (after A t.history).sent which ≡ Some s)
   (fresh : network.is_fresh (after A t.history).drawn s ≡ true) (timely : network.ComesInTime (after A t.history) which) (to_is : s.to ≡ asking m.net k)
   (place : ℕ) (eom sts : Bool) (tid : ℕ) (user bytes : List ℕ) (packet_is : s.packet ≡ Response place eom sts tid user bytes) where
