@@ -1,21 +1,25 @@
 -- The opening world and the opening machine are tied.
-use Rattle.std.proofs.Common.{◌≡◌, ℕ, ◌<◌, ◌≤◌, Bool, true, false, cond, List, [], ◌∷◌, length, map, nat_le, Some, None, refl, subst, arith}
+use Rattle.std.proofs.Common.{◌≡◌, ℕ, ◌+◌, ◌<◌, ◌≤◌, Bool, true, false, cond, List, [], ◌∷◌, length, map, nat_le, Some, None, refl, sym, ap, subst, arith}
 use Rattle.std.specs.Prelude.{find, option_map, count_by, ◌==◌, ◌&&◌, ◌||◌, nat_lt}
 use Rattle.std.specs.List.{list_all, AllByRecursion}
 use Rattle.std.proofs.lemmas.Bool.{and_parts, leb-true, ltb-true, eqb-true}
 use Rattle.std.proofs.lemmas.List.{length-append}
 use Rattle.std.proofs.lemmas.List.Elements.{All-from_recursion}
+use Rattle.std.proofs.lemmas.List.Sums.{sum_by-cons}
+use Rattle.at_ddp.specs.declared.address.Address.{Address}
+use Rattle.at_atp.specs.Requests.{no_requests}
 use Rattle.at_zip.specs.Names.{spelled}
 use Rattle.at_zip.specs.Zones.{IsName}
-use Rattle.at_node.specs.Nodes.{NodeState}
+use Rattle.at_node.specs.Nodes.{NodeState, opening}
 use Rattle.at_world.specs.declared.setup.NodeSetup.{NodeSetup}
 use Rattle.at_world.specs.declared.setup.Setup.{Setup}
 use Rattle.at_world.specs.Machine.{opening_machine}
 use Rattle.at_world.specs.Plays.{router_of, opening_node, opening_world}
 use Rattle.at_world.specs.Setups.{is_byte, is_name, is_lawful_node, stands_once, has_router, are_in_zones, are_lawful_nodes, spelled_len, is_lawful_table, is_lawful}
 use Rattle.at_world.specs.Worlds.{is_numbered}
+use Rattle.at_world.proofs.Places.{requester_of, requester_at, service_of, served_of, records_at}
 use Rattle.at_world.proofs.SetupLemmas.{spelled_len-cons}
-use Rattle.at_world.proofs.Tied.{TiedNode, Tied}
+use Rattle.at_world.proofs.Tied.{TiedNode, IsReading, Tied}
 
 -- ---- what a lawful setup has
 
@@ -62,42 +66,109 @@ router_fits (n ∷ ns) r h is = go (λ each g. router_fits ns r each g) n.router
         omega (arith, same, fits)
     go ih false g = let parts = and_parts (is_lawful_node n) (list_all is_lawful_node ns) h in ih parts.1 g
 
+routers-cons : (x : NodeSetup) (ns : List NodeSetup) → count_by (λ n. n.router) (x ∷ ns) ≡ cond x.router 1 0 + count_by (λ n. n.router) ns
+routers-cons x ns = sum_by-cons (λ (n : NodeSetup). cond n.router 1 0) x ns
+
+-- where a router is found, one is counted
+router_counts : (ns : List NodeSetup) (k : ℕ) → router_of ns ≡ Some k → 1 ≤ count_by (λ n. n.router) ns
+router_counts [] k is = absurd (cc)
+router_counts (x ∷ ns) k is = rw (routers-cons x ns) (go (router_counts ns k) x.router is)
+  where
+    go : (router_of ns ≡ Some k → 1 ≤ count_by (λ n. n.router) ns) → (b : Bool) → option_map (λ (n : NodeSetup). n.node) (cond b (Some x) (find (λ n. n.router) ns)) ≡ Some k → 1 ≤ cond b 1 0 + count_by (λ n. n.router) ns
+    go ih true g = omega arith
+    go ih false g = let rest = ih g in omega (arith, rest)
+
 -- ---- the nodes
 
 module _ (A : Type 0) (s : Setup A) where
-  tied_one : (k : ℕ) (x : NodeSetup) → is_lawful_node x ≡ true → (x.node == k) ≡ true → TiedNode (opening_machine s) k (opening_node s x)
-  tied_one k x ok is =
+  -- of at most one router, a node that has a table is the first
+  router_is : (ns : List NodeSetup) → count_by (λ n. n.router) ns ≤ 1 → (k : ℕ) (n : NodeState) → find (is_numbered k) (map (opening_node s) ns) ≡ Some n → (t : List (List ℕ)) → n.table ≡ Some t → router_of ns ≡ Some k
+  router_is [] few k n h t has = absurd (cc)
+  router_is (x ∷ ns) few k n h t has = go (λ less g. router_is ns less k n g t has) x.router (x.node == k) refl (subst (λ m. m ≤ 1) (routers-cons x ns) few) h
+    where
+      opened : Bool → NodeState
+      opened b = opening s.net x.node (router_of s.nodes) (cond b (Some s.zones) None)
+
+      go : (count_by (λ n. n.router) ns ≤ 1 → find (is_numbered k) (map (opening_node s) ns) ≡ Some n → router_of ns ≡ Some k) → (b c : Bool) → (x.node == k) ≡ c → cond b 1 0 + count_by (λ n. n.router) ns ≤ 1 → cond c (Some (opened b)) (find (is_numbered k) (map (opening_node s) ns)) ≡ Some n
+          → option_map (λ (n : NodeSetup). n.node) (cond b (Some x) (find (λ n. n.router) ns)) ≡ Some k
+      go ih true true e less g = ap Some (eqb-true x.node k e)
+      go ih true false e less g = let one = router_counts ns k (ih (omega (arith, less)) g) in absurd (omega (arith, one, less))
+      go ih false true e less g = absurd (cc)
+      go ih false false e less g = ih (omega (arith, less)) g
+
+  tied_one : (k : ℕ) (x : NodeSetup) → is_lawful_node x ≡ true → (x.node == k) ≡ true → ((t : List (List ℕ)) → (opening_node s x).table ≡ Some t → router_of s.nodes ≡ Some k) → TiedNode (opening_machine s) k (opening_node s x)
+  tied_one k x ok is first =
       let same : x.node ≡ k = eqb-true x.node k is in
       let fits = node_fits x ok in
-      record {
-        net = refl;
-        number = same;
-        small = omega (arith, same, fits);
-        router = refl;
-        table = λ t h. table_is x.router t h;
-        served = refl;
-        next_fits = omega arith;
-        reading = refl;
-      }
+      record { net = refl; number = same; small = omega (arith, same, fits); router = refl; table = λ t h. (table_is x.router t h, first t h) }
     where
       table_is : (b : Bool) (t : List (List ℕ)) → cond b (Some s.zones) None ≡ Some t → t ≡ s.zones
       table_is true t h = cc
       table_is false t h = absurd (cc)
 
-  tied_nodes : (ns : List NodeSetup) → list_all is_lawful_node ns ≡ true → (k : ℕ) (n : NodeState) → find (is_numbered k) (map (opening_node s) ns) ≡ Some n → TiedNode (opening_machine s) k n
-  tied_nodes [] ok k n h = absurd (cc)
-  tied_nodes (x ∷ ns) ok k n h = go (λ each g. tied_nodes ns each k n g) (x.node == k) refl h
+  tied_nodes : (ns : List NodeSetup) → list_all is_lawful_node ns ≡ true → (k : ℕ) (n : NodeState) → ((t : List (List ℕ)) → n.table ≡ Some t → router_of s.nodes ≡ Some k) → find (is_numbered k) (map (opening_node s) ns) ≡ Some n → TiedNode (opening_machine s) k n
+  tied_nodes [] ok k n first h = absurd (cc)
+  tied_nodes (x ∷ ns) ok k n first h = go (λ each g. tied_nodes ns each k n first g) (x.node == k) refl h
     where
       go : (list_all is_lawful_node ns ≡ true → find (is_numbered k) (map (opening_node s) ns) ≡ Some n → TiedNode (opening_machine s) k n) → (b : Bool) → (x.node == k) ≡ b → cond b (Some (opening_node s x)) (find (is_numbered k) (map (opening_node s) ns)) ≡ Some n → TiedNode (opening_machine s) k n
       go ih true e g =
           let parts = and_parts (is_lawful_node x) (list_all is_lawful_node ns) ok in
           let same : opening_node s x ≡ n = cc in
-          subst (TiedNode (opening_machine s) k) same (tied_one k x parts.0 e)
+          subst (TiedNode (opening_machine s) k) same (tied_one k x parts.0 e (subst (λ (y : NodeState). (t : List (List ℕ)) → y.table ≡ Some t → router_of s.nodes ≡ Some k) (sym same) first))
       go ih false e g = let parts = and_parts (is_lawful_node x) (list_all is_lawful_node ns) ok in ih parts.1 g
+
+  -- no node has begun anything
+  nothing_begun : (ns : List NodeSetup) (k : ℕ) → requester_of (find (is_numbered k) (map (opening_node s) ns)) ≡ no_requests
+  nothing_begun [] k = refl
+  nothing_begun (x ∷ ns) k = go (nothing_begun ns k) (x.node == k)
+    where
+      go : requester_of (find (is_numbered k) (map (opening_node s) ns)) ≡ no_requests → (b : Bool) → requester_of (cond b (Some (opening_node s x)) (find (is_numbered k) (map (opening_node s) ns))) ≡ no_requests
+      go ih true = refl
+      go ih false = ih
+
+  nothing_came : (ns : List NodeSetup) (k : ℕ) → service_of (find (is_numbered k) (map (opening_node s) ns)) ≡ []
+  nothing_came [] k = refl
+  nothing_came (x ∷ ns) k = go (nothing_came ns k) (x.node == k)
+    where
+      go : service_of (find (is_numbered k) (map (opening_node s) ns)) ≡ [] → (b : Bool) → service_of (cond b (Some (opening_node s x)) (find (is_numbered k) (map (opening_node s) ns))) ≡ []
+      go ih true = refl
+      go ih false = ih
+
+  nothing_served : (ns : List NodeSetup) (k : ℕ) → served_of (find (is_numbered k) (map (opening_node s) ns)) ≡ []
+  nothing_served [] k = refl
+  nothing_served (x ∷ ns) k = go (nothing_served ns k) (x.node == k)
+    where
+      go : served_of (find (is_numbered k) (map (opening_node s) ns)) ≡ [] → (b : Bool) → served_of (cond b (Some (opening_node s x)) (find (is_numbered k) (map (opening_node s) ns))) ≡ []
+      go ih true = refl
+      go ih false = ih
+
+  nothing_read : (ns : List NodeSetup) (k : ℕ) (n : NodeState) → find (is_numbered k) (map (opening_node s) ns) ≡ Some n → n.reading ≡ None
+  nothing_read [] k n h = absurd (cc)
+  nothing_read (x ∷ ns) k n h = go (nothing_read ns k n) (x.node == k) h
+    where
+      go : (find (is_numbered k) (map (opening_node s) ns) ≡ Some n → n.reading ≡ None) → (b : Bool) → cond b (Some (opening_node s x)) (find (is_numbered k) (map (opening_node s) ns)) ≡ Some n → n.reading ≡ None
+      go ih true g = cc
+      go ih false g = ih g
+
+  requester_opens : (who : Address) → no_requests ≡ requester_at s.net (map (opening_node s) s.nodes) who
+  requester_opens who = go ((s.net == who.net) && (128 == who.socket))
+    where
+      go : (b : Bool) → no_requests ≡ cond b (requester_of (find (is_numbered who.node) (map (opening_node s) s.nodes))) no_requests
+      go true = sym (nothing_begun s.nodes who.node)
+      go false = refl
+
+  responder_opens : (at : Address) → [] ≡ records_at s.net (map (opening_node s) s.nodes) at
+  responder_opens at = go (s.net == at.net) (129 == at.socket) (6 == at.socket)
+    where
+      go : (a b c : Bool) → [] ≡ cond a (cond b (service_of (find (is_numbered at.node) (map (opening_node s) s.nodes))) (cond c (served_of (find (is_numbered at.node) (map (opening_node s) s.nodes))) [])) []
+      go false b c = refl
+      go true true c = sym (nothing_came s.nodes at.node)
+      go true false true = sym (nothing_served s.nodes at.node)
+      go true false false = refl
 
   -- ---- the whole
 
-  pub tied_at_opening : is_lawful s ≡ true → Tied (opening_world s) (opening_machine s)
+  pub tied_at_opening : is_lawful s ≡ true → Tied A (opening_world s) (opening_machine s)
   tied_at_opening ok =
       let ns = s.nodes in
       let router = has_router ns in
@@ -106,6 +177,7 @@ module _ (A : Type 0) (s : Setup A) where
       let c = and_parts (nat_lt 0 s.net) (nat_lt s.net 65536) b.0 in
       let d = and_parts (nat_le (length ns) 16 && list_all is_lawful_node ns && list_all (stands_once ns) ns && nat_le (count_by (λ n. n.router) ns) 1) (are_in_zones ns) b.1 in
       let e = and_parts (nat_le (length ns) 16 && list_all is_lawful_node ns && list_all (stands_once ns) ns) (nat_le (count_by (λ n. n.router) ns) 1) d.0 in
+      let one = leb-true (count_by (λ n. n.router) ns) 1 e.1 in
       let f = and_parts (nat_le (length ns) 16 && list_all is_lawful_node ns) (list_all (stands_once ns) ns) e.0 in
       let g = and_parts (nat_le (length ns) 16) (list_all is_lawful_node ns) f.0 in
       let h = and_parts (list_all is_name s.zones && nat_le (spelled_len s.zones) 578) (router || (length s.zones == 0)) a.1 in
@@ -118,6 +190,17 @@ module _ (A : Type 0) (s : Setup A) where
           table = record { each = All-from_recursion IsName s.zones (names_are s.zones i.0); count = omega (arith, few_names s.zones, small) };
           small = omega (arith, spelled_as_counted s.zones, small);
         };
-        nodes = λ k n is. tied_nodes ns g.1 k n is;
-        sent = tt;
+        history = [];
+        timely = tt;
+        in_range = tt;
+        events = refl;
+        requesters = requester_opens;
+        responders = responder_opens;
+        sent = refl;
+        drawn = tt;
+        asked = refl;
+        nodes = λ k n is. tied_nodes ns g.1 k n (λ t has. router_is ns one k n is t has) is;
+        readings = λ k n is. subst (IsReading (opening_machine s) k n.requester) (sym (nothing_read ns k n is)) tt;
+        pages = tt;
+        nets = tt;
       }
