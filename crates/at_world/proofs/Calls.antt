@@ -1,22 +1,21 @@
 -- What a node's calls are in the machine.
-use Rattle.std.proofs.Common.{◌≡◌, ℕ, ◌+◌, ◌^◌, ◌<◌, ◌≤◌, Bool, true, false, cond, List, [], ◌∷◌, ◌++◌, length, map, replicate, Option, Some, None, refl, sym, ap, subst, ◌∙◌, arith, lit<, lit≤}
+use Rattle.std.proofs.Common.{◌≡◌, ℕ, ◌^◌, ◌<◌, ◌≤◌, Bool, true, false, cond, List, [], ◌∷◌, ◌++◌, length, map, Option, Some, None, refl, sym, ap, subst, ◌∙◌, arith, lit<, lit≤}
 use Rattle.std.specs.Prelude.{find, option_map, ◌==◌, ◌&&◌, ◌||◌, nat_lt, nat_le}
-use Rattle.std.specs.List.{AllByRecursion, All, list_all}
+use Rattle.std.specs.List.{AllByRecursion}
 use Rattle.std.proofs.lemmas.Bool.{true≢false, false≢true, eq-eqb, eqb-true, and_parts, leb-true}
 use Rattle.std.proofs.lemmas.Bool.Decides.{nat_tests}
 use Rattle.std.proofs.lemmas.List.{length-replicate}
 use Rattle.std.proofs.lemmas.List.Elements.{All-from_recursion, All-nil}
-use Rattle.at_ddp.specs.Datagram.{IsAddress, AreBytes}
+use Rattle.at_ddp.specs.Datagram.{IsAddress}
 use Rattle.at_ddp.specs.declared.address.Address.{Address}
 use Rattle.at_ddp.proofs.Octets.{same_address_itself}
 use Rattle.at_atp.specs.Fault.{number_of}
-use Rattle.at_atp.specs.Frames.{spelled_all}
-use Rattle.at_atp.specs.Lawfully.{IsPacket, AreWords, IsAsking}
+use Rattle.at_atp.specs.Lawfully.{IsPacket, AreWords}
 use Rattle.at_atp.specs.Network as network
 use Rattle.at_atp.specs.Network.{Network, Answers, after, done, put, stamped, new_transaction}
 use Rattle.at_atp.specs.Packets.{Packet}
 use Rattle.at_atp.specs.Answers as arrivals
-use Rattle.at_atp.specs.Records.{Record, State, Waiting, Answered, Released, is_key, answer_fault, record_fault, asked_for, fit}
+use Rattle.at_atp.specs.Records.{Record, is_key, answer_fault, record_fault, asked_for, fit}
 use Rattle.at_atp.specs.Requests as requests
 use Rattle.at_atp.specs.Requests.{Requests, has_number, next_number, beginning, request_by}
 use Rattle.at_atp.specs.Tables.{without_first}
@@ -28,18 +27,17 @@ use Rattle.at_zip.specs.Request.{request_user}
 use Rattle.at_node.specs.Calls.{IsCall}
 use Rattle.at_node.specs.Drawing.{drawn_by, draw_of}
 use Rattle.at_node.specs.Nodes.{NodeState, Outcome, posted, idle}
-use Rattle.at_node.specs.Steps.{asking, serving, zones_at, at_socket, zone_transaction, reading_begins, zones_called, asked_as, ask_called, refused_as, answered_with, answer_called, called}
-use Rattle.at_node.specs.declared.drawing.Draw.TheVariants.{Tid}
+use Rattle.at_node.specs.Steps.{asking, serving, zones_at, at_socket, zone_transaction, reading_begins, zones_called, asked_as, refused_as, answered_with, called}
 use Rattle.at_node.specs.declared.event.Call.{Call}
 use Rattle.at_node.specs.declared.event.Call.TheVariants.{Zones, Ask, Answer}
 use Rattle.at_node.specs.declared.event.Report.{Report}
 use Rattle.at_node.specs.declared.event.Report.TheVariants as report
-use Rattle.at_world.specs.Machine.{Machine, Reading, first_page, since_of, next, at_net, Step}
+use Rattle.at_world.specs.Machine.{Machine, Reading, next, at_net, Step}
 use Rattle.at_world.specs.Worlds.{WorldState, node_at, recorded, holds_some}
 use Rattle.at_world.specs.declared.event.Event.{Event}
 use Rattle.at_world.specs.declared.event.Event.TheVariants as event
-use Rattle.at_world.proofs.Moves.{asker_is, service_is, served_is, idle_next, begun_next, gave_next, with_service, pages_elsewhere}
-use Rattle.at_world.proofs.Tied.{Laws, TiedNode, IsReading, Reads, Tied, Next, moved, tied_next}
+use Rattle.at_world.proofs.Moves.{service_is, idle_next, begun_next, gave_next, with_service, pages_elsewhere}
+use Rattle.at_world.proofs.Tied.{Laws, IsReading, Tied, Next, moved, tied_next}
 use Rattle.at_world.proofs.Times.{none_holds}
 
 -- the machine follows this outcome of a node's step

@@ -1,28 +1,26 @@
 -- What a datagram that comes to a node is in the machine.
-use Rattle.std.proofs.Common.{◌≡◌, ◌⊎◌, inl, inr, ℕ, Bool, true, false, cond, List, [], ◌∷◌, Option, Some, None, refl, sym, ap, subst, ◌∙◌}
-use Rattle.std.specs.Prelude.{slice_get, ◌==◌, ◌&&◌, ◌||◌}
-use Rattle.std.proofs.lemmas.Bool.{true≢false, and_parts, eqb-true}
+use Rattle.std.proofs.Common.{◌≡◌, inl, inr, ℕ, Bool, true, false, cond, List, Option, Some, None, refl, sym, ap, subst, ◌∙◌}
+use Rattle.std.specs.Prelude.{◌==◌, ◌&&◌, ◌||◌}
+use Rattle.std.proofs.lemmas.Bool.{and_parts, eqb-true}
 use Rattle.at_ddp.specs.Datagram.{Content as Datagram, written}
-use Rattle.at_ddp.specs.declared.address.Address.{Address}
 use Rattle.at_atp.specs.Frames.{Content, Request, Response, Release, spelled}
-use Rattle.at_atp.specs.Network.{Sent, after}
+use Rattle.at_atp.specs.Network.{Sent}
 use Rattle.at_atp.specs.Requests.{heard}
-use Rattle.at_atp.specs.Transactions.{Asked}
-use Rattle.at_node.specs.Hearing.{Nobody, Asker, Service, Zones, Socket, AtAsking, AtService, AtZones, AtSocket, Hears, is_asked, is_mine, socket_of, router_socket}
+use Rattle.at_node.specs.Hearing.{Nobody, Asker, Service, AtAsking, AtService, AtZones, AtSocket, Hears, is_asked, is_mine, socket_of, router_socket}
 use Rattle.at_node.specs.Nodes.{NodeState, Outcome, idle}
-use Rattle.at_node.specs.Steps.{asking, serving, zones_at, atp_kind, packet_in, tid_of, zone_asked}
+use Rattle.at_node.specs.Steps.{atp_kind, packet_in, tid_of, zone_asked}
 use Rattle.at_node.specs.declared.event.Report.TheVariants as report
 use Rattle.at_node.specs.declared.service.Reply.{Reply}
 use Rattle.at_node.specs.declared.service.Reply.TheVariants as reply
 use Rattle.at_world.specs.Machine.{Machine}
 use Rattle.at_world.specs.Sents.{SentDatagram}
-use Rattle.at_world.specs.Worlds.{WorldState, node_at, IsFresh}
+use Rattle.at_world.specs.Worlds.{WorldState, node_at}
 use Rattle.at_world.specs.declared.event.Event.TheVariants as event
 use Rattle.at_world.proofs.Calls.{Good, good_idle}
-use Rattle.at_world.proofs.Coming.{Comes, comes, requester_on_net, responder_on_net}
+use Rattle.at_world.proofs.Coming.{Comes, requester_on_net, responder_on_net}
 use Rattle.at_world.proofs.Requested.{asks, good_question, good_page}
 use Rattle.at_world.proofs.Responded.{part_of, good_heard}
-use Rattle.at_world.proofs.Tied.{Laws, TiedNode, Tied}
+use Rattle.at_world.proofs.Tied.{Laws, Tied}
 
 module _ (A : Type 0) (laws : Laws A) (w : WorldState) (m : Machine) (which k : ℕ) (n : NodeState) (t : Tied A w m) (stands : node_at w k ≡ Some n) (d : SentDatagram) (c : Comes A w m t which d) where
   ignoring : (o : Outcome A) → o ≡ idle n report.Ignored → Good A w m k (event.Deliver which k) o

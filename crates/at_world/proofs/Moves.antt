@@ -1,10 +1,9 @@
 -- The kinds of steps: nothing happens, a requester or a responder changes, an answer joins, a transaction begins.
-use Rattle.std.proofs.Common.{◌≡◌, ◌⊎◌, ⊎_elim, inl, inr, ℕ, ◌+◌, ◌<◌, ◌≤◌, Bool, true, false, cond, List, [], ◌∷◌, ◌++◌, length, map, Option, Some, None, refl, sym, ap, subst, ◌∙◌, arith}
-use Rattle.std.specs.Prelude.{find, ◌==◌, ◌&&◌}
+use Rattle.std.proofs.Common.{◌≡◌, ℕ, ◌+◌, Bool, true, false, cond, List, [], ◌∷◌, ◌++◌, map, Option, Some, None, refl, sym, ap, subst, ◌∙◌, arith}
+use Rattle.std.specs.Prelude.{◌==◌, ◌&&◌}
 use Rattle.std.specs.List.{AllByRecursion, Contains}
-use Rattle.std.proofs.lemmas.Bool.{true≢false, eq-eqb, eqb-true}
+use Rattle.std.proofs.lemmas.Bool.{eq-eqb}
 use Rattle.std.proofs.lemmas.List.{append-nil}
-use Rattle.std.proofs.lemmas.List.Elements.{Contains-append_cases}
 use Rattle.at_ddp.specs.Address.{same_address}
 use Rattle.at_ddp.specs.declared.address.Address.{Address}
 use Rattle.at_atp.specs.Frames.{Content, spelled_all}
@@ -12,14 +11,12 @@ use Rattle.at_atp.specs.Lawfully.{IsInRange, IsAsking}
 use Rattle.at_atp.specs.Network as network
 use Rattle.at_atp.specs.Network.{Network, Sent, Happening, Begins, Answers, Other, NoneHolds, after, done, put, stamped, with_requester, with_responder, new_transaction, IsTimely}
 use Rattle.at_atp.specs.Packets.{Packet}
-use Rattle.at_atp.specs.Records.{Record, is_key, asked_for}
+use Rattle.at_atp.specs.Records.{Record}
 use Rattle.at_atp.specs.Requests as requests
 use Rattle.at_atp.specs.Requests.{Requests, next_number, beginning, request_by}
-use Rattle.at_atp.specs.Tables.{without_first}
 use Rattle.at_atp.specs.Transactions.{Transaction, is_transaction, transaction_of, Asked, answered}
-use Rattle.at_atp.specs.declared.reception.Key.{Key}
 use Rattle.at_node.specs.Drawing.{drawn_by}
-use Rattle.at_node.specs.Nodes.{NodeState, Outgoing, posted, sent_by}
+use Rattle.at_node.specs.Nodes.{NodeState, posted, sent_by}
 use Rattle.at_node.specs.Steps.{asking, serving, zones_at, atp_kind}
 use Rattle.at_node.specs.declared.drawing.Draw.TheVariants.{Tid}
 use Rattle.at_node.specs.declared.event.Report.{Report}
@@ -29,7 +26,7 @@ use Rattle.at_world.specs.Machine.{Machine, Reading, since_of}
 use Rattle.at_world.specs.Sents.{stamp}
 use Rattle.at_world.specs.Worlds.{WorldState, node_at}
 use Rattle.at_world.proofs.Places.{requester_here, service_here, served_here}
-use Rattle.at_world.proofs.Tied.{Laws, TiedNode, IsReading, PagesOf, OnNet, Tied, Next, moved, spelled_sent, put_same, put_itself, put_here, posted_as_sent}
+use Rattle.at_world.proofs.Tied.{Laws, TiedNode, IsReading, PagesOf, OnNet, Tied, Next, moved, spelled_sent, put_same, put_itself, posted_as_sent}
 use Rattle.at_world.proofs.Times.{IsNoted, all_noted, noted_now}
 
 -- ---- lists of transactions

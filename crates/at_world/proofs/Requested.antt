@@ -1,39 +1,38 @@
 -- What a request that comes to a node's service, or to the router's zone socket, is in the machine.
-use Rattle.std.proofs.Common.{◌≡◌, ◌⊎◌, inl, inr, ℕ, zero, suc, ◌<◌, ◌≤◌, Bool, true, false, cond, List, [], ◌∷◌, ◌++◌, length, Option, Some, None, refl, sym, ap, subst, ◌∙◌, arith, lit<, lit≤}
-use Rattle.std.specs.Prelude.{find, slice_get, nat_le, ◌==◌, ◌&&◌}
-use Rattle.std.specs.List.{AllByRecursion, Contains}
-use Rattle.std.proofs.lemmas.Bool.{true≢false, false≢true, le-leb}
+use Rattle.std.proofs.Common.{◌≡◌, ◌⊎◌, inl, inr, ℕ, zero, suc, Bool, true, false, cond, List, [], ◌∷◌, ◌++◌, length, Some, None, refl, sym, ap, subst, ◌∙◌, arith}
+use Rattle.std.specs.Prelude.{find, slice_get, nat_le, ◌&&◌}
+use Rattle.std.specs.List.{Contains}
+use Rattle.std.proofs.lemmas.Bool.{le-leb}
 use Rattle.std.proofs.lemmas.List.{append-nil}
 use Rattle.std.proofs.lemmas.List.Elements.{Contains-append_cases}
 use Rattle.at_ddp.specs.Address.{same_address}
 use Rattle.at_ddp.specs.declared.address.Address.{Address}
-use Rattle.at_atp.specs.Frames.{Content, Request, spelled_all}
+use Rattle.at_atp.specs.Frames.{Request}
 use Rattle.at_atp.specs.Lawfully.{IsPacket}
 use Rattle.at_atp.specs.Network as network
 use Rattle.at_atp.specs.Network.{Network, Sent, Takes, Serves, after, done, put, stamped, with_responder}
 use Rattle.at_atp.specs.Packets.{Packet}
-use Rattle.at_atp.specs.Records.{Record, Taken, is_key, taken, finds_no_place, record_fault, answer_fault, asked_for, fit}
+use Rattle.at_atp.specs.Records.{Record, Taken, is_key, taken, finds_no_place, record_fault, answer_fault, asked_for}
 use Rattle.at_atp.specs.Tables.{without_first}
 use Rattle.at_atp.specs.Transactions.{Transaction, transaction_of, Asked, answered}
-use Rattle.at_atp.specs.declared.fault.AtpFault.{AtpFault}
 use Rattle.at_atp.specs.declared.fault.AtpFault.TheVariants.{AtpTooLong}
 use Rattle.at_atp.specs.declared.reception.Key.{Key}
 use Rattle.at_atp.specs.declared.reception.Reception.{Reception}
 use Rattle.at_atp.specs.declared.reception.Reception.TheVariants as reception
-use Rattle.at_zip.specs.Page.{page_of, page_user, page_data}
+use Rattle.at_zip.specs.Page.{page_of, page_data}
 use Rattle.at_zip.specs.Request.{RequestSpells}
 use Rattle.at_node.specs.Hearing.{is_asked}
 use Rattle.at_node.specs.Nodes.{NodeState, Outcome, idle}
-use Rattle.at_node.specs.Steps.{serving, zones_at, page_packet, zone_served, zone_taken, at_zones, zone_asked, service_taken, after_reply, sent_by_reply, handed_up, at_service, service_asked}
+use Rattle.at_node.specs.Steps.{serving, zones_at, page_packet, zone_served, zone_taken, at_zones, zone_asked, service_taken, handed_up, at_service, service_asked}
 use Rattle.at_node.specs.declared.event.Report.TheVariants as report
 use Rattle.at_node.specs.declared.service.Reply.{Reply}
 use Rattle.at_node.specs.declared.service.Reply.TheVariants as reply
-use Rattle.at_world.specs.Machine.{Machine, next, page_answer, Step}
+use Rattle.at_world.specs.Machine.{Machine, page_answer}
 use Rattle.at_world.specs.Worlds.{WorldState, node_at}
 use Rattle.at_world.specs.declared.event.Event.TheVariants as event
 use Rattle.at_world.proofs.Calls.{Good, good_next, good_idle}
 use Rattle.at_world.proofs.Moves.{service_is, served_is, service_next, zones_next, gave_next, with_served}
-use Rattle.at_world.proofs.Tied.{Laws, TiedNode, PagesOf, Tied, moved, put_here}
+use Rattle.at_world.proofs.Tied.{Laws, PagesOf, Tied, put_here}
 
 module _ (A : Type 0) (laws : Laws A) (w : WorldState) (m : Machine) (which k : ℕ) (n : NodeState) (t : Tied A w m) (stands : node_at w k ≡ Some n) (s : Sent) (was_sent : slice_get (after A t.history).sent which ≡ Some s)
   (fresh : network.is_fresh (after A t.history).drawn s ≡ true) (timely : network.ComesInTime (after A t.history) which)

@@ -1,30 +1,27 @@
 -- What a packet that comes to a node's asking socket is in the machine.
-use Rattle.std.proofs.Common.{◌≡◌, ◌⊎◌, inl, inr, ℕ, zero, suc, ◌<◌, Bool, true, false, cond, List, [], ◌∷◌, length, Option, Some, None, refl, sym, ap, subst, ◌∙◌, arith, lit<, lit≤}
-use Rattle.std.specs.Prelude.{slice_get, MatchBool, ◌==◌, ◌&&◌}
-use Rattle.std.specs.List.{AllByRecursion, Contains}
+use Rattle.std.proofs.Common.{◌≡◌, ℕ, zero, suc, Bool, true, false, List, [], ◌∷◌, Option, Some, None, refl, sym, ap, subst, ◌∙◌, arith, lit<}
+use Rattle.std.specs.Prelude.{slice_get, MatchBool, ◌==◌}
+use Rattle.std.specs.List.{Contains}
 use Rattle.std.proofs.lemmas.Bool.{true≢false, false≢true, eq-eqb, eqb-true}
-use Rattle.at_ddp.specs.declared.address.Address.{Address}
-use Rattle.at_atp.specs.Frames.{Content, Request, Response, Release}
+use Rattle.at_atp.specs.Frames.{Response}
 use Rattle.at_atp.specs.Network as network
 use Rattle.at_atp.specs.Network.{Sent, Hears, number_of, after, done, with_requester}
 use Rattle.at_atp.specs.Packets.{Packet}
-use Rattle.at_atp.specs.Requests.{Requests, Heard, has_number, is_finished, heard}
+use Rattle.at_atp.specs.Requests.{Heard, is_finished, heard}
 use Rattle.at_atp.specs.Transactions.{Transaction, transaction_of, Asked, IsPart, IsResponse}
 use Rattle.at_atp.specs.declared.step.Step.{Step as Stepped}
 use Rattle.at_atp.specs.declared.step.Step.TheVariants as step
 use Rattle.at_zip.specs.Page.{Page, page_of, page_user, page_data}
 use Rattle.at_zip.specs.Request.{RequestSpells, request_user}
-use Rattle.at_node.specs.Hearing.{Asker, AtAsking, AtSocket, EndsReading, Tells, told_by}
-use Rattle.at_node.specs.Nodes.{NodeState, Outcome, idle}
-use Rattle.at_node.specs.Steps.{asking, zones_at, is_reading, packet_in, after_heard}
+use Rattle.at_node.specs.Hearing.{AtAsking, EndsReading, Tells, told_by}
+use Rattle.at_node.specs.Nodes.{NodeState, Outcome}
+use Rattle.at_node.specs.Steps.{asking, is_reading, after_heard}
 use Rattle.at_node.specs.declared.event.Report.{Report}
 use Rattle.at_node.specs.declared.event.Report.TheVariants as report
-use Rattle.at_node.specs.declared.service.Reply.{Reply}
-use Rattle.at_world.specs.Machine.{Machine, since_of, without_reading, next, page_answer, Step}
+use Rattle.at_world.specs.Machine.{Machine, without_reading, next, page_answer, Step}
 use Rattle.at_world.specs.Worlds.{WorldState, node_at}
 use Rattle.at_world.specs.declared.event.Event.TheVariants as event
-use Rattle.at_world.proofs.Calls.{Good, good_next, good_idle}
-use Rattle.at_world.proofs.Coming.{Comes, requester_on_net}
+use Rattle.at_world.proofs.Calls.{Good, good_next}
 use Rattle.at_world.proofs.Moves.{one_of, asker_is, asker_next}
 use Rattle.at_world.proofs.Tied.{Laws, IsReading, Reads, PagesOf, Tied, moved}
 use Rattle.at_world.proofs.Timers.{others_left}

@@ -1,5 +1,5 @@
 -- Every play is a run of the machine.
-use Rattle.std.proofs.Common.{◌≡◌, ◌⊎◌, inl, inr, ⊎_elim, ℕ, Bool, true, List, [], ◌∷◌, map, take, Some, Result, Ok, Err, refl, sym, ap, subst, ◌∙◌}
+use Rattle.std.proofs.Common.{◌≡◌, ◌⊎◌, inl, inr, ⊎_elim, ℕ, List, [], ◌∷◌, map, take, Some, Result, Ok, Err, refl, sym, ap, subst, ◌∙◌}
 use Rattle.at_ddp.specs.Datagrams.{Posted}
 use Rattle.at_node.specs.declared.event.Report.{Report}
 use Rattle.at_node.specs.declared.event.Report.TheVariants.{NoMemory}

@@ -1,9 +1,8 @@
 -- What ties a world to the machine, through a history of the network of its requesters and responders.
-use Rattle.std.proofs.Common.{◌≡◌, ℕ, ◌+◌, ◌^◌, ◌<◌, ◌≤◌, Bool, true, false, cond, List, [], ◌∷◌, ◌++◌, length, map, Option, Some, None, refl, sym, ap, subst, ◌∙◌, arith}
-use Rattle.std.specs.Prelude.{find, ◌==◌, ◌&&◌}
+use Rattle.std.proofs.Common.{◌≡◌, ℕ, ◌+◌, ◌^◌, ◌<◌, ◌≤◌, Bool, true, false, cond, List, [], ◌∷◌, ◌++◌, length, map, Option, Some, None, refl, sym, ap, subst, ◌∙◌}
+use Rattle.std.specs.Prelude.{find, ◌==◌}
 use Rattle.std.specs.List.{AllByRecursion, Contains}
-use Rattle.std.proofs.lemmas.Bool.{true≢false, eq-eqb, eqb-true}
-use Rattle.std.proofs.lemmas.List.{append-nil}
+use Rattle.std.proofs.lemmas.Bool.{eqb-true}
 use Rattle.at_ddp.specs.Address.{same_address}
 use Rattle.at_ddp.specs.Datagram.{canonical, written, IsAddress, AreBytes}
 use Rattle.at_ddp.specs.declared.address.Address.{Address}
@@ -31,10 +30,9 @@ use Rattle.at_node.specs.declared.drawing.Draw.TheVariants.{Tid}
 use Rattle.at_node.specs.declared.event.Report.{Report}
 use Rattle.at_node.specs.declared.service.Reply.{Reply}
 use Rattle.at_world.specs.Draws.{noted}
-use Rattle.at_world.specs.Machine.{Machine, Reading, since_of, next, page_answer, Step}
+use Rattle.at_world.specs.Machine.{Machine, Reading, since_of, next, page_answer}
 use Rattle.at_world.specs.Sents.{SentDatagram, stamp}
 use Rattle.at_world.specs.Worlds.{WorldState, is_numbered, node_at, recorded}
-use Rattle.at_world.specs.declared.event.Event.{Event}
 use Rattle.at_world.proofs.Places.{at_after, requester_at, requester_after, records_at, records_after}
 use Rattle.at_world.proofs.Times.{IsNoted}
 

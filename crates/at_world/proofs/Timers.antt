@@ -1,19 +1,18 @@
 -- What the timers of a node are in the machine.
-use Rattle.std.proofs.Common.{◌≡◌, ℕ, zero, suc, ◌+◌, ◌<◌, Bool, true, false, cond, List, [], ◌∷◌, Option, Some, None, refl, sym, ap, subst, ◌∙◌}
-use Rattle.std.specs.Prelude.{find, filter, option_map, not, ◌==◌}
+use Rattle.std.proofs.Common.{◌≡◌, ℕ, zero, suc, Bool, true, false, cond, List, [], ◌∷◌, Option, Some, None, refl, sym, ap, subst, ◌∙◌}
+use Rattle.std.specs.Prelude.{find, option_map, not, ◌==◌}
 use Rattle.std.proofs.lemmas.Bool.{true≢false, false≢true, eq-eqb, eqb-true}
-use Rattle.at_ddp.specs.declared.address.Address.{Address}
 use Rattle.at_atp.specs.Network as network
 use Rattle.at_atp.specs.Network.{Network, Retries, after, done, with_requester}
-use Rattle.at_atp.specs.Requests.{Requests, Retried, Transaction, has_number, is_numbered, retried_with, retried}
+use Rattle.at_atp.specs.Requests.{Requests, Retried, Transaction, is_numbered, retried_with, retried}
 use Rattle.at_atp.specs.declared.step.Retry.{Retry}
 use Rattle.at_atp.specs.declared.step.Retry.TheVariants as retry
-use Rattle.at_node.specs.Nodes.{NodeState, Outcome}
+use Rattle.at_node.specs.Nodes.{NodeState}
 use Rattle.at_node.specs.Steps.{asking, is_reading, after_failing, after_retry, retry_fired, timed}
 use Rattle.at_node.specs.declared.event.Report.TheVariants as report
 use Rattle.at_node.specs.declared.event.Timer.{Timer}
 use Rattle.at_node.specs.declared.event.Timer.TheVariants as timer
-use Rattle.at_world.specs.Machine.{Machine, Reading, since_of, without_reading, next}
+use Rattle.at_world.specs.Machine.{Machine, Reading, since_of, without_reading}
 use Rattle.at_world.specs.Worlds.{WorldState, node_at}
 use Rattle.at_world.specs.declared.event.Event.TheVariants as event
 use Rattle.at_world.proofs.Calls.{Good, good_next, good_idle, asking_fits}

@@ -9,7 +9,6 @@ use Rattle.at_ddp.proofs.Octets.{same_address-true}
 use Rattle.at_atp.specs.Network as network
 use Rattle.at_atp.specs.Network.{Drawn, NoneHolds}
 use Rattle.at_atp.specs.Records.{Record, is_key, is_from}
-use Rattle.at_atp.specs.declared.reception.Key.{Key}
 use Rattle.at_node.specs.Drawing.{holds}
 use Rattle.at_node.specs.Nodes.{NodeState}
 use Rattle.at_node.specs.Steps.{asking}

@@ -1,8 +1,7 @@
 -- The abstract machine: what the users of the nodes may be told. It has no packet, no record, no window and no timer; a
 -- transaction is known by who asked and under which number (Inside AppleTalk, ATP, "Transactions", and ZIP,
 -- "GetZoneList").
-use Rattle.std.specs.Prelude.{◌≡◌, ℕ, ◌<◌, ◌≤◌, ◌==◌, ◌&&◌, not, if◌then◌else◌, Bool, false, List, [], ◌∷◌, ◌++◌, length, filter, find, take, slice_index_or, option_map, Option, Some, Result, Ok, Err}
-use Rattle.at_ddp.specs.Address.{same_address}
+use Rattle.std.specs.Prelude.{◌≡◌, ℕ, ◌<◌, ◌≤◌, ◌==◌, not, false, List, [], ◌∷◌, ◌++◌, length, filter, find, take, slice_index_or, option_map, Option, Some, Result, Ok, Err}
 use Rattle.at_ddp.specs.declared.address.Address.{Address}
 use Rattle.at_atp.specs.Packets.{Packet}
 use Rattle.at_atp.specs.Transactions.{Transaction, Asked, transaction_of, answered, IsResponse}

@@ -6,9 +6,7 @@ use Rattle.at_atp.specs.Tables.{replaced}
 use Rattle.at_node.specs.declared.drawing.Draw.{Draw}
 use Rattle.at_node.specs.declared.drawing.Input.{Input}
 use Rattle.at_node.specs.declared.drawing.Input.TheVariants as input
-use Rattle.at_node.specs.declared.event.Call.{Call}
 use Rattle.at_node.specs.declared.event.Report.{Report}
-use Rattle.at_node.specs.declared.event.Timer.{Timer}
 use Rattle.at_node.specs.declared.service.Reply.{Reply}
 use Rattle.at_node.specs.declared.service.Reply.TheVariants as reply
 use Rattle.at_node.specs.Calls.{IsCall}
