@@ -1,6 +1,7 @@
 mod Alls
 mod AnswerLemmas
 mod FrameLemmas
+mod LawLemmas
 mod Lawfulness
 mod MoveLemmas
 mod Carried
@@ -11,6 +12,7 @@ mod NetworkLemmas
 mod Takings
 mod Newest
 mod OpenLemmas
+mod Ranges
 mod RecordLemmas
 mod RequestLemmas
 mod RequesterLemmas

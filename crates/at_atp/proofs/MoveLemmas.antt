@@ -32,7 +32,7 @@ with_all parts (c ∷ all) = with_all (with_came parts c) all
 -- ---- a packet keeps number and address
 
 module _ (A : Type 0) where
-  kept_tid : (t : Transaction) (place : ℕ) (part : Arrival) (sts : Bool) → (came {A = A} t place part sts).after.tid ≡ t.tid
+  pub kept_tid : (t : Transaction) (place : ℕ) (part : Arrival) (sts : Bool) → (came {A = A} t place part sts).after.tid ≡ t.tid
   kept_tid t place part sts = go (is_wanted t.parts place) sts
     where
       kept : (o : Option (List Packet)) (s : Bool) → (was_kept {A = A} (record t { parts = with_part t.parts place part }) s o).after.tid ≡ t.tid

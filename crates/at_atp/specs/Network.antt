@@ -10,7 +10,7 @@ use Rattle.at_atp.specs.Records.{Record, is_key, taken, answer_fault, asked_for}
 use Rattle.at_atp.specs.Requests as requests
 use Rattle.at_atp.specs.Requests.{Requests, Retried, no_requests, next_number, beginning, request_by, heard, is_numbered, retried}
 use Rattle.at_atp.specs.Tables.{without_first}
-use Rattle.at_atp.specs.Transactions.{Transaction, Asked, answered, IsResponse}
+use Rattle.at_atp.specs.Transactions.{Transaction, Asked, answered, IsPart, IsResponse}
 use Rattle.at_atp.specs.declared.fault.AtpFault.{AtpFault}
 use Rattle.at_atp.specs.declared.reception.Key.{Key}
 use Rattle.at_atp.specs.declared.reception.Reception.{Reception}
@@ -197,7 +197,10 @@ pub record GivesAnswers (A : Type 0) (n : Network) : Type 0 where
   -- a request in time is that of the newest transaction of its number, and came where that asked
   pub requested : (which : ℕ) (s : Sent) (mask : ℕ) (xo : Bool) (timer tid : ℕ) (user bytes : List ℕ) → slice_get n.sent which ≡ Some s → is_fresh n.drawn s ≡ true
       → s.packet ≡ Request mask xo timer tid user bytes → (a : Asked n.asked s.from tid s.to) × (a.transaction.user ≡ user) × (a.transaction.data_ ≡ bytes) × (a.transaction.xo ≡ xo)
-  -- so is a record
+  -- a response in time is to the newest transaction of its number, and a packet of an answer that was given where it asked
+  pub responded : (which : ℕ) (s : Sent) (place : ℕ) (eom sts : Bool) (tid : ℕ) (user bytes : List ℕ) → slice_get n.sent which ≡ Some s → is_fresh n.drawn s ≡ true
+      → s.packet ≡ Response place eom sts tid user bytes → (a : Asked n.asked s.to tid s.from) × IsPart a.transaction place eom (record { user = user; data_ = bytes })
+  -- a record is of the newest transaction of its number
   pub recorded : (at : Address) (key : Key) (r : Record) → find (is_key key) (n.responders at) ≡ Some r → Asked n.asked key.from key.tid at
   -- and so is an open transaction
   pub standing : (who : Address) (tid : ℕ) (t : requests.Transaction) → find (is_numbered tid) (n.requesters who).standing ≡ Some t

@@ -1,5 +1,5 @@
 //! Laws of the spellings. The functions do nothing: each contract is a law.
-ghost use Rattle.std.specs.Prelude.{◌≡◌, ◌↔◌, ◌≤◌, ◌++◌, ◌∷◌, [], List, ℕ, Bool, length, find, replicate, Some, None};
+ghost use Rattle.std.specs.Prelude.{◌≡◌, ◌↔◌, ◌≤◌, ◌==◌, ◌++◌, ◌∷◌, [], List, ℕ, Bool, true, false, length, find, replicate, Option, Some, None};
 ghost use Rattle.at_ddp.specs.Datagram.{AreBytes};
 ghost use Rattle.at_ddp.specs.declared.address.Address.{Address};
 ghost use Rattle.at_atp.specs.Fault.{Stands};
@@ -7,9 +7,14 @@ ghost use Rattle.at_atp.specs.Answers.{mask_of, whole};
 ghost use Rattle.at_atp.specs.Frames.{Content, Response, IsLawful, Spells, spelled};
 ghost use Rattle.std.specs.List.{AllByRecursion};
 ghost use Rattle.at_atp.specs.Lawfully.{IsInRange, IsLawfullySent};
-ghost use Rattle.at_atp.specs.Network.{Happening, AllTimely, GivesAnswers, after};
+ghost use Rattle.at_atp.specs.Network.{Happening, AllTimely, GivesAnswers, after, number_of};
+ghost use Rattle.at_atp.specs.Transactions.{Transaction as Exchange, Asked, answered};
+ghost use Rattle.at_atp.specs.Records.{Record, is_key, taken, record_fault, asked_for};
+ghost use Rattle.at_atp.specs.declared.reception.Key.{Key};
+ghost use Rattle.at_atp.specs.declared.reception.Reception.TheVariants.{New};
+ghost use Rattle.at_atp.specs.declared.step.Retry.TheVariants.{Failed};
 ghost use Rattle.at_atp.specs.Packets.{Packet};
-ghost use Rattle.at_atp.specs.Requests.{Transaction, Requests, is_numbered, next_number, beginning, begun, came, heard};
+ghost use Rattle.at_atp.specs.Requests.{Transaction, Requests, Retried, has_number, is_numbered, is_finished, next_number, beginning, begun, came, heard, retried};
 ghost use Rattle.at_atp.specs.Wholes.{Came, firsts, after_all, NoneFinishes, Move, Hears, moved_all, StaysOpen, arrived};
 ghost use Rattle.at_atp.specs.declared.step.Step.TheVariants.{Finished};
 ghost use Rattle.at_atp.specs.declared.fault.AtpFault.{AtpFault};
@@ -59,4 +64,30 @@ pub fn responses_are_answers<A: Allocator>()
 /// What is sent can be spelled, where what is asked and answered is in range.
 pub fn what_is_sent_is_lawful<A: Allocator>()
     ensures { (history : List Happening) → AllByRecursion IsInRange history → AllByRecursion IsLawfullySent (after A history).sent }
+{}
+
+/// A number that is drawn is not open, and an open number stays open until its own transaction ends.
+pub fn numbers_stay_open<A: Allocator>()
+    ensures drawn { (r : Requests) (tid : ℕ) → next_number r ≡ Some tid → has_number r.standing tid ≡ false }
+    ensures heard { (r : Requests) (from : Address) (f : Content) (tid : ℕ) → has_number r.standing tid ≡ true → (is_finished (heard {A = A} r from f).step ≡ true → (number_of f == tid) ≡ false)
+        → has_number (heard {A = A} r from f).after.standing tid ≡ true }
+    ensures retried { (r : Requests) (other tid : ℕ) (e : Retried) → retried r other ≡ Some e → has_number r.standing tid ≡ true → (e.step ≡ Failed → (other == tid) ≡ false)
+        → has_number e.after.standing tid ≡ true }
+{}
+
+/// A request that is handed up waits under its own key from then on, and nothing is sent for it.
+pub fn a_new_request_waits()
+    ensures { (rs : List Record) (from : Address) (f : Content) (key : Key) → (taken rs from f).reception ≡ New key
+        → (record_fault (find (is_key key) (taken rs from f).after) ≡ None) × ((taken rs from f).sent ≡ []) × (key ≡ record { from = from; tid = number_of f }) }
+{}
+
+/// No more packets are sent than an answer has.
+pub fn no_more_is_sent_than_answered()
+    ensures { (o : Option Record) (key : Key) (packets : List Packet) → length (asked_for o key packets) ≤ length packets }
+{}
+
+/// An answer changes nothing of what was asked.
+pub fn answers_join_what_was_asked()
+    ensures { (ts : List Exchange) (from : Address) (tid : ℕ) (packets : List Packet) (who : Address) (k : ℕ) (responder : Address) (a : Asked ts who k responder)
+        → (b : Asked (answered ts from tid packets) who k responder) × (b.transaction.user ≡ a.transaction.user) }
 {}

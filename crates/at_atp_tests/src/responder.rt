@@ -95,6 +95,17 @@ impl<A: Allocator + Copy> Answerer<A> {
 
     fn compare_holds(&self, rt: &impl Abort, tid: u16, want: bool) {
         assert_eq!(rt; self.responder.holds(key(tid)), want, "request {tid}");
+        let node = key(tid).from.node;
+        assert_eq!(rt;
+            self.responder.holds_number(node, tid),
+            want,
+            "number {tid}"
+        );
+        assert_eq!(rt;
+            self.responder.holds_number(node ^ 1, tid),
+            false,
+            "number {tid} of another node"
+        );
     }
 
     fn compare_undo(&mut self, rt: &impl Abort, tid: u16, want: Result<(), AtpFault>) {

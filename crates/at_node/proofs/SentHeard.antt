@@ -7,6 +7,9 @@ use Rattle.at_ddp.specs.declared.address.Address.{Address}
 use Rattle.at_ddp.specs.declared.fault.DdpFault.{DdpFault}
 use Rattle.at_atp.specs.Frames.{Content, Request, IsLawful, Spells, spelled}
 use Rattle.at_atp.specs.Fault as atp
+use Rattle.at_atp.specs.Network.{owner, number_of}
+use Rattle.at_node.specs.Drawing.{Carries}
+use Rattle.at_node.specs.declared.drawing.Draw.TheVariants.{Tid}
 use Rattle.at_atp.specs.declared.fault.AtpFault.{AtpFault}
 use Rattle.at_zip.specs.Page as page
 use Rattle.at_zip.specs.Fault as zip
@@ -53,6 +56,19 @@ begins laws to from f to_fits from_fits ok =
     let fits = laws.fits f ok in
     subst (λ bytes. BeginsWith bytes (written to from atp_kind (spelled f)) []) (append-nil (canonical to from atp_kind (spelled f)))
     (laws.reads to from atp_kind (spelled f) [] to_fits from_fits (lit< tt) fits.0 fits.1)
+
+-- bytes that were written for a packet carry its number
+pub carries : (to from : Address) (f : Content) → DatagramLaws → ((g : Content) → IsLawful g → Spells (spelled g) g) → IsAddress to → IsAddress from → IsLawful f → Carries (canonical to from atp_kind (spelled f)) (owner from to f).node (Tid (number_of f))
+carries to from f laws reads to_fits from_fits ok = record {
+  datagram = written to from atp_kind (spelled f);
+  rest = [];
+  begins = begins laws to from f to_fits from_fits ok;
+  is_atp = refl;
+  packet = f;
+  spelled = reads f ok;
+  is_owner = refl;
+  is_draw = refl;
+}
 
 pub heard_as_sent : (A : Type 0) (said : Reply A) (n : NodeState) (to from : Address) (f : Content) (o : Outcome A) → DatagramLaws → PacketLaws → IsAddress to → IsAddress from → IsLawful f →
     Hears said n (canonical to from atp_kind (spelled f)) o → AtSocket said n from (socket_of n (written to from atp_kind (spelled f))) f o

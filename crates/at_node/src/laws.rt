@@ -8,6 +8,9 @@ ghost use Rattle.at_zip.specs.Page.{Page, IsLawful as IsLawfulPage, page_user, p
 ghost use Rattle.at_zip.specs.Request.{request_user};
 ghost use Rattle.at_node.specs.Nodes.{NodeState, Outcome};
 ghost use Rattle.at_node.specs.Steps.{atp_kind, zone_asked};
+ghost use Rattle.at_atp.specs.Network.{owner, number_of};
+ghost use Rattle.at_node.specs.Drawing.{Carries};
+ghost use Rattle.at_node.specs.declared.drawing.Draw.TheVariants.{Tid};
 ghost use Rattle.at_node.specs.Hearing.{Hears, AtSocket, AtZones, Tells, socket_of, told_by};
 ghost use Rattle.at_node.specs.declared.event.Report.{Report};
 ghost use Rattle.at_node.specs.declared.service.Reply.{Reply};
@@ -39,4 +42,13 @@ pub fn a_page_written_is_told<A: Allocator>()
 {
     at_zip::laws::what_is_written_is_read();
     at_zip::laws::one_page_a_spelling();
+}
+
+/// Bytes that were written for a packet carry the number of that packet.
+pub fn what_is_sent_carries_its_number()
+    ensures { (to from : Address) (f : Content) → IsAddress to → IsAddress from → IsLawful f → Carries (canonical to from atp_kind (spelled f)) (owner from to f).node (Tid (number_of f)) }
+{
+    at_ddp::laws::what_is_written_is_read();
+    at_atp::laws::what_is_written_is_read();
+    at_atp::laws::what_is_written_fits();
 }

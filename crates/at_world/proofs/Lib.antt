@@ -1,7 +1,11 @@
 mod Calls
 mod Canonical
+mod DeliveryLemmas
 mod DrawLemmas
 mod Following
+mod Places
+mod Times
+mod FreshLemmas
 mod Requested
 mod Responded
 mod Runs

@@ -1,30 +1,28 @@
 -- A world's step: what a node sends is stamped, and the rest stays as it was.
-use Rattle.std.proofs.Common.{◌≡◌, ℕ, zero, suc, ◌+◌, ◌-◌, ◌≤◌, Bool, true, false, List, [], ◌∷◌, ◌++◌, length, map, replicate, set, Option, Some, None, refl, sym, ap, subst, ◌∙◌, arith}
+use Rattle.std.proofs.Common.{◌≡◌, ℕ, zero, suc, ◌+◌, ◌-◌, ◌≤◌, Bool, true, false, List, [], ◌∷◌, ◌++◌, length, map, replicate, set, Option, Some, None, refl, sym, ap, subst, ◌∙◌, arith, Fits, w32}
+use Rattle.std.proofs.lemmas.Bool.{true≢false}
+use Rattle.std.proofs.lemmas.Bool.Decides.{nat_tests}
 use Rattle.std.proofs.lemmas.List.{append-nil, length-append}
-use Rattle.at_ddp.specs.Datagrams.{Posted}
-use Rattle.at_atp.proofs.TableLemmas.{Found}
-use Rattle.at_node.specs.declared.event.Report.{Report}
-use Rattle.at_node.specs.declared.event.Report.TheVariants.{NoMemory}
-use Rattle.at_node.specs.Nodes.{NodeState, Outcome, posted, IsStep, Comes}
-use Rattle.at_world.specs.Sents.{SentDatagram, stamp, stamped}
-use Rattle.at_world.specs.declared.event.Event.{Event}
-use Rattle.at_world.specs.declared.event.Refusal.{Refusal}
-use Rattle.at_world.specs.declared.event.Refusal.TheVariants.{NotForNode, NoDatagram}
-use Rattle.at_world.specs.declared.event.Fault.{Fault}
-use Rattle.at_world.specs.declared.event.Fault.TheVariants as fault
-use Rattle.at_world.specs.Worlds.{WorldState, is_over, is_numbered, node_at, node_refusal, refusal, refusal_at, recorded, PlaysCall, IsFault, PlaysDelivery, delivery_refusal, is_for}
-use Rattle.at_node.specs.Hearing.{Hears}
-use Rattle.at_world.specs.declared.event.Event.TheVariants as event
-use Rattle.std.specs.Prelude.{slice_get, ◌==◌, if◌then◌else◌}
-use Rattle.at_node.specs.declared.event.Call.{Call}
-use Rattle.at_node.specs.Steps.{called}
 use Rattle.std.specs.Prelude.{nat_le, nat_lt, ◌||◌, find, Result, Ok, Err, IfOk, IfErr, IsOk, IsErr, OnOk, OnErr}
 use Rattle.std.specs.Result.{is_err}
 use Rattle.std.specs.declared.alloc.AllocError.{AllocError}
-use Rattle.std.proofs.lemmas.Option.{slice_get_past}
-use Rattle.std.proofs.lemmas.Bool.{true≢false}
-use Rattle.std.proofs.lemmas.Bool.Decides.{nat_tests}
-use Rattle.std.proofs.Common.{Fits, w32}
+use Rattle.at_ddp.specs.Datagrams.{Posted}
+use Rattle.at_atp.proofs.TableLemmas.{Found}
+use Rattle.at_node.specs.declared.drawing.Draw.{Draw}
+use Rattle.at_node.specs.declared.drawing.Input.{Input}
+use Rattle.at_node.specs.declared.drawing.Input.TheVariants as input
+use Rattle.at_node.specs.declared.event.Report.{Report}
+use Rattle.at_node.specs.declared.event.Report.TheVariants.{NoMemory}
+use Rattle.at_node.specs.Drawing.{drawn_by, draw_of_input}
+use Rattle.at_node.specs.Hearing.{Hears}
+use Rattle.at_node.specs.Nodes.{NodeState, Outcome, posted, IsStep, Comes}
+use Rattle.at_node.specs.Steps.{called, timed}
+use Rattle.at_world.specs.Draws.{Draws, noted}
+use Rattle.at_world.specs.Sents.{SentDatagram, stamp, stamped}
+use Rattle.at_world.specs.declared.event.Refusal.TheVariants.{NotForNode}
+use Rattle.at_world.specs.declared.event.Fault.{Fault}
+use Rattle.at_world.specs.declared.event.Fault.TheVariants as fault
+use Rattle.at_world.specs.Worlds.{WorldState, is_over, is_numbered, node_at, node_refusal, holds_some, recorded, PlaysAt, Takes, IsNotTaken}
 
 -- ---- what a node sends goes behind what was there
 
@@ -43,6 +41,13 @@ step_splits A o old before r new after h = record { out = map posted o.out; step
 pub coming_splits : (A : Type 0) (P : Outcome A → Type 0) (old : NodeState) (before : List Posted) (r : Report A) (new : NodeState) (after : List Posted) → Comes P old before r new after → Splits (Comes P old) before r new after
 coming_splits A P old before NoMemory new after h = none_sent (Comes P old) before NoMemory new after (h.0, refl) h.1
 coming_splits A P old before r new after h = record { out = map posted h.0.out; steps = (h.0, h.1, (h.2.0, h.2.1, refl)); is = h.2.2 }
+
+pub takes_splits : (A : Type 0) (i : Input A) (old : NodeState) (before : List Posted) (r : Report A) (new : NodeState) (after : List Posted) → Takes i old before r new after → Splits (Takes i old) before r new after
+takes_splits A (input.Call call) old before r new after h = step_splits A (called old call.now) old before r new after h
+takes_splits A (input.Timer timer) old before r new after h = step_splits A (timed old timer) old before r new after h
+takes_splits A (input.Received bytes) old before r new after h =
+    let s = coming_splits A (Hears h.0 old bytes.now) old before r new after h.1 in
+    record { out = s.out; steps = (h.0, s.steps, h.2); is = s.is }
 
 -- ---- stamps
 
@@ -71,30 +76,28 @@ length_replicate : (n event : ℕ) → length (replicate n event) ≡ n
 length_replicate zero event = refl
 length_replicate (suc n) event = ap (λ m. suc m) (length_replicate n event)
 
-pub all_stamped : (es es' : List ℕ) (ps ps' out : List Posted) (count event : ℕ) → length es ≡ length ps → ps' ≡ ps ++ out → count ≡ length ps' → es' ≡ es ++ replicate (count - length es) event → length es' ≡ length ps'
+all_stamped : (es es' : List ℕ) (ps ps' out : List Posted) (count event : ℕ) → length es ≡ length ps → ps' ≡ ps ++ out → count ≡ length ps' → es' ≡ es ++ replicate (count - length es) event → length es' ≡ length ps'
 all_stamped es es' ps ps' out count event same is counted stamps =
     omega (arith, counted, ap (length {A = ℕ}) stamps, length-append es (replicate (count - length es) event), length_replicate (count - length es) event, ap (length {A = Posted}) is, length-append ps out)
 
-pub booked : (w : WorldState) (k : ℕ) (nodes : List NodeState) (es es' : List ℕ) (ps ps' out : List Posted) (events i count : ℕ) (after : NodeState) →
-    record { nodes = nodes; sent = stamped es ps; events = events; failed = false } ≡ w → Found (is_numbered k) nodes i → length es ≡ length ps →
-    ps' ≡ ps ++ out → count ≡ length ps' → es' ≡ es ++ replicate (count - length es) events →
-    record { nodes = set nodes i after; sent = stamped es' ps'; events = events + 1; failed = false } ≡ recorded w k after out
-booked w k nodes es es' ps ps' out events i count after view f same is counted stamps =
+booked : (A : Type 0) (w : WorldState) (k : ℕ) (report : Report A) (nodes : List NodeState) (es es' : List ℕ) (ps ps' out : List Posted) (last last' : Draws) (draw : Option Draw) (events i count : ℕ) (after : NodeState) →
+    record { nodes = nodes; sent = stamped es ps; last = last; events = events; failed = false } ≡ w → Found (is_numbered k) nodes i → length es ≡ length ps →
+    ps' ≡ ps ++ out → count ≡ length ps' → draw ≡ drawn_by report → last' ≡ noted last k events draw → es' ≡ es ++ replicate (count - length es) events →
+    record { nodes = set nodes i after; sent = stamped es' ps'; last = last'; events = events + 1; failed = false } ≡ recorded w k report after out
+booked A w k report nodes es es' ps ps' out last last' draw events i count after view f same is counted draws drawn stamps =
     let missing : count - length es ≡ length out = omega (arith, counted, ap (length {A = Posted}) is, length-append ps out) in
     let all : stamped es' ps' ≡ stamped es ps ++ map (stamp events) out =
     (λ j. stamped ((stamps ∙ ap (λ n. es ++ replicate n events) missing) j) (is j)) ∙ stamped_more es ps out events same in
-    (λ j. record { nodes = (sym (f.set_is after)) j; sent = all j; events = events + 1; failed = false })
-    ∙ ap (λ (v : WorldState). recorded v k after out) view
+    let notes : last' ≡ noted last k events (drawn_by report) = drawn ∙ ap (noted last k events) draws in
+    (λ j. record { nodes = (sym (f.set_is after)) j; sent = all j; last = notes j; events = events + 1; failed = false })
+    ∙ ap (λ (v : WorldState). recorded v k report after out) view
 
 -- without stamps, what was sent stays as it was
-pub not_booked : (w : WorldState) (nodes : List NodeState) (es es' : List ℕ) (ps ps' out : List Posted) (events : ℕ) →
-    record { nodes = nodes; sent = stamped es ps; events = events; failed = false } ≡ w → length es ≡ length ps → ps' ≡ ps ++ out → es' ≡ es → stamped es' ps' ≡ w.sent
-not_booked w nodes es es' ps ps' out events view same is stamps = (λ j. stamped (stamps j) (is j)) ∙ stamped_kept es ps out same ∙ ap (λ (v : WorldState). v.sent) view
+not_booked : (w : WorldState) (nodes : List NodeState) (es es' : List ℕ) (ps ps' out : List Posted) (last : Draws) (events : ℕ) →
+    record { nodes = nodes; sent = stamped es ps; last = last; events = events; failed = false } ≡ w → length es ≡ length ps → ps' ≡ ps ++ out → es' ≡ es → stamped es' ps' ≡ w.sent
+not_booked w nodes es es' ps ps' out last events view same is stamps = (λ j. stamped (stamps j) (is j)) ∙ stamped_kept es ps out same ∙ ap (λ (v : WorldState). v.sent) view
 
 -- ---- refusals
-
-pub refused_at : (w : WorldState) (e : Event) (r : Option Refusal) → is_over w ≡ false → refusal_at w e ≡ r → refusal w e ≡ r
-refused_at w e r runs is = rw runs is
 
 pub node_stands : (w : WorldState) (k : ℕ) (nodes : List NodeState) (i : ℕ) (given : NodeState) → nodes ≡ w.nodes → (f : Found (is_numbered k) nodes i) → given ≡ f.entry → node_at w k ≡ Some given
 node_stands w k nodes i given same f is = ap (find (is_numbered k)) (sym same) ∙ f.first ∙ ap (λ (n : NodeState). Some n) (sym is)
@@ -102,81 +105,89 @@ node_stands w k nodes i given same f is = ap (find (is_numbered k)) (sym same) �
 pub none_stands : (w : WorldState) (k : ℕ) (nodes : List NodeState) → nodes ≡ w.nodes → find (is_numbered k) nodes ≡ None → node_refusal (node_at w k) ≡ Some NotForNode
 none_stands w k nodes same none = ap (λ l. node_refusal (find (is_numbered k) l)) (sym same) ∙ ap node_refusal none
 
-one_stands : (w : WorldState) (k : ℕ) (n : NodeState) → node_at w k ≡ Some n → node_refusal (node_at w k) ≡ None
+pub one_stands : (w : WorldState) (k : ℕ) (n : NodeState) → node_at w k ≡ Some n → node_refusal (node_at w k) ≡ None
 one_stands w k n is = ap node_refusal is
+
+-- whether a record stands under the number that would be drawn, as it was looked up
+pub held_at : (A : Type 0) (w : WorldState) (k : ℕ) (i : Input A) (nodes : List NodeState) (given : NodeState) (draw : Option Draw) (held b : Bool) → nodes ≡ w.nodes → node_at w k ≡ Some given → draw ≡ draw_of_input given i →
+    held ≡ holds_some nodes k draw → held ≡ b → (n : NodeState) → node_at w k ≡ Some n → holds_some w.nodes k (draw_of_input n i) ≡ b
+held_at A w k i nodes given draw held b same stands draws is so n here =
+    let both : Some n ≡ Some given = sym here ∙ stands in
+    let one : n ≡ given = cc in
+    (λ j. holds_some (sym same j) k ((ap (draw_of_input {A = A}) one j) i)) ∙ ap (holds_some nodes k) (sym draws) ∙ sym is ∙ so
 
 -- ---- what an answered step is
 
--- a node's step S over what was sent before, with its stamps, and what is answered of it
-pub record Ran (A : Type 0) (w : WorldState) (k : ℕ) (S : List Posted → Report A → NodeState → List Posted → Type 0) (given after : NodeState) (report : Report A)
-    (nodes : List NodeState) (es es' : List ℕ) (ps ps' : List Posted) (events i count : ℕ) (stamping : Result (Unit {0}) AllocError) : Type 0 where
-  pub view : record { nodes = nodes; sent = stamped es ps; events = events; failed = false } ≡ w
+-- what is known of a node's step S over what was sent before, with what was booked of it
+pub record Ran (A : Type 0) (w : WorldState) (k : ℕ) (S : NodeState → List Posted → Report A → NodeState → List Posted → Type 0) (given after : NodeState) (report : Report A)
+    (nodes : List NodeState) (es es' : List ℕ) (ps ps' : List Posted) (last last' : Draws) (draw : Option Draw) (events i count : ℕ) (booking : Result (Unit {0}) AllocError) : Type 0 where
+  pub view : record { nodes = nodes; sent = stamped es ps; last = last; events = events; failed = false } ≡ w
   pub place : Found (is_numbered k) nodes i
   pub found_there : given ≡ place.entry
   pub same : length es ≡ length ps
-  pub splits : Splits S ps report after ps'
+  pub splits : Splits (S given) ps report after ps'
   pub counted : count ≡ length ps'
-  pub stamps : OnOk stamping (es' ≡ es ++ replicate (count - length es) events)
-  pub kept : OnErr stamping (es' ≡ es)
-
-pub record Books (A : Type 0) (w : WorldState) (k : ℕ) (S : List Posted → Report A → NodeState → List Posted → Type 0) (given after : NodeState) (report : Report A) (w' : WorldState) : Type 0 where
-  pub stands : node_at w k ≡ Some given
-  pub out : List Posted
-  pub steps : S [] report after out
-  pub booked : w' ≡ recorded w k after out
+  pub draws : draw ≡ drawn_by report
+  pub drawn : OnOk booking (last' ≡ noted last k events draw)
+  pub stamps : OnOk booking (es' ≡ es ++ replicate (count - length es) events)
+  pub kept : OnErr booking (es' ≡ es)
 
 -- the world after such a step
-abbrev pub world_after : List NodeState → ℕ → NodeState → List ℕ → List Posted → ℕ → Bool → WorldState
-world_after nodes i after es' ps' events failed = record { nodes = set nodes i after; sent = stamped es' ps'; events = events + 1; failed = failed }
+abbrev pub world_after : List NodeState → ℕ → NodeState → List ℕ → List Posted → Draws → ℕ → Bool → WorldState
+world_after nodes i after es' ps' last' events failed = record { nodes = set nodes i after; sent = stamped es' ps'; last = last'; events = events + 1; failed = failed }
 
-pub ran_ok : (A : Type 0) (w : WorldState) (k : ℕ) (S : List Posted → Report A → NodeState → List Posted → Type 0) (given after : NodeState) (report : Report A)
-    (nodes : List NodeState) (es es' : List ℕ) (ps ps' : List Posted) (events i count : ℕ) (stamping : Result (Unit {0}) AllocError) (failed : Bool) →
-    Ran A w k S given after report nodes es es' ps ps' events i count stamping → failed ≡ is_err stamping → IsOk stamping →
-    Books A w k S given after report (world_after nodes i after es' ps' events failed)
-ran_ok A w k S given after report nodes es es' ps ps' events i count (Ok u) failed ran is ok =
+pub ran_ok : (A : Type 0) (w : WorldState) (k : ℕ) (S : NodeState → List Posted → Report A → NodeState → List Posted → Type 0) (given after : NodeState) (report : Report A)
+    (nodes : List NodeState) (es es' : List ℕ) (ps ps' : List Posted) (last last' : Draws) (draw : Option Draw) (events i count : ℕ) (booking : Result (Unit {0}) AllocError) (failed : Bool) →
+    Ran A w k S given after report nodes es es' ps ps' last last' draw events i count booking → failed ≡ is_err booking → IsOk booking →
+    PlaysAt w k S report (world_after nodes i after es' ps' last' events failed)
+ran_ok A w k S given after report nodes es es' ps ps' last last' draw events i count (Ok u) failed ran is ok =
     let s = ran.splits in
     record {
+      node = given;
       stands = node_stands w k nodes i given (ap (λ (v : WorldState). v.nodes) ran.view) ran.place ran.found_there;
+      after = after;
       out = s.out;
       steps = s.steps;
-      booked = ap (λ b. world_after nodes i after es' ps' events b) is ∙ booked w k nodes es es' ps ps' s.out events i count after ran.view ran.place ran.same s.is ran.counted ran.stamps;
+      booked = ap (λ b. world_after nodes i after es' ps' last' events b) is
+          ∙ booked A w k report nodes es es' ps ps' s.out last last' draw events i count after ran.view ran.place ran.same s.is ran.counted ran.draws ran.drawn ran.stamps;
     }
-ran_ok A w k S given after report nodes es es' ps ps' events i count (Err e) failed ran is ok = absurd (cc)
+ran_ok A w k S given after report nodes es es' ps ps' last last' draw events i count (Err e) failed ran is ok = absurd (cc)
 
-pub ran_err : (A : Type 0) (w : WorldState) (k : ℕ) (S : List Posted → Report A → NodeState → List Posted → Type 0) (given after : NodeState) (report : Report A)
-    (nodes : List NodeState) (es es' : List ℕ) (ps ps' : List Posted) (events i count : ℕ) (stamping : Result (Unit {0}) AllocError) (failed : Bool) →
-    Ran A w k S given after report nodes es es' ps ps' events i count stamping → failed ≡ is_err stamping → IsErr stamping → (failed ≡ true) × (stamped es' ps' ≡ w.sent)
-ran_err A w k S given after report nodes es es' ps ps' events i count (Err e) failed ran is err =
+pub ran_err : (A : Type 0) (w : WorldState) (k : ℕ) (S : NodeState → List Posted → Report A → NodeState → List Posted → Type 0) (given after : NodeState) (report : Report A)
+    (nodes : List NodeState) (es es' : List ℕ) (ps ps' : List Posted) (last last' : Draws) (draw : Option Draw) (events i count : ℕ) (booking : Result (Unit {0}) AllocError) (failed : Bool) →
+    Ran A w k S given after report nodes es es' ps ps' last last' draw events i count booking → failed ≡ is_err booking → IsErr booking → (failed ≡ true) × (stamped es' ps' ≡ w.sent)
+ran_err A w k S given after report nodes es es' ps ps' last last' draw events i count (Err e) failed ran is err =
     let s = ran.splits in
-    (is, not_booked w nodes es es' ps ps' s.out events ran.view ran.same s.is ran.kept)
-ran_err A w k S given after report nodes es es' ps ps' events i count (Ok u) failed ran is err = absurd (cc)
+    (is, not_booked w nodes es es' ps ps' s.out last events ran.view ran.same s.is ran.kept)
+ran_err A w k S given after report nodes es es' ps ps' last last' draw events i count (Ok u) failed ran is err = absurd (cc)
 
 -- the stamps are as many as the datagrams, or the world has failed
-pub ran_invariant : (A : Type 0) (w : WorldState) (k : ℕ) (S : List Posted → Report A → NodeState → List Posted → Type 0) (given after : NodeState) (report : Report A)
-    (nodes : List NodeState) (es es' : List ℕ) (ps ps' : List Posted) (events i count : ℕ) (stamping : Result (Unit {0}) AllocError) (failed : Bool) →
-    Ran A w k S given after report nodes es es' ps ps' events i count stamping → failed ≡ is_err stamping → (length es' ≤ length ps') × (failed ≡ false → length es' ≡ length ps')
-ran_invariant A w k S given after report nodes es es' ps ps' events i count (Ok u) failed ran is =
+pub ran_invariant : (A : Type 0) (w : WorldState) (k : ℕ) (S : NodeState → List Posted → Report A → NodeState → List Posted → Type 0) (given after : NodeState) (report : Report A)
+    (nodes : List NodeState) (es es' : List ℕ) (ps ps' : List Posted) (last last' : Draws) (draw : Option Draw) (events i count : ℕ) (booking : Result (Unit {0}) AllocError) (failed : Bool) →
+    Ran A w k S given after report nodes es es' ps ps' last last' draw events i count booking → failed ≡ is_err booking → (length es' ≤ length ps') × (failed ≡ false → length es' ≡ length ps')
+ran_invariant A w k S given after report nodes es es' ps ps' last last' draw events i count (Ok u) failed ran is =
     let s = ran.splits in
     let all = all_stamped es es' ps ps' s.out count events ran.same s.is ran.counted ran.stamps in
     (omega (arith, all), λ no. all)
-ran_invariant A w k S given after report nodes es es' ps ps' events i count (Err e) failed ran is =
+ran_invariant A w k S given after report nodes es es' ps ps' last last' draw events i count (Err e) failed ran is =
     let s = ran.splits in
     (omega (arith, ran.same, ap (length {A = ℕ}) ran.kept, ap (length {A = Posted}) s.is, length-append ps s.out), λ no. absurd (true≢false (sym is ∙ no)))
 
--- ---- what is answered of a call
+-- ---- what is answered of it
 
-pub call_played : (A : Type 0) (w : WorldState) (k : ℕ) (call : Call) (given after : NodeState) (report : Report A) (w' : WorldState) (stamping : Result (Unit {0}) AllocError) (answer : Result (Report A) Fault) →
-    (IsOk stamping → Books A w k (IsStep (called given call) given) given after report w') → IfOk answer (λ r. (r ≡ report) × IsOk stamping) →
-    IfOk answer (λ r. (node_refusal (node_at w k) ≡ None) × PlaysCall w k call r w')
-call_played A w k call given after report w' stamping (Err e) books ok = tt
-call_played A w k call given after report w' stamping (Ok r) books ok =
-    let b = books ok.1 in
-    (one_stands w k given b.stands, record { node = given; stands = b.stands; after = after; out = b.out; steps = subst (λ x. IsStep (called given call) given [] x after b.out) (sym ok.0) b.steps; booked = b.booked })
+pub taken : (A : Type 0) (w : WorldState) (k : ℕ) (S : NodeState → List Posted → Report A → NodeState → List Posted → Type 0) (report : Report A) (w' : WorldState) (booking : Result (Unit {0}) AllocError) (answer : Result (Report A) Fault) →
+    (IsOk booking → PlaysAt w k S report w') → IfOk answer (λ r. (r ≡ report) × IsOk booking) → IfOk answer (λ r. PlaysAt w k S r w')
+taken A w k S report w' booking (Err e) books ok = tt
+taken A w k S report w' booking (Ok r) books ok = subst (λ x. PlaysAt w k S x w') (sym ok.0) (books ok.1)
 
-pub not_played : (A : Type 0) (w : WorldState) (e : Event) (w' : WorldState) (stamping : Result (Unit {0}) AllocError) (answer : Result (Report A) Fault) →
-    (IsErr stamping → (w'.failed ≡ true) × (w'.sent ≡ w.sent)) → IfErr answer (λ f. (f ≡ fault.NoMemory) × IsErr stamping) → IfErr answer (λ f. IsFault w e f w')
-not_played A w e w' stamping (Ok r) kept err = tt
-not_played A w e w' stamping (Err f) kept err = subst (λ x. IsFault w e x w') (sym err.0) (kept err.1)
+pub not_taken : (A : Type 0) (w : WorldState) (k : ℕ) (i : Input A) (w' : WorldState) (booking : Result (Unit {0}) AllocError) (answer : Result (Report A) Fault) →
+    (IsErr booking → (w'.failed ≡ true) × (w'.sent ≡ w.sent)) → IfErr answer (λ f. (f ≡ fault.NoMemory) × IsErr booking) → IfErr answer (λ f. IsNotTaken w k i f w')
+not_taken A w k i w' booking (Ok r) kept err = tt
+not_taken A w k i w' booking (Err f) kept err = subst (λ x. IsNotTaken w k i x w') (sym err.0) (kept err.1)
+
+pub if_ok : (A : Type 0) (P : Type 0) (answer : Result (Report A) Fault) → P → IfOk answer (λ r. P)
+if_ok A P (Ok r) p = p
+if_ok A P (Err f) p = tt
 
 -- ---- what is known of a world that runs
 
@@ -186,45 +197,6 @@ few_events w events is runs = fits events (nat_lt 868928 (length w.sent)) (ap (�
     fits : (n : ℕ) (b : Bool) → (nat_le 200000 n || b) ≡ false → Fits w32 (n + 1)
     fits n b e = grind (arith, nat_tests)
 
-pub whole_inside : (w : WorldState) (nodes : List NodeState) (sent : List SentDatagram) (events : ℕ) (failed : Bool) →
-    record { nodes = nodes; sent = sent; events = events; failed = failed } ≡ w → failed ≡ false → record { nodes = nodes; sent = sent; events = events; failed = false } ≡ w
-whole_inside w nodes sent events failed view whole = ap (λ b. record { nodes = nodes; sent = sent; events = events; failed = b }) (sym whole) ∙ view
-
--- ---- deliveries
-
-pub refused_delivery : (w : WorldState) (which k : ℕ) (s : SentDatagram) (r : Option Refusal) → is_over w ≡ false → slice_get w.sent which ≡ Some s →
-    (if is_for s k then node_refusal (node_at w k) else Some NotForNode) ≡ r → refusal w (event.Deliver which k) ≡ r
-refused_delivery w which k s r runs is so = refused_at w (event.Deliver which k) r runs (ap (delivery_refusal w k) is ∙ so)
-
-pub not_for : (w : WorldState) (k : ℕ) (s : SentDatagram) → is_for s k ≡ false → (if is_for s k then node_refusal (node_at w k) else Some NotForNode) ≡ Some NotForNode
-not_for w k s is = rw is refl
-
-pub for_it : (w : WorldState) (k : ℕ) (s : SentDatagram) (r : Option Refusal) → is_for s k ≡ true → node_refusal (node_at w k) ≡ r → (if is_for s k then node_refusal (node_at w k) else Some NotForNode) ≡ r
-for_it w k s r is so = rw is so
-
-pub not_sent : (w : WorldState) (which k : ℕ) → is_over w ≡ false → length w.sent ≤ which → refusal w (event.Deliver which k) ≡ Some NoDatagram
-not_sent w which k runs past = refused_at w (event.Deliver which k) (Some NoDatagram) runs (ap (delivery_refusal w k) (slice_get_past w.sent which past))
-
-pub delivery_played : (A : Type 0) (w : WorldState) (which k : ℕ) (s : SentDatagram) (bytes : List ℕ) (given after : NodeState) (report : Report A) (w' : WorldState) (stamping : Result (Unit {0}) AllocError) (answer : Result (Report A) Fault) →
-    slice_get w.sent which ≡ Some s → is_for s k ≡ true → bytes ≡ s.bytes →
-    (IsOk stamping → Books A w k (Comes (Hears given bytes) given) given after report w') → IfOk answer (λ r. (r ≡ report) × IsOk stamping) →
-    IfOk answer (λ r. (refusal_at w (event.Deliver which k) ≡ None) × PlaysDelivery w which k r w')
-delivery_played A w which k s bytes given after report w' stamping (Err e) is for same books ok = tt
-delivery_played A w which k s bytes given after report w' stamping (Ok r) is for same books ok =
-    let b = books ok.1 in (
-      ap (delivery_refusal w k) is ∙ for_it w k s None for (one_stands w k given b.stands),
-      record {
-        datagram = s;
-        was_sent = is;
-        is_for_it = for;
-        node = given;
-        stands = b.stands;
-        after = after;
-        out = b.out;
-        steps = subst (λ x. Comes (Hears given s.bytes) given [] x after b.out) (sym ok.0) (subst (λ l. Comes (Hears given l) given [] report after b.out) same b.steps);
-        booked = b.booked;
-      },
-    )
-
-pub for_same : (s : SentDatagram) (to k : ℕ) → to ≡ s.to → ((to == k) || (to == 255)) ≡ is_for s k
-for_same s to k same = ap (λ n. (n == k) || (n == 255)) same
+pub whole_inside : (w : WorldState) (nodes : List NodeState) (sent : List SentDatagram) (last : Draws) (events : ℕ) (failed : Bool) →
+    record { nodes = nodes; sent = sent; last = last; events = events; failed = failed } ≡ w → failed ≡ false → record { nodes = nodes; sent = sent; last = last; events = events; failed = false } ≡ w
+whole_inside w nodes sent last events failed view whole = ap (λ b. record { nodes = nodes; sent = sent; last = last; events = events; failed = b }) (sym whole) ∙ view

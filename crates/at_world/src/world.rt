@@ -223,8 +223,14 @@ fn is_held<A: Allocator + Copy>(nodes: &[Node<A>], node: u8, draw: Option<Draw>)
 {
     match draw {
         None => false,
-        Some(draw) => nodes.iter().any(|n| n.holds(node, draw)),
+        Some(draw) => is_held_by_some(nodes, node, draw),
     }
+}
+
+fn is_held_by_some<A: Allocator + Copy>(nodes: &[Node<A>], node: u8, draw: Draw) -> bool
+    ensures { result ≡ list_any (λ n. holds n node draw) nodes.now }
+{
+    nodes.iter().any(|n| n.holds(node, draw))
 }
 
 // Whether no number that these bytes carry was drawn by a later event.

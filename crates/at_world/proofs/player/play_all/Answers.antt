@@ -1,5 +1,6 @@
-use Rattle.std.proofs.Common.{◌∙◌, refl}
-use Rattle.at_world.specs.Plays.{opening_world}
+use Rattle.std.proofs.Common.{◌∙◌, refl, subst}
+use Rattle.std.proofs.lemmas.List.{take_all}
+use Rattle.at_world.specs.Plays.{opening_world, Follows}
 use Rattle.at_world.proofs.Following.{follows_more, stops}
 use Rattle.at_world.proofs.player.play_all.Goals as goal
 
@@ -11,10 +12,16 @@ returns-in-Err-clause-follows g c =
 pub returns-in-Err-step-clause-follows : goal.returns-in-Err-step-clause-follows
 returns-in-Err-step-clause-follows g c =
     let says = c.stopped-in-Err-step.ensures in
-    let both = stops c.loop-at.world c.args.events.now c.loop-at.at _ c.in-Err-step.fault c.step.new.self c.loop-at-test.true c.in-Err-step.ensures.not_played in
+    let both = stops g.row.A.Denot c.loop-at.world c.args.events.now c.loop-at.at c.index-events-at.result c.in-Err-step.fault c.step.new.self c.loop-at-test.true c.index-events-at.is c.in-Err-step.ensures.not_played in
     (c.loop-at.world, (rw (says.at, says.reports, c.reserve.ensures.items) c.loop-at.invariant, says.sent ∙ both.1), rw (says.at, says.fault) both.0)
 
 pub loop-at-preserved : goal.loop-at-preserved
 loop-at-preserved g c =
     let played = c.in-Ok-step.ensures.played in
-    rw (c.push.ensures.items, c.unwrap.ensures, c.reserve.ensures.items) (follows_more g.row.A.Denot (opening_world c.args.setup.now) c.args.events.now c.loop-at.at _ c.loop-at.reports.items c.loop-at.world c.in-Ok-step.report c.step.new.self c.loop-at-test.true c.loop-at.invariant played.0 played.1)
+    rw (c.push.ensures.items, c.unwrap.ensures, c.reserve.ensures.items) (follows_more g.row.A.Denot (opening_world c.args.setup.now) c.args.events.now c.loop-at.at c.index-events-at.result c.loop-at.reports.items c.loop-at.world c.in-Ok-step.report c.step.new.self c.loop-at-test.true c.index-events-at.is c.loop-at.invariant played.0 played.1)
+
+pub returns-clause-follows : goal.returns-clause-follows
+returns-clause-follows g c =
+    let says = c.transcript.ensures in
+    let followed = subst (λ l. Follows (opening_world c.args.setup.now) l c.loop-at.reports.items c.loop-at.world) (take_all c.loop-at.at c.args.events.now c.loop-at-test.false) c.loop-at.invariant in
+    (c.loop-at.world, (rw says.reports followed, says.sent))

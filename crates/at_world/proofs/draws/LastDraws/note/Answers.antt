@@ -1,4 +1,4 @@
-use Rattle.std.proofs.Common.{refl, ◌∙◌, sym, ap}
+use Rattle.std.proofs.Common.{refl, ◌∙◌, ap}
 use Rattle.at_world.specs.Draws.{Draws, drawn_at}
 use Rattle.at_world.proofs.DrawLemmas.{inserted}
 use Rattle.at_world.proofs.draws.LastDraws.note.Goals as goal

@@ -1,0 +1,116 @@
+use Rattle.std.proofs.Common.{◌≡◌, ◌∙◌, true, false, sym, ap, refl, arith}
+use Rattle.std.proofs.lemmas.Bool.{true≢false}
+use Rattle.at_atp.proofs.TableLemmas.{found_by, none_by}
+use Rattle.at_world.specs.Sents.{stamped}
+use Rattle.at_world.specs.Worlds.{WorldState, is_numbered, Takes}
+use Rattle.at_world.proofs.WorldLemmas.{takes_splits, has_room, node_stands, none_stands, held_at, whole_inside, Ran, ran_ok, ran_err, ran_invariant, world_after, taken, not_taken, if_ok}
+use Rattle.at_world.proofs.world.World.play.Goals as goal
+
+pub returns-in_default-clause-not_played : goal.returns-in_default-clause-not_played
+returns-in_default-clause-not_played g c =
+    let none = none_by (is_numbered c.args.node) c.self.inside.nodes.items c.deref.result.now c.place_of.result c.deref.ensures.value c.place_of.ensures c.in_default.is in
+    (none_stands c.args.self.now c.args.node c.self.inside.nodes.items (ap (λ (w : WorldState). w.nodes) c.self.view_is) none, refl)
+
+pub index-requires : goal.index-requires
+index-requires g c =
+    let f = found_by (is_numbered c.args.node) c.self.inside.nodes.items c.deref.result.now c.place_of.result c.in-Some.place c.deref.ensures.value c.place_of.ensures c.in-Some.is in
+    omega (arith, f.within, c.self.inside.nodes.ok.0)
+
+pub returns-then-is_held-clause-not_played : goal.returns-then-is_held-clause-not_played
+returns-then-is_held-clause-not_played g c =
+    let f = found_by (is_numbered c.args.node) c.self.inside.nodes.items c.deref.result.now c.place_of.result c.in-Some.place c.deref.ensures.value c.place_of.ensures c.in-Some.is in
+    let same = ap (λ (w : WorldState). w.nodes) c.self.view_is in
+    let given = c.index.result.now in
+    let stands = node_stands c.args.self.now c.args.node c.self.inside.nodes.items c.in-Some.place given same f (c.index.ensures ∙ f.at given) in
+    let held = held_at g.row.A.Denot c.args.self.now c.args.node c.args.input.now c.deref-2.result.now given c.draw_of-draw.result c.is_held.result true (c.deref-2.ensures.value ∙ same) stands c.draw_of-draw.ensures c.is_held.ensures c.if-is_held.true in
+    ((given, stands, λ free. true≢false (sym (held given stands) ∙ free)), refl)
+
+pub index_mut-requires : goal.index_mut-requires
+index_mut-requires g c =
+    let f = found_by (is_numbered c.args.node) c.self.inside.nodes.items c.deref.result.now c.place_of.result c.in-Some.place c.deref.ensures.value c.place_of.ensures c.in-Some.is in
+    omega (arith, f.within, c.self.inside.nodes.ok.0)
+
+pub book-booked-requires : goal.book-booked-requires
+book-booked-requires g c =
+    let s = takes_splits g.row.A.Denot c.args.input.now c.index_mut.result.now c.self.inside.datagrams.items c.take-report.result c.take-report.new.node c.take-report.new.out.items c.take-report.ensures in
+    has_room c.self.inside.stamps.items c.self.inside.datagrams.items c.take-report.new.out.items s.out c.len-count.result c.self.invariant.0 s.is c.len-count.ensures
+
+pub invariant_of-self : goal.invariant_of-self
+invariant_of-self g c =
+    let es = c.self.inside.stamps.items in
+    let ps = c.self.inside.datagrams.items in
+    let node = c.index_mut.result.now in
+    let f = found_by (is_numbered c.args.node) c.self.inside.nodes.items c.deref.result.now c.place_of.result c.in-Some.place c.deref.ensures.value c.place_of.ensures c.in-Some.is in
+    let whole : c.self.inside.failed ≡ false = ap (λ (w : WorldState). w.failed) c.self.view_is ∙ c.requires.whole in
+    let ran : Ran g.row.A.Denot c.args.self.now c.args.node (Takes c.args.input.now) node c.take-report.new.node c.take-report.result
+    c.self.inside.nodes.items es c.book-booked.new.stamps.items ps c.take-report.new.out.items c.self.inside.last c.book-booked.new.last c.drawn_by-drawn.result
+    c.self.inside.events c.in-Some.place c.len-count.result c.book-booked.result = record {
+      view = whole_inside c.args.self.now c.self.inside.nodes.items (stamped es ps) c.self.inside.last c.self.inside.events c.self.inside.failed c.self.view_is whole;
+      place = f;
+      found_there = c.index_mut.ensures.value ∙ f.at node;
+      same = c.self.invariant.1 whole;
+      splits = takes_splits g.row.A.Denot c.args.input.now node ps c.take-report.result c.take-report.new.node c.take-report.new.out.items c.take-report.ensures;
+      counted = c.len-count.ensures;
+      draws = c.drawn_by-drawn.ensures;
+      drawn = c.book-booked.ensures.drawn;
+      stamps = c.book-booked.ensures.stamped;
+      kept = c.book-booked.ensures.kept;
+    } in
+    ran_invariant g.row.A.Denot _ _ _ _ _ _ _ _ _ _ _ _ _ _ _ _ _ _ c.is_err-self-inside.result ran c.is_err-self-inside.ensures.value
+
+pub returns-clause-played : goal.returns-clause-played
+returns-clause-played g c =
+    let es = c.self.inside.stamps.items in
+    let ps = c.self.inside.datagrams.items in
+    let node = c.index_mut.result.now in
+    let f = found_by (is_numbered c.args.node) c.self.inside.nodes.items c.deref.result.now c.place_of.result c.in-Some.place c.deref.ensures.value c.place_of.ensures c.in-Some.is in
+    let whole : c.self.inside.failed ≡ false = ap (λ (w : WorldState). w.failed) c.self.view_is ∙ c.requires.whole in
+    let ran : Ran g.row.A.Denot c.args.self.now c.args.node (Takes c.args.input.now) node c.take-report.new.node c.take-report.result
+    c.self.inside.nodes.items es c.book-booked.new.stamps.items ps c.take-report.new.out.items c.self.inside.last c.book-booked.new.last c.drawn_by-drawn.result
+    c.self.inside.events c.in-Some.place c.len-count.result c.book-booked.result = record {
+      view = whole_inside c.args.self.now c.self.inside.nodes.items (stamped es ps) c.self.inside.last c.self.inside.events c.self.inside.failed c.self.view_is whole;
+      place = f;
+      found_there = c.index_mut.ensures.value ∙ f.at node;
+      same = c.self.invariant.1 whole;
+      splits = takes_splits g.row.A.Denot c.args.input.now node ps c.take-report.result c.take-report.new.node c.take-report.new.out.items c.take-report.ensures;
+      counted = c.len-count.ensures;
+      draws = c.drawn_by-drawn.ensures;
+      drawn = c.book-booked.ensures.drawn;
+      stamps = c.book-booked.ensures.stamped;
+      kept = c.book-booked.ensures.kept;
+    } in
+    taken g.row.A.Denot c.args.self.now c.args.node (Takes c.args.input.now) c.take-report.result _ c.book-booked.result c.kept.result
+    (λ ok. ran_ok g.row.A.Denot _ _ _ _ _ _ _ _ _ _ _ _ _ _ _ _ _ _ c.is_err-self-inside.result ran c.is_err-self-inside.ensures.value ok) c.kept.ensures.ok
+
+pub returns-clause-free : goal.returns-clause-free
+returns-clause-free g c =
+    let f = found_by (is_numbered c.args.node) c.self.inside.nodes.items c.deref.result.now c.place_of.result c.in-Some.place c.deref.ensures.value c.place_of.ensures c.in-Some.is in
+    let same = ap (λ (w : WorldState). w.nodes) c.self.view_is in
+    let given = c.index.result.now in
+    let stands = node_stands c.args.self.now c.args.node c.self.inside.nodes.items c.in-Some.place given same f (c.index.ensures ∙ f.at given) in
+    let held = held_at g.row.A.Denot c.args.self.now c.args.node c.args.input.now c.deref-2.result.now given c.draw_of-draw.result c.is_held.result false (c.deref-2.ensures.value ∙ same) stands c.draw_of-draw.ensures c.is_held.ensures c.if-is_held.false in
+    if_ok g.row.A.Denot _ c.kept.result held
+
+pub returns-clause-not_played : goal.returns-clause-not_played
+returns-clause-not_played g c =
+    let es = c.self.inside.stamps.items in
+    let ps = c.self.inside.datagrams.items in
+    let node = c.index_mut.result.now in
+    let f = found_by (is_numbered c.args.node) c.self.inside.nodes.items c.deref.result.now c.place_of.result c.in-Some.place c.deref.ensures.value c.place_of.ensures c.in-Some.is in
+    let whole : c.self.inside.failed ≡ false = ap (λ (w : WorldState). w.failed) c.self.view_is ∙ c.requires.whole in
+    let ran : Ran g.row.A.Denot c.args.self.now c.args.node (Takes c.args.input.now) node c.take-report.new.node c.take-report.result
+    c.self.inside.nodes.items es c.book-booked.new.stamps.items ps c.take-report.new.out.items c.self.inside.last c.book-booked.new.last c.drawn_by-drawn.result
+    c.self.inside.events c.in-Some.place c.len-count.result c.book-booked.result = record {
+      view = whole_inside c.args.self.now c.self.inside.nodes.items (stamped es ps) c.self.inside.last c.self.inside.events c.self.inside.failed c.self.view_is whole;
+      place = f;
+      found_there = c.index_mut.ensures.value ∙ f.at node;
+      same = c.self.invariant.1 whole;
+      splits = takes_splits g.row.A.Denot c.args.input.now node ps c.take-report.result c.take-report.new.node c.take-report.new.out.items c.take-report.ensures;
+      counted = c.len-count.ensures;
+      draws = c.drawn_by-drawn.ensures;
+      drawn = c.book-booked.ensures.drawn;
+      stamps = c.book-booked.ensures.stamped;
+      kept = c.book-booked.ensures.kept;
+    } in
+    not_taken g.row.A.Denot c.args.self.now c.args.node c.args.input.now (world_after c.self.inside.nodes.items c.in-Some.place c.take-report.new.node c.book-booked.new.stamps.items c.take-report.new.out.items c.book-booked.new.last c.self.inside.events c.is_err-self-inside.result) c.book-booked.result c.kept.result
+    (λ err. ran_err g.row.A.Denot _ _ _ _ _ _ _ _ _ _ _ _ _ _ _ _ _ _ c.is_err-self-inside.result ran c.is_err-self-inside.ensures.value err) c.kept.ensures.err
