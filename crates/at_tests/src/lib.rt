@@ -18,6 +18,8 @@ mod schedules;
 #[cfg(test)]
 mod shared;
 #[cfg(test)]
+mod transaction_failures;
+#[cfg(test)]
 mod transaction_limits;
 #[cfg(test)]
 mod transactions;
