@@ -95,11 +95,12 @@ fn a_retry_asks_for_the_packets_that_are_still_missing(rt: HostRuntime) {
     );
 }
 
-// User bytes and data go both ways. Of an answer of two packets the one is sent that was asked for.
+// User bytes and data go both ways. The request comes again while it waits. Of an answer of two packets the one is sent that was asked for.
 const WITH_DATA: &str = "net 10
 node 1
 node 254
 call 254 ask 1 129 deadBEEF 00fF 1 alo 0
+deliver 0 1
 deliver 0 1
 call 1 answer 254 128 0 01020304:- 05060708:c0
 deliver 1 254
@@ -109,10 +110,11 @@ timer 254 retry 0
 const WITH_DATA_PLAYED: &str = "0 begun 0
 sent 0 1 00179D01000A000A01FE81800340010000DEADBEEF00FF
 1 asked 254 128 0 DEADBEEF 00FF
-2 answered 1
+2 again
+3 answered 1
 sent 1 254 0015DA66000A000AFE018081038000000001020304
-3 response 0 01020304:-
-4 refused 15
+4 response 0 01020304:-
+5 refused 15
 ";
 
 #[test]
