@@ -95,7 +95,8 @@ fn a_retry_asks_for_the_packets_that_are_still_missing(rt: HostRuntime) {
     );
 }
 
-// User bytes and data go both ways. The request comes again while it waits. Of an answer of two packets the one is sent that was asked for.
+// User bytes and data go both ways. The request comes again while it waits. Of an answer of two packets only the one is
+// sent that was asked for.
 const WITH_DATA: &str = "net 10
 node 1
 node 254
