@@ -6,8 +6,8 @@ use Rattle.std.specs.Fmt.{decimal, digit_glyph}
 use Rattle.at_play.specs.Lines.{address_text, header_line, packet_line, pairs, parts, sum_text, WordText, NoHex, NoRoom}
 use Rattle.at_play.specs.HexFaults.{fault_line}
 use Rattle.at_play.specs.Shown.{IsHex}
-use Rattle.at_play.specs.declared.show.HexFault.{HexFault}
-use Rattle.at_play.specs.declared.show.HexFault.TheVariants as fault
+use Rattle.at_play.specs.declared.hex_word.HexFault.{HexFault}
+use Rattle.at_play.specs.declared.hex_word.HexFault.TheVariants as fault
 use Rattle.std.specs.List.{concat}
 use Rattle.std.specs.Int.{from_bool}
 use Rattle.at_atp.specs.Frames.{Request, Response}

@@ -1,37 +1,21 @@
 //! A schedule of which some lines are read.
 ghost use Rattle.std.specs.Prelude.{◌≡◌, true, IfSome};
 ghost use Rattle.at_world.specs.Setups.{is_lawful};
-ghost use Rattle.at_play.specs.declared.draft.LineFault.TheVariants.{NoMemory};
 
-use crate::event_line::{call_of, delivery_of};
+use crate::event_line::{call_of, delivery_of, timer_of};
+use crate::line_fault::LineFault;
 use crate::node_line::{net_of, node_of};
 use crate::schedule::Schedule;
 use crate::word::{Words, zone_name};
 use at_ddp::{Listed, Pascal};
 use at_world::{Event, NodeSetup, Setup};
-use std::alloc::{AllocFailed, Allocator, Global};
+use std::alloc::{Allocator, Global};
 
 /// How many nodes a world has at most.
 const MAX_NODES: usize = 16;
 
 /// How many bytes the names of a zone table spell to at most, each with a byte for its length.
 const MAX_TABLE: usize = 578;
-
-/// Why a line is not taken.
-#[derive(Clone, Copy, Debug, PartialEq, Eq)]
-pub(crate) enum LineFault {
-    /// No schedule begins with the lines up to this one.
-    Unlawful,
-    NoMemory,
-}
-
-impl<T: Drop> From<AllocFailed<T>> for LineFault {
-    ghost from_gives = { λ _ e. e ≡ NoMemory };
-
-    fn from(_error: AllocFailed<T>) -> LineFault {
-        LineFault::NoMemory
-    }
-}
 
 // Which line comes next.
 #[derive(Clone, Copy)]
@@ -45,16 +29,18 @@ enum Stage {
 /// What the lines so far say.
 #[derive(Drop)]
 pub(crate) struct Draft<A: Allocator = Global> {
+    alloc: A,
     stage: Stage,
     net: u16,
     nodes: Vec<NodeSetup, A>,
     zones: Vec<Pascal, A>,
-    events: Vec<Event, A>,
+    events: Vec<Event<A>, A>,
 }
 
 impl<A: Allocator + Copy> Draft<A> {
     pub(crate) fn new(alloc: A) -> Draft<A> {
         Draft {
+            alloc,
             stage: Stage::Net,
             net: 0,
             nodes: Vec::new(alloc),
@@ -62,9 +48,7 @@ impl<A: Allocator + Copy> Draft<A> {
             events: Vec::new(alloc),
         }
     }
-}
 
-impl<A: Allocator> Draft<A> {
     /// Takes one line more.
     pub(crate) fn take_line(&mut self, line: &[u8]) -> Result<(), LineFault> {
         match line {
@@ -78,8 +62,9 @@ impl<A: Allocator> Draft<A> {
             Some(b"net") => self.take_net(words),
             Some(b"node") => self.take_node(words),
             Some(b"zones") => self.take_zones(words),
-            Some(b"call") => self.take_event(call_of(words)),
-            Some(b"deliver") => self.take_event(delivery_of(words)),
+            Some(b"call") => self.take_event(call_of(self.alloc, words)),
+            Some(b"deliver") => self.take_event(delivery_of(words).ok_or(LineFault::Unlawful)),
+            Some(b"timer") => self.take_event(timer_of(words).ok_or(LineFault::Unlawful)),
             _ => Err(LineFault::Unlawful),
         }
     }
@@ -128,8 +113,8 @@ impl<A: Allocator> Draft<A> {
         Ok(())
     }
 
-    fn take_event(&mut self, event: Option<Event>) -> Result<(), LineFault> {
-        let event = event.ok_or(LineFault::Unlawful)?;
+    fn take_event(&mut self, event: Result<Event<A>, LineFault>) -> Result<(), LineFault> {
+        let event = event?;
         match self.stage {
             Stage::Net => return Err(LineFault::Unlawful),
             Stage::Node if lacks_router(&self.nodes) => return Err(LineFault::Unlawful),

@@ -1,9 +1,12 @@
 //! Schedules of events and what comes of them, as text: a schedule is read whole, played, and each event printed.
 #![tactic(auto)]
 
+mod call_words;
 mod draft;
 mod event_line;
+mod hex_word;
 mod input;
+mod line_fault;
 mod node_line;
 mod packet_lines;
 mod print;

@@ -3,7 +3,7 @@ ghost use Rattle.at_play.specs.Lines.{hex_text, pairs};
 ghost use Rattle.at_play.specs.Printers.{Prints};
 
 use crate::printer::Printer;
-use at_atp::Packet;
+use at_atp::{Key, Packet};
 use at_ddp::Pascal;
 use at_node::Report;
 use at_world::{SentList, Transcript};
@@ -46,16 +46,31 @@ fn write_sent<A: Allocator, W: Write>(
 fn write_report<A: Allocator, W: Write>(printer: &mut Printer<W>, report: &Report<A>) {
     match report {
         Report::Begun(tid) => write!(printer, "begun {tid}"),
+        Report::Answered(count) => write!(printer, "answered {count}"),
         Report::Served(count) => write!(printer, "served {count}"),
+        Report::Asked { key, user, data_ } => write_asked(printer, *key, *user, data_.as_slice()),
         Report::Zones(zones) => write_zones(printer, zones.as_slice()),
         Report::ZoneFault(number) => write!(printer, "zonefault {number}"),
+        Report::ZonesFailed => printer.write_all(b"zonesfailed"),
         Report::Kept => printer.write_all(b"kept"),
         Report::Response { tid, packets } => write_response(printer, *tid, packets.as_slice()),
+        Report::Failed(tid) => write!(printer, "failed {tid}"),
         Report::Again => printer.write_all(b"again"),
         Report::Ignored => printer.write_all(b"ignored"),
         Report::Refused(number) => write!(printer, "refused {number}"),
         Report::NoMemory => printer.write_all(b"nomemory"),
     }
+}
+
+fn write_asked<W: Write>(printer: &mut Printer<W>, key: Key, user: [u8; 4], bytes: &[u8]) {
+    write!(
+        printer,
+        "asked {} {} {} ",
+        key.from.node, key.from.socket, key.tid
+    );
+    write_hex(printer, &user);
+    printer.write_all(b" ");
+    write_hex(printer, bytes);
 }
 
 fn write_zones<W: Write>(printer: &mut Printer<W>, zones: &[Pascal]) {

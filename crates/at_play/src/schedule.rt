@@ -3,8 +3,9 @@ ghost use Rattle.std.specs.Prelude.{◌≡◌, ◌≤◌, ◌<◌, ◌+◌, leng
 ghost use Rattle.at_world.specs.Setups.{is_lawful};
 ghost use Rattle.at_play.specs.declared.schedule.Fault.TheVariants.{NoMemory};
 
-use crate::draft::{Draft, LineFault};
+use crate::draft::Draft;
 use crate::input::MAX_LEN;
+use crate::line_fault::LineFault;
 use at_world::{Event, Setup};
 use std::alloc::{AllocError, Allocator, Global};
 
@@ -12,7 +13,7 @@ use std::alloc::{AllocError, Allocator, Global};
 #[derive(Drop)]
 pub(crate) struct Schedule<A: Allocator = Global> {
     pub(crate) setup: Setup<A>,
-    pub(crate) events: Vec<Event, A>,
+    pub(crate) events: Vec<Event<A>, A>,
 }
 
 /// Why there is no schedule.

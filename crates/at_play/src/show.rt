@@ -1,11 +1,12 @@
 //! What `show` prints of a datagram that a word spells in hexadecimal digits.
-ghost use Rattle.std.specs.Prelude.{◌≡◌, ◌↔◌, ◌≤◌, ◌<◌, ◌/◌, ◌++◌, List, ℕ, length, OnOk, IfErr, IsErrOf, vec_capacity};
+ghost use Rattle.std.specs.Prelude.{◌≡◌, ◌↔◌, ◌≤◌, ◌/◌, ◌++◌, List, ℕ, length, vec_capacity};
 ghost use Rattle.at_play.specs.Printers.{HasFailed, Prints};
 ghost use Rattle.at_ddp.specs.Datagram.{content};
 ghost use Rattle.at_play.specs.HexFaults.{fault_line};
 ghost use Rattle.at_play.specs.Lines.{BytesText, DataText, PacketText, WordText, header_line, refusal_line};
-ghost use Rattle.at_play.specs.Shown.{IsHex, IsPacket, IsReadable, IsSound, Shows};
+ghost use Rattle.at_play.specs.Shown.{IsPacket, IsReadable, IsSound, Shows};
 
+use crate::hex_word::{HexFault, bytes_of};
 use crate::packet_lines::{write_frame, write_header, write_raw};
 use crate::printer::Printer;
 use crate::program::Status;
@@ -15,15 +16,6 @@ use std::io::Write;
 
 /// The protocol of ATP's datagrams.
 const ATP: u8 = 3;
-
-/// Why a word spells no bytes.
-#[derive(Clone, Copy)]
-enum HexFault {
-    /// It has no digits, an odd number of them, or something that is none.
-    NoHex,
-    /// There was no memory for the bytes.
-    NoMemory,
-}
 
 /// Prints the datagram that a word spells in hexadecimal digits, its header and its packet, or the number of the first
 /// refusal. What follows the datagram is counted only. The bytes are put into the room.
@@ -42,29 +34,6 @@ pub fn show_text<A: Allocator, W: Write>(
         Err(fault) => show_fault(fault, printer),
     };
     printer.finish(status)
-}
-
-// Puts the bytes that a word spells into the room, for pairs of digits in either case, or none for `-`.
-fn bytes_of<A: Allocator>(word: &[u8], room: &mut Vec<u8, A>) -> Result<(), HexFault>
-    ensures found { OnOk result (IsHex word.now room.new.items) }
-    ensures fault { IsErrOf result HexFault.NoHex → (bytes : List ℕ) → ¬ IsHex word.now bytes }
-    // Memory is refused only where room was missing.
-    ensures memory { IsErrOf result HexFault.NoMemory → vec_capacity room.old < length word.now / 2 }
-{
-    if word.is_empty() {
-        return Err(HexFault::NoHex);
-    }
-    room.clear();
-    if word == b"-".as_slice() {
-        return Ok(());
-    }
-    if room.resize(word.len() / 2, 0).is_err() {
-        return Err(HexFault::NoMemory);
-    }
-    match hex::decode_to_slice(word, room.as_mut_slice()) {
-        Ok(()) => Ok(()),
-        Err(_) => Err(HexFault::NoHex),
-    }
 }
 
 fn show_fault<W: Write>(fault: HexFault, printer: &mut Printer<W>) -> Status

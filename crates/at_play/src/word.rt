@@ -76,7 +76,7 @@ pub(crate) fn number(word: &[u8]) -> Option<u64>
     Some(number)
 }
 
-/// The number of a node, 1 to 254.
+/// The number of a node or of a socket, 1 to 254.
 pub(crate) fn node_number(word: &[u8]) -> Option<u8>
     ensures taken { IsSome result ↔ (IsNumeral 10 word.now × (0 < digits_value 10 word.now) × (digits_value 10 word.now < 255)) }
     ensures value { IfSome result (λ node. node ≡ digits_value 10 word.now) }
@@ -96,6 +96,22 @@ pub(crate) fn positive(word: &[u8]) -> Option<u16>
 {
     let value = u16::try_from(number(word)?).ok()?;
     if value > 0 { Some(value) } else { None }
+}
+
+/// A number of one byte.
+pub(crate) fn byte(word: &[u8]) -> Option<u8>
+    ensures taken { IsSome result ↔ (IsNumeral 10 word.now × (digits_value 10 word.now < 256)) }
+    ensures value { IfSome result (λ value. value ≡ digits_value 10 word.now) }
+{
+    u8::try_from(number(word)?).ok()
+}
+
+/// A number of two bytes.
+pub(crate) fn two_bytes(word: &[u8]) -> Option<u16>
+    ensures taken { IsSome result ↔ (IsNumeral 10 word.now × (digits_value 10 word.now < 65536)) }
+    ensures value { IfSome result (λ value. value ≡ digits_value 10 word.now) }
+{
+    u16::try_from(number(word)?).ok()
 }
 
 /// The text that a word spells: `%` and two digits are any byte, and `%` alone is the empty text.

@@ -8,6 +8,8 @@ mod node_readings;
 #[cfg(test)]
 mod node_refusals;
 #[cfg(test)]
+mod retries;
+#[cfg(test)]
 mod schedule_failures;
 #[cfg(test)]
 mod schedule_limits;
@@ -15,3 +17,9 @@ mod schedule_limits;
 mod schedules;
 #[cfg(test)]
 mod shared;
+#[cfg(test)]
+mod transaction_failures;
+#[cfg(test)]
+mod transaction_limits;
+#[cfg(test)]
+mod transactions;

@@ -1,6 +1,6 @@
 //! A node that tests play events on, with what it sent.
 use at_ddp::{Address, Datagrams, Listed, Pascal, encode};
-use at_node::{Call, Node, Report};
+use at_node::{Call, Deferring, Node, Report};
 use at_samples::at;
 use at_zip::Zones;
 use std::alloc::{AllocError, Allocator, Global};
@@ -40,7 +40,7 @@ impl<A: Allocator + Copy> Played<A> {
     }
 
     fn call(&mut self) -> Report<A> {
-        self.node.call(Call::Zones, &mut self.out)
+        self.node.call(&Call::Zones, &mut self.out)
     }
 
     // Calls for the zone list, and calls again where there was no memory and nothing was sent.
@@ -55,7 +55,7 @@ impl<A: Allocator + Copy> Played<A> {
     }
 
     fn receive(&mut self, bytes: &[u8]) -> Report<A> {
-        self.node.receive(bytes, &mut self.out)
+        self.node.receive(&mut Deferring, bytes, &mut self.out)
     }
 
     // Takes bytes in, and takes them in again where there was no memory and nothing was sent.

@@ -1,6 +1,7 @@
 //! What the files of schedules share: one of them, and its play.
 use at_play::{Printer, Status, play_text};
-use std::alloc::{Allocator, Global};
+use std::alloc::{AllocError, Allocator, Global};
+use std::process::Abort;
 
 // A reading of the zone list, whose answer comes twice.
 pub(crate) const ZONE_LIST: &str = "net 10
@@ -31,4 +32,37 @@ pub(crate) fn played<A: Allocator + Copy>(
     let mut printer = Printer::new(&mut writer);
     let status = play_text(alloc, &mut text.as_bytes(), &mut printer);
     (writer, status)
+}
+
+// Compares what is printed of a schedule, and how its play ends.
+pub(crate) fn compare(rt: &impl Abort, alloc: Global, text: &str, want: &str, want_status: Status) {
+    let (printed, status) = played(alloc, alloc, text);
+    assert_eq!(rt; printed.as_slice(), want.as_bytes(), "of {text:?}");
+    assert_eq!(rt; status, want_status, "of {text:?}");
+}
+
+// Compares the end of what is printed of a schedule that is too long to be shown, and how its play ends.
+pub(crate) fn compare_end(
+    rt: &impl Abort,
+    alloc: Global,
+    text: &str,
+    want: &str,
+    want_status: Status,
+) {
+    let (printed, status) = played(alloc, alloc, text);
+    let start = printed.len().saturating_sub(200);
+    assert!(rt;
+        printed.ends_with(want.as_bytes()),
+        "{want:?} of {:?}",
+        &printed[start..]
+    );
+    assert_eq!(rt; status, want_status, "with {want:?}");
+}
+
+// Adds a text so many times.
+pub(crate) fn push_times(text: &mut String, part: &str, count: u32) -> Result<(), AllocError> {
+    for _ in 0..count {
+        text.push_str(part)?;
+    }
+    Ok(())
 }

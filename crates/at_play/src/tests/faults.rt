@@ -18,7 +18,7 @@ static FAULTS: [(&str, u32); 72] = [
     ("net 1\n\nport 5\n", 3),
     ("net 1\nlocal A\n", 2),
     ("net 1\npoll 5\n", 2),
-    ("net 1\ntimer 5 retry 0\n", 2),
+    ("net 1\ntimer 5 expire 0\n", 2),
     ("net 1\nforge 5 00\n", 2),
     // Spaces alone are no empty line, and a tab or a carriage return is no space.
     (" \nnet 1\n", 1),
@@ -119,12 +119,12 @@ static LAWFUL: [&str; 12] = [
 ];
 
 // Whether these bytes are a schedule; at fault if they are long.
-fn is_schedule(alloc: Global, text: &[u8]) -> bool {
+pub(super) fn is_schedule(alloc: Global, text: &[u8]) -> bool {
     text.len() < 1000 && read_schedule(alloc, text).is_ok()
 }
 
 // Whether a text is at fault at this line.
-fn has_fault(alloc: Global, text: &str, line: u32) -> Result<bool, AllocError> {
+pub(super) fn has_fault(alloc: Global, text: &str, line: u32) -> Result<bool, AllocError> {
     let mut reader = text.as_bytes();
     let mut writer = Vec::new(alloc);
     let status = play_text(alloc, &mut reader, &mut Printer::new(&mut writer));

@@ -2,8 +2,8 @@
 use crate::print::{write_text, write_transcript};
 use crate::word::text;
 use crate::{Printer, Status};
-use at_atp::Packet;
-use at_ddp::{Bytes, Listed, Pascal};
+use at_atp::{Key, Packet};
+use at_ddp::{Address, Bytes, Listed, Pascal};
 use at_node::Report;
 use at_world::{SentList, Transcript};
 use std::alloc::{AllocError, Global};
@@ -26,6 +26,11 @@ static PRINTED: &str = "0 begun 65535
 11 ignored
 12 refused 60
 13 nomemory
+14 answered 8
+15 asked 254 128 65535 00010AFF AA00
+16 asked 1 255 0 FEDCBA98 -
+17 zonesfailed
+18 failed 65535
 ";
 
 fn names(alloc: Global, texts: &[&[u8]]) -> Result<Report<Global>, AllocError> {
@@ -49,6 +54,25 @@ fn response(
     }
     let packets = Listed::from_vec(packets);
     Ok(Report::Response { tid, packets })
+}
+
+fn asked(
+    alloc: Global,
+    node: u8,
+    socket: u8,
+    tid: u16,
+    parts: ([u8; 4], &[u8]),
+) -> Result<Report<Global>, AllocError> {
+    let from = Address {
+        net: 10,
+        node,
+        socket,
+    };
+    Ok(Report::Asked {
+        key: Key { from, tid },
+        user: parts.0,
+        data_: Bytes::copy_of(alloc, parts.1)?,
+    })
 }
 
 fn transcript(alloc: Global) -> Result<Transcript<Global>, AllocError> {
@@ -84,6 +108,13 @@ fn transcript(alloc: Global) -> Result<Transcript<Global>, AllocError> {
     reports.push(Report::Ignored)?;
     reports.push(Report::Refused(60))?;
     reports.push(Report::NoMemory)?;
+    reports.push(Report::Answered(8))?;
+    let parts = ([0, 1, 10, 255], b"\xaa\0".as_slice());
+    reports.push(asked(alloc, 254, 128, 65535, parts)?)?;
+    let parts = ([0xFE, 0xDC, 0xBA, 0x98], b"".as_slice());
+    reports.push(asked(alloc, 1, 255, 0, parts)?)?;
+    reports.push(Report::ZonesFailed)?;
+    reports.push(Report::Failed(65535))?;
     Ok(Transcript {
         reports: Listed::from_vec(reports),
         sent: SentList::new(alloc),

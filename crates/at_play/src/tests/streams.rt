@@ -122,7 +122,7 @@ fn a_write_or_a_flush_that_fails_ends_the_play(rt: HostRuntime) {
 fn read_short_of_memory(alloc: Global, granted: u64) -> (Option<Fault>, bool) {
     let heap = Refusing::new(alloc, granted);
     let text =
-        b"net 1\nnode 1 router zone A\nnode 2 zone B\nzones A B\ncall 1 zones\ndeliver 0 1\n";
+        b"net 1\nnode 1 router zone A\nnode 2 zone B\nzones A B\ncall 1 zones\ndeliver 0 1\ncall 1 ask 2 129 00000000 AA 1 alo 1\ncall 2 answer 1 128 1 00000000:BB 00000000:CC\ntimer 1 retry 1\n";
     let fault = read_schedule(&heap, text).err();
     (fault, heap.has_refused())
 }
@@ -139,7 +139,7 @@ fn each_request_for_memory_that_is_refused_is_told(rt: HostRuntime) {
             assert_eq!(rt; fault, None, "after {granted} requests");
         }
     }
-    assert!(rt; refusals > 2);
+    assert!(rt; refusals > 6);
 }
 
 #[test]
