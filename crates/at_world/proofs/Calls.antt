@@ -114,19 +114,19 @@ module _ (A : Type 0) (laws : Laws A) (w : WorldState) (m : Machine) (k : ℕ) (
       let rs : List Reading = record { node = k; since = length m.past } ∷ m.readings in
       good_next A w m k n (event.Call k Zones) (reading_begins n router (Some tid)) (new_transaction (asking m.net k) (zone_transaction n router tid) ∷ m.asked) (record { node = k; since = length m.past } ∷ m.readings) t stands
       (begun_next A w m k n t stands (zones_at n.net router) (request_user 1) [] 1 3 tid (Some tid) (record { node = k; since = length m.past } ∷ m.readings) is_drawn
-        (none_holds m.net k tid w.nodes (after A t.history).responders t.responders free)
-        (record { who_fits = asking_fits; to_fits = there_fits router 6 (fixed.router router is_router) (lit< tt); asks = first_asks; few = lit≤ tt })
-        its.net
-        (record {
-          server = router;
-          is_router = is_router;
-          first = record { transaction = new_transaction (asking m.net k) (zone_transaction n router tid); newest = λ i. cond (same_address_itself (asking m.net k) i && eq-eqb tid tid refl i) (Some (new_transaction (asking m.net k) (zone_transaction n router tid))) (transaction_of m.asked (asking m.net k) tid); asked_it = ap (λ net. zones_at net router) its.net };
-          user = refl;
-          is_open = open_last n.requester.standing (zone_transaction n router tid);
-          since = length m.past;
-          began = ap (λ b. option_map (λ (r : Reading). r.since) (cond b (Some (record { node = k; since = length m.past })) (find (λ (r : Reading). r.node == k) m.readings))) (eq-eqb k k refl);
-        })
-        (λ j apart. ap (λ b. option_map (λ (r : Reading). r.since) (cond b (Some (record { node = k; since = length m.past })) (find (λ (r : Reading). r.node == j) m.readings))) apart))
+      (none_holds m.net k tid w.nodes (after A t.history).responders t.responders free)
+      (record { who_fits = asking_fits; to_fits = there_fits router 6 (fixed.router router is_router) (lit< tt); asks = first_asks; few = lit≤ tt })
+      its.net
+      (record {
+        server = router;
+        is_router = is_router;
+        first = record { transaction = new_transaction (asking m.net k) (zone_transaction n router tid); newest = λ i. cond (same_address_itself (asking m.net k) i && eq-eqb tid tid refl i) (Some (new_transaction (asking m.net k) (zone_transaction n router tid))) (transaction_of m.asked (asking m.net k) tid); asked_it = ap (λ net. zones_at net router) its.net };
+        user = refl;
+        is_open = open_last n.requester.standing (zone_transaction n router tid);
+        since = length m.past;
+        began = ap (λ b. option_map (λ (r : Reading). r.since) (cond b (Some (record { node = k; since = length m.past })) (find (λ (r : Reading). r.node == k) m.readings))) (eq-eqb k k refl);
+      })
+      (λ j apart. ap (λ b. option_map (λ (r : Reading). r.since) (cond b (Some (record { node = k; since = length m.past })) (find (λ (r : Reading). r.node == j) m.readings))) apart))
       (record { router = router; is_router = is_router; becomes = λ i. next (record m { asked = new_transaction (asking m.net k) (beginning tid (zones_at (its.net i) router) (request_user 1) [] 1 false 3) ∷ m.asked; readings = record { node = k; since = length m.past } ∷ m.readings }) })
     where
       first_asks : IsPacket (record { user = request_user 1; data_ = [] })
@@ -147,11 +147,11 @@ module _ (A : Type 0) (laws : Laws A) (w : WorldState) (m : Machine) (k : ℕ) (
         let its = t.nodes k n stands in
         good_next A w m k n (event.Call k (Ask node socket user bytes wanted retries)) (asked_as n (at_socket n node socket) user bytes wanted retries (Some tid)) (new_transaction (asking m.net k) (beginning tid (at_socket n node socket) user bytes wanted false retries) ∷ m.asked) m.readings t stands
         (begun_next A w m k n t stands (at_socket n node socket) user bytes wanted retries tid n.reading m.readings is_drawn
-          (none_holds m.net k tid w.nodes (after A t.history).responders t.responders free)
-          (record { who_fits = asking_fits; to_fits = there_fits node socket range.0 range.1; asks = record { four = range.2; user = range.3; bytes = range.4; fits = few }; few = range.6 })
-          its.net
-          (reading_begun (at_socket n node socket) user bytes wanted retries tid n.reading is_drawn (t.readings k n stands))
-          (λ j apart. refl))
+        (none_holds m.net k tid w.nodes (after A t.history).responders t.responders free)
+        (record { who_fits = asking_fits; to_fits = there_fits node socket range.0 range.1; asks = record { four = range.2; user = range.3; bytes = range.4; fits = few }; few = range.6 })
+        its.net
+        (reading_begun (at_socket n node socket) user bytes wanted retries tid n.reading is_drawn (t.readings k n stands))
+        (λ j apart. refl))
         (record { becomes = λ i. next (record m { asked = record { requester = asking m.net k; tid = tid; responder = record { net = its.net i; node = node; socket = socket }; user = user; data_ = bytes; wanted = length-replicate {A = Option arrivals.Arrival} wanted None i; xo = false; answers = [] } ∷ m.asked }) })
 
     good_ask : (b : Bool) → nat_lt 578 (length bytes) ≡ b → holds_some w.nodes k (drawn_by {A = A} (cond b (idle n (report.Refused 13)) (asked_as n (at_socket n node socket) user bytes wanted retries (next_number n.requester))).report) ≡ false →
@@ -209,15 +209,15 @@ module _ (A : Type 0) (laws : Laws A) (w : WorldState) (m : Machine) (k : ℕ) (
         let done_is = is_done is in
         good_next A w m k n (event.Call k (Answer node socket tid packets)) (answered_with n (record { from = at_socket n node socket; tid = tid }) packets None) (answered m.asked (at_socket n node socket) tid packets) m.readings t stands
         (gave_next A w m k n t stands laws (Answers (serving m.net k) (record { from = at_socket n node socket; tid = tid }) packets) (report.Answered (length (asked_for (find (is_key (record { from = at_socket n node socket; tid = tid })) n.service) (record { from = at_socket n node socket; tid = tid }) packets)))
-          serving (at_socket n node socket) tid packets (serving m.net k) asked n.served (without_first (is_key (record { from = at_socket n node socket; tid = tid })) n.service) (asked_for (find (is_key (record { from = at_socket n node socket; tid = tid })) n.service) (record { from = at_socket n node socket; tid = tid }) packets)
-          tt (serving_fits, packets_fit packets found.1 range.3)
-          (ap (λ (x : Network). x.event) done_is)
-          (λ who. ap (λ (x : Network). x.requesters who) done_is)
-          (λ at. ap (λ (x : Network). x.responders at) done_is ∙ ap (λ rs. put (after A t.history).responders (serving m.net k) (without_first (is_key (record { from = at_socket n node socket; tid = tid })) rs) at) (service_is A w m k n t stands) ∙ with_service A w m k n t stands (without_first (is_key (record { from = at_socket n node socket; tid = tid })) n.service) at)
-          (ap (λ (x : Network). x.sent) done_is ∙ ap (λ rs. (after A t.history).sent ++ stamped (after A t.history).event (serving m.net k) (asked_for (find (is_key (record { from = at_socket n node socket; tid = tid })) rs) (record { from = at_socket n node socket; tid = tid }) packets)) (service_is A w m k n t stands))
-          (ap (λ (x : Network). x.drawn) done_is)
-          (ap (λ (x : Network). x.asked) done_is)
-          (pages_elsewhere m asked.transaction packets k asked.asked_it))
+        serving (at_socket n node socket) tid packets (serving m.net k) asked n.served (without_first (is_key (record { from = at_socket n node socket; tid = tid })) n.service) (asked_for (find (is_key (record { from = at_socket n node socket; tid = tid })) n.service) (record { from = at_socket n node socket; tid = tid }) packets)
+        tt (serving_fits, packets_fit packets found.1 range.3)
+        (ap (λ (x : Network). x.event) done_is)
+        (λ who. ap (λ (x : Network). x.requesters who) done_is)
+        (λ at. ap (λ (x : Network). x.responders at) done_is ∙ ap (λ rs. put (after A t.history).responders (serving m.net k) (without_first (is_key (record { from = at_socket n node socket; tid = tid })) rs) at) (service_is A w m k n t stands) ∙ with_service A w m k n t stands (without_first (is_key (record { from = at_socket n node socket; tid = tid })) n.service) at)
+        (ap (λ (x : Network). x.sent) done_is ∙ ap (λ rs. (after A t.history).sent ++ stamped (after A t.history).event (serving m.net k) (asked_for (find (is_key (record { from = at_socket n node socket; tid = tid })) rs) (record { from = at_socket n node socket; tid = tid }) packets)) (service_is A w m k n t stands))
+        (ap (λ (x : Network). x.drawn) done_is)
+        (ap (λ (x : Network). x.asked) done_is)
+        (pages_elsewhere m asked.transaction packets k asked.asked_it))
         (record {
           asked = subst (λ (a : Address). Asked m.asked a tid (serving m.net k)) (there its.net) asked;
           few = laws.few (find (is_key (record { from = at_socket n node socket; tid = tid })) n.service) (record { from = at_socket n node socket; tid = tid }) packets;

@@ -57,7 +57,7 @@ module _ (A : Type 0) (laws : Laws A) (w : WorldState) (m : Machine) (which k : 
       let its = t.nodes k n stands in
       let whole = its.table table has in
       good_page A laws w m which k n t stands c.packet c.was_sent c.fresh c.timely mask xo timer tid user bytes is (its_address 6 on_net here socket) at.start at.asks whole.1 o
-        (at.outcome ∙ ap (λ l. zone_asked n (c.packet).from (Request mask xo timer tid user bytes) l at.start) whole.0)
+      (at.outcome ∙ ap (λ l. zone_asked n (c.packet).from (Request mask xo timer tid user bytes) l at.start) whole.0)
 
   -- which socket it comes to
   at_router : (o : Outcome A) (table : Option (List (List ℕ))) (said : Reply A) → n.table ≡ table → ((c.packet).to).node ≡ k → ((c.packet).to).socket ≡ 6 → AtSocket said n (c.packet).from (router_socket table) (c.packet).packet o → Good A w m k (event.Deliver which k) o

@@ -239,8 +239,8 @@ module _ (A : Type 0) (w : WorldState) (m : Machine) (k : ℕ) (n : NodeState) (
       to.net ≡ m.net → IsReading (moved m (new_transaction (asking m.net k) (beginning tid to user bytes wanted false retries) ∷ m.asked) readings) k (requests.begun n.requester (beginning tid to user bytes wanted false retries)) reading →
       ((j : ℕ) → (k == j) ≡ false → since_of readings j ≡ since_of m.readings j) →
       Next A w m (after A t.history) k (record n { requester = requests.begun n.requester (beginning tid to user bytes wanted false retries); reading = reading }) (report.Begun tid)
-        (sent_by (asking n.net n.number) atp_kind (spelled_all ((to, request_by (beginning tid to user bytes wanted false retries)) ∷ [])))
-        (new_transaction (asking m.net k) (beginning tid to user bytes wanted false retries) ∷ m.asked) readings
+      (sent_by (asking n.net n.number) atp_kind (spelled_all ((to, request_by (beginning tid to user bytes wanted false retries)) ∷ [])))
+      (new_transaction (asking m.net k) (beginning tid to user bytes wanted false retries) ∷ m.asked) readings
   begun_next to user bytes wanted retries tid reading readings drawn free range on_net reads others = record {
     happening = Begins (asking m.net k) to user bytes wanted false retries;
     timely = λ number is. let same : tid ≡ number = some_number tid number (sym drawn ∙ ap next_number (sym asker_is) ∙ is) in subst (NoneHolds (after A t.history).responders (asking m.net k)) same free;

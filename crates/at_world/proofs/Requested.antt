@@ -35,9 +35,8 @@ use Rattle.at_world.proofs.Moves.{service_is, served_is, service_next, zones_nex
 use Rattle.at_world.proofs.Tied.{Laws, PagesOf, Tied, put_here}
 
 module _ (A : Type 0) (laws : Laws A) (w : WorldState) (m : Machine) (which k : ℕ) (n : NodeState) (t : Tied A w m) (stands : node_at w k ≡ Some n) (s : Sent) (was_sent : slice_get (after A t.history).sent which ≡ Some s)
-  (fresh : network.is_fresh (after A t.history).drawn s ≡ true) (timely : network.ComesInTime (after A t.history) which)
-  (mask : ℕ) (xo : Bool) (timer tid : ℕ) (user bytes : List ℕ) (packet_is : s.packet ≡ Request mask xo timer tid user bytes) where
-
+    (fresh : network.is_fresh (after A t.history).drawn s ≡ true) (timely : network.ComesInTime (after A t.history) which)
+    (mask : ℕ) (xo : Bool) (timer tid : ℕ) (user bytes : List ℕ) (packet_is : s.packet ≡ Request mask xo timer tid user bytes) where
   -- the newest transaction of this number, which asked this
   pub asks : (a : Asked m.asked s.from tid s.to) × ((a.transaction).user ≡ user) × ((a.transaction).data_ ≡ bytes)
   asks =
@@ -59,19 +58,19 @@ module _ (A : Type 0) (laws : Laws A) (w : WorldState) (m : Machine) (which k : 
         o ≡ at_service n (taken n.service s.from (Request mask xo timer tid user bytes)) user bytes said r → Good A w m k (event.Deliver which k) o
     good_service said o reception.Ignored later is at = subst (Good A w m k (event.Deliver which k)) (sym at)
         (good_next A w m k n (event.Deliver which k) (service_taken n (taken n.service s.from (Request mask xo timer tid user bytes)) report.Ignored) m.asked m.readings t stands
-          (service_next A w m k n t stands (Takes which) (taken n.service s.from (Request mask xo timer tid user bytes)).after (taken n.service s.from (Request mask xo timer tid user bytes)).sent report.Ignored timely tt is_taken) refl)
+        (service_next A w m k n t stands (Takes which) (taken n.service s.from (Request mask xo timer tid user bytes)).after (taken n.service s.from (Request mask xo timer tid user bytes)).sent report.Ignored timely tt is_taken) refl)
     good_service said o (reception.Again count) later is at = subst (Good A w m k (event.Deliver which k)) (sym at)
         (good_next A w m k n (event.Deliver which k) (service_taken n (taken n.service s.from (Request mask xo timer tid user bytes)) report.Again) m.asked m.readings t stands
-          (service_next A w m k n t stands (Takes which) (taken n.service s.from (Request mask xo timer tid user bytes)).after (taken n.service s.from (Request mask xo timer tid user bytes)).sent report.Again timely tt is_taken) refl)
+        (service_next A w m k n t stands (Takes which) (taken n.service s.from (Request mask xo timer tid user bytes)).after (taken n.service s.from (Request mask xo timer tid user bytes)).sent report.Again timely tt is_taken) refl)
     good_service said o (reception.New key) later is at =
         let is_later : said ≡ reply.Later = later (ap (λ (x : Outcome A). is_asked x.report) at) in
         let waits = laws.new_waits n.service s.from (Request mask xo timer tid user bytes) key is in
         let a = asks in
         subst (Good A w m k (event.Deliver which k)) (sym (at ∙ ap (handed_up n (taken n.service s.from (Request mask xo timer tid user bytes)) key user bytes) is_later))
         (good_next A w m k n (event.Deliver which k) (handed_up n (taken n.service s.from (Request mask xo timer tid user bytes)) key user bytes reply.Later) m.asked m.readings t stands
-          (service_next A w m k n t stands (Takes which) (taken n.service s.from (Request mask xo timer tid user bytes)).after [] (report.Asked key user bytes) timely tt
-            (is_taken ∙ ap (with_responder (after A t.history) (serving m.net k) (taken n.service s.from (Request mask xo timer tid user bytes)).after) waits.1))
-          (record { asked = record { transaction = (a.0).transaction; newest = (λ i. transaction_of m.asked (waits.2 i).from (waits.2 i).tid) ∙ (a.0).newest; asked_it = (a.0).asked_it ∙ to_is }; is_user = a.1; is_data = a.2 }, refl))
+        (service_next A w m k n t stands (Takes which) (taken n.service s.from (Request mask xo timer tid user bytes)).after [] (report.Asked key user bytes) timely tt
+        (is_taken ∙ ap (with_responder (after A t.history) (serving m.net k) (taken n.service s.from (Request mask xo timer tid user bytes)).after) waits.1))
+        (record { asked = record { transaction = (a.0).transaction; newest = (λ i. transaction_of m.asked (waits.2 i).from (waits.2 i).tid) ∙ (a.0).newest; asked_it = (a.0).asked_it ∙ to_is }; is_user = a.1; is_data = a.2 }, refl))
 
     pub good_question : (said : Reply A) (o : Outcome A) → (is_asked o.report ≡ true → said ≡ reply.Later) → o ≡ service_asked n s.from (Request mask xo timer tid user bytes) user bytes said → Good A w m k (event.Deliver which k) o
     good_question said o later at = go (finds_no_place n.service s.from (Request mask xo timer tid user bytes)) at
@@ -111,7 +110,7 @@ module _ (A : Type 0) (laws : Laws A) (w : WorldState) (m : Machine) (which k : 
         ∙ (λ i. network.handed_up (with_responder (after A t.history) (to_is i) (taken (its_served i) s.from (packet_is i)).after (taken (its_served i) s.from (packet_is i)).sent) (to_is i) (page_answer m.table start) (taken (its_served i) s.from (packet_is i)).reception)
         ∙ ap (network.handed_up (with_responder (after A t.history) (zones_at m.net k) (taken n.served s.from (Request mask xo timer tid user bytes)).after (taken n.served s.from (Request mask xo timer tid user bytes)).sent) (zones_at m.net k) (page_answer m.table start)) is
         ∙ ap (network.answers (with_responder (after A t.history) (zones_at m.net k) (taken n.served s.from (Request mask xo timer tid user bytes)).after (taken n.served s.from (Request mask xo timer tid user bytes)).sent) (zones_at m.net k) key (page_answer m.table start))
-          (ap (λ rs. answer_fault rs key (page_answer m.table start)) (put_here (after A t.history).responders (zones_at m.net k) (taken n.served s.from (Request mask xo timer tid user bytes)).after) ∙ no_fault (taken n.served s.from (Request mask xo timer tid user bytes)).after key waits.0)
+        (ap (λ rs. answer_fault rs key (page_answer m.table start)) (put_here (after A t.history).responders (zones_at m.net k) (taken n.served s.from (Request mask xo timer tid user bytes)).after) ∙ no_fault (taken n.served s.from (Request mask xo timer tid user bytes)).after key waits.0)
 
     put_twice : (f : Address → List Record) (at : Address) (x y : List Record) (a : Address) → put (put f at x) at y a ≡ put f at y a
     put_twice f at x y a = go (same_address at a)
@@ -140,40 +139,40 @@ module _ (A : Type 0) (laws : Laws A) (w : WorldState) (m : Machine) (which k : 
         let asked : Asked m.asked s.from tid (zones_at m.net k) = record { transaction = (a.0).transaction; newest = (a.0).newest; asked_it = (a.0).asked_it ∙ to_is } in
         subst (Good A w m k (event.Deliver which k)) (sym at)
         (good_next A w m k n (event.Deliver which k) (zone_served n (taken n.served s.from (Request mask xo timer tid user bytes)) key (page_packet m.table start)) (answered m.asked s.from tid (page_answer m.table start)) m.readings t stands
-          (gave_next A w m k n t stands laws (Serves which (page_answer m.table start)) (report.Served (length (asked_for (find (is_key key) (taken n.served s.from (Request mask xo timer tid user bytes)).after) key (page_answer m.table start))))
-            zones_at s.from tid (page_answer m.table start) (zones_at m.net k) asked (without_first (is_key key) (taken n.served s.from (Request mask xo timer tid user bytes)).after) n.service
-            (asked_for (find (is_key key) (taken n.served s.from (Request mask xo timer tid user bytes)).after) key (page_answer m.table start))
-            timely (page_fits, tt)
-            (ap (λ (x : Network). x.event) d)
-            (λ who. ap (λ (x : Network). x.requesters who) d)
-            (λ at. ap (λ (x : Network). x.responders at) d
-              ∙ ap (λ rs. put (put (after A t.history).responders (zones_at m.net k) (taken n.served s.from (Request mask xo timer tid user bytes)).after) (zones_at m.net k) (without_first (is_key key) rs) at) here
-              ∙ put_twice (after A t.history).responders (zones_at m.net k) (taken n.served s.from (Request mask xo timer tid user bytes)).after (without_first (is_key key) (taken n.served s.from (Request mask xo timer tid user bytes)).after) at
-              ∙ with_served A w m k n t stands (without_first (is_key key) (taken n.served s.from (Request mask xo timer tid user bytes)).after) at)
-            (ap (λ (x : Network). x.sent) d
-              ∙ (λ i. ((after A t.history).sent ++ stamped (after A t.history).event (zones_at m.net k) (waits.1 i)) ++ stamped (after A t.history).event (zones_at m.net k) (asked_for (find (is_key key) (here i)) key (page_answer m.table start)))
-              ∙ ap (λ l. l ++ stamped (after A t.history).event (zones_at m.net k) (asked_for (find (is_key key) (taken n.served s.from (Request mask xo timer tid user bytes)).after) key (page_answer m.table start))) (append-nil (after A t.history).sent))
-            (ap (λ (x : Network). x.drawn) d)
-            (ap (λ (x : Network). x.asked) d ∙ (λ i. answered (after A t.history).asked (waits.2 i).from (waits.2 i).tid (page_answer m.table start)))
-            (pages_more (a.0).transaction a.1))
-          (record {
-            is_router = is_router;
-            requester = s.from;
-            tid = tid;
-            asked = asked;
-            start = start;
-            asks_from = subst (λ u. RequestSpells u start) (sym a.1) asks_from;
-            one = laws.few (find (is_key key) (taken n.served s.from (Request mask xo timer tid user bytes)).after) key (page_answer m.table start);
-            becomes = refl;
-          }))
+        (gave_next A w m k n t stands laws (Serves which (page_answer m.table start)) (report.Served (length (asked_for (find (is_key key) (taken n.served s.from (Request mask xo timer tid user bytes)).after) key (page_answer m.table start))))
+        zones_at s.from tid (page_answer m.table start) (zones_at m.net k) asked (without_first (is_key key) (taken n.served s.from (Request mask xo timer tid user bytes)).after) n.service
+        (asked_for (find (is_key key) (taken n.served s.from (Request mask xo timer tid user bytes)).after) key (page_answer m.table start))
+        timely (page_fits, tt)
+        (ap (λ (x : Network). x.event) d)
+        (λ who. ap (λ (x : Network). x.requesters who) d)
+        (λ at. ap (λ (x : Network). x.responders at) d
+        ∙ ap (λ rs. put (put (after A t.history).responders (zones_at m.net k) (taken n.served s.from (Request mask xo timer tid user bytes)).after) (zones_at m.net k) (without_first (is_key key) rs) at) here
+        ∙ put_twice (after A t.history).responders (zones_at m.net k) (taken n.served s.from (Request mask xo timer tid user bytes)).after (without_first (is_key key) (taken n.served s.from (Request mask xo timer tid user bytes)).after) at
+        ∙ with_served A w m k n t stands (without_first (is_key key) (taken n.served s.from (Request mask xo timer tid user bytes)).after) at)
+        (ap (λ (x : Network). x.sent) d
+        ∙ (λ i. ((after A t.history).sent ++ stamped (after A t.history).event (zones_at m.net k) (waits.1 i)) ++ stamped (after A t.history).event (zones_at m.net k) (asked_for (find (is_key key) (here i)) key (page_answer m.table start)))
+        ∙ ap (λ l. l ++ stamped (after A t.history).event (zones_at m.net k) (asked_for (find (is_key key) (taken n.served s.from (Request mask xo timer tid user bytes)).after) key (page_answer m.table start))) (append-nil (after A t.history).sent))
+        (ap (λ (x : Network). x.drawn) d)
+        (ap (λ (x : Network). x.asked) d ∙ (λ i. answered (after A t.history).asked (waits.2 i).from (waits.2 i).tid (page_answer m.table start)))
+        (pages_more (a.0).transaction a.1))
+        (record {
+          is_router = is_router;
+          requester = s.from;
+          tid = tid;
+          asked = asked;
+          start = start;
+          asks_from = subst (λ u. RequestSpells u start) (sym a.1) asks_from;
+          one = laws.few (find (is_key key) (taken n.served s.from (Request mask xo timer tid user bytes)).after) key (page_answer m.table start);
+          becomes = refl;
+        }))
 
     good_zones : (o : Outcome A) (r : Reception) → (taken n.served s.from (Request mask xo timer tid user bytes)).reception ≡ r → o ≡ at_zones n (taken n.served s.from (Request mask xo timer tid user bytes)) (page_packet m.table start) r → Good A w m k (event.Deliver which k) o
     good_zones o reception.Ignored is at = subst (Good A w m k (event.Deliver which k)) (sym at)
         (good_next A w m k n (event.Deliver which k) (zone_taken n (taken n.served s.from (Request mask xo timer tid user bytes)) report.Ignored) m.asked m.readings t stands
-          (zones_next A w m k n t stands (Takes which) (taken n.served s.from (Request mask xo timer tid user bytes)).after (taken n.served s.from (Request mask xo timer tid user bytes)).sent report.Ignored timely tt is_served) refl)
+        (zones_next A w m k n t stands (Takes which) (taken n.served s.from (Request mask xo timer tid user bytes)).after (taken n.served s.from (Request mask xo timer tid user bytes)).sent report.Ignored timely tt is_served) refl)
     good_zones o (reception.Again count) is at = subst (Good A w m k (event.Deliver which k)) (sym at)
         (good_next A w m k n (event.Deliver which k) (zone_taken n (taken n.served s.from (Request mask xo timer tid user bytes)) report.Again) m.asked m.readings t stands
-          (zones_next A w m k n t stands (Takes which) (taken n.served s.from (Request mask xo timer tid user bytes)).after (taken n.served s.from (Request mask xo timer tid user bytes)).sent report.Again timely tt is_served) refl)
+        (zones_next A w m k n t stands (Takes which) (taken n.served s.from (Request mask xo timer tid user bytes)).after (taken n.served s.from (Request mask xo timer tid user bytes)).sent report.Again timely tt is_served) refl)
     good_zones o (reception.New key) is at = good_served key o is at
 
     pub good_page : (o : Outcome A) → o ≡ zone_asked n s.from (Request mask xo timer tid user bytes) m.table start → Good A w m k (event.Deliver which k) o

@@ -43,8 +43,8 @@ part_of A laws w m which t s was_sent fresh place eom sts tid user bytes is =
     subst (λ ts. Asked ts s.to tid s.from) t.asked p.0
 
 module _ (A : Type 0) (laws : Laws A) (w : WorldState) (m : Machine) (which k : ℕ) (n : NodeState) (t : Tied A w m) (stands : node_at w k ≡ Some n) (s : Sent) (was_sent : slice_get (after A t.history).sent which ≡ Some s)
-  (fresh : network.is_fresh (after A t.history).drawn s ≡ true) (timely : network.ComesInTime (after A t.history) which) (to_is : s.to ≡ asking m.net k)
-  (place : ℕ) (eom sts : Bool) (tid : ℕ) (user bytes : List ℕ) (packet_is : s.packet ≡ Response place eom sts tid user bytes) where
+    (fresh : network.is_fresh (after A t.history).drawn s ≡ true) (timely : network.ComesInTime (after A t.history) which) (to_is : s.to ≡ asking m.net k)
+    (place : ℕ) (eom sts : Bool) (tid : ℕ) (user bytes : List ℕ) (packet_is : s.packet ≡ Response place eom sts tid user bytes) where
   h : Heard A
   h = heard n.requester s.from (Response place eom sts tid user bytes)
 
@@ -84,9 +84,9 @@ module _ (A : Type 0) (laws : Laws A) (w : WorldState) (m : Machine) (which k : 
       o ≡ after_heard n (heard {A = A} n.requester s.from (Response place eom sts tid user bytes)) r n.reading → Good A w m k (event.Deliver which k) o
   good_step r o away does is = subst (Good A w m k (event.Deliver which k)) (sym is)
       (good_next A w m k n (event.Deliver which k) (after_heard n (heard {A = A} n.requester s.from (Response place eom sts tid user bytes)) r n.reading) m.asked m.readings t stands
-        (asker_next A w m k n t stands (Hears which) (heard {A = A} n.requester s.from (Response place eom sts tid user bytes)).after n.reading (heard {A = A} n.requester s.from (Response place eom sts tid user bytes)).sent r m.readings timely tt is_done
-          (reading_goes_on n.reading away (t.readings k n stands)) (λ j apart. refl))
-        does)
+      (asker_next A w m k n t stands (Hears which) (heard {A = A} n.requester s.from (Response place eom sts tid user bytes)).after n.reading (heard {A = A} n.requester s.from (Response place eom sts tid user bytes)).sent r m.readings timely tt is_done
+      (reading_goes_on n.reading away (t.readings k n stands)) (λ j apart. refl))
+      does)
 
   -- ---- the end of a reading
 
@@ -118,9 +118,9 @@ module _ (A : Type 0) (laws : Laws A) (w : WorldState) (m : Machine) (which k : 
       let outcome : o ≡ after_heard n (heard {A = A} n.requester s.from (Response place eom sts tid user bytes)) (report.Zones m.table) None = e.outcome ∙ ap (λ x. after_heard n (heard {A = A} n.requester s.from (Response place eom sts tid user bytes)) x None) (told_table r e.told e.tells) in
       subst (Good A w m k (event.Deliver which k)) (sym outcome)
       (good_next A w m k n (event.Deliver which k) (after_heard n (heard {A = A} n.requester s.from (Response place eom sts tid user bytes)) (report.Zones m.table) None) m.asked (without_reading m.readings k) t stands
-        (asker_next A w m k n t stands (Hears which) (heard {A = A} n.requester s.from (Response place eom sts tid user bytes)).after None (heard {A = A} n.requester s.from (Response place eom sts tid user bytes)).sent (report.Zones m.table) (without_reading m.readings k) timely tt is_done
-          tt (λ j apart. others_left m.readings k j apart))
-        (record { since = r.since; began = r.began; tells = λ stood. refl; becomes = refl }))
+      (asker_next A w m k n t stands (Hears which) (heard {A = A} n.requester s.from (Response place eom sts tid user bytes)).after None (heard {A = A} n.requester s.from (Response place eom sts tid user bytes)).sent (report.Zones m.table) (without_reading m.readings k) timely tt is_done
+      tt (λ j apart. others_left m.readings k j apart))
+      (record { since = r.since; began = r.began; tells = λ stood. refl; becomes = refl }))
 
   -- ---- the end of another transaction
 

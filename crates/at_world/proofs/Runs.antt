@@ -82,7 +82,7 @@ followed A laws w m (event.Deliver which k) r w' t timely d =
     ⊎_elim
     (of_nothing A w m (event.Deliver which k) k n r p.after p.out w' p.booked t p.stands refl)
     (λ (x : (o : Outcome A) × Hears said n (d.datagram).bytes o × Its o r p.after p.out). of_good A w m (event.Deliver which k) k n r p.after p.out w' p.booked x.0
-      (good_delivered A laws w m which k n t p.stands d.datagram c said x.0 (λ asked. later (ap is_asked (x.2).0 ∙ asked)) x.1) x.2)
+    (good_delivered A laws w m which k n t p.stands d.datagram c said x.0 (λ asked. later (ap is_asked (x.2).0 ∙ asked)) x.1) x.2)
     (either_coming A (Hears said n (d.datagram).bytes) n r p.after p.out p.steps.1)
 
 -- ---- all of them

@@ -72,20 +72,20 @@ module _ (A : Type 0) (laws : Laws A) (w : WorldState) (m : Machine) (k : ℕ) (
       let began = ends n.reading refl e in
       good_next A w m k n (event.Timer k (timer.Retry tid)) (after_failing n tid r.after true) m.asked (without_reading m.readings k) t stands
       (asker_next A w m k n t stands (Retries (asking m.net k) tid) r.after None [] report.ZonesFailed (without_reading m.readings k) tt (asking_fits A laws w m k n t stands)
-        (is_done r is ∙ ap (with_requester (after A t.history) (asking m.net k) r.after) (failed_sends n.requester tid r is failed)) tt (λ j apart. others_left m.readings k j apart))
+      (is_done r is ∙ ap (with_requester (after A t.history) (asking m.net k) r.after) (failed_sends n.requester tid r is failed)) tt (λ j apart. others_left m.readings k j apart))
       (record { since = began.0; began = began.1; becomes = refl })
   good_failing r is failed false e =
       good_next A w m k n (event.Timer k (timer.Retry tid)) (after_failing n tid r.after false) m.asked m.readings t stands
       (asker_next A w m k n t stands (Retries (asking m.net k) tid) r.after n.reading [] (report.Failed tid) m.readings tt (asking_fits A laws w m k n t stands)
-        (is_done r is ∙ ap (with_requester (after A t.history) (asking m.net k) r.after) (failed_sends n.requester tid r is failed))
-        (reading_goes_on r is n.reading (λ f. e) (t.readings k n stands)) (λ j apart. refl))
+      (is_done r is ∙ ap (with_requester (after A t.history) (asking m.net k) r.after) (failed_sends n.requester tid r is failed))
+      (reading_goes_on r is n.reading (λ f. e) (t.readings k n stands)) (λ j apart. refl))
       refl
 
   good_retried : (r : Retried) → retried n.requester tid ≡ Some r → (s : Retry) → r.step ≡ s → Good A w m k (event.Timer k (timer.Retry tid)) (after_retry n tid r s)
   good_retried r is retry.AskedAgain step =
       good_next A w m k n (event.Timer k (timer.Retry tid)) (after_retry n tid r retry.AskedAgain) m.asked m.readings t stands
       (asker_next A w m k n t stands (Retries (asking m.net k) tid) r.after n.reading r.sent report.Again m.readings tt (asking_fits A laws w m k n t stands) (is_done r is)
-        (reading_goes_on r is n.reading (λ failed. absurd (never r.step step failed)) (t.readings k n stands)) (λ j apart. refl))
+      (reading_goes_on r is n.reading (λ failed. absurd (never r.step step failed)) (t.readings k n stands)) (λ j apart. refl))
       refl
     where
       never : (x : Retry) → x ≡ retry.AskedAgain → x ≡ retry.Failed → ⊥
