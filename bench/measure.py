@@ -1,0 +1,135 @@
+#!/usr/bin/env python3
+"""Plays three kinds of schedules at two sizes, and prints how fast they were played and the memory that it took.
+
+    python3 bench/measure.py [PROGRAM]
+
+PROGRAM is the built `atnode`; without it, the one that `rt ci` or the script `atnode` leaves in crates/atnode/out. Beside
+each play stands a plain sum over the same bytes, those of the schedule and of what was printed, in the same run.
+"""
+
+import pathlib
+import subprocess
+import sys
+import tempfile
+import time
+
+SMALL, LARGE = 20_000, 196_000
+
+# How often each packet of an answer comes, so that the large schedule stays under the 64 megabytes that one may have.
+COMINGS = 4
+
+
+def zone_requests(events):
+    yield from ("net 10", "node 1 router zone Lab", "node 5 zone Lab", "zones Lab Office")
+    for reading in range(events // 3):
+        yield "call 5 zones"
+        yield f"deliver {2 * reading} 1"
+        yield f"deliver {2 * reading + 1} 5"
+
+
+def transactions(events):
+    packet = "00000000:" + "A5" * 578
+    yield from ("net 10", "node 5", "node 7")
+    for number in range(events // (3 + 8 * COMINGS)):
+        first = 9 * number
+        yield "call 5 ask 7 129 00000000 - 8 alo 0"
+        yield f"deliver {first} 7"
+        yield f"call 7 answer 5 128 {number % 65536} " + " ".join([packet] * 8)
+        for _ in range(COMINGS):
+            for place in range(1, 9):
+                yield f"deliver {first + place} 5"
+
+
+def numbers(events):
+    yield from ("net 10", "node 5", "node 7")
+    for number in range(events // 2):
+        yield "call 5 ask 7 129 00000000 - 1 alo 0"
+        yield f"timer 5 retry {number % 65536}"
+
+
+KINDS = (
+    ("zone requests", zone_requests),
+    ("transactions of eight full packets", transactions),
+    ("all numbers in turn", numbers),
+)
+
+
+def write_schedule(path, lines):
+    with open(path, "w") as schedule:
+        for line in lines:
+            print(line, file=schedule)
+
+
+# A process of its own starts the program, so that the peak is not that of this script before it.
+STARTER = """
+import os, sys, time
+program, schedule, printed = sys.argv[1:]
+begun = time.perf_counter()
+child = os.fork()
+if child == 0:
+    os.dup2(os.open(printed, os.O_WRONLY | os.O_CREAT | os.O_TRUNC), 1)
+    os.execv(program, [program, "play", schedule])
+_, status, usage = os.wait4(child, 0)
+print(time.perf_counter() - begun, usage.ru_maxrss * 1024, status)
+"""
+
+
+def play(program, schedule, printed):
+    """Seconds, and the peak of the memory in bytes, which a starting process of some 10 megabytes bounds from below."""
+    said = subprocess.run(
+        [sys.executable, "-c", STARTER, program, str(schedule), str(printed)], capture_output=True, check=True
+    )
+    seconds, peak, status = said.stdout.split()
+    if int(status) != 0:
+        sys.exit(f"{schedule}: the program ended with {int(status)}")
+    return float(seconds), int(peak)
+
+
+def count(printed):
+    """The events that were played, the datagrams that were sent, and the bytes of these."""
+    events = datagrams = size = 0
+    with open(printed, "rb") as lines:
+        for line in lines:
+            if line.startswith(b"sent "):
+                datagrams += 1
+                size += len(line.split()[3]) // 2
+            else:
+                events += 1
+    return events, datagrams, size
+
+
+def plain_sum(paths):
+    """Seconds that a sum over all bytes of these files takes, and how many bytes they have."""
+    bytes_ = b"".join(pathlib.Path(path).read_bytes() for path in paths)
+    begun = time.perf_counter()
+    sum(bytes_)
+    return time.perf_counter() - begun, len(bytes_)
+
+
+def measure(program, folder, name, lines, size):
+    schedule, printed = folder / "schedule.txt", folder / "printed.txt"
+    write_schedule(schedule, lines(size))
+    seconds, peak = play(program, schedule, printed)
+    events, datagrams, sent = count(printed)
+    summed, length = plain_sum((schedule, printed))
+    bound = sent + 48 * datagrams + 20_000_000
+    print(
+        f"| {name} | {events:,} | {events / seconds:,.0f} | {seconds / summed:.2f} | {peak / 1e6:.1f} | {bound / 1e6:.1f} |"
+    )
+    return seconds / events
+
+
+def main():
+    here = pathlib.Path(__file__).resolve().parent.parent
+    program = sys.argv[1] if len(sys.argv) > 1 else str(here / "crates/atnode/out/atnode")
+    print("| Schedule | Events | Events a second | Times a plain sum | Peak, MB | Bound, MB |")
+    print("|---|---|---|---|---|---|")
+    with tempfile.TemporaryDirectory() as name:
+        folder = pathlib.Path(name)
+        for kind, lines in KINDS:
+            small = measure(program, folder, kind, lines, SMALL)
+            large = measure(program, folder, kind, lines, LARGE)
+            print(f"| {kind}, by event | | {large / small:.2f} of the smaller | | | |")
+
+
+main()
