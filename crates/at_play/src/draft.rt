@@ -5,7 +5,6 @@ ghost use Rattle.at_world.specs.Setups.{is_lawful};
 use crate::event_line::{call_of, delivery_of, timer_of};
 use crate::line_fault::LineFault;
 use crate::node_line::{net_of, node_of};
-use crate::schedule::Schedule;
 use crate::word::{Words, zone_name};
 use at_ddp::{Listed, Pascal};
 use at_world::{Event, NodeSetup, Setup};
@@ -34,7 +33,6 @@ pub(crate) struct Draft<A: Allocator = Global> {
     net: u16,
     nodes: Vec<NodeSetup, A>,
     zones: Vec<Pascal, A>,
-    events: Vec<Event<A>, A>,
 }
 
 impl<A: Allocator + Copy> Draft<A> {
@@ -45,26 +43,33 @@ impl<A: Allocator + Copy> Draft<A> {
             net: 0,
             nodes: Vec::new(alloc),
             zones: Vec::new(alloc),
-            events: Vec::new(alloc),
         }
     }
 
-    /// Takes one line more.
-    pub(crate) fn take_line(&mut self, line: &[u8]) -> Result<(), LineFault> {
+    /// Takes one line more, and gives its event if it has one.
+    pub(crate) fn take_line(&mut self, line: &[u8]) -> Result<Option<Event<A>>, LineFault> {
         match line {
-            [] | [b'#', ..] => Ok(()),
+            [] | [b'#', ..] => Ok(None),
             _ => self.take_words(Words::of(line)),
         }
     }
 
-    fn take_words(&mut self, mut words: Words<'_>) -> Result<(), LineFault> {
+    fn take_words(&mut self, mut words: Words<'_>) -> Result<Option<Event<A>>, LineFault> {
         match words.next() {
-            Some(b"net") => self.take_net(words),
-            Some(b"node") => self.take_node(words),
-            Some(b"zones") => self.take_zones(words),
-            Some(b"call") => self.take_event(call_of(self.alloc, words)),
-            Some(b"deliver") => self.take_event(delivery_of(words).ok_or(LineFault::Unlawful)),
-            Some(b"timer") => self.take_event(timer_of(words).ok_or(LineFault::Unlawful)),
+            Some(b"net") => self.take_net(words)?,
+            Some(b"node") => self.take_node(words)?,
+            Some(b"zones") => self.take_zones(words)?,
+            Some(word) => return self.take_event(self.event_of(word, words)?).map(Some),
+            None => return Err(LineFault::Unlawful),
+        }
+        Ok(None)
+    }
+
+    fn event_of(&self, word: &[u8], words: Words<'_>) -> Result<Event<A>, LineFault> {
+        match word {
+            b"call" => call_of(self.alloc, words),
+            b"deliver" => delivery_of(words).ok_or(LineFault::Unlawful),
+            b"timer" => timer_of(words).ok_or(LineFault::Unlawful),
             _ => Err(LineFault::Unlawful),
         }
     }
@@ -113,39 +118,29 @@ impl<A: Allocator + Copy> Draft<A> {
         Ok(())
     }
 
-    fn take_event(&mut self, event: Result<Event<A>, LineFault>) -> Result<(), LineFault> {
-        let event = event?;
+    fn take_event(&mut self, event: Event<A>) -> Result<Event<A>, LineFault> {
         match self.stage {
             Stage::Net => return Err(LineFault::Unlawful),
             Stage::Node if lacks_router(&self.nodes) => return Err(LineFault::Unlawful),
             _ => {}
         }
-        self.events.push(event)?;
         self.stage = Stage::Event;
-        Ok(())
+        Ok(event)
     }
 
-    /// The schedule, if the lines so far are one.
-    pub(crate) fn finish(self) -> Option<Schedule<A>>
-        ensures { IfSome result (λ s. is_lawful s.setup ≡ true) }
+    /// The setup, if the lines so far are a schedule.
+    pub(crate) fn finish(self) -> Option<Setup<A>>
+        ensures { IfSome result (λ s. is_lawful s ≡ true) }
     {
         let Draft {
-            net,
-            nodes,
-            zones,
-            events,
-            ..
+            net, nodes, zones, ..
         } = self;
         let setup = Setup {
             net,
             nodes: Listed::from_vec(nodes),
             zones: Listed::from_vec(zones),
         };
-        if setup.is_lawful() {
-            Some(Schedule { setup, events })
-        } else {
-            None
-        }
+        if setup.is_lawful() { Some(setup) } else { None }
     }
 }
 

@@ -1,5 +1,5 @@
 //! The bytes of a schedule.
-ghost use Rattle.std.specs.Prelude.{◌≡◌, ◌≤◌, IfOk, IfSome, vec_len};
+ghost use Rattle.std.specs.Prelude.{◌≡◌, ◌≤◌, length, IfOk, IfSome, OnOk, vec_len};
 
 use crate::schedule::Fault;
 use std::alloc::Allocator;
@@ -24,6 +24,25 @@ pub(crate) fn read_bytes<A: Allocator, R: Read>(
             Ok(0) => return Ok(bytes),
             Ok(len) if len > MAX_LEN - bytes.len() => return Err(Fault::Unreadable),
             Ok(len) => bytes.extend_from_slice(&part[..len])?,
+            Err(error) if error.kind() == ErrorKind::Interrupted => {}
+            Err(_) => return Err(Fault::Unreadable),
+        }
+    }
+    Err(Fault::Unreadable)
+}
+
+/// Reads to the end, and tells whether this is too much for a schedule.
+pub(crate) fn check_length<R: Read>(reader: &mut R) -> Result<(), Fault>
+    // What is read is all that there is, where a contract knows that.
+    ensures { OnOk result (IfSome (R.remaining reader.old) (λ all. length all ≤ MAX_LEN)) }
+{
+    let mut left = MAX_LEN;
+    let mut part = [0; 4096];
+    for _ in 0..u64::MAX {
+        match reader.read(&mut part) {
+            Ok(0) => return Ok(()),
+            Ok(len) if len > left => return Err(Fault::Unreadable),
+            Ok(len) => left -= len,
             Err(error) if error.kind() == ErrorKind::Interrupted => {}
             Err(_) => return Err(Fault::Unreadable),
         }

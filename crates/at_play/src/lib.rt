@@ -1,4 +1,4 @@
-//! Schedules of events and what comes of them, as text: a schedule is read whole, played, and each event printed.
+//! Schedules of events and what comes of them, as text: a schedule is looked through, played, and each event printed.
 #![tactic(auto)]
 
 mod call_words;
@@ -9,15 +9,17 @@ mod input;
 mod line_fault;
 mod node_line;
 mod packet_lines;
+mod playing;
 mod print;
 mod printer;
 mod program;
 mod schedule;
 mod show;
+mod stop;
 mod word;
 
 pub use printer::Printer;
-pub use program::{Status, play_text};
+pub use program::{Status, play_file, play_text};
 pub use show::show_text;
 
 #[cfg(test)]

@@ -6,41 +6,33 @@ use crate::printer::Printer;
 use at_atp::{Key, Packet};
 use at_ddp::Pascal;
 use at_node::Report;
-use at_world::{SentList, Transcript};
+use at_world::World;
 use std::alloc::Allocator;
 use std::io::Write;
 
-/// Prints each report, and after it the datagrams that its event sent.
-pub(crate) fn write_transcript<A: Allocator, W: Write>(
+/// Prints the report of an event.
+pub(crate) fn write_event<A: Allocator, W: Write>(
     printer: &mut Printer<W>,
-    transcript: &Transcript<A>,
+    event: u32,
+    report: &Report<A>,
 ) {
-    let mut number = 0;
-    for (event, report) in transcript.reports.as_slice().iter().enumerate() {
-        write!(printer, "{event} ");
-        write_report(printer, report);
-        printer.write_all(b"\n");
-        number = write_sent(printer, &transcript.sent, number, event);
-    }
+    write!(printer, "{event} ");
+    write_report(printer, report);
+    printer.write_all(b"\n");
 }
 
-// Prints the datagrams that an event sent, of which this is the first if it sent any. Hands back the number after theirs.
-fn write_sent<A: Allocator, W: Write>(
+/// Prints the datagrams that a world sent, from a number on.
+pub(crate) fn write_sent<A: Allocator + Copy, W: Write>(
     printer: &mut Printer<W>,
-    list: &SentList<A>,
+    world: &World<A>,
     first: usize,
-    event: usize,
-) -> usize {
-    for number in first..list.len() {
-        let sent = list.get(number);
-        if sent.event as usize != event {
-            return number;
-        }
+) {
+    for number in first..world.sent_count() {
+        let sent = world.sent(number);
         write!(printer, "sent {number} {} ", sent.to);
         write_hex(printer, sent.bytes);
         printer.write_all(b"\n");
     }
-    list.len()
 }
 
 fn write_report<A: Allocator, W: Write>(printer: &mut Printer<W>, report: &Report<A>) {

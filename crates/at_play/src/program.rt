@@ -1,15 +1,14 @@
 //! The play of a schedule, from its text to what is printed.
-ghost use Rattle.std.specs.Prelude.{◌≡◌, ◌<◌, length, true, IfOk, IfSome, IsErr};
+ghost use Rattle.std.specs.Prelude.{◌≡◌, ◌<◌, length, IfSome, IsErr, IsOk};
 ghost use Rattle.at_play.specs.Printers.{HasFailed};
-ghost use Rattle.at_world.specs.Setups.{is_lawful};
 
-use crate::input::{MAX_LEN, read_bytes};
-use crate::print::write_transcript;
+use crate::input::{MAX_LEN, check_length, read_bytes};
+use crate::playing::play_lines;
 use crate::printer::Printer;
-use crate::schedule::{Fault, Schedule, read_schedule};
-use at_world::{PlayFault, play};
+use crate::schedule::read_setup;
+use crate::stop::{Stop, write_stop};
 use std::alloc::Allocator;
-use std::io::{Read, Write};
+use std::io::{Read, Seek, Write};
 
 /// How a play, or the showing of a datagram, ended.
 #[derive(Clone, Copy, Debug, PartialEq, Eq)]
@@ -34,7 +33,7 @@ impl Status {
     }
 }
 
-/// Reads a schedule, plays it, and prints what came of each event.
+/// Reads a schedule to its end, plays it, and prints what came of each event.
 pub fn play_text<A: Allocator + Copy, R: Read, W: Write>(
     alloc: A,
     reader: &mut R,
@@ -44,57 +43,59 @@ pub fn play_text<A: Allocator + Copy, R: Read, W: Write>(
     ensures too_long { IfSome (R.remaining reader.old) (λ all. MAX_LEN < length all → result ≡ Status.Failed) }
     ensures printed { result ≡ Status.Done → ¬ HasFailed printer.new }
 {
-    let status = match read(alloc, reader) {
-        Ok(schedule) => play_schedule(alloc, &schedule, printer),
-        Err(fault) => print_fault(fault, printer),
-    };
-    printer.finish(status)
+    let played = play_stream(alloc, reader, printer);
+    end(played, printer)
 }
 
-fn read<A: Allocator + Copy, R: Read>(alloc: A, reader: &mut R) -> Result<Schedule<A>, Fault>
-    ensures lawful { IfOk result (λ s. is_lawful s.setup ≡ true) }
-    ensures too_long { IfSome (R.remaining reader.old) (λ all. MAX_LEN < length all → IsErr result) }
-{
-    let bytes = read_bytes(alloc, reader)?;
-    read_schedule(alloc, &bytes)
-}
-
-fn play_schedule<A: Allocator + Copy, W: Write>(
+/// Plays a schedule that can be read again from its beginning, as a file can: nothing of it is kept but its setup. It is
+/// read for its length, then for its faults, and last to be played. One that changes meanwhile is told as unreadable.
+pub fn play_file<A: Allocator + Copy, F: Read + Seek, W: Write>(
     alloc: A,
-    schedule: &Schedule<A>,
+    file: &mut F,
     printer: &mut Printer<W>,
 ) -> Status
-    requires { is_lawful schedule.now.setup ≡ true }
+    ensures too_long { IfSome (F.remaining file.old) (λ all. MAX_LEN < length all → result ≡ Status.Failed) }
+    ensures printed { result ≡ Status.Done → ¬ HasFailed printer.new }
 {
-    match play(alloc, &schedule.setup, &schedule.events) {
-        Ok(transcript) => {
-            write_transcript(printer, &transcript);
-            Status::Done
-        }
-        Err(stop) => print_stop(&stop, printer),
-    }
+    let played = play_again(alloc, file, printer);
+    end(played, printer)
 }
 
-fn print_stop<A: Allocator, W: Write>(stop: &PlayFault<A>, printer: &mut Printer<W>) -> Status
-    ensures { result ≡ Status.Failed }
+fn play_stream<A: Allocator + Copy, R: Read, W: Write>(
+    alloc: A,
+    reader: &mut R,
+    printer: &mut Printer<W>,
+) -> Result<(), Stop>
+    ensures { IfSome (R.remaining reader.old) (λ all. MAX_LEN < length all → IsErr result) }
 {
-    write_transcript(printer, &stop.transcript);
-    match stop.fault {
-        at_world::Fault::Refused(refusal) => {
-            writeln!(printer, "stopped {} at {}", refusal.number(), stop.at);
-        }
-        at_world::Fault::NoMemory => writeln!(printer, "stopped nomemory at {}", stop.at),
-    }
-    Status::Failed
+    let bytes = read_bytes(alloc, reader)?;
+    let setup = read_setup(alloc, &mut bytes.as_slice())?;
+    play_lines(alloc, &setup, &mut bytes.as_slice(), printer)
 }
 
-fn print_fault<W: Write>(fault: Fault, printer: &mut Printer<W>) -> Status
-    ensures { result ≡ Status.Failed }
+fn play_again<A: Allocator + Copy, F: Read + Seek, W: Write>(
+    alloc: A,
+    file: &mut F,
+    printer: &mut Printer<W>,
+) -> Result<(), Stop>
+    ensures { IfSome (F.remaining file.old) (λ all. MAX_LEN < length all → IsErr result) }
 {
-    match fault {
-        Fault::Unreadable => printer.write_all(b"fault 0\n"),
-        Fault::Line(number) => writeln!(printer, "fault {number}"),
-        Fault::NoMemory => printer.write_all(b"stopped nomemory at 0\n"),
+    check_length(file)?;
+    file.rewind()?;
+    let setup = read_setup(alloc, file)?;
+    file.rewind()?;
+    play_lines(alloc, &setup, file, printer)
+}
+
+// Tells why a play stopped, if it did, and how it ended.
+fn end<W: Write>(played: Result<(), Stop>, printer: &mut Printer<W>) -> Status
+    ensures done { result ≡ Status.Done → IsOk played × (¬ HasFailed printer.new) }
+{
+    match played {
+        Ok(()) => printer.finish(Status::Done),
+        Err(stop) => {
+            write_stop(printer, stop);
+            printer.finish(Status::Failed)
+        }
     }
-    Status::Failed
 }

@@ -48,6 +48,13 @@ of_events A w (e ∷ es) (r ∷ rs) w' sent h = of_events A h.0 es rs w' (of_eve
 of_events A w [] (r ∷ rs) w' sent h = absurd h
 of_events A w (e ∷ es) [] w' sent h = absurd h
 
-pub play_sends : (A : Type 0) (s : Setup A) (events : List (Event A)) (answer : Result (Transcript A) (PlayFault A)) → IsPlay s events answer → SendsCanonically answer
-play_sends A s events (Ok t) h = let played = h.1 in subst AreCanonical (sym played.1) (of_events A (opening_world s) events t.reports h.0 tt played.0)
-play_sends A s events (Err f) h = let played = h.1 in subst AreCanonical (sym played.1) (of_events A (opening_world s) (take f.at events) f.transcript.reports h.0 tt played.0)
+-- what steps from the opening send
+pub follows_canonically : (A : Type 0) (s : Setup A) (events : List (Event A)) (reports : List (Report A)) (w : WorldState) → Follows (opening_world s) events reports w → AreCanonical w.sent
+follows_canonically A s events reports w = of_events A (opening_world s) events reports w tt
+
+abbrev pub StepsSend : (A : Type 0) → Setup A → Type 0
+StepsSend A s = (events : List (Event A)) (reports : List (Report A)) (w : WorldState) → Follows (opening_world s) events reports w → AreCanonical w.sent
+
+pub play_sends : (A : Type 0) (s : Setup A) (events : List (Event A)) (answer : Result (Transcript A) (PlayFault A)) → StepsSend A s → IsPlay s events answer → SendsCanonically answer
+play_sends A s events (Ok t) law h = let played = h.1 in subst AreCanonical (sym played.1) (law events t.reports h.0 played.0)
+play_sends A s events (Err f) law h = let played = h.1 in subst AreCanonical (sym played.1) (law (take f.at events) f.transcript.reports h.0 played.0)

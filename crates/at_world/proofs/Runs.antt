@@ -87,7 +87,7 @@ followed A laws w m (event.Deliver which k) r w' t timely d =
 
 -- ---- all of them
 
-runs : (A : Type 0) → Laws A → (w : WorldState) (m : Machine) (es : List (Event A)) (rs : List (Report A)) (w' : WorldState) → Tied A w m → Follows w es rs w' → (m' : Machine) × Run m es rs m'
+pub runs : (A : Type 0) → Laws A → (w : WorldState) (m : Machine) (es : List (Event A)) (rs : List (Report A)) (w' : WorldState) → Tied A w m → Follows w es rs w' → (m' : Machine) × Run m es rs m'
 runs A laws w m [] [] w' t h = (m, refl)
 runs A laws w m (e ∷ es) (r ∷ rs) w' t h =
     let playable = h.1 in
@@ -97,6 +97,10 @@ runs A laws w m (e ∷ es) (r ∷ rs) w' t h =
 runs A laws w m [] (r ∷ rs) w' t h = absurd h
 runs A laws w m (e ∷ es) [] w' t h = absurd h
 
-pub play_runs : (A : Type 0) → Laws A → (s : Setup A) (events : List (Event A)) (answer : Result (Transcript A) (PlayFault A)) → Tied A (opening_world s) (opening_machine s) → IsPlay s events answer → IsRun s events answer
-play_runs A laws s events (Ok t) tied h = let played = h.1 in runs A laws (opening_world s) (opening_machine s) events t.reports h.0 tied played.0
-play_runs A laws s events (Err f) tied h = let played = h.1 in runs A laws (opening_world s) (opening_machine s) (take f.at events) f.transcript.reports h.0 tied played.0
+-- what steps from the opening give is a run
+abbrev pub StepsRun : (A : Type 0) → Setup A → Type 0
+StepsRun A s = (events : List (Event A)) (reports : List (Report A)) (w : WorldState) → Follows (opening_world s) events reports w → (m : Machine) × Run (opening_machine s) events reports m
+
+pub play_runs : (A : Type 0) (s : Setup A) (events : List (Event A)) (answer : Result (Transcript A) (PlayFault A)) → StepsRun A s → IsPlay s events answer → IsRun s events answer
+play_runs A s events (Ok t) law h = let played = h.1 in law events t.reports h.0 played.0
+play_runs A s events (Err f) law h = let played = h.1 in law (take f.at events) f.transcript.reports h.0 played.0

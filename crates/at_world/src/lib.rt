@@ -3,6 +3,7 @@
 
 mod draws;
 mod event;
+pub mod laws;
 mod opening;
 mod player;
 mod sent;
@@ -15,3 +16,4 @@ pub use player::play;
 pub use sent::{Sent, SentList};
 pub use setup::{NodeSetup, Setup};
 pub use transcript::{PlayFault, Transcript};
+pub use world::World;

@@ -4,6 +4,7 @@ ghost use Rattle.at_world.specs.Plays.{IsPlay, SendsCanonically};
 ghost use Rattle.at_world.specs.Setups.{is_lawful};
 
 use crate::event::{Event, Fault};
+use crate::laws::steps_are_a_run;
 use crate::sent::SentList;
 use crate::setup::Setup;
 use crate::transcript::{PlayFault, Transcript};
@@ -24,19 +25,7 @@ pub fn play<A: Allocator + Copy>(
     ensures sent { SendsCanonically result }
     ensures within { IfErr result (λ f. f.at ≤ length events.now) }
 {
-    at_atp::laws::responses_are_answers::<A>();
-    at_atp::laws::what_is_sent_is_lawful::<A>();
-    at_atp::laws::numbers_stay_open::<A>();
-    at_atp::laws::a_new_request_waits();
-    at_atp::laws::no_more_is_sent_than_answered();
-    at_atp::laws::answers_join_what_was_asked();
-    at_node::laws::what_is_sent_is_heard::<A>();
-    at_node::laws::what_is_sent_carries_its_number();
-    at_node::laws::a_page_written_is_told::<A>();
-    at_zip::laws::what_is_written_is_read();
-    at_zip::laws::one_page_a_spelling();
-    at_zip::laws::a_page_fits_one_packet();
-    at_zip::laws::a_small_table_is_one_page();
+    steps_are_a_run::<A>();
     play_all(alloc, setup, events)
 }
 

@@ -1,16 +1,17 @@
-ghost use Rattle.std.specs.Prelude.{◌≡◌, ◌==◌, ◌||◌, IfOk, IfErr, IsOk, IsErr, OnOk, OnErr, None, false, true, ◌≤◌, ◌-◌, ◌++◌, length, replicate, ℕ};
+ghost use Rattle.std.specs.Prelude.{◌≡◌, ◌==◌, ◌||◌, IfOk, IfErr, IsOk, IsErr, OnOk, OnErr, None, Some, false, true, ◌<◌, ◌≤◌, ◌-◌, ◌++◌, length, replicate, slice_get, ℕ};
 ghost use Rattle.std.specs.List.{position_from, list_any};
 ghost use Rattle.at_node.specs.Drawing.{Carries, drawn_by, draw_of_input, holds};
 ghost use Rattle.at_node.specs.Nodes.{NodeState};
 ghost use Rattle.at_node.specs.declared.drawing.Draw.{Draw as Drawn};
 ghost use Rattle.at_world.specs.Draws.{last_of, noted, is_no_later};
 ghost use Rattle.at_world.specs.Plays.{opening_world};
+ghost use Rattle.at_world.specs.Sents.{SentDatagram};
 ghost use Rattle.at_world.specs.Worlds.{IsNotTaken, holds_some, is_in_time, IsPlayable, IsFree, Plays, PlaysAt, PlaysDelivery, Takes, IsFault, Refuses, refusal, refusal_at, node_refusal, node_at, is_over, is_numbered};
 
 use crate::draws::LastDraws;
 use crate::event::{Event, Fault, Refusal};
 use crate::opening::opening_nodes;
-use crate::sent::{SentList, stamp_all};
+use crate::sent::{Sent, SentList, stamp_all};
 use crate::setup::Setup;
 use at_ddp::{Bytes, Datagrams};
 use at_node::{Deferring, Draw, Input, Node, Report, carried};
@@ -25,7 +26,7 @@ const MAX_DATAGRAMS: usize = 868_928;
 
 /// The nodes, and all that was ever sent.
 #[derive(Drop)]
-pub(crate) struct World<A: Allocator> {
+pub struct World<A: Allocator> {
     alloc: A,
     nodes: Vec<Node<A>, A>,
     datagrams: Datagrams<A>,
@@ -50,7 +51,7 @@ impl<A: Allocator> Model for World<A> {
 
 impl<A: Allocator + Copy> World<A> {
     /// The world before anything happened.
-    pub(crate) fn open(alloc: A, setup: &Setup<A>) -> Result<World<A>, AllocError>
+    pub fn open(alloc: A, setup: &Setup<A>) -> Result<World<A>, AllocError>
         ensures { IfOk result (λ world. world ≡ opening_world setup.now) }
     {
         let nodes = opening_nodes(alloc, setup)?;
@@ -65,6 +66,32 @@ impl<A: Allocator + Copy> World<A> {
         })
     }
 
+    /// How many events were played.
+    pub fn played(&self) -> u32
+        ensures { result ≡ self.now.events }
+    {
+        self.events
+    }
+
+    /// How many datagrams were sent.
+    pub fn sent_count(&self) -> usize
+        ensures { result ≡ length self.now.sent }
+    {
+        self.stamps.len()
+    }
+
+    /// The datagram of a number, from 0.
+    pub fn sent(&self, number: usize) -> Sent<'_>
+        requires { number < length self.now.sent }
+        ensures { (s : SentDatagram) × (slice_get self.now.sent number ≡ Some s) × (result.event ≡ s.event) × (result.to ≡ s.to) × (result.bytes.now ≡ s.bytes) }
+    {
+        Sent {
+            event: self.stamps[number],
+            to: self.datagrams.node(number),
+            bytes: self.datagrams.get(number),
+        }
+    }
+
     /// All that was sent.
     pub(crate) fn into_sent(self) -> SentList<A>
         ensures { result ≡ self.sent }
@@ -73,7 +100,7 @@ impl<A: Allocator + Copy> World<A> {
     }
 
     /// Plays an event, or says why not. A world that found no memory has failed.
-    pub(crate) fn step(&mut self, event: &Event<A>) -> Result<Report<A>, Fault>
+    pub fn step(&mut self, event: &Event<A>) -> Result<Report<A>, Fault>
         ensures played { IfOk result (λ report. IsPlayable self.old event.now × Plays self.old event.now report self.new) }
         ensures not_played { IfErr result (λ fault. IsFault self.old event.now fault self.new) }
     {
