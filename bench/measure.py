@@ -62,20 +62,20 @@ def write_schedule(path, lines):
 
 # A process of its own starts the program, so that the peak is not that of this script before it.
 STARTER = """
-import os, sys, time
+import os, sys
 program, schedule, printed = sys.argv[1:]
-begun = time.perf_counter()
 child = os.fork()
 if child == 0:
     os.dup2(os.open(printed, os.O_WRONLY | os.O_CREAT | os.O_TRUNC), 1)
     os.execv(program, [program, "play", schedule])
 _, status, usage = os.wait4(child, 0)
-print(time.perf_counter() - begun, usage.ru_maxrss * 1024, status)
+print(usage.ru_utime + usage.ru_stime, usage.ru_maxrss * 1024, status)
 """
 
 
 def play(program, schedule, printed):
-    """Seconds, and the peak of the memory in bytes, which a starting process of some 10 megabytes bounds from below."""
+    """Seconds of the processor, which other work on the machine changes little, and the peak of the memory in bytes, which
+    a starting process of some 10 megabytes bounds from below."""
     said = subprocess.run(
         [sys.executable, "-c", STARTER, program, str(schedule), str(printed)], capture_output=True, check=True
     )
@@ -99,11 +99,11 @@ def count(printed):
 
 
 def plain_sum(paths):
-    """Seconds that a sum over all bytes of these files takes, and how many bytes they have."""
+    """Seconds of the processor that a sum over all bytes of these files takes, and how many bytes they have."""
     bytes_ = b"".join(pathlib.Path(path).read_bytes() for path in paths)
-    begun = time.perf_counter()
+    begun = time.process_time()
     sum(bytes_)
-    return time.perf_counter() - begun, len(bytes_)
+    return time.process_time() - begun, len(bytes_)
 
 
 def measure(program, folder, name, lines, size):

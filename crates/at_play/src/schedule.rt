@@ -1,11 +1,11 @@
 //! The lines of a schedule, and the setup that they begin with.
 ghost use Rattle.std.specs.Prelude.{◌≡◌, true, IfOk};
+ghost use Rattle.at_play.specs.declared.schedule.Fault.TheVariants.{NoMemory};
 ghost use Rattle.at_world.specs.Setups.{is_lawful};
 
 use crate::draft::Draft;
-use crate::input::MAX_LEN;
 use at_world::Setup;
-use std::alloc::Allocator;
+use std::alloc::{AllocError, Allocator};
 use std::io;
 use std::io::{BufRead, BufReader, ErrorKind, Read, Split};
 
@@ -18,6 +18,14 @@ pub(crate) enum Fault {
     /// after the last is at fault where the schedule only lacks something.
     Line(usize),
     NoMemory,
+}
+
+impl From<AllocError> for Fault {
+    ghost from_gives = { λ _ e. e ≡ NoMemory };
+
+    fn from(_error: AllocError) -> Fault {
+        Fault::NoMemory
+    }
 }
 
 impl From<io::Error> for Fault {
@@ -37,14 +45,14 @@ pub(crate) fn read_setup<A: Allocator + Copy, R: Read>(
     ensures { IfOk result (λ s. is_lawful s ≡ true) }
 {
     let mut draft = Draft::new(alloc);
-    let mut last = 0;
-    for (number, line) in (1..=MAX_LEN).zip(lines_of(alloc, reader)?) {
+    let mut number = 1usize;
+    for line in lines_of(alloc, reader)? {
         match draft.take_line(&line?) {
-            Ok(_) => last = number,
+            Ok(_) => number = number.saturating_add(1),
             Err(fault) => return Err(fault.at(number)),
         }
     }
-    draft.finish().ok_or(Fault::Line(last + 1))
+    draft.finish().ok_or(Fault::Line(number))
 }
 
 /// The lines of a text, without their line feeds.

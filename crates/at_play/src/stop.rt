@@ -5,7 +5,6 @@ use std::io;
 use std::io::Write;
 
 /// Why a play ends before its last event.
-#[derive(Clone, Copy, Debug, PartialEq, Eq)]
 pub(crate) enum Stop {
     /// There is no schedule.
     Text(Fault),

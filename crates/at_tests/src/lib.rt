@@ -12,6 +12,8 @@ mod retries;
 #[cfg(test)]
 mod schedule_failures;
 #[cfg(test)]
+mod schedule_files;
+#[cfg(test)]
 mod schedule_limits;
 #[cfg(test)]
 mod schedules;
@@ -23,3 +25,5 @@ mod transaction_failures;
 mod transaction_limits;
 #[cfg(test)]
 mod transactions;
+#[cfg(test)]
+mod world_steps;

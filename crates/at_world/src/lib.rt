@@ -4,6 +4,7 @@
 mod draws;
 mod event;
 pub mod laws;
+mod looking;
 mod opening;
 mod player;
 mod sent;

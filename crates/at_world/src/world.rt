@@ -1,17 +1,16 @@
-ghost use Rattle.std.specs.Prelude.{◌≡◌, ◌==◌, ◌||◌, IfOk, IfErr, IsOk, IsErr, OnOk, OnErr, None, Some, false, true, ◌<◌, ◌≤◌, ◌-◌, ◌++◌, length, replicate, slice_get, ℕ};
+ghost use Rattle.std.specs.Prelude.{◌≡◌, ◌==◌, ◌||◌, IfOk, IfErr, IsOk, IsErr, OnOk, OnErr, None, false, true, ◌≤◌, ◌-◌, ◌++◌, length, replicate, ℕ};
 ghost use Rattle.std.specs.List.{position_from, list_any};
 ghost use Rattle.at_node.specs.Drawing.{Carries, drawn_by, draw_of_input, holds};
 ghost use Rattle.at_node.specs.Nodes.{NodeState};
 ghost use Rattle.at_node.specs.declared.drawing.Draw.{Draw as Drawn};
 ghost use Rattle.at_world.specs.Draws.{last_of, noted, is_no_later};
 ghost use Rattle.at_world.specs.Plays.{opening_world};
-ghost use Rattle.at_world.specs.Sents.{SentDatagram};
 ghost use Rattle.at_world.specs.Worlds.{IsNotTaken, holds_some, is_in_time, IsPlayable, IsFree, Plays, PlaysAt, PlaysDelivery, Takes, IsFault, Refuses, refusal, refusal_at, node_refusal, node_at, is_over, is_numbered};
 
 use crate::draws::LastDraws;
 use crate::event::{Event, Fault, Refusal};
 use crate::opening::opening_nodes;
-use crate::sent::{Sent, SentList, stamp_all};
+use crate::sent::{SentList, stamp_all};
 use crate::setup::Setup;
 use at_ddp::{Bytes, Datagrams};
 use at_node::{Deferring, Draw, Input, Node, Report, carried};
@@ -29,11 +28,11 @@ const MAX_DATAGRAMS: usize = 868_928;
 pub struct World<A: Allocator> {
     alloc: A,
     nodes: Vec<Node<A>, A>,
-    datagrams: Datagrams<A>,
+    pub(crate) datagrams: Datagrams<A>,
     // The event that sent each datagram; a world that failed may lack the last ones.
-    stamps: Vec<u32, A>,
+    pub(crate) stamps: Vec<u32, A>,
     last: LastDraws<A>,
-    events: u32,
+    pub(crate) events: u32,
     failed: bool,
 }
 
@@ -64,32 +63,6 @@ impl<A: Allocator + Copy> World<A> {
             events: 0,
             failed: false,
         })
-    }
-
-    /// How many events were played.
-    pub fn played(&self) -> u32
-        ensures { result ≡ self.now.events }
-    {
-        self.events
-    }
-
-    /// How many datagrams were sent.
-    pub fn sent_count(&self) -> usize
-        ensures { result ≡ length self.now.sent }
-    {
-        self.stamps.len()
-    }
-
-    /// The datagram of a number, from 0.
-    pub fn sent(&self, number: usize) -> Sent<'_>
-        requires { number < length self.now.sent }
-        ensures { (s : SentDatagram) × (slice_get self.now.sent number ≡ Some s) × (result.event ≡ s.event) × (result.to ≡ s.to) × (result.bytes.now ≡ s.bytes) }
-    {
-        Sent {
-            event: self.stamps[number],
-            to: self.datagrams.node(number),
-            bytes: self.datagrams.get(number),
-        }
     }
 
     /// All that was sent.

@@ -5,10 +5,10 @@ mod command_line;
 #[cfg(test)]
 mod tests;
 
-use at_play::{Printer, Status, play_text, show_text};
+use at_play::{Printer, Status, play_file, play_text, show_text};
 use command_line::{Request, request_of};
 use std::env::Env;
-use std::io::{BufWriter, ErrorKind, Read};
+use std::io::{BufWriter, ErrorKind, Read, Seek};
 use std::process::ExitCode;
 use std::rt::Files;
 use std::{env, fs, io};
@@ -29,7 +29,7 @@ fn run<R: Env + Files + Input + Print + AllocGlobal>(rt: &R) -> io::Result<u8> {
         Err(_) => return tell_usage(rt),
     };
     match request_of(rt.alloc(), words.as_slice()) {
-        Request::Play(file) => play_file(rt, file),
+        Request::Play(file) => play_named(rt, file),
         Request::Show(word) => show_word(rt, word),
         Request::Usage => tell_usage(rt),
         Request::NoMemory => stop(rt),
@@ -52,17 +52,29 @@ fn stop(rt: &impl Print) -> io::Result<u8> {
 }
 
 // Plays a file, or the standard input for `-`.
-fn play_file<R: Files + Input + Print + AllocGlobal>(rt: &R, file: &str) -> io::Result<u8> {
+fn play_named<R: Files + Input + Print + AllocGlobal>(rt: &R, file: &str) -> io::Result<u8> {
     if file == "-" {
         return play_from(rt, &mut rt.reader());
     }
     match fs::open(rt, file) {
-        Ok(mut file) => play_from(rt, &mut file),
+        Ok(mut file) => play_opened(rt, &mut file),
         Err(_) => {
             rt.println("fault 0")?;
             Ok(Status::Failed.code())
         }
     }
+}
+
+// A pipe has no beginning to go back to, and is read whole.
+fn play_opened<R: Print + AllocGlobal, F: Read + Seek>(rt: &R, file: &mut F) -> io::Result<u8> {
+    if file.rewind().is_err() {
+        return play_from(rt, file);
+    }
+    let mut printer = match BufWriter::new(rt.alloc(), io::writer(rt)) {
+        Ok(writer) => Printer::new(writer),
+        Err(_) => return stop(rt),
+    };
+    Ok(play_file(rt.alloc(), file, &mut printer).code())
 }
 
 fn play_from<R: Print + AllocGlobal, I: Read>(rt: &R, reader: &mut I) -> io::Result<u8> {

@@ -1,5 +1,5 @@
 //! At which line a schedule is at fault.
-use crate::schedule::read_schedule;
+use crate::schedule::read_setup;
 use crate::{Printer, Status, play_text};
 use std::alloc::{AllocError, Global};
 use std::fmt::Write;
@@ -119,8 +119,8 @@ static LAWFUL: [&str; 12] = [
 ];
 
 // Whether these bytes are a schedule; at fault if they are long.
-pub(super) fn is_schedule(alloc: Global, text: &[u8]) -> bool {
-    text.len() < 1000 && read_schedule(alloc, text).is_ok()
+pub(super) fn is_schedule(alloc: Global, mut text: &[u8]) -> bool {
+    text.len() < 1000 && read_setup(alloc, &mut text).is_ok()
 }
 
 // Whether a text is at fault at this line.

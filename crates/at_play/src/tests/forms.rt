@@ -1,11 +1,10 @@
 //! How reports print.
-use crate::print::{write_text, write_transcript};
+use crate::print::{write_event, write_text};
 use crate::word::text;
 use crate::{Printer, Status};
 use at_atp::{Key, Packet};
 use at_ddp::{Address, Bytes, Listed, Pascal};
 use at_node::Report;
-use at_world::{SentList, Transcript};
 use std::alloc::{AllocError, Global};
 use std::io;
 use std::io::{ErrorKind, Write};
@@ -75,7 +74,7 @@ fn asked(
     })
 }
 
-fn transcript(alloc: Global) -> Result<Transcript<Global>, AllocError> {
+fn reports(alloc: Global) -> Result<Vec<Report<Global>>, AllocError> {
     let mut reports = Vec::new(alloc);
     reports.push(Report::Begun(65535))?;
     reports.push(Report::Served(8))?;
@@ -115,17 +114,20 @@ fn transcript(alloc: Global) -> Result<Transcript<Global>, AllocError> {
     reports.push(asked(alloc, 1, 255, 0, parts)?)?;
     reports.push(Report::ZonesFailed)?;
     reports.push(Report::Failed(65535))?;
-    Ok(Transcript {
-        reports: Listed::from_vec(reports),
-        sent: SentList::new(alloc),
-    })
+    Ok(reports)
+}
+
+fn write_all<W: Write>(printer: &mut Printer<W>, reports: &[Report<Global>]) {
+    for (event, report) in (0u32..).zip(reports) {
+        write_event(printer, event, report);
+    }
 }
 
 #[test]
 fn each_report_prints_as_its_line(rt: HostRuntime) -> Result<(), Fail> {
-    let transcript = transcript(rt.alloc())?;
+    let reports = reports(rt.alloc())?;
     let mut writer = Vec::new(rt.alloc());
-    write_transcript(&mut Printer::new(&mut writer), &transcript);
+    write_all(&mut Printer::new(&mut writer), &reports);
     assert_eq!(rt; writer.as_slice(), PRINTED.as_bytes());
     Ok(())
 }
@@ -156,7 +158,7 @@ impl Write for Refusing {
 
 #[test]
 fn a_write_that_fails_is_told_and_none_follows_it(rt: HostRuntime) -> Result<(), Fail> {
-    let transcript = transcript(rt.alloc())?;
+    let reports = reports(rt.alloc())?;
     let mut refused = 0u32;
     for left in 0..1000u32 {
         let mut writer = Refusing {
@@ -165,7 +167,7 @@ fn a_write_that_fails_is_told_and_none_follows_it(rt: HostRuntime) -> Result<(),
             bytes: Vec::new(rt.alloc()),
         };
         let mut printer = Printer::new(&mut writer);
-        write_transcript(&mut printer, &transcript);
+        write_all(&mut printer, &reports);
         let has_failed = printer.finish(Status::Done) == Status::Failed;
         assert_eq!(rt; has_failed, writer.has_refused, "after {left} writes");
         if writer.has_refused {

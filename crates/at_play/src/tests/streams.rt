@@ -1,5 +1,5 @@
 //! What comes of a read, a write or a request for memory that fails.
-use crate::schedule::{Fault, read_schedule};
+use crate::schedule::{Fault, read_setup};
 use crate::{Printer, Status, play_text};
 use refusing::Refusing;
 use std::alloc::{AllocError, Global};
@@ -123,14 +123,14 @@ fn read_short_of_memory(alloc: Global, granted: u64) -> (Option<Fault>, bool) {
     let heap = Refusing::new(alloc, granted);
     let text =
         b"net 1\nnode 1 router zone A\nnode 2 zone B\nzones A B\ncall 1 zones\ndeliver 0 1\ncall 1 ask 2 129 00000000 AA 1 alo 1\ncall 2 answer 1 128 1 00000000:BB 00000000:CC\ntimer 1 retry 1\n";
-    let fault = read_schedule(&heap, text).err();
+    let fault = read_setup(&heap, &mut text.as_slice()).err();
     (fault, heap.has_refused())
 }
 
 #[test]
 fn each_request_for_memory_that_is_refused_is_told(rt: HostRuntime) {
     let mut refusals = 0u32;
-    for granted in 0..20u64 {
+    for granted in 0..60u64 {
         let (fault, was_refused) = read_short_of_memory(rt.alloc(), granted);
         if was_refused {
             refusals = refusals.saturating_add(1);
@@ -139,7 +139,7 @@ fn each_request_for_memory_that_is_refused_is_told(rt: HostRuntime) {
             assert_eq!(rt; fault, None, "after {granted} requests");
         }
     }
-    assert!(rt; refusals > 6);
+    assert!(rt; refusals > 12 && refusals < 50);
 }
 
 #[test]

@@ -1,0 +1,150 @@
+//! Schedules that are read again from their beginning, as files are.
+use crate::shared::{ZONE_LIST, ZONE_LIST_PLAYED};
+use at_play::{Printer, Status, play_file};
+use refusing::Refusing;
+use std::alloc::{Allocator, Global};
+use std::io;
+use std::io::{Cursor, ErrorKind, Read, Seek, SeekFrom};
+use std::process::Abort;
+
+// Gives another text each time that it is read from its beginning; past the last of them it can't be.
+#[derive(Drop)]
+struct Changing<'a> {
+    rest: &'a [u8],
+    texts: &'a [&'a [u8]],
+}
+
+impl<'a> Changing<'a> {
+    fn new(texts: &'a [&'a [u8]]) -> Changing<'a> {
+        match texts {
+            [first, later @ ..] => Changing {
+                rest: first,
+                texts: later,
+            },
+            [] => Changing { rest: b"", texts },
+        }
+    }
+}
+
+impl Read for Changing<'_> {
+    fn read(&mut self, buf: &mut [u8]) -> io::Result<usize> {
+        self.rest.read(buf)
+    }
+}
+
+impl Seek for Changing<'_> {
+    fn seek(&mut self, _to: SeekFrom) -> io::Result<u64> {
+        let Some((first, later)) = self.texts.split_first() else {
+            return Err(io::Error::from(ErrorKind::NotSeekable));
+        };
+        self.rest = first;
+        self.texts = later;
+        Ok(0)
+    }
+}
+
+// What is printed of a file, and how its play ends.
+fn played<A: Allocator + Copy, F: Read + Seek>(
+    alloc: A,
+    global: Global,
+    file: &mut F,
+) -> (Vec<u8>, Status) {
+    let mut writer = Vec::new(global);
+    let status = play_file(alloc, file, &mut Printer::new(&mut writer));
+    (writer, status)
+}
+
+fn compare(rt: &impl Abort, alloc: Global, texts: &[&[u8]], want: &[u8], want_status: Status) {
+    let (printed, status) = played(alloc, alloc, &mut Changing::new(texts));
+    assert_eq!(rt; printed.as_slice(), want, "of {texts:?}");
+    assert_eq!(rt; status, want_status, "of {texts:?}");
+}
+
+#[test]
+fn a_file_is_read_three_times_from_its_beginning(rt: HostRuntime) {
+    let text = ZONE_LIST.as_bytes();
+    let want = ZONE_LIST_PLAYED.as_bytes();
+    compare(&rt, rt.alloc(), &[text, text, text], want, Status::Done);
+    let (printed, status) = played(rt.alloc(), rt.alloc(), &mut Cursor::new(text));
+    assert_eq!(rt; printed.as_slice(), want);
+    assert_eq!(rt; status, Status::Done);
+}
+
+#[test]
+fn a_file_with_a_fault_plays_nothing(rt: HostRuntime) {
+    let text = b"net 10\nnode 5\ncall 5 zones\nfault\ncall 5 zones\n".as_slice();
+    compare(&rt, rt.alloc(), &[text, text, text], b"fault 4\n", Status::Failed);
+}
+
+#[test]
+fn a_file_that_cannot_be_read_again_is_unreadable(rt: HostRuntime) {
+    let text = ZONE_LIST.as_bytes();
+    compare(&rt, rt.alloc(), &[text], b"fault 0\n", Status::Failed);
+    compare(&rt, rt.alloc(), &[text, text], b"fault 0\n", Status::Failed);
+}
+
+#[test]
+fn a_file_that_changes_while_it_is_played_is_told_as_unreadable(rt: HostRuntime) {
+    let text = b"net 10\nnode 5\ncall 5 zones\ncall 5 zones\n".as_slice();
+    let changed = b"net 10\nnode 5\ncall 5 zones\nfault\n".as_slice();
+    let want = b"0 refused 60\nfault 0\n";
+    compare(&rt, rt.alloc(), &[text, text, changed], want, Status::Failed);
+}
+
+// Numbers signs without a line feed, so many at a time.
+#[derive(Drop)]
+struct Signs {
+    len: usize,
+    left: usize,
+}
+
+impl Read for Signs {
+    fn read(&mut self, buf: &mut [u8]) -> io::Result<usize> {
+        let count = buf.len().min(self.left);
+        buf[..count].fill(b'#');
+        self.left = self.left.saturating_sub(count);
+        Ok(count)
+    }
+}
+
+impl Seek for Signs {
+    fn seek(&mut self, _to: SeekFrom) -> io::Result<u64> {
+        self.left = self.len;
+        Ok(0)
+    }
+}
+
+#[test]
+fn a_file_has_at_most_67_108_864_bytes(rt: HostRuntime) {
+    for (len, want) in [(67_108_864, "fault 2\n"), (67_108_865, "fault 0\n")] {
+        let mut file = Signs { len, left: len };
+        let (printed, status) = played(rt.alloc(), rt.alloc(), &mut file);
+        assert_eq!(rt; printed.as_slice(), want.as_bytes(), "of {len} bytes");
+        assert_eq!(rt; status, Status::Failed);
+    }
+}
+
+// Plays with one request for memory refused after those that are granted, and tells whether one was. The events before
+// that were printed.
+fn play_refused(rt: &impl Abort, alloc: Global, granted: u64) -> bool {
+    let heap = Refusing::new(alloc, granted);
+    let (printed, _) = played(&heap, alloc, &mut Cursor::new(ZONE_LIST.as_bytes()));
+    let printed = printed.as_slice();
+    if heap.has_refused() {
+        let stops = printed.windows(16).any(|part| part == b"stopped nomemory");
+        let reports = printed.windows(10).any(|part| part == b" nomemory\n");
+        assert!(rt; stops != reports, "after {granted} requests: {printed:?}");
+    } else {
+        assert_eq!(rt; printed, ZONE_LIST_PLAYED.as_bytes());
+    }
+    heap.has_refused()
+}
+
+#[test]
+fn each_request_for_memory_of_a_file_that_is_refused_is_told(rt: HostRuntime) {
+    let mut refusals = 0u64;
+    for granted in 0..120u64 {
+        refusals = refusals.saturating_add(u64::from(play_refused(&rt, rt.alloc(), granted)));
+    }
+    assert!(rt; 6 < refusals && refusals < 120, "{refusals} refusals");
+}
