@@ -1,11 +1,10 @@
 -- What an answer does to a responder.
-use Rattle.std.proofs.Common.{◌≡◌, ℕ, Bool, true, false, cond, List, [], ◌∷◌, length, Option, Some, None, refl, sym, ap, subst, ◌∙◌}
+use Rattle.std.proofs.Common.{◌≡◌, ℕ, Bool, true, false, cond, List, [], ◌∷◌, length, Option, Some, None, refl, sym, ap, ◌∙◌}
 use Rattle.std.specs.Prelude.{find, nat_le, ◌&&◌, IfSome}
 use Rattle.at_ddp.specs.Outbox.{Outbox, Sends}
 use Rattle.at_atp.specs.Frames.{spelled_all}
 use Rattle.at_atp.specs.Packets.{Packet}
 use Rattle.at_atp.specs.Records.{Record, is_key, fit, responses, record_fault, answer_fault, asked_mask, after_answer, IsAnswered}
-use Rattle.at_atp.specs.declared.fault.AtpFault.{AtpFault}
 use Rattle.at_atp.specs.declared.fault.AtpFault.TheVariants.{AtpTooLong}
 use Rattle.at_atp.specs.declared.reception.Key.{Key}
 use Rattle.at_atp.proofs.StepLemmas.{sends_later}
