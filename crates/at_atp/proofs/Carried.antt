@@ -128,7 +128,7 @@ wholly t at (Some part ∷ parts) packets h is = go (λ qs k. wholly t (at + 1) 
 
 -- an answer that is kept was given
 abbrev pub Kept : Transaction → State → Type 0
-Kept t (Waiting mask) = Unit {0}
+Kept t (Waiting xo mask) = Unit {0}
 Kept t (Answered packets) = Contains t.answers packets
 Kept t Released = Unit {0}
 
@@ -138,7 +138,7 @@ pub record Waits (ts : List Transaction) (at : Address) (r : Record) : Type 0 wh
   pub kept : Kept asked.transaction r.state
 
 state_kept : (t u : Transaction) (s : State) → Extends t u → Kept t s → Kept u s
-state_kept t u (Waiting mask) extends h = tt
+state_kept t u (Waiting xo mask) extends h = tt
 state_kept t u (Answered packets) extends h = extends.answers packets h
 state_kept t u Released extends h = tt
 

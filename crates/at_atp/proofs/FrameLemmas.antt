@@ -11,7 +11,7 @@ use Rattle.at_atp.specs.Frames.{Content, Request, Response, Release, read_timer,
 use Rattle.at_atp.specs.Reading.{request_of, response_of, tid_in}
 use Rattle.at_atp.specs.Fault.{Stands, function_of}
 use Rattle.at_atp.specs.declared.fault.AtpFault.{AtpFault}
-use Rattle.at_atp.specs.declared.fault.AtpFault.TheVariants.{ShortAtp, BadFunction, BadSequence, AtpTooLong, Full, NoSuch, EmptyAnswer, Gone, NoMemory}
+use Rattle.at_atp.specs.declared.fault.AtpFault.TheVariants.{ShortAtp, BadFunction, BadSequence, AtpTooLong, Full, NoSuch, EmptyAnswer, StillPending, Gone, NoMemory}
 
 -- a flag as the code makes a number of it
 pub bool_bit : (b : Bool) → bool_byte b ≡ bit b
@@ -106,6 +106,7 @@ no_fault_shown input function second len s long short some place AtpTooLong h = 
 no_fault_shown input function second len s long short some place Full h = h
 no_fault_shown input function second len s long short some place NoSuch h = h
 no_fault_shown input function second len s long short some place EmptyAnswer h = h
+no_fault_shown input function second len s long short some place StillPending h = h
 no_fault_shown input function second len s long short some place Gone h = h
 no_fault_shown input function second len s long short some place NoMemory h = h
 

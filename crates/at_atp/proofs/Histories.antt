@@ -1,11 +1,11 @@
 -- What every timely history leaves true of a network.
 use Rattle.std.proofs.Common.{◌≡◌, ℕ, ◌+◌, ◌<◌, true, List, [], ◌∷◌, Option, Some, None, refl, subst, arith}
-use Rattle.std.specs.Prelude.{slice_get}
+use Rattle.std.specs.Prelude.{find, slice_get}
 use Rattle.std.proofs.lemmas.Bool.{eqb-true}
 use Rattle.at_ddp.specs.declared.address.Address.{Address}
-use Rattle.at_atp.specs.Network.{Network, Sent, Happening, Begins, Answers, Hears, Takes, Serves, Retries, Other, begins, answers, handed_up, hears, takes, takes_in, serves, retries, is_fresh, done, tick, after, IsTimely, AllTimely, GivesAnswers}
+use Rattle.at_atp.specs.Network.{Network, Sent, Happening, Begins, Answers, Hears, Takes, Serves, Expires, Retries, Other, begins, answers, handed_up, hears, takes, takes_in, serves, expires, retries, is_fresh, done, tick, after, IsTimely, AllTimely, GivesAnswers}
 use Rattle.at_atp.specs.Packets.{Packet}
-use Rattle.at_atp.specs.Records.{is_key, taken, answer_fault}
+use Rattle.at_atp.specs.Records.{is_key, taken, answer_fault, expiry_fault}
 use Rattle.at_atp.specs.Requests as requests
 use Rattle.at_atp.specs.Requests.{heard, is_numbered, next_number, retried}
 use Rattle.at_atp.specs.Transactions.{transaction_of}
@@ -17,7 +17,7 @@ use Rattle.at_atp.proofs.Alls.{all_implied, all_at, all_found}
 use Rattle.at_atp.proofs.Beginnings.{begins_sound, later}
 use Rattle.at_atp.proofs.Carried.{Tells, Holds, Waits}
 use Rattle.at_atp.proofs.Hearings.{heard_sound}
-use Rattle.at_atp.proofs.NetworkLemmas.{Fresh, Sound, hears_sound, takes_sound, serves_sound, retries_sound, gives_sound}
+use Rattle.at_atp.proofs.NetworkLemmas.{Fresh, Sound, hears_sound, takes_sound, serves_sound, expires_sound, retries_sound, gives_sound}
 use Rattle.at_atp.proofs.RecordLemmas.{own}
 
 done_sound : (A : Type 0) (n : Network) (h : Happening) → Sound n.event n → IsTimely n h → Sound (n.event + 1) (done A n h)
@@ -26,6 +26,7 @@ done_sound A n (Answers at key packets) sound timely = gives_sound n at key pack
 done_sound A n (Hears which) sound timely = hears_sound A n which (later n sound) timely
 done_sound A n (Takes which) sound timely = takes_sound n which (later n sound) timely
 done_sound A n (Serves which packets) sound timely = serves_sound n which packets (later n sound) timely
+done_sound A n (Expires at key) sound timely = expires_sound n at key (later n sound)
 done_sound A n (Retries who tid) sound timely = retries_sound n who tid (later n sound)
 done_sound A n Other sound timely = later n sound
 
@@ -37,6 +38,7 @@ given n at key packets (Some f) = refl
 handed : (n : Network) (at : Address) (packets : List Packet) (r : Reception) → (handed_up n at packets r).event ≡ n.event
 handed n at packets (reception.New key) = given n at key packets (answer_fault (n.responders at) key packets)
 handed n at packets (reception.Again count) = refl
+handed n at packets reception.Released = refl
 handed n at packets reception.Ignored = refl
 
 same_event : (A : Type 0) (n : Network) (h : Happening) → (done A n h).event ≡ n.event
@@ -61,6 +63,11 @@ same_event A n (Serves which packets) = go (slice_get n.sent which)
     go : (o : Option Sent) → (serves n packets o).event ≡ n.event
     go None = refl
     go (Some s) = handed (takes n s) s.to packets (taken (n.responders s.to) s.from s.packet).reception
+same_event A n (Expires at key) = go (expiry_fault (find (is_key key) (n.responders at)))
+  where
+    go : (o : Option AtpFault) → (expires n at key o).event ≡ n.event
+    go None = refl
+    go (Some f) = refl
 same_event A n (Retries who tid) = go (retried (n.requesters who) tid)
   where
     go : (o : Option requests.Retried) → (retries n who o).event ≡ n.event

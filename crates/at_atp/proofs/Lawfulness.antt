@@ -9,9 +9,9 @@ use Rattle.at_ddp.specs.declared.address.Address.{Address}
 use Rattle.at_atp.specs.Answers.{Arrival, is_wanted, whole, with_part}
 use Rattle.at_atp.specs.Frames.{Content, Request, Response, Release, IsLawful}
 use Rattle.at_atp.specs.Lawfully.{IsPacket, IsAsking, IsInRange, IsLawfullySent}
-use Rattle.at_atp.specs.Network.{Network, Sent, Happening, Begins, Answers, Hears, Takes, Serves, Retries, Other, begins, begun, answers, gives, hears, takes, takes_in, handed_up, serves, retries, done, after}
+use Rattle.at_atp.specs.Network.{Network, Sent, Happening, Begins, Answers, Hears, Takes, Serves, Expires, Retries, Other, begins, begun, answers, gives, hears, takes, takes_in, handed_up, serves, expires, retries, done, after}
 use Rattle.at_atp.specs.Packets.{Packet}
-use Rattle.at_atp.specs.Records.{State, Waiting, Answered, Released, Record, Taken, is_key, repeated, came_again, request_came, passed, is_passed_over, taken, answer_fault, asked_for, asked_mask, fit, record_fault}
+use Rattle.at_atp.specs.Records.{State, Waiting, Answered, Released, Record, Taken, is_key, is_kept, repeated, released, came_again, request_came, release_came, passed, is_passed_over, taken, answer_fault, asked_for, asked_mask, after_answer, expiry_fault, fit, record_fault}
 use Rattle.at_atp.specs.Requests.{Transaction, Requests, Retried, next_number, beginning, request_by, came, came_for, was_kept, is_finished, is_of, response_came, Effect, Heard, heard, is_numbered, retried_with, retried}
 use Rattle.at_atp.specs.Tables.{replaced, without_first}
 use Rattle.at_atp.specs.declared.fault.AtpFault.{AtpFault}
@@ -103,23 +103,38 @@ again_fits rs key mask r all f from tid = go r.state f.state
     same s k = all_replaced FitsRecord (is_key key) (record r { state = s }) rs all (record { from = f.from; tid = f.tid; state = k })
 
     go : (s : State) → FitsState s → FitsTaken (came_again rs key r (repeated key mask s))
-    go (Waiting old) k = record { after = same (Waiting mask) tt; sent = tt }
+    go (Waiting xo old) k = record { after = same (Waiting xo mask) tt; sent = tt }
     go (Answered packets) k = record { after = same (Answered packets) k; sent = responses_fit key 0 mask packets from tid (let few = k.0 in omega (arith, few)) k.1 }
     go Released k = record { after = same Released tt; sent = tt }
 
+released_fits : (rs : List Record) (key : Key) (r : Record) → AllByRecursion FitsRecord rs → FitsRecord r → FitsTaken (came_again rs key r (released r.state))
+released_fits rs key r all f = go r.state f.state
+  where
+    same : (s : State) → FitsState s → AllByRecursion FitsRecord (replaced (is_key key) (record r { state = s }) rs)
+    same s k = all_replaced FitsRecord (is_key key) (record r { state = s }) rs all (record { from = f.from; tid = f.tid; state = k })
+
+    go : (s : State) → FitsState s → FitsTaken (came_again rs key r (released s))
+    go (Waiting xo mask) k = record { after = same (Waiting xo mask) tt; sent = tt }
+    go (Answered packets) k = record { after = same Released tt; sent = tt }
+    go Released k = record { after = same Released tt; sent = tt }
+
+release_fits : (rs : List Record) (key : Key) (o : Option Record) → find (is_key key) rs ≡ o → AllByRecursion FitsRecord rs → FitsTaken (release_came rs key o)
+release_fits rs key None e all = record { after = all; sent = tt }
+release_fits rs key (Some r) e all = released_fits rs key r all (all_found FitsRecord (is_key key) rs r all e).0
+
 taken_fits : (rs : List Record) (from : Address) (f : Content) → AllByRecursion FitsRecord rs → IsAddress from → IsLawful f → FitsTaken (taken rs from f)
 taken_fits rs from (Response place eom sts tid user bytes) all fits lawful = record { after = all; sent = tt }
-taken_fits rs from (Release tid) all fits lawful = record { after = all; sent = tt }
-taken_fits rs from (Request mask xo timer tid user bytes) all fits lawful = go (is_passed_over xo mask)
+taken_fits rs from (Release tid) all fits lawful = release_fits rs (record { from = from; tid = tid }) (find (is_key (record { from = from; tid = tid })) rs) refl all
+taken_fits rs from (Request mask xo timer tid user bytes) all fits lawful = go (is_passed_over mask)
   where
     numbered : tid < 65536
     numbered = lawful.2.tid_fits
 
-    came_in : (o : Option Record) → find (is_key (record { from = from; tid = tid })) rs ≡ o → FitsTaken (request_came rs (record { from = from; tid = tid }) mask o)
-    came_in None e = record { after = all_both FitsRecord rs (record { key = record { from = from; tid = tid }; state = Waiting mask } ∷ []) all (record { from = fits; tid = numbered; state = tt }, tt); sent = tt }
+    came_in : (o : Option Record) → find (is_key (record { from = from; tid = tid })) rs ≡ o → FitsTaken (request_came rs (record { from = from; tid = tid }) xo mask o)
+    came_in None e = record { after = all_both FitsRecord rs (record { key = record { from = from; tid = tid }; state = Waiting xo mask } ∷ []) all (record { from = fits; tid = numbered; state = tt }, tt); sent = tt }
     came_in (Some r) e = again_fits rs (record { from = from; tid = tid }) mask r all (all_found FitsRecord (is_key (record { from = from; tid = tid })) rs r all e).0 fits numbered
 
-    go : (b : Bool) → FitsTaken (cond b (passed rs) (request_came rs (record { from = from; tid = tid }) mask (find (is_key (record { from = from; tid = tid })) rs)))
+    go : (b : Bool) → FitsTaken (cond b (passed rs) (request_came rs (record { from = from; tid = tid }) xo mask (find (is_key (record { from = from; tid = tid })) rs)))
     go true = record { after = all; sent = tt }
     go false = came_in (find (is_key (record { from = from; tid = tid })) rs) refl
 
@@ -137,10 +152,25 @@ gave_fits : (n : Network) (at : Address) (key : Key) (packets : List Packet) →
 gave_fits n at key packets fits f all (Some x) e = fits
 gave_fits n at key packets fits f all None e = record {
   requesters = fits.requesters;
-  responders = put_all (λ a x. AllByRecursion FitsRecord x) n.responders at (without_first (is_key key) (n.responders at)) fits.responders (all_without FitsRecord (is_key key) (n.responders at) (fits.responders at));
+  responders = put_all (λ a x. AllByRecursion FitsRecord x) n.responders at (after_answer (n.responders at) key packets) fits.responders (kept (find (is_key key) (n.responders at)) refl);
   sent = more_fits n.event at n.sent (asked_for (find (is_key key) (n.responders at)) key packets) fits.sent f (go (find (is_key key) (n.responders at)) refl);
 }
   where
+    kept : (r : Option Record) → find (is_key key) (n.responders at) ≡ r → AllByRecursion FitsRecord (cond (is_kept r) (replaced (is_key key) (record { key = key; state = Answered packets }) (n.responders at)) (without_first (is_key key) (n.responders at)))
+    kept None g = all_without FitsRecord (is_key key) (n.responders at) (fits.responders at)
+    kept (Some r) g = keeps (is_kept (Some r))
+      where
+        keeps : (b : Bool) → AllByRecursion FitsRecord (cond b (replaced (is_key key) (record { key = key; state = Answered packets }) (n.responders at)) (without_first (is_key key) (n.responders at)))
+        keeps false = all_without FitsRecord (is_key key) (n.responders at) (fits.responders at)
+        keeps true =
+            let f = all_found FitsRecord (is_key key) (n.responders at) r (fits.responders at) g in
+            let same = own key r f.1 in
+            all_replaced FitsRecord (is_key key) (record { key = key; state = Answered packets }) (n.responders at) (fits.responders at) (record {
+              from = subst (λ (k : Key). IsAddress k.from) same (f.0).from;
+              tid = subst (λ (k : Key). k.tid < 65536) same (f.0).tid;
+              state = (few_packets (n.responders at) key packets e, all);
+            })
+
     go : (r : Option Record) → find (is_key key) (n.responders at) ≡ r → FitSent (asked_for r key packets)
     go None g = tt
     go (Some r) g =
@@ -163,6 +193,7 @@ takes_fits n which s fits e =
 handed_fits : (n : Network) (at : Address) (packets : List Packet) (r : Reception) → Fits n → IsAddress at → AllByRecursion IsPacket packets → Fits (handed_up n at packets r)
 handed_fits n at packets (reception.New key) fits f all = gives_fits n at key packets fits f all
 handed_fits n at packets (reception.Again count) fits f all = fits
+handed_fits n at packets reception.Released fits f all = fits
 handed_fits n at packets reception.Ignored fits f all = fits
 
 begun_fits : (n : Network) (who to : Address) (user bytes : List ℕ) (wanted : ℕ) (xo : Bool) (times tid : ℕ) → Fits n → IsAsking who to user bytes wanted → tid < 65536 → Fits (begun n who (beginning tid to user bytes wanted xo times))
@@ -202,6 +233,11 @@ done_fits A n (Serves which packets) fits range = go (slice_get n.sent which) re
     go : (o : Option Sent) → slice_get n.sent which ≡ o → Fits (serves n packets o)
     go None e = fits
     go (Some s) e = handed_fits (takes n s) s.to packets (taken (n.responders s.to) s.from s.packet).reception (takes_fits n which s fits e) (all_at IsLawfullySent n.sent which s fits.sent e).to_fits range
+done_fits A n (Expires at key) fits range = go (expiry_fault (find (is_key key) (n.responders at)))
+  where
+    go : (o : Option AtpFault) → Fits (expires n at key o)
+    go (Some f) = fits
+    go None = record { requesters = fits.requesters; responders = put_all (λ a x. AllByRecursion FitsRecord x) n.responders at (without_first (is_key key) (n.responders at)) fits.responders (all_without FitsRecord (is_key key) (n.responders at) (fits.responders at)); sent = fits.sent }
 done_fits A n (Retries who tid) fits range = go (retried (n.requesters who) tid) refl
   where
     go : (o : Option Retried) → retried (n.requesters who) tid ≡ o → Fits (retries n who o)

@@ -1,5 +1,6 @@
 mod Alls
 mod AnswerLemmas
+mod AnsweringLemmas
 mod FrameLemmas
 mod LawLemmas
 mod Lawfulness

@@ -1,22 +1,22 @@
 -- What a timely history leaves true of a network.
 use Rattle.std.proofs.Common.{◌≡◌, ℕ, ◌+◌, ◌<◌, Bool, true, false, cond, List, [], ◌∷◌, ◌++◌, Option, Some, None, refl, subst, ◌∙◌, arith}
 use Rattle.std.specs.Prelude.{find, slice_get}
-use Rattle.std.specs.List.{AllByRecursion}
+use Rattle.std.specs.List.{AllByRecursion, Contains}
 use Rattle.at_ddp.specs.Address.{same_address}
 use Rattle.at_ddp.specs.declared.address.Address.{Address}
 use Rattle.at_ddp.proofs.Octets.{same_address-true}
 use Rattle.at_atp.specs.Frames.{Content}
-use Rattle.at_atp.specs.Network.{Network, Sent, Drawn, owner, number_of, is_fresh, put, stamped, with_requester, with_responder, answers, gives, hears, takes, takes_in, handed_up, serves, retries, ComesInTime}
+use Rattle.at_atp.specs.Network.{Network, Sent, Drawn, owner, number_of, is_fresh, put, stamped, with_requester, with_responder, answers, gives, hears, takes, takes_in, handed_up, serves, expires, retries, ComesInTime}
 use Rattle.at_atp.specs.Packets.{Packet}
-use Rattle.at_atp.specs.Records.{Record, is_key, taken, answer_fault, asked_for, asked_mask}
+use Rattle.at_atp.specs.Records.{Answered, Record, is_key, is_kept, taken, answer_fault, asked_for, asked_mask, after_answer, expiry_fault}
 use Rattle.at_atp.specs.Requests.{Requests, Retried, heard, retried}
-use Rattle.at_atp.specs.Tables.{without_first}
-use Rattle.at_atp.specs.Transactions.{Transaction, transaction_of, answered}
+use Rattle.at_atp.specs.Tables.{replaced, without_first}
+use Rattle.at_atp.specs.Transactions.{Transaction, transaction_of, Asked, answered}
 use Rattle.at_atp.specs.declared.fault.AtpFault.{AtpFault}
 use Rattle.at_atp.specs.declared.reception.Key.{Key}
 use Rattle.at_atp.specs.declared.reception.Reception.{Reception}
 use Rattle.at_atp.specs.declared.reception.Reception.TheVariants as reception
-use Rattle.at_atp.proofs.Alls.{all_implied, all_both, all_without, all_at, all_found}
+use Rattle.at_atp.proofs.Alls.{all_implied, all_both, all_replaced, all_without, all_at, all_found}
 use Rattle.at_atp.proofs.Carried.{Tells, tells_kept, Holds, holds_kept, Waits, waits_kept}
 use Rattle.at_atp.proofs.Hearings.{TellsAll, heard_sound, retried_sound}
 use Rattle.at_atp.proofs.Newest.{Keeps, answered_keeps, answered_joins}
@@ -118,7 +118,7 @@ gave_sound n at key packets sound free = record {
   past = more_past n.event at n.sent (asked_for (find (is_key key) (n.responders at)) key packets) sound.past;
   sent = more_fresh n.drawn (answered n.asked key.from key.tid packets) n.event at n.sent (asked_for (find (is_key key) (n.responders at)) key packets) (all_implied (Fresh n.drawn n.asked) (Fresh n.drawn (answered n.asked key.from key.tid packets)) n.sent fresh_kept sound.sent) (tells (find (is_key key) (n.responders at)) refl);
   standing = λ who. all_implied (Holds n.asked who) (Holds (answered n.asked key.from key.tid packets) who) (n.requesters who).standing (λ t h. holds_kept n.asked (answered n.asked key.from key.tid packets) who t (keeps who t.tid) h) (sound.standing who);
-  records = put_all (λ a x. AllByRecursion (Waits (answered n.asked key.from key.tid packets) a) x) n.responders at (without_first (is_key key) (n.responders at)) (λ a. waiting a) (all_without (Waits (answered n.asked key.from key.tid packets) at) (is_key key) (n.responders at) (waiting at));
+  records = put_all (λ a x. AllByRecursion (Waits (answered n.asked key.from key.tid packets) a) x) n.responders at (after_answer (n.responders at) key packets) (λ a. waiting a) (settled (find (is_key key) (n.responders at)) refl);
 }
   where
     keeps : (who : Address) (tid : ℕ) → Keeps n.asked (answered n.asked key.from key.tid packets) who tid
@@ -130,14 +130,31 @@ gave_sound n at key packets sound free = record {
     waiting : (a : Address) → AllByRecursion (Waits (answered n.asked key.from key.tid packets) a) (n.responders a)
     waiting a = all_implied (Waits n.asked a) (Waits (answered n.asked key.from key.tid packets) a) (n.responders a) (λ r h. waits_kept n.asked (answered n.asked key.from key.tid packets) a r (keeps r.key.from r.key.tid) h) (sound.records a)
 
-    tells : (o : Option Record) → find (is_key key) (n.responders at) ≡ o → TellsAll (answered n.asked key.from key.tid packets) at (asked_for o key packets)
-    tells None e = tt
-    tells (Some r) e =
+    -- the newest transaction asked here, and has the answer
+    given : (r : Record) → find (is_key key) (n.responders at) ≡ Some r → (a : Asked (answered n.asked key.from key.tid packets) key.from key.tid at) × Contains (a.transaction).answers packets
+    given r e =
         let found = all_found (Waits n.asked at) (is_key key) (n.responders at) r (sound.records at) e in
         let same = own key r found.1 in
         let newest = subst (λ (k : Key). transaction_of n.asked k.from k.tid ≡ Some ((found.0).asked).transaction) same ((found.0).asked).newest in
         let more = answered_joins n.asked key.from key.tid packets ((found.0).asked).transaction newest in
-        answer_tells (answered n.asked key.from key.tid packets) at key (record { transaction = more.0; newest = more.1; asked_it = more.2.responder ∙ ((found.0).asked).asked_it }) (asked_mask r.state) packets more.3
+        (record { transaction = more.0; newest = more.1; asked_it = more.2.responder ∙ ((found.0).asked).asked_it }, more.3)
+
+    tells : (o : Option Record) → find (is_key key) (n.responders at) ≡ o → TellsAll (answered n.asked key.from key.tid packets) at (asked_for o key packets)
+    tells None e = tt
+    tells (Some r) e = let g = given r e in answer_tells (answered n.asked key.from key.tid packets) at key g.0 (asked_mask r.state) packets g.1
+
+    gone : AllByRecursion (Waits (answered n.asked key.from key.tid packets) at) (without_first (is_key key) (n.responders at))
+    gone = all_without (Waits (answered n.asked key.from key.tid packets) at) (is_key key) (n.responders at) (waiting at)
+
+    settled : (o : Option Record) → find (is_key key) (n.responders at) ≡ o → AllByRecursion (Waits (answered n.asked key.from key.tid packets) at) (cond (is_kept o) (replaced (is_key key) (record { key = key; state = Answered packets }) (n.responders at)) (without_first (is_key key) (n.responders at)))
+    settled None e = gone
+    settled (Some r) e = go (is_kept (Some r))
+      where
+        go : (b : Bool) → AllByRecursion (Waits (answered n.asked key.from key.tid packets) at) (cond b (replaced (is_key key) (record { key = key; state = Answered packets }) (n.responders at)) (without_first (is_key key) (n.responders at)))
+        go false = gone
+        go true =
+            let g = given r e in
+            all_replaced (Waits (answered n.asked key.from key.tid packets) at) (is_key key) (record { key = key; state = Answered packets }) (n.responders at) (waiting at) (record { asked = g.0; kept = g.1 })
 
 pub gives_sound : (n : Network) (at : Address) (key : Key) (packets : List Packet) → Sound (n.event + 1) n → Sound (n.event + 1) (gives n at key packets)
 gives_sound n at key packets sound = go (answer_fault (n.responders at) key packets) refl
@@ -149,6 +166,7 @@ gives_sound n at key packets sound = go (answer_fault (n.responders at) key pack
 handed_sound : (n : Network) (at : Address) (packets : List Packet) (r : Reception) → Sound (n.event + 1) n → Sound (n.event + 1) (handed_up n at packets r)
 handed_sound n at packets (reception.New key) sound = gives_sound n at key packets sound
 handed_sound n at packets (reception.Again count) sound = sound
+handed_sound n at packets reception.Released sound = sound
 handed_sound n at packets reception.Ignored sound = sound
 
 pub serves_sound : (n : Network) (which : ℕ) (packets : List Packet) → Sound (n.event + 1) n → ComesInTime n which → Sound (n.event + 1) (serves n packets (slice_get n.sent which))
@@ -157,3 +175,17 @@ serves_sound n which packets sound timely = go (slice_get n.sent which) refl
     go : (o : Option Sent) → slice_get n.sent which ≡ o → Sound (n.event + 1) (serves n packets o)
     go None e = sound
     go (Some s) e = handed_sound (takes n s) s.to packets (taken (n.responders s.to) s.from s.packet).reception (took_sound n which s sound timely e)
+
+-- ---- records that expire
+
+pub expires_sound : (n : Network) (at : Address) (key : Key) → Sound (n.event + 1) n → Sound (n.event + 1) (expires n at key (expiry_fault (find (is_key key) (n.responders at))))
+expires_sound n at key sound = go (expiry_fault (find (is_key key) (n.responders at)))
+  where
+    go : (o : Option AtpFault) → Sound (n.event + 1) (expires n at key o)
+    go (Some f) = sound
+    go None = record {
+      past = sound.past;
+      sent = sound.sent;
+      standing = sound.standing;
+      records = put_all (λ a x. AllByRecursion (Waits n.asked a) x) n.responders at (without_first (is_key key) (n.responders at)) sound.records (all_without (Waits n.asked at) (is_key key) (n.responders at) (sound.records at));
+    }

@@ -63,7 +63,7 @@ pub record FitsRequests (r : Requests) : Type 0 where
   pub standing : AllByRecursion FitsOpen r.standing
 
 abbrev pub FitsState : State → Type 0
-FitsState (Waiting mask) = Unit {0}
+FitsState (Waiting xo mask) = Unit {0}
 FitsState (Answered packets) = (length packets ≤ 8) × AllByRecursion IsPacket packets
 FitsState Released = Unit {0}
 

@@ -2,7 +2,7 @@
 use Rattle.std.specs.Prelude.{◌≡◌, ℕ, ◌+◌, ◌/◌, ◌<◌, List, [], ◌∷◌, length, slice_index, Option, Some, None}
 use Rattle.std.specs.List.{AllByRecursion}
 use Rattle.at_atp.specs.declared.fault.AtpFault.{AtpFault}
-use Rattle.at_atp.specs.declared.fault.AtpFault.TheVariants.{ShortAtp, BadFunction, BadSequence, AtpTooLong, Full, NoSuch, EmptyAnswer, Gone, NoMemory}
+use Rattle.at_atp.specs.declared.fault.AtpFault.TheVariants.{ShortAtp, BadFunction, BadSequence, AtpTooLong, Full, NoSuch, EmptyAnswer, StillPending, Gone, NoMemory}
 
 -- the number by which a refusal is reported
 abbrev pub number_of : AtpFault → Option ℕ
@@ -13,6 +13,7 @@ number_of AtpTooLong = Some 13
 number_of Full = Some 14
 number_of NoSuch = Some 15
 number_of EmptyAnswer = Some 16
+number_of StillPending = Some 17
 number_of Gone = Some 18
 number_of NoMemory = None
 
@@ -29,6 +30,7 @@ Stands AtpTooLong input = 8 + 578 < length input
 Stands Full input = ⊥
 Stands NoSuch input = ⊥
 Stands EmptyAnswer input = ⊥
+Stands StillPending input = ⊥
 Stands Gone input = ⊥
 Stands NoMemory input = ⊥
 

@@ -4,7 +4,7 @@ use Rattle.std.specs.List.{AllByRecursion}
 use Rattle.at_ddp.specs.Datagram.{AreBytes, IsAddress}
 use Rattle.at_ddp.specs.declared.address.Address.{Address}
 use Rattle.at_atp.specs.Frames.{IsLawful}
-use Rattle.at_atp.specs.Network.{Happening, Begins, Answers, Hears, Takes, Serves, Retries, Other, Sent}
+use Rattle.at_atp.specs.Network.{Happening, Begins, Answers, Hears, Takes, Serves, Expires, Retries, Other, Sent}
 use Rattle.at_atp.specs.Packets.{Packet}
 
 -- four user bytes, and at most 578 bytes of data
@@ -34,6 +34,7 @@ IsInRange (Answers at key packets) = IsAddress at × AllByRecursion IsPacket pac
 IsInRange (Serves which packets) = AllByRecursion IsPacket packets
 IsInRange (Hears which) = Unit {0}
 IsInRange (Takes which) = Unit {0}
+IsInRange (Expires at key) = Unit {0}
 IsInRange (Retries who tid) = IsAddress who
 IsInRange Other = Unit {0}
 

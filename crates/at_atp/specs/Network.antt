@@ -6,7 +6,7 @@ use Rattle.at_ddp.specs.Address.{same_address}
 use Rattle.at_ddp.specs.declared.address.Address.{Address}
 use Rattle.at_atp.specs.Frames.{Content, Request, Response, Release}
 use Rattle.at_atp.specs.Packets.{Packet}
-use Rattle.at_atp.specs.Records.{Record, is_key, taken, answer_fault, asked_for}
+use Rattle.at_atp.specs.Records.{Record, is_key, taken, answer_fault, asked_for, after_answer, expiry_fault}
 use Rattle.at_atp.specs.Requests as requests
 use Rattle.at_atp.specs.Requests.{Requests, Retried, no_requests, next_number, beginning, request_by, heard, is_numbered, retried}
 use Rattle.at_atp.specs.Tables.{without_first}
@@ -80,6 +80,8 @@ pub data Happening : Type 0 where
   Takes : (which : ℕ) → Happening
   -- the same, and a request that is new there is answered at once
   Serves : (which : ℕ) (packets : List Packet) → Happening
+  -- the release timer of a record fires
+  Expires : (at : Address) (key : Key) → Happening
   -- a transaction is retried
   Retries : (who : Address) (tid : ℕ) → Happening
   -- nothing of this network
@@ -119,7 +121,7 @@ begins n who to user bytes wanted xo retries (Some tid) = begun n who (beginning
 abbrev pub answers : Network → Address → Key → List Packet → Option AtpFault → Network
 answers n at key packets (Some fault) = n
 answers n at key packets None = record n {
-  responders = put n.responders at (without_first (is_key key) (n.responders at));
+  responders = put n.responders at (after_answer (n.responders at) key packets);
   sent = n.sent ++ stamped n.event at (asked_for (find (is_key key) (n.responders at)) key packets);
   asked = answered n.asked key.from key.tid packets;
 }
@@ -147,6 +149,11 @@ abbrev pub serves : Network → List Packet → Option Sent → Network
 serves n packets None = n
 serves n packets (Some s) = handed_up (takes n s) s.to packets (taken (n.responders s.to) s.from s.packet).reception
 
+-- a record that can expire is gone, and nothing is sent
+abbrev pub expires : Network → Address → Key → Option AtpFault → Network
+expires n at key (Some fault) = n
+expires n at key None = record n { responders = put n.responders at (without_first (is_key key) (n.responders at)) }
+
 abbrev pub retries : Network → Address → Option Retried → Network
 retries n who None = n
 retries n who (Some r) = with_requester n who r.after r.sent
@@ -157,6 +164,7 @@ done A n (Answers at key packets) = gives n at key packets
 done A n (Hears which) = hears A n (slice_get n.sent which)
 done A n (Takes which) = takes_in n (slice_get n.sent which)
 done A n (Serves which packets) = serves n packets (slice_get n.sent which)
+done A n (Expires at key) = expires n at key (expiry_fault (find (is_key key) (n.responders at)))
 done A n (Retries who tid) = retries n who (retried (n.requesters who) tid)
 done A n Other = n
 
@@ -181,6 +189,7 @@ IsTimely n (Answers at key packets) = Unit {0}
 IsTimely n (Hears which) = ComesInTime n which
 IsTimely n (Takes which) = ComesInTime n which
 IsTimely n (Serves which packets) = ComesInTime n which
+IsTimely n (Expires at key) = Unit {0}
 IsTimely n (Retries who tid) = Unit {0}
 IsTimely n Other = Unit {0}
 

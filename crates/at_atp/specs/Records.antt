@@ -1,5 +1,5 @@
 -- The side that answers, and what each call does to it (Inside AppleTalk, ATP, "At-least-once and exactly-once transactions").
-use Rattle.std.specs.Prelude.{◌≡◌, ℕ, ◌+◌, ◌/◌, ◌%◌, ◌==◌, ◌&&◌, ◌||◌, nat_le, if◌then◌else◌, Bool, false, is_none, List, [], ◌∷◌, ◌++◌, length, find, Option, Some, None}
+use Rattle.std.specs.Prelude.{◌≡◌, ℕ, ◌+◌, ◌/◌, ◌%◌, ◌==◌, ◌&&◌, nat_le, if◌then◌else◌, Bool, false, is_none, List, [], ◌∷◌, ◌++◌, length, find, Option, Some, None}
 use Rattle.std.specs.List.{list_all}
 use Rattle.at_ddp.specs.Address.{same_address}
 use Rattle.at_ddp.specs.Outbox.{Outbox, Sends}
@@ -8,18 +8,18 @@ use Rattle.at_atp.specs.Packets.{Packet}
 use Rattle.at_atp.specs.Frames.{Content, Request, Response, Release, spelled_all}
 use Rattle.at_atp.specs.Tables.{replaced, without_first}
 use Rattle.at_atp.specs.declared.fault.AtpFault.{AtpFault}
-use Rattle.at_atp.specs.declared.fault.AtpFault.TheVariants.{AtpTooLong, NoSuch, EmptyAnswer, Gone}
+use Rattle.at_atp.specs.declared.fault.AtpFault.TheVariants.{AtpTooLong, NoSuch, EmptyAnswer, StillPending, Gone}
 use Rattle.at_atp.specs.declared.reception.Key.{Key}
 use Rattle.at_atp.specs.declared.reception.Reception.{Reception}
 use Rattle.at_atp.specs.declared.reception.Reception.TheVariants as reception
 
 -- what became of a request
 pub data State : Type 0 where
-  -- it waits for its answer, of which these packets were asked for
-  Waiting : (mask : ℕ) → State
-  -- it was answered, and the answer is kept
+  -- it waits for its answer, of which these packets were asked for; `xo` is for exactly-once
+  Waiting : (xo : Bool) (mask : ℕ) → State
+  -- it is for exactly-once and was answered, and the answer is kept
   Answered : (packets : List Packet) → State
-  -- its answer came whole
+  -- it is for exactly-once, and its answer came whole
   Released : State
 
 -- a request that came: who asked, under which number, and what became of it
@@ -50,47 +50,60 @@ pub record Taken : Type 0 where
 abbrev pub passed : List Record → Taken
 passed rs = record { reception = reception.Ignored; after = rs; sent = [] }
 
--- what a request does whose record stands: it is not handed up again
+-- what a packet does to the record of its request
 pub record Repeat : Type 0 where
   pub reception : Reception
   pub state : State
   pub sent : List (Address × Content)
 
+-- A request whose record stands is not handed up again. Its mask counts from then on, and it is for exactly-once if it was
+-- so when it came first.
 abbrev pub repeated : Key → ℕ → State → Repeat
-repeated key mask (Waiting old) = record { reception = reception.Again 0; state = Waiting mask; sent = [] }
+repeated key mask (Waiting xo old) = record { reception = reception.Again 0; state = Waiting xo mask; sent = [] }
 repeated key mask (Answered packets) = record { reception = reception.Again (length (responses key 0 mask packets)); state = Answered packets; sent = responses key 0 mask packets }
 repeated key mask Released = record { reception = reception.Ignored; state = Released; sent = [] }
+
+-- The release of an answer that is kept: it came whole, and is dropped. The record stays, so that a request that comes late
+-- is not handed up.
+abbrev pub released : State → Repeat
+released (Waiting xo mask) = record { reception = reception.Ignored; state = Waiting xo mask; sent = [] }
+released (Answered packets) = record { reception = reception.Released; state = Released; sent = [] }
+released Released = record { reception = reception.Ignored; state = Released; sent = [] }
 
 abbrev pub came_again : List Record → Key → Record → Repeat → Taken
 came_again rs key r e = record { reception = e.reception; after = replaced (is_key key) (record r { state = e.state }) rs; sent = e.sent }
 
-abbrev pub request_came : List Record → Key → ℕ → Option Record → Taken
-request_came rs key mask None = record { reception = reception.New key; after = rs ++ record { key = key; state = Waiting mask } ∷ []; sent = [] }
-request_came rs key mask (Some r) = came_again rs key r (repeated key mask r.state)
+abbrev pub request_came : List Record → Key → Bool → ℕ → Option Record → Taken
+request_came rs key xo mask None = record { reception = reception.New key; after = rs ++ record { key = key; state = Waiting xo mask } ∷ []; sent = [] }
+request_came rs key xo mask (Some r) = came_again rs key r (repeated key mask r.state)
 
--- A request that asks for nothing is passed over, and for now one for exactly-once is too.
-abbrev pub is_passed_over : Bool → ℕ → Bool
-is_passed_over xo mask = xo || (mask == 0)
+abbrev pub release_came : List Record → Key → Option Record → Taken
+release_came rs key None = passed rs
+release_came rs key (Some r) = came_again rs key r (released r.state)
+
+-- a request that asks for nothing is passed over
+abbrev pub is_passed_over : ℕ → Bool
+is_passed_over mask = mask == 0
 
 abbrev pub taken : List Record → Address → Content → Taken
 taken rs from (Request mask xo timer tid user bytes) =
-    if is_passed_over xo mask then passed rs
-    else request_came rs (record { from = from; tid = tid }) mask (find (is_key (record { from = from; tid = tid })) rs)
+    if is_passed_over mask then passed rs
+    else request_came rs (record { from = from; tid = tid }) xo mask (find (is_key (record { from = from; tid = tid })) rs)
 taken rs from (Response place eom sts tid user bytes) = passed rs
-taken rs from (Release tid) = passed rs
+taken rs from (Release tid) = release_came rs (record { from = from; tid = tid }) (find (is_key (record { from = from; tid = tid })) rs)
 
 -- a new request for which there is no place: 64 records stand
 abbrev pub is_new_and_full : List Record → Key → Bool
 is_new_and_full rs key = is_none (find (is_key key) rs) && nat_le 64 (length rs)
 
 abbrev pub finds_no_place : List Record → Address → Content → Bool
-finds_no_place rs from (Request mask xo timer tid user bytes) = if is_passed_over xo mask then false else is_new_and_full rs (record { from = from; tid = tid })
+finds_no_place rs from (Request mask xo timer tid user bytes) = if is_passed_over mask then false else is_new_and_full rs (record { from = from; tid = tid })
 finds_no_place rs from (Response place eom sts tid user bytes) = false
 finds_no_place rs from (Release tid) = false
 
 -- why a request can't be answered
 abbrev pub state_fault : State → Option AtpFault
-state_fault (Waiting mask) = None
+state_fault (Waiting xo mask) = None
 state_fault (Answered packets) = Some Gone
 state_fault Released = Some Gone
 
@@ -105,7 +118,7 @@ answer_fault rs key (p ∷ ps) =
     if nat_le (length (p ∷ ps)) 8 && fit (p ∷ ps) then record_fault (find (is_key key) rs) else Some AtpTooLong
 
 abbrev pub asked_mask : State → ℕ
-asked_mask (Waiting mask) = mask
+asked_mask (Waiting xo mask) = mask
 asked_mask (Answered packets) = 0
 asked_mask Released = 0
 
@@ -114,11 +127,37 @@ abbrev pub asked_for : Option Record → Key → List Packet → List (Address �
 asked_for None key packets = []
 asked_for (Some r) key packets = responses key 0 (asked_mask r.state) packets
 
--- the answer was given: so many packets were sent, and the record is gone
+-- is the answer to a request that waits kept? only for exactly-once
+abbrev pub keeps_answer : State → Bool
+keeps_answer (Waiting xo mask) = xo
+keeps_answer (Answered packets) = false
+keeps_answer Released = false
+
+abbrev pub is_kept : Option Record → Bool
+is_kept None = false
+is_kept (Some r) = keeps_answer r.state
+
+-- The records once a request is answered: for exactly-once its record keeps the answer, and otherwise it is gone.
+abbrev pub after_answer : List Record → Key → List Packet → List Record
+after_answer rs key packets =
+    if is_kept (find (is_key key) rs) then replaced (is_key key) (record { key = key; state = Answered packets }) rs
+    else without_first (is_key key) rs
+
+-- the answer was given: so many packets were sent, and the record keeps the answer or is gone
 pub record IsAnswered (old new : List Record) (key : Key) (packets : List Packet) (count : ℕ) (before after : Outbox) : Type 0 where
-  pub is_new : new ≡ without_first (is_key key) old
+  pub is_new : new ≡ after_answer old key packets
   pub sends : Sends before after (spelled_all (asked_for (find (is_key key) old) key packets))
   pub counts : count ≡ length (asked_for (find (is_key key) old) key packets)
+
+-- Why a record can't expire: the release timer runs from the answer on. One that expires is gone.
+abbrev pub expiry_fault_of : State → Option AtpFault
+expiry_fault_of (Waiting xo mask) = Some StillPending
+expiry_fault_of (Answered packets) = None
+expiry_fault_of Released = None
+
+abbrev pub expiry_fault : Option Record → Option AtpFault
+expiry_fault None = Some NoSuch
+expiry_fault (Some r) = expiry_fault_of r.state
 
 -- the reception, the new records and what was sent are these
 pub record IsTaken (t : Taken) (r : Reception) (new : List Record) (before after : Outbox) : Type 0 where

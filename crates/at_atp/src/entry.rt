@@ -1,7 +1,7 @@
 ghost use Rattle.std.specs.Prelude.{◌≡◌, ℕ, ◌+◌, ◌≤◌, ◌∷◌, [], length, true, false, if◌then◌else◌, IfOk, OnErr, IsOk};
 ghost use Rattle.at_ddp.specs.Outbox.{Sends, HasRoomFor};
 ghost use Rattle.at_atp.specs.Frames.{Response, spelled_all};
-ghost use Rattle.at_atp.specs.Records.{Waiting, fit, responses, is_key, is_from, state_fault, asked_mask, repeated, IsRepeat};
+ghost use Rattle.at_atp.specs.Records.{Waiting, Answered, fit, responses, is_key, is_from, state_fault, expiry_fault_of, asked_mask, keeps_answer, repeated, released, IsRepeat};
 
 use crate::fault::AtpFault;
 use crate::frame::{Frame, PACKET_LEN};
@@ -15,7 +15,7 @@ use std::marker::Model;
 // What became of a request.
 #[derive(Drop)]
 pub(crate) enum Held<A: Allocator> {
-    Waiting(u8),
+    Waiting { xo: bool, mask: u8 },
     Answered(Listed<Packet<A>, A>),
     Released,
 }
@@ -40,12 +40,12 @@ impl<A: Allocator> Model for Entry<A> {
 }
 
 impl<A: Allocator> Entry<A> {
-    pub(crate) fn waiting(key: Key, mask: u8) -> Entry<A>
-        ensures { result ≡ record { key = key; state = Waiting mask } }
+    pub(crate) fn waiting(key: Key, xo: bool, mask: u8) -> Entry<A>
+        ensures { result ≡ record { key = key; state = Waiting xo mask } }
     {
         Entry {
             key,
-            held: Held::Waiting(mask),
+            held: Held::Waiting { xo, mask },
         }
     }
 
@@ -67,9 +67,20 @@ impl<A: Allocator> Entry<A> {
         ensures { result ≡ state_fault self.now.state }
     {
         match &self.held {
-            Held::Waiting(_) => None,
+            Held::Waiting { .. } => None,
             Held::Answered(_) => Some(AtpFault::Gone),
             Held::Released => Some(AtpFault::Gone),
+        }
+    }
+
+    // Why the record can't expire.
+    pub(crate) fn expiry_fault(&self) -> Option<AtpFault>
+        ensures { result ≡ expiry_fault_of self.now.state }
+    {
+        match &self.held {
+            Held::Waiting { .. } => Some(AtpFault::StillPending),
+            Held::Answered(_) => None,
+            Held::Released => None,
         }
     }
 
@@ -77,10 +88,30 @@ impl<A: Allocator> Entry<A> {
         ensures { result ≡ asked_mask self.now.state }
     {
         match &self.held {
-            Held::Waiting(mask) => *mask,
+            Held::Waiting { mask, .. } => *mask,
             Held::Answered(_) => 0,
             Held::Released => 0,
         }
+    }
+
+    // Whether the answer to the request is to be kept.
+    pub(crate) fn keeps_answer(&self) -> bool
+        ensures { result ≡ keeps_answer self.now.state }
+    {
+        match &self.held {
+            Held::Waiting { xo, .. } => *xo,
+            Held::Answered(_) => false,
+            Held::Released => false,
+        }
+    }
+
+    // Keeps the answer of the request.
+    pub(crate) fn keep(&mut self, packets: Listed<Packet<A>, A>)
+        requires few { length packets ≤ 8 }
+        requires fits { fit packets ≡ true }
+        ensures { self.new ≡ record self.old { state = Answered packets } }
+    {
+        self.held = Held::Answered(packets);
     }
 
     // The request came again.
@@ -102,9 +133,24 @@ impl<A: Allocator> Entry<A> {
                 out.room(packets.len() as u32, PACKET_LEN)?;
                 Ok(Reception::Again(send_answer(out, key, 0, mask, packets)))
             }
-            Held::Waiting(_) => {
-                self.held = Held::Waiting(mask);
+            Held::Waiting { xo, .. } => {
+                self.held = Held::Waiting { xo: *xo, mask };
                 Ok(Reception::Again(0))
+            }
+        }
+    }
+
+    // The answer came whole: what is kept of it is dropped.
+    pub(crate) fn release(&mut self) -> Reception
+        ensures reception { result ≡ (released self.old.state).reception }
+        ensures state { self.new ≡ record self.old { state = (released self.old.state).state } }
+    {
+        match &self.held {
+            Held::Waiting { .. } => Reception::Ignored,
+            Held::Released => Reception::Ignored,
+            Held::Answered(_) => {
+                self.held = Held::Released;
+                Reception::Released
             }
         }
     }

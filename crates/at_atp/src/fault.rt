@@ -28,6 +28,9 @@ pub enum AtpFault {
     /// An answer has at least one packet.
     #[error("an answer of no packets")]
     EmptyAnswer,
+    /// A request that waits for its answer does not expire.
+    #[error("the request still waits for its answer")]
+    StillPending,
     /// A request is answered once.
     #[error("the request was answered already")]
     Gone,
@@ -51,6 +54,7 @@ impl AtpFault {
             AtpFault::Full => Some(14),
             AtpFault::NoSuch => Some(15),
             AtpFault::EmptyAnswer => Some(16),
+            AtpFault::StillPending => Some(17),
             AtpFault::Gone => Some(18),
             AtpFault::NoMemory => None,
         }

@@ -1,6 +1,7 @@
 //! Transactions by AppleTalk's Transaction Protocol (ATP): frames, the side that asks and the side that answers.
 #![tactic(auto)]
 
+mod answering;
 mod entry;
 mod fault;
 mod frame;
@@ -9,6 +10,7 @@ mod numbers;
 mod packet;
 mod part;
 mod reception;
+mod records;
 mod requester;
 mod responder;
 mod sending;

@@ -1,9 +1,9 @@
-ghost use Rattle.std.specs.Prelude.{◌≡◌};
+ghost use Rattle.std.specs.Prelude.{◌≡◌, IfOk};
 ghost use Rattle.at_atp.specs.Lawfully.{AreWords};
 
 use crate::words::ranges_of_bytes;
 use at_ddp::Bytes;
-use std::alloc::{Allocator, Global};
+use std::alloc::{AllocError, Allocator, Global};
 use std::marker::Model;
 
 /// One packet of an answer: its four user bytes, and its data.
@@ -38,6 +38,16 @@ impl<A: Allocator> Packet<A> {
         ensures { result.now ≡ self.now.data_ }
     {
         self.data_.as_slice()
+    }
+
+    // The same packet in memory of its own.
+    pub(crate) fn copy(&self, alloc: A) -> Result<Packet<A>, AllocError>
+        ensures { IfOk result (λ p. p ≡ self.now) }
+    {
+        Ok(Packet {
+            user: self.user,
+            data_: Bytes::copy_of(alloc, self.data_())?,
+        })
     }
 
     /// What the types of its parts say of them. It does nothing.

@@ -16,4 +16,6 @@ pub enum Reception {
     New(Key),
     /// A request whose record stands came again; so many packets were sent again.
     Again(u8),
+    /// The answer that was kept for an exactly-once request came whole, and is dropped.
+    Released,
 }

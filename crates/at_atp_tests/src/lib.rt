@@ -2,7 +2,11 @@
 #![tactic(auto)]
 
 #[cfg(test)]
+mod answerer;
+#[cfg(test)]
 mod frames;
+#[cfg(test)]
+mod once;
 #[cfg(test)]
 mod requester;
 #[cfg(test)]

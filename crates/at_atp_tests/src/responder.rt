@@ -1,139 +1,12 @@
-//! The side of a transaction that answers.
-use crate::shared::{ATP, compare_sent, packet_at, request, response};
-use at_atp::{AtpFault, Frame, Key, Packet, Reception, Responder};
-use at_ddp::{Bytes, Datagrams, Outbox};
-use at_samples::{ASKER, SERVER};
+//! The side of a transaction that answers, at least once.
+use crate::answerer::{Answerer, answer, bares};
+use crate::shared::{compare_sent, packet_at, request, response};
+use at_atp::{AtpFault, Frame, Packet, Reception};
+use at_ddp::Datagrams;
 use refusing::Refusing;
 use std::alloc::{AllocError, Allocator, Global};
 use std::process::Abort;
 use std::test::Fail;
-
-fn key(tid: u16) -> Key {
-    Key { from: ASKER, tid }
-}
-
-// A side that answers, what it sent, and how many of its calls found no memory.
-#[derive(Drop)]
-struct Answerer<A: Allocator> {
-    responder: Responder<A>,
-    out: Outbox<A>,
-    refusals: u64,
-}
-
-impl<A: Allocator + Copy> Answerer<A> {
-    fn new(alloc: A) -> Answerer<A> {
-        Answerer {
-            responder: Responder::new(alloc),
-            out: Outbox::over(Datagrams::new(alloc), SERVER, ATP),
-            refusals: 0,
-        }
-    }
-
-    fn receive(&mut self, frame: &Frame<'_>) -> Result<Reception, AtpFault> {
-        self.responder.receive(ASKER, frame, &mut self.out)
-    }
-
-    // Takes a packet in, and takes it in again where there was no memory.
-    fn receive_again(&mut self, frame: &Frame<'_>) -> Result<Reception, AtpFault> {
-        match self.receive(frame) {
-            Err(AtpFault::NoMemory) => {
-                self.refusals = self.refusals.saturating_add(1);
-                self.receive(frame)
-            }
-            reception => reception,
-        }
-    }
-
-    fn respond(&mut self, tid: u16, packets: &[Packet<A>]) -> Result<u8, AtpFault> {
-        self.responder.respond(key(tid), packets, &mut self.out)
-    }
-
-    // Answers, and answers again where there was no memory.
-    fn respond_again(&mut self, tid: u16, packets: &[Packet<A>]) -> Result<u8, AtpFault> {
-        match self.respond(tid, packets) {
-            Err(AtpFault::NoMemory) => {
-                self.refusals = self.refusals.saturating_add(1);
-                self.respond(tid, packets)
-            }
-            count => count,
-        }
-    }
-
-    // Takes a request in that has this mask and this number, and compares what comes of it.
-    fn compare_request(
-        &mut self,
-        rt: &impl Abort,
-        mask: u8,
-        tid: u16,
-        want: Result<Reception, AtpFault>,
-    ) {
-        let reception = self.receive_again(&request(mask, tid));
-        assert_eq!(rt; reception, want, "of request {tid} for {mask:02X}");
-    }
-
-    // Takes a request in that is new.
-    fn compare_new(&mut self, rt: &impl Abort, mask: u8, tid: u16) {
-        self.compare_request(rt, mask, tid, Ok(Reception::New(key(tid))));
-    }
-
-    // Answers, and compares how many packets are sent.
-    fn compare_respond(
-        &mut self,
-        rt: &impl Abort,
-        tid: u16,
-        packets: &[Packet<A>],
-        want: Result<u8, AtpFault>,
-    ) {
-        let count = self.respond_again(tid, packets);
-        assert_eq!(rt;
-            count,
-            want,
-            "to request {tid} by {} packets",
-            packets.len()
-        );
-    }
-
-    fn compare_holds(&self, rt: &impl Abort, tid: u16, want: bool) {
-        assert_eq!(rt; self.responder.holds(key(tid)), want, "request {tid}");
-        let node = key(tid).from.node;
-        assert_eq!(rt;
-            self.responder.holds_number(node, tid),
-            want,
-            "number {tid}"
-        );
-        assert_eq!(rt;
-            self.responder.holds_number(node ^ 1, tid),
-            false,
-            "number {tid} of another node"
-        );
-    }
-
-    fn compare_undo(&mut self, rt: &impl Abort, tid: u16, want: Result<(), AtpFault>) {
-        assert_eq!(rt; self.responder.undo(key(tid)), want, "of request {tid}");
-    }
-
-    fn into_list(self) -> Datagrams<A> {
-        self.out.into_list()
-    }
-}
-
-// A packet without data, which needs no memory.
-fn bare<A: Allocator>(alloc: A, user: u8) -> Packet<A> {
-    Packet::new([user; 4], Bytes::from_vec(Vec::new(alloc)))
-}
-
-// An answer of so many packets without data, whose user bytes are their numbers from 1.
-fn bares<A: Allocator + Copy>(
-    global: Global,
-    alloc: A,
-    count: u8,
-) -> Result<Vec<Packet<A>>, AllocError> {
-    let mut packets = Vec::new(global);
-    for index in 0..count {
-        packets.push(bare(alloc, index.saturating_add(1)))?;
-    }
-    Ok(packets)
-}
 
 // Of two requests the second mask counts. The request is new again once it is answered, and then the last packet of the
 // answer is not asked for.
@@ -199,11 +72,6 @@ fn no_memory_for_an_answer_leaves_its_request_waiting(rt: HostRuntime) -> Result
     Ok(())
 }
 
-// An answer of one packet with these data.
-fn answer(alloc: Global, bytes: &[u8]) -> Result<[Packet; 1], AllocError> {
-    Ok([Packet::new([0; 4], Bytes::copy_of(alloc, bytes)?)])
-}
-
 // Answers that are refused for their packets.
 fn compare_refused(
     rt: &impl Abort,
@@ -255,24 +123,12 @@ fn a_request_that_is_undone_is_new_again(rt: HostRuntime) {
     assert!(rt; answerer.into_list().is_empty());
 }
 
-fn compare_ignored<A: Allocator + Copy>(
-    rt: &impl Abort,
-    answerer: &mut Answerer<A>,
-    frame: &Frame<'_>,
-) {
-    assert_eq!(rt;
-        answerer.receive(frame),
-        Ok(Reception::Ignored),
-        "of {frame:?}"
-    );
-}
-
 #[test]
 fn what_asks_for_nothing_is_ignored_by_the_side_that_answers(rt: HostRuntime) {
     let mut answerer = Answerer::new(rt.alloc());
-    compare_ignored(&rt, &mut answerer, &request(0, 9));
-    compare_ignored(&rt, &mut answerer, &Frame::Release { tid: 9 });
-    compare_ignored(&rt, &mut answerer, &response(0, true, true, b""));
+    answerer.compare_ignored(&rt, &request(0, 9));
+    answerer.compare_ignored(&rt, &Frame::Release { tid: 9 });
+    answerer.compare_ignored(&rt, &response(0, true, true, b""));
     assert!(rt; answerer.into_list().is_empty());
 }
 

@@ -1,7 +1,7 @@
 //! Room that is made for an answer before it is given.
-use crate::shared::{ATP, request};
-use at_atp::{AtpFault, Key, Packet, Reception, Responder};
-use at_ddp::{Bytes, Datagrams, Outbox};
+use crate::shared::{ATP, exactly_once, request};
+use at_atp::{AtpFault, Frame, Key, Packet, Reception, Responder};
+use at_ddp::{Bytes, Datagrams, Listed, Outbox};
 use at_samples::{ASKER, SERVER};
 use refusing::Refusing;
 use std::alloc::{AllocError, Allocator, Global};
@@ -30,9 +30,8 @@ impl<A: Allocator + Copy> Answerer<A> {
     }
 
     // Takes a request for eight packets in.
-    fn receive(&mut self) -> Result<Reception, AtpFault> {
-        let frame = request(0xFF, KEY.tid);
-        self.responder.receive(ASKER, &frame, &mut self.out)
+    fn receive(&mut self, frame: &Frame<'_>) -> Result<Reception, AtpFault> {
+        self.responder.receive(ASKER, frame, &mut self.out)
     }
 
     fn room(&mut self) -> Result<(), AtpFault> {
@@ -40,7 +39,10 @@ impl<A: Allocator + Copy> Answerer<A> {
     }
 
     fn compare_new(&mut self, rt: &impl Abort) {
-        assert_eq!(rt; self.receive(), Ok(Reception::New(KEY)));
+        assert_eq!(rt;
+            self.receive(&request(0xFF, KEY.tid)),
+            Ok(Reception::New(KEY))
+        );
     }
 
     fn compare_room(&mut self, rt: &impl Abort, want: Result<(), AtpFault>) {
@@ -52,11 +54,21 @@ impl<A: Allocator + Copy> Answerer<A> {
         let count = self.responder.respond(KEY, packets, &mut self.out);
         assert_eq!(rt; count.map(usize::from), Ok(packets.len()));
     }
+
+    fn compare_hand_over(&mut self, rt: &impl Abort, packets: Vec<Packet<A>, A>) {
+        let length = packets.len();
+        let packets = Listed::from_vec(packets);
+        let count = self.responder.hand_over(KEY, packets, &mut self.out);
+        assert_eq!(rt; count.map(usize::from), Ok(length));
+    }
 }
 
 // The largest answer: eight packets of 578 bytes.
-fn largest<A: Allocator + Copy>(global: Global, alloc: A) -> Result<Vec<Packet<A>>, AllocError> {
-    let mut packets = Vec::new(global);
+fn largest<A: Allocator + Copy, B: Allocator>(
+    memory: B,
+    alloc: A,
+) -> Result<Vec<Packet<A>, B>, AllocError> {
+    let mut packets = Vec::new(memory);
     for _place in 0..8u8 {
         let bytes = Bytes::copy_of(alloc, &[0x5A; 578])?;
         packets.push(Packet::new([0; 4], bytes))?;
@@ -78,22 +90,28 @@ fn room_is_made_only_while_a_request_waits(rt: HostRuntime) -> Result<(), Fail> 
     Ok(())
 }
 
+// Makes room where a request waits, and tells whether memory for it was refused. A second try is granted.
+fn make_room<A: Allocator + Copy>(rt: &impl Abort, answerer: &mut Answerer<A>) -> bool {
+    let first = answerer.room();
+    if first.is_err() {
+        assert_eq!(rt; first, Err(AtpFault::NoMemory));
+        answerer.compare_room(rt, Ok(()));
+    }
+    first.is_err()
+}
+
 // Makes room and answers with one request for memory refused, and tells whether it was the room's.
 fn is_room_refused<A: Allocator + Copy>(rt: &impl Abort, global: Global, alloc: A) -> bool {
     let mut answerer = Answerer::new(alloc);
     let Ok(packets) = largest(global, alloc) else {
         return false;
     };
-    if answerer.receive().is_err() {
+    if answerer.receive(&request(0xFF, KEY.tid)).is_err() {
         return false;
     }
-    let first = answerer.room();
-    if first.is_err() {
-        assert_eq!(rt; first, Err(AtpFault::NoMemory));
-        answerer.compare_room(rt, Ok(()));
-    }
+    let refused = make_room(rt, &mut answerer);
     answerer.compare_respond(rt, &packets);
-    first.is_err()
+    refused
 }
 
 #[test]
@@ -106,4 +124,32 @@ fn an_answer_takes_no_memory_once_there_is_room(rt: HostRuntime) {
         }
     }
     assert!(rt; refusals > 0);
+}
+
+// Makes room and hands over an answer that is kept, with one request for memory refused. It tells whether that came
+// before the answer was handed over.
+fn is_kept_without_memory<A: Allocator + Copy>(rt: &impl Abort, alloc: A) -> bool {
+    let mut answerer = Answerer::new(alloc);
+    let Ok(packets) = largest(alloc, alloc) else {
+        return true;
+    };
+    let frame = exactly_once(0xFF, KEY.tid);
+    if answerer.receive(&frame).is_err() {
+        return true;
+    }
+    let refused = make_room(rt, &mut answerer);
+    answerer.compare_hand_over(rt, packets);
+    refused
+}
+
+#[test]
+fn an_answer_that_is_handed_over_is_kept_without_memory(rt: HostRuntime) {
+    let mut refusals = 0u32;
+    for granted in 0..30u64 {
+        let heap = Refusing::new(rt.alloc(), granted);
+        let refused = is_kept_without_memory(&rt, &heap);
+        assert_eq!(rt; refused, heap.has_refused(), "after {granted} requests");
+        refusals = refusals.saturating_add(u32::from(refused));
+    }
+    assert!(rt; 2 < refusals && refusals < 30, "{refusals} refusals");
 }

@@ -47,6 +47,17 @@ pub(crate) fn request(mask: u8, tid: u16) -> Frame<'static>
     }
 }
 
+pub(crate) fn exactly_once(mask: u8, tid: u16) -> Frame<'static> {
+    Frame::Request {
+        mask,
+        xo: true,
+        timer: 0,
+        tid,
+        user: [0, 0, 0, 1],
+        data_: &[],
+    }
+}
+
 // A packet of the answer to transaction 0, whose last user byte is its place.
 pub(crate) fn response(place: u8, eom: bool, sts: bool, bytes: &[u8]) -> Frame<'_> {
     Frame::Response {

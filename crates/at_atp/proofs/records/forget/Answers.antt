@@ -1,7 +1,7 @@
 use Rattle.std.proofs.Common.{sym, ap, ◌∙◌, arith}
 use Rattle.at_atp.specs.Records.{is_key, Record, asked_mask}
 use Rattle.at_atp.proofs.TableLemmas.{found_by, none_by, without_none}
-use Rattle.at_atp.proofs.responder.forget.Goals as goal
+use Rattle.at_atp.proofs.records.forget.Goals as goal
 
 pub remove-requires : goal.remove-requires
 remove-requires g c = omega (arith, c.args.entries.now.ok.0, (found_by (is_key c.args.key) c.args.entries.now.items c.deref.result.now c.place_of.result c.in-Some.index c.deref.ensures.value c.place_of.ensures c.in-Some.is).within)

@@ -1,0 +1,131 @@
+ghost use Rattle.std.specs.Prelude.{◌≡◌, ℕ, false, [], find, IfOk, IfErr, IfSome, OnOk, OnErr, IsOk, None, Err};
+ghost use Rattle.at_ddp.specs.Outbox.{Sends, HasRoomFor};
+ghost use Rattle.at_atp.specs.Records.{fit, is_key, is_kept, record_fault, answer_fault, IsAnswered};
+
+use crate::entry::{Entry, send_answer};
+use crate::fault::AtpFault;
+use crate::frame::{MAX_DATA, PACKET_LEN};
+use crate::packet::Packet;
+use crate::reception::Key;
+use crate::records::{forget, is_kept, mask_of, record_fault, settle};
+use crate::responder::Responder;
+use at_ddp::{Listed, Outbox};
+use std::alloc::{AllocError, Allocator};
+
+/// How many packets an answer has at most.
+const PACKETS: usize = 8;
+
+impl<A: Allocator + Copy> Responder<A> {
+    /// Answers a request that waits: sends the packets that it asked for, and counts them. The answer to an exactly-once
+    /// request is copied and kept, and any other request is forgotten.
+    pub fn respond(
+        &mut self,
+        key: Key,
+        packets: &[Packet<A>],
+        out: &mut Outbox<A>,
+    ) -> Result<u8, AtpFault>
+        ensures ok { IfOk result (λ count. IsAnswered self.old self.new key packets.now count out.old out.new) }
+        ensures refuses { IfSome (answer_fault self.old key packets.now) (λ fault. result ≡ Err fault) }
+        ensures memory { answer_fault self.old key packets.now ≡ None → IfErr result (λ fault. fault ≡ AtpFault.NoMemory) }
+        ensures unchanged { OnErr result (self.new ≡ self.old) }
+        ensures nothing_sent { OnErr result (Sends out.old out.new []) }
+
+        // No memory is refused where there is room for eight full packets and the answer is not kept.
+        ensures room { HasRoomFor out.old 8 586 → answer_fault self.old key packets.now ≡ None → is_kept (find (is_key key) self.old) ≡ false → IsOk result }
+    {
+        if let Some(fault) = answer_fault(&self.entries, key, packets) {
+            return Err(fault);
+        }
+        if is_kept(&self.entries, key) {
+            return self.hand_over(key, copy_of(self.alloc, packets)?, out);
+        }
+        out.room(packets.len() as u32, PACKET_LEN)?;
+        let mask = forget(&mut self.entries, key);
+        Ok(send_answer(out, key, 0, mask, packets))
+    }
+
+    /// The same with an answer that it takes over, so that no memory is needed to keep it.
+    pub fn hand_over(
+        &mut self,
+        key: Key,
+        packets: Listed<Packet<A>, A>,
+        out: &mut Outbox<A>,
+    ) -> Result<u8, AtpFault>
+        ensures ok { IfOk result (λ count. IsAnswered self.old self.new key packets count out.old out.new) }
+        ensures refuses { IfSome (answer_fault self.old key packets) (λ fault. result ≡ Err fault) }
+        ensures memory { answer_fault self.old key packets ≡ None → IfErr result (λ fault. fault ≡ AtpFault.NoMemory) }
+        ensures unchanged { OnErr result (self.new ≡ self.old) }
+        ensures nothing_sent { OnErr result (Sends out.old out.new []) }
+
+        // No memory is refused where there is room for eight full packets.
+        ensures room { HasRoomFor out.old 8 586 → answer_fault self.old key packets ≡ None → IsOk result }
+    {
+        let answer = packets.as_slice();
+        if let Some(fault) = answer_fault(&self.entries, key, answer) {
+            return Err(fault);
+        }
+        out.room(answer.len() as u32, PACKET_LEN)?;
+        let mask = mask_of(&self.entries, key);
+        let count = send_answer(out, key, 0, mask, answer);
+        settle(&mut self.entries, key, packets);
+        Ok(count)
+    }
+
+    /// Makes room for the largest answer to a request that waits. An answer to it that is handed over then takes no
+    /// memory.
+    pub fn room(&self, key: Key, out: &mut Outbox<A>) -> Result<(), AtpFault>
+        ensures ok { OnOk result (HasRoomFor out.new 8 586) }
+        ensures refuses { IfSome (record_fault (find (is_key key) self.now)) (λ fault. result ≡ Err fault) }
+        ensures memory { record_fault (find (is_key key) self.now) ≡ None → IfErr result (λ fault. fault ≡ AtpFault.NoMemory) }
+        ensures succeeds { record_fault (find (is_key key) self.now) ≡ None → HasRoomFor out.old 8 586 → IsOk result }
+        ensures nothing_sent { Sends out.old out.new [] }
+        ensures kept { (n size : ℕ) → HasRoomFor out.old n size → HasRoomFor out.new n size }
+    {
+        if let Some(fault) = record_fault(&self.entries, key) {
+            return Err(fault);
+        }
+        out.room(PACKETS as u32, PACKET_LEN)?;
+        Ok(())
+    }
+}
+
+// Why this answer to a request is refused.
+fn answer_fault<A: Allocator>(
+    entries: &[Entry<A>],
+    key: Key,
+    packets: &[Packet<A>],
+) -> Option<AtpFault>
+    ensures { result ≡ answer_fault entries.now key packets.now }
+{
+    match packets {
+        [] => Some(AtpFault::EmptyAnswer),
+        [_, ..] => {
+            if packets.len() <= PACKETS && fit(packets) {
+                record_fault(entries, key)
+            } else {
+                Some(AtpFault::AtpTooLong)
+            }
+        }
+    }
+}
+
+// Whether each packet's data fits.
+fn fit<A: Allocator>(packets: &[Packet<A>]) -> bool
+    ensures { result ≡ fit packets.now }
+{
+    packets.iter().all(|p| p.data_().len() <= MAX_DATA)
+}
+
+// The same packets in memory of their own.
+fn copy_of<A: Allocator + Copy>(
+    alloc: A,
+    packets: &[Packet<A>],
+) -> Result<Listed<Packet<A>, A>, AllocError>
+    ensures { IfOk result (λ copies. copies ≡ packets.now) }
+{
+    let mut copies = Vec::with_capacity(alloc, packets.len())?;
+    for packet in packets {
+        copies.push(packet.copy(alloc)?)?;
+    }
+    Ok(Listed::from_vec(copies))
+}
