@@ -21,15 +21,18 @@ use Rattle.at_atp.specs.Frames.{Content, spelled_all}
 use Rattle.at_atp.specs.declared.frame.Frame.{Frame}
 use Rattle.at_atp.specs.declared.frame.Frame.TheVariants as frames
 use Rattle.at_atp.specs.Packets.{Packet}
+use Rattle.at_atp.specs.Records.{Record, taken}
 use Rattle.at_atp.specs.declared.reception.Key.{Key}
+use Rattle.at_atp.specs.declared.reception.Reception.{Reception}
+use Rattle.at_atp.specs.declared.reception.Reception.TheVariants as reception
 use Rattle.at_atp.specs.Requests.{Heard, heard, is_finished}
 use Rattle.at_atp.specs.declared.step.Step.{Step}
 use Rattle.at_atp.specs.declared.step.Step.TheVariants as step
 use Rattle.at_node.specs.Hearing.{Serves, is_asked, Tells, HearsAt, HearsAtpFault, AtAsking, AtSocket, Asker, Nobody, Service, socket_of, router_socket, is_mine}
-use Rattle.at_node.specs.Steps.{refused_as, asking, atp_kind, tid_of, packet_in, is_reading, after_heard, reported, reported_other, reading_after, zone_asked}
+use Rattle.at_node.specs.Steps.{refused_as, asking, atp_kind, tid_of, packet_in, is_reading, after_heard, reported, reported_other, reading_after, is_release, released_report, service_released, serving, zone_asked, zone_released, zones_at}
 use Rattle.at_node.specs.declared.service.Reply.{Reply}
 use Rattle.at_node.specs.declared.event.Report.{Report}
-use Rattle.at_node.specs.declared.event.Report.TheVariants.{Begun, Answered, Served, Asked, Zones, ZoneFault, ZonesFailed, Kept, Response, Failed, Again, Ignored, Refused, NoMemory}
+use Rattle.at_node.specs.declared.event.Report.TheVariants.{Begun, Answered, Done, Released, Served, Asked, Zones, ZoneFault, ZonesFailed, Kept, Response, Failed, Again, Ignored, Refused, NoMemory}
 use Rattle.at_node.specs.Nodes.{NodeState, Outcome, idle, posted, sent_by, Exactly, IsStep, Comes}
 
 -- each fault that stands has a number
@@ -49,6 +52,7 @@ atp_number atps.AtpTooLong input h = (13, refl)
 atp_number atps.Full input h = (14, refl)
 atp_number atps.NoSuch input h = (15, refl)
 atp_number atps.EmptyAnswer input h = (16, refl)
+atp_number atps.StillPending input h = (17, refl)
 atp_number atps.Gone input h = (18, refl)
 atp_number atps.NoMemory input h = absurd h.stands
 
@@ -76,6 +80,8 @@ comes_refused P n before r number k is h p =
 pub not_served : {A S : Type 0} (serves : S → Key → List ℕ → List ℕ → Reply A → S → Type 0) (r : Report A) (said : Reply A) (s : S) → is_asked r ≡ false → Serves serves r said s s
 not_served serves (Begun tid) said s h = refl
 not_served serves (Answered n) said s h = refl
+not_served serves Done said s h = refl
+not_served serves Released said s h = refl
 not_served serves (Served n) said s h = refl
 not_served serves (Asked key user bytes) said s h = absurd (true≢false h)
 not_served serves (Zones zs) said s h = refl
@@ -97,6 +103,8 @@ pub comes_wider : {A : Type 0} (P Q : Outcome A → Type 0) (old : NodeState) (b
 comes_wider P Q old before NoMemory new after f h = h
 comes_wider P Q old before (Begun tid) new after f h = (h.0, f h.0 h.1, h.2)
 comes_wider P Q old before (Answered n) new after f h = (h.0, f h.0 h.1, h.2)
+comes_wider P Q old before Done new after f h = (h.0, f h.0 h.1, h.2)
+comes_wider P Q old before Released new after f h = (h.0, f h.0 h.1, h.2)
 comes_wider P Q old before (Asked key user bytes) new after f h = (h.0, f h.0 h.1, h.2)
 comes_wider P Q old before ZonesFailed new after f h = (h.0, f h.0 h.1, h.2)
 comes_wider P Q old before (Failed tid) new after f h = (h.0, f h.0 h.1, h.2)
@@ -114,6 +122,8 @@ pub comes_with : {A : Type 0} (P : Outcome A → Type 0) (o : Outcome A) (old : 
 comes_with P o old before NoMemory new after p e some = absurd (some refl)
 comes_with P o old before (Begun tid) new after p e some = (o, p, e)
 comes_with P o old before (Answered n) new after p e some = (o, p, e)
+comes_with P o old before Done new after p e some = (o, p, e)
+comes_with P o old before Released new after p e some = (o, p, e)
 comes_with P o old before (Asked key user bytes) new after p e some = (o, p, e)
 comes_with P o old before ZonesFailed new after p e some = (o, p, e)
 comes_with P o old before (Failed tid) new after p e some = (o, p, e)
@@ -232,19 +242,63 @@ pub router_packet : {A : Type 0} (said : Reply A) (n : NodeState) (d : Datagram)
 router_packet said n d None f h spelled o at = absurd (true≢false h)
 router_packet said n d (Some table) f h spelled o at = inl (record { packet = f; spelled = spelled; outcome = at })
 
-pub no_request : (A : Type 0) (said : Reply A) (n : NodeState) (from : Address) (table : Option (List (List ℕ))) (f : Content) → ((mask : ℕ) (xo : Bool) (timer tid : ℕ) (user bytes : List ℕ) → f ≡ Frames.Request mask xo timer tid user bytes → ⊥) →
-    AtSocket {A = A} said n from (router_socket table) f (idle n Ignored)
-no_request A said n from None f apart = refl
-no_request A said n from (Some table) (Frames.Request mask xo timer tid user bytes) apart = absurd (apart mask xo timer tid user bytes refl)
-no_request A said n from (Some table) (Frames.Response place eom sts tid user bytes) apart = refl
-no_request A said n from (Some table) (Frames.Release tid) apart = refl
+pub not_release : (f : Frame) → ((tid : ℕ) → f ≡ frames.Release tid → ⊥) → is_release (Frames.content f) ≡ false
+not_release (frames.Request mask xo timer tid user bytes) apart = refl
+not_release (frames.Response place eom sts tid user bytes) apart = refl
+not_release (frames.Release tid) apart = absurd (apart tid refl)
 
--- anything but a request is nothing to the service
-pub no_question : (A : Type 0) (said : Reply A) (n : NodeState) (from : Address) (f : Content) → ((mask : ℕ) (xo : Bool) (timer tid : ℕ) (user bytes : List ℕ) → f ≡ Frames.Request mask xo timer tid user bytes → ⊥) →
+pub no_request : (A : Type 0) (said : Reply A) (n : NodeState) (from : Address) (table : Option (List (List ℕ))) (f : Content) → is_release f ≡ false → ((mask : ℕ) (xo : Bool) (timer tid : ℕ) (user bytes : List ℕ) → f ≡ Frames.Request mask xo timer tid user bytes → ⊥) →
+    AtSocket {A = A} said n from (router_socket table) f (idle n Ignored)
+no_request A said n from None f other apart = refl
+no_request A said n from (Some table) (Frames.Request mask xo timer tid user bytes) other apart = absurd (apart mask xo timer tid user bytes refl)
+no_request A said n from (Some table) (Frames.Response place eom sts tid user bytes) other apart = refl
+no_request A said n from (Some table) (Frames.Release tid) other apart = absurd (true≢false other)
+
+-- a response is nothing to the service
+pub no_question : (A : Type 0) (said : Reply A) (n : NodeState) (from : Address) (f : Content) → is_release f ≡ false → ((mask : ℕ) (xo : Bool) (timer tid : ℕ) (user bytes : List ℕ) → f ≡ Frames.Request mask xo timer tid user bytes → ⊥) →
     AtSocket {A = A} said n from Service f (idle n Ignored)
-no_question A said n from (Frames.Request mask xo timer tid user bytes) apart = absurd (apart mask xo timer tid user bytes refl)
-no_question A said n from (Frames.Response place eom sts tid user bytes) apart = refl
-no_question A said n from (Frames.Release tid) apart = refl
+no_question A said n from (Frames.Request mask xo timer tid user bytes) other apart = absurd (apart mask xo timer tid user bytes refl)
+no_question A said n from (Frames.Response place eom sts tid user bytes) other apart = refl
+no_question A said n from (Frames.Release tid) other apart = absurd (true≢false other)
+
+-- what is reported of a release is no want of memory
+pub release_some : {A : Type 0} (r : Reception) → ◌≡◌ {A = Report A} (released_report r) NoMemory → ⊥
+release_some reception.Ignored h = absurd (cc)
+release_some (reception.New key) h = absurd (cc)
+release_some (reception.Again count) h = absurd (cc)
+release_some reception.Released h = absurd (cc)
+
+-- a release came for the service
+pub service_release : (A : Type 0) (said : Reply A) (n : NodeState) (from : Address) (f : Content) (before after : List Posted) (old new : List Record) (own : Address) (r : Report A) →
+    is_release f ≡ true → old ≡ n.service → own ≡ serving n.net n.number → r ≡ released_report (taken old from f).reception → new ≡ (taken old from f).after →
+    after ≡ before ++ map posted (sent_by own atp_kind (spelled_all (taken old from f).sent)) → Comes (AtSocket said n from Service f) n before r (record n { service = new }) after
+service_release A said n from (Frames.Request mask xo timer tid user bytes) before after old new own r this is at reports becomes sends = absurd (false≢true this)
+service_release A said n from (Frames.Response place eom sts tid user bytes) before after old new own r this is at reports becomes sends = absurd (false≢true this)
+service_release A said n from (Frames.Release tid) before after old new own r this is at reports becomes sends =
+    let f = Frames.Release tid in
+    comes_with (AtSocket said n from Service f) (service_released n (taken n.service from f)) n before r (record n { service = new }) after refl
+    (
+      reports ∙ ap (λ (rs : List Record). released_report (taken rs from f).reception) is,
+      (λ i. record n { service = (becomes ∙ ap (λ (rs : List Record). (taken rs from f).after) is) i }),
+      sends ∙ (λ i. before ++ map posted (sent_by (at i) atp_kind (spelled_all (taken (is i) from f).sent))),
+    )
+    (λ e. release_some (taken old from f).reception (sym reports ∙ e))
+
+-- and for the router's zone socket
+pub zone_release : (A : Type 0) (said : Reply A) (n : NodeState) (from : Address) (f : Content) (table : Option (List (List ℕ))) (t : List (List ℕ)) (before after : List Posted) (old new : List Record) (own : Address) (r : Report A) →
+    is_release f ≡ true → table ≡ Some t → old ≡ n.served → own ≡ zones_at n.net n.number → r ≡ released_report (taken old from f).reception → new ≡ (taken old from f).after →
+    after ≡ before ++ map posted (sent_by own atp_kind (spelled_all (taken old from f).sent)) → Comes (AtSocket said n from (router_socket table) f) n before r (record n { served = new }) after
+zone_release A said n from (Frames.Request mask xo timer tid user bytes) table t before after old new own r this some is at reports becomes sends = absurd (false≢true this)
+zone_release A said n from (Frames.Response place eom sts tid user bytes) table t before after old new own r this some is at reports becomes sends = absurd (false≢true this)
+zone_release A said n from (Frames.Release tid) table t before after old new own r this some is at reports becomes sends =
+    let f = Frames.Release tid in
+    comes_with (AtSocket said n from (router_socket table) f) (zone_released n (taken n.served from f)) n before r (record n { served = new }) after (rw some refl)
+    (
+      reports ∙ ap (λ (rs : List Record). released_report (taken rs from f).reception) is,
+      (λ i. record n { served = (becomes ∙ ap (λ (rs : List Record). (taken rs from f).after) is) i }),
+      sends ∙ (λ i. before ++ map posted (sent_by (at i) atp_kind (spelled_all (taken (is i) from f).sent))),
+    )
+    (λ e. release_some (taken old from f).reception (sym reports ∙ e))
 
 pub bad_request : (A : Type 0) (said : Reply A) (n : NodeState) (from : Address) (table : Option (List (List ℕ))) (mask : ℕ) (xo : Bool) (timer tid : ℕ) (user bytes : List ℕ) → ((start : ℕ) → ¬ RequestSpells user start) →
     AtSocket {A = A} said n from (router_socket table) (Frames.Request mask xo timer tid user bytes) (idle n Ignored)
@@ -259,6 +313,8 @@ pub step_comes : {A : Type 0} (P : Outcome A → Type 0) (o : Outcome A) (old : 
 step_comes P o old before NoMemory new after p e = e
 step_comes P o old before (Begun tid) new after p e = (o, p, e)
 step_comes P o old before (Answered n) new after p e = (o, p, e)
+step_comes P o old before Done new after p e = (o, p, e)
+step_comes P o old before Released new after p e = (o, p, e)
 step_comes P o old before (Asked key user bytes) new after p e = (o, p, e)
 step_comes P o old before ZonesFailed new after p e = (o, p, e)
 step_comes P o old before (Failed tid) new after p e = (o, p, e)

@@ -8,7 +8,7 @@ use Rattle.at_atp.specs.Frames.{Content, Request, Response, Release, Spells}
 use Rattle.at_atp.specs.Fault as atp
 use Rattle.at_atp.specs.Packets.{Packet}
 use Rattle.at_atp.specs.Requests.{Heard, heard}
-use Rattle.at_atp.specs.Records.{fit}
+use Rattle.at_atp.specs.Records.{fit, taken}
 use Rattle.at_atp.specs.declared.fault.AtpFault.{AtpFault}
 use Rattle.at_atp.specs.declared.reception.Key.{Key}
 use Rattle.at_atp.specs.declared.reception.Reception.{Reception}
@@ -24,7 +24,7 @@ use Rattle.at_node.specs.declared.service.Reply.TheVariants as reply
 use Rattle.at_node.specs.declared.event.Report.{Report}
 use Rattle.at_node.specs.declared.event.Report.TheVariants as report
 use Rattle.at_node.specs.Nodes.{NodeState, Outcome, idle}
-use Rattle.at_node.specs.Steps.{atp_kind, is_reading, packet_in, tid_of, after_heard, zone_asked, service_asked}
+use Rattle.at_node.specs.Steps.{atp_kind, is_reading, packet_in, tid_of, after_heard, zone_asked, zone_released, service_asked, service_released}
 
 -- what the page that ended a reading tells: for now a reading takes one page, so a page that is not the last is refused
 -- as a list too long
@@ -65,18 +65,18 @@ pub record AsksForPage {A : Type 0} (n : NodeState) (from : Address) (f : Conten
   pub asks : RequestSpells user start
   pub outcome : o ≡ zone_asked n from f table start
 
--- a packet came for the router's zone socket: anything but a zone request is ignored
+-- a packet came for the router's zone socket: any request but one for a page is ignored, and so is a response
 abbrev pub AtZones : {A : Type 0} → NodeState → Address → List (List ℕ) → Content → Outcome A → Type 0
 AtZones n from table (Request mask xo timer tid user bytes) o =
     AsksForPage n from (Request mask xo timer tid user bytes) user table o ⊎ (((start : ℕ) → ¬ RequestSpells user start) × (o ≡ idle n report.Ignored))
 AtZones n from table (Response place eom sts tid user bytes) o = o ≡ idle n report.Ignored
-AtZones n from table (Release tid) o = o ≡ idle n report.Ignored
+AtZones n from table (Release tid) o = o ≡ zone_released n (taken n.served from (Release tid))
 
--- a packet came for the service's socket: anything but a request is ignored
+-- a packet came for the service's socket: a response is ignored
 abbrev pub AtService : {A : Type 0} → Reply A → NodeState → Address → Content → Outcome A → Type 0
 AtService said n from (Request mask xo timer tid user bytes) o = o ≡ service_asked n from (Request mask xo timer tid user bytes) user bytes said
 AtService said n from (Response place eom sts tid user bytes) o = o ≡ idle n report.Ignored
-AtService said n from (Release tid) o = o ≡ idle n report.Ignored
+AtService said n from (Release tid) o = o ≡ service_released n (taken n.service from (Release tid))
 
 -- which socket of a node a datagram is for
 pub data Socket : Type 0 where

@@ -1,10 +1,10 @@
--- What each call and each packet does to a node (Inside AppleTalk, ZIP, "GetZoneList", over ATP).
+-- What each call, timer and packet does to a node (Inside AppleTalk, ZIP, "GetZoneList", over ATP).
 use Rattle.std.specs.Prelude.{ℕ, ◌==◌, nat_lt, if◌then◌else◌, Bool, true, false, List, [], ◌∷◌, length, find, Option, Some, None}
 use Rattle.at_ddp.specs.declared.address.Address.{Address}
 use Rattle.at_atp.specs.Packets.{Packet}
 use Rattle.at_atp.specs.Frames.{Content, Request, Response, Release, spelled, spelled_all}
 use Rattle.at_atp.specs.Requests.{Transaction, Requests, Heard, Retried, next_number, beginning, begun, request_by, is_finished, retried}
-use Rattle.at_atp.specs.Records.{Record, Taken, is_key, taken, finds_no_place, asked_for, answer_fault}
+use Rattle.at_atp.specs.Records.{Record, Taken, is_key, taken, finds_no_place, asked_for, answer_fault, after_answer, expiry_fault}
 use Rattle.at_atp.specs.Fault.{number_of}
 use Rattle.at_atp.specs.declared.fault.AtpFault.{AtpFault}
 use Rattle.at_atp.specs.Tables.{without_first}
@@ -65,15 +65,15 @@ zones_called n None reading = idle n (report.Refused 60)
 zones_called n (Some router) (Some tid) = idle n (report.Refused 63)
 zones_called n (Some router) None = reading_begins n router (next_number n.requester)
 
--- the node's user asks a socket of this network for so many packets, at least once
-abbrev pub asked_as : {A : Type 0} → NodeState → Address → List ℕ → List ℕ → ℕ → ℕ → Option ℕ → Outcome A
-asked_as n to user bytes wanted retries None = idle n (report.Refused 14)
-asked_as n to user bytes wanted retries (Some tid) = asks n n.reading (beginning tid to user bytes wanted false retries)
+-- the node's user asks a socket of this network for so many packets, exactly once or at least once
+abbrev pub asked_as : {A : Type 0} → NodeState → Address → List ℕ → List ℕ → ℕ → Bool → ℕ → Option ℕ → Outcome A
+asked_as n to user bytes wanted xo retries None = idle n (report.Refused 14)
+asked_as n to user bytes wanted xo retries (Some tid) = asks n n.reading (beginning tid to user bytes wanted xo retries)
 
-abbrev pub ask_called : {A : Type 0} → NodeState → Address → List ℕ → List ℕ → ℕ → ℕ → Outcome A
-ask_called n to user bytes wanted retries =
+abbrev pub ask_called : {A : Type 0} → NodeState → Address → List ℕ → List ℕ → ℕ → Bool → ℕ → Outcome A
+ask_called n to user bytes wanted xo retries =
     if nat_lt 578 (length bytes) then idle n (report.Refused 13)
-    else asked_as n to user bytes wanted retries (next_number n.requester)
+    else asked_as n to user bytes wanted xo retries (next_number n.requester)
 
 -- what a refusal of the transaction protocol is reported as
 abbrev pub refused_as : {A : Type 0} → Option ℕ → Report A
@@ -85,7 +85,7 @@ abbrev pub answered_with : {A : Type 0} → NodeState → Key → List Packet �
 answered_with n key packets (Some fault) = idle n (refused_as (number_of fault))
 answered_with n key packets None = record {
   report = report.Answered (length (asked_for (find (is_key key) n.service) key packets));
-  node = record n { service = without_first (is_key key) n.service };
+  node = record n { service = after_answer n.service key packets };
   out = sent_by (serving n.net n.number) atp_kind (spelled_all (asked_for (find (is_key key) n.service) key packets));
 }
 
@@ -98,7 +98,7 @@ at_socket n node socket = record { net = n.net; node = node; socket = socket }
 
 abbrev pub called : {A : Type 0} → NodeState → Call A → Outcome A
 called n Zones = zones_called n n.router n.reading
-called n (Ask node socket user bytes wanted retries) = ask_called n (at_socket n node socket) user bytes wanted retries
+called n (Ask node socket user bytes wanted xo retries) = ask_called n (at_socket n node socket) user bytes wanted xo retries
 called n (Answer node socket tid packets) = answer_called n (record { from = at_socket n node socket; tid = tid }) packets
 
 -- ---- timers
@@ -121,8 +121,24 @@ abbrev pub retry_fired : {A : Type 0} → NodeState → ℕ → Option Retried �
 retry_fired n tid None = idle n (report.Refused 15)
 retry_fired n tid (Some r) = after_retry n tid r r.step
 
+-- the records of one of the node's sockets that answer
+abbrev pub records_at : NodeState → ℕ → List Record
+records_at n socket = if socket == 129 then n.service else (if socket == 6 then n.served else [])
+
+abbrev pub with_records_at : NodeState → ℕ → List Record → NodeState
+with_records_at n socket rs = if socket == 129 then record n { service = rs } else (if socket == 6 then record n { served = rs } else n)
+
+-- the record of a request at one of the node's sockets is taken away, if it was answered
+abbrev pub expired : {A : Type 0} → NodeState → ℕ → Key → Option AtpFault → Outcome A
+expired n socket key (Some fault) = idle n (refused_as (number_of fault))
+expired n socket key None = record { report = report.Done; node = with_records_at n socket (without_first (is_key key) (records_at n socket)); out = [] }
+
+abbrev pub release_fired : {A : Type 0} → NodeState → ℕ → Key → Outcome A
+release_fired n socket key = expired n socket key (expiry_fault (find (is_key key) (records_at n socket)))
+
 abbrev pub timed : {A : Type 0} → NodeState → Timer → Outcome A
 timed n (timer.Retry tid) = retry_fired n tid (retried n.requester tid)
+timed n (timer.Release own node socket tid) = release_fired n own (record { from = at_socket n node socket; tid = tid })
 
 -- ---- packets for the socket that asks
 
@@ -159,6 +175,17 @@ reported_other tid step.Kept = report.Kept
 reported_other tid step.AskAgain = report.Again
 reported_other tid (step.Finished packets) = report.Response tid packets
 
+-- ---- packets that say that an answer came whole
+
+abbrev pub is_release : Content → Bool
+is_release (Release tid) = true
+is_release (Request mask xo timer tid user bytes) = false
+is_release (Response place eom sts tid user bytes) = false
+
+abbrev pub released_report : {A : Type 0} → Reception → Report A
+released_report reception.Released = report.Released
+released_report other = report.Ignored
+
 -- ---- zone requests
 
 -- a page as the one packet of an answer
@@ -169,7 +196,7 @@ page_packet table start = record { user = page_user (page_of table start); data_
 abbrev pub zone_served : {A : Type 0} → NodeState → Taken → Key → Packet → Outcome A
 zone_served n t key packet = record {
   report = report.Served (length (asked_for (find (is_key key) t.after) key (packet ∷ [])));
-  node = record n { served = without_first (is_key key) t.after };
+  node = record n { served = after_answer t.after key (packet ∷ []) };
   out = sent_by (zones_at n.net n.number) atp_kind (spelled_all (asked_for (find (is_key key) t.after) key (packet ∷ [])));
 }
 
@@ -179,6 +206,7 @@ zone_taken n t r = record { report = r; node = record n { served = t.after }; ou
 abbrev pub at_zones : {A : Type 0} → NodeState → Taken → Packet → Reception → Outcome A
 at_zones n t packet reception.Ignored = zone_taken n t report.Ignored
 at_zones n t packet (reception.Again count) = zone_taken n t report.Again
+at_zones n t packet reception.Released = zone_taken n t report.Released
 at_zones n t packet (reception.New key) = zone_served n t key packet
 
 -- a request for the page from a place on came
@@ -186,6 +214,10 @@ abbrev pub zone_asked : {A : Type 0} → NodeState → Address → Content → L
 zone_asked n from frame table start =
     if finds_no_place n.served from frame then idle n (report.Refused 14)
     else at_zones n (taken n.served from frame) (page_packet table start) (taken n.served from frame).reception
+
+-- it came for the router's zone socket that an answer came whole
+abbrev pub zone_released : {A : Type 0} → NodeState → Taken → Outcome A
+zone_released n t = zone_taken n t (released_report t.reception)
 
 -- ---- requests for the service
 
@@ -195,7 +227,7 @@ service_taken n t r = record { report = r; node = record n { service = t.after }
 -- the records once the service replied to a request, and what is sent then
 abbrev pub after_reply : {A : Type 0} → List Record → Key → Reply A → List Record
 after_reply rs key reply.Later = rs
-after_reply rs key (reply.Now packets) = without_first (is_key key) rs
+after_reply rs key (reply.Now packets) = after_answer rs key packets
 
 abbrev pub sent_by_reply : {A : Type 0} → List Record → Key → Reply A → List (Address × Content)
 sent_by_reply rs key reply.Later = []
@@ -212,7 +244,12 @@ handed_up n t key user bytes r = record {
 abbrev pub at_service : {A : Type 0} → NodeState → Taken → List ℕ → List ℕ → Reply A → Reception → Outcome A
 at_service n t user bytes said reception.Ignored = service_taken n t report.Ignored
 at_service n t user bytes said (reception.Again count) = service_taken n t report.Again
+at_service n t user bytes said reception.Released = service_taken n t report.Released
 at_service n t user bytes said (reception.New key) = handed_up n t key user bytes said
+
+-- it came for the service that an answer came whole
+abbrev pub service_released : {A : Type 0} → NodeState → Taken → Outcome A
+service_released n t = service_taken n t (released_report t.reception)
 
 -- a request came for the service, which would say this to a new one
 abbrev pub service_asked : {A : Type 0} → NodeState → Address → Content → List ℕ → List ℕ → Reply A → Outcome A

@@ -17,13 +17,14 @@ use std::mem;
 /// The protocol of ATP's datagrams.
 pub(crate) const ATP: u8 = 3;
 
-// What a transaction is to ask, at least once.
+// What a transaction is to ask.
 #[derive(Clone, Copy)]
 pub(crate) struct Question<'a> {
     pub to: Address,
     pub user: [u8; 4],
     pub bytes: &'a [u8],
     pub wanted: u8,
+    pub exactly_once: bool,
     pub retries: u8,
 }
 
@@ -33,6 +34,7 @@ pub(crate) fn read_from(router: Address) -> Question<'static>
     ensures user { result.user ≡ request_user 1 }
     ensures bytes { result.bytes.now ≡ [] }
     ensures wanted { result.wanted ≡ 1 }
+    ensures at_least_once { result.exactly_once ≡ false }
     ensures retries { result.retries ≡ 3 }
 {
     Question {
@@ -40,6 +42,7 @@ pub(crate) fn read_from(router: Address) -> Question<'static>
         user: request_user(1),
         bytes: &[],
         wanted: 1,
+        exactly_once: false,
         retries: 3,
     }
 }
@@ -55,8 +58,8 @@ pub(crate) fn begin<A: Allocator + Copy>(
     requires some { 1 ≤ question.now.wanted }
     requires few { question.now.wanted ≤ 8 }
     ensures drawn { IfOk result (λ tid. next_number requester.old ≡ Some tid) }
-    ensures state { IfOk result (λ tid. requester.new ≡ begun requester.old (beginning tid question.now.to question.now.user question.now.bytes.now question.now.wanted false question.now.retries)) }
-    ensures sent { IfOk result (λ tid. out.new.items ≡ out.old.items ++ map posted (sent_by own atp_kind ((question.now.to, spelled (request_by (beginning tid question.now.to question.now.user question.now.bytes.now question.now.wanted false question.now.retries))) ∷ []))) }
+    ensures state { IfOk result (λ tid. requester.new ≡ begun requester.old (beginning tid question.now.to question.now.user question.now.bytes.now question.now.wanted question.now.exactly_once question.now.retries)) }
+    ensures sent { IfOk result (λ tid. out.new.items ≡ out.old.items ++ map posted (sent_by own atp_kind ((question.now.to, spelled (request_by (beginning tid question.now.to question.now.user question.now.bytes.now question.now.wanted question.now.exactly_once question.now.retries))) ∷ []))) }
     ensures fits { IfOk result (λ tid. length question.now.bytes.now ≤ 578) }
     ensures too_long { IsErrOf result AtpFault.AtpTooLong ↔ (578 < length question.now.bytes.now) }
     ensures full { IsErrOf result AtpFault.Full ↔ ((length question.now.bytes.now ≤ 578) × (next_number requester.old ≡ None)) }
@@ -68,10 +71,19 @@ pub(crate) fn begin<A: Allocator + Copy>(
         user,
         bytes,
         wanted,
+        exactly_once,
         retries,
     } = *question;
     let mut outbox = Outbox::over(mem::replace(out, Datagrams::new(alloc)), own, ATP);
-    let begun = requester.begin(to, user, bytes, wanted, false, retries, &mut outbox);
+    let begun = requester.begin(
+        to,
+        user,
+        bytes,
+        wanted,
+        exactly_once,
+        retries,
+        &mut outbox,
+    );
     *out = outbox.into_list();
     begun
 }

@@ -23,6 +23,7 @@ impl<A: Allocator + Copy> Node<A> {
                 user,
                 data_,
                 wanted,
+                exactly_once,
                 retries,
             } => {
                 let question = Question {
@@ -30,6 +31,7 @@ impl<A: Allocator + Copy> Node<A> {
                     user: *user,
                     bytes: data_.as_slice(),
                     wanted: wanted.get(),
+                    exactly_once: *exactly_once,
                     retries: *retries,
                 };
                 self.ask(&question, out)
@@ -47,7 +49,7 @@ impl<A: Allocator + Copy> Node<A> {
     }
 
     // A socket of this node's network.
-    fn there(&self, node: u8, socket: u8) -> Address
+    pub(crate) fn there(&self, node: u8, socket: u8) -> Address
         ensures { result ≡ at_socket self.now node socket }
     {
         Address {
@@ -81,7 +83,7 @@ impl<A: Allocator + Copy> Node<A> {
     fn ask(&mut self, question: &Question<'_>, out: &mut Datagrams<A>) -> Report<A>
         requires some { 1 ≤ question.now.wanted }
         requires few { question.now.wanted ≤ 8 }
-        ensures { IsStep (ask_called self.old question.now.to question.now.user question.now.bytes.now question.now.wanted question.now.retries) self.old out.old.items result self.new out.new.items }
+        ensures { IsStep (ask_called self.old question.now.to question.now.user question.now.bytes.now question.now.wanted question.now.exactly_once question.now.retries) self.old out.old.items result self.new out.new.items }
     {
         let own = self.at(ASKING);
         match begin(self.alloc, &mut self.requester, own, question, out) {

@@ -10,7 +10,7 @@ use std::alloc::{Allocator, Global};
 pub enum Call<A: Allocator = Global> {
     /// Reads the router's zone list.
     Zones,
-    /// Asks a socket of the cable, at least once.
+    /// Asks a socket of the cable.
     Ask {
         node: u8,
         socket: u8,
@@ -18,6 +18,8 @@ pub enum Call<A: Allocator = Global> {
         /// At most 578 bytes.
         data_: Bytes<A>,
         wanted: PacketCount,
+        /// Whether the request may run at most once.
+        exactly_once: bool,
         /// How often the request may be sent again.
         retries: u8,
     },
@@ -69,6 +71,14 @@ impl<A: Allocator> Call<A> {
 pub enum Timer {
     /// The answer to a transaction is late.
     Retry { tid: u16 },
+    /// A request that was answered exactly once is forgotten: the socket that answered, 6 or 129, who asked, and under which
+    /// number.
+    Release {
+        own: u8,
+        node: u8,
+        socket: u8,
+        tid: u16,
+    },
 }
 
 /// What came of an event.
@@ -78,6 +88,8 @@ pub enum Report<A: Allocator = Global> {
     Begun(u16),
     /// A request was answered, and so many packets were sent.
     Answered(u8),
+    /// It was done, and sent nothing.
+    Done,
     /// The router answered a zone request with so many packets.
     Served(u8),
     /// A request was handed to the service: who asked under which number, and what.
@@ -103,6 +115,8 @@ pub enum Report<A: Allocator = Global> {
     Failed(u16),
     /// Something was sent again, or a request that waits came again.
     Again,
+    /// The answer to an exactly-once request came whole, and is no longer kept.
+    Released,
     /// A packet that has no effect.
     Ignored,
     /// The event was refused, with the refusal's number.

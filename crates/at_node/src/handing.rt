@@ -12,7 +12,7 @@ ghost use Rattle.at_node.specs.declared.service.Reply.{Reply as Said};
 use crate::asking::ATP;
 use crate::event::Report;
 use crate::node::{Node, SERVICE, refused};
-use crate::responding::take;
+use crate::responding::{release, take};
 use crate::service::{Reply, Service};
 use at_atp::{AtpFault, Frame, Key, Reception, Responder};
 use at_ddp::{Address, Bytes, Datagram, Datagrams, Outbox};
@@ -45,6 +45,9 @@ impl<A: Allocator + Copy> Node<A> {
         ensures { (said : Said A) × Comes (AtSocket said self.old from Heard.Service (content frame.now)) self.old out.old.items result self.new out.new.items × Serves S.serves result said service.old service.new }
     {
         let own = self.at(SERVICE);
+        if let Frame::Release { .. } = frame {
+            return release(self.alloc, &mut self.service, own, from, frame, out);
+        }
         let Frame::Request { user, data_, .. } = frame else {
             return Report::Ignored;
         };
@@ -82,6 +85,7 @@ fn take_request<A: Allocator + Copy, S: Service<A>>(
         Err(_) => Report::NoMemory,
         Ok(Reception::Ignored) => Report::Ignored,
         Ok(Reception::Again(_)) => Report::Again,
+        Ok(Reception::Released) => Report::Released,
         Ok(Reception::New(key)) => {
             match hand_up(alloc, records, service, own, key, user, bytes, out) {
                 Ok(data_) => Report::Asked { key, user, data_ },
@@ -146,7 +150,7 @@ fn reply<A: Allocator + Copy, S: Service<A>>(
         Err(AllocError) => Err(AllocError),
         Ok(Reply::Later) => Ok(()),
         Ok(Reply::Now(packets)) => {
-            records.respond(key, packets.as_slice(), out).unwrap();
+            records.hand_over(key, packets, out).unwrap();
             Ok(())
         }
     }

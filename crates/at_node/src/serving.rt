@@ -1,6 +1,6 @@
 ghost use Rattle.std.specs.Prelude.{◌≡◌, ◌≢◌, ◌↔◌, ◌≤◌, ◌++◌, ◌∷◌, [], map, length, find, None, Some, true, false, IfOk, IfErr, OnOk, OnErr, IsErrOf};
 ghost use Rattle.at_atp.specs.Frames.{content, spelled_all};
-ghost use Rattle.at_atp.specs.Records.{Taken, taken, finds_no_place, record_fault, is_key, asked_for};
+ghost use Rattle.at_atp.specs.Records.{Taken, taken, finds_no_place, record_fault, is_key, after_answer, asked_for};
 ghost use Rattle.at_atp.specs.Tables.{without_first};
 ghost use Rattle.at_ddp.specs.Datagram.{content as written};
 ghost use Rattle.at_node.specs.Hearing.{AtSocket, HearsAt, router_socket, is_asked};
@@ -10,7 +10,7 @@ ghost use Rattle.at_node.specs.Steps.{atp_kind, page_packet, zones_at, zone_aske
 
 use crate::event::Report;
 use crate::node::{Node, ZONES, refused};
-use crate::responding::{answer, take};
+use crate::responding::{answer, release, take};
 use at_atp::{AtpFault, Frame, Key, Packet, Reception, Responder};
 use at_ddp::{Address, Datagram, Datagrams};
 use at_zip::{Zones, page, read_request};
@@ -48,6 +48,9 @@ impl<A: Allocator + Copy> Node<A> {
         let Some(zones) = &self.zones else {
             return Report::Ignored;
         };
+        if let Frame::Release { .. } = frame {
+            return release(self.alloc, &mut self.served, own, from, frame, out);
+        }
         let Frame::Request { user, .. } = frame else {
             return Report::Ignored;
         };
@@ -88,6 +91,7 @@ fn serve_request<A: Allocator + Copy>(
         Err(_) => Report::NoMemory,
         Ok(Reception::Ignored) => Report::Ignored,
         Ok(Reception::Again(_)) => Report::Again,
+        Ok(Reception::Released) => Report::Released,
         Ok(Reception::New(key)) => {
             match serve(alloc, served, own, key, zones, start, out) {
                 Ok(count) => Report::Served(count),
@@ -128,7 +132,8 @@ fn serve<A: Allocator + Copy>(
 ) -> Result<u8, AllocError>
     requires start { 1 ≤ start }
     requires waits { record_fault (find (is_key key) served.old) ≡ None }
-    ensures state { served.new ≡ without_first (is_key key) served.old }
+    ensures state { OnOk result (served.new ≡ after_answer served.old key (page_packet zones.now start ∷ [])) }
+    ensures undone { OnErr result (served.new ≡ without_first (is_key key) served.old) }
     ensures count { IfOk result (λ count. count ≡ length (asked_for (find (is_key key) served.old) key (page_packet zones.now start ∷ []))) }
     ensures sent { OnOk result (out.new.items ≡ out.old.items ++ map posted (sent_by own atp_kind (spelled_all (asked_for (find (is_key key) served.old) key (page_packet zones.now start ∷ []))))) }
     ensures nothing_sent { OnErr result (out.new.items ≡ out.old.items) }

@@ -1,12 +1,12 @@
 ghost use Rattle.std.specs.Prelude.{◌≡◌};
 ghost use Rattle.at_node.specs.Nodes.{IsStep};
-ghost use Rattle.at_node.specs.Steps.{timed, retry_fired, after_failing, is_reading};
+ghost use Rattle.at_node.specs.Steps.{timed, release_fired, retry_fired, after_failing, is_reading};
 ghost use Rattle.at_atp.specs.Requests.{retried};
 
 use crate::asking::retry;
 use crate::event::{Report, Timer};
-use crate::node::{ASKING, Node};
-use at_atp::{AtpFault, Retry};
+use crate::node::{ASKING, Node, SERVICE, ZONES, refused};
+use at_atp::{AtpFault, Key, Retry};
 use at_ddp::Datagrams;
 use std::alloc::Allocator;
 
@@ -17,6 +17,15 @@ impl<A: Allocator + Copy> Node<A> {
     {
         match timer {
             Timer::Retry { tid } => self.retry(tid, out),
+            Timer::Release {
+                own,
+                node,
+                socket,
+                tid,
+            } => {
+                let from = self.there(node, socket);
+                self.expire(own, Key { from, tid })
+            }
         }
     }
 
@@ -29,6 +38,22 @@ impl<A: Allocator + Copy> Node<A> {
             Ok(Retry::Failed) => self.fail(tid),
             Err(AtpFault::NoSuch) => Report::Refused(15),
             Err(_) => Report::NoMemory,
+        }
+    }
+
+    // The record of a request is taken away at one of the two sockets that answer.
+    fn expire(&mut self, own: u8, key: Key) -> Report<A>
+        ensures report { result ≡ (release_fired {A = A} self.old own key).report }
+        ensures state { self.new ≡ (release_fired {A = A} self.old own key).node }
+    {
+        let expired = match own {
+            SERVICE => self.service.expire(key),
+            ZONES => self.served.expire(key),
+            _ => Err(AtpFault::NoSuch),
+        };
+        match expired {
+            Ok(()) => Report::Done,
+            Err(fault) => refused(fault.number()),
         }
     }
 

@@ -19,7 +19,7 @@ returns-in-Err-serve-clause-step g c = λ n same at.
     let t = taken c.args.served.now c.args.from (content c.args.frame.now) in
     let new = is_new c.args.served.now c.args.from (content c.args.frame.now) c.in-Ok-New.key (sym c.in-Ok-New.ensures.reception ∙ c.in-Ok-New.field-0-is) in
     let back : c.serve.new.served ≡ n.served =
-    c.serve.ensures.state ∙ ap (without_first (is_key c.in-Ok-New.key)) c.in-Ok-New.ensures.state ∙ undone c.args.served.now (taken c.args.served.now c.args.from (content c.args.frame.now)) c.in-Ok-New.key new ∙ sym same in
+    c.in-Err-serve.ensures.undone ∙ ap (without_first (is_key c.in-Ok-New.key)) c.in-Ok-New.ensures.state ∙ undone c.args.served.now (taken c.args.served.now c.args.from (content c.args.frame.now)) c.in-Ok-New.key new ∙ sym same in
     let quiet : c.take.new.out.items ≡ c.args.out.now.items =
     c.in-Ok-New.ensures.sent ∙ ap (λ pushes. c.args.out.now.items ++ map posted (sent_by c.args.own atp_kind (spelled_all pushes))) new.nothing ∙ append-nil c.args.out.now.items in
     ((λ i. record n { served = back i }), c.in-Err-serve.ensures.nothing_sent ∙ quiet)

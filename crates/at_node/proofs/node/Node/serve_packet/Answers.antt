@@ -3,7 +3,7 @@ use Rattle.at_atp.specs.Frames.{content}
 use Rattle.at_node.specs.Nodes.{NodeState, Comes}
 use Rattle.at_node.specs.Steps.{zone_asked}
 use Rattle.at_node.specs.Hearing.{AtSocket, router_socket}
-use Rattle.at_node.proofs.HearingLemmas.{comes_ignored, step_comes, no_request, not_frame, bad_request, good_request}
+use Rattle.at_node.proofs.HearingLemmas.{comes_ignored, step_comes, no_request, not_frame, not_release, bad_request, good_request, zone_release}
 use Rattle.at_node.proofs.node.Node.serve_packet.Goals as goal
 
 pub returns-in_default-clause-comes : goal.returns-in_default-clause-comes
@@ -11,10 +11,10 @@ returns-in_default-clause-comes g c = λ said.
     let none = ap (λ (n : NodeState). n.table) (sym c.self.view_is) ∙ c.in_default.is in
     comes_ignored (AtSocket said c.args.self.now c.args.from (router_socket c.args.self.now.table) (content c.args.frame.now)) c.args.self.now c.args.out.now.items (rw none refl)
 
-pub returns-in_default-frame-clause-comes : goal.returns-in_default-frame-clause-comes
-returns-in_default-frame-clause-comes g c = λ said.
+pub returns-in_default-frame-2-clause-comes : goal.returns-in_default-frame-2-clause-comes
+returns-in_default-frame-2-clause-comes g c = λ said.
     comes_ignored (AtSocket said c.args.self.now c.args.from (router_socket c.args.self.now.table) (content c.args.frame.now)) c.args.self.now c.args.out.now.items
-    (no_request g.row.A.Denot said c.args.self.now c.args.from c.args.self.now.table (content c.args.frame.now) (not_frame c.args.frame.now c.in_default-frame.not-Request))
+    (no_request g.row.A.Denot said c.args.self.now c.args.from c.args.self.now.table (content c.args.frame.now) (not_release c.args.frame.now c.in_default-frame.not-Release) (not_frame c.args.frame.now c.in_default-frame-2.not-Request))
 
 pub returns-in-Ok-clause-comes : goal.returns-in-Ok-clause-comes
 returns-in-Ok-clause-comes g c = λ said.
@@ -32,3 +32,11 @@ returns-in-Err-clause-comes g c = λ said.
     comes_ignored (AtSocket said c.args.self.now c.args.from (router_socket c.args.self.now.table) (content c.args.frame.now)) c.args.self.now c.args.out.now.items
     (rw c.in-Request.is (bad_request g.row.A.Denot said c.args.self.now c.args.from c.args.self.now.table c.in-Request.mask c.in-Request.xo c.in-Request.timer c.in-Request.tid c.in-Request.user c.in-Request.data_.now
     (λ start h. absurd (cc (c.in-Err.ensures.only start h)))))
+
+pub returns-in-Release-clause-comes : goal.returns-in-Release-clause-comes
+returns-in-Release-clause-comes g c = λ said.
+    let some : c.args.self.now.table ≡ Some c.in-Some.zones = ap (λ (n : NodeState). n.table) (sym c.self.view_is) ∙ c.in-Some.is in
+    let is_now = ap (λ (n : NodeState). record n { served = c.release.new.served }) c.self.view_is in
+    subst (λ (x : NodeState). Comes (AtSocket said c.args.self.now c.args.from (router_socket c.args.self.now.table) (content c.args.frame.now)) c.args.self.now c.args.out.now.items c.release.result x c.release.new.out.items) (sym is_now)
+    (zone_release g.row.A.Denot said c.args.self.now c.args.from (content c.args.frame.now) c.args.self.now.table c.in-Some.zones c.args.out.now.items c.release.new.out.items c.self.inside.served c.release.new.served c.at-own.result c.release.result
+    (rw c.in-Release.is refl) some (ap (λ (n : NodeState). n.served) c.self.view_is) c.at-own.ensures c.release.ensures.report c.release.ensures.state c.release.ensures.sent)

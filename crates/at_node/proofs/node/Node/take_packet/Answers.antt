@@ -4,14 +4,24 @@ use Rattle.at_node.specs.Nodes.{NodeState, Comes}
 use Rattle.at_node.specs.Steps.{service_asked}
 use Rattle.at_node.specs.Hearing.{AtSocket, Service}
 use Rattle.at_node.specs.declared.service.Reply.TheVariants.{Later}
-use Rattle.at_node.proofs.HearingLemmas.{comes_ignored, step_comes, no_question, not_frame}
+use Rattle.at_node.proofs.HearingLemmas.{comes_ignored, step_comes, no_question, not_frame, not_release, not_served, service_release}
 use Rattle.at_node.proofs.node.Node.take_packet.Goals as goal
 
-pub returns-in_default : goal.returns-in_default
-returns-in_default g c = (
+pub returns-in-Release : goal.returns-in-Release
+returns-in-Release g c =
+    let is_now = ap (λ (n : NodeState). record n { service = c.release.new.served }) c.self.view_is in (
+      Later,
+      subst (λ (x : NodeState). Comes (AtSocket Later c.args.self.now c.args.from Service (content c.args.frame.now)) c.args.self.now c.args.out.now.items c.release.result x c.release.new.out.items) (sym is_now)
+          (service_release g.row.A.Denot Later c.args.self.now c.args.from (content c.args.frame.now) c.args.out.now.items c.release.new.out.items c.self.inside.service c.release.new.served c.at-own.result c.release.result
+          (rw c.in-Release.is refl) (ap (λ (n : NodeState). n.service) c.self.view_is) c.at-own.ensures c.release.ensures.report c.release.ensures.state c.release.ensures.sent),
+      not_served _ c.release.result Later c.args.service.now c.release.ensures.not_asked,
+    )
+
+pub returns-in_default-frame : goal.returns-in_default-frame
+returns-in_default-frame g c = (
   Later,
   comes_ignored (AtSocket Later c.args.self.now c.args.from Service (content c.args.frame.now)) c.args.self.now c.args.out.now.items
-      (no_question g.row.A.Denot Later c.args.self.now c.args.from (content c.args.frame.now) (not_frame c.args.frame.now c.in_default.not-Request)),
+      (no_question g.row.A.Denot Later c.args.self.now c.args.from (content c.args.frame.now) (not_release c.args.frame.now c.in_default.not-Release) (not_frame c.args.frame.now c.in_default-frame.not-Request)),
   refl,
 )
 
