@@ -17,11 +17,12 @@ use Rattle.at_atp.proofs.Newest.{Extends, Keeps, asked_kept, part_kept}
 
 -- ---- packets
 
--- a request is that of the newest transaction of its number; a response is a packet of an answer to it
+-- a request is that of the newest transaction of its number; a response is a packet of an answer to it; a release goes where it
+-- asked
 abbrev pub Tells : List Transaction → Address → Address → Content → Type 0
 Tells ts from to (Request mask xo timer tid user bytes) = (a : Asked ts from tid to) × (a.transaction.user ≡ user) × (a.transaction.data_ ≡ bytes) × (a.transaction.xo ≡ xo)
 Tells ts from to (Response place eom sts tid user bytes) = (a : Asked ts to tid from) × IsPart a.transaction place eom (record { user = user; data_ = bytes })
-Tells ts from to (Release tid) = Unit {0}
+Tells ts from to (Release tid) = Asked ts from tid to
 
 pub tells_kept : (old new : List Transaction) (from to : Address) (f : Content) → Keeps old new (owner from to f) (number_of f) → Tells old from to f → Tells new from to f
 tells_kept old new from to (Request mask xo timer tid user bytes) keeps h =
@@ -30,7 +31,7 @@ tells_kept old new from to (Request mask xo timer tid user bytes) keeps h =
 tells_kept old new from to (Response place eom sts tid user bytes) keeps h =
     let more = asked_kept old new to tid from keeps h.0 in
     (more.0, part_kept h.0.transaction more.0.transaction place eom (record { user = user; data_ = bytes }) more.1 h.1)
-tells_kept old new from to (Release tid) keeps h = tt
+tells_kept old new from to (Release tid) keeps h = (asked_kept old new from tid to keeps h).0
 
 -- ---- open transactions
 

@@ -35,11 +35,11 @@ pub record Sound (A : Type 0) (ts : List Transaction) (who : Address) (tid : ℕ
   pub sent : TellsAll ts who e.sent
   pub finished : (packets : List Packet) → e.step ≡ Finished packets → (a : Asked ts who tid from) × IsResponse a.transaction packets
 
-released : (ts : List Transaction) (who : Address) (t : requests.Transaction) → TellsAll ts who (release_by t)
-released ts who t = go t.xo
+released : (ts : List Transaction) (who : Address) (t : requests.Transaction) → Asked ts who t.tid t.to → TellsAll ts who (release_by t)
+released ts who t asked = go t.xo
   where
     go : (b : Bool) → TellsAll ts who (cond b ((t.to, Release t.tid) ∷ []) [])
-    go true = (tt, tt)
+    go true = (asked, tt)
     go false = tt
 
 wanted_some : (parts : List (Option Arrival)) (place : ℕ) → is_wanted parts place ≡ true → 1 ≤ length parts
@@ -87,7 +87,7 @@ came_sound A ts who t place part sts h is = go (is_wanted t.parts place) refl
     keeps some (Some packets) there s = record {
       after = kept;
       numbered = refl;
-      sent = released ts who (record t { parts = with_part t.parts place part });
+      sent = released ts who (record t { parts = with_part t.parts place part }) h.asked;
       finished = λ qs e. let same : packets ≡ qs = cc in (h.asked, subst (IsResponse (h.asked).transaction) same (response packets some there));
     }
     keeps some None there true = record { after = kept; numbered = refl; sent = (asks ts who (record t { parts = with_part t.parts place part }) kept, tt); finished = λ qs e. absurd (cc) }

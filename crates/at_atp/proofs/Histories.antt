@@ -87,6 +87,7 @@ sound_gives A events n sound = record {
   finished = λ which s packets is fresh ends. (heard_sound A n.asked s.to s.from (n.requesters s.to) s.packet (sound.standing s.to) (told which s is fresh)).finished packets ends;
   requested = λ which s mask xo timer tid user bytes is fresh same. subst (Tells n.asked s.from s.to) same (told which s is fresh);
   responded = λ which s place eom sts tid user bytes is fresh same. subst (Tells n.asked s.from s.to) same (told which s is fresh);
+  released = λ which s tid is fresh same. subst (Tells n.asked s.from s.to) same (told which s is fresh);
   recorded = λ at key r is.
       let found = all_found (Waits n.asked at) (is_key key) (n.responders at) r (sound.records at) is in
       let a = (found.0).asked in

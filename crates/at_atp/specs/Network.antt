@@ -209,6 +209,8 @@ pub record GivesAnswers (A : Type 0) (n : Network) : Type 0 where
   -- a response in time is to the newest transaction of its number, and a packet of an answer that was given where it asked
   pub responded : (which : ℕ) (s : Sent) (place : ℕ) (eom sts : Bool) (tid : ℕ) (user bytes : List ℕ) → slice_get n.sent which ≡ Some s → is_fresh n.drawn s ≡ true
       → s.packet ≡ Response place eom sts tid user bytes → (a : Asked n.asked s.to tid s.from) × IsPart a.transaction place eom (record { user = user; data_ = bytes })
+  -- a release in time is of the newest transaction of its number, and came where that asked
+  pub released : (which : ℕ) (s : Sent) (tid : ℕ) → slice_get n.sent which ≡ Some s → is_fresh n.drawn s ≡ true → s.packet ≡ Release tid → Asked n.asked s.from tid s.to
   -- a record is of the newest transaction of its number
   pub recorded : (at : Address) (key : Key) (r : Record) → find (is_key key) (n.responders at) ≡ Some r → Asked n.asked key.from key.tid at
   -- and so is an open transaction

@@ -6,7 +6,7 @@ use crate::hex_word::user_of;
 use crate::word::{Words, byte, node_number, two_bytes};
 use at_node::PacketCount;
 
-/// `NODE SOCKET USER DATA WANTED alo RETRIES`
+/// `NODE SOCKET USER DATA WANTED`, `alo` or `xo`, and `RETRIES`
 #[derive(Drop)]
 pub(crate) struct AskWords<'a> {
     pub(crate) node: u8,
@@ -14,6 +14,7 @@ pub(crate) struct AskWords<'a> {
     pub(crate) user: [u8; 4],
     pub(crate) data_: &'a [u8],
     pub(crate) wanted: PacketCount,
+    pub(crate) exactly_once: bool,
     pub(crate) retries: u8,
 }
 
@@ -23,27 +24,29 @@ impl<'a> AskWords<'a> {
         let socket = node_number(words.next()?)?;
         let user = user_of(words.next()?)?;
         let data_ = words.next()?;
-        let (wanted, retries) = counts(words)?;
+        let wanted = PacketCount::new(byte(words.next()?)?)?;
+        let exactly_once = is_exactly_once(words.next()?)?;
+        let retries = byte(words.next()?)?;
+        words.end()?;
         Some(AskWords {
             node,
             socket,
             user,
             data_,
             wanted,
+            exactly_once,
             retries,
         })
     }
 }
 
-// `WANTED alo RETRIES`
-fn counts(mut words: Words<'_>) -> Option<(PacketCount, u8)> {
-    let wanted = PacketCount::new(byte(words.next()?)?)?;
-    if !words.take_if(b"alo") {
-        return None;
+// `alo` or `xo`
+fn is_exactly_once(word: &[u8]) -> Option<bool> {
+    match word {
+        b"alo" => Some(false),
+        b"xo" => Some(true),
+        _ => None,
     }
-    let retries = byte(words.next()?)?;
-    words.end()?;
-    Some((wanted, retries))
 }
 
 /// `NODE SOCKET T USER:DATA ..`

@@ -5,7 +5,7 @@ ghost use Rattle.at_play.specs.Shown.{IsHex};
 use crate::call_words::{AnswerWords, AskWords, packet_words};
 use crate::hex_word::{HexFault, bytes_of};
 use crate::line_fault::LineFault;
-use crate::word::{Words, node_number, number, two_bytes};
+use crate::word::{Words, byte, node_number, number, two_bytes};
 use at_atp::Packet;
 use at_ddp::{Bytes, Listed};
 use at_node::{Call, Timer};
@@ -36,17 +36,39 @@ pub(crate) fn delivery_of<A: Allocator>(mut words: Words<'_>) -> Option<Event<A>
     Some(Event::Deliver { which, node })
 }
 
-/// `timer N retry T`
+/// `timer N` and `retry T` or `release OWN NODE SOCKET T`
 pub(crate) fn timer_of<A: Allocator>(mut words: Words<'_>) -> Option<Event<A>> {
     let node = node_number(words.next()?)?;
     let timer = match words.next()? {
-        b"retry" => Timer::Retry {
-            tid: two_bytes(words.next()?)?,
-        },
-        _ => return None,
-    };
-    words.end()?;
+        b"retry" => retry(words),
+        b"release" => release(words),
+        _ => None,
+    }?;
     Some(Event::Timer { node, timer })
+}
+
+fn retry(mut words: Words<'_>) -> Option<Timer> {
+    let tid = two_bytes(words.next()?)?;
+    words.end()?;
+    Some(Timer::Retry { tid })
+}
+
+// The sockets that answer are 6 and 129.
+fn release(mut words: Words<'_>) -> Option<Timer> {
+    let own = byte(words.next()?)?;
+    if own != 6 && own != 129 {
+        return None;
+    }
+    let node = node_number(words.next()?)?;
+    let socket = node_number(words.next()?)?;
+    let tid = two_bytes(words.next()?)?;
+    words.end()?;
+    Some(Timer::Release {
+        own,
+        node,
+        socket,
+        tid,
+    })
 }
 
 fn zones<A: Allocator>(words: Words<'_>) -> Result<Call<A>, LineFault> {
@@ -64,6 +86,7 @@ fn ask<A: Allocator>(alloc: A, words: Words<'_>) -> Result<Call<A>, LineFault> {
         user: said.user,
         data_: data_of(alloc, said.data_)?,
         wanted: said.wanted,
+        exactly_once: said.exactly_once,
         retries: said.retries,
     })
 }

@@ -39,6 +39,7 @@ fn write_report<A: Allocator, W: Write>(printer: &mut Printer<W>, report: &Repor
     match report {
         Report::Begun(tid) => write!(printer, "begun {tid}"),
         Report::Answered(count) => write!(printer, "answered {count}"),
+        Report::Done => printer.write_all(b"done"),
         Report::Served(count) => write!(printer, "served {count}"),
         Report::Asked { key, user, data_ } => write_asked(printer, *key, *user, data_.as_slice()),
         Report::Zones(zones) => write_zones(printer, zones.as_slice()),
@@ -48,6 +49,7 @@ fn write_report<A: Allocator, W: Write>(printer: &mut Printer<W>, report: &Repor
         Report::Response { tid, packets } => write_response(printer, *tid, packets.as_slice()),
         Report::Failed(tid) => write!(printer, "failed {tid}"),
         Report::Again => printer.write_all(b"again"),
+        Report::Released => printer.write_all(b"released"),
         Report::Ignored => printer.write_all(b"ignored"),
         Report::Refused(number) => write!(printer, "refused {number}"),
         Report::NoMemory => printer.write_all(b"nomemory"),

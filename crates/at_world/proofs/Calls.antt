@@ -15,10 +15,9 @@ use Rattle.at_atp.specs.Network as network
 use Rattle.at_atp.specs.Network.{Network, Answers, after, done, put, stamped, new_transaction}
 use Rattle.at_atp.specs.Packets.{Packet}
 use Rattle.at_atp.specs.Answers as arrivals
-use Rattle.at_atp.specs.Records.{Record, is_key, answer_fault, record_fault, asked_for, fit}
+use Rattle.at_atp.specs.Records.{Record, is_key, after_answer, answer_fault, record_fault, asked_for, fit}
 use Rattle.at_atp.specs.Requests as requests
 use Rattle.at_atp.specs.Requests.{Requests, has_number, next_number, beginning, request_by}
-use Rattle.at_atp.specs.Tables.{without_first}
 use Rattle.at_atp.specs.Transactions.{Transaction, is_transaction, transaction_of, Asked, answered}
 use Rattle.at_atp.specs.declared.fault.AtpFault.{AtpFault}
 use Rattle.at_atp.specs.declared.fault.AtpFault.TheVariants.{AtpTooLong}
@@ -83,23 +82,23 @@ module _ (A : Type 0) (laws : Laws A) (w : WorldState) (m : Machine) (k : ℕ) (
       record { net = subst (λ i. i < 2 ^ 16) (sym its.net) f.net; node = a; socket = b }
 
   -- a transaction that begins is not the one that reads the list
-  reading_begun : (to : Address) (user bytes : List ℕ) (wanted retries tid : ℕ) (reading : Option ℕ) → next_number n.requester ≡ Some tid → IsReading m k n.requester reading →
-      IsReading (moved m (new_transaction (asking m.net k) (beginning tid to user bytes wanted false retries) ∷ m.asked) m.readings) k (requests.begun n.requester (beginning tid to user bytes wanted false retries)) reading
-  reading_begun to user bytes wanted retries tid None drawn h = tt
-  reading_begun to user bytes wanted retries tid (Some number) drawn h =
+  reading_begun : (to : Address) (user bytes : List ℕ) (wanted : ℕ) (xo : Bool) (retries tid : ℕ) (reading : Option ℕ) → next_number n.requester ≡ Some tid → IsReading m k n.requester reading →
+      IsReading (moved m (new_transaction (asking m.net k) (beginning tid to user bytes wanted xo retries) ∷ m.asked) m.readings) k (requests.begun n.requester (beginning tid to user bytes wanted xo retries)) reading
+  reading_begun to user bytes wanted xo retries tid None drawn h = tt
+  reading_begun to user bytes wanted xo retries tid (Some number) drawn h =
       let free = laws.drawn n.requester tid drawn in
       let a = h.first in
       record {
         server = h.server;
         is_router = h.is_router;
-        first = record { transaction = a.transaction; newest = ap (λ b. cond b (Some (new_transaction (asking m.net k) (beginning tid to user bytes wanted false retries))) (transaction_of m.asked (asking m.net k) number)) (apart free h.is_open (tid == number) refl) ∙ a.newest; asked_it = a.asked_it };
+        first = record { transaction = a.transaction; newest = ap (λ b. cond b (Some (new_transaction (asking m.net k) (beginning tid to user bytes wanted xo retries))) (transaction_of m.asked (asking m.net k) number)) (apart free h.is_open (tid == number) refl) ∙ a.newest; asked_it = a.asked_it };
         user = h.user;
-        is_open = open_more n.requester.standing (beginning tid to user bytes wanted false retries ∷ []) number h.is_open;
+        is_open = open_more n.requester.standing (beginning tid to user bytes wanted xo retries ∷ []) number h.is_open;
         since = h.since;
         began = h.began;
       }
     where
-      apart : has_number n.requester.standing tid ≡ false → has_number n.requester.standing number ≡ true → (b : Bool) → (tid == number) ≡ b → is_transaction (asking m.net k) number (new_transaction (asking m.net k) (beginning tid to user bytes wanted false retries)) ≡ false
+      apart : has_number n.requester.standing tid ≡ false → has_number n.requester.standing number ≡ true → (b : Bool) → (tid == number) ≡ b → is_transaction (asking m.net k) number (new_transaction (asking m.net k) (beginning tid to user bytes wanted xo retries)) ≡ false
       apart free opened false e = λ i. same_address_itself (asking m.net k) i && e i
       apart free opened true e = absurd (true≢false (sym opened ∙ ap (has_number n.requester.standing) (sym (eqb-true tid number e)) ∙ free))
 
@@ -113,7 +112,7 @@ module _ (A : Type 0) (laws : Laws A) (w : WorldState) (m : Machine) (k : ℕ) (
       let is_router : m.router ≡ Some router = sym its.router ∙ is in
       let rs : List Reading = record { node = k; since = length m.past } ∷ m.readings in
       good_next A w m k n (event.Call k Zones) (reading_begins n router (Some tid)) (new_transaction (asking m.net k) (zone_transaction n router tid) ∷ m.asked) (record { node = k; since = length m.past } ∷ m.readings) t stands
-      (begun_next A w m k n t stands (zones_at n.net router) (request_user 1) [] 1 3 tid (Some tid) (record { node = k; since = length m.past } ∷ m.readings) is_drawn
+      (begun_next A w m k n t stands (zones_at n.net router) (request_user 1) [] 1 false 3 tid (Some tid) (record { node = k; since = length m.past } ∷ m.readings) is_drawn
       (none_holds m.net k tid w.nodes (after A t.history).responders t.responders free)
       (record { who_fits = asking_fits; to_fits = there_fits router 6 (fixed.router router is_router) (lit< tt); asks = first_asks; few = lit≤ tt })
       its.net
@@ -139,24 +138,24 @@ module _ (A : Type 0) (laws : Laws A) (w : WorldState) (m : Machine) (k : ℕ) (
 
   -- ---- asking
 
-  module _ (node socket : ℕ) (user bytes : List ℕ) (wanted retries : ℕ) (range : IsCall {A = A} (Ask node socket user bytes wanted retries)) where
-    good_asked : length bytes ≤ 578 → (drawn : Option ℕ) → next_number n.requester ≡ drawn → holds_some w.nodes k (drawn_by {A = A} (asked_as n (at_socket n node socket) user bytes wanted retries drawn).report) ≡ false →
-        Good A w m k (event.Call k (Ask node socket user bytes wanted retries)) (asked_as n (at_socket n node socket) user bytes wanted retries drawn)
-    good_asked few None is_drawn free = good_idle A w m k n (event.Call k (Ask node socket user bytes wanted retries)) (report.Refused 14) t stands refl
+  module _ (node socket : ℕ) (user bytes : List ℕ) (wanted : ℕ) (xo : Bool) (retries : ℕ) (range : IsCall {A = A} (Ask node socket user bytes wanted xo retries)) where
+    good_asked : length bytes ≤ 578 → (drawn : Option ℕ) → next_number n.requester ≡ drawn → holds_some w.nodes k (drawn_by {A = A} (asked_as n (at_socket n node socket) user bytes wanted xo retries drawn).report) ≡ false →
+        Good A w m k (event.Call k (Ask node socket user bytes wanted xo retries)) (asked_as n (at_socket n node socket) user bytes wanted xo retries drawn)
+    good_asked few None is_drawn free = good_idle A w m k n (event.Call k (Ask node socket user bytes wanted xo retries)) (report.Refused 14) t stands refl
     good_asked few (Some tid) is_drawn free =
         let its = t.nodes k n stands in
-        good_next A w m k n (event.Call k (Ask node socket user bytes wanted retries)) (asked_as n (at_socket n node socket) user bytes wanted retries (Some tid)) (new_transaction (asking m.net k) (beginning tid (at_socket n node socket) user bytes wanted false retries) ∷ m.asked) m.readings t stands
-        (begun_next A w m k n t stands (at_socket n node socket) user bytes wanted retries tid n.reading m.readings is_drawn
+        good_next A w m k n (event.Call k (Ask node socket user bytes wanted xo retries)) (asked_as n (at_socket n node socket) user bytes wanted xo retries (Some tid)) (new_transaction (asking m.net k) (beginning tid (at_socket n node socket) user bytes wanted xo retries) ∷ m.asked) m.readings t stands
+        (begun_next A w m k n t stands (at_socket n node socket) user bytes wanted xo retries tid n.reading m.readings is_drawn
         (none_holds m.net k tid w.nodes (after A t.history).responders t.responders free)
         (record { who_fits = asking_fits; to_fits = there_fits node socket range.0 range.1; asks = record { four = range.2; user = range.3; bytes = range.4; fits = few }; few = range.6 })
         its.net
-        (reading_begun (at_socket n node socket) user bytes wanted retries tid n.reading is_drawn (t.readings k n stands))
+        (reading_begun (at_socket n node socket) user bytes wanted xo retries tid n.reading is_drawn (t.readings k n stands))
         (λ j apart. refl))
-        (record { becomes = λ i. next (record m { asked = record { requester = asking m.net k; tid = tid; responder = record { net = its.net i; node = node; socket = socket }; user = user; data_ = bytes; wanted = length-replicate {A = Option arrivals.Arrival} wanted None i; xo = false; answers = [] } ∷ m.asked }) })
+        (record { becomes = λ i. next (record m { asked = record { requester = asking m.net k; tid = tid; responder = record { net = its.net i; node = node; socket = socket }; user = user; data_ = bytes; wanted = length-replicate {A = Option arrivals.Arrival} wanted None i; xo = xo; answers = [] } ∷ m.asked }) })
 
-    good_ask : (b : Bool) → nat_lt 578 (length bytes) ≡ b → holds_some w.nodes k (drawn_by {A = A} (cond b (idle n (report.Refused 13)) (asked_as n (at_socket n node socket) user bytes wanted retries (next_number n.requester))).report) ≡ false →
-        Good A w m k (event.Call k (Ask node socket user bytes wanted retries)) (cond b (idle n (report.Refused 13)) (asked_as n (at_socket n node socket) user bytes wanted retries (next_number n.requester)))
-    good_ask true e free = good_idle A w m k n (event.Call k (Ask node socket user bytes wanted retries)) (report.Refused 13) t stands refl
+    good_ask : (b : Bool) → nat_lt 578 (length bytes) ≡ b → holds_some w.nodes k (drawn_by {A = A} (cond b (idle n (report.Refused 13)) (asked_as n (at_socket n node socket) user bytes wanted xo retries (next_number n.requester))).report) ≡ false →
+        Good A w m k (event.Call k (Ask node socket user bytes wanted xo retries)) (cond b (idle n (report.Refused 13)) (asked_as n (at_socket n node socket) user bytes wanted xo retries (next_number n.requester)))
+    good_ask true e free = good_idle A w m k n (event.Call k (Ask node socket user bytes wanted xo retries)) (report.Refused 13) t stands refl
     good_ask false e free = good_asked (few_bytes (length bytes) e) (next_number n.requester) refl free
       where
         few_bytes : (len : ℕ) → nat_lt 578 len ≡ false → len ≤ 578
@@ -185,8 +184,8 @@ module _ (A : Type 0) (laws : Laws A) (w : WorldState) (m : Machine) (k : ℕ) (
       let a = all.0 in
       (record { four = a.four; user = a.user; bytes = a.bytes; fits = leb-true (length p.data_) 578 both.0 }, packets_fit ps both.1 all.1)
 
-  -- a refusal of an answer
-  good_refused : (e : Event A) (number : Option ℕ) → ((i : ℕ) → Step m e (report.Refused i) (next m)) → Step m e report.NoMemory (next m) → Good A w m k e (idle n (refused_as number))
+  -- a refusal by the transaction protocol
+  pub good_refused : (e : Event A) (number : Option ℕ) → ((i : ℕ) → Step m e (report.Refused i) (next m)) → Step m e report.NoMemory (next m) → Good A w m k e (idle n (refused_as number))
   good_refused e None refused none = good_idle A w m k n e report.NoMemory t stands none
   good_refused e (Some i) refused none = good_idle A w m k n e (report.Refused i) t stands (refused i)
 
@@ -209,11 +208,11 @@ module _ (A : Type 0) (laws : Laws A) (w : WorldState) (m : Machine) (k : ℕ) (
         let done_is = is_done is in
         good_next A w m k n (event.Call k (Answer node socket tid packets)) (answered_with n (record { from = at_socket n node socket; tid = tid }) packets None) (answered m.asked (at_socket n node socket) tid packets) m.readings t stands
         (gave_next A w m k n t stands laws (Answers (serving m.net k) (record { from = at_socket n node socket; tid = tid }) packets) (report.Answered (length (asked_for (find (is_key (record { from = at_socket n node socket; tid = tid })) n.service) (record { from = at_socket n node socket; tid = tid }) packets)))
-        serving (at_socket n node socket) tid packets (serving m.net k) asked n.served (without_first (is_key (record { from = at_socket n node socket; tid = tid })) n.service) (asked_for (find (is_key (record { from = at_socket n node socket; tid = tid })) n.service) (record { from = at_socket n node socket; tid = tid }) packets)
+        serving (at_socket n node socket) tid packets (serving m.net k) asked n.served (after_answer n.service (record { from = at_socket n node socket; tid = tid }) packets) (asked_for (find (is_key (record { from = at_socket n node socket; tid = tid })) n.service) (record { from = at_socket n node socket; tid = tid }) packets)
         tt (serving_fits, packets_fit packets found.1 range.3)
         (ap (λ (x : Network). x.event) done_is)
         (λ who. ap (λ (x : Network). x.requesters who) done_is)
-        (λ at. ap (λ (x : Network). x.responders at) done_is ∙ ap (λ rs. put (after A t.history).responders (serving m.net k) (without_first (is_key (record { from = at_socket n node socket; tid = tid })) rs) at) (service_is A w m k n t stands) ∙ with_service A w m k n t stands (without_first (is_key (record { from = at_socket n node socket; tid = tid })) n.service) at)
+        (λ at. ap (λ (x : Network). x.responders at) done_is ∙ ap (λ rs. put (after A t.history).responders (serving m.net k) (after_answer rs (record { from = at_socket n node socket; tid = tid }) packets) at) (service_is A w m k n t stands) ∙ with_service A w m k n t stands (after_answer n.service (record { from = at_socket n node socket; tid = tid }) packets) at)
         (ap (λ (x : Network). x.sent) done_is ∙ ap (λ rs. (after A t.history).sent ++ stamped (after A t.history).event (serving m.net k) (asked_for (find (is_key (record { from = at_socket n node socket; tid = tid })) rs) (record { from = at_socket n node socket; tid = tid }) packets)) (service_is A w m k n t stands))
         (ap (λ (x : Network). x.drawn) done_is)
         (ap (λ (x : Network). x.asked) done_is)
@@ -231,5 +230,5 @@ module _ (A : Type 0) (laws : Laws A) (w : WorldState) (m : Machine) (k : ℕ) (
 
   pub good_called : (call : Call A) → IsCall call → holds_some w.nodes k (draw_of n call) ≡ false → Good A w m k (event.Call k call) (called n call)
   good_called Zones range free = good_zones n.router n.reading refl free
-  good_called (Ask node socket user bytes wanted retries) range free = good_ask node socket user bytes wanted retries range (nat_lt 578 (length bytes)) refl free
+  good_called (Ask node socket user bytes wanted xo retries) range free = good_ask node socket user bytes wanted xo retries range (nat_lt 578 (length bytes)) refl free
   good_called (Answer node socket tid packets) range free = good_answer node socket tid packets range (answer_fault n.service (record { from = at_socket n node socket; tid = tid }) packets) refl

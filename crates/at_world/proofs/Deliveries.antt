@@ -18,6 +18,7 @@ use Rattle.at_world.specs.Worlds.{WorldState, node_at}
 use Rattle.at_world.specs.declared.event.Event.TheVariants as event
 use Rattle.at_world.proofs.Calls.{Good, good_idle}
 use Rattle.at_world.proofs.Coming.{Comes, requester_on_net, responder_on_net}
+use Rattle.at_world.proofs.Released.{released_where, good_service_release, good_zone_release}
 use Rattle.at_world.proofs.Requested.{asks, good_question, good_page}
 use Rattle.at_world.proofs.Responded.{part_of, good_heard}
 use Rattle.at_world.proofs.Tied.{Laws, Tied}
@@ -41,7 +42,10 @@ module _ (A : Type 0) (laws : Laws A) (w : WorldState) (m : Machine) (which k : 
 
   at_service : (said : Reply A) (f : Content) (o : Outcome A) → (is_asked o.report ≡ true → said ≡ reply.Later) → (c.packet).packet ≡ f → ((c.packet).to).node ≡ k → ((c.packet).to).socket ≡ 129 → AtService said n (c.packet).from f o → Good A w m k (event.Deliver which k) o
   at_service said (Response place eom sts tid user bytes) o later is here socket at = ignoring o at
-  at_service said (Release tid) o later is here socket at = ignoring o at
+  at_service said (Release tid) o later is here socket at =
+      let a = released_where A laws w m which k n t stands c.packet c.was_sent c.fresh c.timely tid is in
+      let on_net = responder_on_net m (c.packet).from tid (c.packet).to t.nets a in
+      subst (Good A w m k (event.Deliver which k)) (sym at) (good_service_release A laws w m which k n t stands c.packet c.was_sent c.fresh c.timely tid is (its_address 129 on_net here socket))
   at_service said (Request mask xo timer tid user bytes) o later is here socket at =
       let a = asks A laws w m which k n t stands c.packet c.was_sent c.fresh c.timely mask xo timer tid user bytes is in
       let on_net = responder_on_net m (c.packet).from tid (c.packet).to t.nets a.0 in
@@ -49,7 +53,10 @@ module _ (A : Type 0) (laws : Laws A) (w : WorldState) (m : Machine) (which k : 
 
   at_zones : (f : Content) (o : Outcome A) (table : List (List ℕ)) → n.table ≡ Some table → (c.packet).packet ≡ f → ((c.packet).to).node ≡ k → ((c.packet).to).socket ≡ 6 → AtZones n (c.packet).from table f o → Good A w m k (event.Deliver which k) o
   at_zones (Response place eom sts tid user bytes) o table has is here socket at = ignoring o at
-  at_zones (Release tid) o table has is here socket at = ignoring o at
+  at_zones (Release tid) o table has is here socket at =
+      let a = released_where A laws w m which k n t stands c.packet c.was_sent c.fresh c.timely tid is in
+      let on_net = responder_on_net m (c.packet).from tid (c.packet).to t.nets a in
+      subst (Good A w m k (event.Deliver which k)) (sym at) (good_zone_release A laws w m which k n t stands c.packet c.was_sent c.fresh c.timely tid is (its_address 6 on_net here socket))
   at_zones (Request mask xo timer tid user bytes) o table has is here socket (inr at) = ignoring o at.1
   at_zones (Request mask xo timer tid user bytes) o table has is here socket (inl at) =
       let a = asks A laws w m which k n t stands c.packet c.was_sent c.fresh c.timely mask xo timer tid user bytes is in

@@ -9,6 +9,7 @@ mod Moves
 mod Places
 mod Times
 mod FreshLemmas
+mod Released
 mod Requested
 mod Responded
 mod Runs

@@ -235,29 +235,29 @@ module _ (A : Type 0) (w : WorldState) (m : Machine) (k : ℕ) (n : NodeState) (
   apart_from : (j tid : ℕ) (new : Transaction) → new.requester ≡ asking m.net k → (k == j) ≡ false → is_transaction (asking m.net j) tid new ≡ false
   apart_from j tid new is apart = ap (λ (x : Address). same_address x (asking m.net j) && (new.tid == tid)) is ∙ (λ i. eq-eqb m.net m.net refl i && apart i && true && (new.tid == tid))
 
-  pub begun_next : (to : Address) (user bytes : List ℕ) (wanted retries tid : ℕ) (reading : Option ℕ) (readings : List Reading) → next_number n.requester ≡ Some tid → NoneHolds (after A t.history).responders (asking m.net k) tid → IsAsking (asking m.net k) to user bytes wanted →
-      to.net ≡ m.net → IsReading (moved m (new_transaction (asking m.net k) (beginning tid to user bytes wanted false retries) ∷ m.asked) readings) k (requests.begun n.requester (beginning tid to user bytes wanted false retries)) reading →
+  pub begun_next : (to : Address) (user bytes : List ℕ) (wanted : ℕ) (xo : Bool) (retries tid : ℕ) (reading : Option ℕ) (readings : List Reading) → next_number n.requester ≡ Some tid → NoneHolds (after A t.history).responders (asking m.net k) tid → IsAsking (asking m.net k) to user bytes wanted →
+      to.net ≡ m.net → IsReading (moved m (new_transaction (asking m.net k) (beginning tid to user bytes wanted xo retries) ∷ m.asked) readings) k (requests.begun n.requester (beginning tid to user bytes wanted xo retries)) reading →
       ((j : ℕ) → (k == j) ≡ false → since_of readings j ≡ since_of m.readings j) →
-      Next A w m (after A t.history) k (record n { requester = requests.begun n.requester (beginning tid to user bytes wanted false retries); reading = reading }) (report.Begun tid)
-      (sent_by (asking n.net n.number) atp_kind (spelled_all ((to, request_by (beginning tid to user bytes wanted false retries)) ∷ [])))
-      (new_transaction (asking m.net k) (beginning tid to user bytes wanted false retries) ∷ m.asked) readings
-  begun_next to user bytes wanted retries tid reading readings drawn free range on_net reads others = record {
-    happening = Begins (asking m.net k) to user bytes wanted false retries;
+      Next A w m (after A t.history) k (record n { requester = requests.begun n.requester (beginning tid to user bytes wanted xo retries); reading = reading }) (report.Begun tid)
+      (sent_by (asking n.net n.number) atp_kind (spelled_all ((to, request_by (beginning tid to user bytes wanted xo retries)) ∷ [])))
+      (new_transaction (asking m.net k) (beginning tid to user bytes wanted xo retries) ∷ m.asked) readings
+  begun_next to user bytes wanted xo retries tid reading readings drawn free range on_net reads others = record {
+    happening = Begins (asking m.net k) to user bytes wanted xo retries;
     timely = λ number is. let same : tid ≡ number = some_number tid number (sym drawn ∙ ap next_number (sym asker_is) ∙ is) in subst (NoneHolds (after A t.history).responders (asking m.net k)) same free;
     in_range = range;
     same_event = ap (λ (x : Network). x.event) is;
-    requesters = λ who. ap (λ (x : Network). x.requesters who) is ∙ ap (λ r. put (after A t.history).requesters (asking m.net k) (requests.begun r (beginning tid to user bytes wanted false retries)) who) asker_is;
+    requesters = λ who. ap (λ (x : Network). x.requesters who) is ∙ ap (λ r. put (after A t.history).requesters (asking m.net k) (requests.begun r (beginning tid to user bytes wanted xo retries)) who) asker_is;
     responders = λ at. ap (λ (x : Network). x.responders at) is ∙ responders_stay at;
-    more = stamped (after A t.history).event (asking m.net k) ((to, request_by (beginning tid to user bytes wanted false retries)) ∷ []);
+    more = stamped (after A t.history).event (asking m.net k) ((to, request_by (beginning tid to user bytes wanted xo retries)) ∷ []);
     sent = ap (λ (x : Network). x.sent) is;
-    posts = posts_from asking ((to, request_by (beginning tid to user bytes wanted false retries)) ∷ []);
+    posts = posts_from asking ((to, request_by (beginning tid to user bytes wanted xo retries)) ∷ []);
     drawn = subst (AllByRecursion (IsNoted (noted w.last k w.events (Some (Tid tid))) (w.events + 1))) (ap (λ (x : Network). x.drawn) (sym is))
         (both_noted (after A t.history).drawn (all_noted w.last w.events k (Some (Tid tid)) (after A t.history).drawn t.drawn) (subst (λ e. IsNoted (noted w.last k w.events (Some (Tid tid))) (w.events + 1) (record { event = e; who = asking m.net k; tid = tid })) t.events (noted_now w.last w.events m.net k tid)));
-    is_asked = ap (λ (x : Network). x.asked) is ∙ ap (λ ts. new_transaction (asking m.net k) (beginning tid to user bytes wanted false retries) ∷ ts) t.asked;
-    mine = same_node (requests.begun n.requester (beginning tid to user bytes wanted false retries)) reading n.served n.service;
+    is_asked = ap (λ (x : Network). x.asked) is ∙ ap (λ ts. new_transaction (asking m.net k) (beginning tid to user bytes wanted xo retries) ∷ ts) t.asked;
+    mine = same_node (requests.begun n.requester (beginning tid to user bytes wanted xo retries)) reading n.served n.service;
     reading = reads;
     others = others;
-    still = λ j number server apart a. (record { transaction = a.transaction; newest = ap (λ b. cond b (Some (new_transaction (asking m.net k) (beginning tid to user bytes wanted false retries))) (transaction_of m.asked (asking m.net j) number)) (apart_from j number (new_transaction (asking m.net k) (beginning tid to user bytes wanted false retries)) refl apart) ∙ a.newest; asked_it = a.asked_it }, refl);
+    still = λ j number server apart a. (record { transaction = a.transaction; newest = ap (λ b. cond b (Some (new_transaction (asking m.net k) (beginning tid to user bytes wanted xo retries))) (transaction_of m.asked (asking m.net j) number)) (apart_from j number (new_transaction (asking m.net k) (beginning tid to user bytes wanted xo retries)) refl apart) ∙ a.newest; asked_it = a.asked_it }, refl);
     pages = ((λ server answer router here among. no_answers answer among), t.pages);
     nets = ((refl, on_net), t.nets);
   }
@@ -273,5 +273,5 @@ module _ (A : Type 0) (w : WorldState) (m : Machine) (k : ℕ) (n : NodeState) (
       both_noted [] all one = (one, tt)
       both_noted (d ∷ ds) all one = (all.0, both_noted ds all.1 one)
 
-      is : done A (after A t.history) (Begins (asking m.net k) to user bytes wanted false retries) ≡ network.begun (after A t.history) (asking m.net k) (beginning tid to user bytes wanted false retries)
-      is = ap (λ o. network.begins (after A t.history) (asking m.net k) to user bytes wanted false retries o) (ap next_number asker_is ∙ drawn)
+      is : done A (after A t.history) (Begins (asking m.net k) to user bytes wanted xo retries) ≡ network.begun (after A t.history) (asking m.net k) (beginning tid to user bytes wanted xo retries)
+      is = ap (λ o. network.begins (after A t.history) (asking m.net k) to user bytes wanted xo retries o) (ap next_number asker_is ∙ drawn)

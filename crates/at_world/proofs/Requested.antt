@@ -12,8 +12,7 @@ use Rattle.at_atp.specs.Lawfully.{IsPacket}
 use Rattle.at_atp.specs.Network as network
 use Rattle.at_atp.specs.Network.{Network, Sent, Takes, Serves, after, done, put, stamped, with_responder}
 use Rattle.at_atp.specs.Packets.{Packet}
-use Rattle.at_atp.specs.Records.{Record, Taken, is_key, taken, finds_no_place, record_fault, answer_fault, asked_for}
-use Rattle.at_atp.specs.Tables.{without_first}
+use Rattle.at_atp.specs.Records.{Record, Taken, is_key, after_answer, taken, finds_no_place, record_fault, answer_fault, asked_for}
 use Rattle.at_atp.specs.Transactions.{Transaction, transaction_of, Asked, answered}
 use Rattle.at_atp.specs.declared.fault.AtpFault.TheVariants.{AtpTooLong}
 use Rattle.at_atp.specs.declared.reception.Key.{Key}
@@ -62,6 +61,9 @@ module _ (A : Type 0) (laws : Laws A) (w : WorldState) (m : Machine) (which k : 
     good_service said o (reception.Again count) later is at = subst (Good A w m k (event.Deliver which k)) (sym at)
         (good_next A w m k n (event.Deliver which k) (service_taken n (taken n.service s.from (Request mask xo timer tid user bytes)) report.Again) m.asked m.readings t stands
         (service_next A w m k n t stands (Takes which) (taken n.service s.from (Request mask xo timer tid user bytes)).after (taken n.service s.from (Request mask xo timer tid user bytes)).sent report.Again timely tt is_taken) refl)
+    good_service said o reception.Released later is at = subst (Good A w m k (event.Deliver which k)) (sym at)
+        (good_next A w m k n (event.Deliver which k) (service_taken n (taken n.service s.from (Request mask xo timer tid user bytes)) report.Released) m.asked m.readings t stands
+        (service_next A w m k n t stands (Takes which) (taken n.service s.from (Request mask xo timer tid user bytes)).after (taken n.service s.from (Request mask xo timer tid user bytes)).sent report.Released timely tt is_taken) refl)
     good_service said o (reception.New key) later is at =
         let is_later : said ≡ reply.Later = later (ap (λ (x : Outcome A). is_asked x.report) at) in
         let waits = laws.new_waits n.service s.from (Request mask xo timer tid user bytes) key is in
@@ -140,15 +142,15 @@ module _ (A : Type 0) (laws : Laws A) (w : WorldState) (m : Machine) (which k : 
         subst (Good A w m k (event.Deliver which k)) (sym at)
         (good_next A w m k n (event.Deliver which k) (zone_served n (taken n.served s.from (Request mask xo timer tid user bytes)) key (page_packet m.table start)) (answered m.asked s.from tid (page_answer m.table start)) m.readings t stands
         (gave_next A w m k n t stands laws (Serves which (page_answer m.table start)) (report.Served (length (asked_for (find (is_key key) (taken n.served s.from (Request mask xo timer tid user bytes)).after) key (page_answer m.table start))))
-        zones_at s.from tid (page_answer m.table start) (zones_at m.net k) asked (without_first (is_key key) (taken n.served s.from (Request mask xo timer tid user bytes)).after) n.service
+        zones_at s.from tid (page_answer m.table start) (zones_at m.net k) asked (after_answer (taken n.served s.from (Request mask xo timer tid user bytes)).after key (page_answer m.table start)) n.service
         (asked_for (find (is_key key) (taken n.served s.from (Request mask xo timer tid user bytes)).after) key (page_answer m.table start))
         timely (page_fits, tt)
         (ap (λ (x : Network). x.event) d)
         (λ who. ap (λ (x : Network). x.requesters who) d)
         (λ at. ap (λ (x : Network). x.responders at) d
-        ∙ ap (λ rs. put (put (after A t.history).responders (zones_at m.net k) (taken n.served s.from (Request mask xo timer tid user bytes)).after) (zones_at m.net k) (without_first (is_key key) rs) at) here
-        ∙ put_twice (after A t.history).responders (zones_at m.net k) (taken n.served s.from (Request mask xo timer tid user bytes)).after (without_first (is_key key) (taken n.served s.from (Request mask xo timer tid user bytes)).after) at
-        ∙ with_served A w m k n t stands (without_first (is_key key) (taken n.served s.from (Request mask xo timer tid user bytes)).after) at)
+        ∙ ap (λ rs. put (put (after A t.history).responders (zones_at m.net k) (taken n.served s.from (Request mask xo timer tid user bytes)).after) (zones_at m.net k) (after_answer rs key (page_answer m.table start)) at) here
+        ∙ put_twice (after A t.history).responders (zones_at m.net k) (taken n.served s.from (Request mask xo timer tid user bytes)).after (after_answer (taken n.served s.from (Request mask xo timer tid user bytes)).after key (page_answer m.table start)) at
+        ∙ with_served A w m k n t stands (after_answer (taken n.served s.from (Request mask xo timer tid user bytes)).after key (page_answer m.table start)) at)
         (ap (λ (x : Network). x.sent) d
         ∙ (λ i. ((after A t.history).sent ++ stamped (after A t.history).event (zones_at m.net k) (waits.1 i)) ++ stamped (after A t.history).event (zones_at m.net k) (asked_for (find (is_key key) (here i)) key (page_answer m.table start)))
         ∙ ap (λ l. l ++ stamped (after A t.history).event (zones_at m.net k) (asked_for (find (is_key key) (taken n.served s.from (Request mask xo timer tid user bytes)).after) key (page_answer m.table start))) (append-nil (after A t.history).sent))
@@ -173,6 +175,9 @@ module _ (A : Type 0) (laws : Laws A) (w : WorldState) (m : Machine) (which k : 
     good_zones o (reception.Again count) is at = subst (Good A w m k (event.Deliver which k)) (sym at)
         (good_next A w m k n (event.Deliver which k) (zone_taken n (taken n.served s.from (Request mask xo timer tid user bytes)) report.Again) m.asked m.readings t stands
         (zones_next A w m k n t stands (Takes which) (taken n.served s.from (Request mask xo timer tid user bytes)).after (taken n.served s.from (Request mask xo timer tid user bytes)).sent report.Again timely tt is_served) refl)
+    good_zones o reception.Released is at = subst (Good A w m k (event.Deliver which k)) (sym at)
+        (good_next A w m k n (event.Deliver which k) (zone_taken n (taken n.served s.from (Request mask xo timer tid user bytes)) report.Released) m.asked m.readings t stands
+        (zones_next A w m k n t stands (Takes which) (taken n.served s.from (Request mask xo timer tid user bytes)).after (taken n.served s.from (Request mask xo timer tid user bytes)).sent report.Released timely tt is_served) refl)
     good_zones o (reception.New key) is at = good_served key o is at
 
     pub good_page : (o : Outcome A) → o ≡ zone_asked n s.from (Request mask xo timer tid user bytes) m.table start → Good A w m k (event.Deliver which k) o

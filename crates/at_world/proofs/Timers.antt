@@ -1,22 +1,29 @@
 -- What the timers of a node are in the machine.
 use Rattle.std.proofs.Common.{◌≡◌, ℕ, zero, suc, Bool, true, false, cond, List, [], ◌∷◌, Option, Some, None, refl, sym, ap, subst, ◌∙◌}
 use Rattle.std.specs.Prelude.{find, option_map, not, ◌==◌}
+use Rattle.std.proofs.lemmas.List.{append-nil}
 use Rattle.std.proofs.lemmas.Bool.{true≢false, false≢true, eq-eqb, eqb-true}
 use Rattle.at_atp.specs.Network as network
-use Rattle.at_atp.specs.Network.{Network, Retries, after, done, with_requester}
+use Rattle.at_atp.specs.Network.{Network, Expires, Retries, after, done, put, with_requester, with_responder}
+use Rattle.at_atp.specs.Fault.{number_of}
+use Rattle.at_atp.specs.Records.{Record, expiry_fault, is_key}
+use Rattle.at_atp.specs.Tables.{without_first}
+use Rattle.at_atp.specs.declared.fault.AtpFault.{AtpFault}
+use Rattle.at_atp.specs.declared.reception.Key.{Key}
+use Rattle.at_ddp.specs.declared.address.Address.{Address}
 use Rattle.at_atp.specs.Requests.{Requests, Retried, Transaction, is_numbered, retried_with, retried}
 use Rattle.at_atp.specs.declared.step.Retry.{Retry}
 use Rattle.at_atp.specs.declared.step.Retry.TheVariants as retry
-use Rattle.at_node.specs.Nodes.{NodeState}
-use Rattle.at_node.specs.Steps.{asking, is_reading, after_failing, after_retry, retry_fired, timed}
+use Rattle.at_node.specs.Nodes.{NodeState, Outcome, idle}
+use Rattle.at_node.specs.Steps.{at_socket, records_at, refused_as, serving, zones_at, asking, is_reading, after_failing, after_retry, retry_fired, timed}
 use Rattle.at_node.specs.declared.event.Report.TheVariants as report
 use Rattle.at_node.specs.declared.event.Timer.{Timer}
 use Rattle.at_node.specs.declared.event.Timer.TheVariants as timer
 use Rattle.at_world.specs.Machine.{Machine, Reading, since_of, without_reading}
 use Rattle.at_world.specs.Worlds.{WorldState, node_at}
 use Rattle.at_world.specs.declared.event.Event.TheVariants as event
-use Rattle.at_world.proofs.Calls.{Good, good_next, good_idle, asking_fits}
-use Rattle.at_world.proofs.Moves.{asker_is, asker_next}
+use Rattle.at_world.proofs.Calls.{Good, good_next, good_idle, good_refused, asking_fits}
+use Rattle.at_world.proofs.Moves.{asker_is, asker_next, service_is, service_next, served_is, zones_next}
 use Rattle.at_world.proofs.Tied.{Laws, IsReading, Tied, moved}
 
 -- the end of a reading leaves the others
@@ -41,6 +48,15 @@ failed_sends r tid x is failed = go (find (is_numbered tid) r.standing) is
     go : (o : Option Transaction) → option_map (λ (t : Transaction). retried_with r tid t t.retries) o ≡ Some x → x.sent ≡ []
     go None g = absurd (cc)
     go (Some t) g = let same : retried_with r tid t t.retries ≡ x = cc in ap (λ (y : Retried). y.sent) (sym same) ∙ quiet t t.retries (ap (λ (y : Retried). y.step) same ∙ failed)
+
+-- what comes of a release timer, by which socket it is for
+abbrev expired_in : {A : Type 0} → NodeState → List Record → Bool → Bool → Key → Option AtpFault → Outcome A
+expired_in n rs x y key (Some fault) = idle n (refused_as (number_of fault))
+expired_in n rs x y key None = record {
+  report = report.Done;
+  node = cond x (record n { service = without_first (is_key key) rs }) (cond y (record n { served = without_first (is_key key) rs }) n);
+  out = [];
+}
 
 module _ (A : Type 0) (laws : Laws A) (w : WorldState) (m : Machine) (k : ℕ) (n : NodeState) (t : Tied A w m) (stands : node_at w k ≡ Some n) (tid : ℕ) where
   is_done : (r : Retried) → retried n.requester tid ≡ Some r → done A (after A t.history) (Retries (asking m.net k) tid) ≡ with_requester (after A t.history) (asking m.net k) r.after r.sent
@@ -96,5 +112,27 @@ module _ (A : Type 0) (laws : Laws A) (w : WorldState) (m : Machine) (k : ℕ) (
   good_fired None is = good_idle A w m k n (event.Timer k (timer.Retry tid)) (report.Refused 15) t stands refl
   good_fired (Some r) is = good_retried r is r.step refl
 
+-- the release timer of a record
+module _ (A : Type 0) (laws : Laws A) (w : WorldState) (m : Machine) (k : ℕ) (n : NodeState) (t : Tied A w m) (stands : node_at w k ≡ Some n) (time : Timer) (own : ℕ) (key : Key) where
+  -- a record is taken away, and nothing is sent
+  expired_is : (at : Address) (rs : List Record) → (after A t.history).responders at ≡ rs → expiry_fault (find (is_key key) rs) ≡ None →
+      done A (after A t.history) (Expires at key) ≡ with_responder (after A t.history) at (without_first (is_key key) rs) []
+  expired_is at rs is free =
+      ap (network.expires (after A t.history) at key) (ap (λ l. expiry_fault (find (is_key key) l)) is ∙ free)
+      ∙ (λ i. record (after A t.history) { responders = put (after A t.history).responders at (without_first (is_key key) (is i)); sent = sym (append-nil (after A t.history).sent) i })
+
+  good_expired : (x y : Bool) (fault : Option AtpFault) → expiry_fault (find (is_key key) (cond x n.service (cond y n.served []))) ≡ fault → Good A w m k (event.Timer k time)
+      (expired_in n (cond x n.service (cond y n.served [])) x y key fault)
+  good_expired x y (Some fault) is = good_refused A laws w m k n t stands (event.Timer k time) (number_of fault) (λ i. refl) refl
+  good_expired true y None is =
+      good_next A w m k n (event.Timer k time) (expired_in n n.service true y key None) m.asked m.readings t stands
+      (service_next A w m k n t stands (Expires (serving m.net k) key) (without_first (is_key key) n.service) [] report.Done tt tt (expired_is (serving m.net k) n.service (service_is A w m k n t stands) is)) refl
+  good_expired false true None is =
+      good_next A w m k n (event.Timer k time) (expired_in n n.served false true key None) m.asked m.readings t stands
+      (zones_next A w m k n t stands (Expires (zones_at m.net k) key) (without_first (is_key key) n.served) [] report.Done tt tt (expired_is (zones_at m.net k) n.served (served_is A w m k n t stands) is)) refl
+  good_expired false false None is = absurd (cc)
+
 pub good_timed : (A : Type 0) (laws : Laws A) (w : WorldState) (m : Machine) (k : ℕ) (n : NodeState) (t : Tied A w m) (stands : node_at w k ≡ Some n) (time : Timer) → Good A w m k (event.Timer k time) (timed n time)
 good_timed A laws w m k n t stands (timer.Retry tid) = good_fired A laws w m k n t stands tid (retried n.requester tid) refl
+good_timed A laws w m k n t stands (timer.Release own node socket tid) =
+    good_expired A laws w m k n t stands (timer.Release own node socket tid) own (record { from = at_socket n node socket; tid = tid }) (own == 129) (own == 6) (expiry_fault (find (is_key (record { from = at_socket n node socket; tid = tid })) (records_at n own))) refl

@@ -1,7 +1,7 @@
 -- The abstract machine: what the users of the nodes may be told. It has no packet, no record, no window and no timer; a
 -- transaction is known by who asked and under which number (Inside AppleTalk, ATP, "Transactions", and ZIP,
 -- "GetZoneList").
-use Rattle.std.specs.Prelude.{◌≡◌, ℕ, ◌<◌, ◌≤◌, ◌==◌, not, false, List, [], ◌∷◌, ◌++◌, length, filter, find, take, slice_index_or, option_map, Option, Some, Result, Ok, Err}
+use Rattle.std.specs.Prelude.{◌≡◌, ℕ, ◌<◌, ◌≤◌, ◌==◌, not, Bool, false, List, [], ◌∷◌, ◌++◌, length, filter, find, take, slice_index_or, option_map, Option, Some, Result, Ok, Err}
 use Rattle.at_ddp.specs.declared.address.Address.{Address}
 use Rattle.at_atp.specs.Packets.{Packet}
 use Rattle.at_atp.specs.Transactions.{Transaction, Asked, transaction_of, answered, IsResponse}
@@ -85,8 +85,8 @@ pub record BeginsReading (m : Machine) (node tid : ℕ) (m' : Machine) : Type 0 
   pub becomes : m' ≡ next (record m { asked = first_page m.net node router tid ∷ m.asked; readings = record { node = node; since = length m.past } ∷ m.readings })
 
 -- a transaction begins, without answers
-pub record BeginsAsking (m : Machine) (node : ℕ) (responder : Address) (user bytes : List ℕ) (wanted tid : ℕ) (m' : Machine) : Type 0 where
-  pub becomes : m' ≡ next (record m { asked = record { requester = asking m.net node; tid = tid; responder = responder; user = user; data_ = bytes; wanted = wanted; xo = false; answers = [] } ∷ m.asked })
+pub record BeginsAsking (m : Machine) (node : ℕ) (responder : Address) (user bytes : List ℕ) (wanted : ℕ) (xo : Bool) (tid : ℕ) (m' : Machine) : Type 0 where
+  pub becomes : m' ≡ next (record m { asked = record { requester = asking m.net node; tid = tid; responder = responder; user = user; data_ = bytes; wanted = wanted; xo = xo; answers = [] } ∷ m.asked })
 
 -- a node's user answers the newest transaction of a requester under a number, which asked the node's service
 pub record GivesAnswer (m : Machine) (node : ℕ) (requester : Address) (tid : ℕ) (packets : List Packet) (count : ℕ) (m' : Machine) : Type 0 where
@@ -133,14 +133,14 @@ pub record FailsReading (m : Machine) (node : ℕ) (m' : Machine) : Type 0 where
 -- a call begins this transaction
 abbrev pub Begins : {A : Type 0} → Machine → ℕ → Call A → ℕ → Machine → Type 0
 Begins m node Zones tid m' = BeginsReading m node tid m'
-Begins m node (Ask k socket user bytes wanted retries) tid m' = BeginsAsking m node (at_net m k socket) user bytes wanted tid m'
+Begins m node (Ask k socket user bytes wanted xo retries) tid m' = BeginsAsking m node (at_net m k socket) user bytes wanted xo tid m'
 Begins m node (Answer k socket number packets) tid m' = ⊥
 
 -- a call gives this answer, of which so many packets are sent
 abbrev pub Answers : {A : Type 0} → Machine → ℕ → Call A → ℕ → Machine → Type 0
 Answers m node (Answer k socket tid packets) count m' = GivesAnswer m node (at_net m k socket) tid packets count m'
 Answers m node Zones count m' = ⊥
-Answers m node (Ask k socket user bytes wanted retries) count m' = ⊥
+Answers m node (Ask k socket user bytes wanted xo retries) count m' = ⊥
 
 -- a call is answered by this report
 abbrev pub StepCall : {A : Type 0} → Machine → ℕ → Call A → Report A → Machine → Type 0
@@ -158,6 +158,7 @@ StepDelivery m node (report.Response tid packets) m' = IsAnswered m node tid pac
 StepDelivery m node (report.Zones names) m' = EndsReading m node names m'
 StepDelivery m node report.Kept m' = m' ≡ next m
 StepDelivery m node report.Again m' = m' ≡ next m
+StepDelivery m node report.Released m' = m' ≡ next m
 StepDelivery m node report.Ignored m' = m' ≡ next m
 StepDelivery m node (report.Refused number) m' = m' ≡ next m
 StepDelivery m node report.NoMemory m' = m' ≡ next m
@@ -166,6 +167,7 @@ StepDelivery m node r m' = ⊥
 -- a timer is answered by this report
 abbrev pub StepTimer : {A : Type 0} → Machine → ℕ → Report A → Machine → Type 0
 StepTimer m node report.Again m' = m' ≡ next m
+StepTimer m node report.Done m' = m' ≡ next m
 StepTimer m node (report.Failed tid) m' = m' ≡ next m
 StepTimer m node report.ZonesFailed m' = FailsReading m node m'
 StepTimer m node (report.Refused number) m' = m' ≡ next m

@@ -3,7 +3,7 @@ use super::faults::{has_fault, is_schedule};
 use std::test::Fail;
 
 // Lines that are at fault.
-static FAULTS: [&str; 72] = [
+static FAULTS: [&str; 89] = [
     // An ask that ends too soon, and one that goes on.
     "call 1 ask",
     "call 1 ask 7",
@@ -42,7 +42,8 @@ static FAULTS: [&str; 72] = [
     "call 1 ask 7 129 00000000 - 257 alo 3",
     "call 1 ask 7 129 00000000 - - alo 3",
     // The mode.
-    "call 1 ask 7 129 00000000 - 1 xo 3",
+    "call 1 ask 7 129 00000000 - 1 XO 3",
+    "call 1 ask 7 129 00000000 - 1 xoxo 3",
     "call 1 ask 7 129 00000000 - 1 ALO 3",
     "call 1 ask 7 129 00000000 - 1 al 3",
     "call 1 ask 7 129 00000000 - 1 aloha 3",
@@ -86,10 +87,26 @@ static FAULTS: [&str; 72] = [
     "timer 1 retry 65536",
     "timer 1 retry 0 0",
     "timer 1 Retry 0",
+    "timer 1 release",
+    "timer 1 release 129",
+    "timer 1 release 129 5",
+    "timer 1 release 129 5 128",
+    "timer 1 release 129 5 128 0 0",
+    "timer 1 release 0 5 128 0",
+    "timer 1 release 7 5 128 0",
+    "timer 1 release 128 5 128 0",
+    "timer 1 release 385 5 128 0",
+    "timer 1 release 129 0 128 0",
+    "timer 1 release 129 255 128 0",
+    "timer 1 release 129 5 0 0",
+    "timer 1 release 129 5 255 0",
+    "timer 1 release 129 5 128 65536",
+    "timer 0 release 129 5 128 0",
+    "timer 1 Release 129 5 128 0",
 ];
 
 // Lines that are not.
-static LAWFUL: [&str; 12] = [
+static LAWFUL: [&str; 16] = [
     "call 1 ask 7 129 00000000 - 1 alo 0",
     "call 254 ask 254 254 ffFFaA09 0123456789abcdefABCDEF 8 alo 255",
     "call 01 ask 1 001 00000000 00 08 alo 000000000000000000000000",
@@ -102,6 +119,10 @@ static LAWFUL: [&str; 12] = [
     "timer 254 retry 65535",
     "timer 001 retry 000065535",
     "timer  1  retry  1  ",
+    "call 1 ask 7 129 00000000 - 1 xo 0",
+    "timer 1 release 6 254 254 65535",
+    "timer 254 release 129 1 1 0",
+    "timer  1  release  006  1  1  0  ",
 ];
 
 #[test]

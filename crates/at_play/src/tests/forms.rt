@@ -30,6 +30,8 @@ static PRINTED: &str = "0 begun 65535
 16 asked 1 255 0 FEDCBA98 -
 17 zonesfailed
 18 failed 65535
+19 released
+20 done
 ";
 
 fn names(alloc: Global, texts: &[&[u8]]) -> Result<Report<Global>, AllocError> {
@@ -114,6 +116,8 @@ fn reports(alloc: Global) -> Result<Vec<Report<Global>>, AllocError> {
     reports.push(asked(alloc, 1, 255, 0, parts)?)?;
     reports.push(Report::ZonesFailed)?;
     reports.push(Report::Failed(65535))?;
+    reports.push(Report::Released)?;
+    reports.push(Report::Done)?;
     Ok(reports)
 }
 

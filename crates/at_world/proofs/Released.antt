@@ -1,0 +1,52 @@
+-- What a release that comes to a node's service, or to the router's zone socket, is in the machine.
+use Rattle.std.proofs.Common.{◌≡◌, ℕ, true, Some, refl, sym, ap, ◌∙◌}
+use Rattle.std.specs.Prelude.{slice_get}
+use Rattle.at_atp.specs.Frames.{Release}
+use Rattle.at_atp.specs.Network as network
+use Rattle.at_atp.specs.Network.{Sent, Takes, after, done, with_responder}
+use Rattle.at_atp.specs.Records.{taken}
+use Rattle.at_atp.specs.Transactions.{transaction_of, Asked}
+use Rattle.at_atp.specs.declared.reception.Reception.{Reception}
+use Rattle.at_atp.specs.declared.reception.Reception.TheVariants as reception
+use Rattle.at_node.specs.Nodes.{NodeState}
+use Rattle.at_node.specs.Steps.{serving, zones_at, released_report, service_released, zone_released}
+use Rattle.at_world.specs.Machine.{Machine, Step, next}
+use Rattle.at_world.specs.Worlds.{WorldState, node_at}
+use Rattle.at_world.specs.declared.event.Event.TheVariants as event
+use Rattle.at_world.proofs.Calls.{Good, good_next}
+use Rattle.at_world.proofs.Moves.{service_is, served_is, service_next, zones_next}
+use Rattle.at_world.proofs.Tied.{Laws, Tied}
+
+-- whatever is reported of a release, the machine stays
+stays : (A : Type 0) (m : Machine) (which k : ℕ) (r : Reception) → Step {A = A} m (event.Deliver which k) (released_report r) (next m)
+stays A m which k reception.Ignored = refl
+stays A m which k (reception.New key) = refl
+stays A m which k (reception.Again count) = refl
+stays A m which k reception.Released = refl
+
+module _ (A : Type 0) (laws : Laws A) (w : WorldState) (m : Machine) (which k : ℕ) (n : NodeState) (t : Tied A w m) (stands : node_at w k ≡ Some n) (s : Sent) (was_sent : slice_get (after A t.history).sent which ≡ Some s)
+    (fresh : network.is_fresh (after A t.history).drawn s ≡ true) (timely : network.ComesInTime (after A t.history) which) (tid : ℕ) (packet_is : s.packet ≡ Release tid) where
+  -- the newest transaction of this number, which asked where it came
+  pub released_where : Asked m.asked s.from tid s.to
+  released_where =
+      let gives = laws.answers t.history t.timely in
+      let a = gives.released which s tid was_sent fresh packet_is in
+      record { transaction = a.transaction; newest = ap (λ ts. transaction_of ts s.from tid) (sym t.asked) ∙ a.newest; asked_it = a.asked_it }
+
+  pub good_service_release : s.to ≡ serving m.net k → Good A w m k (event.Deliver which k) (service_released n (taken n.service s.from (Release tid)))
+  good_service_release to_is =
+      let its = ap (after A t.history).responders to_is ∙ service_is A w m k n t stands in
+      let is_taken : done A (after A t.history) (Takes which) ≡ with_responder (after A t.history) (serving m.net k) (taken n.service s.from (Release tid)).after (taken n.service s.from (Release tid)).sent =
+      ap (network.takes_in (after A t.history)) was_sent ∙ (λ i. with_responder (after A t.history) (to_is i) (taken (its i) s.from (packet_is i)).after (taken (its i) s.from (packet_is i)).sent) in
+      good_next A w m k n (event.Deliver which k) (service_released n (taken n.service s.from (Release tid))) m.asked m.readings t stands
+      (service_next A w m k n t stands (Takes which) (taken n.service s.from (Release tid)).after (taken n.service s.from (Release tid)).sent (released_report (taken n.service s.from (Release tid)).reception) timely tt is_taken)
+      (stays A m which k (taken n.service s.from (Release tid)).reception)
+
+  pub good_zone_release : s.to ≡ zones_at m.net k → Good A w m k (event.Deliver which k) (zone_released n (taken n.served s.from (Release tid)))
+  good_zone_release to_is =
+      let its = ap (after A t.history).responders to_is ∙ served_is A w m k n t stands in
+      let is_taken : done A (after A t.history) (Takes which) ≡ with_responder (after A t.history) (zones_at m.net k) (taken n.served s.from (Release tid)).after (taken n.served s.from (Release tid)).sent =
+      ap (network.takes_in (after A t.history)) was_sent ∙ (λ i. with_responder (after A t.history) (to_is i) (taken (its i) s.from (packet_is i)).after (taken (its i) s.from (packet_is i)).sent) in
+      good_next A w m k n (event.Deliver which k) (zone_released n (taken n.served s.from (Release tid))) m.asked m.readings t stands
+      (zones_next A w m k n t stands (Takes which) (taken n.served s.from (Release tid)).after (taken n.served s.from (Release tid)).sent (released_report (taken n.served s.from (Release tid)).reception) timely tt is_taken)
+      (stays A m which k (taken n.served s.from (Release tid)).reception)
