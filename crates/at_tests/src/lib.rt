@@ -2,11 +2,15 @@
 #![tactic(auto)]
 
 #[cfg(test)]
+mod exactly_once;
+#[cfg(test)]
 mod node_played;
 #[cfg(test)]
 mod node_readings;
 #[cfg(test)]
 mod node_refusals;
+#[cfg(test)]
+mod once_failures;
 #[cfg(test)]
 mod retries;
 #[cfg(test)]

@@ -7,39 +7,37 @@ use std::io;
 use std::io::{Cursor, ErrorKind, Read, Seek, SeekFrom};
 use std::process::Abort;
 
-// Gives another text each time that it is read from its beginning; past the last of them it can't be.
+// Gives another text each time that it is read from its beginning, which it can be so often.
 #[derive(Drop)]
-struct Changing<'a> {
-    rest: &'a [u8],
-    texts: &'a [&'a [u8]],
+struct Changing {
+    texts: [&'static str; 3],
+    turn: usize,
+    turns: usize,
+    at: usize,
 }
 
-impl<'a> Changing<'a> {
-    fn new(texts: &'a [&'a [u8]]) -> Changing<'a> {
-        match texts {
-            [first, later @ ..] => Changing {
-                rest: first,
-                texts: later,
-            },
-            [] => Changing { rest: b"", texts },
-        }
-    }
-}
-
-impl Read for Changing<'_> {
+impl Read for Changing {
     fn read(&mut self, buf: &mut [u8]) -> io::Result<usize> {
-        self.rest.read(buf)
+        let text = match self.texts.get(self.turn) {
+            Some(text) => text.as_bytes(),
+            None => b"",
+        };
+        let mut rest = text.get(self.at..).unwrap_or(b"");
+        let count = rest.read(buf)?;
+        self.at = self.at.saturating_add(count);
+        Ok(count)
     }
 }
 
-impl Seek for Changing<'_> {
+impl Seek for Changing {
     fn seek(&mut self, _to: SeekFrom) -> io::Result<u64> {
-        let Some((first, later)) = self.texts.split_first() else {
-            return Err(io::Error::from(ErrorKind::NotSeekable));
-        };
-        self.rest = first;
-        self.texts = later;
-        Ok(0)
+        self.turn = self.turn.saturating_add(1);
+        self.at = 0;
+        if self.turn < self.turns {
+            Ok(0)
+        } else {
+            Err(io::Error::from(ErrorKind::NotSeekable))
+        }
     }
 }
 
@@ -54,41 +52,58 @@ fn played<A: Allocator + Copy, F: Read + Seek>(
     (writer, status)
 }
 
-fn compare(rt: &impl Abort, alloc: Global, texts: &[&[u8]], want: &[u8], want_status: Status) {
-    let (printed, status) = played(alloc, alloc, &mut Changing::new(texts));
-    assert_eq!(rt; printed.as_slice(), want, "of {texts:?}");
-    assert_eq!(rt; status, want_status, "of {texts:?}");
+fn compare(
+    rt: &impl Abort,
+    alloc: Global,
+    texts: [&'static str; 3],
+    turns: usize,
+    want: &str,
+    want_status: Status,
+) {
+    let mut file = Changing {
+        texts,
+        turn: 0,
+        turns,
+        at: 0,
+    };
+    let (printed, status) = played(alloc, alloc, &mut file);
+    assert_eq!(rt; printed.as_slice(), want.as_bytes(), "in {turns} turns");
+    assert_eq!(rt; status, want_status, "in {turns} turns");
 }
 
 #[test]
 fn a_file_is_read_three_times_from_its_beginning(rt: HostRuntime) {
-    let text = ZONE_LIST.as_bytes();
-    let want = ZONE_LIST_PLAYED.as_bytes();
-    compare(&rt, rt.alloc(), &[text, text, text], want, Status::Done);
-    let (printed, status) = played(rt.alloc(), rt.alloc(), &mut Cursor::new(text));
-    assert_eq!(rt; printed.as_slice(), want);
+    let texts = [ZONE_LIST; 3];
+    compare(&rt, rt.alloc(), texts, 3, ZONE_LIST_PLAYED, Status::Done);
+    let (printed, status) = played(
+        rt.alloc(),
+        rt.alloc(),
+        &mut Cursor::new(ZONE_LIST.as_bytes()),
+    );
+    assert_eq!(rt; printed.as_slice(), ZONE_LIST_PLAYED.as_bytes());
     assert_eq!(rt; status, Status::Done);
 }
 
 #[test]
 fn a_file_with_a_fault_plays_nothing(rt: HostRuntime) {
-    let text = b"net 10\nnode 5\ncall 5 zones\nfault\ncall 5 zones\n".as_slice();
-    compare(&rt, rt.alloc(), &[text, text, text], b"fault 4\n", Status::Failed);
+    let texts = ["net 10\nnode 5\ncall 5 zones\nfault\ncall 5 zones\n"; 3];
+    compare(&rt, rt.alloc(), texts, 3, "fault 4\n", Status::Failed);
 }
 
 #[test]
 fn a_file_that_cannot_be_read_again_is_unreadable(rt: HostRuntime) {
-    let text = ZONE_LIST.as_bytes();
-    compare(&rt, rt.alloc(), &[text], b"fault 0\n", Status::Failed);
-    compare(&rt, rt.alloc(), &[text, text], b"fault 0\n", Status::Failed);
+    for turns in [1, 2] {
+        let texts = [ZONE_LIST; 3];
+        compare(&rt, rt.alloc(), texts, turns, "fault 0\n", Status::Failed);
+    }
 }
 
 #[test]
 fn a_file_that_changes_while_it_is_played_is_told_as_unreadable(rt: HostRuntime) {
-    let text = b"net 10\nnode 5\ncall 5 zones\ncall 5 zones\n".as_slice();
-    let changed = b"net 10\nnode 5\ncall 5 zones\nfault\n".as_slice();
-    let want = b"0 refused 60\nfault 0\n";
-    compare(&rt, rt.alloc(), &[text, text, changed], want, Status::Failed);
+    let text = "net 10\nnode 5\ncall 5 zones\ncall 5 zones\n";
+    let changed = "net 10\nnode 5\ncall 5 zones\nfault\n";
+    let want = "0 refused 60\nfault 0\n";
+    compare(&rt, rt.alloc(), [text, text, changed], 3, want, Status::Failed);
 }
 
 // Numbers signs without a line feed, so many at a time.
