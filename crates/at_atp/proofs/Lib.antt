@@ -12,6 +12,7 @@ mod Histories
 mod NetworkLemmas
 mod Takings
 mod Newest
+mod OnceLemmas
 mod OpenLemmas
 mod Ranges
 mod RecordLemmas

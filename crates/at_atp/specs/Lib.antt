@@ -4,6 +4,7 @@ pub mod Fault
 pub mod Frames
 pub mod Lawfully
 pub mod Network
+pub mod Once
 pub mod Packets
 pub mod Reading
 pub mod Records

@@ -1,5 +1,5 @@
 //! Laws of the spellings. The functions do nothing: each contract is a law.
-ghost use Rattle.std.specs.Prelude.{◌≡◌, ◌↔◌, ◌≤◌, ◌==◌, ◌++◌, ◌∷◌, [], List, ℕ, Bool, true, false, length, find, replicate, Option, Some, None};
+ghost use Rattle.std.specs.Prelude.{◌≡◌, ◌↔◌, ◌≤◌, ◌+◌, ◌==◌, ◌++◌, ◌∷◌, [], List, ◌⊎◌, ℕ, Bool, true, false, length, find, replicate, Option, Some, None};
 ghost use Rattle.at_ddp.specs.Datagram.{AreBytes};
 ghost use Rattle.at_ddp.specs.declared.address.Address.{Address};
 ghost use Rattle.at_atp.specs.Fault.{Stands};
@@ -9,6 +9,7 @@ ghost use Rattle.std.specs.List.{AllByRecursion};
 ghost use Rattle.at_atp.specs.Lawfully.{IsInRange, IsLawfullySent};
 ghost use Rattle.at_atp.specs.Network.{Happening, AllTimely, GivesAnswers, after, number_of};
 ghost use Rattle.at_atp.specs.Transactions.{Transaction as Exchange, Asked, answered};
+ghost use Rattle.at_atp.specs.Once.{Event, Expires, Undoes, stands, hand_ups, removes, removals, is_once};
 ghost use Rattle.at_atp.specs.Records.{Record, is_key, taken, record_fault, asked_for};
 ghost use Rattle.at_atp.specs.declared.reception.Key.{Key};
 ghost use Rattle.at_atp.specs.declared.reception.Reception.TheVariants.{New};
@@ -79,6 +80,14 @@ pub fn numbers_stay_open<A: Allocator>()
 pub fn a_new_request_waits()
     ensures { (rs : List Record) (from : Address) (f : Content) (key : Key) → (taken rs from f).reception ≡ New key
         → (record_fault (find (is_key key) (taken rs from f).after) ≡ None) × ((taken rs from f).sent ≡ []) × (key ≡ record { from = from; tid = number_of f }) }
+{}
+
+/// Between two removals of its record, a request is handed up at most once, whatever comes. The record of an exactly-once
+/// request is removed only where it expires or is undone.
+pub fn a_request_is_handed_up_once()
+    ensures once { (key : Key) (rs : List Record) (events : List Event) → hand_ups key rs events ≤ removals key rs events + 1 }
+    ensures standing { (key : Key) (rs : List Record) (events : List Event) → stands key rs ≡ true → hand_ups key rs events ≤ removals key rs events }
+    ensures removed { (key : Key) (rs : List Record) (r : Record) (e : Event) → find (is_key key) rs ≡ Some r → is_once r.state ≡ true → removes key rs e ≡ true → (e ≡ Expires key) ⊎ (e ≡ Undoes key) }
 {}
 
 /// No more packets are sent than an answer has.
