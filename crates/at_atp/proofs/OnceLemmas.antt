@@ -1,11 +1,10 @@
 -- How often the record of a request comes and goes at one responder.
 use Rattle.std.proofs.Common.{◌≡◌, ℕ, ◌+◌, ◌≤◌, Bool, true, false, cond, List, [], ◌∷◌, ◌++◌, Option, Some, None, ◌⊎◌, inl, inr, refl, sym, ap, ◌∙◌, arith}
-use Rattle.std.specs.Prelude.{find, is_some, not, ◌==◌, ◌&&◌, ◌||◌}
+use Rattle.std.specs.Prelude.{find, is_some, not, ◌&&◌, ◌||◌}
 use Rattle.std.proofs.lemmas.Bool.{true≢false, or_from, or_parts}
-use Rattle.at_ddp.specs.Address.{same_address}
 use Rattle.at_ddp.specs.declared.address.Address.{Address}
 use Rattle.at_atp.specs.Frames.{Content, Request, Response, Release}
-use Rattle.at_atp.specs.Once.{Event, Comes, Answers, Expires, Undoes, unless, next, is_new_of, hands_up, stands, removes, once_if, hand_ups, removals, is_once}
+use Rattle.at_atp.specs.Once.{Event, Comes, Answers, Expires, Undoes, unless, next, is_new_of, hands_up, same_key, stands, removes, once_if, hand_ups, removals, is_once}
 use Rattle.at_atp.specs.Packets.{Packet}
 use Rattle.at_atp.specs.Records.{State, Waiting, Answered, Released, Record, Taken, is_key, repeated, released, came_again, request_came, release_came, passed, is_passed_over, taken, record_fault, answer_fault, is_kept, after_answer, expiry_fault}
 use Rattle.at_atp.specs.Tables.{replaced, without_first}
@@ -13,16 +12,8 @@ use Rattle.at_atp.specs.declared.fault.AtpFault.{AtpFault}
 use Rattle.at_atp.specs.declared.reception.Key.{Key}
 use Rattle.at_atp.proofs.Alls.{found_passes}
 use Rattle.at_atp.proofs.AnsweringLemmas.{answerable}
+use Rattle.at_atp.proofs.KeyedRecords.{one_key}
 use Rattle.at_atp.proofs.RecordLemmas.{own}
-
--- ---- keys
-
--- a record is of this key if its own is
-abbrev is_same : Key → Key → Bool
-is_same key k = same_address k.from key.from && (k.tid == key.tid)
-
-one_key : (key k : Key) → is_same key k ≡ true → k ≡ key
-one_key key k h = own key (record { key = k; state = Released }) h
 
 -- ---- which records stand
 
@@ -30,18 +21,18 @@ some_or : (b : Bool) (r : Record) (o : Option Record) → is_some (cond b (Some 
 some_or true r o = refl
 some_or false r o = refl
 
-stands_first : (key : Key) (r : Record) (rs : List Record) → stands key (r ∷ rs) ≡ (is_same key r.key || stands key rs)
-stands_first key r rs = some_or (is_same key r.key) r (find (is_key key) rs)
+stands_first : (key : Key) (r : Record) (rs : List Record) → stands key (r ∷ rs) ≡ (same_key r.key key || stands key rs)
+stands_first key r rs = some_or (same_key r.key key) r (find (is_key key) rs)
 
-stands_last : (key : Key) (r : Record) (rs : List Record) → stands key (rs ++ r ∷ []) ≡ (stands key rs || is_same key r.key)
-stands_last key r [] = go (is_same key r.key)
+stands_last : (key : Key) (r : Record) (rs : List Record) → stands key (rs ++ r ∷ []) ≡ (stands key rs || same_key r.key key)
+stands_last key r [] = go (same_key r.key key)
   where
     go : (b : Bool) → is_some (cond b (Some r) None) ≡ b
     go true = refl
     go false = refl
-stands_last key r (x ∷ rs) = go (stands_last key r rs) (is_same key x.key)
+stands_last key r (x ∷ rs) = go (stands_last key r rs) (same_key x.key key)
   where
-    go : stands key (rs ++ r ∷ []) ≡ (stands key rs || is_same key r.key) → (b : Bool) → is_some (cond b (Some x) (find (is_key key) (rs ++ r ∷ []))) ≡ (is_some (cond b (Some x) (find (is_key key) rs)) || is_same key r.key)
+    go : stands key (rs ++ r ∷ []) ≡ (stands key rs || same_key r.key key) → (b : Bool) → is_some (cond b (Some x) (find (is_key key) (rs ++ r ∷ []))) ≡ (is_some (cond b (Some x) (find (is_key key) rs)) || same_key r.key key)
     go ih true = refl
     go ih false = ih
 
@@ -51,29 +42,29 @@ stands_replaced key k y [] same = refl
 stands_replaced key k y (r ∷ rs) same = go (stands_replaced key k y rs same) (is_key k r) refl
   where
     go : stands key (replaced (is_key k) y rs) ≡ stands key rs → (b : Bool) → is_key k r ≡ b → stands key (cond b (y ∷ rs) (r ∷ replaced (is_key k) y rs)) ≡ stands key (r ∷ rs)
-    go ih true e = stands_first key y rs ∙ ap (λ x. is_same key x || stands key rs) (same ∙ sym (own k r e)) ∙ sym (stands_first key r rs)
-    go ih false e = stands_first key r (replaced (is_key k) y rs) ∙ ap (λ b. is_same key r.key || b) ih ∙ sym (stands_first key r rs)
+    go ih true e = stands_first key y rs ∙ ap (λ x. same_key x key || stands key rs) (same ∙ sym (own k r e)) ∙ sym (stands_first key r rs)
+    go ih false e = stands_first key r (replaced (is_key k) y rs) ∙ ap (λ b. same_key r.key key || b) ih ∙ sym (stands_first key r rs)
 
 -- what goes makes nothing stand
 stands_without : (key : Key) (q : Record → Bool) (rs : List Record) → stands key rs ≡ false → stands key (without_first q rs) ≡ false
 stands_without key q [] h = h
 stands_without key q (r ∷ rs) h = go (stands_without key q rs parts.1) (q r)
   where
-    parts : (is_same key r.key ≡ false) × (stands key rs ≡ false)
-    parts = or_parts (is_same key r.key) (stands key rs) (sym (stands_first key r rs) ∙ h)
+    parts : (same_key r.key key ≡ false) × (stands key rs ≡ false)
+    parts = or_parts (same_key r.key key) (stands key rs) (sym (stands_first key r rs) ∙ h)
 
     go : stands key (without_first q rs) ≡ false → (b : Bool) → stands key (cond b rs (r ∷ without_first q rs)) ≡ false
     go ih true = parts.1
-    go ih false = stands_first key r (without_first q rs) ∙ or_from (is_same key r.key) (stands key (without_first q rs)) parts.0 ih
+    go ih false = stands_first key r (without_first q rs) ∙ or_from (same_key r.key key) (stands key (without_first q rs)) parts.0 ih
 
 -- where another goes, this one stays
-stays_without : (key k : Key) (rs : List Record) → is_same key k ≡ false → stands key (without_first (is_key k) rs) ≡ stands key rs
+stays_without : (key k : Key) (rs : List Record) → same_key k key ≡ false → stands key (without_first (is_key k) rs) ≡ stands key rs
 stays_without key k [] other = refl
 stays_without key k (r ∷ rs) other = go (stays_without key k rs other) (is_key k r) refl
   where
     go : stands key (without_first (is_key k) rs) ≡ stands key rs → (b : Bool) → is_key k r ≡ b → stands key (cond b rs (r ∷ without_first (is_key k) rs)) ≡ stands key (r ∷ rs)
-    go ih true e = sym (stands_first key r rs ∙ ap (λ b. b || stands key rs) (ap (is_same key) (own k r e) ∙ other))
-    go ih false e = stands_first key r (without_first (is_key k) rs) ∙ ap (λ b. is_same key r.key || b) ih ∙ sym (stands_first key r rs)
+    go ih true e = sym (stands_first key r rs ∙ ap (λ b. b || stands key rs) (ap (λ x. same_key x key) (own k r e) ∙ other))
+    go ih false e = stands_first key r (without_first (is_key k) rs) ∙ ap (λ b. same_key r.key key || b) ih ∙ sym (stands_first key r rs)
 
 -- ---- one event
 
@@ -101,9 +92,9 @@ came_settled : (key k : Key) (rs : List Record) (r : Record) (s : State) → fin
 came_settled key k rs r s is = stands_replaced key k (record r { state = s }) rs (own k r (found_passes (is_key k) rs r is))
 
 request_settled : (key k : Key) (rs : List Record) (xo : Bool) (mask : ℕ) (o : Option Record) → find (is_key k) rs ≡ o → Settled key rs (request_came rs k xo mask o)
-request_settled key k rs xo mask None none = go (is_same key k) refl
+request_settled key k rs xo mask None none = go (same_key k key) refl
   where
-    last : stands key (rs ++ record { key = k; state = Waiting xo mask } ∷ []) ≡ (stands key rs || is_same key k)
+    last : stands key (rs ++ record { key = k; state = Waiting xo mask } ∷ []) ≡ (stands key rs || same_key k key)
     last = stands_last key (record { key = k; state = Waiting xo mask }) rs
 
     more : (a b : Bool) → a ≡ true → (a || b) ≡ true
@@ -119,10 +110,10 @@ request_settled key k rs xo mask None none = go (is_same key k) refl
     all true = refl
     all false = refl
 
-    go : (b : Bool) → is_same key k ≡ b → Balanced b (stands key rs) (stands key (rs ++ record { key = k; state = Waiting xo mask } ∷ [])) × (stands key rs ≡ true → stands key (rs ++ record { key = k; state = Waiting xo mask } ∷ []) ≡ true)
+    go : (b : Bool) → same_key k key ≡ b → Balanced b (stands key rs) (stands key (rs ++ record { key = k; state = Waiting xo mask } ∷ [])) × (stands key rs ≡ true → stands key (rs ++ record { key = k; state = Waiting xo mask } ∷ []) ≡ true)
     go true e =
-        let before : stands key rs ≡ false = ap (λ x. stands x rs) (sym (one_key key k e)) ∙ ap is_some none in
-        (here (stands key rs) (stands key (rs ++ record { key = k; state = Waiting xo mask } ∷ [])) before (last ∙ rw (before, e) refl), λ h. last ∙ more (stands key rs) (is_same key k) h)
+        let before : stands key rs ≡ false = ap (λ x. stands x rs) (sym (one_key k key e)) ∙ ap is_some none in
+        (here (stands key rs) (stands key (rs ++ record { key = k; state = Waiting xo mask } ∷ [])) before (last ∙ rw (before, e) refl), λ h. last ∙ more (stands key rs) (same_key k key) h)
     go false e = stays key rs (rs ++ record { key = k; state = Waiting xo mask } ∷ []) (last ∙ ap (λ b. stands key rs || b) e ∙ all (stands key rs))
 request_settled key k rs xo mask (Some r) is = go r.state
   where
@@ -210,21 +201,21 @@ answer_keeps key k packets rs r is once free = go (is_kept (find (is_key k) rs))
 
     go : (b : Bool) → is_kept (find (is_key k) rs) ≡ b → stands key (cond b (replaced (is_key k) (record { key = k; state = Answered packets }) rs) (without_first (is_key k) rs)) ≡ stands key rs
     go true e = stands_replaced key k (record { key = k; state = Answered packets }) rs refl
-    go false e = of (is_same key k) refl
+    go false e = of (same_key k key) refl
       where
-        of : (b : Bool) → is_same key k ≡ b → stands key (without_first (is_key k) rs) ≡ stands key rs
+        of : (b : Bool) → same_key k key ≡ b → stands key (without_first (is_key k) rs) ≡ stands key rs
         of false other = stays_without key k rs other
         of true same =
-            let there : find (is_key k) rs ≡ Some r = ap (λ x. find (is_key x) rs) (one_key key k same) ∙ is in
+            let there : find (is_key k) rs ≡ Some r = ap (λ x. find (is_key x) rs) (one_key k key same) ∙ is in
             absurd (true≢false (sym (kept r.state once (ap record_fault (sym there) ∙ free)) ∙ (ap is_kept (sym there) ∙ e)))
 
 -- a record that is taken away is that of its key
 taken_away : (key k : Key) (rs : List Record) (fault : Option AtpFault) → (stands key rs && not (stands key (unless rs fault (without_first (is_key k) rs)))) ≡ true → k ≡ key
 taken_away key k rs (Some fault) h = absurd (not_removed (stands key rs) (stands key rs) refl h)
-taken_away key k rs None h = go (is_same key k) refl
+taken_away key k rs None h = go (same_key k key) refl
   where
-    go : (b : Bool) → is_same key k ≡ b → k ≡ key
-    go true same = one_key key k same
+    go : (b : Bool) → same_key k key ≡ b → k ≡ key
+    go true same = one_key k key same
     go false other = absurd (not_removed (stands key rs) (stands key (without_first (is_key k) rs)) (stays_without key k rs other) h)
 
 pub removed_by : (key : Key) (rs : List Record) (r : Record) (e : Event) → find (is_key key) rs ≡ Some r → is_once r.state ≡ true → removes key rs e ≡ true → (e ≡ Expires key) ⊎ (e ≡ Undoes key)

@@ -2,6 +2,7 @@ pub mod Answers
 pub mod Arriving
 pub mod Fault
 pub mod Frames
+pub mod HandUps
 pub mod Lawfully
 pub mod Network
 pub mod Once

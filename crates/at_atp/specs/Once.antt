@@ -34,9 +34,12 @@ next rs (Answers key packets) = unless rs (answer_fault rs key packets) (after_a
 next rs (Expires key) = unless rs (expiry_fault (find (is_key key) rs)) (without_first (is_key key) rs)
 next rs (Undoes key) = unless rs (record_fault (find (is_key key) rs)) (without_first (is_key key) rs)
 
+abbrev pub same_key : Key → Key → Bool
+same_key a b = same_address a.from b.from && (a.tid == b.tid)
+
 -- is a packet's request, which is this one, handed up?
 abbrev pub is_new_of : Key → Reception → Bool
-is_new_of key (reception.New k) = same_address k.from key.from && (k.tid == key.tid)
+is_new_of key (reception.New k) = same_key k key
 is_new_of key other = false
 
 abbrev pub hands_up : Key → List Record → Event → Bool

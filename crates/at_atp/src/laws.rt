@@ -6,6 +6,7 @@ ghost use Rattle.at_atp.specs.Fault.{Stands};
 ghost use Rattle.at_atp.specs.Answers.{mask_of, whole};
 ghost use Rattle.at_atp.specs.Frames.{Content, Response, IsLawful, Spells, spelled};
 ghost use Rattle.std.specs.List.{AllByRecursion};
+ghost use Rattle.at_atp.specs.HandUps.{AllLived, AnswersOnce};
 ghost use Rattle.at_atp.specs.Lawfully.{IsInRange, IsLawfullySent};
 ghost use Rattle.at_atp.specs.Network.{Happening, AllTimely, GivesAnswers, after, number_of};
 ghost use Rattle.at_atp.specs.Transactions.{Transaction as Exchange, Asked, answered};
@@ -60,6 +61,14 @@ pub fn a_requester_hands_up_whole_responses<A: Allocator>()
 /// records and open transactions are of the newest transactions of their numbers.
 pub fn responses_are_answers<A: Allocator>()
     ensures { (history : List Happening) → AllTimely A history → GivesAnswers A (after A history) }
+{}
+
+/// The same of exactly-once transactions, where records live long enough: once one expired, no request of its key comes to
+/// its responder before the number is drawn again. Such a transaction, while it is the newest of its number, is handed up at
+/// most once and answered at most once; and where a packet in time finishes it, once each, with that answer or as many of its
+/// first packets as were asked for.
+pub fn exactly_once_requests_are_answered_once<A: Allocator>()
+    ensures { (history : List Happening) → AllTimely A history → AllLived A history → AnswersOnce A history }
 {}
 
 /// What is sent can be spelled, where what is asked and answered is in range.
