@@ -58,3 +58,11 @@ none_passes P p (x ∷ xs) is h = go (λ g. none_passes P p xs g h.1) (p x) refl
     go : (find p xs ≡ None → AllByRecursion (λ y. P y × (p y ≡ false)) xs) → (b : Bool) → p x ≡ b → cond b (Some x) (find p xs) ≡ None → AllByRecursion (λ y. P y × (p y ≡ false)) (x ∷ xs)
     go ih true e g = absurd (cc)
     go ih false e g = ((h.0, e), ih g)
+
+pub found_passes : {X : Type 0} (p : X → Bool) (xs : List X) (x : X) → find p xs ≡ Some x → p x ≡ true
+found_passes p [] x is = absurd (cc)
+found_passes {X} p (y ∷ ys) x is = go (λ g. found_passes p ys x g) (p y) refl is
+  where
+    go : (find p ys ≡ Some x → p x ≡ true) → (b : Bool) → p y ≡ b → cond b (Some y) (find p ys) ≡ Some x → p x ≡ true
+    go ih true e g = let same : y ≡ x = cc in subst (λ z. p z ≡ true) same e
+    go ih false e g = ih g

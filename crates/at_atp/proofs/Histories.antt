@@ -15,10 +15,9 @@ use Rattle.at_atp.specs.declared.reception.Reception.{Reception}
 use Rattle.at_atp.specs.declared.reception.Reception.TheVariants as reception
 use Rattle.at_atp.proofs.Alls.{all_implied, all_at, all_found}
 use Rattle.at_atp.proofs.Beginnings.{begins_sound, later}
-use Rattle.at_atp.proofs.Carried.{Tells, Holds, Waits}
+use Rattle.at_atp.proofs.Carried.{Tells, Holds}
 use Rattle.at_atp.proofs.Hearings.{heard_sound}
-use Rattle.at_atp.proofs.NetworkLemmas.{Fresh, Sound, hears_sound, takes_sound, serves_sound, expires_sound, retries_sound, gives_sound}
-use Rattle.at_atp.proofs.RecordLemmas.{own}
+use Rattle.at_atp.proofs.NetworkLemmas.{Fresh, Sound, asked_by, hears_sound, takes_sound, serves_sound, expires_sound, retries_sound, gives_sound}
 
 done_sound : (A : Type 0) (n : Network) (h : Happening) → Sound n.event n → IsTimely n h → Sound (n.event + 1) (done A n h)
 done_sound A n (Begins who to user bytes wanted xo times) sound timely = begins_sound n who to user bytes wanted xo times sound timely
@@ -78,7 +77,7 @@ same_event A n Other = refl
 ticked : (e : ℕ) (n : Network) → n.event ≡ e → Sound (e + 1) n → Sound (tick n).event (tick n)
 ticked e n same s = record { past = all_implied (λ x. x.event < e + 1) (λ x. x.event < n.event + 1) n.sent (λ x lt. omega (arith, same)) s.past; sent = s.sent; standing = s.standing; records = s.records }
 
-history_sound : (A : Type 0) (history : List Happening) → AllTimely A history → Sound (after A history).event (after A history)
+pub history_sound : (A : Type 0) (history : List Happening) → AllTimely A history → Sound (after A history).event (after A history)
 history_sound A [] timely = record { past = tt; sent = tt; standing = λ who. tt; records = λ at. tt }
 history_sound A (h ∷ hs) timely = ticked (after A hs).event (done A (after A hs) h) (same_event A (after A hs) h) (done_sound A (after A hs) h (history_sound A hs timely.1) timely.0)
 
@@ -88,10 +87,7 @@ sound_gives A events n sound = record {
   requested = λ which s mask xo timer tid user bytes is fresh same. subst (Tells n.asked s.from s.to) same (told which s is fresh);
   responded = λ which s place eom sts tid user bytes is fresh same. subst (Tells n.asked s.from s.to) same (told which s is fresh);
   released = λ which s tid is fresh same. subst (Tells n.asked s.from s.to) same (told which s is fresh);
-  recorded = λ at key r is.
-      let found = all_found (Waits n.asked at) (is_key key) (n.responders at) r (sound.records at) is in
-      let a = (found.0).asked in
-      record { transaction = a.transaction; newest = subst (λ (k : Key). transaction_of n.asked k.from k.tid ≡ Some a.transaction) (own key r found.1) a.newest; asked_it = a.asked_it };
+  recorded = λ at key r is. asked_by n.asked at key (n.responders at) r (sound.records at) is;
   standing = λ who tid t is.
       let found = all_found (Holds n.asked who) (is_numbered tid) (n.requesters who).standing t (sound.standing who) is in
       let h = found.0 in

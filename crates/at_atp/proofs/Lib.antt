@@ -2,6 +2,7 @@ mod Alls
 mod AnswerLemmas
 mod AnsweringLemmas
 mod FrameLemmas
+mod KeyedRecords
 mod LawLemmas
 mod Lawfulness
 mod MoveLemmas
@@ -12,12 +13,16 @@ mod Histories
 mod NetworkLemmas
 mod Takings
 mod Newest
+mod OnceHistories
+mod OnceLemmas
+mod OnceNetwork
 mod OpenLemmas
 mod Ranges
 mod RecordLemmas
 mod RequestLemmas
 mod RequesterLemmas
 mod RetryLemmas
+mod Stages
 mod StepLemmas
 pub mod TableLemmas
 mod TurnLemmas

@@ -34,6 +34,13 @@ pub record Sound (events : ℕ) (n : Network) : Type 0 where
   pub standing : (who : Address) → AllByRecursion (Holds n.asked who) (n.requesters who).standing
   pub records : (at : Address) → AllByRecursion (Waits n.asked at) (n.responders at)
 
+-- a record is of the newest transaction of its number
+pub asked_by : (asked : List Transaction) (at : Address) (key : Key) (rs : List Record) (r : Record) → AllByRecursion (Waits asked at) rs → find (is_key key) rs ≡ Some r → Asked asked key.from key.tid at
+asked_by asked at key rs r all is =
+    let found = all_found (Waits asked at) (is_key key) rs r all is in
+    let a = (found.0).asked in
+    record { transaction = a.transaction; newest = subst (λ (k : Key). transaction_of asked k.from k.tid ≡ Some a.transaction) (own key r found.1) a.newest; asked_it = a.asked_it }
+
 -- ---- what changes at one address
 
 pub put_all : {X : Type 0} (P : Address → X → Type 0) (f : Address → X) (at : Address) (x : X) → ((a : Address) → P a (f a)) → P at x → (a : Address) → P a (put f at x a)
@@ -79,7 +86,7 @@ responder_sound n at rs sent s records tells = record {
 
 -- ---- packets that come, and retries
 
-tells_at : (events : ℕ) (n : Network) (which : ℕ) (s : Sent) → Sound events n → slice_get n.sent which ≡ Some s → is_fresh n.drawn s ≡ true → Tells n.asked s.from s.to s.packet
+pub tells_at : (events : ℕ) (n : Network) (which : ℕ) (s : Sent) → Sound events n → slice_get n.sent which ≡ Some s → is_fresh n.drawn s ≡ true → Tells n.asked s.from s.to s.packet
 tells_at events n which s sound is fresh = all_at (Fresh n.drawn n.asked) n.sent which s sound.sent is fresh
 
 pub hears_sound : (A : Type 0) (n : Network) (which : ℕ) → Sound (n.event + 1) n → ComesInTime n which → Sound (n.event + 1) (hears A n (slice_get n.sent which))
@@ -91,7 +98,7 @@ hears_sound A n which sound timely = go (slice_get n.sent which) refl
         let h = heard_sound A n.asked s.to s.from (n.requesters s.to) s.packet (sound.standing s.to) (tells_at (n.event + 1) n which s sound e (timely s e)) in
         requester_sound n s.to (heard {A = A} (n.requesters s.to) s.from s.packet).after (heard {A = A} (n.requesters s.to) s.from s.packet).sent sound h.standing h.sent
 
-took_sound : (n : Network) (which : ℕ) (s : Sent) → Sound (n.event + 1) n → ComesInTime n which → slice_get n.sent which ≡ Some s → Sound (n.event + 1) (takes n s)
+pub took_sound : (n : Network) (which : ℕ) (s : Sent) → Sound (n.event + 1) n → ComesInTime n which → slice_get n.sent which ≡ Some s → Sound (n.event + 1) (takes n s)
 took_sound n which s sound timely e =
     let t = taken_sound n.asked s.to s.from (n.responders s.to) s.packet (sound.records s.to) (tells_at (n.event + 1) n which s sound e (timely s e)) in
     responder_sound n s.to (taken (n.responders s.to) s.from s.packet).after (taken (n.responders s.to) s.from s.packet).sent sound t.records t.sent
@@ -113,7 +120,7 @@ retries_sound n who tid sound = go (retried (n.requesters who) tid) refl
 -- ---- answers
 
 -- the answer of a request that waits joins its transaction, and is sent
-gave_sound : (n : Network) (at : Address) (key : Key) (packets : List Packet) → Sound (n.event + 1) n → answer_fault (n.responders at) key packets ≡ None → Sound (n.event + 1) (answers n at key packets None)
+pub gave_sound : (n : Network) (at : Address) (key : Key) (packets : List Packet) → Sound (n.event + 1) n → answer_fault (n.responders at) key packets ≡ None → Sound (n.event + 1) (answers n at key packets None)
 gave_sound n at key packets sound free = record {
   past = more_past n.event at n.sent (asked_for (find (is_key key) (n.responders at)) key packets) sound.past;
   sent = more_fresh n.drawn (answered n.asked key.from key.tid packets) n.event at n.sent (asked_for (find (is_key key) (n.responders at)) key packets) (all_implied (Fresh n.drawn n.asked) (Fresh n.drawn (answered n.asked key.from key.tid packets)) n.sent fresh_kept sound.sent) (tells (find (is_key key) (n.responders at)) refl);

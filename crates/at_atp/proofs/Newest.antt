@@ -1,8 +1,12 @@
 -- The newest transaction of a number, as others begin and answers join.
 use Rattle.std.proofs.Common.{◌≡◌, ℕ, Bool, true, false, cond, List, [], ◌∷◌, ◌++◌, Some, refl, sym, ap, subst, ◌∙◌, lit<}
+use Rattle.std.specs.Prelude.{◌==◌, ◌&&◌}
 use Rattle.std.specs.List.{Contains}
+use Rattle.std.proofs.lemmas.Bool.{and_parts, eqb-true}
 use Rattle.std.proofs.lemmas.List.Elements.{Contains-append_left, Contains-append_right}
+use Rattle.at_ddp.specs.Address.{same_address}
 use Rattle.at_ddp.specs.declared.address.Address.{Address}
+use Rattle.at_ddp.proofs.Octets.{same_address-true}
 use Rattle.at_atp.specs.Packets.{Packet}
 use Rattle.at_atp.specs.Transactions.{Transaction, is_transaction, transaction_of, Asked, answered, IsPart}
 
@@ -29,11 +33,11 @@ keeps_itself ts who tid = λ t is. (t, is, itself t)
 pub begun_keeps : (ts : List Transaction) (t : Transaction) (who : Address) (tid : ℕ) → is_transaction who tid t ≡ false → Keeps ts (t ∷ ts) who tid
 begun_keeps ts t who tid apart = λ u is. (u, rw apart is, itself u)
 
-some_same : (t u : Transaction) → Some t ≡ Some u → t ≡ u
+pub some_same : (t u : Transaction) → Some t ≡ Some u → t ≡ u
 some_same t u h = cc
 
 -- an answer joins
-abbrev joined : Transaction → List Packet → Transaction
+abbrev pub joined : Transaction → List Packet → Transaction
 joined t packets = record t { answers = t.answers ++ packets ∷ [] }
 
 extends_joined : (t : Transaction) (packets : List Packet) → Extends t (joined t packets)
@@ -73,6 +77,29 @@ answered_joins (x ∷ ts) from tid packets t is = go (λ h. answered_joins ts fr
     go ih false e h =
         let more = ih h in
         (more.0, ap (λ b. cond b (Some x) (transaction_of (answered ts from tid packets) from tid)) e ∙ more.1, more.2, more.3)
+
+-- exactly it joins, and those of other numbers are as before
+pub joined_exactly : (ts : List Transaction) (who : Address) (tid : ℕ) (packets : List Packet) (t : Transaction) → transaction_of ts who tid ≡ Some t → transaction_of (answered ts who tid packets) who tid ≡ Some (joined t packets)
+joined_exactly [] who tid packets t is = absurd (cc)
+joined_exactly (x ∷ ts) who tid packets t is = go (λ h. joined_exactly ts who tid packets t h) (is_transaction who tid x) refl is
+  where
+    go : (transaction_of ts who tid ≡ Some t → transaction_of (answered ts who tid packets) who tid ≡ Some (joined t packets)) → (b : Bool) → is_transaction who tid x ≡ b → cond b (Some x) (transaction_of ts who tid) ≡ Some t →
+        transaction_of (cond b (joined x packets ∷ ts) (x ∷ answered ts who tid packets)) who tid ≡ Some (joined t packets)
+    go ih true e h = ap (λ b. cond b (Some (joined x packets)) (transaction_of ts who tid)) e ∙ ap (λ y. Some (joined y packets)) (some_same x t h)
+    go ih false e h = ap (λ b. cond b (Some x) (transaction_of (answered ts who tid packets) who tid)) e ∙ ih h
+
+pub others_unanswered : (ts : List Transaction) (from : Address) (tid : ℕ) (packets : List Packet) (who : Address) (k : ℕ) → (same_address from who && (tid == k)) ≡ false → transaction_of (answered ts from tid packets) who k ≡ transaction_of ts who k
+others_unanswered [] from tid packets who k other = refl
+others_unanswered (x ∷ ts) from tid packets who k other = go (others_unanswered ts from tid packets who k other) (is_transaction from tid x) refl
+  where
+    apart : is_transaction from tid x ≡ true → is_transaction who k x ≡ false
+    apart e =
+        let both = and_parts (same_address x.requester from) (x.tid == tid) e in
+        (λ i. same_address (same_address-true x.requester from both.0 i) who && (eqb-true x.tid tid both.1 i == k)) ∙ other
+
+    go : transaction_of (answered ts from tid packets) who k ≡ transaction_of ts who k → (b : Bool) → is_transaction from tid x ≡ b → transaction_of (cond b (joined x packets ∷ ts) (x ∷ answered ts from tid packets)) who k ≡ transaction_of (x ∷ ts) who k
+    go ih true e = ap (λ b. cond b (Some (joined x packets)) (transaction_of ts who k)) (apart e) ∙ sym (ap (λ b. cond b (Some x) (transaction_of ts who k)) (apart e))
+    go ih false e = ap (λ o. cond (is_transaction who k x) (Some x) o) ih
 
 -- what was known of the newest transaction is known of it still
 pub asked_kept : (old new : List Transaction) (who : Address) (tid : ℕ) (responder : Address) → Keeps old new who tid → (a : Asked old who tid responder) → (b : Asked new who tid responder) × Extends a.transaction b.transaction

@@ -1,14 +1,16 @@
 //! Laws of the spellings. The functions do nothing: each contract is a law.
-ghost use Rattle.std.specs.Prelude.{◌≡◌, ◌↔◌, ◌≤◌, ◌==◌, ◌++◌, ◌∷◌, [], List, ℕ, Bool, true, false, length, find, replicate, Option, Some, None};
+ghost use Rattle.std.specs.Prelude.{◌≡◌, ◌↔◌, ◌≤◌, ◌+◌, ◌==◌, ◌++◌, ◌∷◌, [], List, ◌⊎◌, ℕ, Bool, true, false, length, find, replicate, Option, Some, None};
 ghost use Rattle.at_ddp.specs.Datagram.{AreBytes};
 ghost use Rattle.at_ddp.specs.declared.address.Address.{Address};
 ghost use Rattle.at_atp.specs.Fault.{Stands};
 ghost use Rattle.at_atp.specs.Answers.{mask_of, whole};
 ghost use Rattle.at_atp.specs.Frames.{Content, Response, IsLawful, Spells, spelled};
 ghost use Rattle.std.specs.List.{AllByRecursion};
+ghost use Rattle.at_atp.specs.HandUps.{AllLived, AnswersOnce};
 ghost use Rattle.at_atp.specs.Lawfully.{IsInRange, IsLawfullySent};
 ghost use Rattle.at_atp.specs.Network.{Happening, AllTimely, GivesAnswers, after, number_of};
 ghost use Rattle.at_atp.specs.Transactions.{Transaction as Exchange, Asked, answered};
+ghost use Rattle.at_atp.specs.Once.{Event, Expires, Undoes, stands, hand_ups, removes, removals, is_once};
 ghost use Rattle.at_atp.specs.Records.{Record, is_key, taken, record_fault, asked_for};
 ghost use Rattle.at_atp.specs.declared.reception.Key.{Key};
 ghost use Rattle.at_atp.specs.declared.reception.Reception.TheVariants.{New};
@@ -61,6 +63,14 @@ pub fn responses_are_answers<A: Allocator>()
     ensures { (history : List Happening) → AllTimely A history → GivesAnswers A (after A history) }
 {}
 
+/// The same of exactly-once transactions, where records live long enough: once one expired, no request of its key comes to
+/// its responder before the number is drawn again. Such a transaction, while it is the newest of its number, is handed up at
+/// most once and answered at most once; and where a packet in time finishes it, once each, with that answer or as many of its
+/// first packets as were asked for.
+pub fn exactly_once_requests_are_answered_once<A: Allocator>()
+    ensures { (history : List Happening) → AllTimely A history → AllLived A history → AnswersOnce A history }
+{}
+
 /// What is sent can be spelled, where what is asked and answered is in range.
 pub fn what_is_sent_is_lawful<A: Allocator>()
     ensures { (history : List Happening) → AllByRecursion IsInRange history → AllByRecursion IsLawfullySent (after A history).sent }
@@ -79,6 +89,14 @@ pub fn numbers_stay_open<A: Allocator>()
 pub fn a_new_request_waits()
     ensures { (rs : List Record) (from : Address) (f : Content) (key : Key) → (taken rs from f).reception ≡ New key
         → (record_fault (find (is_key key) (taken rs from f).after) ≡ None) × ((taken rs from f).sent ≡ []) × (key ≡ record { from = from; tid = number_of f }) }
+{}
+
+/// Between two removals of its record, a request is handed up at most once, whatever comes. The record of an exactly-once
+/// request is removed only where it expires or is undone.
+pub fn a_request_is_handed_up_once()
+    ensures once { (key : Key) (rs : List Record) (events : List Event) → hand_ups key rs events ≤ removals key rs events + 1 }
+    ensures standing { (key : Key) (rs : List Record) (events : List Event) → stands key rs ≡ true → hand_ups key rs events ≤ removals key rs events }
+    ensures removed { (key : Key) (rs : List Record) (r : Record) (e : Event) → find (is_key key) rs ≡ Some r → is_once r.state ≡ true → removes key rs e ≡ true → (e ≡ Expires key) ⊎ (e ≡ Undoes key) }
 {}
 
 /// No more packets are sent than an answer has.
