@@ -100,7 +100,7 @@ comes_ignored P n before p = (idle n Ignored, p, (refl, refl, sym (append-nil be
 
 -- what comes by one definition comes by a wider one
 pub comes_wider : {A : Type 0} (P Q : Outcome A → Type 0) (old : NodeState) (before : List Posted) (r : Report A) (new : NodeState) (after : List Posted) → ((o : Outcome A) → P o → Q o) → Comes P old before r new after → Comes Q old before r new after
-comes_wider P Q old before NoMemory new after f h = h
+comes_wider P Q old before NoMemory new after f h = let wanted = h.2 in (h.0, h.1, (wanted.0, f wanted.0 wanted.1, wanted.2))
 comes_wider P Q old before (Begun tid) new after f h = (h.0, f h.0 h.1, h.2)
 comes_wider P Q old before (Answered n) new after f h = (h.0, f h.0 h.1, h.2)
 comes_wider P Q old before Done new after f h = (h.0, f h.0 h.1, h.2)
@@ -152,7 +152,7 @@ page_some p told step.Kept t e = absurd (cc)
 page_some p told step.AskAgain t e = absurd (cc)
 page_some p told (step.Finished packets) t e = told_some p told t e
 
-page_heard : {A : Type 0} (n : NodeState) (tid : ℕ) (p : Packet) (h : Heard A) (s : Step A) (told : Report A) → is_reading n.reading tid ≡ true → Tells p told → AtAsking n tid p h s (after_heard n h (reported told s) (reading_after n.reading s))
+pub page_heard : {A : Type 0} (n : NodeState) (tid : ℕ) (p : Packet) (h : Heard A) (s : Step A) (told : Report A) → is_reading n.reading tid ≡ true → Tells p told → AtAsking n tid p h s (after_heard n h (reported told s) (reading_after n.reading s))
 page_heard n tid p h step.Ignored told mine t = refl
 page_heard n tid p h step.Kept told mine t = refl
 page_heard n tid p h step.AskAgain told mine t = refl
@@ -175,14 +175,14 @@ other_some tid step.Kept e = absurd (cc)
 other_some tid step.AskAgain e = absurd (cc)
 other_some tid (step.Finished packets) e = absurd (cc)
 
-other_heard : {A : Type 0} (n : NodeState) (tid : ℕ) (p : Packet) (h : Heard A) (s : Step A) → (is_finished s ≡ true → is_reading n.reading tid ≡ false) → AtAsking n tid p h s (after_heard n h (reported_other tid s) n.reading)
+pub other_heard : {A : Type 0} (n : NodeState) (tid : ℕ) (p : Packet) (h : Heard A) (s : Step A) → (is_finished s ≡ true → is_reading n.reading tid ≡ false) → AtAsking n tid p h s (after_heard n h (reported_other tid s) n.reading)
 other_heard n tid p h step.Ignored mine = refl
 other_heard n tid p h step.Kept mine = refl
 other_heard n tid p h step.AskAgain mine = refl
 other_heard n tid p h (step.Finished packets) mine = rw (mine refl) refl
 
 -- only a response ends a transaction
-only_response : (A : Type 0) (n : NodeState) (from : Address) (f : Content) → ((place : ℕ) (eom sts : Bool) (tid : ℕ) (user bytes : List ℕ) → f ≡ Frames.Response place eom sts tid user bytes → is_reading n.reading tid ≡ false) →
+pub only_response : (A : Type 0) (n : NodeState) (from : Address) (f : Content) → ((place : ℕ) (eom sts : Bool) (tid : ℕ) (user bytes : List ℕ) → f ≡ Frames.Response place eom sts tid user bytes → is_reading n.reading tid ≡ false) →
     is_finished (heard {A = A} n.requester from f).step ≡ true → is_reading n.reading (tid_of f) ≡ false
 only_response A n from (Frames.Request mask xo timer tid user bytes) apart e = absurd (cc)
 only_response A n from (Frames.Response place eom sts tid user bytes) apart e = apart place eom sts tid user bytes refl
@@ -310,7 +310,7 @@ pub good_request : (A : Type 0) (said : Reply A) (n : NodeState) (from : Address
 good_request A said n from table t mask xo timer tid user bytes start is asks = rw is (inl (record { start = start; asks = asks; outcome = refl }))
 
 pub step_comes : {A : Type 0} (P : Outcome A → Type 0) (o : Outcome A) (old : NodeState) (before : List Posted) (r : Report A) (new : NodeState) (after : List Posted) → P o → IsStep o old before r new after → Comes P old before r new after
-step_comes P o old before NoMemory new after p e = e
+step_comes P o old before NoMemory new after p e = (e.0, e.1, (o, p, e.2))
 step_comes P o old before (Begun tid) new after p e = (o, p, e)
 step_comes P o old before (Answered n) new after p e = (o, p, e)
 step_comes P o old before Done new after p e = (o, p, e)

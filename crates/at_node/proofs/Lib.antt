@@ -1,5 +1,6 @@
 mod DrawingLemmas
 mod HearingLemmas
+mod MemoryLemmas
 mod PostLemmas
 mod ServingLemmas
 mod SentHeard

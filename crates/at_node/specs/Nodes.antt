@@ -1,5 +1,5 @@
 -- What a node is, and what one event does to it.
-use Rattle.std.specs.Prelude.{◌≡◌, ℕ, List, [], ◌++◌, map, Option, None}
+use Rattle.std.specs.Prelude.{◌≡◌, ℕ, Bool, true, false, List, [], ◌++◌, map, Option, None}
 use Rattle.at_ddp.specs.Datagram.{canonical}
 use Rattle.at_ddp.specs.Datagrams.{Posted}
 use Rattle.at_ddp.specs.declared.address.Address.{Address}
@@ -52,12 +52,21 @@ idle n r = record { report = r; node = n; out = [] }
 abbrev pub Exactly : {A : Type 0} → Outcome A → List Posted → Report A → NodeState → List Posted → Type 0
 Exactly o before r new after = (r ≡ o.report) × (new ≡ o.node) × (after ≡ before ++ map posted o.out)
 
--- the outcome, or want of memory and nothing changed
+-- may what is reported take memory? No refusal does, nor does the end of a transaction that has no retry left, or of a
+-- record.
+abbrev pub takes_memory : {A : Type 0} → Report A → Bool
+takes_memory (report.Refused number) = false
+takes_memory (report.Failed tid) = false
+takes_memory report.Done = false
+takes_memory report.ZonesFailed = false
+takes_memory other = true
+
+-- the outcome; or, if that may take memory, want of it and nothing changed
 abbrev pub IsStep : {A : Type 0} → Outcome A → NodeState → List Posted → Report A → NodeState → List Posted → Type 0
-IsStep o old before report.NoMemory new after = (new ≡ old) × (after ≡ before)
+IsStep o old before report.NoMemory new after = (new ≡ old) × (after ≡ before) × (takes_memory o.report ≡ true)
 IsStep o old before r new after = Exactly o before r new after
 
--- an outcome of which P holds, or want of memory and nothing changed
+-- an outcome of which P holds; or, if that may take memory, want of it and nothing changed
 abbrev pub Comes : {A : Type 0} → (Outcome A → Type 0) → NodeState → List Posted → Report A → NodeState → List Posted → Type 0
-Comes P old before report.NoMemory new after = (new ≡ old) × (after ≡ before)
+Comes P old before report.NoMemory new after = (new ≡ old) × (after ≡ before) × ((o : Outcome _) × P o × (takes_memory o.report ≡ true))
 Comes P old before r new after = (o : Outcome _) × P o × Exactly o before r new after

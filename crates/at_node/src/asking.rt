@@ -1,6 +1,6 @@
-ghost use Rattle.std.specs.Prelude.{◌≡◌, ◌↔◌, ◌<◌, ◌≤◌, length, ◌++◌, ◌∷◌, [], map, None, Some, IfOk, IfSome, OnErr, IsErrOf, false};
+ghost use Rattle.std.specs.Prelude.{◌≡◌, ◌≢◌, ◌↔◌, ◌<◌, ◌≤◌, length, ◌++◌, ◌∷◌, [], map, None, Some, IfOk, IfErr, IfSome, IsOk, OnErr, IsErrOf, true, false};
 ghost use Rattle.at_atp.specs.Frames.{content, spelled, spelled_all};
-ghost use Rattle.at_atp.specs.Requests.{Heard, Retried, next_number, beginning, begun, request_by, heard, retried};
+ghost use Rattle.at_atp.specs.Requests.{Heard, Retried, next_number, beginning, begun, request_by, is_ignored, heard, retried};
 ghost use Rattle.at_node.specs.Nodes.{posted, sent_by};
 ghost use Rattle.at_node.specs.Hearing.{Tells, is_asked};
 ghost use Rattle.at_node.specs.Steps.{atp_kind, tid_of, reported, reported_other, reading_after};
@@ -63,6 +63,7 @@ pub(crate) fn begin<A: Allocator + Copy>(
     ensures fits { IfOk result (λ tid. length question.now.bytes.now ≤ 578) }
     ensures too_long { IsErrOf result AtpFault.AtpTooLong ↔ (578 < length question.now.bytes.now) }
     ensures full { IsErrOf result AtpFault.Full ↔ ((length question.now.bytes.now ≤ 578) × (next_number requester.old ≡ None)) }
+    ensures memory { IfErr result (λ fault. fault ≢ AtpFault.AtpTooLong → fault ≢ AtpFault.Full → fault ≡ AtpFault.NoMemory) }
     ensures unchanged { OnErr result (requester.new ≡ requester.old) }
     ensures nothing_sent { OnErr result (out.new.items ≡ out.old.items) }
 {
@@ -99,6 +100,8 @@ pub(crate) fn retry<A: Allocator + Copy>(
     ensures ok { IfOk result (λ step. (effect : Retried) × (retried requester.old tid ≡ Some effect) × (step ≡ effect.step) × (requester.new ≡ effect.after)
         × (out.new.items ≡ out.old.items ++ map posted (sent_by own atp_kind (spelled_all effect.sent)))) }
     ensures missing { IsErrOf result AtpFault.NoSuch ↔ (retried requester.old tid ≡ None) }
+    ensures memory { IfErr result (λ fault. fault ≢ AtpFault.NoSuch → fault ≡ AtpFault.NoMemory) }
+    ensures closes { IfSome (retried requester.old tid) (λ effect. effect.step ≡ Retry.Failed → IsOk result) }
     ensures unchanged { OnErr result (requester.new ≡ requester.old) }
     ensures nothing_sent { OnErr result (out.new.items ≡ out.old.items) }
 {
@@ -122,6 +125,7 @@ pub(crate) fn hear<A: Allocator + Copy>(
     ensures sent { IfOk result (λ step. out.new.items ≡ out.old.items ++ map posted (sent_by own atp_kind (spelled_all (heard {A = A} requester.old from (content frame.now)).sent))) }
     ensures unchanged { OnErr result (requester.new ≡ requester.old) }
     ensures nothing_sent { OnErr result (out.new.items ≡ out.old.items) }
+    ensures ignored { is_ignored (heard {A = A} requester.old from (content frame.now)).step ≡ true → IsOk result }
 {
     let mut outbox = Outbox::over(mem::replace(out, Datagrams::new(alloc)), own, ATP);
     let step = requester.receive(from, frame, &mut outbox);
@@ -136,6 +140,7 @@ pub(crate) fn told<A: Allocator + Copy>(
     bytes: &[u8],
 ) -> Result<Report<A>, AllocError>
     ensures tells { IfOk result (λ r. Tells (record { user = user; data_ = bytes.now }) r) }
+    ensures wants { OnErr result ((r : Report A) × Tells (record { user = user; data_ = bytes.now }) r) }
     ensures not_asked { IfOk result (λ r. is_asked r ≡ false) }
 {
     match read_page(user, bytes) {

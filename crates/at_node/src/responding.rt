@@ -1,4 +1,4 @@
-ghost use Rattle.std.specs.Prelude.{◌≡◌, ◌↔◌, ◌++◌, map, length, find, None, Err, true, IfOk, IfErr, IfSome, OnOk, OnErr, IsOk, IsErrOf, false};
+ghost use Rattle.std.specs.Prelude.{◌≡◌, ◌≢◌, ◌↔◌, ◌++◌, map, length, find, None, Err, true, IfOk, IfErr, IfSome, OnOk, OnErr, IsOk, IsErrOf, false};
 ghost use Rattle.at_atp.specs.Frames.{content, spelled_all};
 ghost use Rattle.at_atp.specs.Records.{taken, finds_no_place, after_answer, answer_fault, is_key, asked_for};
 ghost use Rattle.at_node.specs.Hearing.{is_asked};
@@ -25,6 +25,8 @@ pub(crate) fn take<A: Allocator + Copy>(
     ensures state { OnOk result (served.new ≡ (taken served.old from (content frame.now)).after) }
     ensures sent { OnOk result (out.new.items ≡ out.old.items ++ map posted (sent_by own atp_kind (spelled_all (taken served.old from (content frame.now)).sent))) }
     ensures full { IsErrOf result AtpFault.Full ↔ (finds_no_place served.old from (content frame.now) ≡ true) }
+    ensures memory { IfErr result (λ fault. fault ≢ AtpFault.Full → fault ≡ AtpFault.NoMemory) }
+    ensures ignored { (taken served.old from (content frame.now)).reception ≡ Reception.Ignored → IsOk result }
     ensures unchanged { OnErr result (served.new ≡ served.old) }
     ensures nothing_sent { OnErr result (out.new.items ≡ out.old.items) }
     ensures release { is_release (content frame.now) ≡ true → IsOk result }

@@ -35,11 +35,11 @@ none_sent : {A : Type 0} (S : List Posted → Report A → NodeState → List Po
 none_sent S before r new after steps is = record { out = []; steps = steps; is = is ∙ sym (append-nil before) }
 
 pub step_splits : (A : Type 0) (o : Outcome A) (old : NodeState) (before : List Posted) (r : Report A) (new : NodeState) (after : List Posted) → IsStep o old before r new after → Splits (IsStep o old) before r new after
-step_splits A o old before NoMemory new after h = none_sent (IsStep o old) before NoMemory new after (h.0, refl) h.1
+step_splits A o old before NoMemory new after h = none_sent (IsStep o old) before NoMemory new after (h.0, refl, h.2) h.1
 step_splits A o old before r new after h = record { out = map posted o.out; steps = (h.0, h.1, refl); is = h.2 }
 
 pub coming_splits : (A : Type 0) (P : Outcome A → Type 0) (old : NodeState) (before : List Posted) (r : Report A) (new : NodeState) (after : List Posted) → Comes P old before r new after → Splits (Comes P old) before r new after
-coming_splits A P old before NoMemory new after h = none_sent (Comes P old) before NoMemory new after (h.0, refl) h.1
+coming_splits A P old before NoMemory new after h = none_sent (Comes P old) before NoMemory new after (h.0, refl, h.2) h.1
 coming_splits A P old before r new after h = record { out = map posted h.0.out; steps = (h.0, h.1, (h.2.0, h.2.1, refl)); is = h.2.2 }
 
 pub takes_splits : (A : Type 0) (i : Input A) (old : NodeState) (before : List Posted) (r : Report A) (new : NodeState) (after : List Posted) → Takes i old before r new after → Splits (Takes i old) before r new after

@@ -2,12 +2,13 @@ use Rattle.std.proofs.Common.{◌≡◌, ◌++◌, map, None, List, refl, sym, a
 use Rattle.std.specs.Prelude.{find}
 use Rattle.std.proofs.lemmas.List.{append-nil}
 use Rattle.at_atp.specs.Frames.{content, spelled_all}
-use Rattle.at_atp.specs.Records.{Record, is_key, record_fault, taken}
+use Rattle.at_atp.specs.Records.{Record, is_key, finds_no_place, record_fault, taken}
 use Rattle.at_atp.specs.Tables.{without_first}
 use Rattle.at_node.specs.Nodes.{posted, sent_by}
 use Rattle.at_node.specs.Steps.{atp_kind}
 use Rattle.at_node.specs.declared.service.Reply.TheVariants.{Later}
 use Rattle.at_node.proofs.HearingLemmas.{when_ok}
+use Rattle.at_node.proofs.MemoryLemmas.{service_takes}
 use Rattle.at_node.proofs.ServingLemmas.{is_new, waits, undone}
 use Rattle.at_node.proofs.handing.take_request.Goals as goal
 
@@ -27,6 +28,6 @@ returns-in-Err-hand_up g c =
       (λ n same at.
           let back : c.undo.new.self ≡ n.service =
           gone ∙ ap (without_first (is_key c.in-Ok-New.key)) (c.in-Err-hand_up.ensures.unchanged ∙ c.in-Ok-New.ensures.state) ∙ undone c.args.records.now (taken c.args.records.now c.args.from (content c.args.frame.now)) c.in-Ok-New.key new ∙ sym same in
-          ((λ i. record n { service = back i }), c.in-Err-hand_up.ensures.nothing_sent ∙ quiet)),
+          ((λ i. record n { service = back i }), c.in-Err-hand_up.ensures.nothing_sent ∙ quiet, service_takes n c.args.from (content c.args.frame.now) c.args.user c.args.bytes.now Later (λ full. absurd (cc (c.in-Ok-New.ensures.full.1 (ap (λ (rs : List Record). finds_no_place rs c.args.from (content c.args.frame.now)) (sym same) ∙ full)))))),
       c.in-Err-hand_up.ensures.not_asked,
     )

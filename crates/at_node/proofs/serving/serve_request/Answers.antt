@@ -4,8 +4,9 @@ use Rattle.at_node.specs.Nodes.{posted, sent_by}
 use Rattle.at_node.specs.Steps.{atp_kind}
 use Rattle.std.specs.Prelude.{find}
 use Rattle.at_atp.specs.Frames.{content, spelled_all}
-use Rattle.at_atp.specs.Records.{taken, is_key, record_fault, Record}
+use Rattle.at_atp.specs.Records.{finds_no_place, taken, is_key, record_fault, Record}
 use Rattle.at_atp.specs.Tables.{without_first}
+use Rattle.at_node.proofs.MemoryLemmas.{zone_takes}
 use Rattle.at_node.proofs.ServingLemmas.{is_new, waits, undone}
 use Rattle.at_node.proofs.serving.serve_request.Goals as goal
 
@@ -22,4 +23,5 @@ returns-in-Err-serve-clause-step g c = λ n same at.
     c.in-Err-serve.ensures.undone ∙ ap (without_first (is_key c.in-Ok-New.key)) c.in-Ok-New.ensures.state ∙ undone c.args.served.now (taken c.args.served.now c.args.from (content c.args.frame.now)) c.in-Ok-New.key new ∙ sym same in
     let quiet : c.take.new.out.items ≡ c.args.out.now.items =
     c.in-Ok-New.ensures.sent ∙ ap (λ pushes. c.args.out.now.items ++ map posted (sent_by c.args.own atp_kind (spelled_all pushes))) new.nothing ∙ append-nil c.args.out.now.items in
-    ((λ i. record n { served = back i }), c.in-Err-serve.ensures.nothing_sent ∙ quiet)
+    let some = zone_takes g.row.A.Denot n c.args.from (content c.args.frame.now) c.args.zones.now c.args.start (λ full. absurd (cc (c.in-Ok-New.ensures.full.1 (ap (λ (rs : List Record). finds_no_place rs c.args.from (content c.args.frame.now)) (sym same) ∙ full)))) in
+    ((λ i. record n { served = back i }), c.in-Err-serve.ensures.nothing_sent ∙ quiet, some)

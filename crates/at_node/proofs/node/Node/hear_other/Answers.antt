@@ -4,6 +4,7 @@ use Rattle.at_atp.specs.Requests.{heard}
 use Rattle.at_node.specs.Nodes.{NodeState, posted, sent_by}
 use Rattle.at_node.specs.Steps.{asking, atp_kind}
 use Rattle.at_node.proofs.HearingLemmas.{comes_other}
+use Rattle.at_node.proofs.MemoryLemmas.{other_wanted}
 use Rattle.at_node.proofs.node.Node.hear_other.Goals as goal
 
 pub returns-clause-comes : goal.returns-clause-comes
@@ -17,3 +18,9 @@ returns-clause-comes g c = λ said.
     c.in-Ok.ensures.sent ∙ (λ i. c.args.out.now.items ++ map posted (sent_by (c.at-own.ensures i) atp_kind (spelled_all (heard {A = g.row.A.Denot} (c.self.view_is i).requester c.args.from (content c.args.frame.now)).sent))) in
     let same = ap (λ (n : NodeState). record n { requester = c.hear.new.requester }) c.self.view_is ∙ (λ i. record c.args.self.now { requester = requester i }) in
     rw (c.reported_other.ensures.report, c.tid_of.ensures) (comes_other said c.args.self.now c.args.from (content c.args.frame.now) c.in-Ok.step c.args.out.now.items c.hear.new.out.items _ step c.requires same sent)
+
+pub returns-in_default-clause-comes : goal.returns-in_default-clause-comes
+returns-in_default-clause-comes g c = λ said.
+    let requester = c.in_default.ensures.unchanged ∙ ap (λ (n : NodeState). n.requester) c.self.view_is in
+    let same = ap (λ (n : NodeState). record n { requester = c.hear.new.requester }) c.self.view_is ∙ (λ i. record c.args.self.now { requester = requester i }) in
+    (same, c.in_default.ensures.nothing_sent, other_wanted said c.args.self.now c.args.from (content c.args.frame.now) c.requires)

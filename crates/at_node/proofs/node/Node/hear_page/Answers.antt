@@ -1,9 +1,10 @@
-use Rattle.std.proofs.Common.{ap, ◌∙◌, ◌≡◌, ◌++◌, map}
+use Rattle.std.proofs.Common.{refl, ap, ◌∙◌, ◌≡◌, ◌++◌, map}
 use Rattle.at_atp.specs.Frames.{content, spelled_all}
 use Rattle.at_atp.specs.Requests.{heard}
 use Rattle.at_node.specs.Nodes.{NodeState, posted, sent_by}
 use Rattle.at_node.specs.Steps.{asking, atp_kind, reading_after}
 use Rattle.at_node.proofs.HearingLemmas.{comes_page}
+use Rattle.at_node.proofs.MemoryLemmas.{page_wanted}
 use Rattle.at_node.proofs.node.Node.hear_page.Goals as goal
 
 pub returns-clause-comes : goal.returns-clause-comes
@@ -19,3 +20,16 @@ returns-clause-comes g c = λ said.
     let same = ap (λ (n : NodeState). record n { reading = c.reading_after-self-inside.result; requester = c.hear.new.requester }) c.self.view_is ∙ (λ i. record c.args.self.now { reading = reading i; requester = requester i }) in
     let tells = rw (← c.requires.packet) at c.in-Ok.ensures.tells in
     rw c.reported.ensures.report (comes_page said c.args.self.now c.args.from (content c.args.frame.now) c.in-Ok-hear.step c.in-Ok.told c.args.out.now.items c.hear.new.out.items _ step c.requires.reading tells same sent)
+
+pub returns-in_default-clause-comes : goal.returns-in_default-clause-comes
+returns-in_default-clause-comes g c = λ said.
+    let told = c.in_default.ensures.wants in
+    let tells = rw (← c.requires.packet) at told.1 in
+    (refl, refl, page_wanted said c.args.self.now c.args.from (content c.args.frame.now) told.0 c.requires.reading tells)
+
+pub returns-in_default-hear-clause-comes : goal.returns-in_default-hear-clause-comes
+returns-in_default-hear-clause-comes g c = λ said.
+    let requester = c.in_default-hear.ensures.unchanged ∙ ap (λ (n : NodeState). n.requester) c.self.view_is in
+    let same = ap (λ (n : NodeState). record n { requester = c.hear.new.requester }) c.self.view_is ∙ (λ i. record c.args.self.now { requester = requester i }) in
+    let tells = rw (← c.requires.packet) at c.in-Ok.ensures.tells in
+    (same, c.in_default-hear.ensures.nothing_sent, page_wanted said c.args.self.now c.args.from (content c.args.frame.now) c.in-Ok.told c.requires.reading tells)

@@ -1,8 +1,9 @@
 use Rattle.std.proofs.Common.{inl, inr, refl, ◌∙◌}
 use Rattle.at_ddp.specs.Datagram.{content}
-use Rattle.at_node.specs.Hearing.{HearsAt, Service}
+use Rattle.at_atp.specs.Frames.{content as packet}
+use Rattle.at_node.specs.Hearing.{AtSocket, HearsAt, Service}
 use Rattle.at_node.specs.declared.service.Reply.TheVariants.{Later}
-use Rattle.at_node.proofs.HearingLemmas.{atp_number, comes_refused, not_served}
+use Rattle.at_node.proofs.HearingLemmas.{atp_number, comes_refused, comes_wider, not_served}
 use Rattle.at_node.proofs.node.Node.take_question.Goals as goal
 
 pub returns-in-Err : goal.returns-in-Err
@@ -12,4 +13,13 @@ returns-in-Err g c =
       comes_refused (HearsAt Later c.args.self.now (content c.args.datagram.now) Service) c.args.self.now c.args.out.now.items c.refused.result c.number.result number.0 (c.number.ensures ∙ number.1) c.refused.ensures.report
           (inr (record { fault = c.in-Err.fault; number = number.0; first = c.in-Err.ensures.fault; numbered = number.1; outcome = refl })),
       not_served _ c.refused.result Later c.args.service.now c.refused.ensures.not_asked,
+    )
+
+pub returns-in-Ok : goal.returns-in-Ok
+returns-in-Ok g c =
+    let r = c.take_packet.ensures in (
+      r.0,
+      comes_wider (AtSocket r.0 c.args.self.now (c.args.datagram.now).from Service (packet c.in-Ok.frame)) (HearsAt r.0 c.args.self.now (content c.args.datagram.now) Service) c.args.self.now c.args.out.now.items c.take_packet.result c.take_packet.new.self c.take_packet.new.out.items
+          (λ o p. inl (record { packet = packet c.in-Ok.frame; spelled = c.in-Ok.ensures.found; outcome = p })) r.1,
+      r.2,
     )
