@@ -146,8 +146,8 @@ fn play_refused(rt: &impl Abort, alloc: Global, granted: u64) -> bool {
     let (printed, _) = played(&heap, alloc, &mut Cursor::new(ZONE_LIST.as_bytes()));
     let printed = printed.as_slice();
     if heap.has_refused() {
-        let stops = printed.windows(16).any(|part| part == b"stopped nomemory");
-        let reports = printed.windows(10).any(|part| part == b" nomemory\n");
+        let stops = printed.windows(16).any(|part| part == b"stopped nomemory".as_slice());
+        let reports = printed.windows(10).any(|part| part == b" nomemory\n".as_slice());
         assert!(rt; stops != reports, "after {granted} requests: {printed:?}");
     } else {
         assert_eq!(rt; printed, ZONE_LIST_PLAYED.as_bytes());

@@ -61,7 +61,7 @@ fn is_given<A: Allocator>(at: usize, report: &Report<A>) -> bool {
 
 fn are_the_zones(names: &[Pascal]) -> bool {
     match names {
-        [first, second] => first.bytes() == b"Lab" && second.bytes() == b"Office",
+        [first, second] => first.bytes() == b"Lab".as_slice() && second.bytes() == b"Office".as_slice(),
         _ => false,
     }
 }
