@@ -276,8 +276,7 @@ service_release A said n from (Frames.Request mask xo timer tid user bytes) befo
 service_release A said n from (Frames.Response place eom sts tid user bytes) before after old new own r this is at reports becomes sends = absurd (false≢true this)
 service_release A said n from (Frames.Release tid) before after old new own r this is at reports becomes sends =
     let f = Frames.Release tid in
-    comes_with (AtSocket said n from Service f) (service_released n (taken n.service from f)) n before r (record n { service = new }) after refl
-    (
+    comes_with (AtSocket said n from Service f) (service_released n (taken n.service from f)) n before r (record n { service = new }) after refl (
       reports ∙ ap (λ (rs : List Record). released_report (taken rs from f).reception) is,
       (λ i. record n { service = (becomes ∙ ap (λ (rs : List Record). (taken rs from f).after) is) i }),
       sends ∙ (λ i. before ++ map posted (sent_by (at i) atp_kind (spelled_all (taken (is i) from f).sent))),
@@ -292,8 +291,7 @@ zone_release A said n from (Frames.Request mask xo timer tid user bytes) table t
 zone_release A said n from (Frames.Response place eom sts tid user bytes) table t before after old new own r this some is at reports becomes sends = absurd (false≢true this)
 zone_release A said n from (Frames.Release tid) table t before after old new own r this some is at reports becomes sends =
     let f = Frames.Release tid in
-    comes_with (AtSocket said n from (router_socket table) f) (zone_released n (taken n.served from f)) n before r (record n { served = new }) after (rw some refl)
-    (
+    comes_with (AtSocket said n from (router_socket table) f) (zone_released n (taken n.served from f)) n before r (record n { served = new }) after (rw some refl) (
       reports ∙ ap (λ (rs : List Record). released_report (taken rs from f).reception) is,
       (λ i. record n { served = (becomes ∙ ap (λ (rs : List Record). (taken rs from f).after) is) i }),
       sends ∙ (λ i. before ++ map posted (sent_by (at i) atp_kind (spelled_all (taken (is i) from f).sent))),

@@ -76,15 +76,7 @@ pub(crate) fn begin<A: Allocator + Copy>(
         retries,
     } = *question;
     let mut outbox = Outbox::over(mem::replace(out, Datagrams::new(alloc)), own, ATP);
-    let begun = requester.begin(
-        to,
-        user,
-        bytes,
-        wanted,
-        exactly_once,
-        retries,
-        &mut outbox,
-    );
+    let begun = requester.begin(to, user, bytes, wanted, exactly_once, retries, &mut outbox);
     *out = outbox.into_list();
     begun
 }

@@ -70,7 +70,9 @@ impl<A: Allocator> Call<A> {
 #[derive(Clone, Copy, Debug, PartialEq, Eq)]
 pub enum Timer {
     /// The answer to a transaction is late.
-    Retry { tid: u16 },
+    Retry {
+        tid: u16,
+    },
     /// A request that was answered exactly once is forgotten: the socket that answered, 6 or 129, who asked, and under which
     /// number.
     Release {

@@ -18,9 +18,9 @@ IsLeft first last left = (read : List ℕ) × (length read + left ≡ 67108864) 
 -- a read of some of it leaves the rest
 pub part_read : (first last end : Option (List ℕ)) (part : List ℕ) (left n rest : ℕ) → IsLeft first last left → Consumes last end (take n part) → n ≤ length part → rest + n ≡ left → IsLeft first end rest
 part_read first last end part left n rest before read fits is = (
-    before.0 ++ take n part,
-    omega (arith, before.1, length-append before.0 (take n part), length-take-le n part fits, is),
-    Consumes-trans first last end before.0 (take n part) before.2 read,
+  before.0 ++ take n part,
+  omega (arith, before.1, length-append before.0 (take n part), length-take-le n part fits, is),
+  Consumes-trans first last end before.0 (take n part) before.2 read,
 )
 
 -- at the end no more was read than may be

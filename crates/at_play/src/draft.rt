@@ -133,7 +133,10 @@ impl<A: Allocator + Copy> Draft<A> {
         ensures { IfSome result (λ s. is_lawful s ≡ true) }
     {
         let Draft {
-            net, nodes, zones, ..
+            net,
+            nodes,
+            zones,
+            ..
         } = self;
         let setup = Setup {
             net,

@@ -142,7 +142,8 @@ fn a_number_is_not_drawn_again_while_a_record_has_it(rt: HostRuntime) -> Result<
 }
 
 // The same, exactly once, and answered: node 7 keeps its record.
-const KEPT: &str = "call 5 ask 7 129 00000000 - 1 xo 0\ndeliver 0 7\ncall 7 answer 5 128 0 00000000:-\ntimer 5 retry 0\n";
+const KEPT: &str =
+    "call 5 ask 7 129 00000000 - 1 xo 0\ndeliver 0 7\ncall 7 answer 5 128 0 00000000:-\ntimer 5 retry 0\n";
 
 #[test]
 fn a_number_is_not_drawn_again_while_its_exactly_once_record_stands(
@@ -164,7 +165,8 @@ const EXPIRED: &str = "timer 7 release 129 5 128 0\ncall 5 ask 7 129 00000000 - 
 #[test]
 fn a_number_is_drawn_again_once_its_record_expired(rt: HostRuntime) -> Result<(), Fail> {
     let text = round(rt.alloc(), 1, KEPT, EXPIRED)?;
-    let end = "\n131074 done\n131075 begun 0\nsent 65537 7 0015FE93000A000A07058180034001000000000000\n";
+    let end =
+        "\n131074 done\n131075 begun 0\nsent 65537 7 0015FE93000A000A07058180034001000000000000\n";
     compare_end(&rt, rt.alloc(), &text, end, Status::Done);
     Ok(())
 }

@@ -103,7 +103,14 @@ fn a_file_that_changes_while_it_is_played_is_told_as_unreadable(rt: HostRuntime)
     let text = "net 10\nnode 5\ncall 5 zones\ncall 5 zones\n";
     let changed = "net 10\nnode 5\ncall 5 zones\nfault\n";
     let want = "0 refused 60\nfault 0\n";
-    compare(&rt, rt.alloc(), [text, text, changed], 3, want, Status::Failed);
+    compare(
+        &rt,
+        rt.alloc(),
+        [text, text, changed],
+        3,
+        want,
+        Status::Failed,
+    );
 }
 
 // Numbers signs without a line feed, so many at a time.
@@ -146,8 +153,12 @@ fn play_refused(rt: &impl Abort, alloc: Global, granted: u64) -> bool {
     let (printed, _) = played(&heap, alloc, &mut Cursor::new(ZONE_LIST.as_bytes()));
     let printed = printed.as_slice();
     if heap.has_refused() {
-        let stops = printed.windows(16).any(|part| part == b"stopped nomemory".as_slice());
-        let reports = printed.windows(10).any(|part| part == b" nomemory\n".as_slice());
+        let stops = printed
+            .windows(16)
+            .any(|part| part == b"stopped nomemory".as_slice());
+        let reports = printed
+            .windows(10)
+            .any(|part| part == b" nomemory\n".as_slice());
         assert!(rt; stops != reports, "after {granted} requests: {printed:?}");
     } else {
         assert_eq!(rt; printed, ZONE_LIST_PLAYED.as_bytes());

@@ -7,8 +7,11 @@ use std::process::Abort;
 use std::test::Fail;
 
 // What the node asks, and what the router answers.
-static ASKED: &[u8] = b"\x00\x15\x67\x11\x00\x0A\x00\x0A\x01\x05\x06\x80\x03\x40\x01\x00\x00\x08\x00\x00\x01";
-static ANSWERED: &[u8] = b"\x00\x20\xCA\x71\x00\x0A\x00\x0A\x05\x01\x80\x06\x03\x90\x00\x00\x00\x01\x00\x00\x02\x03Lab\x06Office";
+static ASKED: &[u8] =
+    b"\x00\x15\x67\x11\x00\x0A\x00\x0A\x01\x05\x06\x80\x03\x40\x01\x00\x00\x08\x00\x00\x01";
+
+static ANSWERED: &[u8] =
+    b"\x00\x20\xCA\x71\x00\x0A\x00\x0A\x05\x01\x80\x06\x03\x90\x00\x00\x00\x01\x00\x00\x02\x03Lab\x06Office";
 
 fn node(number: u8, router: bool) -> NodeSetup {
     NodeSetup {
@@ -61,7 +64,8 @@ fn is_given<A: Allocator>(at: usize, report: &Report<A>) -> bool {
 
 fn are_the_zones(names: &[Pascal]) -> bool {
     match names {
-        [first, second] => first.bytes() == b"Lab".as_slice() && second.bytes() == b"Office".as_slice(),
+        [first, second] => first.bytes() == b"Lab".as_slice()
+            && second.bytes() == b"Office".as_slice(),
         _ => false,
     }
 }
