@@ -12,7 +12,7 @@ use Rattle.at_ddp.proofs.Octets.{same_address_itself}
 use Rattle.at_atp.specs.Fault.{number_of}
 use Rattle.at_atp.specs.Lawfully.{IsPacket, AreWords}
 use Rattle.at_atp.specs.Network as network
-use Rattle.at_atp.specs.Network.{Network, Answers, after, done, put, stamped, new_transaction}
+use Rattle.at_atp.specs.Network.{Network, Happening, Answers, after, done, put, stamped, new_transaction}
 use Rattle.at_atp.specs.Packets.{Packet}
 use Rattle.at_atp.specs.Answers as arrivals
 use Rattle.at_atp.specs.Records.{Record, is_key, after_answer, answer_fault, record_fault, asked_for, fit}
@@ -32,23 +32,29 @@ use Rattle.at_node.specs.declared.event.Call.TheVariants.{Zones, Ask, Answer}
 use Rattle.at_node.specs.declared.event.Report.{Report}
 use Rattle.at_node.specs.declared.event.Report.TheVariants as report
 use Rattle.at_world.specs.Machine.{Machine, Reading, next, at_net, Step}
+use Rattle.at_world.specs.Stories.{Matches}
 use Rattle.at_world.specs.Worlds.{WorldState, node_at, recorded, holds_some}
 use Rattle.at_world.specs.declared.event.Event.{Event}
 use Rattle.at_world.specs.declared.event.Event.TheVariants as event
-use Rattle.at_world.proofs.Moves.{service_is, idle_next, begun_next, gave_next, with_service, pages_elsewhere}
+use Rattle.at_world.proofs.StoryLemmas.{is_quiet, other_matches, answers_match, begins_match}
+use Rattle.at_world.proofs.Moves.{asker_is, service_is, idle_next, begun_next, gave_next, with_service, pages_elsewhere}
 use Rattle.at_world.proofs.Tied.{Laws, IsReading, Tied, Next, moved, tied_next}
 use Rattle.at_world.proofs.Times.{none_holds}
 
+-- the history grew by one happening, which is what the event and its report say
+abbrev pub Grown : (A : Type 0) (w w' : WorldState) (m m' : Machine) → Tied A w m → Tied A w' m' → Event A → Report A → Type 0
+Grown A w w' m m' t now e r = (h : Happening) × (now.history ≡ h ∷ t.history) × Matches m.net (after A t.history) h e r × (m'.net ≡ m.net)
+
 -- the machine follows this outcome of a node's step
-abbrev pub Good : (A : Type 0) → WorldState → Machine → ℕ → Event A → Outcome A → Type 0
-Good A w m k e o = (m' : Machine) × Step m e o.report m' × Tied A (recorded w k o.report o.node (map posted o.out)) m'
+abbrev pub Good : (A : Type 0) (w : WorldState) (m : Machine) → Tied A w m → ℕ → Event A → Outcome A → Type 0
+Good A w m t k e o = (m' : Machine) × Step m e o.report m' × (now : Tied A (recorded w k o.report o.node (map posted o.out)) m') × Grown A w (recorded w k o.report o.node (map posted o.out)) m m' t now e o.report
 
-pub good_next : (A : Type 0) (w : WorldState) (m : Machine) (k : ℕ) (n : NodeState) (e : Event A) (o : Outcome A) (asked : List Transaction) (readings : List Reading) (t : Tied A w m) → node_at w k ≡ Some n → Next A w m (after A t.history) k o.node o.report o.out asked readings →
-    Step m e o.report (moved m asked readings) → Good A w m k e o
-good_next A w m k n e o asked readings t stands s step = (moved m asked readings, step, tied_next A w m k n o.node o.report o.out asked readings t stands s)
+pub good_next : {h : Happening} (A : Type 0) (w : WorldState) (m : Machine) (k : ℕ) (n : NodeState) (e : Event A) (o : Outcome A) (asked : List Transaction) (readings : List Reading) (t : Tied A w m) → node_at w k ≡ Some n → Next A w m (after A t.history) h k o.node o.report o.out asked readings →
+    Matches m.net (after A t.history) h e o.report → Step m e o.report (moved m asked readings) → Good A w m t k e o
+good_next {h} A w m k n e o asked readings t stands s matches step = let now = tied_next A w m h k n o.node o.report o.out asked readings t stands s in (moved m asked readings, step, now.0, (h, now.1, matches, refl))
 
-pub good_idle : (A : Type 0) (w : WorldState) (m : Machine) (k : ℕ) (n : NodeState) (e : Event A) (r : Report A) (t : Tied A w m) → node_at w k ≡ Some n → Step m e r (next m) → Good A w m k e (idle n r)
-good_idle A w m k n e r t stands step = good_next A w m k n e (idle n r) m.asked m.readings t stands (idle_next A w m k n t stands r) step
+pub good_idle : (A : Type 0) (w : WorldState) (m : Machine) (k : ℕ) (n : NodeState) (e : Event A) (r : Report A) (t : Tied A w m) → node_at w k ≡ Some n → is_quiet r ≡ true → Step m e r (next m) → Good A w m t k e (idle n r)
+good_idle A w m k n e r t stands quiet step = good_next A w m k n e (idle n r) m.asked m.readings t stands (idle_next A w m k n t stands r) (other_matches A m.net (after A t.history) e r quiet) step
 
 -- ---- numbers that are open
 
@@ -104,8 +110,8 @@ module _ (A : Type 0) (laws : Laws A) (w : WorldState) (m : Machine) (k : ℕ) (
 
   -- ---- the zone list
 
-  good_begun : (router : ℕ) → n.router ≡ Some router → (drawn : Option ℕ) → next_number n.requester ≡ drawn → holds_some w.nodes k (drawn_by {A = A} (reading_begins n router drawn).report) ≡ false → Good A w m k (event.Call k Zones) (reading_begins n router drawn)
-  good_begun router is None is_drawn free = good_idle A w m k n (event.Call k Zones) (report.Refused 14) t stands refl
+  good_begun : (router : ℕ) → n.router ≡ Some router → (drawn : Option ℕ) → next_number n.requester ≡ drawn → holds_some w.nodes k (drawn_by {A = A} (reading_begins n router drawn).report) ≡ false → Good A w m t k (event.Call k Zones) (reading_begins n router drawn)
+  good_begun router is None is_drawn free = good_idle A w m k n (event.Call k Zones) (report.Refused 14) t stands refl refl
   good_begun router is (Some tid) is_drawn free =
       let its = t.nodes k n stands in
       let fixed = t.fixed in
@@ -126,22 +132,23 @@ module _ (A : Type 0) (laws : Laws A) (w : WorldState) (m : Machine) (k : ℕ) (
         began = ap (λ b. option_map (λ (r : Reading). r.since) (cond b (Some (record { node = k; since = length m.past })) (find (λ (r : Reading). r.node == k) m.readings))) (eq-eqb k k refl);
       })
       (λ j apart. ap (λ b. option_map (λ (r : Reading). r.since) (cond b (Some (record { node = k; since = length m.past })) (find (λ (r : Reading). r.node == j) m.readings))) apart))
+      (begins_match A m.net (after A t.history) k tid (zones_at n.net router) (request_user 1) [] 1 false 3 Zones (ap next_number (asker_is A w m k n t stands) ∙ is_drawn))
       (record { router = router; is_router = is_router; becomes = λ i. next (record m { asked = new_transaction (asking m.net k) (beginning tid (zones_at (its.net i) router) (request_user 1) [] 1 false 3) ∷ m.asked; readings = record { node = k; since = length m.past } ∷ m.readings }) })
     where
       first_asks : IsPacket (record { user = request_user 1; data_ = [] })
       first_asks = record { four = refl; user = All-from_recursion (λ b. b < 256) (request_user 1) (lit< tt, (lit< tt, (lit< tt, (lit< tt, tt)))); bytes = All-nil (λ b. b < 256); fits = lit≤ tt }
 
-  good_zones : (router reading : Option ℕ) → n.router ≡ router → holds_some w.nodes k (drawn_by {A = A} (zones_called n router reading).report) ≡ false → Good A w m k (event.Call k Zones) (zones_called n router reading)
-  good_zones None reading is free = good_idle A w m k n (event.Call k Zones) (report.Refused 60) t stands refl
-  good_zones (Some router) (Some tid) is free = good_idle A w m k n (event.Call k Zones) (report.Refused 63) t stands refl
+  good_zones : (router reading : Option ℕ) → n.router ≡ router → holds_some w.nodes k (drawn_by {A = A} (zones_called n router reading).report) ≡ false → Good A w m t k (event.Call k Zones) (zones_called n router reading)
+  good_zones None reading is free = good_idle A w m k n (event.Call k Zones) (report.Refused 60) t stands refl refl
+  good_zones (Some router) (Some tid) is free = good_idle A w m k n (event.Call k Zones) (report.Refused 63) t stands refl refl
   good_zones (Some router) None is free = good_begun router is (next_number n.requester) refl free
 
   -- ---- asking
 
   module _ (node socket : ℕ) (user bytes : List ℕ) (wanted : ℕ) (xo : Bool) (retries : ℕ) (range : IsCall {A = A} (Ask node socket user bytes wanted xo retries)) where
     good_asked : length bytes ≤ 578 → (drawn : Option ℕ) → next_number n.requester ≡ drawn → holds_some w.nodes k (drawn_by {A = A} (asked_as n (at_socket n node socket) user bytes wanted xo retries drawn).report) ≡ false →
-        Good A w m k (event.Call k (Ask node socket user bytes wanted xo retries)) (asked_as n (at_socket n node socket) user bytes wanted xo retries drawn)
-    good_asked few None is_drawn free = good_idle A w m k n (event.Call k (Ask node socket user bytes wanted xo retries)) (report.Refused 14) t stands refl
+        Good A w m t k (event.Call k (Ask node socket user bytes wanted xo retries)) (asked_as n (at_socket n node socket) user bytes wanted xo retries drawn)
+    good_asked few None is_drawn free = good_idle A w m k n (event.Call k (Ask node socket user bytes wanted xo retries)) (report.Refused 14) t stands refl refl
     good_asked few (Some tid) is_drawn free =
         let its = t.nodes k n stands in
         good_next A w m k n (event.Call k (Ask node socket user bytes wanted xo retries)) (asked_as n (at_socket n node socket) user bytes wanted xo retries (Some tid)) (new_transaction (asking m.net k) (beginning tid (at_socket n node socket) user bytes wanted xo retries) ∷ m.asked) m.readings t stands
@@ -151,11 +158,12 @@ module _ (A : Type 0) (laws : Laws A) (w : WorldState) (m : Machine) (k : ℕ) (
         its.net
         (reading_begun (at_socket n node socket) user bytes wanted xo retries tid n.reading is_drawn (t.readings k n stands))
         (λ j apart. refl))
+        (begins_match A m.net (after A t.history) k tid (at_socket n node socket) user bytes wanted xo retries (Ask node socket user bytes wanted xo retries) (ap next_number (asker_is A w m k n t stands) ∙ is_drawn))
         (record { becomes = λ i. next (record m { asked = record { requester = asking m.net k; tid = tid; responder = record { net = its.net i; node = node; socket = socket }; user = user; data_ = bytes; wanted = length-replicate {A = Option arrivals.Arrival} wanted None i; xo = xo; answers = [] } ∷ m.asked }) })
 
     good_ask : (b : Bool) → nat_lt 578 (length bytes) ≡ b → holds_some w.nodes k (drawn_by {A = A} (cond b (idle n (report.Refused 13)) (asked_as n (at_socket n node socket) user bytes wanted xo retries (next_number n.requester))).report) ≡ false →
-        Good A w m k (event.Call k (Ask node socket user bytes wanted xo retries)) (cond b (idle n (report.Refused 13)) (asked_as n (at_socket n node socket) user bytes wanted xo retries (next_number n.requester)))
-    good_ask true e free = good_idle A w m k n (event.Call k (Ask node socket user bytes wanted xo retries)) (report.Refused 13) t stands refl
+        Good A w m t k (event.Call k (Ask node socket user bytes wanted xo retries)) (cond b (idle n (report.Refused 13)) (asked_as n (at_socket n node socket) user bytes wanted xo retries (next_number n.requester)))
+    good_ask true e free = good_idle A w m k n (event.Call k (Ask node socket user bytes wanted xo retries)) (report.Refused 13) t stands refl refl
     good_ask false e free = good_asked (few_bytes (length bytes) e) (next_number n.requester) refl free
       where
         few_bytes : (len : ℕ) → nat_lt 578 len ≡ false → len ≤ 578
@@ -185,9 +193,9 @@ module _ (A : Type 0) (laws : Laws A) (w : WorldState) (m : Machine) (k : ℕ) (
       (record { four = a.four; user = a.user; bytes = a.bytes; fits = leb-true (length p.data_) 578 both.0 }, packets_fit ps both.1 all.1)
 
   -- a refusal by the transaction protocol
-  pub good_refused : (e : Event A) (number : Option ℕ) → ((i : ℕ) → Step m e (report.Refused i) (next m)) → Step m e report.NoMemory (next m) → Good A w m k e (idle n (refused_as number))
-  good_refused e None refused none = good_idle A w m k n e report.NoMemory t stands none
-  good_refused e (Some i) refused none = good_idle A w m k n e (report.Refused i) t stands (refused i)
+  pub good_refused : (e : Event A) (number : Option ℕ) → ((i : ℕ) → Step m e (report.Refused i) (next m)) → Step m e report.NoMemory (next m) → Good A w m t k e (idle n (refused_as number))
+  good_refused e None refused none = good_idle A w m k n e report.NoMemory t stands refl none
+  good_refused e (Some i) refused none = good_idle A w m k n e (report.Refused i) t stands refl (refused i)
 
   module _ (node socket tid : ℕ) (packets : List Packet) (range : IsCall {A = A} (Answer node socket tid packets)) where
     key : Key
@@ -197,7 +205,7 @@ module _ (A : Type 0) (laws : Laws A) (w : WorldState) (m : Machine) (k : ℕ) (
     is_done free = ap (λ f. network.answers (after A t.history) (serving m.net k) (record { from = at_socket n node socket; tid = tid }) packets f) (ap (λ rs. answer_fault rs (record { from = at_socket n node socket; tid = tid }) packets) (service_is A w m k n t stands) ∙ free)
 
     good_answer : (fault : Option AtpFault) → answer_fault n.service (record { from = at_socket n node socket; tid = tid }) packets ≡ fault →
-        Good A w m k (event.Call k (Answer node socket tid packets)) (answered_with n (record { from = at_socket n node socket; tid = tid }) packets fault)
+        Good A w m t k (event.Call k (Answer node socket tid packets)) (answered_with n (record { from = at_socket n node socket; tid = tid }) packets fault)
     good_answer (Some fault) is = good_refused (event.Call k (Answer node socket tid packets)) (number_of fault) (λ i. refl) refl
     good_answer None is =
         let its = t.nodes k n stands in
@@ -217,6 +225,7 @@ module _ (A : Type 0) (laws : Laws A) (w : WorldState) (m : Machine) (k : ℕ) (
         (ap (λ (x : Network). x.drawn) done_is)
         (ap (λ (x : Network). x.asked) done_is)
         (pages_elsewhere m asked.transaction packets k asked.asked_it))
+        (answers_match A m.net (after A t.history) (serving m.net k) (record { from = at_socket n node socket; tid = tid }) packets (event.Call k (Answer node socket tid packets)) (report.Answered (length (asked_for (find (is_key (record { from = at_socket n node socket; tid = tid })) n.service) (record { from = at_socket n node socket; tid = tid }) packets))) refl)
         (record {
           asked = subst (λ (a : Address). Asked m.asked a tid (serving m.net k)) (there its.net) asked;
           few = laws.few (find (is_key (record { from = at_socket n node socket; tid = tid })) n.service) (record { from = at_socket n node socket; tid = tid }) packets;
@@ -228,7 +237,7 @@ module _ (A : Type 0) (laws : Laws A) (w : WorldState) (m : Machine) (k : ℕ) (
 
   -- ---- calls
 
-  pub good_called : (call : Call A) → IsCall call → holds_some w.nodes k (draw_of n call) ≡ false → Good A w m k (event.Call k call) (called n call)
+  pub good_called : (call : Call A) → IsCall call → holds_some w.nodes k (draw_of n call) ≡ false → Good A w m t k (event.Call k call) (called n call)
   good_called Zones range free = good_zones n.router n.reading refl free
   good_called (Ask node socket user bytes wanted xo retries) range free = good_ask node socket user bytes wanted xo retries range (nat_lt 578 (length bytes)) refl free
   good_called (Answer node socket tid packets) range free = good_answer node socket tid packets range (answer_fault n.service (record { from = at_socket n node socket; tid = tid }) packets) refl

@@ -14,7 +14,8 @@ use Rattle.at_world.specs.Machine.{Machine}
 use Rattle.at_world.specs.Sents.{SentDatagram}
 use Rattle.at_world.specs.Worlds.{WorldState, IsFresh}
 use Rattle.at_world.proofs.Moves.{one_of}
-use Rattle.at_world.proofs.Tied.{Laws, OnNet, Tied, spelled_sent}
+use Rattle.at_world.specs.Stories.{posted_packet}
+use Rattle.at_world.proofs.Tied.{Laws, OnNet, Tied}
 use Rattle.at_world.proofs.Times.{in_time}
 
 sent_at : (P : Sent → Type 0) (sent : List Sent) (i : ℕ) (s : Sent) → AllByRecursion P sent → slice_get sent i ≡ Some s → P s
@@ -23,9 +24,9 @@ sent_at P (x ∷ sent) zero s h is = let same : x ≡ s = cc in subst P same h.0
 sent_at P (x ∷ sent) (suc i) s h is = sent_at P sent i s h.1 is
 
 -- a packet of the network at the same place
-sent_in : (sent : List Sent) (i : ℕ) (d : SentDatagram) → slice_get (map spelled_sent sent) i ≡ Some d → (s : Sent) × (slice_get sent i ≡ Some s) × (d ≡ spelled_sent s)
+sent_in : (sent : List Sent) (i : ℕ) (d : SentDatagram) → slice_get (map posted_packet sent) i ≡ Some d → (s : Sent) × (slice_get sent i ≡ Some s) × (d ≡ posted_packet s)
 sent_in [] i d is = absurd (cc)
-sent_in (s ∷ sent) zero d is = let same : spelled_sent s ≡ d = cc in (s, refl, sym same)
+sent_in (s ∷ sent) zero d is = let same : posted_packet s ≡ d = cc in (s, refl, sym same)
 sent_in (s ∷ sent) (suc i) d is = sent_in sent i d is
 
 some_sent : (a b : Sent) → Some a ≡ Some b → a ≡ b
@@ -34,7 +35,7 @@ some_sent a b h = cc
 pub record Comes (A : Type 0) (w : WorldState) (m : Machine) (t : Tied A w m) (which : ℕ) (d : SentDatagram) : Type 0 where
   pub packet : Sent
   pub was_sent : slice_get (after A t.history).sent which ≡ Some packet
-  pub spells : d ≡ spelled_sent packet
+  pub spells : d ≡ posted_packet packet
   pub lawful : IsLawfullySent packet
   pub fresh : is_fresh (after A t.history).drawn packet ≡ true
   pub timely : ComesInTime (after A t.history) which

@@ -15,6 +15,7 @@ mod Responded
 mod Runs
 mod SentLemmas
 mod SetupLemmas
+mod StoryLemmas
 mod Tied
 mod Timers
 mod TiedAtOpening

@@ -26,7 +26,8 @@ use Rattle.at_world.specs.Machine.{Machine, Reading, since_of}
 use Rattle.at_world.specs.Sents.{stamp}
 use Rattle.at_world.specs.Worlds.{WorldState, node_at}
 use Rattle.at_world.proofs.Places.{requester_here, service_here, served_here}
-use Rattle.at_world.proofs.Tied.{Laws, TiedNode, IsReading, PagesOf, OnNet, Tied, Next, moved, spelled_sent, put_same, put_itself, posted_as_sent}
+use Rattle.at_world.specs.Stories.{posted_packet}
+use Rattle.at_world.proofs.Tied.{Laws, TiedNode, IsReading, PagesOf, OnNet, Tied, Next, moved, put_same, put_itself, posted_as_sent}
 use Rattle.at_world.proofs.Times.{IsNoted, all_noted, noted_now}
 
 -- ---- lists of transactions
@@ -90,18 +91,17 @@ module _ (A : Type 0) (w : WorldState) (m : Machine) (k : ℕ) (n : NodeState) (
   reading_stays (Some tid) h = record { server = h.server; is_router = h.is_router; first = h.first; user = h.user; is_open = h.is_open; since = h.since; began = h.began }
 
   -- what a socket of this node posts
-  posts_from : (socket : ℕ → ℕ → Address) (sent : List (Address × Content)) → map (stamp w.events) (map posted (sent_by (socket n.net n.number) atp_kind (spelled_all sent))) ≡ map spelled_sent (stamped (after A t.history).event (socket m.net k) sent)
+  posts_from : (socket : ℕ → ℕ → Address) (sent : List (Address × Content)) → map (stamp w.events) (map posted (sent_by (socket n.net n.number) atp_kind (spelled_all sent))) ≡ map posted_packet (stamped (after A t.history).event (socket m.net k) sent)
   posts_from socket sent =
       let its = t.nodes k n stands in
-      posted_as_sent w.events (socket n.net n.number) sent ∙ (λ i. map spelled_sent (stamped (t.events i) (socket (its.net i) (its.number i)) sent))
+      posted_as_sent w.events (socket n.net n.number) sent ∙ (λ i. map posted_packet (stamped (t.events i) (socket (its.net i) (its.number i)) sent))
 
   same_node : (requester : Requests) (reading : Option ℕ) (served service : List Record) → TiedNode m k (record n { requester = requester; reading = reading; served = served; service = service })
   same_node requester reading served service = let its = t.nodes k n stands in record { net = its.net; number = its.number; small = its.small; router = its.router; table = its.table }
 
   -- nothing happens
-  pub idle_next : (r : Report A) → Next A w m (after A t.history) k n r [] m.asked m.readings
+  pub idle_next : (r : Report A) → Next A w m (after A t.history) Other k n r [] m.asked m.readings
   idle_next r = record {
-    happening = Other;
     timely = tt;
     in_range = tt;
     same_event = refl;
@@ -123,9 +123,8 @@ module _ (A : Type 0) (w : WorldState) (m : Machine) (k : ℕ) (n : NodeState) (
   -- the requester changes
   pub asker_next : (h : Happening) (after_it : Requests) (reading : Option ℕ) (sent : List (Address × Content)) (r : Report A) (readings : List Reading) → IsTimely (after A t.history) h → IsInRange h →
       done A (after A t.history) h ≡ with_requester (after A t.history) (asking m.net k) after_it sent → IsReading (moved m m.asked readings) k after_it reading → ((j : ℕ) → (k == j) ≡ false → since_of readings j ≡ since_of m.readings j) →
-      Next A w m (after A t.history) k (record n { requester = after_it; reading = reading }) r (sent_by (asking n.net n.number) atp_kind (spelled_all sent)) m.asked readings
+      Next A w m (after A t.history) h k (record n { requester = after_it; reading = reading }) r (sent_by (asking n.net n.number) atp_kind (spelled_all sent)) m.asked readings
   asker_next h after_it reading sent r readings timely range is reads others = record {
-    happening = h;
     timely = timely;
     in_range = range;
     same_event = ap (λ (x : Network). x.event) is;
@@ -146,9 +145,8 @@ module _ (A : Type 0) (w : WorldState) (m : Machine) (k : ℕ) (n : NodeState) (
 
   -- the records of the service change
   pub service_next : (h : Happening) (rs : List Record) (sent : List (Address × Content)) (r : Report A) → IsTimely (after A t.history) h → IsInRange h → done A (after A t.history) h ≡ with_responder (after A t.history) (serving m.net k) rs sent →
-      Next A w m (after A t.history) k (record n { service = rs }) r (sent_by (serving n.net n.number) atp_kind (spelled_all sent)) m.asked m.readings
+      Next A w m (after A t.history) h k (record n { service = rs }) r (sent_by (serving n.net n.number) atp_kind (spelled_all sent)) m.asked m.readings
   service_next h rs sent r timely range is = record {
-    happening = h;
     timely = timely;
     in_range = range;
     same_event = ap (λ (x : Network). x.event) is;
@@ -169,9 +167,8 @@ module _ (A : Type 0) (w : WorldState) (m : Machine) (k : ℕ) (n : NodeState) (
 
   -- the records of zone requests change
   pub zones_next : (h : Happening) (rs : List Record) (sent : List (Address × Content)) (r : Report A) → IsTimely (after A t.history) h → IsInRange h → done A (after A t.history) h ≡ with_responder (after A t.history) (zones_at m.net k) rs sent →
-      Next A w m (after A t.history) k (record n { served = rs }) r (sent_by (zones_at n.net n.number) atp_kind (spelled_all sent)) m.asked m.readings
+      Next A w m (after A t.history) h k (record n { served = rs }) r (sent_by (zones_at n.net n.number) atp_kind (spelled_all sent)) m.asked m.readings
   zones_next h rs sent r timely range is = record {
-    happening = h;
     timely = timely;
     in_range = range;
     same_event = ap (λ (x : Network). x.event) is;
@@ -208,10 +205,9 @@ module _ (A : Type 0) (w : WorldState) (m : Machine) (k : ℕ) (n : NodeState) (
         ((at : Address) → (done A (after A t.history) h).responders at ≡ put (put (after A t.history).responders (serving m.net k) service) (zones_at m.net k) served at) →
         (done A (after A t.history) h).sent ≡ (after A t.history).sent ++ stamped (after A t.history).event (socket m.net k) sent → (done A (after A t.history) h).drawn ≡ (after A t.history).drawn →
         (done A (after A t.history) h).asked ≡ answered (after A t.history).asked from tid packets → (PagesOf m asked.transaction → PagesOf m (record asked.transaction { answers = (asked.transaction).answers ++ packets ∷ [] })) →
-        Next A w m (after A t.history) k (record n { served = served; service = service }) r (sent_by (socket n.net n.number) atp_kind (spelled_all sent)) (answered m.asked from tid packets) m.readings
+        Next A w m (after A t.history) h k (record n { served = served; service = service }) r (sent_by (socket n.net n.number) atp_kind (spelled_all sent)) (answered m.asked from tid packets) m.readings
     gave_next h r socket from tid packets responder asked served service sent timely range event requesters responders is drawn is_asked pages = record {
-      happening = h;
-      timely = timely;
+        timely = timely;
       in_range = range;
       same_event = event;
       requesters = λ who. requesters who ∙ requesters_stay who;
@@ -238,11 +234,10 @@ module _ (A : Type 0) (w : WorldState) (m : Machine) (k : ℕ) (n : NodeState) (
   pub begun_next : (to : Address) (user bytes : List ℕ) (wanted : ℕ) (xo : Bool) (retries tid : ℕ) (reading : Option ℕ) (readings : List Reading) → next_number n.requester ≡ Some tid → NoneHolds (after A t.history).responders (asking m.net k) tid → IsAsking (asking m.net k) to user bytes wanted →
       to.net ≡ m.net → IsReading (moved m (new_transaction (asking m.net k) (beginning tid to user bytes wanted xo retries) ∷ m.asked) readings) k (requests.begun n.requester (beginning tid to user bytes wanted xo retries)) reading →
       ((j : ℕ) → (k == j) ≡ false → since_of readings j ≡ since_of m.readings j) →
-      Next A w m (after A t.history) k (record n { requester = requests.begun n.requester (beginning tid to user bytes wanted xo retries); reading = reading }) (report.Begun tid)
+      Next A w m (after A t.history) (Begins (asking m.net k) to user bytes wanted xo retries) k (record n { requester = requests.begun n.requester (beginning tid to user bytes wanted xo retries); reading = reading }) (report.Begun tid)
       (sent_by (asking n.net n.number) atp_kind (spelled_all ((to, request_by (beginning tid to user bytes wanted xo retries)) ∷ [])))
       (new_transaction (asking m.net k) (beginning tid to user bytes wanted xo retries) ∷ m.asked) readings
   begun_next to user bytes wanted xo retries tid reading readings drawn free range on_net reads others = record {
-    happening = Begins (asking m.net k) to user bytes wanted xo retries;
     timely = λ number is. let same : tid ≡ number = some_number tid number (sym drawn ∙ ap next_number (sym asker_is) ∙ is) in subst (NoneHolds (after A t.history).responders (asking m.net k)) same free;
     in_range = range;
     same_event = ap (λ (x : Network). x.event) is;

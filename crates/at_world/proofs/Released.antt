@@ -1,10 +1,10 @@
 -- What a release that comes to a node's service, or to the router's zone socket, is in the machine.
 use Rattle.std.proofs.Common.{◌≡◌, ℕ, true, Some, refl, sym, ap, ◌∙◌}
-use Rattle.std.specs.Prelude.{slice_get}
+use Rattle.std.specs.Prelude.{find, slice_get}
 use Rattle.at_atp.specs.Frames.{Release}
 use Rattle.at_atp.specs.Network as network
 use Rattle.at_atp.specs.Network.{Sent, Takes, after, done, with_responder}
-use Rattle.at_atp.specs.Records.{taken}
+use Rattle.at_atp.specs.Records.{is_key, taken}
 use Rattle.at_atp.specs.Transactions.{transaction_of, Asked}
 use Rattle.at_atp.specs.declared.reception.Reception.{Reception}
 use Rattle.at_atp.specs.declared.reception.Reception.TheVariants as reception
@@ -15,6 +15,7 @@ use Rattle.at_world.specs.Worlds.{WorldState, node_at}
 use Rattle.at_world.specs.declared.event.Event.TheVariants as event
 use Rattle.at_world.proofs.Calls.{Good, good_next}
 use Rattle.at_world.proofs.Moves.{service_is, served_is, service_next, zones_next}
+use Rattle.at_world.proofs.StoryLemmas.{takes_quietly, release_is_old, release_is_quiet}
 use Rattle.at_world.proofs.Tied.{Laws, Tied}
 
 -- whatever is reported of a release, the machine stays
@@ -33,20 +34,22 @@ module _ (A : Type 0) (laws : Laws A) (w : WorldState) (m : Machine) (which k : 
       let a = gives.released which s tid was_sent fresh packet_is in
       record { transaction = a.transaction; newest = ap (λ ts. transaction_of ts s.from tid) (sym t.asked) ∙ a.newest; asked_it = a.asked_it }
 
-  pub good_service_release : s.to ≡ serving m.net k → Good A w m k (event.Deliver which k) (service_released n (taken n.service s.from (Release tid)))
+  pub good_service_release : s.to ≡ serving m.net k → Good A w m t k (event.Deliver which k) (service_released n (taken n.service s.from (Release tid)))
   good_service_release to_is =
       let its = ap (after A t.history).responders to_is ∙ service_is A w m k n t stands in
       let is_taken : done A (after A t.history) (Takes which) ≡ with_responder (after A t.history) (serving m.net k) (taken n.service s.from (Release tid)).after (taken n.service s.from (Release tid)).sent =
       ap (network.takes_in (after A t.history)) was_sent ∙ (λ i. with_responder (after A t.history) (to_is i) (taken (its i) s.from (packet_is i)).after (taken (its i) s.from (packet_is i)).sent) in
       good_next A w m k n (event.Deliver which k) (service_released n (taken n.service s.from (Release tid))) m.asked m.readings t stands
       (service_next A w m k n t stands (Takes which) (taken n.service s.from (Release tid)).after (taken n.service s.from (Release tid)).sent (released_report (taken n.service s.from (Release tid)).reception) timely tt is_taken)
+      (takes_quietly A m.net (after A t.history) which k s was_sent (released_report (taken n.service s.from (Release tid)).reception) (taken n.service s.from (Release tid)).reception (λ i. (taken (its i) s.from (packet_is i)).reception) (λ key. release_is_old n.service (record { from = s.from; tid = tid }) (find (is_key (record { from = s.from; tid = tid })) n.service) key) (release_is_quiet A (taken n.service s.from (Release tid)).reception))
       (stays A m which k (taken n.service s.from (Release tid)).reception)
 
-  pub good_zone_release : s.to ≡ zones_at m.net k → Good A w m k (event.Deliver which k) (zone_released n (taken n.served s.from (Release tid)))
+  pub good_zone_release : s.to ≡ zones_at m.net k → Good A w m t k (event.Deliver which k) (zone_released n (taken n.served s.from (Release tid)))
   good_zone_release to_is =
       let its = ap (after A t.history).responders to_is ∙ served_is A w m k n t stands in
       let is_taken : done A (after A t.history) (Takes which) ≡ with_responder (after A t.history) (zones_at m.net k) (taken n.served s.from (Release tid)).after (taken n.served s.from (Release tid)).sent =
       ap (network.takes_in (after A t.history)) was_sent ∙ (λ i. with_responder (after A t.history) (to_is i) (taken (its i) s.from (packet_is i)).after (taken (its i) s.from (packet_is i)).sent) in
       good_next A w m k n (event.Deliver which k) (zone_released n (taken n.served s.from (Release tid))) m.asked m.readings t stands
       (zones_next A w m k n t stands (Takes which) (taken n.served s.from (Release tid)).after (taken n.served s.from (Release tid)).sent (released_report (taken n.served s.from (Release tid)).reception) timely tt is_taken)
+      (takes_quietly A m.net (after A t.history) which k s was_sent (released_report (taken n.served s.from (Release tid)).reception) (taken n.served s.from (Release tid)).reception (λ i. (taken (its i) s.from (packet_is i)).reception) (λ key. release_is_old n.served (record { from = s.from; tid = tid }) (find (is_key (record { from = s.from; tid = tid })) n.served) key) (release_is_quiet A (taken n.served s.from (Release tid)).reception))
       (stays A m which k (taken n.served s.from (Release tid)).reception)

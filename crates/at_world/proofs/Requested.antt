@@ -31,6 +31,7 @@ use Rattle.at_world.specs.Worlds.{WorldState, node_at}
 use Rattle.at_world.specs.declared.event.Event.TheVariants as event
 use Rattle.at_world.proofs.Calls.{Good, good_next, good_idle}
 use Rattle.at_world.proofs.Moves.{service_is, served_is, service_next, zones_next, gave_next, with_served}
+use Rattle.at_world.proofs.StoryLemmas.{takes_quietly, takes_new, serves_new}
 use Rattle.at_world.proofs.Tied.{Laws, PagesOf, Tied, put_here}
 
 module _ (A : Type 0) (laws : Laws A) (w : WorldState) (m : Machine) (which k : ℕ) (n : NodeState) (t : Tied A w m) (stands : node_at w k ≡ Some n) (s : Sent) (was_sent : slice_get (after A t.history).sent which ≡ Some s)
@@ -54,31 +55,35 @@ module _ (A : Type 0) (laws : Laws A) (w : WorldState) (m : Machine) (which k : 
     is_taken = ap (network.takes_in (after A t.history)) was_sent ∙ (λ i. with_responder (after A t.history) (to_is i) (taken (its_records i) s.from (packet_is i)).after (taken (its_records i) s.from (packet_is i)).sent)
 
     good_service : (said : Reply A) (o : Outcome A) (r : Reception) → (is_asked o.report ≡ true → said ≡ reply.Later) → (taken n.service s.from (Request mask xo timer tid user bytes)).reception ≡ r →
-        o ≡ at_service n (taken n.service s.from (Request mask xo timer tid user bytes)) user bytes said r → Good A w m k (event.Deliver which k) o
-    good_service said o reception.Ignored later is at = subst (Good A w m k (event.Deliver which k)) (sym at)
+        o ≡ at_service n (taken n.service s.from (Request mask xo timer tid user bytes)) user bytes said r → Good A w m t k (event.Deliver which k) o
+    good_service said o reception.Ignored later is at = subst (Good A w m t k (event.Deliver which k)) (sym at)
         (good_next A w m k n (event.Deliver which k) (service_taken n (taken n.service s.from (Request mask xo timer tid user bytes)) report.Ignored) m.asked m.readings t stands
-        (service_next A w m k n t stands (Takes which) (taken n.service s.from (Request mask xo timer tid user bytes)).after (taken n.service s.from (Request mask xo timer tid user bytes)).sent report.Ignored timely tt is_taken) refl)
-    good_service said o (reception.Again count) later is at = subst (Good A w m k (event.Deliver which k)) (sym at)
+        (service_next A w m k n t stands (Takes which) (taken n.service s.from (Request mask xo timer tid user bytes)).after (taken n.service s.from (Request mask xo timer tid user bytes)).sent report.Ignored timely tt is_taken)
+        (takes_quietly A m.net (after A t.history) which k s was_sent report.Ignored reception.Ignored ((λ i. (taken (its_records i) s.from (packet_is i)).reception) ∙ is) (λ key. refl) refl) refl)
+    good_service said o (reception.Again count) later is at = subst (Good A w m t k (event.Deliver which k)) (sym at)
         (good_next A w m k n (event.Deliver which k) (service_taken n (taken n.service s.from (Request mask xo timer tid user bytes)) report.Again) m.asked m.readings t stands
-        (service_next A w m k n t stands (Takes which) (taken n.service s.from (Request mask xo timer tid user bytes)).after (taken n.service s.from (Request mask xo timer tid user bytes)).sent report.Again timely tt is_taken) refl)
-    good_service said o reception.Released later is at = subst (Good A w m k (event.Deliver which k)) (sym at)
+        (service_next A w m k n t stands (Takes which) (taken n.service s.from (Request mask xo timer tid user bytes)).after (taken n.service s.from (Request mask xo timer tid user bytes)).sent report.Again timely tt is_taken)
+        (takes_quietly A m.net (after A t.history) which k s was_sent report.Again (reception.Again count) ((λ i. (taken (its_records i) s.from (packet_is i)).reception) ∙ is) (λ key. refl) refl) refl)
+    good_service said o reception.Released later is at = subst (Good A w m t k (event.Deliver which k)) (sym at)
         (good_next A w m k n (event.Deliver which k) (service_taken n (taken n.service s.from (Request mask xo timer tid user bytes)) report.Released) m.asked m.readings t stands
-        (service_next A w m k n t stands (Takes which) (taken n.service s.from (Request mask xo timer tid user bytes)).after (taken n.service s.from (Request mask xo timer tid user bytes)).sent report.Released timely tt is_taken) refl)
+        (service_next A w m k n t stands (Takes which) (taken n.service s.from (Request mask xo timer tid user bytes)).after (taken n.service s.from (Request mask xo timer tid user bytes)).sent report.Released timely tt is_taken)
+        (takes_quietly A m.net (after A t.history) which k s was_sent report.Released reception.Released ((λ i. (taken (its_records i) s.from (packet_is i)).reception) ∙ is) (λ key. refl) refl) refl)
     good_service said o (reception.New key) later is at =
         let is_later : said ≡ reply.Later = later (ap (λ (x : Outcome A). is_asked x.report) at) in
         let waits = laws.new_waits n.service s.from (Request mask xo timer tid user bytes) key is in
         let a = asks in
-        subst (Good A w m k (event.Deliver which k)) (sym (at ∙ ap (handed_up n (taken n.service s.from (Request mask xo timer tid user bytes)) key user bytes) is_later))
+        subst (Good A w m t k (event.Deliver which k)) (sym (at ∙ ap (handed_up n (taken n.service s.from (Request mask xo timer tid user bytes)) key user bytes) is_later))
         (good_next A w m k n (event.Deliver which k) (handed_up n (taken n.service s.from (Request mask xo timer tid user bytes)) key user bytes reply.Later) m.asked m.readings t stands
         (service_next A w m k n t stands (Takes which) (taken n.service s.from (Request mask xo timer tid user bytes)).after [] (report.Asked key user bytes) timely tt
         (is_taken ∙ ap (with_responder (after A t.history) (serving m.net k) (taken n.service s.from (Request mask xo timer tid user bytes)).after) waits.1))
+        (takes_new A m.net (after A t.history) which k s was_sent key user bytes ((λ i. (taken (its_records i) s.from (packet_is i)).reception) ∙ is))
         (record { asked = record { transaction = (a.0).transaction; newest = (λ i. transaction_of m.asked (waits.2 i).from (waits.2 i).tid) ∙ (a.0).newest; asked_it = (a.0).asked_it ∙ to_is }; is_user = a.1; is_data = a.2 }, refl))
 
-    pub good_question : (said : Reply A) (o : Outcome A) → (is_asked o.report ≡ true → said ≡ reply.Later) → o ≡ service_asked n s.from (Request mask xo timer tid user bytes) user bytes said → Good A w m k (event.Deliver which k) o
+    pub good_question : (said : Reply A) (o : Outcome A) → (is_asked o.report ≡ true → said ≡ reply.Later) → o ≡ service_asked n s.from (Request mask xo timer tid user bytes) user bytes said → Good A w m t k (event.Deliver which k) o
     good_question said o later at = go (finds_no_place n.service s.from (Request mask xo timer tid user bytes)) at
       where
-        go : (b : Bool) → o ≡ cond b (idle n (report.Refused 14)) (at_service n (taken n.service s.from (Request mask xo timer tid user bytes)) user bytes said (taken n.service s.from (Request mask xo timer tid user bytes)).reception) → Good A w m k (event.Deliver which k) o
-        go true e = subst (Good A w m k (event.Deliver which k)) (sym e) (good_idle A w m k n (event.Deliver which k) (report.Refused 14) t stands refl)
+        go : (b : Bool) → o ≡ cond b (idle n (report.Refused 14)) (at_service n (taken n.service s.from (Request mask xo timer tid user bytes)) user bytes said (taken n.service s.from (Request mask xo timer tid user bytes)).reception) → Good A w m t k (event.Deliver which k) o
+        go true e = subst (Good A w m t k (event.Deliver which k)) (sym e) (good_idle A w m k n (event.Deliver which k) (report.Refused 14) t stands refl refl)
         go false e = good_service said o (taken n.service s.from (Request mask xo timer tid user bytes)).reception later refl e
 
   -- ---- the router's zone socket
@@ -132,14 +137,14 @@ module _ (A : Type 0) (laws : Laws A) (w : WorldState) (m : Machine) (which k : 
         go (inl old) = pages server answer router here old
         go (inr new) = (start, subst (λ u. RequestSpells u start) (sym same) asks_from, sym (one_answer (page_answer m.table start) answer new))
 
-    good_served : (key : Key) (o : Outcome A) → (taken n.served s.from (Request mask xo timer tid user bytes)).reception ≡ reception.New key → o ≡ zone_served n (taken n.served s.from (Request mask xo timer tid user bytes)) key (page_packet m.table start) → Good A w m k (event.Deliver which k) o
+    good_served : (key : Key) (o : Outcome A) → (taken n.served s.from (Request mask xo timer tid user bytes)).reception ≡ reception.New key → o ≡ zone_served n (taken n.served s.from (Request mask xo timer tid user bytes)) key (page_packet m.table start) → Good A w m t k (event.Deliver which k) o
     good_served key o is at =
         let waits = laws.new_waits n.served s.from (Request mask xo timer tid user bytes) key is in
         let d = is_answered key is in
         let a = asks in
         let here = put_here (after A t.history).responders (zones_at m.net k) (taken n.served s.from (Request mask xo timer tid user bytes)).after in
         let asked : Asked m.asked s.from tid (zones_at m.net k) = record { transaction = (a.0).transaction; newest = (a.0).newest; asked_it = (a.0).asked_it ∙ to_is } in
-        subst (Good A w m k (event.Deliver which k)) (sym at)
+        subst (Good A w m t k (event.Deliver which k)) (sym at)
         (good_next A w m k n (event.Deliver which k) (zone_served n (taken n.served s.from (Request mask xo timer tid user bytes)) key (page_packet m.table start)) (answered m.asked s.from tid (page_answer m.table start)) m.readings t stands
         (gave_next A w m k n t stands laws (Serves which (page_answer m.table start)) (report.Served (length (asked_for (find (is_key key) (taken n.served s.from (Request mask xo timer tid user bytes)).after) key (page_answer m.table start))))
         zones_at s.from tid (page_answer m.table start) (zones_at m.net k) asked (after_answer (taken n.served s.from (Request mask xo timer tid user bytes)).after key (page_answer m.table start)) n.service
@@ -157,6 +162,7 @@ module _ (A : Type 0) (laws : Laws A) (w : WorldState) (m : Machine) (which k : 
         (ap (λ (x : Network). x.drawn) d)
         (ap (λ (x : Network). x.asked) d ∙ (λ i. answered (after A t.history).asked (waits.2 i).from (waits.2 i).tid (page_answer m.table start)))
         (pages_more (a.0).transaction a.1))
+        (serves_new A m.net (after A t.history) which k s was_sent key (page_answer m.table start) (length (asked_for (find (is_key key) (taken n.served s.from (Request mask xo timer tid user bytes)).after) key (page_answer m.table start))) ((λ i. (taken (its_served i) s.from (packet_is i)).reception) ∙ is) (waits.2 ∙ ap (λ f. record { from = s.from; tid = network.number_of f }) (sym packet_is)))
         (record {
           is_router = is_router;
           requester = s.from;
@@ -168,21 +174,24 @@ module _ (A : Type 0) (laws : Laws A) (w : WorldState) (m : Machine) (which k : 
           becomes = refl;
         }))
 
-    good_zones : (o : Outcome A) (r : Reception) → (taken n.served s.from (Request mask xo timer tid user bytes)).reception ≡ r → o ≡ at_zones n (taken n.served s.from (Request mask xo timer tid user bytes)) (page_packet m.table start) r → Good A w m k (event.Deliver which k) o
-    good_zones o reception.Ignored is at = subst (Good A w m k (event.Deliver which k)) (sym at)
+    good_zones : (o : Outcome A) (r : Reception) → (taken n.served s.from (Request mask xo timer tid user bytes)).reception ≡ r → o ≡ at_zones n (taken n.served s.from (Request mask xo timer tid user bytes)) (page_packet m.table start) r → Good A w m t k (event.Deliver which k) o
+    good_zones o reception.Ignored is at = subst (Good A w m t k (event.Deliver which k)) (sym at)
         (good_next A w m k n (event.Deliver which k) (zone_taken n (taken n.served s.from (Request mask xo timer tid user bytes)) report.Ignored) m.asked m.readings t stands
-        (zones_next A w m k n t stands (Takes which) (taken n.served s.from (Request mask xo timer tid user bytes)).after (taken n.served s.from (Request mask xo timer tid user bytes)).sent report.Ignored timely tt is_served) refl)
-    good_zones o (reception.Again count) is at = subst (Good A w m k (event.Deliver which k)) (sym at)
+        (zones_next A w m k n t stands (Takes which) (taken n.served s.from (Request mask xo timer tid user bytes)).after (taken n.served s.from (Request mask xo timer tid user bytes)).sent report.Ignored timely tt is_served)
+        (takes_quietly A m.net (after A t.history) which k s was_sent report.Ignored reception.Ignored ((λ i. (taken (its_served i) s.from (packet_is i)).reception) ∙ is) (λ key. refl) refl) refl)
+    good_zones o (reception.Again count) is at = subst (Good A w m t k (event.Deliver which k)) (sym at)
         (good_next A w m k n (event.Deliver which k) (zone_taken n (taken n.served s.from (Request mask xo timer tid user bytes)) report.Again) m.asked m.readings t stands
-        (zones_next A w m k n t stands (Takes which) (taken n.served s.from (Request mask xo timer tid user bytes)).after (taken n.served s.from (Request mask xo timer tid user bytes)).sent report.Again timely tt is_served) refl)
-    good_zones o reception.Released is at = subst (Good A w m k (event.Deliver which k)) (sym at)
+        (zones_next A w m k n t stands (Takes which) (taken n.served s.from (Request mask xo timer tid user bytes)).after (taken n.served s.from (Request mask xo timer tid user bytes)).sent report.Again timely tt is_served)
+        (takes_quietly A m.net (after A t.history) which k s was_sent report.Again (reception.Again count) ((λ i. (taken (its_served i) s.from (packet_is i)).reception) ∙ is) (λ key. refl) refl) refl)
+    good_zones o reception.Released is at = subst (Good A w m t k (event.Deliver which k)) (sym at)
         (good_next A w m k n (event.Deliver which k) (zone_taken n (taken n.served s.from (Request mask xo timer tid user bytes)) report.Released) m.asked m.readings t stands
-        (zones_next A w m k n t stands (Takes which) (taken n.served s.from (Request mask xo timer tid user bytes)).after (taken n.served s.from (Request mask xo timer tid user bytes)).sent report.Released timely tt is_served) refl)
+        (zones_next A w m k n t stands (Takes which) (taken n.served s.from (Request mask xo timer tid user bytes)).after (taken n.served s.from (Request mask xo timer tid user bytes)).sent report.Released timely tt is_served)
+        (takes_quietly A m.net (after A t.history) which k s was_sent report.Released reception.Released ((λ i. (taken (its_served i) s.from (packet_is i)).reception) ∙ is) (λ key. refl) refl) refl)
     good_zones o (reception.New key) is at = good_served key o is at
 
-    pub good_page : (o : Outcome A) → o ≡ zone_asked n s.from (Request mask xo timer tid user bytes) m.table start → Good A w m k (event.Deliver which k) o
+    pub good_page : (o : Outcome A) → o ≡ zone_asked n s.from (Request mask xo timer tid user bytes) m.table start → Good A w m t k (event.Deliver which k) o
     good_page o at = go (finds_no_place n.served s.from (Request mask xo timer tid user bytes)) at
       where
-        go : (b : Bool) → o ≡ cond b (idle n (report.Refused 14)) (at_zones n (taken n.served s.from (Request mask xo timer tid user bytes)) (page_packet m.table start) (taken n.served s.from (Request mask xo timer tid user bytes)).reception) → Good A w m k (event.Deliver which k) o
-        go true e = subst (Good A w m k (event.Deliver which k)) (sym e) (good_idle A w m k n (event.Deliver which k) (report.Refused 14) t stands refl)
+        go : (b : Bool) → o ≡ cond b (idle n (report.Refused 14)) (at_zones n (taken n.served s.from (Request mask xo timer tid user bytes)) (page_packet m.table start) (taken n.served s.from (Request mask xo timer tid user bytes)).reception) → Good A w m t k (event.Deliver which k) o
+        go true e = subst (Good A w m t k (event.Deliver which k)) (sym e) (good_idle A w m k n (event.Deliver which k) (report.Refused 14) t stands refl refl)
         go false e = good_zones o (taken n.served s.from (Request mask xo timer tid user bytes)).reception refl e

@@ -22,6 +22,7 @@ use Rattle.at_world.specs.Machine.{Machine, without_reading, next, page_answer, 
 use Rattle.at_world.specs.Worlds.{WorldState, node_at}
 use Rattle.at_world.specs.declared.event.Event.TheVariants as event
 use Rattle.at_world.proofs.Calls.{Good, good_next}
+use Rattle.at_world.proofs.StoryLemmas.{is_quiet, hears_matches}
 use Rattle.at_world.proofs.Moves.{one_of, asker_is, asker_next}
 use Rattle.at_world.proofs.Tied.{Laws, IsReading, Reads, PagesOf, Tied, moved}
 use Rattle.at_world.proofs.Timers.{others_left}
@@ -80,13 +81,13 @@ module _ (A : Type 0) (laws : Laws A) (w : WorldState) (m : Machine) (which k : 
       turned true e apart = absurd (true≢false (sym (eq-eqb number tid (sym (eqb-true tid number e))) ∙ apart))
 
   -- a step of a transaction that goes on, or of another than the reading's
-  good_step : (r : Report A) (o : Outcome A) → (is_finished (heard {A = A} n.requester s.from (Response place eom sts tid user bytes)).step ≡ true → is_reading n.reading tid ≡ false) → Step m (event.Deliver which k) r (next m) →
-      o ≡ after_heard n (heard {A = A} n.requester s.from (Response place eom sts tid user bytes)) r n.reading → Good A w m k (event.Deliver which k) o
-  good_step r o away does is = subst (Good A w m k (event.Deliver which k)) (sym is)
+  good_step : (r : Report A) (o : Outcome A) → is_quiet r ≡ true → (is_finished (heard {A = A} n.requester s.from (Response place eom sts tid user bytes)).step ≡ true → is_reading n.reading tid ≡ false) → Step m (event.Deliver which k) r (next m) →
+      o ≡ after_heard n (heard {A = A} n.requester s.from (Response place eom sts tid user bytes)) r n.reading → Good A w m t k (event.Deliver which k) o
+  good_step r o quiet away does is = subst (Good A w m t k (event.Deliver which k)) (sym is)
       (good_next A w m k n (event.Deliver which k) (after_heard n (heard {A = A} n.requester s.from (Response place eom sts tid user bytes)) r n.reading) m.asked m.readings t stands
       (asker_next A w m k n t stands (Hears which) (heard {A = A} n.requester s.from (Response place eom sts tid user bytes)).after n.reading (heard {A = A} n.requester s.from (Response place eom sts tid user bytes)).sent r m.readings timely tt is_done
       (reading_goes_on n.reading away (t.readings k n stands)) (λ j apart. refl))
-      does)
+      (hears_matches A m.net (after A t.history) which (event.Deliver which k) r quiet) does)
 
   -- ---- the end of a reading
 
@@ -112,14 +113,15 @@ module _ (A : Type 0) (laws : Laws A) (w : WorldState) (m : Machine) (which k : 
       let fixed = t.fixed in
       laws.told (page_of m.table 1) r (laws.lawful m.table 1 fixed.table) (subst (λ (p : Packet). Tells p r) (is_page reading) tells) ∙ ap (λ (p : Page). told_by {A = A} p) (laws.whole m.table fixed.small)
 
-  good_end : (o : Outcome A) → is_reading n.reading tid ≡ true → EndsReading n (heard {A = A} n.requester s.from (Response place eom sts tid user bytes)) (record { user = user; data_ = bytes }) o → Good A w m k (event.Deliver which k) o
+  good_end : (o : Outcome A) → is_reading n.reading tid ≡ true → EndsReading n (heard {A = A} n.requester s.from (Response place eom sts tid user bytes)) (record { user = user; data_ = bytes }) o → Good A w m t k (event.Deliver which k) o
   good_end o mine e =
       let r = reads n.reading refl mine in
       let outcome : o ≡ after_heard n (heard {A = A} n.requester s.from (Response place eom sts tid user bytes)) (report.Zones m.table) None = e.outcome ∙ ap (λ x. after_heard n (heard {A = A} n.requester s.from (Response place eom sts tid user bytes)) x None) (told_table r e.told e.tells) in
-      subst (Good A w m k (event.Deliver which k)) (sym outcome)
+      subst (Good A w m t k (event.Deliver which k)) (sym outcome)
       (good_next A w m k n (event.Deliver which k) (after_heard n (heard {A = A} n.requester s.from (Response place eom sts tid user bytes)) (report.Zones m.table) None) m.asked (without_reading m.readings k) t stands
       (asker_next A w m k n t stands (Hears which) (heard {A = A} n.requester s.from (Response place eom sts tid user bytes)).after None (heard {A = A} n.requester s.from (Response place eom sts tid user bytes)).sent (report.Zones m.table) (without_reading m.readings k) timely tt is_done
       tt (λ j apart. others_left m.readings k j apart))
+      (hears_matches A m.net (after A t.history) which (event.Deliver which k) (report.Zones m.table) refl)
       (record { since = r.since; began = r.began; tells = λ stood. refl; becomes = refl }))
 
   -- ---- the end of another transaction
@@ -132,15 +134,15 @@ module _ (A : Type 0) (laws : Laws A) (w : WorldState) (m : Machine) (which k : 
       (a.transaction, (λ i. transaction_of (sym t.asked i) (sym to_is i) (number_of (sym packet_is i))) ∙ a.newest, f.1)
 
   good_finished : (packets : List Packet) (o : Outcome A) → (heard {A = A} n.requester s.from (Response place eom sts tid user bytes)).step ≡ step.Finished packets → (b : Bool) → is_reading n.reading tid ≡ b →
-      MatchBool b (EndsReading n (heard {A = A} n.requester s.from (Response place eom sts tid user bytes)) (record { user = user; data_ = bytes }) o) (o ≡ after_heard n (heard {A = A} n.requester s.from (Response place eom sts tid user bytes)) (report.Response tid packets) n.reading) → Good A w m k (event.Deliver which k) o
+      MatchBool b (EndsReading n (heard {A = A} n.requester s.from (Response place eom sts tid user bytes)) (record { user = user; data_ = bytes }) o) (o ≡ after_heard n (heard {A = A} n.requester s.from (Response place eom sts tid user bytes)) (report.Response tid packets) n.reading) → Good A w m t k (event.Deliver which k) o
   good_finished packets o ended true e x = good_end o e x
   good_finished packets o ended false e x =
       let r = response packets ended in
-      good_step (report.Response tid packets) o (λ finished. e) (record { transaction = r.0; newest = r.1; response = r.2 }, refl) x
+      good_step (report.Response tid packets) o refl (λ finished. e) (record { transaction = r.0; newest = r.1; response = r.2 }, refl) x
 
   pub good_heard : (x : Stepped A) (o : Outcome A) → (heard {A = A} n.requester s.from (Response place eom sts tid user bytes)).step ≡ x →
-      AtAsking n tid (record { user = user; data_ = bytes }) (heard {A = A} n.requester s.from (Response place eom sts tid user bytes)) x o → Good A w m k (event.Deliver which k) o
-  good_heard step.Ignored o is at = good_step report.Ignored o (λ finished. absurd (false≢true (ap is_finished (sym is) ∙ finished))) refl at
-  good_heard step.Kept o is at = good_step report.Kept o (λ finished. absurd (false≢true (ap is_finished (sym is) ∙ finished))) refl at
-  good_heard step.AskAgain o is at = good_step report.Again o (λ finished. absurd (false≢true (ap is_finished (sym is) ∙ finished))) refl at
+      AtAsking n tid (record { user = user; data_ = bytes }) (heard {A = A} n.requester s.from (Response place eom sts tid user bytes)) x o → Good A w m t k (event.Deliver which k) o
+  good_heard step.Ignored o is at = good_step report.Ignored o refl (λ finished. absurd (false≢true (ap is_finished (sym is) ∙ finished))) refl at
+  good_heard step.Kept o is at = good_step report.Kept o refl (λ finished. absurd (false≢true (ap is_finished (sym is) ∙ finished))) refl at
+  good_heard step.AskAgain o is at = good_step report.Again o refl (λ finished. absurd (false≢true (ap is_finished (sym is) ∙ finished))) refl at
   good_heard (step.Finished packets) o is at = good_finished packets o is (is_reading n.reading tid) refl at

@@ -32,6 +32,7 @@ use Rattle.at_node.specs.declared.service.Reply.{Reply}
 use Rattle.at_world.specs.Draws.{noted}
 use Rattle.at_world.specs.Machine.{Machine, Reading, since_of, next, page_answer}
 use Rattle.at_world.specs.Sents.{SentDatagram, stamp}
+use Rattle.at_world.specs.Stories.{posted_packet}
 use Rattle.at_world.specs.Worlds.{WorldState, is_numbered, node_at, recorded}
 use Rattle.at_world.proofs.Places.{at_after, requester_at, requester_after, records_at, records_after}
 use Rattle.at_world.proofs.Times.{IsNoted}
@@ -97,10 +98,6 @@ PagesOf m t = (server : ℕ) (answer : List Packet) → m.router ≡ Some server
 abbrev pub OnNet : Machine → Transaction → Type 0
 OnNet m t = ((t.requester).net ≡ m.net) × ((t.responder).net ≡ m.net)
 
--- a packet as the world has it
-abbrev pub spelled_sent : Sent → SentDatagram
-spelled_sent s = record { event = s.event; to = (s.to).node; bytes = canonical s.to s.from atp_kind (spelled s.packet) }
-
 pub record Tied (A : Type 0) (w : WorldState) (m : Machine) : Type 0 where
   pub fixed : Fixed m
   pub history : List Happening
@@ -109,7 +106,7 @@ pub record Tied (A : Type 0) (w : WorldState) (m : Machine) : Type 0 where
   pub events : w.events ≡ (after A history).event
   pub requesters : (who : Address) → (after A history).requesters who ≡ requester_at m.net w.nodes who
   pub responders : (at : Address) → (after A history).responders at ≡ records_at m.net w.nodes at
-  pub sent : w.sent ≡ map spelled_sent (after A history).sent
+  pub sent : w.sent ≡ map posted_packet (after A history).sent
   pub drawn : AllByRecursion (IsNoted w.last w.events) (after A history).drawn
   pub asked : (after A history).asked ≡ m.asked
   pub nodes : (k : ℕ) (n : NodeState) → node_at w k ≡ Some n → TiedNode m k n
@@ -139,7 +136,7 @@ put_here f at x = ap (λ b. cond b x (f at)) (same_address_itself at)
 
 -- ---- what a node sends
 
-pub posted_as_sent : (event : ℕ) (own : Address) (xs : List (Address × Content)) → map (stamp event) (map posted (sent_by own atp_kind (spelled_all xs))) ≡ map spelled_sent (stamped event own xs)
+pub posted_as_sent : (event : ℕ) (own : Address) (xs : List (Address × Content)) → map (stamp event) (map posted (sent_by own atp_kind (spelled_all xs))) ≡ map posted_packet (stamped event own xs)
 posted_as_sent event own [] = refl
 posted_as_sent event own (x ∷ xs) = ap (λ l. record { event = event; to = (x.0).node; bytes = canonical x.0 own atp_kind (spelled x.1) } ∷ l) (posted_as_sent event own xs)
 
@@ -150,8 +147,7 @@ map_both f (x ∷ xs) ys = ap (λ l. f x ∷ l) (map_both f xs ys)
 -- ---- one step
 
 -- what a step of the network and of a node has to be for the world to stay tied
-pub record Next (A : Type 0) (w : WorldState) (m : Machine) (n : Network) (k : ℕ) (x : NodeState) (r : Report A) (out : List Outgoing) (asked : List Transaction) (readings : List Reading) : Type 0 where
-  pub happening : Happening
+pub record Next (A : Type 0) (w : WorldState) (m : Machine) (n : Network) (happening : Happening) (k : ℕ) (x : NodeState) (r : Report A) (out : List Outgoing) (asked : List Transaction) (readings : List Reading) : Type 0 where
   pub timely : IsTimely n happening
   pub in_range : IsInRange happening
   pub same_event : (done A n happening).event ≡ n.event
@@ -159,7 +155,7 @@ pub record Next (A : Type 0) (w : WorldState) (m : Machine) (n : Network) (k : �
   pub responders : (at : Address) → (done A n happening).responders at ≡ put (put n.responders (serving m.net k) x.service) (zones_at m.net k) x.served at
   pub more : List Sent
   pub sent : (done A n happening).sent ≡ n.sent ++ more
-  pub posts : map (stamp w.events) (map posted out) ≡ map spelled_sent more
+  pub posts : map (stamp w.events) (map posted out) ≡ map posted_packet more
   pub drawn : AllByRecursion (IsNoted (noted w.last k w.events (drawn_by r)) (w.events + 1)) (done A n happening).drawn
   pub is_asked : (done A n happening).asked ≡ asked
   pub mine : TiedNode m k x
@@ -178,8 +174,8 @@ found_after k j x old n nodes P same stands h mine other = go (k == j) refl (sym
     go true e g = let one : x ≡ n = cc in subst P one (mine (eqb-true k j e))
     go false e g = other e g
 
-module _ (A : Type 0) (w : WorldState) (m : Machine) (k : ℕ) (old x : NodeState) (r : Report A) (out : List Outgoing) (asked : List Transaction) (readings : List Reading) where
-  reading_kept : (j : ℕ) (n : NodeState) (reading : Option ℕ) → (t : Tied A w m) → Next A w m (after A t.history) k x r out asked readings → (k == j) ≡ false → IsReading m j n.requester reading → IsReading (moved m asked readings) j n.requester reading
+module _ (A : Type 0) (w : WorldState) (m : Machine) (happening : Happening) (k : ℕ) (old x : NodeState) (r : Report A) (out : List Outgoing) (asked : List Transaction) (readings : List Reading) where
+  reading_kept : (j : ℕ) (n : NodeState) (reading : Option ℕ) → (t : Tied A w m) → Next A w m (after A t.history) happening k x r out asked readings → (k == j) ≡ false → IsReading m j n.requester reading → IsReading (moved m asked readings) j n.requester reading
   reading_kept j n None t s apart h = tt
   reading_kept j n (Some tid) t s apart h =
       let more = s.still j tid h.server apart h.first in
@@ -188,10 +184,10 @@ module _ (A : Type 0) (w : WorldState) (m : Machine) (k : ℕ) (old x : NodeStat
   node_kept : (j : ℕ) (n : NodeState) → TiedNode m j n → TiedNode (moved m asked readings) j n
   node_kept j n h = record { net = h.net; number = h.number; small = h.small; router = h.router; table = h.table }
 
-  pub tied_next : (t : Tied A w m) → node_at w k ≡ Some old → Next A w m (after A t.history) k x r out asked readings → Tied A (recorded w k r x (map posted out)) (moved m asked readings)
-  tied_next t stands s = record {
+  pub tied_next : (t : Tied A w m) → node_at w k ≡ Some old → (s : Next A w m (after A t.history) happening k x r out asked readings) → (now : Tied A (recorded w k r x (map posted out)) (moved m asked readings)) × (now.history ≡ happening ∷ t.history)
+  tied_next t stands s = (record {
     fixed = let f = t.fixed in record { net = f.net; router = f.router; table = f.table; small = f.small };
-    history = s.happening ∷ t.history;
+    history = happening ∷ t.history;
     timely = (s.timely, t.timely);
     in_range = (s.in_range, t.in_range);
     events = ap (λ e. e + 1) (t.events ∙ sym s.same_event);
@@ -199,11 +195,11 @@ module _ (A : Type 0) (w : WorldState) (m : Machine) (k : ℕ) (old x : NodeStat
     responders = λ at. s.responders at
         ∙ put_same (put (after A t.history).responders (serving m.net k) x.service) (put (records_at m.net w.nodes) (serving m.net k) x.service) (zones_at m.net k) x.served at (put_same (after A t.history).responders (records_at m.net w.nodes) (serving m.net k) x.service at (t.responders at))
         ∙ sym (records_after m.net w.nodes k old x (s.mine).number stands at);
-    sent = (λ i. t.sent i ++ s.posts i) ∙ sym (map_both spelled_sent (after A t.history).sent s.more) ∙ ap (map spelled_sent) (sym s.sent);
+    sent = (λ i. t.sent i ++ s.posts i) ∙ sym (map_both posted_packet (after A t.history).sent s.more) ∙ ap (map posted_packet) (sym s.sent);
     drawn = s.drawn;
     asked = s.is_asked;
     nodes = λ j n h. found_after k j x old n w.nodes (TiedNode (moved m asked readings) j) (s.mine).number stands h (λ e. subst (λ i. TiedNode (moved m asked readings) i x) e (node_kept k x s.mine)) (λ e g. node_kept j n (t.nodes j n g));
     readings = λ j n h. found_after k j x old n w.nodes (λ y. IsReading (moved m asked readings) j y.requester y.reading) (s.mine).number stands h (λ e. subst (λ i. IsReading (moved m asked readings) i x.requester x.reading) e s.reading) (λ e g. reading_kept j n n.reading t s e (t.readings j n g));
     pages = s.pages;
     nets = s.nets;
-  }
+  }, refl)

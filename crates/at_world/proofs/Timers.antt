@@ -20,10 +20,12 @@ use Rattle.at_node.specs.declared.event.Report.TheVariants as report
 use Rattle.at_node.specs.declared.event.Timer.{Timer}
 use Rattle.at_node.specs.declared.event.Timer.TheVariants as timer
 use Rattle.at_world.specs.Machine.{Machine, Reading, since_of, without_reading}
+use Rattle.at_world.specs.Stories.{Matches}
 use Rattle.at_world.specs.Worlds.{WorldState, node_at}
 use Rattle.at_world.specs.declared.event.Event.TheVariants as event
 use Rattle.at_world.proofs.Calls.{Good, good_next, good_idle, good_refused, asking_fits}
 use Rattle.at_world.proofs.Moves.{asker_is, asker_next, service_is, service_next, served_is, zones_next}
+use Rattle.at_world.proofs.StoryLemmas.{expires_match, retries_match}
 use Rattle.at_world.proofs.Tied.{Laws, IsReading, Tied, moved}
 
 -- the end of a reading leaves the others
@@ -83,56 +85,68 @@ module _ (A : Type 0) (laws : Laws A) (w : WorldState) (m : Machine) (k : ℕ) (
   ends None is h = absurd (false≢true h)
   ends (Some number) is h = let r = subst (IsReading m k n.requester) is (t.readings k n stands) in (r.since, r.began)
 
-  good_failing : (r : Retried) → retried n.requester tid ≡ Some r → r.step ≡ retry.Failed → (b : Bool) → is_reading n.reading tid ≡ b → Good A w m k (event.Timer k (timer.Retry tid)) (after_failing n tid r.after b)
+  good_failing : (r : Retried) → retried n.requester tid ≡ Some r → r.step ≡ retry.Failed → (b : Bool) → is_reading n.reading tid ≡ b → Good A w m t k (event.Timer k (timer.Retry tid)) (after_failing n tid r.after b)
   good_failing r is failed true e =
       let began = ends n.reading refl e in
       good_next A w m k n (event.Timer k (timer.Retry tid)) (after_failing n tid r.after true) m.asked (without_reading m.readings k) t stands
       (asker_next A w m k n t stands (Retries (asking m.net k) tid) r.after None [] report.ZonesFailed (without_reading m.readings k) tt (asking_fits A laws w m k n t stands)
       (is_done r is ∙ ap (with_requester (after A t.history) (asking m.net k) r.after) (failed_sends n.requester tid r is failed)) tt (λ j apart. others_left m.readings k j apart))
+      (retries_match A m.net (after A t.history) (asking m.net k) tid (event.Timer k (timer.Retry tid)) report.ZonesFailed refl)
       (record { since = began.0; began = began.1; becomes = refl })
   good_failing r is failed false e =
       good_next A w m k n (event.Timer k (timer.Retry tid)) (after_failing n tid r.after false) m.asked m.readings t stands
       (asker_next A w m k n t stands (Retries (asking m.net k) tid) r.after n.reading [] (report.Failed tid) m.readings tt (asking_fits A laws w m k n t stands)
       (is_done r is ∙ ap (with_requester (after A t.history) (asking m.net k) r.after) (failed_sends n.requester tid r is failed))
       (reading_goes_on r is n.reading (λ f. e) (t.readings k n stands)) (λ j apart. refl))
+      (retries_match A m.net (after A t.history) (asking m.net k) tid (event.Timer k (timer.Retry tid)) (report.Failed tid) refl)
       refl
 
-  good_retried : (r : Retried) → retried n.requester tid ≡ Some r → (s : Retry) → r.step ≡ s → Good A w m k (event.Timer k (timer.Retry tid)) (after_retry n tid r s)
+  good_retried : (r : Retried) → retried n.requester tid ≡ Some r → (s : Retry) → r.step ≡ s → Good A w m t k (event.Timer k (timer.Retry tid)) (after_retry n tid r s)
   good_retried r is retry.AskedAgain step =
       good_next A w m k n (event.Timer k (timer.Retry tid)) (after_retry n tid r retry.AskedAgain) m.asked m.readings t stands
       (asker_next A w m k n t stands (Retries (asking m.net k) tid) r.after n.reading r.sent report.Again m.readings tt (asking_fits A laws w m k n t stands) (is_done r is)
       (reading_goes_on r is n.reading (λ failed. absurd (never r.step step failed)) (t.readings k n stands)) (λ j apart. refl))
+      (retries_match A m.net (after A t.history) (asking m.net k) tid (event.Timer k (timer.Retry tid)) report.Again refl)
       refl
     where
       never : (x : Retry) → x ≡ retry.AskedAgain → x ≡ retry.Failed → ⊥
       never x a b = cc
   good_retried r is retry.Failed step = good_failing r is step (is_reading n.reading tid) refl
 
-  good_fired : (o : Option Retried) → retried n.requester tid ≡ o → Good A w m k (event.Timer k (timer.Retry tid)) (retry_fired n tid o)
-  good_fired None is = good_idle A w m k n (event.Timer k (timer.Retry tid)) (report.Refused 15) t stands refl
+  good_fired : (o : Option Retried) → retried n.requester tid ≡ o → Good A w m t k (event.Timer k (timer.Retry tid)) (retry_fired n tid o)
+  good_fired None is = good_idle A w m k n (event.Timer k (timer.Retry tid)) (report.Refused 15) t stands refl refl
   good_fired (Some r) is = good_retried r is r.step refl
 
 -- the release timer of a record
-module _ (A : Type 0) (laws : Laws A) (w : WorldState) (m : Machine) (k : ℕ) (n : NodeState) (t : Tied A w m) (stands : node_at w k ≡ Some n) (time : Timer) (own : ℕ) (key : Key) where
+module _ (A : Type 0) (laws : Laws A) (w : WorldState) (m : Machine) (k : ℕ) (n : NodeState) (t : Tied A w m) (stands : node_at w k ≡ Some n) (own node socket tid : ℕ) where
   -- a record is taken away, and nothing is sent
-  expired_is : (at : Address) (rs : List Record) → (after A t.history).responders at ≡ rs → expiry_fault (find (is_key key) rs) ≡ None →
-      done A (after A t.history) (Expires at key) ≡ with_responder (after A t.history) at (without_first (is_key key) rs) []
+  expired_is : (at : Address) (rs : List Record) → (after A t.history).responders at ≡ rs → expiry_fault (find (is_key (record { from = at_socket n node socket; tid = tid })) rs) ≡ None →
+      done A (after A t.history) (Expires at (record { from = at_socket n node socket; tid = tid })) ≡ with_responder (after A t.history) at (without_first (is_key (record { from = at_socket n node socket; tid = tid })) rs) []
   expired_is at rs is free =
-      ap (network.expires (after A t.history) at key) (ap (λ l. expiry_fault (find (is_key key) l)) is ∙ free)
-      ∙ (λ i. record (after A t.history) { responders = put (after A t.history).responders at (without_first (is_key key) (is i)); sent = sym (append-nil (after A t.history).sent) i })
+      ap (network.expires (after A t.history) at (record { from = at_socket n node socket; tid = tid })) (ap (λ l. expiry_fault (find (is_key (record { from = at_socket n node socket; tid = tid })) l)) is ∙ free)
+      ∙ (λ i. record (after A t.history) { responders = put (after A t.history).responders at (without_first (is_key (record { from = at_socket n node socket; tid = tid })) (is i)); sent = sym (append-nil (after A t.history).sent) i })
 
-  good_expired : (x y : Bool) (fault : Option AtpFault) → expiry_fault (find (is_key key) (cond x n.service (cond y n.served []))) ≡ fault → Good A w m k (event.Timer k time)
-      (expired_in n (cond x n.service (cond y n.served [])) x y key fault)
-  good_expired x y (Some fault) is = good_refused A laws w m k n t stands (event.Timer k time) (number_of fault) (λ i. refl) refl
-  good_expired true y None is =
-      good_next A w m k n (event.Timer k time) (expired_in n n.service true y key None) m.asked m.readings t stands
-      (service_next A w m k n t stands (Expires (serving m.net k) key) (without_first (is_key key) n.service) [] report.Done tt tt (expired_is (serving m.net k) n.service (service_is A w m k n t stands) is)) refl
-  good_expired false true None is =
-      good_next A w m k n (event.Timer k time) (expired_in n n.served false true key None) m.asked m.readings t stands
-      (zones_next A w m k n t stands (Expires (zones_at m.net k) key) (without_first (is_key key) n.served) [] report.Done tt tt (expired_is (zones_at m.net k) n.served (served_is A w m k n t stands) is)) refl
-  good_expired false false None is = absurd (cc)
+  expiry_matches : (at : Address) (rs : List Record) → at ≡ record { net = m.net; node = k; socket = own } → (after A t.history).responders at ≡ rs → expiry_fault (find (is_key (record { from = at_socket n node socket; tid = tid })) rs) ≡ None →
+      Matches {A = A} m.net (after A t.history) (Expires at (record { from = at_socket n node socket; tid = tid })) (event.Timer k (timer.Release own node socket tid)) report.Done
+  expiry_matches at rs here is free =
+      let its = t.nodes k n stands in
+      expires_match A m.net (after A t.history) k own node socket tid at (record { from = at_socket n node socket; tid = tid }) here (λ i. record { from = record { net = its.net i; node = node; socket = socket }; tid = tid })
+      (ap (λ l. expiry_fault (find (is_key (record { from = at_socket n node socket; tid = tid })) l)) is ∙ free)
 
-pub good_timed : (A : Type 0) (laws : Laws A) (w : WorldState) (m : Machine) (k : ℕ) (n : NodeState) (t : Tied A w m) (stands : node_at w k ≡ Some n) (time : Timer) → Good A w m k (event.Timer k time) (timed n time)
+  good_expired : (x y : Bool) (fault : Option AtpFault) → (own == 129) ≡ x → (own == 6) ≡ y → expiry_fault (find (is_key (record { from = at_socket n node socket; tid = tid })) (cond x n.service (cond y n.served []))) ≡ fault →
+      Good A w m t k (event.Timer k (timer.Release own node socket tid)) (expired_in n (cond x n.service (cond y n.served [])) x y (record { from = at_socket n node socket; tid = tid }) fault)
+  good_expired x y (Some fault) ex ey is = good_refused A laws w m k n t stands (event.Timer k (timer.Release own node socket tid)) (number_of fault) (λ i. refl) refl
+  good_expired true y None ex ey is =
+      good_next A w m k n (event.Timer k (timer.Release own node socket tid)) (expired_in n n.service true y (record { from = at_socket n node socket; tid = tid }) None) m.asked m.readings t stands
+      (service_next A w m k n t stands (Expires (serving m.net k) (record { from = at_socket n node socket; tid = tid })) (without_first (is_key (record { from = at_socket n node socket; tid = tid })) n.service) [] report.Done tt tt (expired_is (serving m.net k) n.service (service_is A w m k n t stands) is))
+      (expiry_matches (serving m.net k) n.service (ap (λ o. record { net = m.net; node = k; socket = o }) (sym (eqb-true own 129 ex))) (service_is A w m k n t stands) is) refl
+  good_expired false true None ex ey is =
+      good_next A w m k n (event.Timer k (timer.Release own node socket tid)) (expired_in n n.served false true (record { from = at_socket n node socket; tid = tid }) None) m.asked m.readings t stands
+      (zones_next A w m k n t stands (Expires (zones_at m.net k) (record { from = at_socket n node socket; tid = tid })) (without_first (is_key (record { from = at_socket n node socket; tid = tid })) n.served) [] report.Done tt tt (expired_is (zones_at m.net k) n.served (served_is A w m k n t stands) is))
+      (expiry_matches (zones_at m.net k) n.served (ap (λ o. record { net = m.net; node = k; socket = o }) (sym (eqb-true own 6 ey))) (served_is A w m k n t stands) is) refl
+  good_expired false false None ex ey is = absurd (cc)
+
+pub good_timed : (A : Type 0) (laws : Laws A) (w : WorldState) (m : Machine) (k : ℕ) (n : NodeState) (t : Tied A w m) (stands : node_at w k ≡ Some n) (time : Timer) → Good A w m t k (event.Timer k time) (timed n time)
 good_timed A laws w m k n t stands (timer.Retry tid) = good_fired A laws w m k n t stands tid (retried n.requester tid) refl
 good_timed A laws w m k n t stands (timer.Release own node socket tid) =
-    good_expired A laws w m k n t stands (timer.Release own node socket tid) own (record { from = at_socket n node socket; tid = tid }) (own == 129) (own == 6) (expiry_fault (find (is_key (record { from = at_socket n node socket; tid = tid })) (records_at n own))) refl
+    good_expired A laws w m k n t stands own node socket tid (own == 129) (own == 6) (expiry_fault (find (is_key (record { from = at_socket n node socket; tid = tid })) (records_at n own))) refl refl refl

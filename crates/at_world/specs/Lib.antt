@@ -4,4 +4,5 @@ pub mod Plays
 pub mod Refusals
 pub mod Sents
 pub mod Setups
+pub mod Stories
 pub mod Worlds

@@ -35,4 +35,4 @@ returns-clause-machine g c s events reports w lawful =
       fits = fit.fits;
       whole = c.a_small_table_is_one_page.ensures;
     } in
-    runs A laws (opening_world s) (opening_machine s) events reports w (tied_at_opening A s lawful)
+    λ follows. let ran = runs A laws (opening_world s) (opening_machine s) events reports w (tied_at_opening A s lawful) follows in (ran.0, ran.1)

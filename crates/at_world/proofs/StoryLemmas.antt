@@ -1,0 +1,172 @@
+-- What an event is in the network, by what was reported of it.
+use Rattle.std.proofs.Common.{◌≡◌, ℕ, Bool, true, false, List, Option, Some, None, refl, sym, ap, ◌∙◌}
+use Rattle.std.specs.Prelude.{find, slice_get, is_none, ◌&&◌}
+use Rattle.std.proofs.lemmas.Bool.{false≢true}
+use Rattle.at_ddp.specs.Address.{same_address}
+use Rattle.at_ddp.specs.declared.address.Address.{Address}
+use Rattle.at_atp.specs.Frames.{Release}
+use Rattle.at_atp.specs.HandUps.{brings, is_drawn}
+use Rattle.at_atp.specs.Network.{Network, Sent, Begins, Answers, Hears, Takes, Serves, Expires, Retries, Other, number_of}
+use Rattle.at_atp.specs.Once.{is_new_of, same_key}
+use Rattle.at_atp.specs.Packets.{Packet}
+use Rattle.at_atp.specs.Records.{Record, State, Waiting, Answered, Released, is_key, came_again, released, release_came, taken, expiry_fault}
+use Rattle.at_atp.specs.Requests.{next_number}
+use Rattle.at_atp.specs.declared.reception.Key.{Key}
+use Rattle.at_atp.specs.declared.reception.Reception.{Reception}
+use Rattle.at_atp.specs.declared.reception.Reception.TheVariants as reception
+use Rattle.at_node.specs.Steps.{asking, released_report}
+use Rattle.at_node.specs.declared.event.Call.{Call}
+use Rattle.at_node.specs.declared.event.Report.{Report}
+use Rattle.at_node.specs.declared.event.Report.TheVariants as report
+use Rattle.at_node.specs.declared.event.Timer.TheVariants as timer
+use Rattle.at_world.specs.declared.event.Event.{Event}
+use Rattle.at_world.specs.declared.event.Event.TheVariants as event
+use Rattle.at_world.specs.Stories.{Matches, began_under, expired_at, handed_up_by, came_under}
+
+-- a report that tells of no beginning, no request and no expiry
+abbrev pub is_quiet : {A : Type 0} → Report A → Bool
+is_quiet (report.Begun tid) = false
+is_quiet (report.Answered count) = true
+is_quiet report.Done = false
+is_quiet (report.Served count) = false
+is_quiet (report.Asked k user bytes) = false
+is_quiet (report.Zones names) = true
+is_quiet (report.ZoneFault number) = true
+is_quiet report.ZonesFailed = true
+is_quiet report.Kept = true
+is_quiet (report.Response tid packets) = true
+is_quiet (report.Failed tid) = true
+is_quiet report.Again = true
+is_quiet report.Released = true
+is_quiet report.Ignored = true
+is_quiet (report.Refused number) = true
+is_quiet report.NoMemory = true
+
+no_begin : (A : Type 0) (net : ℕ) (e : Event A) (r : Report A) (key : Key) → is_quiet r ≡ true → began_under net e r key ≡ false
+no_begin A net (event.Call node call) (report.Begun tid) key q = absurd (false≢true q)
+no_begin A net (event.Call node call) (report.Answered count) key q = refl
+no_begin A net (event.Call node call) report.Done key q = absurd (false≢true q)
+no_begin A net (event.Call node call) (report.Served count) key q = absurd (false≢true q)
+no_begin A net (event.Call node call) (report.Asked k user bytes) key q = absurd (false≢true q)
+no_begin A net (event.Call node call) (report.Zones names) key q = refl
+no_begin A net (event.Call node call) (report.ZoneFault number) key q = refl
+no_begin A net (event.Call node call) report.ZonesFailed key q = refl
+no_begin A net (event.Call node call) report.Kept key q = refl
+no_begin A net (event.Call node call) (report.Response tid packets) key q = refl
+no_begin A net (event.Call node call) (report.Failed tid) key q = refl
+no_begin A net (event.Call node call) report.Again key q = refl
+no_begin A net (event.Call node call) report.Released key q = refl
+no_begin A net (event.Call node call) report.Ignored key q = refl
+no_begin A net (event.Call node call) (report.Refused number) key q = refl
+no_begin A net (event.Call node call) report.NoMemory key q = refl
+no_begin A net (event.Deliver which node) r key q = refl
+no_begin A net (event.Timer node time) r key q = refl
+
+no_hand_up : (A : Type 0) (sent : List Sent) (e : Event A) (r : Report A) (key : Key) → is_quiet r ≡ true → handed_up_by sent e r key ≡ false
+no_hand_up A sent (event.Call node call) r key q = refl
+no_hand_up A sent (event.Deliver which node) (report.Begun tid) key q = absurd (false≢true q)
+no_hand_up A sent (event.Deliver which node) (report.Answered count) key q = refl
+no_hand_up A sent (event.Deliver which node) report.Done key q = absurd (false≢true q)
+no_hand_up A sent (event.Deliver which node) (report.Served count) key q = absurd (false≢true q)
+no_hand_up A sent (event.Deliver which node) (report.Asked k user bytes) key q = absurd (false≢true q)
+no_hand_up A sent (event.Deliver which node) (report.Zones names) key q = refl
+no_hand_up A sent (event.Deliver which node) (report.ZoneFault number) key q = refl
+no_hand_up A sent (event.Deliver which node) report.ZonesFailed key q = refl
+no_hand_up A sent (event.Deliver which node) report.Kept key q = refl
+no_hand_up A sent (event.Deliver which node) (report.Response tid packets) key q = refl
+no_hand_up A sent (event.Deliver which node) (report.Failed tid) key q = refl
+no_hand_up A sent (event.Deliver which node) report.Again key q = refl
+no_hand_up A sent (event.Deliver which node) report.Released key q = refl
+no_hand_up A sent (event.Deliver which node) report.Ignored key q = refl
+no_hand_up A sent (event.Deliver which node) (report.Refused number) key q = refl
+no_hand_up A sent (event.Deliver which node) report.NoMemory key q = refl
+no_hand_up A sent (event.Timer node time) r key q = refl
+
+no_expiry : (A : Type 0) (net : ℕ) (e : Event A) (r : Report A) (at : Address) (key : Key) → is_quiet r ≡ true → expired_at net e r at key ≡ false
+no_expiry A net (event.Call node call) r at key q = refl
+no_expiry A net (event.Deliver which node) r at key q = refl
+no_expiry A net (event.Timer node (timer.Retry tid)) r at key q = refl
+no_expiry A net (event.Timer node (timer.Release own k' socket tid')) (report.Begun tid) at key q = absurd (false≢true q)
+no_expiry A net (event.Timer node (timer.Release own k' socket tid')) (report.Answered count) at key q = refl
+no_expiry A net (event.Timer node (timer.Release own k' socket tid')) report.Done at key q = absurd (false≢true q)
+no_expiry A net (event.Timer node (timer.Release own k' socket tid')) (report.Served count) at key q = absurd (false≢true q)
+no_expiry A net (event.Timer node (timer.Release own k' socket tid')) (report.Asked k user bytes) at key q = absurd (false≢true q)
+no_expiry A net (event.Timer node (timer.Release own k' socket tid')) (report.Zones names) at key q = refl
+no_expiry A net (event.Timer node (timer.Release own k' socket tid')) (report.ZoneFault number) at key q = refl
+no_expiry A net (event.Timer node (timer.Release own k' socket tid')) report.ZonesFailed at key q = refl
+no_expiry A net (event.Timer node (timer.Release own k' socket tid')) report.Kept at key q = refl
+no_expiry A net (event.Timer node (timer.Release own k' socket tid')) (report.Response tid packets) at key q = refl
+no_expiry A net (event.Timer node (timer.Release own k' socket tid')) (report.Failed tid) at key q = refl
+no_expiry A net (event.Timer node (timer.Release own k' socket tid')) report.Again at key q = refl
+no_expiry A net (event.Timer node (timer.Release own k' socket tid')) report.Released at key q = refl
+no_expiry A net (event.Timer node (timer.Release own k' socket tid')) report.Ignored at key q = refl
+no_expiry A net (event.Timer node (timer.Release own k' socket tid')) (report.Refused number) at key q = refl
+no_expiry A net (event.Timer node (timer.Release own k' socket tid')) report.NoMemory at key q = refl
+
+module _ (A : Type 0) (net : ℕ) (n : Network) where
+  pub other_matches : (e : Event A) (r : Report A) → is_quiet r ≡ true → Matches net n Other e r
+  other_matches e r q = record { draws_it = λ key. sym (no_begin A net e r key q); expires_it = λ at key. sym (no_expiry A net e r at key q); hands_up = λ key. sym (no_hand_up A n.sent e r key q); takes_in = tt }
+
+  pub answers_match : (at : Address) (k : Key) (packets : List Packet) (e : Event A) (r : Report A) → is_quiet r ≡ true → Matches net n (Answers at k packets) e r
+  answers_match at k packets e r q = record { draws_it = λ key. sym (no_begin A net e r key q); expires_it = λ at key. sym (no_expiry A net e r at key q); hands_up = λ key. sym (no_hand_up A n.sent e r key q); takes_in = tt }
+
+  pub hears_matches : (which : ℕ) (e : Event A) (r : Report A) → is_quiet r ≡ true → Matches net n (Hears which) e r
+  hears_matches which e r q = record { draws_it = λ key. sym (no_begin A net e r key q); expires_it = λ at key. sym (no_expiry A net e r at key q); hands_up = λ key. sym (no_hand_up A n.sent e r key q); takes_in = tt }
+
+  pub retries_match : (who : Address) (tid : ℕ) (e : Event A) (r : Report A) → is_quiet r ≡ true → Matches net n (Retries who tid) e r
+  retries_match who tid e r q = record { draws_it = λ key. sym (no_begin A net e r key q); expires_it = λ at key. sym (no_expiry A net e r at key q); hands_up = λ key. sym (no_hand_up A n.sent e r key q); takes_in = tt }
+
+  -- a transaction begins under the next number
+  pub begins_match : (k tid : ℕ) (to : Address) (user bytes : List ℕ) (wanted : ℕ) (xo : Bool) (retries : ℕ) (call : Call A) → next_number (n.requesters (asking net k)) ≡ Some tid →
+      Matches net n (Begins (asking net k) to user bytes wanted xo retries) (event.Call k call) (report.Begun tid)
+  begins_match k tid to user bytes wanted xo retries call drawn = record { draws_it = λ key. ap (λ o. is_drawn (asking net k) o key) drawn; expires_it = λ at key. refl; hands_up = λ key. refl; takes_in = tt }
+
+  module _ (which k : ℕ) (s : Sent) (was_sent : slice_get n.sent which ≡ Some s) where
+    -- a packet that hands nothing up
+    pub takes_quietly : (r : Report A) (x : Reception) → (taken (n.responders s.to) s.from s.packet).reception ≡ x → ((key : Key) → is_new_of key x ≡ false) → is_quiet r ≡ true → Matches net n (Takes which) (event.Deliver which k) r
+    takes_quietly r x is old q = record {
+      draws_it = λ key. sym (no_begin A net (event.Deliver which k) r key q);
+      expires_it = λ at key. sym (no_expiry A net (event.Deliver which k) r at key q);
+      hands_up = λ key. ap (brings n key) was_sent ∙ ap (is_new_of key) is ∙ old key ∙ sym (no_hand_up A n.sent (event.Deliver which k) r key q);
+      takes_in = (k, refl);
+    }
+
+    -- a request that is handed up
+    pub takes_new : (key : Key) (user bytes : List ℕ) → (taken (n.responders s.to) s.from s.packet).reception ≡ reception.New key → Matches {A = A} net n (Takes which) (event.Deliver which k) (report.Asked key user bytes)
+    takes_new new user bytes is = record { draws_it = λ key. refl; expires_it = λ at key. refl; hands_up = λ key. ap (brings n key) was_sent ∙ ap (is_new_of key) is; takes_in = (k, refl) }
+
+    -- a request that is answered at once
+    pub serves_new : (key : Key) (packets : List Packet) (count : ℕ) → (taken (n.responders s.to) s.from s.packet).reception ≡ reception.New key → key ≡ record { from = s.from; tid = number_of s.packet } →
+        Matches {A = A} net n (Serves which packets) (event.Deliver which k) (report.Served count)
+    serves_new new packets count is its = record {
+      draws_it = λ key. refl;
+      expires_it = λ at key. refl;
+      hands_up = λ key. ap (brings n key) was_sent ∙ ap (is_new_of key) is ∙ ap (λ x. same_key x key) its ∙ ap (λ o. came_under o key) (sym was_sent);
+      takes_in = (k, refl);
+    }
+
+  -- a record that expires
+  pub expires_match : (k own node socket tid : ℕ) (place : Address) (key : Key) → place ≡ record { net = net; node = k; socket = own } → key ≡ record { from = record { net = net; node = node; socket = socket }; tid = tid } →
+      expiry_fault (find (is_key key) (n.responders place)) ≡ None → Matches {A = A} net n (Expires place key) (event.Timer k (timer.Release own node socket tid)) report.Done
+  expires_match k own node socket tid place key here its free = record {
+    draws_it = λ x. refl;
+    expires_it = λ at x. λ i. is_none (free i) && same_address (here i) at && same_key (its i) x;
+    hands_up = λ x. refl;
+    takes_in = tt;
+  }
+
+-- a release is not handed up
+pub release_is_old : (rs : List Record) (k : Key) (o : Option Record) (key : Key) → is_new_of key (release_came rs k o).reception ≡ false
+release_is_old rs k None key = refl
+release_is_old rs k (Some r) key = go r.state
+  where
+    go : (s : State) → is_new_of key (came_again rs k r (released s)).reception ≡ false
+    go (Waiting xo mask) = refl
+    go (Answered packets) = refl
+    go Released = refl
+
+pub release_is_quiet : (A : Type 0) (r : Reception) → is_quiet (released_report {A = A} r) ≡ true
+release_is_quiet A reception.Ignored = refl
+release_is_quiet A (reception.New key) = refl
+release_is_quiet A (reception.Again count) = refl
+release_is_quiet A reception.Released = refl

@@ -1,0 +1,77 @@
+-- What a play is in the network of its requesters and responders: each event is one happening there (Inside AppleTalk, ATP,
+-- "At-least-once and exactly-once transactions").
+use Rattle.std.specs.Prelude.{◌≡◌, ℕ, ◌&&◌, Bool, false, List, [], ◌∷◌, map, slice_get, Option, Some, None}
+use Rattle.std.specs.List.{AllByRecursion}
+use Rattle.at_ddp.specs.Address.{same_address}
+use Rattle.at_ddp.specs.Datagram.{canonical}
+use Rattle.at_ddp.specs.declared.address.Address.{Address}
+use Rattle.at_atp.specs.Frames.{spelled}
+use Rattle.at_atp.specs.HandUps.{draws, is_handed_up, expires_there}
+use Rattle.at_atp.specs.Lawfully.{IsInRange}
+use Rattle.at_atp.specs.Network.{Network, Sent, Happening, Takes, Serves, AllTimely, number_of, after}
+use Rattle.at_atp.specs.Once.{same_key}
+use Rattle.at_atp.specs.declared.reception.Key.{Key}
+use Rattle.at_node.specs.Steps.{asking, atp_kind}
+use Rattle.at_node.specs.declared.event.Report.{Report}
+use Rattle.at_node.specs.declared.event.Report.TheVariants as report
+use Rattle.at_node.specs.declared.event.Timer.TheVariants as timer
+use Rattle.at_world.specs.declared.event.Event.{Event}
+use Rattle.at_world.specs.declared.event.Event.TheVariants as event
+use Rattle.at_world.specs.Sents.{SentDatagram}
+
+-- ---- what an event and its report say of a request
+
+-- a transaction began under the number of this key
+abbrev pub began_under : {A : Type 0} → ℕ → Event A → Report A → Key → Bool
+began_under net (event.Call node call) (report.Begun tid) key = same_key (record { from = asking net node; tid = tid }) key
+began_under net e r key = false
+
+-- the record of this key at a responder was taken away by its release timer
+abbrev pub expired_at : {A : Type 0} → ℕ → Event A → Report A → Address → Key → Bool
+expired_at net (event.Timer node (timer.Release own k socket tid)) report.Done at key =
+    same_address (record { net = net; node = node; socket = own }) at && same_key (record { from = record { net = net; node = k; socket = socket }; tid = tid }) key
+expired_at net e r at key = false
+
+-- the packet that came has this key
+abbrev pub came_under : Option Sent → Key → Bool
+came_under None key = false
+came_under (Some s) key = same_key (record { from = s.from; tid = number_of s.packet }) key
+
+-- the request of this key was handed up, to a node's service or to the router
+abbrev pub handed_up_by : {A : Type 0} → List Sent → Event A → Report A → Key → Bool
+handed_up_by sent (event.Deliver which node) (report.Asked k user bytes) key = same_key k key
+handed_up_by sent (event.Deliver which node) (report.Served count) key = came_under (slice_get sent which) key
+handed_up_by sent e r key = false
+
+-- ---- one happening for each event
+
+-- what is taken in is what was delivered
+abbrev pub TakesIn : {A : Type 0} → Happening → Event A → Type 0
+TakesIn (Takes which) e = (node : ℕ) × (e ≡ event.Deliver which node)
+TakesIn (Serves which packets) e = (node : ℕ) × (e ≡ event.Deliver which node)
+TakesIn h e = Unit {0}
+
+-- the happening is what the event and its report say
+pub record Matches {A : Type 0} (net : ℕ) (n : Network) (h : Happening) (e : Event A) (r : Report A) : Type 0 where
+  pub draws_it : (key : Key) → draws n h key ≡ began_under net e r key
+  pub expires_it : (at : Address) (key : Key) → expires_there n h at key ≡ expired_at net e r at key
+  pub hands_up : (key : Key) → is_handed_up n h key ≡ handed_up_by n.sent e r key
+  pub takes_in : TakesIn h e
+
+-- these events and reports, after what happened before, make this history, whose newest happening stands first
+abbrev pub Tells : {A : Type 0} → ℕ → List Happening → List (Event A) → List (Report A) → List Happening → Type 0
+Tells net before [] [] history = history ≡ before
+Tells {A} net before (e ∷ es) (r ∷ rs) history = (h : Happening) × Matches net (after A before) h e r × Tells net (h ∷ before) es rs history
+Tells net before [] (r ∷ rs) history = ⊥
+Tells net before (e ∷ es) [] history = ⊥
+
+-- a packet as a world has it
+abbrev pub posted_packet : Sent → SentDatagram
+posted_packet s = record { event = s.event; to = (s.to).node; bytes = canonical s.to s.from atp_kind (spelled s.packet) }
+
+-- a history in which no packet outlives its number, that these events and reports make, and that sent this
+pub record IsHistory {A : Type 0} (net : ℕ) (es : List (Event A)) (rs : List (Report A)) (sent : List SentDatagram) (history : List Happening) : Type 0 where
+  pub timely : AllTimely A history
+  pub in_range : AllByRecursion IsInRange history
+  pub tells : Tells net [] es rs history
+  pub is_sent : sent ≡ map posted_packet (after A history).sent
