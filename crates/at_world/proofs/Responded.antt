@@ -19,10 +19,11 @@ use Rattle.at_node.specs.Steps.{asking, is_reading, after_heard}
 use Rattle.at_node.specs.declared.event.Report.{Report}
 use Rattle.at_node.specs.declared.event.Report.TheVariants as report
 use Rattle.at_world.specs.Machine.{Machine, without_reading, next, page_answer, Step}
+use Rattle.at_world.specs.Stories.{Matches}
 use Rattle.at_world.specs.Worlds.{WorldState, node_at}
 use Rattle.at_world.specs.declared.event.Event.TheVariants as event
 use Rattle.at_world.proofs.Calls.{Good, good_next}
-use Rattle.at_world.proofs.StoryLemmas.{is_quiet, hears_matches}
+use Rattle.at_world.proofs.StoryLemmas.{ends_match, hears_matches}
 use Rattle.at_world.proofs.Moves.{one_of, asker_is, asker_next}
 use Rattle.at_world.proofs.Tied.{Laws, IsReading, Reads, PagesOf, Tied, moved}
 use Rattle.at_world.proofs.Timers.{others_left}
@@ -81,13 +82,13 @@ module _ (A : Type 0) (laws : Laws A) (w : WorldState) (m : Machine) (which k : 
       turned true e apart = absurd (true≢false (sym (eq-eqb number tid (sym (eqb-true tid number e))) ∙ apart))
 
   -- a step of a transaction that goes on, or of another than the reading's
-  good_step : (r : Report A) (o : Outcome A) → is_quiet r ≡ true → (is_finished (heard {A = A} n.requester s.from (Response place eom sts tid user bytes)).step ≡ true → is_reading n.reading tid ≡ false) → Step m (event.Deliver which k) r (next m) →
+  good_step : (r : Report A) (o : Outcome A) → Matches m.net (after A t.history) (Hears which) (event.Deliver which k) r → (is_finished (heard {A = A} n.requester s.from (Response place eom sts tid user bytes)).step ≡ true → is_reading n.reading tid ≡ false) → Step m (event.Deliver which k) r (next m) →
       o ≡ after_heard n (heard {A = A} n.requester s.from (Response place eom sts tid user bytes)) r n.reading → Good A w m t k (event.Deliver which k) o
-  good_step r o quiet away does is = subst (Good A w m t k (event.Deliver which k)) (sym is)
+  good_step r o matches away does is = subst (Good A w m t k (event.Deliver which k)) (sym is)
       (good_next A w m k n (event.Deliver which k) (after_heard n (heard {A = A} n.requester s.from (Response place eom sts tid user bytes)) r n.reading) m.asked m.readings t stands
       (asker_next A w m k n t stands (Hears which) (heard {A = A} n.requester s.from (Response place eom sts tid user bytes)).after n.reading (heard {A = A} n.requester s.from (Response place eom sts tid user bytes)).sent r m.readings timely tt is_done
       (reading_goes_on n.reading away (t.readings k n stands)) (λ j apart. refl))
-      (hears_matches A m.net (after A t.history) which (event.Deliver which k) r quiet) does)
+      matches does)
 
   -- ---- the end of a reading
 
@@ -138,11 +139,11 @@ module _ (A : Type 0) (laws : Laws A) (w : WorldState) (m : Machine) (which k : 
   good_finished packets o ended true e x = good_end o e x
   good_finished packets o ended false e x =
       let r = response packets ended in
-      good_step (report.Response tid packets) o refl (λ finished. e) (record { transaction = r.0; newest = r.1; response = r.2 }, refl) x
+      good_step (report.Response tid packets) o (ends_match A m.net (after A t.history) which k tid packets (record { packet = s; was_sent = was_sent; fresh = fresh; ends = (λ i. (heard {A = A} (its_requester i) s.from (packet_is i)).step) ∙ ended; comes_to = to_is; numbered = ap number_of packet_is })) (λ finished. e) (record { transaction = r.0; newest = r.1; response = r.2 }, refl) x
 
   pub good_heard : (x : Stepped A) (o : Outcome A) → (heard {A = A} n.requester s.from (Response place eom sts tid user bytes)).step ≡ x →
       AtAsking n tid (record { user = user; data_ = bytes }) (heard {A = A} n.requester s.from (Response place eom sts tid user bytes)) x o → Good A w m t k (event.Deliver which k) o
-  good_heard step.Ignored o is at = good_step report.Ignored o refl (λ finished. absurd (false≢true (ap is_finished (sym is) ∙ finished))) refl at
-  good_heard step.Kept o is at = good_step report.Kept o refl (λ finished. absurd (false≢true (ap is_finished (sym is) ∙ finished))) refl at
-  good_heard step.AskAgain o is at = good_step report.Again o refl (λ finished. absurd (false≢true (ap is_finished (sym is) ∙ finished))) refl at
+  good_heard step.Ignored o is at = good_step report.Ignored o (hears_matches A m.net (after A t.history) which (event.Deliver which k) report.Ignored refl) (λ finished. absurd (false≢true (ap is_finished (sym is) ∙ finished))) refl at
+  good_heard step.Kept o is at = good_step report.Kept o (hears_matches A m.net (after A t.history) which (event.Deliver which k) report.Kept refl) (λ finished. absurd (false≢true (ap is_finished (sym is) ∙ finished))) refl at
+  good_heard step.AskAgain o is at = good_step report.Again o (hears_matches A m.net (after A t.history) which (event.Deliver which k) report.Again refl) (λ finished. absurd (false≢true (ap is_finished (sym is) ∙ finished))) refl at
   good_heard (step.Finished packets) o is at = good_finished packets o is (is_reading n.reading tid) refl at

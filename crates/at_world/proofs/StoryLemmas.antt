@@ -21,7 +21,7 @@ use Rattle.at_node.specs.declared.event.Report.TheVariants as report
 use Rattle.at_node.specs.declared.event.Timer.TheVariants as timer
 use Rattle.at_world.specs.declared.event.Event.{Event}
 use Rattle.at_world.specs.declared.event.Event.TheVariants as event
-use Rattle.at_world.specs.Stories.{Matches, began_under, expired_at, handed_up_by, came_under}
+use Rattle.at_world.specs.Stories.{Matches, Finishes, Ends, asks_once, began_under, expired_at, handed_up_by, came_under}
 
 -- a report that tells of no beginning, no request and no expiry
 abbrev pub is_quiet : {A : Type 0} → Report A → Bool
@@ -34,7 +34,7 @@ is_quiet (report.Zones names) = true
 is_quiet (report.ZoneFault number) = true
 is_quiet report.ZonesFailed = true
 is_quiet report.Kept = true
-is_quiet (report.Response tid packets) = true
+is_quiet (report.Response tid packets) = false
 is_quiet (report.Failed tid) = true
 is_quiet report.Again = true
 is_quiet report.Released = true
@@ -52,7 +52,7 @@ no_begin A net (event.Call node call) (report.Zones names) key q = refl
 no_begin A net (event.Call node call) (report.ZoneFault number) key q = refl
 no_begin A net (event.Call node call) report.ZonesFailed key q = refl
 no_begin A net (event.Call node call) report.Kept key q = refl
-no_begin A net (event.Call node call) (report.Response tid packets) key q = refl
+no_begin A net (event.Call node call) (report.Response tid packets) key q = absurd (false≢true q)
 no_begin A net (event.Call node call) (report.Failed tid) key q = refl
 no_begin A net (event.Call node call) report.Again key q = refl
 no_begin A net (event.Call node call) report.Released key q = refl
@@ -73,7 +73,7 @@ no_hand_up A sent (event.Deliver which node) (report.Zones names) key q = refl
 no_hand_up A sent (event.Deliver which node) (report.ZoneFault number) key q = refl
 no_hand_up A sent (event.Deliver which node) report.ZonesFailed key q = refl
 no_hand_up A sent (event.Deliver which node) report.Kept key q = refl
-no_hand_up A sent (event.Deliver which node) (report.Response tid packets) key q = refl
+no_hand_up A sent (event.Deliver which node) (report.Response tid packets) key q = absurd (false≢true q)
 no_hand_up A sent (event.Deliver which node) (report.Failed tid) key q = refl
 no_hand_up A sent (event.Deliver which node) report.Again key q = refl
 no_hand_up A sent (event.Deliver which node) report.Released key q = refl
@@ -95,7 +95,7 @@ no_expiry A net (event.Timer node (timer.Release own k' socket tid')) (report.Zo
 no_expiry A net (event.Timer node (timer.Release own k' socket tid')) (report.ZoneFault number) at key q = refl
 no_expiry A net (event.Timer node (timer.Release own k' socket tid')) report.ZonesFailed at key q = refl
 no_expiry A net (event.Timer node (timer.Release own k' socket tid')) report.Kept at key q = refl
-no_expiry A net (event.Timer node (timer.Release own k' socket tid')) (report.Response tid packets) at key q = refl
+no_expiry A net (event.Timer node (timer.Release own k' socket tid')) (report.Response tid packets) at key q = absurd (false≢true q)
 no_expiry A net (event.Timer node (timer.Release own k' socket tid')) (report.Failed tid) at key q = refl
 no_expiry A net (event.Timer node (timer.Release own k' socket tid')) report.Again at key q = refl
 no_expiry A net (event.Timer node (timer.Release own k' socket tid')) report.Released at key q = refl
@@ -103,23 +103,47 @@ no_expiry A net (event.Timer node (timer.Release own k' socket tid')) report.Ign
 no_expiry A net (event.Timer node (timer.Release own k' socket tid')) (report.Refused number) at key q = refl
 no_expiry A net (event.Timer node (timer.Release own k' socket tid')) report.NoMemory at key q = refl
 
+no_end : (A : Type 0) (net : ℕ) (n : Network) (e : Event A) (r : Report A) → is_quiet r ≡ true → Finishes net n e r
+no_end A net n (event.Call node call) r q = tt
+no_end A net n (event.Deliver which node) (report.Begun tid) q = absurd (false≢true q)
+no_end A net n (event.Deliver which node) (report.Answered count) q = tt
+no_end A net n (event.Deliver which node) report.Done q = absurd (false≢true q)
+no_end A net n (event.Deliver which node) (report.Served count) q = absurd (false≢true q)
+no_end A net n (event.Deliver which node) (report.Asked k user bytes) q = absurd (false≢true q)
+no_end A net n (event.Deliver which node) (report.Zones names) q = tt
+no_end A net n (event.Deliver which node) (report.ZoneFault number) q = tt
+no_end A net n (event.Deliver which node) report.ZonesFailed q = tt
+no_end A net n (event.Deliver which node) report.Kept q = tt
+no_end A net n (event.Deliver which node) (report.Response tid packets) q = absurd (false≢true q)
+no_end A net n (event.Deliver which node) (report.Failed tid) q = tt
+no_end A net n (event.Deliver which node) report.Again q = tt
+no_end A net n (event.Deliver which node) report.Released q = tt
+no_end A net n (event.Deliver which node) report.Ignored q = tt
+no_end A net n (event.Deliver which node) (report.Refused number) q = tt
+no_end A net n (event.Deliver which node) report.NoMemory q = tt
+no_end A net n (event.Timer node time) r q = tt
+
 module _ (A : Type 0) (net : ℕ) (n : Network) where
   pub other_matches : (e : Event A) (r : Report A) → is_quiet r ≡ true → Matches net n Other e r
-  other_matches e r q = record { draws_it = λ key. sym (no_begin A net e r key q); expires_it = λ at key. sym (no_expiry A net e r at key q); hands_up = λ key. sym (no_hand_up A n.sent e r key q); takes_in = tt }
+  other_matches e r q = record { draws_it = λ key. sym (no_begin A net e r key q); expires_it = λ at key. sym (no_expiry A net e r at key q); hands_up = λ key. sym (no_hand_up A n.sent e r key q); takes_in = tt; begins_as = tt; finishes = no_end A net n e r q }
 
   pub answers_match : (at : Address) (k : Key) (packets : List Packet) (e : Event A) (r : Report A) → is_quiet r ≡ true → Matches net n (Answers at k packets) e r
-  answers_match at k packets e r q = record { draws_it = λ key. sym (no_begin A net e r key q); expires_it = λ at key. sym (no_expiry A net e r at key q); hands_up = λ key. sym (no_hand_up A n.sent e r key q); takes_in = tt }
+  answers_match at k packets e r q = record { draws_it = λ key. sym (no_begin A net e r key q); expires_it = λ at key. sym (no_expiry A net e r at key q); hands_up = λ key. sym (no_hand_up A n.sent e r key q); takes_in = tt; begins_as = tt; finishes = no_end A net n e r q }
 
   pub hears_matches : (which : ℕ) (e : Event A) (r : Report A) → is_quiet r ≡ true → Matches net n (Hears which) e r
-  hears_matches which e r q = record { draws_it = λ key. sym (no_begin A net e r key q); expires_it = λ at key. sym (no_expiry A net e r at key q); hands_up = λ key. sym (no_hand_up A n.sent e r key q); takes_in = tt }
+  hears_matches which e r q = record { draws_it = λ key. sym (no_begin A net e r key q); expires_it = λ at key. sym (no_expiry A net e r at key q); hands_up = λ key. sym (no_hand_up A n.sent e r key q); takes_in = tt; begins_as = tt; finishes = no_end A net n e r q }
+
+  -- a packet that ends a transaction
+  pub ends_match : (which k tid : ℕ) (packets : List Packet) → Ends A net n which k tid packets → Matches {A = A} net n (Hears which) (event.Deliver which k) (report.Response tid packets)
+  ends_match which k tid packets ends = record { draws_it = λ key. refl; expires_it = λ at key. refl; hands_up = λ key. refl; takes_in = tt; begins_as = tt; finishes = ends }
 
   pub retries_match : (who : Address) (tid : ℕ) (e : Event A) (r : Report A) → is_quiet r ≡ true → Matches net n (Retries who tid) e r
-  retries_match who tid e r q = record { draws_it = λ key. sym (no_begin A net e r key q); expires_it = λ at key. sym (no_expiry A net e r at key q); hands_up = λ key. sym (no_hand_up A n.sent e r key q); takes_in = tt }
+  retries_match who tid e r q = record { draws_it = λ key. sym (no_begin A net e r key q); expires_it = λ at key. sym (no_expiry A net e r at key q); hands_up = λ key. sym (no_hand_up A n.sent e r key q); takes_in = tt; begins_as = tt; finishes = no_end A net n e r q }
 
   -- a transaction begins under the next number
-  pub begins_match : (k tid : ℕ) (to : Address) (user bytes : List ℕ) (wanted : ℕ) (xo : Bool) (retries : ℕ) (call : Call A) → next_number (n.requesters (asking net k)) ≡ Some tid →
+  pub begins_match : (k tid : ℕ) (to : Address) (user bytes : List ℕ) (wanted : ℕ) (xo : Bool) (retries : ℕ) (call : Call A) → asks_once (event.Call k call) ≡ xo → next_number (n.requesters (asking net k)) ≡ Some tid →
       Matches net n (Begins (asking net k) to user bytes wanted xo retries) (event.Call k call) (report.Begun tid)
-  begins_match k tid to user bytes wanted xo retries call drawn = record { draws_it = λ key. ap (λ o. is_drawn (asking net k) o key) drawn; expires_it = λ at key. refl; hands_up = λ key. refl; takes_in = tt }
+  begins_match k tid to user bytes wanted xo retries call once drawn = record { draws_it = λ key. ap (λ o. is_drawn (asking net k) o key) drawn; expires_it = λ at key. refl; hands_up = λ key. refl; takes_in = tt; begins_as = once; finishes = tt }
 
   module _ (which k : ℕ) (s : Sent) (was_sent : slice_get n.sent which ≡ Some s) where
     -- a packet that hands nothing up
@@ -129,11 +153,13 @@ module _ (A : Type 0) (net : ℕ) (n : Network) where
       expires_it = λ at key. sym (no_expiry A net (event.Deliver which k) r at key q);
       hands_up = λ key. ap (brings n key) was_sent ∙ ap (is_new_of key) is ∙ old key ∙ sym (no_hand_up A n.sent (event.Deliver which k) r key q);
       takes_in = (k, refl);
+      begins_as = tt;
+      finishes = no_end A net n (event.Deliver which k) r q;
     }
 
     -- a request that is handed up
     pub takes_new : (key : Key) (user bytes : List ℕ) → (taken (n.responders s.to) s.from s.packet).reception ≡ reception.New key → Matches {A = A} net n (Takes which) (event.Deliver which k) (report.Asked key user bytes)
-    takes_new new user bytes is = record { draws_it = λ key. refl; expires_it = λ at key. refl; hands_up = λ key. ap (brings n key) was_sent ∙ ap (is_new_of key) is; takes_in = (k, refl) }
+    takes_new new user bytes is = record { draws_it = λ key. refl; expires_it = λ at key. refl; hands_up = λ key. ap (brings n key) was_sent ∙ ap (is_new_of key) is; takes_in = (k, refl); begins_as = tt; finishes = tt }
 
     -- a request that is answered at once
     pub serves_new : (key : Key) (packets : List Packet) (count : ℕ) → (taken (n.responders s.to) s.from s.packet).reception ≡ reception.New key → key ≡ record { from = s.from; tid = number_of s.packet } →
@@ -143,6 +169,8 @@ module _ (A : Type 0) (net : ℕ) (n : Network) where
       expires_it = λ at key. refl;
       hands_up = λ key. ap (brings n key) was_sent ∙ ap (is_new_of key) is ∙ ap (λ x. same_key x key) its ∙ ap (λ o. came_under o key) (sym was_sent);
       takes_in = (k, refl);
+      begins_as = tt;
+      finishes = tt;
     }
 
   -- a record that expires
@@ -153,6 +181,8 @@ module _ (A : Type 0) (net : ℕ) (n : Network) where
     expires_it = λ at x. λ i. is_none (free i) && same_address (here i) at && same_key (its i) x;
     hands_up = λ x. refl;
     takes_in = tt;
+    begins_as = tt;
+    finishes = tt;
   }
 
 -- a release is not handed up

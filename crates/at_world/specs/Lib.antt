@@ -1,4 +1,5 @@
 pub mod Draws
+pub mod ExactlyOnce
 pub mod Machine
 pub mod Plays
 pub mod Refusals

@@ -1,6 +1,6 @@
 -- What a play is in the network of its requesters and responders: each event is one happening there (Inside AppleTalk, ATP,
 -- "At-least-once and exactly-once transactions").
-use Rattle.std.specs.Prelude.{◌≡◌, ℕ, ◌&&◌, Bool, false, List, [], ◌∷◌, map, slice_get, Option, Some, None}
+use Rattle.std.specs.Prelude.{◌≡◌, ℕ, ◌&&◌, Bool, true, false, List, [], ◌∷◌, map, slice_get, Option, Some, None}
 use Rattle.std.specs.List.{AllByRecursion}
 use Rattle.at_ddp.specs.Address.{same_address}
 use Rattle.at_ddp.specs.Datagram.{canonical}
@@ -8,10 +8,14 @@ use Rattle.at_ddp.specs.declared.address.Address.{Address}
 use Rattle.at_atp.specs.Frames.{spelled}
 use Rattle.at_atp.specs.HandUps.{draws, is_handed_up, expires_there}
 use Rattle.at_atp.specs.Lawfully.{IsInRange}
-use Rattle.at_atp.specs.Network.{Network, Sent, Happening, Takes, Serves, AllTimely, number_of, after}
+use Rattle.at_atp.specs.Network.{Network, Sent, Happening, Begins, Takes, Serves, AllTimely, is_fresh, number_of, after}
 use Rattle.at_atp.specs.Once.{same_key}
+use Rattle.at_atp.specs.Packets.{Packet}
+use Rattle.at_atp.specs.Requests.{heard}
 use Rattle.at_atp.specs.declared.reception.Key.{Key}
+use Rattle.at_atp.specs.declared.step.Step.TheVariants as step
 use Rattle.at_node.specs.Steps.{asking, atp_kind}
+use Rattle.at_node.specs.declared.event.Call.TheVariants.{Ask}
 use Rattle.at_node.specs.declared.event.Report.{Report}
 use Rattle.at_node.specs.declared.event.Report.TheVariants as report
 use Rattle.at_node.specs.declared.event.Timer.TheVariants as timer
@@ -51,12 +55,36 @@ TakesIn (Takes which) e = (node : ℕ) × (e ≡ event.Deliver which node)
 TakesIn (Serves which packets) e = (node : ℕ) × (e ≡ event.Deliver which node)
 TakesIn h e = Unit {0}
 
+-- is this an exactly-once request?
+abbrev pub asks_once : {A : Type 0} → Event A → Bool
+asks_once (event.Call node (Ask k socket user bytes wanted xo retries)) = xo
+asks_once e = false
+
+abbrev pub BeginsAs : {A : Type 0} → Happening → Event A → Type 0
+BeginsAs (Begins who to user bytes wanted xo retries) e = asks_once e ≡ xo
+BeginsAs h e = Unit {0}
+
+-- a packet in time came that ends the transaction of a number with these packets
+pub record Ends (A : Type 0) (net : ℕ) (n : Network) (which node tid : ℕ) (packets : List Packet) : Type 0 where
+  pub packet : Sent
+  pub was_sent : slice_get n.sent which ≡ Some packet
+  pub fresh : is_fresh n.drawn packet ≡ true
+  pub ends : (heard {A = A} (n.requesters packet.to) packet.from packet.packet).step ≡ step.Finished packets
+  pub comes_to : packet.to ≡ asking net node
+  pub numbered : number_of packet.packet ≡ tid
+
+abbrev pub Finishes : {A : Type 0} → ℕ → Network → Event A → Report A → Type 0
+Finishes {A} net n (event.Deliver which node) (report.Response tid packets) = Ends A net n which node tid packets
+Finishes net n e r = Unit {0}
+
 -- the happening is what the event and its report say
 pub record Matches {A : Type 0} (net : ℕ) (n : Network) (h : Happening) (e : Event A) (r : Report A) : Type 0 where
   pub draws_it : (key : Key) → draws n h key ≡ began_under net e r key
   pub expires_it : (at : Address) (key : Key) → expires_there n h at key ≡ expired_at net e r at key
   pub hands_up : (key : Key) → is_handed_up n h key ≡ handed_up_by n.sent e r key
   pub takes_in : TakesIn h e
+  pub begins_as : BeginsAs h e
+  pub finishes : Finishes net n e r
 
 -- these events and reports, after what happened before, make this history, whose newest happening stands first
 abbrev pub Tells : {A : Type 0} → ℕ → List Happening → List (Event A) → List (Report A) → List Happening → Type 0

@@ -1,0 +1,111 @@
+-- How often a play hands an exactly-once request to its service (Inside AppleTalk, ATP, "At-least-once and exactly-once
+-- transactions"), by its events, its reports and the datagrams that were sent.
+use Rattle.std.specs.Prelude.{◌≡◌, ℕ, ◌||◌, if◌then◌else◌, Bool, true, false, List, [], ◌∷◌, take, slice_get, Some, Result, Ok, Err, ◌⊎◌}
+use Rattle.at_ddp.specs.Datagram.{Content as Datagram, BeginsWith, canonical}
+use Rattle.at_ddp.specs.declared.address.Address.{Address}
+use Rattle.at_atp.specs.Frames.{Content, Request, Spells, spelled}
+use Rattle.at_atp.specs.Network.{number_of}
+use Rattle.at_atp.specs.Once.{same_key}
+use Rattle.at_atp.specs.declared.reception.Key.{Key}
+use Rattle.at_node.specs.Steps.{asking, atp_kind}
+use Rattle.at_node.specs.declared.event.Report.{Report}
+use Rattle.at_node.specs.declared.event.Report.TheVariants as report
+use Rattle.at_world.specs.Sents.{SentDatagram}
+use Rattle.at_world.specs.Stories.{asks_once, began_under, expired_at}
+use Rattle.at_world.specs.declared.event.Event.{Event}
+use Rattle.at_world.specs.declared.event.Event.TheVariants as event
+use Rattle.at_world.specs.declared.setup.Setup.{Setup}
+use Rattle.at_world.specs.declared.transcript.Transcript.{Transcript}
+use Rattle.at_world.specs.declared.transcript.PlayFault.{PlayFault}
+
+-- one step of a play: an event, and what was reported of it
+pub record Played (A : Type 0) : Type 0 where
+  pub event : Event A
+  pub report : Report A
+
+-- the steps of a play, the newest first, onto those that were before
+abbrev pub onto : {A : Type 0} → List (Played A) → List (Event A) → List (Report A) → List (Played A)
+onto past [] rs = past
+onto past (e ∷ es) [] = past
+onto past (e ∷ es) (r ∷ rs) = onto (record { event = e; report = r } ∷ past) es rs
+
+-- ---- one request, by its key
+
+-- the steps since its transaction began
+abbrev pub since : {A : Type 0} → ℕ → List (Played A) → Key → List (Played A)
+since net [] key = []
+since net (x ∷ xs) key = if began_under net x.event x.report key then [] else x ∷ since net xs key
+
+-- did its transaction begin as one that must not run twice?
+abbrev pub is_once : {A : Type 0} → ℕ → List (Played A) → Key → Bool
+is_once net [] key = false
+is_once net (x ∷ xs) key = if began_under net x.event x.report key then asks_once x.event else is_once net xs key
+
+-- a packet of this key stands in a datagram that was sent
+pub record CameFrom (sent : List SentDatagram) (which : ℕ) (key : Key) : Type 0 where
+  pub datagram : SentDatagram
+  pub was_sent : slice_get sent which ≡ Some datagram
+  pub header : Datagram
+  pub rest : List ℕ
+  pub begins : BeginsWith datagram.bytes header rest
+  pub packet : Content
+  pub spells : Spells header.data_ packet
+  pub sender : header.from ≡ key.from
+  pub numbered : number_of packet ≡ key.tid
+
+-- it was handed up: to a node's service, which is told its key, or to the router, which answers what came
+abbrev pub HandsUpBy : {A : Type 0} → List SentDatagram → Event A → Report A → Key → Type 0
+HandsUpBy sent (event.Deliver which node) (report.Asked k user bytes) key = same_key k key ≡ true
+HandsUpBy sent (event.Deliver which node) (report.Served count) key = CameFrom sent which key
+HandsUpBy sent e r key = ⊥
+
+abbrev pub HandsUp : {A : Type 0} → List SentDatagram → Key → Played A → Type 0
+HandsUp sent key x = HandsUpBy sent x.event x.report key
+
+abbrev pub NoneHandsUp : {A : Type 0} → List SentDatagram → Key → List (Played A) → Type 0
+NoneHandsUp sent key [] = Unit {0}
+NoneHandsUp sent key (x ∷ xs) = (HandsUp sent key x → ⊥) × NoneHandsUp sent key xs
+
+abbrev pub AtMostOneHandsUp : {A : Type 0} → List SentDatagram → Key → List (Played A) → Type 0
+AtMostOneHandsUp sent key [] = Unit {0}
+AtMostOneHandsUp sent key (x ∷ xs) = (HandsUp sent key x → NoneHandsUp sent key xs) × AtMostOneHandsUp sent key xs
+
+abbrev pub SomeHandsUp : {A : Type 0} → List SentDatagram → Key → List (Played A) → Type 0
+SomeHandsUp sent key [] = ⊥
+SomeHandsUp sent key (x ∷ xs) = HandsUp sent key x ⊎ SomeHandsUp sent key xs
+
+-- ---- plays in which no request outlives its record
+
+-- did its record at a responder expire since its transaction began?
+abbrev pub has_expired : {A : Type 0} → ℕ → List (Played A) → Address → Key → Bool
+has_expired net [] at key = false
+has_expired net (x ∷ xs) at key = if began_under net x.event x.report key then false else expired_at net x.event x.report at key || has_expired net xs at key
+
+-- where a request is delivered, its record did not expire there
+abbrev pub LivesBy : {A : Type 0} → ℕ → List SentDatagram → Event A → List (Played A) → Type 0
+LivesBy net sent (event.Deliver which node) past = (d : SentDatagram) (to from : Address) (mask : ℕ) (xo : Bool) (timer tid : ℕ) (user bytes : List ℕ) → slice_get sent which ≡ Some d
+    → d.bytes ≡ canonical to from atp_kind (spelled (Request mask xo timer tid user bytes)) → has_expired net past to (record { from = from; tid = tid }) ≡ false
+LivesBy net sent e past = Unit {0}
+
+abbrev pub AllLive : {A : Type 0} → ℕ → List SentDatagram → List (Played A) → Type 0
+AllLive net sent [] = Unit {0}
+AllLive net sent (x ∷ xs) = LivesBy net sent x.event xs × AllLive net sent xs
+
+-- ---- the promise
+
+-- a response that is told was asked for by a request that was handed up
+abbrev pub EndsBy : {A : Type 0} → ℕ → List SentDatagram → Event A → Report A → List (Played A) → Type 0
+EndsBy net sent (event.Deliver which node) (report.Response tid packets) past =
+    is_once net past (record { from = asking net node; tid = tid }) ≡ true → SomeHandsUp sent (record { from = asking net node; tid = tid }) (since net past (record { from = asking net node; tid = tid }))
+EndsBy net sent e r past = Unit {0}
+
+-- At each moment each exactly-once request was handed up at most once since its transaction began, and where the
+-- transaction ended with a response, once.
+abbrev pub RunsOnce : {A : Type 0} → ℕ → List SentDatagram → List (Played A) → Type 0
+RunsOnce net sent [] = Unit {0}
+RunsOnce net sent (x ∷ xs) = ((key : Key) → is_once net (x ∷ xs) key ≡ true → AtMostOneHandsUp sent key (since net (x ∷ xs) key)) × EndsBy net sent x.event x.report xs × RunsOnce net sent xs
+
+-- the same of a play, whole or up to where it stopped, if no request outlives its record
+abbrev pub IsOnce : {A : Type 0} → Setup A → List (Event A) → Result (Transcript A) (PlayFault A) → Type 0
+IsOnce s events (Ok t) = AllLive s.net t.sent (onto [] events t.reports) → RunsOnce s.net t.sent (onto [] events t.reports)
+IsOnce s events (Err f) = AllLive s.net f.transcript.sent (onto [] (take f.at events) f.transcript.reports) → RunsOnce s.net f.transcript.sent (onto [] (take f.at events) f.transcript.reports)
