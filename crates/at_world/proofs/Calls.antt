@@ -32,7 +32,7 @@ use Rattle.at_node.specs.declared.event.Call.TheVariants.{Zones, Ask, Answer}
 use Rattle.at_node.specs.declared.event.Report.{Report}
 use Rattle.at_node.specs.declared.event.Report.TheVariants as report
 use Rattle.at_world.specs.Machine.{Machine, Reading, next, at_net, Step}
-use Rattle.at_world.specs.Stories.{Matches}
+use Rattle.at_world.specs.Stories.{Grows, Matches}
 use Rattle.at_world.specs.Worlds.{WorldState, node_at, recorded, holds_some}
 use Rattle.at_world.specs.declared.event.Event.{Event}
 use Rattle.at_world.specs.declared.event.Event.TheVariants as event
@@ -43,15 +43,15 @@ use Rattle.at_world.proofs.Times.{none_holds}
 
 -- the history grew by one happening, which is what the event and its report say
 abbrev pub Grown : (A : Type 0) (w w' : WorldState) (m m' : Machine) → Tied A w m → Tied A w' m' → Event A → Report A → Type 0
-Grown A w w' m m' t now e r = (h : Happening) × (now.history ≡ h ∷ t.history) × Matches m.net (after A t.history) h e r × (m'.net ≡ m.net)
+Grown A w w' m m' t now e r = (h : Happening) × (now.history ≡ h ∷ t.history) × Matches m.net (after A t.history) h e r × (m'.net ≡ m.net) × Grows A (after A t.history) h
 
 -- the machine follows this outcome of a node's step
 abbrev pub Good : (A : Type 0) (w : WorldState) (m : Machine) → Tied A w m → ℕ → Event A → Outcome A → Type 0
 Good A w m t k e o = (m' : Machine) × Step m e o.report m' × (now : Tied A (recorded w k o.report o.node (map posted o.out)) m') × Grown A w (recorded w k o.report o.node (map posted o.out)) m m' t now e o.report
 
-pub good_next : {h : Happening} (A : Type 0) (w : WorldState) (m : Machine) (k : ℕ) (n : NodeState) (e : Event A) (o : Outcome A) (asked : List Transaction) (readings : List Reading) (t : Tied A w m) → node_at w k ≡ Some n → Next A w m (after A t.history) h k o.node o.report o.out asked readings →
+pub good_next : {h : Happening} (A : Type 0) (w : WorldState) (m : Machine) (k : ℕ) (n : NodeState) (e : Event A) (o : Outcome A) (asked : List Transaction) (readings : List Reading) (t : Tied A w m) → node_at w k ≡ Some n → (s : Next A w m (after A t.history) h k o.node o.report o.out asked readings) →
     Matches m.net (after A t.history) h e o.report → Step m e o.report (moved m asked readings) → Good A w m t k e o
-good_next {h} A w m k n e o asked readings t stands s matches step = let now = tied_next A w m h k n o.node o.report o.out asked readings t stands s in (moved m asked readings, step, now.0, (h, now.1, matches, refl))
+good_next {h} A w m k n e o asked readings t stands s matches step = let now = tied_next A w m h k n o.node o.report o.out asked readings t stands s in (moved m asked readings, step, now.0, (h, now.1, matches, refl, (s.more, s.sent)))
 
 pub good_idle : (A : Type 0) (w : WorldState) (m : Machine) (k : ℕ) (n : NodeState) (e : Event A) (r : Report A) (t : Tied A w m) → node_at w k ≡ Some n → is_quiet r ≡ true → Step m e r (next m) → Good A w m t k e (idle n r)
 good_idle A w m k n e r t stands quiet step = good_next A w m k n e (idle n r) m.asked m.readings t stands (idle_next A w m k n t stands r) (other_matches A m.net (after A t.history) e r quiet) step

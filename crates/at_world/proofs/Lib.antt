@@ -6,6 +6,7 @@ mod DeliveryLemmas
 mod DrawLemmas
 mod Following
 mod Moves
+mod Onces
 mod Places
 mod Times
 mod FreshLemmas

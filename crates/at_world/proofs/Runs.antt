@@ -48,7 +48,7 @@ module _ (A : Type 0) (w : WorldState) (m : Machine) (e : Event A) (k : ℕ) (n 
   moved_on : (t : Tied A w m) (o : Outcome A) (m' : Machine) (now : Tied A (recorded w k o.report o.node (map posted o.out)) m') → Its o r after out → Step m e o.report m' → Grown A w (recorded w k o.report o.node (map posted o.out)) m m' t now e o.report → Follow A w m t e r w'
   moved_on t o m' now l step grown =
       let both = subst (λ x. (x' : Tied A x m') × Grown A w x m m' t x' e r) (sym (is ∙ (λ i. recorded w k (l.0 i) (l.1 i) (l.2 i))))
-          (now, (grown.0, grown.1, subst (λ x. Matches m.net (network.after A t.history) grown.0 e x) (sym l.0) grown.2, grown.3)) in
+          (now, (grown.0, grown.1, subst (λ x. Matches m.net (network.after A t.history) grown.0 e x) (sym l.0) grown.2, grown.3, grown.4)) in
       (m', subst (λ x. Step m e x m') (sym l.0) step, both.0, both.1)
 
   of_good : (t : Tied A w m) (o : Outcome A) → Good A w m t k e o → Its o r after out → Follow A w m t e r w'
@@ -99,7 +99,7 @@ runs A laws w m (e ∷ es) (r ∷ rs) w' t h =
     let rest = runs A laws h.0 one.0 es rs w' one.2 h.3 in
     let grown = one.3 in
     let told = subst (λ l. Tells m.net l es rs (rest.2).history) grown.1 (subst (λ net. Tells net (one.2).history es rs (rest.2).history) grown.3 rest.3) in
-    (rest.0, (one.0, one.1, rest.1), rest.2, (grown.0, grown.2, told))
+    (rest.0, (one.0, one.1, rest.1), rest.2, (grown.0, grown.2, grown.4, told))
 runs A laws w m [] (r ∷ rs) w' t h = absurd h
 runs A laws w m (e ∷ es) [] w' t h = absurd h
 

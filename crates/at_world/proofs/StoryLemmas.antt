@@ -170,7 +170,7 @@ module _ (A : Type 0) (net : ℕ) (n : Network) where
       hands_up = λ key. ap (brings n key) was_sent ∙ ap (is_new_of key) is ∙ ap (λ x. same_key x key) its ∙ ap (λ o. came_under o key) (sym was_sent);
       takes_in = (k, refl);
       begins_as = tt;
-      finishes = tt;
+      finishes = (s, was_sent);
     }
 
   -- a record that expires

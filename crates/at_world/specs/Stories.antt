@@ -1,6 +1,6 @@
 -- What a play is in the network of its requesters and responders: each event is one happening there (Inside AppleTalk, ATP,
 -- "At-least-once and exactly-once transactions").
-use Rattle.std.specs.Prelude.{◌≡◌, ℕ, ◌&&◌, Bool, true, false, List, [], ◌∷◌, map, slice_get, Option, Some, None}
+use Rattle.std.specs.Prelude.{◌≡◌, ℕ, ◌&&◌, Bool, true, false, List, [], ◌∷◌, ◌++◌, map, slice_get, Option, Some, None}
 use Rattle.std.specs.List.{AllByRecursion}
 use Rattle.at_ddp.specs.Address.{same_address}
 use Rattle.at_ddp.specs.Datagram.{canonical}
@@ -8,7 +8,7 @@ use Rattle.at_ddp.specs.declared.address.Address.{Address}
 use Rattle.at_atp.specs.Frames.{spelled}
 use Rattle.at_atp.specs.HandUps.{draws, is_handed_up, expires_there}
 use Rattle.at_atp.specs.Lawfully.{IsInRange}
-use Rattle.at_atp.specs.Network.{Network, Sent, Happening, Begins, Takes, Serves, AllTimely, is_fresh, number_of, after}
+use Rattle.at_atp.specs.Network.{Network, Sent, Happening, Begins, Takes, Serves, AllTimely, is_fresh, number_of, after, done}
 use Rattle.at_atp.specs.Once.{same_key}
 use Rattle.at_atp.specs.Packets.{Packet}
 use Rattle.at_atp.specs.Requests.{heard}
@@ -73,8 +73,10 @@ pub record Ends (A : Type 0) (net : ℕ) (n : Network) (which node tid : ℕ) (p
   pub comes_to : packet.to ≡ asking net node
   pub numbered : number_of packet.packet ≡ tid
 
+-- what came where a response is told, and where the router served a request
 abbrev pub Finishes : {A : Type 0} → ℕ → Network → Event A → Report A → Type 0
 Finishes {A} net n (event.Deliver which node) (report.Response tid packets) = Ends A net n which node tid packets
+Finishes net n (event.Deliver which node) (report.Served count) = (s : Sent) × (slice_get n.sent which ≡ Some s)
 Finishes net n e r = Unit {0}
 
 -- the happening is what the event and its report say
@@ -86,10 +88,14 @@ pub record Matches {A : Type 0} (net : ℕ) (n : Network) (h : Happening) (e : E
   pub begins_as : BeginsAs h e
   pub finishes : Finishes net n e r
 
+-- what is sent joins what was sent
+abbrev pub Grows : (A : Type 0) → Network → Happening → Type 0
+Grows A n h = (more : List Sent) × ((done A n h).sent ≡ n.sent ++ more)
+
 -- these events and reports, after what happened before, make this history, whose newest happening stands first
 abbrev pub Tells : {A : Type 0} → ℕ → List Happening → List (Event A) → List (Report A) → List Happening → Type 0
 Tells net before [] [] history = history ≡ before
-Tells {A} net before (e ∷ es) (r ∷ rs) history = (h : Happening) × Matches net (after A before) h e r × Tells net (h ∷ before) es rs history
+Tells {A} net before (e ∷ es) (r ∷ rs) history = (h : Happening) × Matches net (after A before) h e r × Grows A (after A before) h × Tells net (h ∷ before) es rs history
 Tells net before [] (r ∷ rs) history = ⊥
 Tells net before (e ∷ es) [] history = ⊥
 
