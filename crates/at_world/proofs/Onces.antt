@@ -10,6 +10,7 @@ use Rattle.at_ddp.specs.declared.address.Address.{Address}
 use Rattle.at_ddp.proofs.Octets.{same_address-true, same_address_itself}
 use Rattle.at_atp.specs.Fault as fault
 use Rattle.at_atp.specs.Frames.{Content, Request, IsLawful, Spells, spelled}
+use Rattle.at_atp.specs.HandUps as HandUps
 use Rattle.at_atp.specs.HandUps.{draws, is_drawn, is_handed_up, expires_there, hand_ups_since, has_expired as record_expired, AllLived, AnswersOnce}
 use Rattle.at_atp.specs.Lawfully.{IsInRange, IsLawfullySent}
 use Rattle.at_atp.specs.Network as network
@@ -103,3 +104,137 @@ module _ (A : Type 0) (laws : OnceLaws A) (net : ℕ) (sent : List SentDatagram)
     where
       some_one : (a b : SentDatagram) → Some a ≡ Some b → a ≡ b
       some_one a b h = cc
+
+  -- what the network hands up is what the reports say was handed up
+  hands_sound : (e : Event A) (r : Report A) (n : Network) (key : Key) → Within sent n → AllByRecursion IsLawfullySent n.sent → Finishes net n e r → HandsUpBy sent e r key → handed_up_by n.sent e r key ≡ true
+  hands_sound (event.Call node call) r n key within ok f h = absurd h
+  hands_sound (event.Deliver which node) (report.Begun tid) n key within ok f h = absurd h
+  hands_sound (event.Deliver which node) (report.Answered count) n key within ok f h = absurd h
+  hands_sound (event.Deliver which node) report.Done n key within ok f h = absurd h
+  hands_sound (event.Deliver which node) (report.Served count) n key within ok f h = let it = f.0 in ap (λ o. came_under o key) f.1 ∙ came_so which key it (within which it f.1) (all_in IsLawfullySent n.sent which it ok f.1) h
+  hands_sound (event.Deliver which node) (report.Asked k user bytes) n key within ok f h = h
+  hands_sound (event.Deliver which node) (report.Zones names) n key within ok f h = absurd h
+  hands_sound (event.Deliver which node) (report.ZoneFault number) n key within ok f h = absurd h
+  hands_sound (event.Deliver which node) report.ZonesFailed n key within ok f h = absurd h
+  hands_sound (event.Deliver which node) report.Kept n key within ok f h = absurd h
+  hands_sound (event.Deliver which node) (report.Response tid packets) n key within ok f h = absurd h
+  hands_sound (event.Deliver which node) (report.Failed tid) n key within ok f h = absurd h
+  hands_sound (event.Deliver which node) report.Again n key within ok f h = absurd h
+  hands_sound (event.Deliver which node) report.Released n key within ok f h = absurd h
+  hands_sound (event.Deliver which node) report.Ignored n key within ok f h = absurd h
+  hands_sound (event.Deliver which node) (report.Refused number) n key within ok f h = absurd h
+  hands_sound (event.Deliver which node) report.NoMemory n key within ok f h = absurd h
+  hands_sound (event.Timer node time) r n key within ok f h = absurd h
+
+  hands_complete : (e : Event A) (r : Report A) (n : Network) (key : Key) → Within sent n → AllByRecursion IsLawfullySent n.sent → Finishes net n e r → handed_up_by n.sent e r key ≡ true → HandsUpBy sent e r key
+  hands_complete (event.Call node call) r n key within ok f h = absurd (false≢true h)
+  hands_complete (event.Deliver which node) (report.Begun tid) n key within ok f h = absurd (false≢true h)
+  hands_complete (event.Deliver which node) (report.Answered count) n key within ok f h = absurd (false≢true h)
+  hands_complete (event.Deliver which node) report.Done n key within ok f h = absurd (false≢true h)
+  hands_complete (event.Deliver which node) (report.Served count) n key within ok f h = let it = f.0 in came_there which key it (within which it f.1) (all_in IsLawfullySent n.sent which it ok f.1) (sym (ap (λ o. came_under o key) f.1) ∙ h)
+  hands_complete (event.Deliver which node) (report.Asked k user bytes) n key within ok f h = h
+  hands_complete (event.Deliver which node) (report.Zones names) n key within ok f h = absurd (false≢true h)
+  hands_complete (event.Deliver which node) (report.ZoneFault number) n key within ok f h = absurd (false≢true h)
+  hands_complete (event.Deliver which node) report.ZonesFailed n key within ok f h = absurd (false≢true h)
+  hands_complete (event.Deliver which node) report.Kept n key within ok f h = absurd (false≢true h)
+  hands_complete (event.Deliver which node) (report.Response tid packets) n key within ok f h = absurd (false≢true h)
+  hands_complete (event.Deliver which node) (report.Failed tid) n key within ok f h = absurd (false≢true h)
+  hands_complete (event.Deliver which node) report.Again n key within ok f h = absurd (false≢true h)
+  hands_complete (event.Deliver which node) report.Released n key within ok f h = absurd (false≢true h)
+  hands_complete (event.Deliver which node) report.Ignored n key within ok f h = absurd (false≢true h)
+  hands_complete (event.Deliver which node) (report.Refused number) n key within ok f h = absurd (false≢true h)
+  hands_complete (event.Deliver which node) report.NoMemory n key within ok f h = absurd (false≢true h)
+  hands_complete (event.Timer node time) r n key within ok f h = absurd (false≢true h)
+
+  -- ---- how often
+
+  lawful : (hs : List Happening) → AllByRecursion IsInRange hs → AllByRecursion IsLawfullySent (after A hs).sent
+  lawful hs range = laws.lawful_sent hs range
+
+  none_go : (x : Played A) (xs : List (Played A)) (key : Key) (k : ℕ) (b u : Bool) → (HandsUp sent key x → u ≡ true) → cond b 0 (cond u (k + 1) k) ≡ 0 → (k ≡ 0 → NoneHandsUp sent key (since net xs key)) → NoneHandsUp sent key (cond b [] (x ∷ since net xs key))
+  none_go x xs key k true u sound is before = tt
+  none_go x xs key k false true sound is before = absurd (omega (arith, is))
+  none_go x xs key k false false sound is before = ((λ hands. false≢true (sound hands)), before is)
+
+  none_of : (past : List (Played A)) (hs : List Happening) (key : Key) → Told A net past hs → Within sent (after A hs) → AllByRecursion IsInRange hs → hand_ups_since A hs key ≡ 0 → NoneHandsUp sent key (since net past key)
+  none_of [] [] key told within range is = tt
+  none_of [] (h ∷ hs) key told within range is = absurd told
+  none_of (x ∷ xs) [] key told within range is = absurd told
+  none_of (x ∷ xs) (h ∷ hs) key told within range is =
+      let m = told.0 in
+      let earlier = within_before A sent h hs told.1 within in
+      none_go x xs key (hand_ups_since A hs key) (began_under net x.event x.report key) (is_handed_up (after A hs) h key)
+      (λ hands. m.hands_up key ∙ hands_sound x.event x.report (after A hs) key earlier (lawful hs range.1) m.finishes hands)
+      (ap (λ b. cond b 0 (cond (is_handed_up (after A hs) h key) (hand_ups_since A hs key + 1) (hand_ups_since A hs key))) (sym (m.draws_it key)) ∙ is)
+      (λ zero. none_of xs hs key told.2 earlier range.1 zero)
+
+  most_go : (x : Played A) (xs : List (Played A)) (key : Key) (k : ℕ) (b u : Bool) → (HandsUp sent key x → u ≡ true) → cond b 0 (cond u (k + 1) k) ≤ 1 → (k ≡ 0 → NoneHandsUp sent key (since net xs key)) → (k ≤ 1 → AtMostOneHandsUp sent key (since net xs key)) →
+      AtMostOneHandsUp sent key (cond b [] (x ∷ since net xs key))
+  most_go x xs key k true u sound few none most = tt
+  most_go x xs key k false true sound few none most = ((λ hands. none (omega (arith, few))), most (omega (arith, few)))
+  most_go x xs key k false false sound few none most = ((λ hands. absurd (false≢true (sound hands))), most few)
+
+  most_of : (past : List (Played A)) (hs : List Happening) (key : Key) → Told A net past hs → Within sent (after A hs) → AllByRecursion IsInRange hs → hand_ups_since A hs key ≤ 1 → AtMostOneHandsUp sent key (since net past key)
+  most_of [] [] key told within range few = tt
+  most_of [] (h ∷ hs) key told within range few = absurd told
+  most_of (x ∷ xs) [] key told within range few = absurd told
+  most_of (x ∷ xs) (h ∷ hs) key told within range few =
+      let m = told.0 in
+      let earlier = within_before A sent h hs told.1 within in
+      most_go x xs key (hand_ups_since A hs key) (began_under net x.event x.report key) (is_handed_up (after A hs) h key)
+      (λ hands. m.hands_up key ∙ hands_sound x.event x.report (after A hs) key earlier (lawful hs range.1) m.finishes hands)
+      (subst (λ b. cond b 0 (cond (is_handed_up (after A hs) h key) (hand_ups_since A hs key + 1) (hand_ups_since A hs key)) ≤ 1) (m.draws_it key) few)
+      (λ zero. none_of xs hs key told.2 earlier range.1 zero) (λ one. most_of xs hs key told.2 earlier range.1 one)
+
+  some_go : (x : Played A) (xs : List (Played A)) (key : Key) (k : ℕ) (b u : Bool) → (u ≡ true → HandsUp sent key x) → 1 ≤ cond b 0 (cond u (k + 1) k) → (1 ≤ k → SomeHandsUp sent key (since net xs key)) → SomeHandsUp sent key (cond b [] (x ∷ since net xs key))
+  some_go x xs key k true u complete some before = absurd (omega (arith, some))
+  some_go x xs key k false true complete some before = inl (complete refl)
+  some_go x xs key k false false complete some before = inr (before some)
+
+  some_of : (past : List (Played A)) (hs : List Happening) (key : Key) → Told A net past hs → Within sent (after A hs) → AllByRecursion IsInRange hs → 1 ≤ hand_ups_since A hs key → SomeHandsUp sent key (since net past key)
+  some_of [] [] key told within range some = absurd (omega (arith, some))
+  some_of [] (h ∷ hs) key told within range some = absurd told
+  some_of (x ∷ xs) [] key told within range some = absurd told
+  some_of (x ∷ xs) (h ∷ hs) key told within range some =
+      let m = told.0 in
+      let earlier = within_before A sent h hs told.1 within in
+      some_go x xs key (hand_ups_since A hs key) (began_under net x.event x.report key) (is_handed_up (after A hs) h key)
+      (λ up. hands_complete x.event x.report (after A hs) key earlier (lawful hs range.1) m.finishes (sym (m.hands_up key) ∙ up))
+      (subst (λ b. 1 ≤ cond b 0 (cond (is_handed_up (after A hs) h key) (hand_ups_since A hs key + 1) (hand_ups_since A hs key))) (m.draws_it key) some)
+      (λ one. some_of xs hs key told.2 earlier range.1 one)
+
+  -- ---- records that live
+
+  same_expiry : (past : List (Played A)) (hs : List Happening) (at : Address) (key : Key) → Told A net past hs → record_expired A hs at key ≡ has_expired net past at key
+  same_expiry [] [] at key told = refl
+  same_expiry [] (h ∷ hs) at key told = absurd told
+  same_expiry (x ∷ xs) [] at key told = absurd told
+  same_expiry (x ∷ xs) (h ∷ hs) at key told =
+      let m = told.0 in
+      let before = same_expiry xs hs at key told.2 in
+      λ i. cond (m.draws_it key i) false (m.expires_it at key i || before i)
+
+  lives_in : (e : Event A) (past : List (Played A)) (hs : List Happening) (which node : ℕ) → e ≡ event.Deliver which node → Told A net past hs → Within sent (after A hs) → LivesBy net sent e past →
+      (s : Sent) (mask : ℕ) (xo : Bool) (timer tid : ℕ) (user bytes : List ℕ) → slice_get (after A hs).sent which ≡ Some s → s.packet ≡ Request mask xo timer tid user bytes → record_expired A hs s.to (record { from = s.from; tid = tid }) ≡ false
+  lives_in e past hs which node is told within lives s mask xo timer tid user bytes was_sent packet_is =
+      same_expiry past hs s.to (record { from = s.from; tid = tid }) told
+      ∙ subst (λ x. LivesBy net sent x past) is lives (posted_packet s) s.to s.from mask xo timer tid user bytes (within which s was_sent) (ap (λ f. canonical s.to s.from atp_kind (spelled f)) packet_is)
+
+  all_lived : (past : List (Played A)) (hs : List Happening) → Told A net past hs → Within sent (after A hs) → AllLive net sent past → AllLived A hs
+  all_lived [] [] told within live = tt
+  all_lived [] (h ∷ hs) told within live = absurd told
+  all_lived (x ∷ xs) [] told within live = absurd told
+  all_lived (x ∷ xs) (h ∷ hs) told within live = (lived h told.0 , all_lived xs hs told.2 earlier live.1)
+    where
+      earlier : Within sent (after A hs)
+      earlier = within_before A sent h hs told.1 within
+
+      lived : (g : Happening) → Matches net (after A hs) g x.event x.report → HandUps.Lives A hs g
+      lived (Takes which) m = lives_in x.event xs hs which m.takes_in.0 m.takes_in.1 told.2 earlier live.0
+      lived (Serves which packets) m = lives_in x.event xs hs which m.takes_in.0 m.takes_in.1 told.2 earlier live.0
+      lived (Begins who to user bytes wanted xo times) m = tt
+      lived (Answers at k packets) m = tt
+      lived (Hears which) m = tt
+      lived (Expires at k) m = tt
+      lived (Retries who tid) m = tt
+      lived Other m = tt
