@@ -18,7 +18,7 @@ use Rattle.at_atp.specs.Network.{Network, Sent, Happening, Begins, Answers, Hear
 use Rattle.at_atp.specs.Once.{same_key}
 use Rattle.at_atp.specs.Packets.{Packet}
 use Rattle.at_atp.specs.Records.{answer_fault, expiry_fault, is_key, taken}
-use Rattle.at_atp.specs.Requests.{next_number, retried, Retried, heard}
+use Rattle.at_atp.specs.Requests.{next_number, beginning, retried, Retried, heard}
 use Rattle.at_atp.specs.Transactions.{Transaction, is_transaction, transaction_of, answered, Asked}
 use Rattle.at_atp.specs.declared.fault.AtpFault.{AtpFault}
 use Rattle.at_atp.specs.declared.reception.Key.{Key}
@@ -29,7 +29,7 @@ use Rattle.at_node.specs.declared.event.Report.{Report}
 use Rattle.at_node.specs.declared.event.Report.TheVariants as report
 use Rattle.at_world.specs.ExactlyOnce.{Played, onto, since, is_once, CameFrom, HandsUpBy, HandsUp, NoneHandsUp, AtMostOneHandsUp, SomeHandsUp, has_expired, LivesBy, AllLive, EndsBy, RunsOnce}
 use Rattle.at_world.specs.Sents.{SentDatagram}
-use Rattle.at_world.specs.Stories.{asks_once, began_under, expired_at, handed_up_by, came_under, Matches, Finishes, Grows, Tells, IsHistory, posted_packet}
+use Rattle.at_world.specs.Stories.{Ends, asks_once, began_under, expired_at, handed_up_by, came_under, Matches, Finishes, Grows, Tells, IsHistory, posted_packet}
 use Rattle.at_world.specs.declared.event.Event.{Event}
 use Rattle.at_world.specs.declared.event.Event.TheVariants as event
 
@@ -238,3 +238,163 @@ module _ (A : Type 0) (laws : OnceLaws A) (net : ℕ) (sent : List SentDatagram)
       lived (Expires at k) m = tt
       lived (Retries who tid) m = tt
       lived Other m = tt
+
+-- ---- the newest transaction of a number
+
+-- the newest transaction of a key, and whether it must not run twice
+abbrev pub Newest : List Transaction → Key → Bool → Type 0
+Newest ts key xo = (t : Transaction) × (transaction_of ts key.from key.tid ≡ Some t) × (t.xo ≡ xo)
+
+-- an answer leaves it as exact as it was
+answered_newest : (ts : List Transaction) (from : Address) (tid : ℕ) (packets : List Packet) (key : Key) (xo : Bool) → Newest ts key xo → Newest (answered ts from tid packets) key xo
+answered_newest [] from tid packets key xo h = let none = h.1 in absurd (cc)
+answered_newest (t ∷ ts) from tid packets key xo h = go (λ is. answered_newest ts from tid packets key xo (h.0, is, h.2)) (is_transaction from tid t) (is_transaction key.from key.tid t) refl h.1
+  where
+    given : Transaction
+    given = record t { answers = t.answers ++ packets ∷ [] }
+
+    go : (transaction_of ts key.from key.tid ≡ Some h.0 → Newest (answered ts from tid packets) key xo) → (b c : Bool) → is_transaction key.from key.tid t ≡ c → cond c (Some t) (transaction_of ts key.from key.tid) ≡ Some h.0 → Newest (cond b (record t { answers = t.answers ++ packets ∷ [] } ∷ ts) (t ∷ answered ts from tid packets)) key xo
+    go later true true e is = let same : t ≡ h.0 = cc in (given, ap (λ x. cond x (Some given) (transaction_of ts key.from key.tid)) e, ap (λ (x : Transaction). x.xo) same ∙ h.2)
+    go later true false e is = (h.0, ap (λ x. cond x (Some given) (transaction_of ts key.from key.tid)) e ∙ is, h.2)
+    go later false true e is = (h.0, ap (λ x. cond x (Some t) (transaction_of (answered ts from tid packets) key.from key.tid)) e ∙ is, h.2)
+    go later false false e is =
+        let rest = later is in
+        (rest.0, ap (λ x. cond x (Some t) (transaction_of (answered ts from tid packets) key.from key.tid)) e ∙ rest.1, rest.2)
+
+-- what an answer does, refused or not
+answers_newest : (n : Network) (at : Address) (k : Key) (packets : List Packet) (f : Option AtpFault) (key : Key) (xo : Bool) → Newest n.asked key xo → Newest (network.answers n at k packets f).asked key xo
+answers_newest n at k packets (Some fault) key xo h = h
+answers_newest n at k packets None key xo h = answered_newest n.asked k.from k.tid packets key xo h
+
+handed_newest : (n : Network) (at : Address) (packets : List Packet) (r : Reception) (key : Key) (xo : Bool) → Newest n.asked key xo → Newest (network.handed_up n at packets r).asked key xo
+handed_newest n at packets reception.Ignored key xo h = h
+handed_newest n at packets (reception.New k) key xo h = answers_newest n at k packets (answer_fault (n.responders at) k packets) key xo h
+handed_newest n at packets (reception.Again count) key xo h = h
+handed_newest n at packets reception.Released key xo h = h
+
+-- what happens that does not draw its number leaves it as exact as it was
+kept_newest : (A : Type 0) (n : Network) (h : Happening) (key : Key) (xo : Bool) → draws n h key ≡ false → Newest n.asked key xo → Newest (done A n h).asked key xo
+kept_newest A n (Begins who to user bytes wanted once times) key xo apart newest = go (next_number (n.requesters who)) apart
+  where
+    go : (o : Option ℕ) → is_drawn who o key ≡ false → Newest (network.begins n who to user bytes wanted once times o).asked key xo
+    go None e = newest
+    go (Some tid) e = (newest.0, ap (λ x. cond x (Some (network.new_transaction who (beginning tid to user bytes wanted once times))) (transaction_of n.asked key.from key.tid)) e ∙ newest.1, newest.2)
+kept_newest A n (Answers at k packets) key xo apart newest = answers_newest n at k packets (answer_fault (n.responders at) k packets) key xo newest
+kept_newest A n (Hears which) key xo apart newest = go (slice_get n.sent which)
+  where
+    go : (o : Option Sent) → Newest (network.hears A n o).asked key xo
+    go None = newest
+    go (Some s) = newest
+kept_newest A n (Takes which) key xo apart newest = go (slice_get n.sent which)
+  where
+    go : (o : Option Sent) → Newest (network.takes_in n o).asked key xo
+    go None = newest
+    go (Some s) = newest
+kept_newest A n (Serves which packets) key xo apart newest = go (slice_get n.sent which)
+  where
+    go : (o : Option Sent) → Newest (network.serves n packets o).asked key xo
+    go None = newest
+    go (Some s) = handed_newest (network.takes n s) s.to packets (taken (n.responders s.to) s.from s.packet).reception key xo newest
+kept_newest A n (Expires at k) key xo apart newest = go (expiry_fault (find (is_key k) (n.responders at)))
+  where
+    go : (f : Option AtpFault) → Newest (network.expires n at k f).asked key xo
+    go None = newest
+    go (Some fault) = newest
+kept_newest A n (Retries who tid) key xo apart newest = go (retried (n.requesters who) tid)
+  where
+    go : (o : Option Retried) → Newest (network.retries n who o).asked key xo
+    go None = newest
+    go (Some r) = newest
+kept_newest A n Other key xo apart newest = newest
+
+-- what draws its number begins one
+drawn_newest : (A : Type 0) (net : ℕ) (n : Network) (h : Happening) (e : Event A) (r : Report A) (key : Key) → Matches net n h e r → draws n h key ≡ true → Newest (done A n h).asked key (asks_once e)
+drawn_newest A net n (Begins who to user bytes wanted xo times) e r key m drawn = go (next_number (n.requesters who)) drawn
+  where
+    go : (o : Option ℕ) → is_drawn who o key ≡ true → Newest (network.begins n who to user bytes wanted xo times o).asked key (asks_once e)
+    go None d = absurd (false≢true d)
+    go (Some tid) d = (network.new_transaction who (beginning tid to user bytes wanted xo times), ap (λ x. cond x (Some (network.new_transaction who (beginning tid to user bytes wanted xo times))) (transaction_of n.asked key.from key.tid)) d, sym m.begins_as)
+drawn_newest A net n (Answers at k packets) e r key m drawn = absurd (false≢true drawn)
+drawn_newest A net n (Hears which) e r key m drawn = absurd (false≢true drawn)
+drawn_newest A net n (Takes which) e r key m drawn = absurd (false≢true drawn)
+drawn_newest A net n (Serves which packets) e r key m drawn = absurd (false≢true drawn)
+drawn_newest A net n (Expires at k) e r key m drawn = absurd (false≢true drawn)
+drawn_newest A net n (Retries who tid) e r key m drawn = absurd (false≢true drawn)
+drawn_newest A net n Other e r key m drawn = absurd (false≢true drawn)
+
+once_newest : (A : Type 0) (net : ℕ) (past : List (Played A)) (hs : List Happening) (key : Key) → Told A net past hs → is_once net past key ≡ true → Newest (after A hs).asked key true
+once_newest A net [] hs key told once = absurd (false≢true once)
+once_newest A net (x ∷ xs) [] key told once = absurd told
+once_newest A net (x ∷ xs) (h ∷ hs) key told once = go (λ is. once_newest A net xs hs key told.2 is) (began_under net x.event x.report key) refl once
+  where
+    m : Matches net (after A hs) h x.event x.report
+    m = told.0
+
+    go : (is_once net xs key ≡ true → Newest (after A hs).asked key true) → (b : Bool) → began_under net x.event x.report key ≡ b → cond b (asks_once x.event) (is_once net xs key) ≡ true → Newest (done A (after A hs) h).asked key true
+    go before true e is = subst (Newest (done A (after A hs) h).asked key) is (drawn_newest A net (after A hs) h x.event x.report key m (m.draws_it key ∙ e))
+    go before false e is = kept_newest A (after A hs) h key true (m.draws_it key ∙ e) (before is)
+
+-- ---- the promise
+
+module _ (A : Type 0) (laws : OnceLaws A) (net : ℕ) (sent : List SentDatagram) where
+  some_one : (a b : Transaction) → Some a ≡ Some b → a ≡ b
+  some_one a b h = cc
+
+  one_moment : (past : List (Played A)) (hs : List Happening) → Told A net past hs → Within sent (after A hs) → AllTimely A hs → AllByRecursion IsInRange hs → AllLive net sent past → (key : Key) → is_once net past key ≡ true → AtMostOneHandsUp sent key (since net past key)
+  one_moment past hs told within timely range live key once =
+      let t = once_newest A net past hs key told once in
+      let law = laws.once hs timely (all_lived A laws net sent past hs told within live) in
+      most_of A laws net sent past hs key told within range (law.once key.from key.tid t.0 t.1 t.2).0
+
+  ended : (past : List (Played A)) (hs : List Happening) (which node tid : ℕ) (packets : List Packet) → Told A net past hs → Within sent (after A hs) → AllTimely A hs → AllByRecursion IsInRange hs → AllLive net sent past → Ends A net (after A hs) which node tid packets →
+      is_once net past (record { from = asking net node; tid = tid }) ≡ true → SomeHandsUp sent (record { from = asking net node; tid = tid }) (since net past (record { from = asking net node; tid = tid }))
+  ended past hs which node tid packets told within timely range live ends once =
+      let s = ends.packet in
+      let t = once_newest A net past hs (record { from = asking net node; tid = tid }) told once in
+      let law = laws.once hs timely (all_lived A laws net sent past hs told within live) in
+      let a = ((laws.answers hs timely).finished which s packets ends.was_sent ends.fresh ends.ends).0 in
+      let same : a.transaction ≡ t.0 = some_one a.transaction t.0 (sym a.newest ∙ (λ i. transaction_of (after A hs).asked (ends.comes_to i) (ends.numbered i)) ∙ t.1) in
+      let one = (law.finished which s packets ends.was_sent ends.fresh ends.ends a (ap (λ (x : Transaction). x.xo) same ∙ t.2)).0 in
+      let here : hand_ups_since A hs (record { from = asking net node; tid = tid }) ≡ 1 = (λ i. hand_ups_since A hs (record { from = sym ends.comes_to i; tid = sym ends.numbered i })) ∙ one in
+      some_of A laws net sent past hs (record { from = asking net node; tid = tid }) told within range (omega (arith, here))
+
+  ends_by : (e : Event A) (r : Report A) (past : List (Played A)) (hs : List Happening) → Told A net past hs → Within sent (after A hs) → AllTimely A hs → AllByRecursion IsInRange hs → AllLive net sent past → Finishes net (after A hs) e r → EndsBy net sent e r past
+  ends_by (event.Call node call) r past hs told within timely range live f = tt
+  ends_by (event.Deliver which node) (report.Begun tid) past hs told within timely range live f = tt
+  ends_by (event.Deliver which node) (report.Answered count) past hs told within timely range live f = tt
+  ends_by (event.Deliver which node) report.Done past hs told within timely range live f = tt
+  ends_by (event.Deliver which node) (report.Served count) past hs told within timely range live f = tt
+  ends_by (event.Deliver which node) (report.Asked k user bytes) past hs told within timely range live f = tt
+  ends_by (event.Deliver which node) (report.Zones names) past hs told within timely range live f = tt
+  ends_by (event.Deliver which node) (report.ZoneFault number) past hs told within timely range live f = tt
+  ends_by (event.Deliver which node) report.ZonesFailed past hs told within timely range live f = tt
+  ends_by (event.Deliver which node) report.Kept past hs told within timely range live f = tt
+  ends_by (event.Deliver which node) (report.Response tid packets) past hs told within timely range live f = ended past hs which node tid packets told within timely range live f
+  ends_by (event.Deliver which node) (report.Failed tid) past hs told within timely range live f = tt
+  ends_by (event.Deliver which node) report.Again past hs told within timely range live f = tt
+  ends_by (event.Deliver which node) report.Released past hs told within timely range live f = tt
+  ends_by (event.Deliver which node) report.Ignored past hs told within timely range live f = tt
+  ends_by (event.Deliver which node) (report.Refused number) past hs told within timely range live f = tt
+  ends_by (event.Deliver which node) report.NoMemory past hs told within timely range live f = tt
+  ends_by (event.Timer node time) r past hs told within timely range live f = tt
+
+  pub runs_once : (past : List (Played A)) (hs : List Happening) → Told A net past hs → Within sent (after A hs) → AllTimely A hs → AllByRecursion IsInRange hs → AllLive net sent past → RunsOnce net sent past
+  runs_once [] [] told within timely range live = tt
+  runs_once [] (h ∷ hs) told within timely range live = tt
+  runs_once (x ∷ xs) [] told within timely range live = absurd told
+  runs_once (x ∷ xs) (h ∷ hs) told within timely range live =
+      let m = told.0 in
+      let earlier = within_before A sent h hs told.1 within in (
+        one_moment (x ∷ xs) (h ∷ hs) told within timely range live,
+        ends_by x.event x.report xs hs told.2 earlier timely.1 range.1 live.1 m.finishes,
+        runs_once xs hs told.2 earlier timely.1 range.1 live.1,
+      )
+
+-- what a history sent is what the play sent
+pub all_within : (sent : List SentDatagram) (n : Network) → sent ≡ map posted_packet n.sent → Within sent n
+all_within sent n is i s there = ap (λ l. slice_get l i) is ∙ get_mapped n.sent i there
+  where
+    get_mapped : (xs : List Sent) (i : ℕ) → slice_get xs i ≡ Some s → slice_get (map posted_packet xs) i ≡ Some (posted_packet s)
+    get_mapped [] i h = absurd (cc)
+    get_mapped (x ∷ xs) zero h = let same : x ≡ s = cc in ap (λ y. Some (posted_packet y)) same
+    get_mapped (x ∷ xs) (suc i) h = get_mapped xs i h
