@@ -1,5 +1,5 @@
 -- An exactly-once request is handed up at most once.
-use Rattle.std.proofs.Common.{◌≡◌, ◌⊎◌, inl, inr, ℕ, zero, suc, ◌+◌, ◌<◌, ◌≤◌, Bool, true, false, cond, List, [], ◌∷◌, ◌++◌, length, map, Option, Some, None, refl, sym, ap, subst, ◌∙◌, arith, lit<}
+use Rattle.std.proofs.Common.{◌≡◌, ◌⊎◌, inl, inr, ℕ, zero, suc, ◌+◌, ◌<◌, ◌≤◌, Bool, true, false, cond, List, [], ◌∷◌, ◌++◌, length, map, take, Option, Some, None, Result, Ok, Err, refl, sym, ap, subst, ◌∙◌, arith, lit<}
 use Rattle.std.specs.Prelude.{slice_get, find, ◌||◌, ◌==◌, ◌&&◌}
 use Rattle.std.specs.List.{AllByRecursion}
 use Rattle.std.proofs.lemmas.Bool.{false≢true, true≢false, eq-eqb, eqb-true, and_parts}
@@ -27,11 +27,16 @@ use Rattle.at_atp.specs.declared.reception.Reception.TheVariants as reception
 use Rattle.at_node.specs.Steps.{asking, atp_kind}
 use Rattle.at_node.specs.declared.event.Report.{Report}
 use Rattle.at_node.specs.declared.event.Report.TheVariants as report
-use Rattle.at_world.specs.ExactlyOnce.{Played, onto, since, is_once, CameFrom, HandsUpBy, HandsUp, NoneHandsUp, AtMostOneHandsUp, SomeHandsUp, has_expired, LivesBy, AllLive, EndsBy, RunsOnce}
+use Rattle.at_world.specs.ExactlyOnce.{Played, onto, since, is_once, CameFrom, HandsUpBy, HandsUp, NoneHandsUp, AtMostOneHandsUp, SomeHandsUp, has_expired, LivesBy, AllLive, EndsBy, RunsOnce, IsOnce}
+use Rattle.at_world.specs.Plays.{opening_world, Follows, IsPlay}
 use Rattle.at_world.specs.Sents.{SentDatagram}
 use Rattle.at_world.specs.Stories.{Ends, asks_once, began_under, expired_at, handed_up_by, came_under, Matches, Finishes, Grows, Tells, IsHistory, posted_packet}
 use Rattle.at_world.specs.declared.event.Event.{Event}
 use Rattle.at_world.specs.declared.event.Event.TheVariants as event
+use Rattle.at_world.specs.declared.setup.Setup.{Setup}
+use Rattle.at_world.specs.declared.transcript.Transcript.{Transcript}
+use Rattle.at_world.specs.declared.transcript.PlayFault.{PlayFault}
+use Rattle.at_world.specs.Worlds.{WorldState}
 
 -- what the layers below promise
 pub record OnceLaws (A : Type 0) : Type 0 where
@@ -398,3 +403,13 @@ all_within sent n is i s there = ap (λ l. slice_get l i) is ∙ get_mapped n.se
     get_mapped [] i h = absurd (cc)
     get_mapped (x ∷ xs) zero h = let same : x ≡ s = cc in ap (λ y. Some (posted_packet y)) same
     get_mapped (x ∷ xs) (suc i) h = get_mapped xs i h
+
+-- what steps from the opening give runs once
+abbrev pub StepsOnce : (A : Type 0) → Setup A → Type 0
+StepsOnce A s = (events : List (Event A)) (reports : List (Report A)) (w : WorldState) → Follows (opening_world s) events reports w → AllLive s.net w.sent (onto [] events reports) → RunsOnce s.net w.sent (onto [] events reports)
+
+pub play_is_once : (A : Type 0) (s : Setup A) (events : List (Event A)) (answer : Result (Transcript A) (PlayFault A)) → StepsOnce A s → IsPlay s events answer → IsOnce s events answer
+play_is_once A s events (Ok t) law h = let played = h.1 in
+    subst (λ sent. AllLive s.net sent (onto [] events t.reports) → RunsOnce s.net sent (onto [] events t.reports)) (sym played.1) (law events t.reports h.0 played.0)
+play_is_once A s events (Err f) law h = let played = h.1 in
+    subst (λ sent. AllLive s.net sent (onto [] (take f.at events) f.transcript.reports) → RunsOnce s.net sent (onto [] (take f.at events) f.transcript.reports)) (sym played.1) (law (take f.at events) f.transcript.reports h.0 played.0)

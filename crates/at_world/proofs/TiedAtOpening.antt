@@ -168,7 +168,7 @@ module _ (A : Type 0) (s : Setup A) where
 
   -- ---- the whole
 
-  pub tied_at_opening : is_lawful s ≡ true → Tied A (opening_world s) (opening_machine s)
+  pub tied_at_opening : is_lawful s ≡ true → (t : Tied A (opening_world s) (opening_machine s)) × (t.history ≡ [])
   tied_at_opening ok =
       let ns = s.nodes in
       let router = has_router ns in
@@ -183,7 +183,7 @@ module _ (A : Type 0) (s : Setup A) where
       let h = and_parts (list_all is_name s.zones && nat_le (spelled_len s.zones) 578) (router || (length s.zones == 0)) a.1 in
       let i = and_parts (list_all is_name s.zones) (nat_le (spelled_len s.zones) 578) h.0 in
       let small = leb-true (spelled_len s.zones) 578 i.1 in
-      record {
+      (record {
         fixed = record {
           net = ltb-true s.net 65536 c.1;
           router = λ r is. router_fits ns r g.1 is;
@@ -203,4 +203,4 @@ module _ (A : Type 0) (s : Setup A) where
         readings = λ k n is. subst (IsReading (opening_machine s) k n.requester) (sym (nothing_read ns k n is)) tt;
         pages = tt;
         nets = tt;
-      }
+      }, refl)

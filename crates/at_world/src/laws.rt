@@ -1,10 +1,13 @@
 //! Laws of worlds. The functions do nothing: each contract is a law.
-ghost use Rattle.std.specs.Prelude.{◌≡◌, List, true};
+ghost use Rattle.std.specs.Prelude.{◌≡◌, List, [], true};
 ghost use Rattle.at_node.specs.declared.event.Report.{Report};
+ghost use Rattle.at_atp.specs.Network.{Happening};
+ghost use Rattle.at_world.specs.ExactlyOnce.{AllLive, RunsOnce, onto};
 ghost use Rattle.at_world.specs.Machine.{Machine, Run, opening_machine};
 ghost use Rattle.at_world.specs.Plays.{Follows, opening_world};
 ghost use Rattle.at_world.specs.Sents.{AreCanonical};
 ghost use Rattle.at_world.specs.Setups.{is_lawful};
+ghost use Rattle.at_world.specs.Stories.{IsHistory};
 ghost use Rattle.at_world.specs.Worlds.{WorldState};
 ghost use Rattle.at_world.specs.declared.event.Event.{Event};
 ghost use Rattle.at_world.specs.declared.setup.Setup.{Setup};
@@ -17,6 +20,10 @@ pub fn steps_are_a_run<A: Allocator>()
     ensures machine { (s : Setup A) (events : List (Event A)) (reports : List (Report A)) (w : WorldState) → is_lawful s ≡ true → Follows (opening_world s) events reports w
         → (m : Machine) × Run (opening_machine s) events reports m }
     ensures sent { (s : Setup A) (events : List (Event A)) (reports : List (Report A)) (w : WorldState) → Follows (opening_world s) events reports w → AreCanonical w.sent }
+
+    // Each event is one happening in the network of the requesters and responders.
+    ensures history { (s : Setup A) (events : List (Event A)) (reports : List (Report A)) (w : WorldState) → is_lawful s ≡ true → Follows (opening_world s) events reports w
+        → (history : List Happening) × IsHistory s.net events reports w.sent history }
 {
     at_atp::laws::responses_are_answers::<A>();
     at_atp::laws::what_is_sent_is_lawful::<A>();
@@ -31,4 +38,20 @@ pub fn steps_are_a_run<A: Allocator>()
     at_zip::laws::one_page_a_spelling();
     at_zip::laws::a_page_fits_one_packet();
     at_zip::laws::a_small_table_is_one_page();
+}
+
+/// At each moment of a world that is stepped from its opening on, each exactly-once request was handed up at most once since
+/// its transaction began, and once where that ended with a response, if no request is delivered after its record expired and
+/// before its number is drawn again.
+pub fn exactly_once_requests_run_once<A: Allocator>()
+    ensures { (s : Setup A) (events : List (Event A)) (reports : List (Report A)) (w : WorldState) → is_lawful s ≡ true → Follows (opening_world s) events reports w
+        → AllLive s.net w.sent (onto [] events reports) → RunsOnce s.net w.sent (onto [] events reports) }
+{
+    steps_are_a_run::<A>();
+    at_atp::laws::responses_are_answers::<A>();
+    at_atp::laws::exactly_once_requests_are_answered_once::<A>();
+    at_atp::laws::what_is_sent_is_lawful::<A>();
+    at_atp::laws::what_is_written_fits();
+    at_atp::laws::what_is_written_is_read();
+    at_ddp::laws::what_is_written_is_read();
 }

@@ -1,10 +1,11 @@
 ghost use Rattle.std.specs.Prelude.{◌≡◌, true, [], IfErr, ◌≤◌, length};
+ghost use Rattle.at_world.specs.ExactlyOnce.{IsOnce};
 ghost use Rattle.at_world.specs.Machine.{IsRun};
 ghost use Rattle.at_world.specs.Plays.{IsPlay, SendsCanonically};
 ghost use Rattle.at_world.specs.Setups.{is_lawful};
 
 use crate::event::{Event, Fault};
-use crate::laws::steps_are_a_run;
+use crate::laws::{exactly_once_requests_run_once, steps_are_a_run};
 use crate::sent::SentList;
 use crate::setup::Setup;
 use crate::transcript::{PlayFault, Transcript};
@@ -22,10 +23,12 @@ pub fn play<A: Allocator + Copy>(
     requires { is_lawful setup.now ≡ true }
     ensures follows { IsPlay setup.now events.now result }
     ensures machine { IsRun setup.now events.now result }
+    ensures once { IsOnce setup.now events.now result }
     ensures sent { SendsCanonically result }
     ensures within { IfErr result (λ f. f.at ≤ length events.now) }
 {
     steps_are_a_run::<A>();
+    exactly_once_requests_run_once::<A>();
     play_all(alloc, setup, events)
 }
 

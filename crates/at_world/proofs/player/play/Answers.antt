@@ -1,4 +1,5 @@
 use Rattle.at_world.proofs.Canonical.{play_sends}
+use Rattle.at_world.proofs.Onces.{play_is_once}
 use Rattle.at_world.proofs.Runs.{play_runs}
 use Rattle.at_world.proofs.player.play.Goals as goal
 
@@ -7,3 +8,6 @@ returns-clause-sent g c = play_sends g.row.A.Denot c.args.setup.now c.args.event
 
 pub returns-clause-machine : goal.returns-clause-machine
 returns-clause-machine g c = play_runs g.row.A.Denot c.args.setup.now c.args.events.now c.play_all.result (λ events reports w. c.steps_are_a_run.ensures.machine c.args.setup.now events reports w c.requires) c.play_all.ensures.follows
+
+pub returns-clause-once : goal.returns-clause-once
+returns-clause-once g c = play_is_once g.row.A.Denot c.args.setup.now c.args.events.now c.play_all.result (λ events reports w. c.exactly_once_requests_run_once.ensures c.args.setup.now events reports w c.requires) c.play_all.ensures.follows

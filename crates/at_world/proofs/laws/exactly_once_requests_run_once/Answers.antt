@@ -1,0 +1,22 @@
+use Rattle.std.proofs.Common.{[]}
+use Rattle.at_atp.specs.Network.{after}
+use Rattle.at_world.specs.ExactlyOnce.{onto}
+use Rattle.at_world.proofs.Onces.{OnceLaws, all_within, runs_once, told_of}
+use Rattle.at_world.proofs.laws.exactly_once_requests_run_once.Goals as goal
+
+pub returns : goal.returns
+returns g c s events reports w lawful follows live =
+    let A = g.row.A.Denot in
+    let laws : OnceLaws A = record {
+      answers = c.responses_are_answers.ensures;
+      once = c.exactly_once_requests_are_answered_once.ensures;
+      lawful_sent = c.what_is_sent_is_lawful.ensures;
+      reads = c.what_is_written_is_read-2.ensures.read;
+      alone = c.what_is_written_is_read-2.ensures.alone;
+      packet_reads = c.what_is_written_is_read.ensures.read;
+      packet_alone = c.what_is_written_is_read.ensures.alone;
+      packet_fits = c.what_is_written_fits.ensures;
+    } in
+    let h = c.steps_are_a_run.ensures.history s events reports w lawful follows in
+    let is = h.1 in
+    runs_once A laws s.net w.sent (onto [] events reports) h.0 (told_of A s.net [] [] events reports h.0 tt is.tells) (all_within w.sent (after A h.0) is.is_sent) is.timely is.in_range live
