@@ -132,7 +132,7 @@ module _ (A : Type 0) (laws : Laws A) (w : WorldState) (m : Machine) (k : ℕ) (
         began = ap (λ b. option_map (λ (r : Reading). r.since) (cond b (Some (record { node = k; since = length m.past })) (find (λ (r : Reading). r.node == k) m.readings))) (eq-eqb k k refl);
       })
       (λ j apart. ap (λ b. option_map (λ (r : Reading). r.since) (cond b (Some (record { node = k; since = length m.past })) (find (λ (r : Reading). r.node == j) m.readings))) apart))
-      (begins_match A m.net (after A t.history) k tid (zones_at n.net router) (request_user 1) [] 1 false 3 Zones refl (ap next_number (asker_is A w m k n t stands) ∙ is_drawn))
+      (begins_match A m.net (after A t.history) k tid (zones_at n.net router) (request_user 1) [] 1 false 3 Zones refl refl (ap next_number (asker_is A w m k n t stands) ∙ is_drawn))
       (record { router = router; is_router = is_router; becomes = λ i. next (record m { asked = new_transaction (asking m.net k) (beginning tid (zones_at (its.net i) router) (request_user 1) [] 1 false 3) ∷ m.asked; readings = record { node = k; since = length m.past } ∷ m.readings }) })
     where
       first_asks : IsPacket (record { user = request_user 1; data_ = [] })
@@ -158,7 +158,7 @@ module _ (A : Type 0) (laws : Laws A) (w : WorldState) (m : Machine) (k : ℕ) (
         its.net
         (reading_begun (at_socket n node socket) user bytes wanted xo retries tid n.reading is_drawn (t.readings k n stands))
         (λ j apart. refl))
-        (begins_match A m.net (after A t.history) k tid (at_socket n node socket) user bytes wanted xo retries (Ask node socket user bytes wanted xo retries) refl (ap next_number (asker_is A w m k n t stands) ∙ is_drawn))
+        (begins_match A m.net (after A t.history) k tid (at_socket n node socket) user bytes wanted xo retries (Ask node socket user bytes wanted xo retries) refl refl (ap next_number (asker_is A w m k n t stands) ∙ is_drawn))
         (record { becomes = λ i. next (record m { asked = record { requester = asking m.net k; tid = tid; responder = record { net = its.net i; node = node; socket = socket }; user = user; data_ = bytes; wanted = length-replicate {A = Option arrivals.Arrival} wanted None i; xo = xo; answers = [] } ∷ m.asked }) })
 
     good_ask : (b : Bool) → nat_lt 578 (length bytes) ≡ b → holds_some w.nodes k (drawn_by {A = A} (cond b (idle n (report.Refused 13)) (asked_as n (at_socket n node socket) user bytes wanted xo retries (next_number n.requester))).report) ≡ false →
@@ -225,7 +225,7 @@ module _ (A : Type 0) (laws : Laws A) (w : WorldState) (m : Machine) (k : ℕ) (
         (ap (λ (x : Network). x.drawn) done_is)
         (ap (λ (x : Network). x.asked) done_is)
         (pages_elsewhere m asked.transaction packets k asked.asked_it))
-        (answers_match A m.net (after A t.history) (serving m.net k) (record { from = at_socket n node socket; tid = tid }) packets (event.Call k (Answer node socket tid packets)) (report.Answered (length (asked_for (find (is_key (record { from = at_socket n node socket; tid = tid })) n.service) (record { from = at_socket n node socket; tid = tid }) packets))) refl)
+        (answers_match A m.net (after A t.history) (serving m.net k) (record { from = at_socket n node socket; tid = tid }) packets k node socket tid (length (asked_for (find (is_key (record { from = at_socket n node socket; tid = tid })) n.service) (record { from = at_socket n node socket; tid = tid }) packets)) (λ i. record { from = record { net = its.net i; node = node; socket = socket }; tid = tid }))
         (record {
           asked = subst (λ (a : Address). Asked m.asked a tid (serving m.net k)) (there its.net) asked;
           few = laws.few (find (is_key (record { from = at_socket n node socket; tid = tid })) n.service) (record { from = at_socket n node socket; tid = tid }) packets;

@@ -16,12 +16,13 @@ use Rattle.at_atp.specs.declared.reception.Reception.{Reception}
 use Rattle.at_atp.specs.declared.reception.Reception.TheVariants as reception
 use Rattle.at_node.specs.Steps.{asking, released_report}
 use Rattle.at_node.specs.declared.event.Call.{Call}
+use Rattle.at_node.specs.declared.event.Call.TheVariants.{Answer}
 use Rattle.at_node.specs.declared.event.Report.{Report}
 use Rattle.at_node.specs.declared.event.Report.TheVariants as report
 use Rattle.at_node.specs.declared.event.Timer.TheVariants as timer
 use Rattle.at_world.specs.declared.event.Event.{Event}
 use Rattle.at_world.specs.declared.event.Event.TheVariants as event
-use Rattle.at_world.specs.Stories.{Matches, Finishes, Ends, asks_once, began_under, expired_at, handed_up_by, came_under}
+use Rattle.at_world.specs.Stories.{Matches, Finishes, Ends, asks_once, asks_for, began_under, expired_at, handed_up_by, came_under}
 
 -- a report that tells of no beginning, no request and no expiry
 abbrev pub is_quiet : {A : Type 0} → Report A → Bool
@@ -125,25 +126,26 @@ no_end A net n (event.Timer node time) r q = tt
 
 module _ (A : Type 0) (net : ℕ) (n : Network) where
   pub other_matches : (e : Event A) (r : Report A) → is_quiet r ≡ true → Matches net n Other e r
-  other_matches e r q = record { draws_it = λ key. sym (no_begin A net e r key q); expires_it = λ at key. sym (no_expiry A net e r at key q); hands_up = λ key. sym (no_hand_up A n.sent e r key q); takes_in = tt; begins_as = tt; finishes = no_end A net n e r q }
+  other_matches e r q = record { draws_it = λ key. sym (no_begin A net e r key q); expires_it = λ at key. sym (no_expiry A net e r at key q); hands_up = λ key. sym (no_hand_up A n.sent e r key q); takes_in = tt; begins_as = tt; answers_as = tt; finishes = no_end A net n e r q }
 
-  pub answers_match : (at : Address) (k : Key) (packets : List Packet) (e : Event A) (r : Report A) → is_quiet r ≡ true → Matches net n (Answers at k packets) e r
-  answers_match at k packets e r q = record { draws_it = λ key. sym (no_begin A net e r key q); expires_it = λ at key. sym (no_expiry A net e r at key q); hands_up = λ key. sym (no_hand_up A n.sent e r key q); takes_in = tt; begins_as = tt; finishes = no_end A net n e r q }
+  pub answers_match : (at : Address) (key : Key) (packets : List Packet) (node k socket tid count : ℕ) → key ≡ record { from = record { net = net; node = k; socket = socket }; tid = tid } →
+      Matches {A = A} net n (Answers at key packets) (event.Call node (Answer k socket tid packets)) (report.Answered count)
+  answers_match at key packets node k socket tid count its = record { draws_it = λ x. refl; expires_it = λ at x. refl; hands_up = λ x. refl; takes_in = tt; begins_as = tt; answers_as = (node, k, socket, tid, count, refl, refl, its); finishes = tt }
 
   pub hears_matches : (which : ℕ) (e : Event A) (r : Report A) → is_quiet r ≡ true → Matches net n (Hears which) e r
-  hears_matches which e r q = record { draws_it = λ key. sym (no_begin A net e r key q); expires_it = λ at key. sym (no_expiry A net e r at key q); hands_up = λ key. sym (no_hand_up A n.sent e r key q); takes_in = tt; begins_as = tt; finishes = no_end A net n e r q }
+  hears_matches which e r q = record { draws_it = λ key. sym (no_begin A net e r key q); expires_it = λ at key. sym (no_expiry A net e r at key q); hands_up = λ key. sym (no_hand_up A n.sent e r key q); takes_in = tt; begins_as = tt; answers_as = tt; finishes = no_end A net n e r q }
 
   -- a packet that ends a transaction
   pub ends_match : (which k tid : ℕ) (packets : List Packet) → Ends A net n which k tid packets → Matches {A = A} net n (Hears which) (event.Deliver which k) (report.Response tid packets)
-  ends_match which k tid packets ends = record { draws_it = λ key. refl; expires_it = λ at key. refl; hands_up = λ key. refl; takes_in = tt; begins_as = tt; finishes = ends }
+  ends_match which k tid packets ends = record { draws_it = λ key. refl; expires_it = λ at key. refl; hands_up = λ key. refl; takes_in = tt; begins_as = tt; answers_as = tt; finishes = ends }
 
   pub retries_match : (who : Address) (tid : ℕ) (e : Event A) (r : Report A) → is_quiet r ≡ true → Matches net n (Retries who tid) e r
-  retries_match who tid e r q = record { draws_it = λ key. sym (no_begin A net e r key q); expires_it = λ at key. sym (no_expiry A net e r at key q); hands_up = λ key. sym (no_hand_up A n.sent e r key q); takes_in = tt; begins_as = tt; finishes = no_end A net n e r q }
+  retries_match who tid e r q = record { draws_it = λ key. sym (no_begin A net e r key q); expires_it = λ at key. sym (no_expiry A net e r at key q); hands_up = λ key. sym (no_hand_up A n.sent e r key q); takes_in = tt; begins_as = tt; answers_as = tt; finishes = no_end A net n e r q }
 
   -- a transaction begins under the next number
-  pub begins_match : (k tid : ℕ) (to : Address) (user bytes : List ℕ) (wanted : ℕ) (xo : Bool) (retries : ℕ) (call : Call A) → asks_once (event.Call k call) ≡ xo → next_number (n.requesters (asking net k)) ≡ Some tid →
+  pub begins_match : (k tid : ℕ) (to : Address) (user bytes : List ℕ) (wanted : ℕ) (xo : Bool) (retries : ℕ) (call : Call A) → asks_once (event.Call k call) ≡ xo → asks_for (event.Call k call) ≡ wanted → next_number (n.requesters (asking net k)) ≡ Some tid →
       Matches net n (Begins (asking net k) to user bytes wanted xo retries) (event.Call k call) (report.Begun tid)
-  begins_match k tid to user bytes wanted xo retries call once drawn = record { draws_it = λ key. ap (λ o. is_drawn (asking net k) o key) drawn; expires_it = λ at key. refl; hands_up = λ key. refl; takes_in = tt; begins_as = once; finishes = tt }
+  begins_match k tid to user bytes wanted xo retries call once many drawn = record { draws_it = λ key. ap (λ o. is_drawn (asking net k) o key) drawn; expires_it = λ at key. refl; hands_up = λ key. refl; takes_in = tt; begins_as = (once, many); answers_as = tt; finishes = tt }
 
   module _ (which k : ℕ) (s : Sent) (was_sent : slice_get n.sent which ≡ Some s) where
     -- a packet that hands nothing up
@@ -154,12 +156,13 @@ module _ (A : Type 0) (net : ℕ) (n : Network) where
       hands_up = λ key. ap (brings n key) was_sent ∙ ap (is_new_of key) is ∙ old key ∙ sym (no_hand_up A n.sent (event.Deliver which k) r key q);
       takes_in = (k, refl);
       begins_as = tt;
+      answers_as = tt;
       finishes = no_end A net n (event.Deliver which k) r q;
     }
 
     -- a request that is handed up
     pub takes_new : (key : Key) (user bytes : List ℕ) → (taken (n.responders s.to) s.from s.packet).reception ≡ reception.New key → Matches {A = A} net n (Takes which) (event.Deliver which k) (report.Asked key user bytes)
-    takes_new new user bytes is = record { draws_it = λ key. refl; expires_it = λ at key. refl; hands_up = λ key. ap (brings n key) was_sent ∙ ap (is_new_of key) is; takes_in = (k, refl); begins_as = tt; finishes = tt }
+    takes_new new user bytes is = record { draws_it = λ key. refl; expires_it = λ at key. refl; hands_up = λ key. ap (brings n key) was_sent ∙ ap (is_new_of key) is; takes_in = (k, refl); begins_as = tt; answers_as = tt; finishes = tt }
 
     -- a request that is answered at once
     pub serves_new : (key : Key) (packets : List Packet) (count : ℕ) → (taken (n.responders s.to) s.from s.packet).reception ≡ reception.New key → key ≡ record { from = s.from; tid = number_of s.packet } →
@@ -170,6 +173,7 @@ module _ (A : Type 0) (net : ℕ) (n : Network) where
       hands_up = λ key. ap (brings n key) was_sent ∙ ap (is_new_of key) is ∙ ap (λ x. same_key x key) its ∙ ap (λ o. came_under o key) (sym was_sent);
       takes_in = (k, refl);
       begins_as = tt;
+      answers_as = (k, count, refl, refl);
       finishes = (s, was_sent);
     }
 
@@ -182,6 +186,7 @@ module _ (A : Type 0) (net : ℕ) (n : Network) where
     hands_up = λ x. refl;
     takes_in = tt;
     begins_as = tt;
+    answers_as = tt;
     finishes = tt;
   }
 

@@ -6,12 +6,14 @@ use Rattle.at_ddp.specs.declared.address.Address.{Address}
 use Rattle.at_atp.specs.Frames.{Content, Request, Spells, spelled}
 use Rattle.at_atp.specs.Network.{number_of}
 use Rattle.at_atp.specs.Once.{same_key}
+use Rattle.at_atp.specs.Packets.{Packet}
 use Rattle.at_atp.specs.declared.reception.Key.{Key}
 use Rattle.at_node.specs.Steps.{asking, atp_kind}
+use Rattle.at_node.specs.declared.event.Call.TheVariants.{Answer}
 use Rattle.at_node.specs.declared.event.Report.{Report}
 use Rattle.at_node.specs.declared.event.Report.TheVariants as report
 use Rattle.at_world.specs.Sents.{SentDatagram}
-use Rattle.at_world.specs.Stories.{asks_once, began_under, expired_at}
+use Rattle.at_world.specs.Stories.{asks_once, asks_for, began_under, expired_at}
 use Rattle.at_world.specs.declared.event.Event.{Event}
 use Rattle.at_world.specs.declared.event.Event.TheVariants as event
 use Rattle.at_world.specs.declared.setup.Setup.{Setup}
@@ -74,6 +76,21 @@ abbrev pub SomeHandsUp : {A : Type 0} → List SentDatagram → Key → List (Pl
 SomeHandsUp sent key [] = ⊥
 SomeHandsUp sent key (x ∷ xs) = HandsUp sent key x ⊎ SomeHandsUp sent key xs
 
+-- for how many packets did its transaction ask?
+abbrev pub wanted_by : {A : Type 0} → ℕ → List (Played A) → Key → ℕ
+wanted_by net [] key = 0
+wanted_by net (x ∷ xs) key = if began_under net x.event x.report key then asks_for x.event else wanted_by net xs key
+
+-- this answer was given to it: by the user of a node, or by the router to what came
+abbrev pub GivesBy : {A : Type 0} → ℕ → List SentDatagram → Event A → Report A → Key → List Packet → Type 0
+GivesBy net sent (event.Call node (Answer k socket tid given)) (report.Answered count) key answer = (same_key (record { from = record { net = net; node = k; socket = socket }; tid = tid }) key ≡ true) × (given ≡ answer)
+GivesBy net sent (event.Deliver which node) (report.Served count) key answer = CameFrom sent which key
+GivesBy net sent e r key answer = ⊥
+
+abbrev pub SomeGives : {A : Type 0} → ℕ → List SentDatagram → Key → List Packet → List (Played A) → Type 0
+SomeGives net sent key answer [] = ⊥
+SomeGives net sent key answer (x ∷ xs) = GivesBy net sent x.event x.report key answer ⊎ SomeGives net sent key answer xs
+
 -- ---- plays in which no request outlives its record
 
 -- did its record at a responder expire since its transaction began?
@@ -93,14 +110,16 @@ AllLive net sent (x ∷ xs) = LivesBy net sent x.event xs × AllLive net sent xs
 
 -- ---- the promise
 
--- a response that is told was asked for by a request that was handed up
+-- a response that is told was asked for by a request that was handed up, and is the answer that was given to it, or as many of
+-- its first packets as were asked for
 abbrev pub EndsBy : {A : Type 0} → ℕ → List SentDatagram → Event A → Report A → List (Played A) → Type 0
 EndsBy net sent (event.Deliver which node) (report.Response tid packets) past =
     is_once net past (record { from = asking net node; tid = tid }) ≡ true → SomeHandsUp sent (record { from = asking net node; tid = tid }) (since net past (record { from = asking net node; tid = tid }))
+    × ((answer : List Packet) × SomeGives net sent (record { from = asking net node; tid = tid }) answer (since net past (record { from = asking net node; tid = tid })) × (packets ≡ take (wanted_by net past (record { from = asking net node; tid = tid })) answer))
 EndsBy net sent e r past = Unit {0}
 
 -- At each moment each exactly-once request was handed up at most once since its transaction began, and where the
--- transaction ended with a response, once.
+-- transaction ended with a response, once, and the response is of the answer that was given to it.
 abbrev pub RunsOnce : {A : Type 0} → ℕ → List SentDatagram → List (Played A) → Type 0
 RunsOnce net sent [] = Unit {0}
 RunsOnce net sent (x ∷ xs) = ((key : Key) → is_once net (x ∷ xs) key ≡ true → AtMostOneHandsUp sent key (since net (x ∷ xs) key)) × EndsBy net sent x.event x.report xs × RunsOnce net sent xs

@@ -8,14 +8,14 @@ use Rattle.at_ddp.specs.declared.address.Address.{Address}
 use Rattle.at_atp.specs.Frames.{spelled}
 use Rattle.at_atp.specs.HandUps.{draws, is_handed_up, expires_there}
 use Rattle.at_atp.specs.Lawfully.{IsInRange}
-use Rattle.at_atp.specs.Network.{Network, Sent, Happening, Begins, Takes, Serves, AllTimely, is_fresh, number_of, after, done}
+use Rattle.at_atp.specs.Network.{Network, Sent, Happening, Begins, Answers, Takes, Serves, AllTimely, is_fresh, number_of, after, done}
 use Rattle.at_atp.specs.Once.{same_key}
 use Rattle.at_atp.specs.Packets.{Packet}
 use Rattle.at_atp.specs.Requests.{heard}
 use Rattle.at_atp.specs.declared.reception.Key.{Key}
 use Rattle.at_atp.specs.declared.step.Step.TheVariants as step
 use Rattle.at_node.specs.Steps.{asking, atp_kind}
-use Rattle.at_node.specs.declared.event.Call.TheVariants.{Ask}
+use Rattle.at_node.specs.declared.event.Call.TheVariants.{Zones, Ask, Answer}
 use Rattle.at_node.specs.declared.event.Report.{Report}
 use Rattle.at_node.specs.declared.event.Report.TheVariants as report
 use Rattle.at_node.specs.declared.event.Timer.TheVariants as timer
@@ -60,9 +60,22 @@ abbrev pub asks_once : {A : Type 0} → Event A → Bool
 asks_once (event.Call node (Ask k socket user bytes wanted xo retries)) = xo
 asks_once e = false
 
+-- for how many packets does it ask? For one where it reads the zone list.
+abbrev pub asks_for : {A : Type 0} → Event A → ℕ
+asks_for (event.Call node (Ask k socket user bytes wanted xo retries)) = wanted
+asks_for (event.Call node Zones) = 1
+asks_for e = 0
+
 abbrev pub BeginsAs : {A : Type 0} → Happening → Event A → Type 0
-BeginsAs (Begins who to user bytes wanted xo retries) e = asks_once e ≡ xo
+BeginsAs (Begins who to user bytes wanted xo retries) e = (asks_once e ≡ xo) × (asks_for e ≡ wanted)
 BeginsAs h e = Unit {0}
+
+-- an answer is given by a call, or by the router to what came
+abbrev pub AnswersAs : {A : Type 0} → ℕ → Happening → Event A → Report A → Type 0
+AnswersAs net (Answers at key packets) e r =
+    (node : ℕ) × (k : ℕ) × (socket : ℕ) × (tid : ℕ) × (count : ℕ) × (e ≡ event.Call node (Answer k socket tid packets)) × (r ≡ report.Answered count) × (key ≡ record { from = record { net = net; node = k; socket = socket }; tid = tid })
+AnswersAs net (Serves which packets) e r = (node : ℕ) × (count : ℕ) × (e ≡ event.Deliver which node) × (r ≡ report.Served count)
+AnswersAs net h e r = Unit {0}
 
 -- a packet in time came that ends the transaction of a number with these packets
 pub record Ends (A : Type 0) (net : ℕ) (n : Network) (which node tid : ℕ) (packets : List Packet) : Type 0 where
@@ -86,6 +99,7 @@ pub record Matches {A : Type 0} (net : ℕ) (n : Network) (h : Happening) (e : E
   pub hands_up : (key : Key) → is_handed_up n h key ≡ handed_up_by n.sent e r key
   pub takes_in : TakesIn h e
   pub begins_as : BeginsAs h e
+  pub answers_as : AnswersAs net h e r
   pub finishes : Finishes net n e r
 
 -- what is sent joins what was sent
