@@ -99,11 +99,11 @@ def count(printed):
 
 
 def plain_sum(paths):
-    """Seconds of the processor that a sum over all bytes of these files takes, and how many bytes they have."""
+    """Seconds of the processor that a sum over all bytes of these files takes."""
     bytes_ = b"".join(pathlib.Path(path).read_bytes() for path in paths)
     begun = time.process_time()
     sum(bytes_)
-    return time.process_time() - begun, len(bytes_)
+    return time.process_time() - begun
 
 
 def measure(program, folder, name, lines, size):
@@ -111,7 +111,7 @@ def measure(program, folder, name, lines, size):
     write_schedule(schedule, lines(size))
     seconds, peak = play(program, schedule, printed)
     events, datagrams, sent = count(printed)
-    summed, length = plain_sum((schedule, printed))
+    summed = plain_sum((schedule, printed))
     bound = sent + 48 * datagrams + 20_000_000
     print(
         f"| {name} | {events:,} | {events / seconds:,.0f} | {seconds / summed:.2f} | {peak / 1e6:.1f} | {bound / 1e6:.1f} |"

@@ -2,7 +2,8 @@
 use crate::shared::compare;
 use at_play::Status;
 
-// An exactly-once request for two packets is answered, asked again and released. Its record stays until its timer fires.
+// An exactly-once request for two packets is answered, asked again and released. Its record stays until its timer fires: the
+// request that is delivered after that, before its number is drawn again, is past what is promised, and is handed up anew.
 const ASKED_ONCE: &str = "net 10
 node 5
 node 7

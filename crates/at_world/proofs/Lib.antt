@@ -6,6 +6,7 @@ mod DeliveryLemmas
 mod DrawLemmas
 mod Following
 mod Moves
+mod NewestLemmas
 mod Onces
 mod Places
 mod Times
@@ -20,4 +21,5 @@ mod StoryLemmas
 mod Tied
 mod Timers
 mod TiedAtOpening
+mod ToldLemmas
 mod WorldLemmas

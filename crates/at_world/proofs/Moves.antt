@@ -207,7 +207,7 @@ module _ (A : Type 0) (w : WorldState) (m : Machine) (k : ℕ) (n : NodeState) (
         (done A (after A t.history) h).asked ≡ answered (after A t.history).asked from tid packets → (PagesOf m asked.transaction → PagesOf m (record asked.transaction { answers = (asked.transaction).answers ++ packets ∷ [] })) →
         Next A w m (after A t.history) h k (record n { served = served; service = service }) r (sent_by (socket n.net n.number) atp_kind (spelled_all sent)) (answered m.asked from tid packets) m.readings
     gave_next h r socket from tid packets responder asked served service sent timely range event requesters responders is drawn is_asked pages = record {
-        timely = timely;
+      timely = timely;
       in_range = range;
       same_event = event;
       requesters = λ who. requesters who ∙ requesters_stay who;

@@ -48,7 +48,7 @@ module _ (A : Type 0) (w : WorldState) (m : Machine) (e : Event A) (k : ℕ) (n 
   moved_on : (t : Tied A w m) (o : Outcome A) (m' : Machine) (now : Tied A (recorded w k o.report o.node (map posted o.out)) m') → Its o r after out → Step m e o.report m' → Grown A w (recorded w k o.report o.node (map posted o.out)) m m' t now e o.report → Follow A w m t e r w'
   moved_on t o m' now l step grown =
       let both = subst (λ x. (x' : Tied A x m') × Grown A w x m m' t x' e r) (sym (is ∙ (λ i. recorded w k (l.0 i) (l.1 i) (l.2 i))))
-          (now, (grown.0, grown.1, subst (λ x. Matches m.net (network.after A t.history) grown.0 e x) (sym l.0) grown.2, grown.3, grown.4)) in
+      (now, (grown.0, grown.1, subst (λ x. Matches m.net (network.after A t.history) grown.0 e x) (sym l.0) grown.2, grown.3, grown.4)) in
       (m', subst (λ x. Step m e x m') (sym l.0) step, both.0, both.1)
 
   of_good : (t : Tied A w m) (o : Outcome A) → Good A w m t k e o → Its o r after out → Follow A w m t e r w'

@@ -4,7 +4,6 @@ use Rattle.std.specs.Prelude.{find, slice_get, is_none, ◌&&◌}
 use Rattle.std.proofs.lemmas.Bool.{false≢true}
 use Rattle.at_ddp.specs.Address.{same_address}
 use Rattle.at_ddp.specs.declared.address.Address.{Address}
-use Rattle.at_atp.specs.Frames.{Release}
 use Rattle.at_atp.specs.HandUps.{brings, is_drawn}
 use Rattle.at_atp.specs.Network.{Network, Sent, Begins, Answers, Hears, Takes, Serves, Expires, Retries, Other, number_of}
 use Rattle.at_atp.specs.Once.{is_new_of, same_key}

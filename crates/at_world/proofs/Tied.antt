@@ -31,7 +31,7 @@ use Rattle.at_node.specs.declared.event.Report.{Report}
 use Rattle.at_node.specs.declared.service.Reply.{Reply}
 use Rattle.at_world.specs.Draws.{noted}
 use Rattle.at_world.specs.Machine.{Machine, Reading, since_of, next, page_answer}
-use Rattle.at_world.specs.Sents.{SentDatagram, stamp}
+use Rattle.at_world.specs.Sents.{stamp}
 use Rattle.at_world.specs.Stories.{posted_packet}
 use Rattle.at_world.specs.Worlds.{WorldState, is_numbered, node_at, recorded}
 use Rattle.at_world.proofs.Places.{at_after, requester_at, requester_after, records_at, records_after}
@@ -185,21 +185,24 @@ module _ (A : Type 0) (w : WorldState) (m : Machine) (happening : Happening) (k 
   node_kept j n h = record { net = h.net; number = h.number; small = h.small; router = h.router; table = h.table }
 
   pub tied_next : (t : Tied A w m) → node_at w k ≡ Some old → (s : Next A w m (after A t.history) happening k x r out asked readings) → (now : Tied A (recorded w k r x (map posted out)) (moved m asked readings)) × (now.history ≡ happening ∷ t.history)
-  tied_next t stands s = (record {
-    fixed = let f = t.fixed in record { net = f.net; router = f.router; table = f.table; small = f.small };
-    history = happening ∷ t.history;
-    timely = (s.timely, t.timely);
-    in_range = (s.in_range, t.in_range);
-    events = ap (λ e. e + 1) (t.events ∙ sym s.same_event);
-    requesters = λ who. s.requesters who ∙ put_same (after A t.history).requesters (requester_at m.net w.nodes) (asking m.net k) x.requester who (t.requesters who) ∙ sym (requester_after m.net w.nodes k old x (s.mine).number stands who);
-    responders = λ at. s.responders at
-        ∙ put_same (put (after A t.history).responders (serving m.net k) x.service) (put (records_at m.net w.nodes) (serving m.net k) x.service) (zones_at m.net k) x.served at (put_same (after A t.history).responders (records_at m.net w.nodes) (serving m.net k) x.service at (t.responders at))
-        ∙ sym (records_after m.net w.nodes k old x (s.mine).number stands at);
-    sent = (λ i. t.sent i ++ s.posts i) ∙ sym (map_both posted_packet (after A t.history).sent s.more) ∙ ap (map posted_packet) (sym s.sent);
-    drawn = s.drawn;
-    asked = s.is_asked;
-    nodes = λ j n h. found_after k j x old n w.nodes (TiedNode (moved m asked readings) j) (s.mine).number stands h (λ e. subst (λ i. TiedNode (moved m asked readings) i x) e (node_kept k x s.mine)) (λ e g. node_kept j n (t.nodes j n g));
-    readings = λ j n h. found_after k j x old n w.nodes (λ y. IsReading (moved m asked readings) j y.requester y.reading) (s.mine).number stands h (λ e. subst (λ i. IsReading (moved m asked readings) i x.requester x.reading) e s.reading) (λ e g. reading_kept j n n.reading t s e (t.readings j n g));
-    pages = s.pages;
-    nets = s.nets;
-  }, refl)
+  tied_next t stands s = (
+    record {
+      fixed = let f = t.fixed in record { net = f.net; router = f.router; table = f.table; small = f.small };
+      history = happening ∷ t.history;
+      timely = (s.timely, t.timely);
+      in_range = (s.in_range, t.in_range);
+      events = ap (λ e. e + 1) (t.events ∙ sym s.same_event);
+      requesters = λ who. s.requesters who ∙ put_same (after A t.history).requesters (requester_at m.net w.nodes) (asking m.net k) x.requester who (t.requesters who) ∙ sym (requester_after m.net w.nodes k old x (s.mine).number stands who);
+      responders = λ at. s.responders at
+          ∙ put_same (put (after A t.history).responders (serving m.net k) x.service) (put (records_at m.net w.nodes) (serving m.net k) x.service) (zones_at m.net k) x.served at (put_same (after A t.history).responders (records_at m.net w.nodes) (serving m.net k) x.service at (t.responders at))
+          ∙ sym (records_after m.net w.nodes k old x (s.mine).number stands at);
+      sent = (λ i. t.sent i ++ s.posts i) ∙ sym (map_both posted_packet (after A t.history).sent s.more) ∙ ap (map posted_packet) (sym s.sent);
+      drawn = s.drawn;
+      asked = s.is_asked;
+      nodes = λ j n h. found_after k j x old n w.nodes (TiedNode (moved m asked readings) j) (s.mine).number stands h (λ e. subst (λ i. TiedNode (moved m asked readings) i x) e (node_kept k x s.mine)) (λ e g. node_kept j n (t.nodes j n g));
+      readings = λ j n h. found_after k j x old n w.nodes (λ y. IsReading (moved m asked readings) j y.requester y.reading) (s.mine).number stands h (λ e. subst (λ i. IsReading (moved m asked readings) i x.requester x.reading) e s.reading) (λ e g. reading_kept j n n.reading t s e (t.readings j n g));
+      pages = s.pages;
+      nets = s.nets;
+    },
+    refl,
+  )

@@ -182,25 +182,27 @@ module _ (A : Type 0) (s : Setup A) where
       let g = and_parts (nat_le (length ns) 16) (list_all is_lawful_node ns) f.0 in
       let h = and_parts (list_all is_name s.zones && nat_le (spelled_len s.zones) 578) (router || (length s.zones == 0)) a.1 in
       let i = and_parts (list_all is_name s.zones) (nat_le (spelled_len s.zones) 578) h.0 in
-      let small = leb-true (spelled_len s.zones) 578 i.1 in
-      (record {
-        fixed = record {
-          net = ltb-true s.net 65536 c.1;
-          router = λ r is. router_fits ns r g.1 is;
-          table = record { each = All-from_recursion IsName s.zones (names_are s.zones i.0); count = omega (arith, few_names s.zones, small) };
-          small = omega (arith, spelled_as_counted s.zones, small);
-        };
-        history = [];
-        timely = tt;
-        in_range = tt;
-        events = refl;
-        requesters = requester_opens;
-        responders = responder_opens;
-        sent = refl;
-        drawn = tt;
-        asked = refl;
-        nodes = λ k n is. tied_nodes ns g.1 k n (λ t has. router_is ns one k n is t has) is;
-        readings = λ k n is. subst (IsReading (opening_machine s) k n.requester) (sym (nothing_read ns k n is)) tt;
-        pages = tt;
-        nets = tt;
-      }, refl)
+      let small = leb-true (spelled_len s.zones) 578 i.1 in (
+        record {
+          fixed = record {
+            net = ltb-true s.net 65536 c.1;
+            router = λ r is. router_fits ns r g.1 is;
+            table = record { each = All-from_recursion IsName s.zones (names_are s.zones i.0); count = omega (arith, few_names s.zones, small) };
+            small = omega (arith, spelled_as_counted s.zones, small);
+          };
+          history = [];
+          timely = tt;
+          in_range = tt;
+          events = refl;
+          requesters = requester_opens;
+          responders = responder_opens;
+          sent = refl;
+          drawn = tt;
+          asked = refl;
+          nodes = λ k n is. tied_nodes ns g.1 k n (λ t has. router_is ns one k n is t has) is;
+          readings = λ k n is. subst (IsReading (opening_machine s) k n.requester) (sym (nothing_read ns k n is)) tt;
+          pages = tt;
+          nets = tt;
+        },
+        refl,
+      )

@@ -1,7 +1,8 @@
 use Rattle.std.proofs.Common.{[]}
 use Rattle.at_atp.specs.Network.{after}
 use Rattle.at_world.specs.ExactlyOnce.{onto}
-use Rattle.at_world.proofs.Onces.{OnceLaws, all_within, runs_once, told_of}
+use Rattle.at_world.proofs.Onces.{all_within, runs_once}
+use Rattle.at_world.proofs.ToldLemmas.{OnceLaws, told_of}
 use Rattle.at_world.proofs.laws.exactly_once_requests_run_once.Goals as goal
 
 pub returns : goal.returns

@@ -66,7 +66,7 @@ returns-clause-history g c s events reports w lawful =
       whole = c.a_small_table_is_one_page.ensures;
     } in
     λ follows.
-        let opened = tied_at_opening A s lawful in
-        let ran = runs A laws (opening_world s) (opening_machine s) events reports w opened.0 follows in
-        let now = ran.2 in
-        (now.history, record { timely = now.timely; in_range = now.in_range; tells = subst (λ before. Tells s.net before events reports now.history) opened.1 ran.3; is_sent = now.sent })
+    let opened = tied_at_opening A s lawful in
+    let ran = runs A laws (opening_world s) (opening_machine s) events reports w opened.0 follows in
+    let now = ran.2 in
+    (now.history, record { timely = now.timely; in_range = now.in_range; tells = subst (λ before. Tells s.net before events reports now.history) opened.1 ran.3; is_sent = now.sent })

@@ -1,5 +1,4 @@
-use Rattle.std.proofs.Common.{length, arith, ap}
-use Rattle.at_world.specs.Sents.{stamped}
+use Rattle.std.proofs.Common.{arith, ap}
 use Rattle.at_world.specs.Worlds.{WorldState}
 use Rattle.at_world.proofs.SentLemmas.{length_in}
 use Rattle.at_world.proofs.world.World.sent_count.Goals as goal

@@ -1,0 +1,231 @@
+-- A play and its history side by side, and how often a request is handed up in each.
+use Rattle.std.proofs.Common.{◌≡◌, inl, inr, ℕ, zero, suc, ◌+◌, ◌<◌, ◌≤◌, Bool, true, false, cond, List, [], ◌∷◌, ◌++◌, length, Some, refl, sym, ap, subst, ◌∙◌, arith, lit<}
+use Rattle.std.specs.Prelude.{slice_get, ◌||◌, ◌==◌, ◌&&◌}
+use Rattle.std.specs.List.{AllByRecursion}
+use Rattle.std.proofs.lemmas.Bool.{false≢true, eq-eqb, eqb-true, and_parts}
+use Rattle.std.proofs.lemmas.List.{append-nil}
+use Rattle.at_ddp.specs.Address.{same_address}
+use Rattle.at_ddp.specs.Datagram.{Content as Datagram, IsAddress, AreBytes, BeginsWith, canonical, written}
+use Rattle.at_ddp.specs.declared.address.Address.{Address}
+use Rattle.at_ddp.proofs.Octets.{same_address-true, same_address_itself}
+use Rattle.at_atp.specs.Frames.{Content, Request, IsLawful, Spells, spelled}
+use Rattle.at_atp.specs.HandUps as HandUps
+use Rattle.at_atp.specs.HandUps.{brings, draws, is_drawn, is_handed_up, expires_there, hand_ups_since, has_expired as record_expired, AllLived, AnswersOnce}
+use Rattle.at_atp.specs.Lawfully.{IsInRange, IsLawfullySent}
+use Rattle.at_atp.specs.Network.{Network, Sent, Happening, Begins, Answers, Hears, Takes, Serves, Expires, Retries, Other, AllTimely, GivesAnswers, number_of, after}
+use Rattle.at_atp.specs.Once.{same_key}
+use Rattle.at_atp.specs.declared.reception.Key.{Key}
+use Rattle.at_node.specs.Steps.{atp_kind}
+use Rattle.at_node.specs.declared.event.Report.{Report}
+use Rattle.at_node.specs.declared.event.Report.TheVariants as report
+use Rattle.at_world.specs.ExactlyOnce.{Played, onto, since, CameFrom, HandsUpBy, HandsUp, NoneHandsUp, AtMostOneHandsUp, SomeHandsUp, has_expired, LivesBy, AllLive}
+use Rattle.at_world.specs.Sents.{SentDatagram}
+use Rattle.at_world.specs.Stories.{began_under, handed_up_by, came_under, Matches, Finishes, Grows, Tells, posted_packet}
+use Rattle.at_world.specs.declared.event.Event.{Event}
+use Rattle.at_world.specs.declared.event.Event.TheVariants as event
+
+-- what the layers below promise
+pub record OnceLaws (A : Type 0) : Type 0 where
+  pub answers : (history : List Happening) → AllTimely A history → GivesAnswers A (after A history)
+  pub once : (history : List Happening) → AllTimely A history → AllLived A history → AnswersOnce A history
+  pub lawful_sent : (history : List Happening) → AllByRecursion IsInRange history → AllByRecursion IsLawfullySent (after A history).sent
+  pub reads : (to from : Address) (kind : ℕ) (bytes rest : List ℕ) → IsAddress to → IsAddress from → kind < 256 → AreBytes bytes → length bytes ≤ 586
+      → BeginsWith (canonical to from kind bytes ++ rest) (written to from kind bytes) rest
+  pub alone : (input : List ℕ) (d e : Datagram) (x y : List ℕ) → BeginsWith input d x → BeginsWith input e y → (d ≡ e) × (x ≡ y)
+  pub packet_reads : (f : Content) → IsLawful f → Spells (spelled f) f
+  pub packet_alone : (input : List ℕ) (f g : Content) → Spells input f → Spells input g → f ≡ g
+  pub packet_fits : (f : Content) → IsLawful f → AreBytes (spelled f) × (length (spelled f) ≤ 586)
+
+-- ---- the steps and the happenings, side by side
+
+-- what a network sent is what the play sent
+abbrev pub Within : List SentDatagram → Network → Type 0
+Within sent n = (i : ℕ) (s : Sent) → slice_get n.sent i ≡ Some s → slice_get sent i ≡ Some (posted_packet s)
+
+abbrev pub Told : (A : Type 0) → ℕ → List (Played A) → List Happening → Type 0
+Told A net [] [] = Unit {0}
+Told A net (x ∷ xs) (h ∷ hs) = Matches net (after A hs) h x.event x.report × Grows A (after A hs) h × Told A net xs hs
+Told A net [] (h ∷ hs) = ⊥
+Told A net (x ∷ xs) [] = ⊥
+
+pub told_of : (A : Type 0) (net : ℕ) (past : List (Played A)) (before : List Happening) (es : List (Event A)) (rs : List (Report A)) (history : List Happening) → Told A net past before → Tells net before es rs history → Told A net (onto past es rs) history
+told_of A net past before [] [] history told h = subst (Told A net past) (sym h) told
+told_of A net past before (e ∷ es) (r ∷ rs) history told h = told_of A net (record { event = e; report = r } ∷ past) (h.0 ∷ before) es rs history (h.1, h.2, told) h.3
+told_of A net past before [] (r ∷ rs) history told h = absurd h
+told_of A net past before (e ∷ es) [] history told h = absurd h
+
+pub get_more : {X : Type 0} (xs ys : List X) (i : ℕ) (x : X) → slice_get xs i ≡ Some x → slice_get (xs ++ ys) i ≡ Some x
+get_more [] ys i x h = absurd (cc)
+get_more (y ∷ xs) ys zero x h = h
+get_more (y ∷ xs) ys (suc i) x h = get_more xs ys i x h
+
+pub within_before : (A : Type 0) (sent : List SentDatagram) (h : Happening) (hs : List Happening) → Grows A (after A hs) h → Within sent (after A (h ∷ hs)) → Within sent (after A hs)
+within_before A sent h hs g within i s is = within i s (ap (λ l. slice_get l i) g.1 ∙ get_more (after A hs).sent g.0 i s is)
+
+-- ---- what is handed up
+
+module _ (A : Type 0) (laws : OnceLaws A) (net : ℕ) (sent : List SentDatagram) where
+  pub all_in : (P : Sent → Type 0) (xs : List Sent) (i : ℕ) (s : Sent) → AllByRecursion P xs → slice_get xs i ≡ Some s → P s
+  all_in P [] i s all is = absurd (cc)
+  all_in P (x ∷ xs) zero s all is = let same : x ≡ s = cc in subst P same all.0
+  all_in P (x ∷ xs) (suc i) s all is = all_in P xs i s all.1 is
+
+  pub begins : (s : Sent) → IsLawfullySent s → BeginsWith (posted_packet s).bytes (written s.to s.from atp_kind (spelled s.packet)) []
+  begins s ok =
+      let fits = laws.packet_fits s.packet ok.lawful in
+      subst (λ bytes. BeginsWith bytes (written s.to s.from atp_kind (spelled s.packet)) []) (append-nil (canonical s.to s.from atp_kind (spelled s.packet)))
+      (laws.reads s.to s.from atp_kind (spelled s.packet) [] ok.to_fits ok.from_fits (lit< tt) fits.0 fits.1)
+
+  pub key_parts : (s : Sent) (key : Key) → same_key (record { from = s.from; tid = number_of s.packet }) key ≡ true → (s.from ≡ key.from) × (number_of s.packet ≡ key.tid)
+  key_parts s key h = let both = and_parts (same_address s.from key.from) (number_of s.packet == key.tid) h in (same_address-true s.from key.from both.0, eqb-true (number_of s.packet) key.tid both.1)
+
+  pub came_there : (which : ℕ) (key : Key) (s : Sent) → slice_get sent which ≡ Some (posted_packet s) → IsLawfullySent s → same_key (record { from = s.from; tid = number_of s.packet }) key ≡ true → CameFrom sent which key
+  came_there which key s is ok same =
+      let parts = key_parts s key same in
+      record { datagram = posted_packet s; was_sent = is; header = written s.to s.from atp_kind (spelled s.packet); rest = []; begins = begins s ok; packet = s.packet; spells = laws.packet_reads s.packet ok.lawful; sender = parts.0; numbered = parts.1 }
+
+  pub came_so : (which : ℕ) (key : Key) (s : Sent) → slice_get sent which ≡ Some (posted_packet s) → IsLawfullySent s → CameFrom sent which key → same_key (record { from = s.from; tid = number_of s.packet }) key ≡ true
+  came_so which key s is ok c =
+      let one : posted_packet s ≡ c.datagram = some_one (posted_packet s) c.datagram (sym is ∙ c.was_sent) in
+      let header : written s.to s.from atp_kind (spelled s.packet) ≡ c.header = (laws.alone (posted_packet s).bytes (written s.to s.from atp_kind (spelled s.packet)) c.header [] c.rest (begins s ok) (subst (λ (d : SentDatagram). BeginsWith d.bytes c.header c.rest) (sym one) c.begins)).0 in
+      let packet : s.packet ≡ c.packet = laws.packet_alone (spelled s.packet) s.packet c.packet (laws.packet_reads s.packet ok.lawful) (subst (λ (d : Datagram). Spells d.data_ c.packet) (sym header) c.spells) in
+      let from : s.from ≡ key.from = ap (λ (d : Datagram). d.from) header ∙ c.sender in
+      let tid : number_of s.packet ≡ key.tid = ap number_of packet ∙ c.numbered in
+      (λ i. same_address (from i) key.from && tid i == key.tid) ∙ (λ i. same_address_itself key.from i && eq-eqb key.tid key.tid refl i)
+    where
+      some_one : (a b : SentDatagram) → Some a ≡ Some b → a ≡ b
+      some_one a b h = cc
+
+  -- what the network hands up is what the reports say was handed up
+  pub hands_sound : (e : Event A) (r : Report A) (n : Network) (key : Key) → Within sent n → AllByRecursion IsLawfullySent n.sent → Finishes net n e r → HandsUpBy sent e r key → handed_up_by n.sent e r key ≡ true
+  hands_sound (event.Call node call) r n key within ok f h = absurd h
+  hands_sound (event.Deliver which node) (report.Begun tid) n key within ok f h = absurd h
+  hands_sound (event.Deliver which node) (report.Answered count) n key within ok f h = absurd h
+  hands_sound (event.Deliver which node) report.Done n key within ok f h = absurd h
+  hands_sound (event.Deliver which node) (report.Served count) n key within ok f h = let it = f.0 in ap (λ o. came_under o key) f.1 ∙ came_so which key it (within which it f.1) (all_in IsLawfullySent n.sent which it ok f.1) h
+  hands_sound (event.Deliver which node) (report.Asked k user bytes) n key within ok f h = h
+  hands_sound (event.Deliver which node) (report.Zones names) n key within ok f h = absurd h
+  hands_sound (event.Deliver which node) (report.ZoneFault number) n key within ok f h = absurd h
+  hands_sound (event.Deliver which node) report.ZonesFailed n key within ok f h = absurd h
+  hands_sound (event.Deliver which node) report.Kept n key within ok f h = absurd h
+  hands_sound (event.Deliver which node) (report.Response tid packets) n key within ok f h = absurd h
+  hands_sound (event.Deliver which node) (report.Failed tid) n key within ok f h = absurd h
+  hands_sound (event.Deliver which node) report.Again n key within ok f h = absurd h
+  hands_sound (event.Deliver which node) report.Released n key within ok f h = absurd h
+  hands_sound (event.Deliver which node) report.Ignored n key within ok f h = absurd h
+  hands_sound (event.Deliver which node) (report.Refused number) n key within ok f h = absurd h
+  hands_sound (event.Deliver which node) report.NoMemory n key within ok f h = absurd h
+  hands_sound (event.Timer node time) r n key within ok f h = absurd h
+
+  pub hands_complete : (e : Event A) (r : Report A) (n : Network) (key : Key) → Within sent n → AllByRecursion IsLawfullySent n.sent → Finishes net n e r → handed_up_by n.sent e r key ≡ true → HandsUpBy sent e r key
+  hands_complete (event.Call node call) r n key within ok f h = absurd (false≢true h)
+  hands_complete (event.Deliver which node) (report.Begun tid) n key within ok f h = absurd (false≢true h)
+  hands_complete (event.Deliver which node) (report.Answered count) n key within ok f h = absurd (false≢true h)
+  hands_complete (event.Deliver which node) report.Done n key within ok f h = absurd (false≢true h)
+  hands_complete (event.Deliver which node) (report.Served count) n key within ok f h = let it = f.0 in came_there which key it (within which it f.1) (all_in IsLawfullySent n.sent which it ok f.1) (sym (ap (λ o. came_under o key) f.1) ∙ h)
+  hands_complete (event.Deliver which node) (report.Asked k user bytes) n key within ok f h = h
+  hands_complete (event.Deliver which node) (report.Zones names) n key within ok f h = absurd (false≢true h)
+  hands_complete (event.Deliver which node) (report.ZoneFault number) n key within ok f h = absurd (false≢true h)
+  hands_complete (event.Deliver which node) report.ZonesFailed n key within ok f h = absurd (false≢true h)
+  hands_complete (event.Deliver which node) report.Kept n key within ok f h = absurd (false≢true h)
+  hands_complete (event.Deliver which node) (report.Response tid packets) n key within ok f h = absurd (false≢true h)
+  hands_complete (event.Deliver which node) (report.Failed tid) n key within ok f h = absurd (false≢true h)
+  hands_complete (event.Deliver which node) report.Again n key within ok f h = absurd (false≢true h)
+  hands_complete (event.Deliver which node) report.Released n key within ok f h = absurd (false≢true h)
+  hands_complete (event.Deliver which node) report.Ignored n key within ok f h = absurd (false≢true h)
+  hands_complete (event.Deliver which node) (report.Refused number) n key within ok f h = absurd (false≢true h)
+  hands_complete (event.Deliver which node) report.NoMemory n key within ok f h = absurd (false≢true h)
+  hands_complete (event.Timer node time) r n key within ok f h = absurd (false≢true h)
+
+  -- ---- how often
+
+  pub lawful : (hs : List Happening) → AllByRecursion IsInRange hs → AllByRecursion IsLawfullySent (after A hs).sent
+  lawful hs range = laws.lawful_sent hs range
+
+  pub none_go : (x : Played A) (xs : List (Played A)) (key : Key) (k : ℕ) (b u : Bool) → (HandsUp sent key x → u ≡ true) → cond b 0 (cond u (k + 1) k) ≡ 0 → (k ≡ 0 → NoneHandsUp sent key (since net xs key)) → NoneHandsUp sent key (cond b [] (x ∷ since net xs key))
+  none_go x xs key k true u sound is before = tt
+  none_go x xs key k false true sound is before = absurd (omega (arith, is))
+  none_go x xs key k false false sound is before = ((λ hands. false≢true (sound hands)), before is)
+
+  pub none_of : (past : List (Played A)) (hs : List Happening) (key : Key) → Told A net past hs → Within sent (after A hs) → AllByRecursion IsInRange hs → hand_ups_since A hs key ≡ 0 → NoneHandsUp sent key (since net past key)
+  none_of [] [] key told within range is = tt
+  none_of [] (h ∷ hs) key told within range is = absurd told
+  none_of (x ∷ xs) [] key told within range is = absurd told
+  none_of (x ∷ xs) (h ∷ hs) key told within range is =
+      let m = told.0 in
+      let earlier = within_before A sent h hs told.1 within in
+      none_go x xs key (hand_ups_since A hs key) (began_under net x.event x.report key) (is_handed_up (after A hs) h key)
+      (λ hands. m.hands_up key ∙ hands_sound x.event x.report (after A hs) key earlier (lawful hs range.1) m.finishes hands)
+      (ap (λ b. cond b 0 (cond (is_handed_up (after A hs) h key) (hand_ups_since A hs key + 1) (hand_ups_since A hs key))) (sym (m.draws_it key)) ∙ is)
+      (λ zero. none_of xs hs key told.2 earlier range.1 zero)
+
+  pub most_go : (x : Played A) (xs : List (Played A)) (key : Key) (k : ℕ) (b u : Bool) → (HandsUp sent key x → u ≡ true) → cond b 0 (cond u (k + 1) k) ≤ 1 → (k ≡ 0 → NoneHandsUp sent key (since net xs key)) → (k ≤ 1 → AtMostOneHandsUp sent key (since net xs key)) →
+      AtMostOneHandsUp sent key (cond b [] (x ∷ since net xs key))
+  most_go x xs key k true u sound few none most = tt
+  most_go x xs key k false true sound few none most = ((λ hands. none (omega (arith, few))), most (omega (arith, few)))
+  most_go x xs key k false false sound few none most = ((λ hands. absurd (false≢true (sound hands))), most few)
+
+  pub most_of : (past : List (Played A)) (hs : List Happening) (key : Key) → Told A net past hs → Within sent (after A hs) → AllByRecursion IsInRange hs → hand_ups_since A hs key ≤ 1 → AtMostOneHandsUp sent key (since net past key)
+  most_of [] [] key told within range few = tt
+  most_of [] (h ∷ hs) key told within range few = absurd told
+  most_of (x ∷ xs) [] key told within range few = absurd told
+  most_of (x ∷ xs) (h ∷ hs) key told within range few =
+      let m = told.0 in
+      let earlier = within_before A sent h hs told.1 within in
+      most_go x xs key (hand_ups_since A hs key) (began_under net x.event x.report key) (is_handed_up (after A hs) h key)
+      (λ hands. m.hands_up key ∙ hands_sound x.event x.report (after A hs) key earlier (lawful hs range.1) m.finishes hands)
+      (subst (λ b. cond b 0 (cond (is_handed_up (after A hs) h key) (hand_ups_since A hs key + 1) (hand_ups_since A hs key)) ≤ 1) (m.draws_it key) few)
+      (λ zero. none_of xs hs key told.2 earlier range.1 zero) (λ one. most_of xs hs key told.2 earlier range.1 one)
+
+  pub some_go : (x : Played A) (xs : List (Played A)) (key : Key) (k : ℕ) (b u : Bool) → (u ≡ true → HandsUp sent key x) → 1 ≤ cond b 0 (cond u (k + 1) k) → (1 ≤ k → SomeHandsUp sent key (since net xs key)) → SomeHandsUp sent key (cond b [] (x ∷ since net xs key))
+  some_go x xs key k true u complete some before = absurd (omega (arith, some))
+  some_go x xs key k false true complete some before = inl (complete refl)
+  some_go x xs key k false false complete some before = inr (before some)
+
+  pub some_of : (past : List (Played A)) (hs : List Happening) (key : Key) → Told A net past hs → Within sent (after A hs) → AllByRecursion IsInRange hs → 1 ≤ hand_ups_since A hs key → SomeHandsUp sent key (since net past key)
+  some_of [] [] key told within range some = absurd (omega (arith, some))
+  some_of [] (h ∷ hs) key told within range some = absurd told
+  some_of (x ∷ xs) [] key told within range some = absurd told
+  some_of (x ∷ xs) (h ∷ hs) key told within range some =
+      let m = told.0 in
+      let earlier = within_before A sent h hs told.1 within in
+      some_go x xs key (hand_ups_since A hs key) (began_under net x.event x.report key) (is_handed_up (after A hs) h key)
+      (λ up. hands_complete x.event x.report (after A hs) key earlier (lawful hs range.1) m.finishes (sym (m.hands_up key) ∙ up))
+      (subst (λ b. 1 ≤ cond b 0 (cond (is_handed_up (after A hs) h key) (hand_ups_since A hs key + 1) (hand_ups_since A hs key))) (m.draws_it key) some)
+      (λ one. some_of xs hs key told.2 earlier range.1 one)
+
+  -- ---- records that live
+
+  pub same_expiry : (past : List (Played A)) (hs : List Happening) (at : Address) (key : Key) → Told A net past hs → record_expired A hs at key ≡ has_expired net past at key
+  same_expiry [] [] at key told = refl
+  same_expiry [] (h ∷ hs) at key told = absurd told
+  same_expiry (x ∷ xs) [] at key told = absurd told
+  same_expiry (x ∷ xs) (h ∷ hs) at key told =
+      let m = told.0 in
+      let before = same_expiry xs hs at key told.2 in
+      λ i. cond (m.draws_it key i) false (m.expires_it at key i || before i)
+
+  pub lives_in : (e : Event A) (past : List (Played A)) (hs : List Happening) (which node : ℕ) → e ≡ event.Deliver which node → Told A net past hs → Within sent (after A hs) → LivesBy net sent e past →
+      (s : Sent) (mask : ℕ) (xo : Bool) (timer tid : ℕ) (user bytes : List ℕ) → slice_get (after A hs).sent which ≡ Some s → s.packet ≡ Request mask xo timer tid user bytes → record_expired A hs s.to (record { from = s.from; tid = tid }) ≡ false
+  lives_in e past hs which node is told within lives s mask xo timer tid user bytes was_sent packet_is =
+      same_expiry past hs s.to (record { from = s.from; tid = tid }) told
+      ∙ subst (λ x. LivesBy net sent x past) is lives (posted_packet s) s.to s.from mask xo timer tid user bytes (within which s was_sent) (ap (λ f. canonical s.to s.from atp_kind (spelled f)) packet_is)
+
+  pub all_lived : (past : List (Played A)) (hs : List Happening) → Told A net past hs → Within sent (after A hs) → AllLive net sent past → AllLived A hs
+  all_lived [] [] told within live = tt
+  all_lived [] (h ∷ hs) told within live = absurd told
+  all_lived (x ∷ xs) [] told within live = absurd told
+  all_lived (x ∷ xs) (h ∷ hs) told within live = (lived h told.0, all_lived xs hs told.2 earlier live.1)
+    where
+      earlier : Within sent (after A hs)
+      earlier = within_before A sent h hs told.1 within
+
+      lived : (g : Happening) → Matches net (after A hs) g x.event x.report → HandUps.Lives A hs g
+      lived (Takes which) m = lives_in x.event xs hs which m.takes_in.0 m.takes_in.1 told.2 earlier live.0
+      lived (Serves which packets) m = lives_in x.event xs hs which m.takes_in.0 m.takes_in.1 told.2 earlier live.0
+      lived (Begins who to user bytes wanted xo times) m = tt
+      lived (Answers at k packets) m = tt
+      lived (Hears which) m = tt
+      lived (Expires at k) m = tt
+      lived (Retries who tid) m = tt
+      lived Other m = tt
