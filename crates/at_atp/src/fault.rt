@@ -8,33 +8,33 @@ use thiserror::Error;
 #[derive(Clone, Copy, Debug, PartialEq, Eq, Error)]
 pub enum AtpFault {
     /// A header has 8 bytes.
-    #[error("the header is cut")]
+    #[error("the ATP packet is under 8 bytes, so its header is cut short")]
     ShortAtp,
     /// The function bits name a request, a response or a release.
-    #[error("the function bits are 00")]
+    #[error("the function bits name no ATP packet (00)")]
     BadFunction,
     /// A response has a place from 0 to 7.
-    #[error("a response of a place over 7")]
+    #[error("the sequence number of an ATP response is over 7")]
     BadSequence,
     /// A packet carries at most 578 bytes of data, and an answer has at most 8 packets.
-    #[error("more than 578 bytes of data, or more than 8 packets")]
+    #[error("a packet has over 578 bytes of data, or the answer has over 8 packets")]
     AtpTooLong,
     /// At most 32 transactions are open, and at most 64 records stand.
-    #[error("the table is full")]
+    #[error("32 transactions are open already, or 64 requests are on record already")]
     Full,
     /// The number or the key stands in the table.
-    #[error("no such number or key")]
+    #[error("no transaction of this number is open, or no request of this key is on record")]
     NoSuch,
     /// An answer has at least one packet.
-    #[error("an answer of no packets")]
+    #[error("the answer has no packets")]
     EmptyAnswer,
     /// A request that waits for its answer does not expire.
-    #[error("the request still waits for its answer")]
+    #[error("the request cannot expire while it waits for its answer")]
     StillPending,
     /// A request is answered once.
-    #[error("the request was answered already")]
+    #[error("the request was answered before, and a request is answered once")]
     Gone,
-    /// No rule was broken, but a growth was refused.
+    /// No rule was broken, but memory ran out.
     #[error("out of memory")]
     NoMemory,
 }
@@ -42,7 +42,7 @@ pub enum AtpFault {
 impl AtpFault {
     ghost use Rattle.at_atp.specs.Fault.{number_of};
 
-    /// The number by which this refusal is reported; want of memory is no refusal.
+    /// The number by which this refusal is reported: none for out of memory, which breaks no rule.
     pub fn number(self) -> Option<u8>
         ensures { result ≡ number_of self }
     {

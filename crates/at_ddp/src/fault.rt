@@ -8,21 +8,21 @@ use thiserror::Error;
 #[derive(Clone, Copy, Debug, PartialEq, Eq, Error)]
 pub enum DdpFault {
     /// A header has 13 bytes.
-    #[error("the header is cut")]
+    #[error("the datagram is under 13 bytes, so its header is cut short")]
     Short,
     /// A datagram has 13 to 599 bytes.
-    #[error("the stated length is under 13 or over 599")]
+    #[error("the length in the header is under 13 or over 599")]
     BadLength,
     /// All the bytes of the stated length are there.
-    #[error("the datagram is shorter than its stated length")]
+    #[error("the datagram is shorter than the length in its header")]
     Truncated,
     /// A checksum field that is not 0 holds the checksum.
-    #[error("the checksum does not match")]
+    #[error("the checksum does not match the datagram")]
     BadSum,
     /// A datagram carries at most 586 bytes of data.
-    #[error("more than 586 bytes of data")]
+    #[error("the data is over 586 bytes, more than a datagram carries")]
     TooLong,
-    /// No rule was broken, but a growth was refused.
+    /// No rule was broken, but memory ran out.
     #[error("out of memory")]
     NoMemory,
 }
@@ -30,7 +30,7 @@ pub enum DdpFault {
 impl DdpFault {
     ghost use Rattle.at_ddp.specs.Fault.{number_of};
 
-    /// The number by which this refusal is reported; want of memory is no refusal.
+    /// The number by which this refusal is reported: none for out of memory, which breaks no rule.
     pub fn number(self) -> Option<u8>
         ensures { result ≡ number_of self }
     {

@@ -2,6 +2,7 @@ ghost use Rattle.std.specs.Prelude.{◌≡◌};
 
 use at_node::{Call, Timer};
 use std::alloc::{Allocator, Global};
+use thiserror::Error;
 
 /// What happens next in a world.
 #[derive(Drop)]
@@ -15,16 +16,20 @@ pub enum Event<A: Allocator = Global> {
 }
 
 /// Why an event is not played.
-#[derive(Clone, Copy, Debug, PartialEq, Eq)]
+#[derive(Clone, Copy, Debug, PartialEq, Eq, Error)]
 pub enum Refusal {
     /// At most 200,000 events are played, and none once more than 868,928 datagrams were sent.
+    #[error("200,000 events were played, or more than 868,928 datagrams were sent")]
     Limit,
     /// A datagram that is delivered was sent.
+    #[error("no datagram of this number was sent")]
     NoDatagram,
     /// The node stands in the setup, and a datagram comes to its destination.
+    #[error("the setup has no such node, or the datagram goes to another")]
     NotForNode,
     /// No number that a datagram carries was drawn again since it was sent, and no number is drawn under which a node
     /// holds a record.
+    #[error("a number was drawn again since the datagram was sent, or a node still holds a record under the number to be drawn")]
     Untimely,
 }
 
@@ -45,9 +50,12 @@ impl Refusal {
 }
 
 /// Why a play stops before its end.
-#[derive(Clone, Copy, Debug, PartialEq, Eq)]
+#[derive(Clone, Copy, Debug, PartialEq, Eq, Error)]
 pub enum Fault {
+    /// The event was refused.
+    #[error(transparent)]
     Refused(Refusal),
-    /// The world found no memory of its own.
+    /// The world ran out of memory of its own.
+    #[error("out of memory")]
     NoMemory,
 }

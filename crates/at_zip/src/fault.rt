@@ -8,21 +8,21 @@ use thiserror::Error;
 #[derive(Clone, Copy, Debug, PartialEq, Eq, Error)]
 pub enum ZipFault {
     /// A request has code 8 and a start of at least 1.
-    #[error("no request for a page of zones")]
+    #[error("the ZIP request has a code other than 8, or starts at name 0")]
     NotZip,
     /// A page has as many names as it counts.
-    #[error("fewer names than counted")]
+    #[error("the page has fewer names than it counts")]
     CountMismatch,
     /// A zone name has 1 to 32 bytes.
     #[error("a zone name is empty or over 32 bytes")]
     BadZone,
     /// Only the last page of a table may have no names.
-    #[error("a page without names that is not the last")]
+    #[error("a page that is not the last has no names")]
     EmptyPage,
     /// A table has at most 1,024 names.
-    #[error("more than 1,024 zones")]
+    #[error("the table has more than 1,024 names")]
     TooManyZones,
-    /// No rule was broken, but a growth was refused.
+    /// No rule was broken, but memory ran out.
     #[error("out of memory")]
     NoMemory,
 }
@@ -30,7 +30,7 @@ pub enum ZipFault {
 impl ZipFault {
     ghost use Rattle.at_zip.specs.Fault.{number_of};
 
-    /// The number by which this refusal is reported; want of memory is no refusal.
+    /// The number by which this refusal is reported: none for out of memory, which breaks no rule.
     pub fn number(self) -> Option<u8>
         ensures { result ≡ number_of self }
     {
