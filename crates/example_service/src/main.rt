@@ -1,0 +1,66 @@
+//! A client asks a service of your own for a sum. The datagrams are handed from node to node until none is left.
+#![tactic(auto)]
+
+mod adding;
+mod telling;
+
+use adding::Adding;
+use at_ddp::{Bytes, Datagrams};
+use at_node::{Call, Deferring, Node, PacketCount};
+use std::alloc::{AllocError, Global};
+use std::io;
+use telling::tell;
+
+const CLIENT: u8 = 5;
+
+const SERVER: u8 = 7;
+
+/// A loop must be proved to end, so it has a bound. This exchange ends after three rounds.
+const MOST_ROUNDS: u32 = 10;
+
+fn main(rt: HostRuntime) -> io::Result<()> {
+    // Both nodes are on network 10, which has no router.
+    let mut client = Node::new(rt.alloc(), 10, CLIENT, None, None);
+    let mut server = Node::new(rt.alloc(), 10, SERVER, None, None);
+    let mut sent = Datagrams::new(rt.alloc());
+    let report = client.call(&request(rt.alloc())?, &mut sent);
+    tell(&rt, CLIENT, &report)?;
+    for _round in 0..MOST_ROUNDS {
+        sent = hand_over(&rt, &mut client, &mut server, &sent)?;
+    }
+    println!(rt; "datagrams left: {}", sent.len())
+}
+
+// What the client asks. A node's service always has socket 129.
+fn request(alloc: Global) -> Result<Call, AllocError> {
+    Ok(Call::Ask {
+        node: SERVER,
+        socket: 129,
+        user: [0; 4],
+        data_: Bytes::copy_of(alloc, &[2, 3, 5])?,
+        wanted: PacketCount::new(1).unwrap(),
+        exactly_once: true,
+        retries: 3,
+    })
+}
+
+// Hands each datagram to the node that it goes to. What the nodes send in return is the next list.
+fn hand_over<R: Print + AllocGlobal>(
+    rt: &R,
+    client: &mut Node,
+    server: &mut Node,
+    sent: &Datagrams,
+) -> io::Result<Datagrams> {
+    // The service keeps nothing between requests, so each round has one of its own.
+    let mut service = Adding { alloc: rt.alloc() };
+    let mut next = Datagrams::new(rt.alloc());
+    for index in 0..sent.len() {
+        let (to, bytes) = (sent.node(index), sent.get(index));
+        let report = match to {
+            SERVER => server.receive(&mut service, bytes, &mut next),
+            _ => client.receive(&mut Deferring, bytes, &mut next),
+        };
+        tell(rt, to, &report)?;
+    }
+    Ok(next)
+}
