@@ -17,8 +17,8 @@ use Rattle.at_atp.proofs.Newest.{Extends, Keeps, asked_kept, part_kept}
 
 -- ---- packets
 
--- a request is that of the newest transaction of its number; a response is a packet of an answer to it; a release goes where it
--- asked
+-- A request belongs to the newest transaction of its number. A response is a packet of an answer to it. A release goes
+-- to the responder that it asked.
 abbrev pub Tells : List Transaction → Address → Address → Content → Type 0
 Tells ts from to (Request mask xo timer tid user bytes) = (a : Asked ts from tid to) × (a.transaction.user ≡ user) × (a.transaction.data_ ≡ bytes) × (a.transaction.xo ≡ xo)
 Tells ts from to (Response place eom sts tid user bytes) = (a : Asked ts to tid from) × IsPart a.transaction place eom (record { user = user; data_ = bytes })
@@ -133,7 +133,7 @@ Kept t (Waiting xo mask) = Unit {0}
 Kept t (Answered packets) = Contains t.answers packets
 Kept t Released = Unit {0}
 
--- a record is of the newest transaction of its number
+-- a record belongs to the newest transaction of its number
 pub record Waits (ts : List Transaction) (at : Address) (r : Record) : Type 0 where
   pub asked : Asked ts r.key.from r.key.tid at
   pub kept : Kept asked.transaction r.state

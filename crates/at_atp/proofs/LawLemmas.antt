@@ -116,7 +116,7 @@ find_last p (r ∷ rs) x none is = go (λ g. find_last p rs x g is) (p r) refl n
     go ih true e g = absurd (cc)
     go ih false e g = rw e (ih g)
 
--- a request that is handed up has a record that waits, and nothing is sent for it
+-- a request that is delivered has a record that waits, and nothing is sent for it
 abbrev pub IsWaiting : Address → ℕ → Key → List Record → List (Address × Content) → Type 0
 IsWaiting from tid key after sent = (record_fault (find (is_key key) after) ≡ None) × (sent ≡ []) × (key ≡ record { from = from; tid = tid })
 

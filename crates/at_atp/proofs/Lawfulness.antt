@@ -1,4 +1,4 @@
--- What a network sends can be spelled, where what is asked and answered is in range.
+-- All that a network sends can be spelled, if what is asked and answered is in range.
 use Rattle.std.proofs.Common.{◌≡◌, ℕ, zero, suc, ◌<◌, ◌≤◌, Bool, true, false, cond, List, [], ◌∷◌, length, Option, Some, None, refl, subst, arith, lit<}
 use Rattle.std.specs.Prelude.{find, slice_get, option_map, nat_le, ◌&&◌}
 use Rattle.std.specs.List.{AllByRecursion}

@@ -71,7 +71,7 @@ module _ (A : Type 0) where
   apart_by : (x : Transaction) (tid other : ℕ) → (tid == other) ≡ false → x.tid ≡ other → (x.tid == tid) ≡ false
   apart_by x tid other apart is = ne_eqb x.tid tid (λ e. true≢false (sym (eq-eqb tid other (sym e ∙ is)) ∙ apart))
 
-  -- a test for another number passes over the transaction
+  -- a test for another number does not find the transaction
   misses : (p : Transaction → Bool) (t : Transaction) (tid other : ℕ) → ((x : Transaction) → p x ≡ true → x.tid ≡ other) → (tid == other) ≡ false → t.tid ≡ tid → p t ≡ false
   misses p t tid other of apart is = go (p t) refl
     where

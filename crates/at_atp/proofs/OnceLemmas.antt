@@ -57,7 +57,7 @@ stands_without key q (r ∷ rs) h = go (stands_without key q rs parts.1) (q r)
     go ih true = parts.1
     go ih false = stands_first key r (without_first q rs) ∙ or_from (same_key r.key key) (stands key (without_first q rs)) parts.0 ih
 
--- where another goes, this one stays
+-- if the record of another key is removed, this one stays
 stays_without : (key k : Key) (rs : List Record) → same_key k key ≡ false → stands key (without_first (is_key k) rs) ≡ stands key rs
 stays_without key k [] other = refl
 stays_without key k (r ∷ rs) other = go (stays_without key k rs other) (is_key k r) refl
@@ -71,7 +71,7 @@ stays_without key k (r ∷ rs) other = go (stays_without key k rs other) (is_key
 abbrev Balanced : Bool → Bool → Bool → Type 0
 Balanced hands before then = once_if hands + once_if before ≡ once_if (before && not then) + once_if then
 
--- nothing is handed up, and nothing new stands
+-- nothing is delivered, and no new record stands
 none_new : (before then : Bool) → (before ≡ false → then ≡ false) → Balanced false before then
 none_new true true h = refl
 none_new true false h = refl

@@ -1,4 +1,4 @@
--- What each happening leaves true of the exactly-once transactions of a network, where records live long enough.
+-- What each happening keeps true of the exactly-once transactions of a network, if records live long enough.
 use Rattle.std.proofs.Common.{◌≡◌, ℕ, Bool, true, false, cond, List, [], ◌∷◌, Some, None, refl, sym, ap, subst, ◌∙◌}
 use Rattle.std.specs.Prelude.{find, ◌&&◌, ◌||◌}
 use Rattle.at_ddp.specs.Address.{same_address}
@@ -17,7 +17,7 @@ use Rattle.at_atp.proofs.KeyedRecords.{one_key, those, none_those, others_withou
 use Rattle.at_atp.proofs.Newest.{joined, joined_exactly, others_unanswered, some_same}
 use Rattle.at_atp.proofs.Stages.{Stage, more_if, request_staged, release_staged, release_not_new, answer_staged, expiry_staged, others_answered, others_taken}
 
--- each exactly-once transaction that is the newest of its number is at some stage, by the records where it asked
+-- each exactly-once transaction that is the newest of its number is at some stage, by the records of its responder
 abbrev pub EachOnce : List Transaction → (Address → List Record) → (Key → ℕ) → (Address → Key → Bool) → Type 0
 EachOnce asked responders hands expired = (key : Key) (at : Address) (a : Asked asked key.from key.tid at) → a.transaction.xo ≡ true → Stage a.transaction.answers (hands key) (expired at key) (those key (responders at))
 
@@ -26,7 +26,7 @@ EachOnce asked responders hands expired = (key : Key) (at : Address) (a : Asked 
 put_there : {X : Type 0} (f : Address → X) (at : Address) (x : X) → put f at x at ≡ x
 put_there f at x = ap (λ b. cond b x (f at)) (same_address_itself at)
 
--- where nothing changes of a key's records at the responder, nothing does anywhere
+-- if nothing changes of a key's records at the responder, nothing changes anywhere
 those_put : (key : Key) (responders : Address → List Record) (place : Address) (rs : List Record) (at : Address) → those key rs ≡ those key (responders place) → those key (put responders place rs at) ≡ those key (responders at)
 those_put key responders place rs at same = go (same_address place at) refl
   where
@@ -36,7 +36,7 @@ those_put key responders place rs at same = go (same_address place at) refl
 
 -- ---- packets
 
--- a request in time asks where the newest transaction of its number did, and for exactly-once if that did
+-- a request in time goes to the responder of the newest transaction of its number, and is exactly-once if that is
 asks_there : (asked : List Transaction) (key : Key) (place at : Address) (t : Asked asked key.from key.tid place) (a : Asked asked key.from key.tid at) → (t.transaction ≡ a.transaction) × (place ≡ at)
 asks_there asked key place at t a =
     let same : t.transaction ≡ a.transaction = some_same t.transaction a.transaction (sym t.newest ∙ a.newest) in

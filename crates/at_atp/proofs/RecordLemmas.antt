@@ -54,7 +54,7 @@ pub taken_new_in : (rs new : List Record) (key : Key) (xo : Bool) (mask : ℕ) (
 taken_new_in rs new key xo mask (Ok x) out none h = taken_new rs new key xo mask x out none h.0 h.1
 taken_new_in rs new key xo mask (Err e) out none h = h
 
--- a new request is handed up
+-- a new request is delivered to the service
 pub new_not_ignored : (rs : List Record) (key : Key) (xo : Bool) (mask : ℕ) → find (is_key key) rs ≡ None → (request_came rs key xo mask (find (is_key key) rs)).reception ≡ Ignored → ⊥
 new_not_ignored rs key xo mask none = rw none (λ h. cc)
 

@@ -29,7 +29,7 @@ pub drawn_as_it_is : (r : Requests) (tid : ℕ) (xs : List Transaction) → find
 drawn_as_it_is r tid xs none same =
     ap (λ l. next_number (record { next = r.next; standing = l })) (append-nil xs ∙ same ∙ sym (without_none (is_numbered tid) r.standing none))
 
--- ---- a number is left where fewer are open than are tried
+-- ---- a number is left if fewer are open than are tried
 
 number_apart : (l : List Transaction) (gone tid : ℕ) → (gone ≡ tid → ⊥) → has_number (without_first (is_numbered gone) l) tid ≡ has_number l tid
 number_apart [] gone tid apart = refl

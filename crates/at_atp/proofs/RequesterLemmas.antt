@@ -112,7 +112,7 @@ module _ (A : Type 0) where
       let same : o.transaction ≡ t = cc in
       ap (λ (x : Transaction). mask_of x.parts) (sym same) ∙ ap mask_of o.has ∙ same_mask (with_all (replicate wanted None) (arrived to tid ms)) (firsts wanted (arrived to tid ms)) (agree_all wanted (arrived to tid ms))
 
-  -- a packet that ends a transaction was wanted, and with it the response is whole
+  -- a packet that ends a transaction was wanted, and completes the response
   finishing : (t : Transaction) (c : Came) (packets : List Packet) → (came {A = A} t c.place c.part c.sts).step ≡ Finished packets → whole (with_came t.parts c) ≡ Some packets
   finishing t c packets h = go (is_wanted t.parts c.place) h
     where

@@ -66,7 +66,7 @@ closed r tid i f old new standing before after is left sent gone = go f.entry.re
       sends = subst (λ xs. Sends before after (spelled_all xs)) (ap asking_of is ∙ ap (λ k. cond (nat_lt 0 k) ((e.to, request_by e) ∷ []) []) none) sent;
     }
 
--- what finds no memory has a retry left
+-- a retry that runs out of memory does not close the transaction: it had a retry left
 pub not_closing : (r : Requests) (tid i : ℕ) (f : Found (is_numbered tid) r.standing i) (P : Type 0) → (f.entry.retries ≡ 0 → ⊥) → IfSome (retried r tid) (λ x. x.step ≡ Failed → P)
 not_closing r tid i f P some = subst (λ o. IfSome o (λ x. x.step ≡ Failed → P)) (sym (open_at r tid i f)) (go f.entry.retries refl)
   where

@@ -1,4 +1,4 @@
--- How far an exactly-once transaction is, by the record of its request where it asked.
+-- How far an exactly-once transaction is, by the record of its request at the responder.
 use Rattle.std.proofs.Common.{◌≡◌, ℕ, ◌+◌, Bool, true, false, cond, List, [], ◌∷◌, ◌++◌, length, Option, Some, None, refl, sym, ap, subst, ◌∙◌, arith}
 use Rattle.std.specs.Prelude.{find}
 use Rattle.at_ddp.specs.declared.address.Address.{Address}
@@ -28,7 +28,7 @@ Stage answers hands expired [] = Gone answers hands expired
 Stage answers hands expired (r ∷ []) = (expired ≡ false) × (hands ≡ 1) × Given answers r.state
 Stage answers hands expired (r ∷ q ∷ rs) = ⊥
 
--- handed up, or not
+-- one delivery more, or not
 abbrev pub more_if : Bool → ℕ → ℕ
 more_if b n = cond b (n + 1) n
 

@@ -1,4 +1,4 @@
--- Where the first entry that passes a test stands.
+-- The place of the first entry that passes a test.
 use Rattle.std.proofs.Common.{◌≡◌, ℕ, suc, ◌+◌, ◌<◌, Bool, true, false, cond, List, [], ◌∷◌, length, get_or, set, Option, Some, None, IsSome, refl, sym, ap, subst, ◌∙◌, arith}
 use Rattle.std.specs.Prelude.{find, remove}
 use Rattle.std.specs.List.{position_from}
@@ -58,7 +58,7 @@ not_found p from (x ∷ xs) h = go (λ g. not_found p (from + 1) xs g) (p x) ref
     go ih true is g = absurd (cc)
     go ih false is g = rw is (ih g)
 
--- the same of what a search over a copy of the list answered
+-- the same for the result of a search over a copy of the list
 pub found_by : {X : Type 0} (p : X → Bool) (xs given : List X) (r : Option ℕ) (i : ℕ) → given ≡ xs → r ≡ position_from p 0 given → r ≡ Some i → Found p xs i
 found_by p xs given r i same is some = found p xs i (ap (position_from p 0) (sym same) ∙ sym is ∙ some)
 

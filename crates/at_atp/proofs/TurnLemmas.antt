@@ -11,7 +11,7 @@ use Rattle.at_atp.specs.declared.step.Step.TheVariants.{Finished}
 use Rattle.at_atp.proofs.AnswerLemmas.{wanted-within}
 use Rattle.at_atp.proofs.TableLemmas.{Found}
 
--- the transaction is at-least-once, and with the packet its answer is there
+-- the transaction is at-least-once, and the packet completes its answer
 pub record Ended (t : Transaction) (place : ℕ) (part : Arrival) : Type 0 where
   pub not_xo : t.xo ≡ false
   pub wanted : is_wanted t.parts place ≡ true

@@ -28,7 +28,7 @@ Agree (p ∷ ps) (f ∷ fs) = Same p f (Agree ps fs)
 
 -- ---- what comes later
 
--- a packet that comes later is the earliest of its place only where none came before
+-- a packet that comes later is the first of its place only if none came before
 first_later : (all : List Came) (c : Came) (place : ℕ) → first_at all place ≡ None → (c.place == place) ≡ true → first_at (all ++ c ∷ []) place ≡ Some c.part
 first_later [] c place none is = rw is refl
 first_later (d ∷ all) c place none is = go (λ g. first_later all c place g is) (d.place == place) refl none
@@ -220,7 +220,7 @@ module _ (A : Type 0) where
   never_whole zero some = absurd (omega (arith, some))
   never_whole (suc n) some = refl
 
-  -- a packet ends the transaction just where the response is whole with it
+  -- a packet ends the transaction just if it completes the response
   pub ends_whole : (t : Transaction) (wanted : ℕ) (all : List Came) (c : Came) (packets : List Packet) → t.parts ≡ replicate wanted None → 1 ≤ wanted → NoneFinishes A t all →
       ((came {A = A} (after_all A t all) c.place c.part c.sts).step ≡ Finished packets → whole (firsts wanted (all ++ c ∷ [])) ≡ Some packets)
       × (whole (firsts wanted (all ++ c ∷ [])) ≡ Some packets → (came {A = A} (after_all A t all) c.place c.part c.sts).step ≡ Finished packets)

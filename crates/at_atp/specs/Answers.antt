@@ -7,8 +7,8 @@ pub record Arrival : Type 0 where
   pub eom : Bool
   pub packet : Packet
 
--- Of the packets that were asked for, by place, which came. A place is still wanted if nothing came for it and no earlier
--- place has a packet that ends the answer.
+-- What came for each place that was asked for. A place is still wanted if nothing came for it and no earlier place has
+-- a packet that ends the answer.
 abbrev pub is_wanted : List (Option Arrival) → ℕ → Bool
 is_wanted [] place = false
 is_wanted (part ∷ parts) zero = is_none part
@@ -21,7 +21,7 @@ mask_of [] = 0
 mask_of (None ∷ parts) = 1 + 2 * mask_of parts
 mask_of (Some part ∷ parts) = if part.eom then 0 else 2 * mask_of parts
 
--- the packets up to the first that ends the answer, or all that were asked for, once they are there
+-- the packets up to the first that ends the answer, or all that were asked for; none if one of them is missing
 abbrev pub whole : List (Option Arrival) → Option (List Packet)
 whole [] = Some []
 whole (None ∷ parts) = None
@@ -31,7 +31,7 @@ whole (Some part ∷ parts) = if part.eom then Some (part.packet ∷ []) else op
 abbrev pub with_part : List (Option Arrival) → ℕ → Arrival → List (Option Arrival)
 with_part parts place part = slice_set parts place (Some part)
 
--- the packets so far, and those up to the first place where the answer ends or nothing came
+-- the packets so far, and then those up to the first that ends the answer or up to the first gap
 abbrev pub gathered : List Packet → List (Option Arrival) → List Packet
 gathered done [] = done
 gathered done (None ∷ parts) = done

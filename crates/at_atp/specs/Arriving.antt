@@ -1,4 +1,4 @@
--- A packet of an answer as it comes in.
+-- A packet of an answer as it arrives.
 use Rattle.at_atp.specs.Answers.{Arrival}
 use Rattle.at_atp.specs.declared.transaction.Arriving.{Arriving}
 

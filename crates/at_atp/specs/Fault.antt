@@ -21,7 +21,7 @@ number_of NoMemory = None
 abbrev pub function_of : List ℕ → ℕ
 function_of input = slice_index input 0 / 64
 
--- the fault stands in the input
+-- the input has this fault
 abbrev pub Stands : AtpFault → List ℕ → Type 0
 Stands ShortAtp input = length input < 8
 Stands BadFunction input = function_of input ≡ 0
@@ -34,7 +34,7 @@ Stands StillPending input = ⊥
 Stands Gone input = ⊥
 Stands NoMemory input = ⊥
 
--- the faults that are looked for before this one
+-- the faults that are tested before this one
 abbrev pub looked_for_before : AtpFault → List AtpFault
 looked_for_before ShortAtp = []
 looked_for_before BadFunction = ShortAtp ∷ []
@@ -42,7 +42,7 @@ looked_for_before BadSequence = ShortAtp ∷ BadFunction ∷ []
 looked_for_before AtpTooLong = ShortAtp ∷ BadFunction ∷ BadSequence ∷ []
 looked_for_before other = []
 
--- the fault is the first that stands in the input
+-- the fault is the first one that the input has
 pub record IsFirstFault (fault : AtpFault) (input : List ℕ) : Type 0 where
   pub stands : Stands fault input
   pub first : AllByRecursion (λ other. ¬ Stands other input) (looked_for_before fault)

@@ -6,9 +6,9 @@ use Rattle.at_ddp.specs.declared.address.Address.{Address}
 use Rattle.at_atp.specs.declared.frame.Frame.{Frame}
 use Rattle.at_atp.specs.declared.frame.Frame.TheVariants as frame
 
--- a packet without where its data lies in memory
+-- the fields of a packet, wherever its data lies in memory
 pub data Content : Type 0 where
-  -- asks for the packets whose bits are set in the mask; `xo` is for exactly-once
+  -- asks for the packets whose bits are set in the mask; `xo` means exactly-once
   Request : (mask : ℕ) (xo : Bool) (timer tid : ℕ) (user bytes : List ℕ) → Content
   -- one packet of an answer: its place, end of message, and send transaction status
   Response : (place : ℕ) (eom sts : Bool) (tid : ℕ) (user bytes : List ℕ) → Content
@@ -25,7 +25,7 @@ data_of (Request mask xo timer tid user bytes) = bytes
 data_of (Response place eom sts tid user bytes) = bytes
 data_of (Release tid) = []
 
--- the release timer as it stands in the three lowest bits: 5 to 7 are read as 0, and without exactly-once any value is
+-- the release timer in the three lowest bits: 5 to 7 are read as 0, and without exactly-once every value is
 abbrev pub read_timer : Bool → ℕ → ℕ
 read_timer true low = if nat_le low 4 then low else 0
 read_timer false low = 0
@@ -77,7 +77,7 @@ pub record SpellsResponse (bytes : List ℕ) (place : ℕ) (eom sts : Bool) (tid
   pub in_three_bits : low < 8
   pub fields : bytes ≡ packet (128 + 32 * free + 16 * bit eom + 8 * bit sts + low) place tid (user ++ more)
 
--- a release: all is free but the function and the number, and data is ignored
+-- a release: all is free but the function and the number, and its data is ignored
 pub record SpellsRelease (bytes : List ℕ) (tid : ℕ) : Type 0 where
   pub tid_fits : tid < 2 ^ 16
   pub free : ℕ
@@ -90,13 +90,13 @@ pub record SpellsRelease (bytes : List ℕ) (tid : ℕ) : Type 0 where
   pub rest_fits : length rest ≤ 4 + 578
   pub fields : bytes ≡ packet (192 + free) second tid rest
 
--- the bytes spell the packet, with any content of its free parts
+-- the bytes spell the packet, with any content of its free bits
 abbrev pub Spells : List ℕ → Content → Type 0
 Spells input (Request mask xo timer tid user bytes) = SpellsRequest input mask xo timer tid user bytes
 Spells input (Response place eom sts tid user bytes) = SpellsResponse input place eom sts tid user bytes
 Spells input (Release tid) = SpellsRelease input tid
 
--- the canonical spelling, with 0 in the free parts
+-- the canonical spelling, with 0 in the free bits
 unfoldable pub spelled : Content → List ℕ
 spelled (Request mask xo timer tid user bytes) = packet (64 + 32 * bit xo + timer) mask tid (user ++ bytes)
 spelled (Response place eom sts tid user bytes) = packet (128 + 16 * bit eom + 8 * bit sts) place tid (user ++ bytes)
@@ -106,7 +106,7 @@ spelled (Release tid) = packet 192 0 tid (0 ∷ 0 ∷ 0 ∷ 0 ∷ [])
 abbrev pub spelled_all : List (Address × Content) → List (Address × List ℕ)
 spelled_all sent = map (λ (s : Address × Content). (s.0, spelled s.1)) sent
 
--- what a packet that is to be written needs, its data's length aside
+-- a packet can be written, apart from the length of its data
 abbrev pub CanBeWritten : Content → Type 0
 CanBeWritten (Request mask xo timer tid user bytes) = IsTimer xo timer
 CanBeWritten (Response place eom sts tid user bytes) = place ≤ 7

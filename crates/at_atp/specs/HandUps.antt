@@ -1,5 +1,5 @@
--- How often a network hands a request up and answers it, where records live long enough (Inside AppleTalk, ATP,
--- "At-least-once and exactly-once transactions").
+-- How often a network delivers a request to a service and answers it, if records live long enough (Inside AppleTalk,
+-- ATP, "At-least-once and exactly-once transactions").
 use Rattle.std.specs.Prelude.{◌≡◌, ℕ, ◌+◌, ◌≤◌, ◌&&◌, ◌||◌, if◌then◌else◌, is_none, Bool, true, false, List, [], ◌∷◌, length, take, find, slice_get, Option, Some, None}
 use Rattle.at_ddp.specs.Address.{same_address}
 use Rattle.at_ddp.specs.declared.address.Address.{Address}
@@ -13,7 +13,7 @@ use Rattle.at_atp.specs.Transactions.{Transaction, Asked, transaction_of}
 use Rattle.at_atp.specs.declared.reception.Key.{Key}
 use Rattle.at_atp.specs.declared.step.Step.TheVariants as step
 
--- is the number that this requester draws that of the key?
+-- does this requester draw the number of the key?
 abbrev pub is_drawn : Address → Option ℕ → Key → Bool
 is_drawn who None key = false
 is_drawn who (Some tid) key = same_key (record { from = who; tid = tid }) key
@@ -23,7 +23,7 @@ abbrev pub draws : Network → Happening → Key → Bool
 draws n (Begins who to user bytes wanted xo times) key = is_drawn who (next_number (n.requesters who)) key
 draws n h key = false
 
--- does a packet that comes hand this request up?
+-- does a packet that comes deliver this request to the service?
 abbrev pub brings : Network → Key → Option Sent → Bool
 brings n key None = false
 brings n key (Some s) = hands_up key (n.responders s.to) (Comes s.from s.packet)
@@ -33,7 +33,7 @@ is_handed_up n (Takes which) key = brings n key (slice_get n.sent which)
 is_handed_up n (Serves which packets) key = brings n key (slice_get n.sent which)
 is_handed_up n h key = false
 
--- how often a request was handed up, anywhere, since its number was last drawn
+-- how often a request was delivered to a service, anywhere, since its number was last drawn
 abbrev pub hand_ups_since : (A : Type 0) → List Happening → Key → ℕ
 hand_ups_since A [] key = 0
 hand_ups_since A (h ∷ hs) key =
@@ -46,14 +46,14 @@ abbrev pub expires_there : Network → Happening → Address → Key → Bool
 expires_there n (Expires place k) at key = is_none (expiry_fault (find (is_key k) (n.responders place))) && same_address place at && same_key k key
 expires_there n h at key = false
 
--- did one expire since its number was last drawn?
+-- did such a record expire since the number was last drawn?
 abbrev pub has_expired : (A : Type 0) → List Happening → Address → Key → Bool
 has_expired A [] at key = false
 has_expired A (h ∷ hs) at key = if draws (after A hs) h key then false else expires_there (after A hs) h at key || has_expired A hs at key
 
 -- ---- histories in which no request outlives its record
 
--- where a request comes, no record of its key expired since its number was drawn
+-- if a request comes, no record of its key expired since its number was drawn
 abbrev pub ComesInLife : (A : Type 0) → List Happening → ℕ → Type 0
 ComesInLife A hs which = (s : Sent) (mask : ℕ) (xo : Bool) (timer tid : ℕ) (user bytes : List ℕ) → slice_get (after A hs).sent which ≡ Some s → s.packet ≡ Request mask xo timer tid user bytes → has_expired A hs s.to (record { from = s.from; tid = tid }) ≡ false
 
@@ -62,7 +62,7 @@ Lives A hs (Takes which) = ComesInLife A hs which
 Lives A hs (Serves which packets) = ComesInLife A hs which
 Lives A hs h = Unit {0}
 
--- Once a record expired, no request of its key comes to its responder before the number is drawn again.
+-- After a record expired, no request of its key comes to its responder before the number is drawn again.
 abbrev pub AllLived : (A : Type 0) → List Happening → Type 0
 AllLived A [] = Unit {0}
 AllLived A (h ∷ hs) = Lives A hs h × AllLived A hs
@@ -70,12 +70,12 @@ AllLived A (h ∷ hs) = Lives A hs h × AllLived A hs
 -- ---- what holds after such a history
 
 pub record AnswersOnce (A : Type 0) (history : List Happening) : Type 0 where
-  -- an exactly-once transaction that is the newest of its number was handed up at most once since it began, and answered
-  -- no oftener
+  -- an exactly-once transaction that is the newest of its number was delivered at most once since it began, and
+  -- answered no more often
   pub once : (who : Address) (tid : ℕ) (t : Transaction) → transaction_of (after A history).asked who tid ≡ Some t → t.xo ≡ true
       → (hand_ups_since A history (record { from = who; tid = tid }) ≤ 1) × (length t.answers ≤ hand_ups_since A history (record { from = who; tid = tid }))
-  -- one that a packet in time finishes was handed up once and answered once, and its response is that answer, or as many
-  -- of its first packets as were asked for
+  -- If a packet in time ends the transaction, it was delivered once and answered once. The response is that answer, or
+  -- as many of its first packets as were asked for.
   pub finished : (which : ℕ) (s : Sent) (packets : List Packet) → slice_get (after A history).sent which ≡ Some s → is_fresh (after A history).drawn s ≡ true
       → (heard {A = A} ((after A history).requesters s.to) s.from s.packet).step ≡ step.Finished packets → (a : Asked (after A history).asked s.to (number_of s.packet) s.from) → a.transaction.xo ≡ true
       → (hand_ups_since A history (record { from = s.to; tid = number_of s.packet }) ≡ 1) × (answer : List Packet) × (a.transaction.answers ≡ answer ∷ []) × (packets ≡ take a.transaction.wanted answer)

@@ -1,5 +1,5 @@
--- A network of requesters and responders that ask and answer each other, at any addresses, in which each packet may come
--- late, again or never (Inside AppleTalk, ATP, "Transactions").
+-- A network of requesters and responders at any addresses that ask and answer each other. Each packet may come late,
+-- again or never (Inside AppleTalk, ATP, "Transactions").
 use Rattle.std.specs.Prelude.{◌≡◌, ℕ, ◌+◌, ◌==◌, ◌&&◌, ◌||◌, not, nat_le, if◌then◌else◌, Bool, true, List, [], ◌∷◌, ◌++◌, length, map, find, slice_get, Option, Some, None}
 use Rattle.std.specs.List.{list_all}
 use Rattle.at_ddp.specs.Address.{same_address}
@@ -44,7 +44,7 @@ opening = record { event = 0; requesters = λ _. no_requests; responders = λ _.
 
 -- ---- numbers that are not reused
 
--- whose number a packet carries: the requester's
+-- the requester whose number a packet carries
 abbrev pub owner : Address → Address → Content → Address
 owner from to (Request mask xo timer tid user bytes) = from
 owner from to (Response place eom sts tid user bytes) = to
@@ -55,11 +55,11 @@ number_of (Request mask xo timer tid user bytes) = tid
 number_of (Response place eom sts tid user bytes) = tid
 number_of (Release tid) = tid
 
--- this is another number, or no later event than that one drew it
+-- the draw is of another number, or its event is not after this one
 abbrev pub is_no_later : Address → ℕ → ℕ → Drawn → Bool
 is_no_later who tid event x = not (same_address x.who who && (x.tid == tid)) || nat_le x.event event
 
--- no later event than the one that sent a packet drew the number that it carries
+-- no event after the one that sent a packet drew the number that it carries
 abbrev pub is_fresh : List Drawn → Sent → Bool
 is_fresh drawn s = list_all (is_no_later (owner s.from s.to s.packet) (number_of s.packet) s.event) drawn
 
@@ -78,13 +78,13 @@ pub data Happening : Type 0 where
   Hears : (which : ℕ) → Happening
   -- a packet comes to the responder at the address that it was sent to
   Takes : (which : ℕ) → Happening
-  -- the same, and a request that is new there is answered at once
+  -- the same, and if the request is new there, it is answered at once
   Serves : (which : ℕ) (packets : List Packet) → Happening
   -- the release timer of a record fires
   Expires : (at : Address) (key : Key) → Happening
   -- a transaction is retried
   Retries : (who : Address) (tid : ℕ) → Happening
-  -- nothing of this network
+  -- an event outside this network
   Other : Happening
 
 -- a new value at one address
@@ -117,7 +117,7 @@ abbrev pub begins : Network → Address → Address → List ℕ → List ℕ �
 begins n who to user bytes wanted xo retries None = n
 begins n who to user bytes wanted xo retries (Some tid) = begun n who (beginning tid to user bytes wanted xo retries)
 
--- an answer that is not refused is sent, and joins the answers of its transaction
+-- an answer that is not refused is sent, and added to the answers of its transaction
 abbrev pub answers : Network → Address → Key → List Packet → Option AtpFault → Network
 answers n at key packets (Some fault) = n
 answers n at key packets None = record n {
@@ -140,7 +140,7 @@ abbrev pub takes_in : Network → Option Sent → Network
 takes_in n None = n
 takes_in n (Some s) = takes n s
 
--- a request that was handed up is answered
+-- a request that was delivered to the service is answered
 abbrev pub handed_up : Network → Address → List Packet → Reception → Network
 handed_up n at packets (reception.New key) = gives n at key packets
 handed_up n at packets other = n
@@ -149,7 +149,7 @@ abbrev pub serves : Network → List Packet → Option Sent → Network
 serves n packets None = n
 serves n packets (Some s) = handed_up (takes n s) s.to packets (taken (n.responders s.to) s.from s.packet).reception
 
--- a record that can expire is gone, and nothing is sent
+-- a record that can expire is removed, and nothing is sent
 abbrev pub expires : Network → Address → Key → Option AtpFault → Network
 expires n at key (Some fault) = n
 expires n at key None = record n { responders = put n.responders at (without_first (is_key key) (n.responders at)) }
@@ -172,7 +172,7 @@ done A n Other = n
 abbrev pub tick : Network → Network
 tick n = record n { event = n.event + 1 }
 
--- the network after a history, whose newest happening stands first
+-- the network after a history, whose newest happening comes first
 abbrev pub after : (A : Type 0) → List Happening → Network
 after A [] = opening
 after A (h ∷ hs) = tick (done A (after A hs) h)
@@ -200,19 +200,21 @@ AllTimely A (h ∷ hs) = IsTimely (after A hs) h × AllTimely A hs
 -- ---- what holds after such a history
 
 pub record GivesAnswers (A : Type 0) (n : Network) : Type 0 where
-  -- what a packet in time finishes is a response to the newest transaction of its number, of answers given where it asked
+  -- what a packet in time finishes is a response to the newest transaction of its number, of answers given at the
+  -- address that it asked
   pub finished : (which : ℕ) (s : Sent) (packets : List Packet) → slice_get n.sent which ≡ Some s → is_fresh n.drawn s ≡ true
       → (heard {A = A} (n.requesters s.to) s.from s.packet).step ≡ step.Finished packets → (a : Asked n.asked s.to (number_of s.packet) s.from) × IsResponse a.transaction packets
-  -- a request in time is that of the newest transaction of its number, and came where that asked
+  -- a request in time belongs to the newest transaction of its number, and was sent to the responder that it asked
   pub requested : (which : ℕ) (s : Sent) (mask : ℕ) (xo : Bool) (timer tid : ℕ) (user bytes : List ℕ) → slice_get n.sent which ≡ Some s → is_fresh n.drawn s ≡ true
       → s.packet ≡ Request mask xo timer tid user bytes → (a : Asked n.asked s.from tid s.to) × (a.transaction.user ≡ user) × (a.transaction.data_ ≡ bytes) × (a.transaction.xo ≡ xo)
-  -- a response in time is to the newest transaction of its number, and a packet of an answer that was given where it asked
+  -- a response in time is for the newest transaction of its number: a packet of an answer given at the address that it
+  -- asked
   pub responded : (which : ℕ) (s : Sent) (place : ℕ) (eom sts : Bool) (tid : ℕ) (user bytes : List ℕ) → slice_get n.sent which ≡ Some s → is_fresh n.drawn s ≡ true
       → s.packet ≡ Response place eom sts tid user bytes → (a : Asked n.asked s.to tid s.from) × IsPart a.transaction place eom (record { user = user; data_ = bytes })
-  -- a release in time is of the newest transaction of its number, and came where that asked
+  -- a release in time belongs to the newest transaction of its number, and was sent to the responder that it asked
   pub released : (which : ℕ) (s : Sent) (tid : ℕ) → slice_get n.sent which ≡ Some s → is_fresh n.drawn s ≡ true → s.packet ≡ Release tid → Asked n.asked s.from tid s.to
-  -- a record is of the newest transaction of its number
+  -- a record belongs to the newest transaction of its number
   pub recorded : (at : Address) (key : Key) (r : Record) → find (is_key key) (n.responders at) ≡ Some r → Asked n.asked key.from key.tid at
-  -- and so is an open transaction
+  -- and so does an open transaction
   pub standing : (who : Address) (tid : ℕ) (t : requests.Transaction) → find (is_numbered tid) (n.requesters who).standing ≡ Some t
       → (a : Asked n.asked who tid t.to) × (a.transaction.user ≡ t.user) × (a.transaction.data_ ≡ t.data_) × (a.transaction.wanted ≡ length t.parts) × (a.transaction.xo ≡ t.xo)

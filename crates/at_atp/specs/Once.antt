@@ -1,4 +1,4 @@
--- How often a request is handed up at one responder (Inside AppleTalk, ATP, "At-least-once and exactly-once transactions").
+-- How often a responder delivers a request (Inside AppleTalk, ATP, "At-least-once and exactly-once transactions").
 use Rattle.std.specs.Prelude.{ℕ, ◌+◌, ◌==◌, ◌&&◌, not, is_some, if◌then◌else◌, Bool, true, false, List, [], ◌∷◌, find, Option, Some, None}
 use Rattle.at_ddp.specs.Address.{same_address}
 use Rattle.at_ddp.specs.declared.address.Address.{Address}
@@ -11,7 +11,7 @@ use Rattle.at_atp.specs.declared.reception.Key.{Key}
 use Rattle.at_atp.specs.declared.reception.Reception.{Reception}
 use Rattle.at_atp.specs.declared.reception.Reception.TheVariants as reception
 
--- What may happen at a responder. A packet that there is no place or no memory for changes nothing, and is left out.
+-- What may happen at a responder. A packet that finds no place or no memory changes nothing, and is left out.
 pub data Event : Type 0 where
   -- a packet comes from an address
   Comes : (from : Address) (packet : Content) → Event
@@ -22,7 +22,7 @@ pub data Event : Type 0 where
   -- the record of a request is undone
   Undoes : (key : Key) → Event
 
--- the records that are changed so, unless that is refused
+-- the changed records, or the same ones if the change is refused
 abbrev pub unless : List Record → Option AtpFault → List Record → List Record
 unless rs (Some fault) changed = rs
 unless rs None changed = changed
@@ -37,7 +37,7 @@ next rs (Undoes key) = unless rs (record_fault (find (is_key key) rs)) (without_
 abbrev pub same_key : Key → Key → Bool
 same_key a b = same_address a.from b.from && (a.tid == b.tid)
 
--- is a packet's request, which is this one, handed up?
+-- did a packet deliver this request to the service?
 abbrev pub is_new_of : Key → Reception → Bool
 is_new_of key (reception.New k) = same_key k key
 is_new_of key other = false
@@ -50,14 +50,14 @@ hands_up key rs other = false
 abbrev pub stands : Key → List Record → Bool
 stands key rs = is_some (find (is_key key) rs)
 
--- its record stood before an event, and doesn't after it
+-- the record stood before the event, and does not stand after it
 abbrev pub removes : Key → List Record → Event → Bool
 removes key rs e = stands key rs && not (stands key (next rs e))
 
 abbrev pub once_if : Bool → ℕ
 once_if b = if b then 1 else 0
 
--- how often a request is handed up, from these records on
+-- how often the request is delivered to the service, from these records on
 abbrev pub hand_ups : Key → List Record → List Event → ℕ
 hand_ups key rs [] = 0
 hand_ups key rs (e ∷ es) = once_if (hands_up key rs e) + hand_ups key (next rs e) es
@@ -67,7 +67,7 @@ abbrev pub removals : Key → List Record → List Event → ℕ
 removals key rs [] = 0
 removals key rs (e ∷ es) = once_if (removes key rs e) + removals key (next rs e) es
 
--- is the request for exactly-once?
+-- is the request exactly-once?
 abbrev pub is_once : State → Bool
 is_once (Waiting xo mask) = xo
 is_once (Answered packets) = true

@@ -1,4 +1,4 @@
--- The side that asks, and what each call does to it (Inside AppleTalk, ATP, "Transactions").
+-- The requester, and what each call does to it (Inside AppleTalk, ATP, "Transactions").
 use Rattle.std.specs.Prelude.{◌≡◌, ℕ, zero, suc, ◌+◌, ◌%◌, ◌≤◌, ◌==◌, ◌&&◌, not, nat_lt, if◌then◌else◌, Bool, true, false, List, [], ◌∷◌, ◌++◌, length, find, option_map, replicate, Option, Some, None}
 use Rattle.std.specs.List.{list_any}
 use Rattle.at_ddp.specs.Address.{same_address}
@@ -13,7 +13,7 @@ use Rattle.at_atp.specs.declared.step.Retry.TheVariants as retry
 use Rattle.at_atp.specs.declared.step.Step.{Step}
 use Rattle.at_atp.specs.declared.step.Step.TheVariants as step
 
--- an open transaction: its number, whom it asked and what, how often it may be sent again, and what came for each place
+-- an open transaction: its number, whom it asks, what it asks, the retries left, and what came for each place
 pub record Transaction : Type 0 where
   pub tid : ℕ
   pub to : Address
@@ -23,7 +23,7 @@ pub record Transaction : Type 0 where
   pub retries : ℕ
   pub parts : List (Option Arrival)
 
--- the number to try next, and the open transactions in the order of their beginnings
+-- the number to try next, and the open transactions in the order in which they began
 pub record Requests : Type 0 where
   pub next : ℕ
   pub standing : List Transaction
@@ -31,7 +31,7 @@ pub record Requests : Type 0 where
 abbrev pub no_requests : Requests
 no_requests = record { next = 0; standing = [] }
 
--- a transaction's data fits one packet, and it asks for at most eight
+-- the data of a transaction fits one packet, and it asks for at most eight
 pub record IsTransaction (t : Transaction) : Type 0 where
   pub data_fits : length t.data_ ≤ 578
   pub few : length t.parts ≤ 8
@@ -43,32 +43,32 @@ is_numbered tid t = t.tid == tid
 abbrev pub has_number : List Transaction → ℕ → Bool
 has_number standing tid = list_any (λ t. t.tid == tid) standing
 
--- the first number from here on that is not open, of so many tries
+-- the first number from this one on that is not open, if it takes at most so many tries
 abbrev pub draw_from : ℕ → ℕ → List Transaction → Option ℕ
 draw_from zero first standing = None
 draw_from (suc tries) first standing = if has_number standing first then draw_from tries ((first + 1) % 65536) standing else Some first
 
--- the requester once the transaction of a number is closed
+-- the requester after the transaction of a number is closed
 abbrev pub closing : Requests → Option ℕ → Requests
 closing r None = r
 closing r (Some tid) = record r { standing = without_first (is_numbered tid) r.standing }
 
--- the number that the next transaction gets; none where 32 are open
+-- the number that the next transaction gets; none if 32 are open
 abbrev pub next_number : Requests → Option ℕ
 next_number r = if nat_lt (length r.standing) 32 then draw_from (length r.standing + 1) r.next r.standing else None
 
--- the request by which a transaction asks for the places that it still wants
+-- the request of a transaction for the places still wanted
 abbrev pub request_by : Transaction → Content
 request_by t = Request (mask_of t.parts) t.xo 0 t.tid t.user t.data_
 
--- a transaction that begins: nothing came for any of the places wanted
+-- a transaction as it begins: nothing came for any of its places
 abbrev pub beginning : ℕ → Address → List ℕ → List ℕ → ℕ → Bool → ℕ → Transaction
 beginning tid to user bytes wanted xo retries = record { tid = tid; to = to; user = user; data_ = bytes; xo = xo; retries = retries; parts = replicate wanted None }
 
 abbrev pub begun : Requests → Transaction → Requests
 begun r t = record { next = (t.tid + 1) % 65536; standing = r.standing ++ t ∷ [] }
 
--- the transaction of this number, if it asked this address
+-- the transaction has this number, and asked this address
 abbrev pub is_of : ℕ → Address → Transaction → Bool
 is_of tid from t = (t.tid == tid) && same_address t.to from
 
@@ -78,14 +78,14 @@ pub record Effect (A : Type 0) : Type 0 where
   pub after : Transaction
   pub sent : List (Address × Content)
 
--- an exactly-once transaction tells the responder that the answer came whole
+-- an exactly-once transaction tells the responder that the answer arrived complete
 abbrev pub release_by : Transaction → List (Address × Content)
 release_by t = if t.xo then (t.to, Release t.tid) ∷ [] else []
 
 abbrev pub asked_again : {A : Type 0} → Transaction → Effect A
 asked_again t = record { step = step.AskAgain; after = t; sent = (t.to, request_by t) ∷ [] }
 
--- a packet came that was wanted: the answer is there, or others are still wanted
+-- a packet came that was wanted: it completes the answer, or others are still wanted
 abbrev pub was_kept : {A : Type 0} → Transaction → Bool → Option (List Packet) → Effect A
 was_kept t sts (Some packets) = record { step = step.Finished packets; after = t; sent = release_by t }
 was_kept t true None = asked_again t
@@ -96,7 +96,7 @@ came_for t place part sts true = was_kept (record t { parts = with_part t.parts 
 came_for t place part true false = asked_again t
 came_for t place part false false = record { step = step.Ignored; after = t; sent = [] }
 
--- a packet for this place came, with the status flag or without
+-- a packet came for this place, with the status flag or without it
 abbrev pub came : {A : Type 0} → Transaction → ℕ → Arrival → Bool → Effect A
 came t place part sts = came_for t place part sts (is_wanted t.parts place)
 
@@ -117,7 +117,7 @@ pub record Heard (A : Type 0) : Type 0 where
 abbrev pub ignored : {A : Type 0} → Requests → Heard A
 ignored r = record { step = step.Ignored; after = r; sent = [] }
 
--- a transaction that finished is closed, and any other stands as the packet left it
+-- a transaction that finished is closed, and any other stays as the packet left it
 abbrev pub settled : {A : Type 0} → Requests → (Transaction → Bool) → Effect A → Heard A
 settled r this e = record {
   step = e.step;
@@ -141,7 +141,7 @@ is_response (Response place eom sts tid user bytes) = true
 is_response (Request mask xo timer tid user bytes) = false
 is_response (Release tid) = false
 
--- is this transaction there, and at-least-once?
+-- is there such a transaction, and is it at-least-once?
 abbrev pub is_at_least_once : Option Transaction → Bool
 is_at_least_once None = false
 is_at_least_once (Some t) = not t.xo
@@ -158,7 +158,7 @@ pub record Retried : Type 0 where
   pub after : Requests
   pub sent : List (Address × Content)
 
--- with a retry left, one is taken and the transaction asked again; with none left it is closed
+-- if a retry is left, it is used up and the request sent again; otherwise the transaction is closed
 abbrev pub retried_with : Requests → ℕ → Transaction → ℕ → Retried
 retried_with r tid t zero = record { step = retry.Failed; after = record r { standing = without_first (is_numbered tid) r.standing }; sent = [] }
 retried_with r tid t (suc left) = record {

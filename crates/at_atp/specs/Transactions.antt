@@ -1,13 +1,13 @@
--- Transactions as their users see them: who asked whom for what, and the answers that were given (Inside AppleTalk, ATP,
--- "Transactions"). There is no packet, no bitmap and no record.
+-- Transactions as their users see them: who asked whom for what, and the answers that were given (Inside AppleTalk,
+-- ATP, "Transactions"). Packets, bitmaps and records play no part.
 use Rattle.std.specs.Prelude.{◌≡◌, ℕ, ◌+◌, ◌≤◌, ◌==◌, ◌&&◌, if◌then◌else◌, Bool, true, List, [], ◌∷◌, ◌++◌, length, find, slice_get, Option, Some, ◌⊎◌}
 use Rattle.std.specs.List.{Contains}
 use Rattle.at_ddp.specs.Address.{same_address}
 use Rattle.at_ddp.specs.declared.address.Address.{Address}
 use Rattle.at_atp.specs.Packets.{Packet}
 
--- one beginning of a transaction: who asks, under which number, whom, and what, for how many packets, and whether
--- exactly once; and the answers that were given to it since
+-- One transaction from its beginning on: who asks whom, for what, and under which number. It has the number of packets
+-- wanted, whether it is exactly-once, and the answers that were given to it.
 pub record Transaction : Type 0 where
   pub requester : Address
   pub tid : ℕ
@@ -21,11 +21,11 @@ pub record Transaction : Type 0 where
 abbrev pub is_transaction : Address → ℕ → Transaction → Bool
 is_transaction requester tid t = same_address t.requester requester && (t.tid == tid)
 
--- the newest transaction of a requester under a number, of transactions whose newest stands first
+-- the newest transaction of a requester under a number; the newest transactions come first
 abbrev pub transaction_of : List Transaction → Address → ℕ → Option Transaction
 transaction_of ts requester tid = find (is_transaction requester tid) ts
 
--- the newest transaction of a requester under a number, and that it asked this address
+-- the newest transaction of a requester under a number exists, and asked this address
 pub record Asked (ts : List Transaction) (requester : Address) (tid : ℕ) (responder : Address) : Type 0 where
   pub transaction : Transaction
   pub newest : transaction_of ts requester tid ≡ Some transaction
@@ -38,14 +38,14 @@ answered (t ∷ ts) requester tid packets =
     if is_transaction requester tid t then record t { answers = t.answers ++ packets ∷ [] } ∷ ts
     else t ∷ answered ts requester tid packets
 
--- a packet stands at this place of some answer that was given, which ends with it or does not
+-- some answer that was given has this packet at this place, and ends with it or does not
 pub record IsPart (t : Transaction) (place : ℕ) (ends : Bool) (p : Packet) : Type 0 where
   pub answer : List Packet
   pub given : Contains t.answers answer
   pub there : slice_get answer place ≡ Some p
   pub is_end : ends ≡ (place + 1 == length answer)
 
--- each of these packets, the first of which stands at this place, stands at its place of some answer
+-- each of these packets is at its place of some answer; the first is at this place
 abbrev pub AreParts : Transaction → ℕ → List Packet → Type 0
 AreParts t place [] = Unit {0}
 AreParts t place (p ∷ ps) = ((ends : Bool) × IsPart t place ends p) × AreParts t (place + 1) ps
@@ -56,8 +56,8 @@ EndsAnswer t place [] = ⊥
 EndsAnswer t place (p ∷ []) = IsPart t place true p
 EndsAnswer t place (p ∷ q ∷ ps) = EndsAnswer t (place + 1) (q ∷ ps)
 
--- What may be handed up as the response: some packets, and no more than were asked for, each at its place of some
--- answer; and the last of them ends an answer, or all that were asked for are there.
+-- What a response may be: packets at their places of some answers, and no more than were asked for. The last of them
+-- ends an answer, or all that were asked for are there.
 pub record IsResponse (t : Transaction) (packets : List Packet) : Type 0 where
   pub some : 1 ≤ length packets
   pub few : length packets ≤ t.wanted

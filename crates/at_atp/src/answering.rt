@@ -12,12 +12,12 @@ use crate::responder::Responder;
 use at_ddp::{Listed, Outbox};
 use std::alloc::{AllocError, Allocator};
 
-/// How many packets an answer has at most.
+/// The most packets of an answer.
 const PACKETS: usize = 8;
 
 impl<A: Allocator + Copy> Responder<A> {
-    /// Answers a request that waits: sends the packets that it asked for, and counts them. The answer to an exactly-once
-    /// request is copied and kept, and any other request is forgotten.
+    /// Answers a request that waits: sends the packets that it asked for, and returns how many. The answer to an
+    /// exactly-once request is copied and kept. Any other request loses its record.
     pub fn respond(
         &mut self,
         key: Key,
@@ -30,7 +30,7 @@ impl<A: Allocator + Copy> Responder<A> {
         ensures unchanged { OnErr result (self.new ≡ self.old) }
         ensures nothing_sent { OnErr result (Sends out.old out.new []) }
 
-        // No memory is refused where there is room for eight full packets and the answer is not kept.
+        // Never out of memory if there is room for eight full packets and the answer is not kept.
         ensures room { HasRoomFor out.old 8 586 → answer_fault self.old key packets.now ≡ None → is_kept (find (is_key key) self.old) ≡ false → IsOk result }
     {
         if let Some(fault) = answer_fault(&self.entries, key, packets) {
@@ -44,7 +44,7 @@ impl<A: Allocator + Copy> Responder<A> {
         Ok(send_answer(out, key, 0, mask, packets))
     }
 
-    /// The same with an answer that it takes over, so that no memory is needed to keep it.
+    /// The same as `respond`, with packets that it takes over. So it needs no memory to keep them.
     pub fn hand_over(
         &mut self,
         key: Key,
@@ -57,7 +57,7 @@ impl<A: Allocator + Copy> Responder<A> {
         ensures unchanged { OnErr result (self.new ≡ self.old) }
         ensures nothing_sent { OnErr result (Sends out.old out.new []) }
 
-        // No memory is refused where there is room for eight full packets.
+        // Never out of memory if there is room for eight full packets.
         ensures room { HasRoomFor out.old 8 586 → answer_fault self.old key packets ≡ None → IsOk result }
     {
         let answer = packets.as_slice();
@@ -71,8 +71,7 @@ impl<A: Allocator + Copy> Responder<A> {
         Ok(count)
     }
 
-    /// Makes room for the largest answer to a request that waits. An answer to it that is handed over then takes no
-    /// memory.
+    /// Makes room for the largest answer to a request that waits. Then `hand_over` needs no memory to answer it.
     pub fn room(&self, key: Key, out: &mut Outbox<A>) -> Result<(), AtpFault>
         ensures ok { OnOk result (HasRoomFor out.new 8 586) }
         ensures refuses { IfSome (record_fault (find (is_key key) self.now)) (λ fault. result ≡ Err fault) }
@@ -89,7 +88,7 @@ impl<A: Allocator + Copy> Responder<A> {
     }
 }
 
-// Why this answer to a request is refused.
+// Why an answer is refused: first for its packets, then for its request.
 fn answer_fault<A: Allocator>(
     entries: &[Entry<A>],
     key: Key,
@@ -109,14 +108,14 @@ fn answer_fault<A: Allocator>(
     }
 }
 
-// Whether each packet's data fits.
+// Whether each packet has at most 578 bytes of data. The number of packets is tested elsewhere.
 fn fit<A: Allocator>(packets: &[Packet<A>]) -> bool
     ensures { result ≡ fit packets.now }
 {
     packets.iter().all(|p| p.data_().len() <= MAX_DATA)
 }
 
-// The same packets in memory of their own.
+// A copy of the packets.
 fn copy_of<A: Allocator + Copy>(
     alloc: A,
     packets: &[Packet<A>],

@@ -20,7 +20,7 @@ pub(crate) enum Held<A: Allocator> {
     Released,
 }
 
-/// A request that came, and what became of it.
+/// A record: a request that came, and what became of it.
 #[derive(Drop)]
 pub(crate) struct Entry<A: Allocator> {
     key: Key,
@@ -55,14 +55,14 @@ impl<A: Allocator> Entry<A> {
         self.key.from == key.from && self.key.tid == key.tid
     }
 
-    // Whether the request has this number of a requester at this node.
+    // Whether the request has this number and came from this node.
     pub(crate) fn is_from(&self, node: u8, tid: u16) -> bool
         ensures { result ≡ is_from node tid self.now }
     {
         self.key.from.node == node && self.key.tid == tid
     }
 
-    // Why the request can't be answered.
+    // Why the request cannot be answered.
     pub(crate) fn fault(&self) -> Option<AtpFault>
         ensures { result ≡ state_fault self.now.state }
     {
@@ -73,7 +73,7 @@ impl<A: Allocator> Entry<A> {
         }
     }
 
-    // Why the record can't expire.
+    // Why the record cannot expire.
     pub(crate) fn expiry_fault(&self) -> Option<AtpFault>
         ensures { result ≡ expiry_fault_of self.now.state }
     {
@@ -94,7 +94,7 @@ impl<A: Allocator> Entry<A> {
         }
     }
 
-    // Whether the answer to the request is to be kept.
+    // Whether the request is exactly-once and waits, so that its answer will be kept.
     pub(crate) fn keeps_answer(&self) -> bool
         ensures { result ≡ keeps_answer self.now.state }
     {
@@ -105,7 +105,6 @@ impl<A: Allocator> Entry<A> {
         }
     }
 
-    // Keeps the answer of the request.
     pub(crate) fn keep(&mut self, packets: Listed<Packet<A>, A>)
         requires few { length packets ≤ 8 }
         requires fits { fit packets ≡ true }
@@ -114,7 +113,7 @@ impl<A: Allocator> Entry<A> {
         self.held = Held::Answered(packets);
     }
 
-    // The request came again.
+    // Sends what is kept of the answer again. A request that still waits takes the new mask.
     pub(crate) fn come_again(
         &mut self,
         mask: u8,
@@ -140,7 +139,7 @@ impl<A: Allocator> Entry<A> {
         }
     }
 
-    // The answer came whole: what is kept of it is dropped.
+    // Drops the answer that is kept, since it arrived complete.
     pub(crate) fn release(&mut self) -> Reception
         ensures reception { result ≡ (released self.old.state).reception }
         ensures state { self.new ≡ record self.old { state = (released self.old.state).state } }
@@ -156,7 +155,7 @@ impl<A: Allocator> Entry<A> {
     }
 }
 
-// Sends the packets whose bits are set, from a place on, and counts them.
+// Sends the packets whose bits are set in the mask, and counts them. Bit 0 is for the packet at `place`.
 pub(crate) fn send_answer<A: Allocator>(
     out: &mut Outbox<A>,
     key: Key,
@@ -181,7 +180,6 @@ pub(crate) fn send_answer<A: Allocator>(
     }
 }
 
-// Sends a packet, if it is asked for.
 fn send_if<A: Allocator>(
     asked: bool,
     out: &mut Outbox<A>,

@@ -7,31 +7,31 @@ use thiserror::Error;
 /// Why a packet or a call is refused.
 #[derive(Clone, Copy, Debug, PartialEq, Eq, Error)]
 pub enum AtpFault {
-    /// A header has 8 bytes.
+    /// A packet is shorter than its header, which has 8 bytes.
     #[error("the ATP packet is under 8 bytes, so its header is cut short")]
     ShortAtp,
-    /// The function bits name a request, a response or a release.
+    /// A packet is no request, no response and no release.
     #[error("the function bits name no ATP packet (00)")]
     BadFunction,
-    /// A response has a place from 0 to 7.
+    /// The place of a response is not 0 to 7.
     #[error("the sequence number of an ATP response is over 7")]
     BadSequence,
-    /// A packet carries at most 578 bytes of data, and an answer has at most 8 packets.
+    /// A packet has over 578 bytes of data, or an answer over 8 packets.
     #[error("a packet has over 578 bytes of data, or the answer has over 8 packets")]
     AtpTooLong,
-    /// At most 32 transactions are open, and at most 64 records stand.
+    /// There is no room: at most 32 transactions are open, and at most 64 records stand.
     #[error("32 transactions are open already, or 64 requests are on record already")]
     Full,
-    /// The number or the key stands in the table.
+    /// No transaction with this number is open, or no record with this key stands.
     #[error("no transaction of this number is open, or no request of this key is on record")]
     NoSuch,
-    /// An answer has at least one packet.
+    /// An answer has no packets.
     #[error("the answer has no packets")]
     EmptyAnswer,
-    /// A request that waits for its answer does not expire.
+    /// A request that waits for its answer was to expire.
     #[error("the request cannot expire while it waits for its answer")]
     StillPending,
-    /// A request is answered once.
+    /// A request was to be answered a second time.
     #[error("the request was answered before, and a request is answered once")]
     Gone,
     /// No rule was broken, but memory ran out.

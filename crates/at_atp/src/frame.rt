@@ -7,26 +7,26 @@ use crate::fault::AtpFault;
 use byteorder::{BigEndian, ByteOrder};
 use std::alloc::Allocator;
 
-/// How many bytes stand before the data.
+/// The length of a header in bytes.
 pub const HEADER_LEN: usize = 8;
 
-/// How many bytes of data a packet carries at most.
+/// The most data that a packet carries, in bytes.
 pub const MAX_DATA: usize = 578;
 
-/// How many bytes a packet has at most.
+/// The greatest length of a packet in bytes.
 pub(crate) const PACKET_LEN: usize = HEADER_LEN + MAX_DATA;
 
-/// An ATP packet, whose data lies in the bytes that it was read from.
+/// A decoded ATP packet. Its data stays in the bytes that it was decoded from.
 #[derive(Clone, Copy, Debug, PartialEq, Eq)]
 pub enum Frame<'a> {
     /// Asks for the packets of an answer.
     Request {
         /// Bit i asks for packet i.
         mask: u8,
-        /// Whether the request is to be run at most once.
+        /// Whether the request is exactly-once: the service is to run it at most once.
         xo: bool,
-        /// How long the answer is kept without a release, with `xo`: 0 for half a minute, 1 to 4 for 1, 2, 4 and 8
-        /// minutes. No time is counted.
+        /// How long the answer is kept without a release, if `xo` is set. 0 means 30 seconds, and 1 to 4 mean 1, 2, 4
+        /// and 8 minutes. A requester sends 0, and a responder measures no time.
         timer: u8,
         tid: u16,
         user: [u8; 4],
@@ -34,27 +34,27 @@ pub enum Frame<'a> {
     },
     /// One packet of an answer.
     Response {
-        /// 0 to 7.
+        /// The place of the packet in the answer, 0 to 7.
         place: u8,
-        /// Whether the answer ends with this packet.
+        /// Whether this is the last packet of the answer (EOM).
         eom: bool,
-        /// Whether the requester is asked to ask again for what it still wants.
+        /// Whether the requester is to ask again for what it still wants (STS).
         sts: bool,
         tid: u16,
         user: [u8; 4],
         data_: &'a [u8],
     },
-    /// Tells that an answer came whole.
+    /// Says that the answer arrived complete.
     Release {
         tid: u16,
     },
 }
 
-/// Reads an ATP packet, which is the whole of its datagram's data.
+/// Decodes an ATP packet, which is all of a datagram's data.
 pub fn decode(input: &[u8]) -> Result<Frame<'_>, AtpFault>
-    // What is read is spelled there.
+    // What is decoded is spelled there.
     ensures found { IfOk result (λ f. Spells input.now (content f)) }
-    // What is spelled there is read.
+    // What is spelled there is decoded.
     ensures only { (f : Content) → Spells input.now f → IsOkAnd result (λ g. content g ≡ f) }
     ensures fault { IfErr result (λ fault. IsFirstFault fault input.now) }
 {
@@ -87,7 +87,7 @@ fn parse(input: &[u8]) -> Result<Frame<'_>, AtpFault>
     })
 }
 
-// The fields of a request, whose header is there.
+// The request in these bytes, whose header is complete.
 fn request_in(input: &[u8]) -> Frame<'_>
     requires { 8 ≤ length input.now }
     ensures { content result ≡ request_of input.now }
@@ -103,7 +103,7 @@ fn request_in(input: &[u8]) -> Frame<'_>
     }
 }
 
-// The fields of a response, whose header is there.
+// The response in these bytes, whose header is complete.
 fn response_in(input: &[u8]) -> Frame<'_>
     requires { 8 ≤ length input.now }
     ensures { content result ≡ response_of input.now }
@@ -131,7 +131,7 @@ fn timer_of(xo: bool, low: u8) -> u8
     if xo && low <= 4 { low } else { 0 }
 }
 
-/// Appends the canonical spelling, with 0 in the free parts.
+/// Appends a packet in the canonical spelling, with 0 in the free bits.
 pub fn encode<A: Allocator>(frame: &Frame<'_>, out: &mut Vec<u8, A>) -> Result<(), AtpFault>
     requires { CanBeWritten (content frame.now) }
     ensures ok { OnOk result (out.new.items ≡ out.old.items ++ spelled (content frame.now)) }
@@ -139,7 +139,7 @@ pub fn encode<A: Allocator>(frame: &Frame<'_>, out: &mut Vec<u8, A>) -> Result<(
     ensures too_long { IsErrOf result AtpFault.AtpTooLong ↔ (578 < length (data_of (content frame.now))) }
     ensures memory { IfErr result (λ fault. fault ≢ AtpFault.AtpTooLong → fault ≡ AtpFault.NoMemory) }
 
-    // Memory is refused only where room was missing.
+    // Out of memory only if the vector has no room left.
     ensures room { IsErrOf result AtpFault.NoMemory → vec_capacity out.old < vec_len out.old + 8 + length (data_of (content frame.now)) }
 {
     let bytes = data_in(frame);
@@ -152,7 +152,6 @@ pub fn encode<A: Allocator>(frame: &Frame<'_>, out: &mut Vec<u8, A>) -> Result<(
     Ok(())
 }
 
-// The data of a packet.
 pub(crate) fn data_in<'a>(frame: &Frame<'a>) -> &'a [u8]
     ensures { result.now ≡ data_of (content frame.now) }
 {
@@ -163,7 +162,7 @@ pub(crate) fn data_in<'a>(frame: &Frame<'a>) -> &'a [u8]
     }
 }
 
-// What stands before the data in the canonical spelling.
+// The header that precedes the data in the canonical spelling.
 pub(crate) fn header_of(frame: &Frame<'_>) -> [u8; HEADER_LEN]
     requires { CanBeWritten (content frame.now) }
     ensures { result ++ data_of (content frame.now) ≡ spelled (content frame.now) }

@@ -1,4 +1,4 @@
-//! Transactions by AppleTalk's Transaction Protocol (ATP): frames, the side that asks and the side that answers.
+//! Transactions of the AppleTalk Transaction Protocol (ATP): packets, the requester and the responder.
 #![tactic(auto)]
 
 mod answering;

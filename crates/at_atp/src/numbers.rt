@@ -4,10 +4,10 @@ ghost use Rattle.at_atp.specs.Requests.{has_number, draw_from, next_number};
 use crate::transaction::Transaction;
 use std::alloc::Allocator;
 
-/// How many transactions may be open.
+/// How many transactions may be open at once.
 const OPEN: usize = 32;
 
-/// The number that the next transaction gets where these are open, and `next` is to be tried first.
+/// The number of the next transaction, if these are open and `next` is tried first.
 pub(crate) fn next_of<A: Allocator>(
     front: &[Transaction<A>],
     back: &[Transaction<A>],
@@ -24,7 +24,7 @@ pub(crate) fn next_of<A: Allocator>(
     }
 }
 
-// The first number from `first` on that is not open, of so many tries.
+// The first number from `first` on that is not open, if it takes at most `tries` tries.
 fn free_number<A: Allocator>(
     front: &[Transaction<A>],
     back: &[Transaction<A>],
@@ -42,7 +42,6 @@ fn free_number<A: Allocator>(
     }
 }
 
-// Whether a transaction is open under this number.
 fn is_open<A: Allocator>(front: &[Transaction<A>], back: &[Transaction<A>], tid: u16) -> bool
     ensures { result ≡ has_number (front.now ++ back.now) tid }
 {

@@ -40,7 +40,7 @@ impl<A: Allocator> Packet<A> {
         self.data_.as_slice()
     }
 
-    // The same packet in memory of its own.
+    // A copy of the packet.
     pub(crate) fn copy(&self, alloc: A) -> Result<Packet<A>, AllocError>
         ensures { IfOk result (λ p. p ≡ self.now) }
     {
@@ -50,7 +50,7 @@ impl<A: Allocator> Packet<A> {
         })
     }
 
-    /// What the types of its parts say of them. It does nothing.
+    /// Every byte of the packet is under 256. The body does nothing at run time.
     pub fn ranges(&self)
         ensures { AreWords self.now }
     {

@@ -12,10 +12,10 @@ use crate::reception::{Key, Reception};
 use at_ddp::{Listed, Outbox};
 use std::alloc::{AllocError, Allocator};
 
-/// How many records may stand.
+/// How many records may stand at once.
 const RECORDS: usize = 64;
 
-// Why a request can't be answered.
+// Why a request cannot be answered.
 pub(crate) fn record_fault<A: Allocator>(entries: &[Entry<A>], key: Key) -> Option<AtpFault>
     ensures { result ≡ record_fault (find (is_key key) entries.now) }
 {
@@ -25,7 +25,7 @@ pub(crate) fn record_fault<A: Allocator>(entries: &[Entry<A>], key: Key) -> Opti
     }
 }
 
-// Why a record can't expire.
+// Why a record cannot expire.
 pub(crate) fn expiry_fault<A: Allocator>(entries: &[Entry<A>], key: Key) -> Option<AtpFault>
     ensures { result ≡ expiry_fault (find (is_key key) entries.now) }
 {
@@ -35,7 +35,7 @@ pub(crate) fn expiry_fault<A: Allocator>(entries: &[Entry<A>], key: Key) -> Opti
     }
 }
 
-// Whether the answer to a request is to be kept.
+// Whether the answer to a request will be kept.
 pub(crate) fn is_kept<A: Allocator>(entries: &[Entry<A>], key: Key) -> bool
     ensures { result ≡ is_kept (find (is_key key) entries.now) }
 {
@@ -45,7 +45,7 @@ pub(crate) fn is_kept<A: Allocator>(entries: &[Entry<A>], key: Key) -> bool
     }
 }
 
-// Which packets a request that waits asked for.
+// Which packets a request asks for, if it waits.
 pub(crate) fn mask_of<A: Allocator>(entries: &[Entry<A>], key: Key) -> u8
     ensures { IfSome (find (is_key key) entries.now) (λ r. result ≡ asked_mask r.state) }
 {
@@ -61,14 +61,13 @@ pub(crate) fn entry_of<A: Allocator>(entries: &[Entry<A>], key: Key) -> Option<&
     entries.iter().find(|e| e.is_of(key))
 }
 
-// Where the record of a request stands.
 fn place_of<A: Allocator>(entries: &[Entry<A>], key: Key) -> Option<usize>
     ensures { result ≡ position_from (is_key key) 0 entries.now }
 {
     entries.iter().position(|e| e.is_of(key))
 }
 
-// Takes a request in that asks for something.
+// Takes a request that asks for at least one packet.
 pub(crate) fn take_in<A: Allocator>(
     entries: &mut Vec<Entry<A>, A>,
     key: Key,
@@ -92,7 +91,7 @@ pub(crate) fn take_in<A: Allocator>(
     }
 }
 
-// A record for a new request.
+// Adds a record for a new request.
 fn add<A: Allocator>(
     entries: &mut Vec<Entry<A>, A>,
     key: Key,
@@ -112,7 +111,7 @@ fn add<A: Allocator>(
     Ok(Reception::New(key))
 }
 
-// Takes in again the request of the record at an index.
+// Takes a request again whose record is at this index.
 fn repeat<A: Allocator>(
     entries: &mut Vec<Entry<A>, A>,
     index: usize,
@@ -130,7 +129,7 @@ fn repeat<A: Allocator>(
     entry.come_again(mask, out)
 }
 
-// Takes in the release of a request's answer.
+// Takes the release of an answer.
 pub(crate) fn take_release<A: Allocator>(entries: &mut Vec<Entry<A>, A>, key: Key) -> Reception
     ensures reception { result ≡ (release_came entries.old.items key (find (is_key key) entries.old.items)).reception }
     ensures after { entries.new.items ≡ (release_came entries.old.items key (find (is_key key) entries.old.items)).after }
@@ -144,7 +143,7 @@ pub(crate) fn take_release<A: Allocator>(entries: &mut Vec<Entry<A>, A>, key: Ke
     }
 }
 
-// Keeps the answer to a request for exactly-once, and forgets any other request.
+// Keeps the answer if the request is exactly-once, and removes the record otherwise.
 pub(crate) fn settle<A: Allocator>(
     entries: &mut Vec<Entry<A>, A>,
     key: Key,
@@ -161,7 +160,6 @@ pub(crate) fn settle<A: Allocator>(
     }
 }
 
-// Keeps the answer to a request whose record stands.
 fn keep<A: Allocator>(entries: &mut Vec<Entry<A>, A>, key: Key, packets: Listed<Packet<A>, A>)
     requires few { length packets ≤ 8 }
     requires fits { fit packets ≡ true }
@@ -173,7 +171,7 @@ fn keep<A: Allocator>(entries: &mut Vec<Entry<A>, A>, key: Key, packets: Listed<
     }
 }
 
-// Takes a record away, and tells which packets were asked for.
+// Removes a record. Returns which packets its request asked for.
 pub(crate) fn forget<A: Allocator>(entries: &mut Vec<Entry<A>, A>, key: Key) -> u8
     ensures gone { entries.new.items ≡ without_first (is_key key) entries.old.items }
     ensures mask { IfSome (find (is_key key) entries.old.items) (λ r. result ≡ asked_mask r.state) }

@@ -14,7 +14,7 @@ use at_ddp::{Address, Outbox};
 use std::alloc::{AllocError, Allocator, Global};
 use std::marker::Model;
 
-/// The transactions that one socket asked for and that are still open.
+/// The requester of a socket: its open transactions, at most 32.
 #[derive(Drop)]
 pub struct Requester<A: Allocator = Global> {
     pub(crate) alloc: A,
@@ -45,8 +45,8 @@ impl<A: Allocator + Copy> Requester<A> {
         }
     }
 
-    /// The number that the next transaction gets, or none where no number can be given. A transaction that is to be
-    /// closed before counts as closed.
+    /// The number that the next transaction will get; none if 32 are open. If `closed` is a number, its transaction
+    /// counts as closed.
     pub fn next_number(&self, closed: Option<u16>) -> Option<u16>
         ensures { result ≡ next_number (closing self.now closed) }
     {
@@ -60,8 +60,8 @@ impl<A: Allocator + Copy> Requester<A> {
         }
     }
 
-    /// Begins a transaction: asks for `wanted` packets, 1 to 8, under the next number, which is the answer. `retries`
-    /// says how often the request may be sent again.
+    /// Begins a transaction that asks for `wanted` packets, 1 to 8, and returns its number. The request may be sent
+    /// again `retries` times.
     pub fn begin(
         &mut self,
         to: Address,
@@ -78,7 +78,7 @@ impl<A: Allocator + Copy> Requester<A> {
         ensures state { IfOk result (λ tid. self.new ≡ begun self.old (beginning tid to user bytes.now wanted xo retries)) }
         ensures sent { IfOk result (λ tid. Sends out.old out.new ((to, spelled (request_by (beginning tid to user bytes.now wanted xo retries))) ∷ [])) }
 
-        // The data is looked at first, then the table.
+        // The length of the data is tested first, and then whether a number is free.
         ensures too_long { IsErrOf result AtpFault.AtpTooLong ↔ (578 < length bytes.now) }
         ensures full { IsErrOf result AtpFault.Full ↔ ((length bytes.now ≤ 578) × (next_number self.old ≡ None)) }
         ensures memory { IfErr result (λ fault. fault ≢ AtpFault.AtpTooLong → fault ≢ AtpFault.Full → fault ≡ AtpFault.NoMemory) }
@@ -107,7 +107,7 @@ impl<A: Allocator + Copy> Requester<A> {
         Ok(tid)
     }
 
-    /// Takes a packet in that came from this address.
+    /// Takes a packet that came from this address.
     pub fn receive(
         &mut self,
         from: Address,
@@ -118,7 +118,7 @@ impl<A: Allocator + Copy> Requester<A> {
         ensures unchanged { OnErr result (self.new ≡ self.old) }
         ensures nothing_sent { OnErr result (Sends out.old out.new []) }
 
-        // A packet that has no effect takes no memory.
+        // A packet that has no effect needs no memory.
         ensures ignored { is_ignored (heard {A = A} self.old from (content frame.now)).step ≡ true → IsOk result }
     {
         let Frame::Response {
@@ -148,8 +148,8 @@ impl<A: Allocator + Copy> Requester<A> {
         Ok(step)
     }
 
-    /// Takes one of the retries of the transaction that is open under this number, and sends its request again, for the
-    /// packets still wanted. Where no retry is left, it closes the transaction, which takes no memory.
+    /// Sends the request of the open transaction of this number again, for the packets still wanted, and uses up a
+    /// retry. If no retry is left, it closes the transaction, which needs no memory.
     pub fn retry(&mut self, tid: u16, out: &mut Outbox<A>) -> Result<Retry, AtpFault>
         ensures ok { IfOk result (λ step. IsRetried self.old tid step self.new out.old out.new) }
         ensures missing { IsErrOf result AtpFault.NoSuch ↔ (retried self.old tid ≡ None) }
@@ -173,7 +173,7 @@ impl<A: Allocator + Copy> Requester<A> {
     }
 }
 
-// Closes the transaction at an index, if it finished.
+// Closes the transaction at an index if the step finished it.
 fn settle<A: Allocator>(standing: &mut Vec<Transaction<A>, A>, index: usize, step: &Step<A>)
     requires { index < length standing.old.items }
     ensures { standing.new.items ≡ (if is_finished step.now then remove standing.old.items index else standing.old.items) }
@@ -183,7 +183,6 @@ fn settle<A: Allocator>(standing: &mut Vec<Transaction<A>, A>, index: usize, ste
     }
 }
 
-// Where the transaction of this number stands.
 fn place_numbered<A: Allocator>(standing: &[Transaction<A>], tid: u16) -> Option<usize>
     ensures first { result ≡ position_from (is_numbered tid) 0 standing.now }
     ensures within { IfSome result (λ index. index < length standing.now) }
@@ -191,7 +190,6 @@ fn place_numbered<A: Allocator>(standing: &[Transaction<A>], tid: u16) -> Option
     standing.iter().position(|t| t.tid() == tid)
 }
 
-// Where the transaction of this number stands, if it asked this address.
 pub(crate) fn place_of<A: Allocator>(
     standing: &[Transaction<A>],
     tid: u16,

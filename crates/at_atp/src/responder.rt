@@ -14,7 +14,7 @@ use at_ddp::{Address, Outbox};
 use std::alloc::{Allocator, Global};
 use std::marker::Model;
 
-/// The requests that came to one socket, and what became of each.
+/// The responder of a socket: a record for each request that came, with what became of it. At most 64 records stand.
 #[derive(Drop)]
 pub struct Responder<A: Allocator = Global> {
     pub(crate) alloc: A,
@@ -40,7 +40,7 @@ impl<A: Allocator + Copy> Responder<A> {
         }
     }
 
-    /// Takes a packet in that came from this address. A new request waits from then on for its answer.
+    /// Takes a packet that came from this address. A new request waits for its answer from then on.
     pub fn receive(
         &mut self,
         from: Address,
@@ -53,7 +53,7 @@ impl<A: Allocator + Copy> Responder<A> {
         ensures unchanged { OnErr result (self.new ≡ self.old) }
         ensures nothing_sent { OnErr result (Sends out.old out.new []) }
 
-        // A packet that has no effect takes no memory, and neither does a release.
+        // A packet that has no effect needs no memory, and neither does a release.
         ensures ignored { (taken self.old from (content frame.now)).reception ≡ Reception.Ignored → IsOk result }
         ensures released { (taken self.old from (content frame.now)).reception ≡ Reception.Released → IsOk result }
     {
@@ -69,21 +69,21 @@ impl<A: Allocator + Copy> Responder<A> {
         }
     }
 
-    /// Whether a record of this request stands, whatever became of it.
+    /// Whether this request has a record.
     pub fn holds(&self, key: Key) -> bool
         ensures { result ≡ is_some (find (is_key key) self.now) }
     {
         entry_of(&self.entries, key).is_some()
     }
 
-    /// Whether a record stands of this number of a requester at this node.
+    /// Whether a request with this number from this node has a record.
     pub fn holds_number(&self, node: u8, tid: u16) -> bool
         ensures { result ≡ list_any (is_from node tid) self.now }
     {
         self.entries.iter().any(|e| e.is_from(node, tid))
     }
 
-    /// Takes the record of a request that waits away again. It takes no memory.
+    /// Removes the record of a request that waits, as if the request had not come. This needs no memory.
     pub fn undo(&mut self, key: Key) -> Result<(), AtpFault>
         ensures ok { OnOk result (self.new ≡ without_first (is_key key) self.old) }
         ensures refuses { IfSome (record_fault (find (is_key key) self.old)) (λ fault. result ≡ Err fault) }
@@ -97,7 +97,7 @@ impl<A: Allocator + Copy> Responder<A> {
         Ok(())
     }
 
-    /// The release timer of a request that was answered fired: its record goes. It takes no memory.
+    /// Removes the record of a request that was answered, since its release timer fired. This needs no memory.
     pub fn expire(&mut self, key: Key) -> Result<(), AtpFault>
         ensures ok { OnOk result (self.new ≡ without_first (is_key key) self.old) }
         ensures refuses { IfSome (expiry_fault (find (is_key key) self.old)) (λ fault. result ≡ Err fault) }

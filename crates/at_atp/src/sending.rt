@@ -7,7 +7,7 @@ use arrayvec::ArrayVec;
 use at_ddp::{Address, Outbox};
 use std::alloc::{AllocError, Allocator};
 
-// Sends a packet.
+// Sends a packet in the canonical spelling.
 pub(crate) fn send<A: Allocator>(
     out: &mut Outbox<A>,
     to: Address,

@@ -2,16 +2,16 @@ use crate::packet::Packet;
 use at_ddp::Listed;
 use std::alloc::{Allocator, Global};
 
-/// What came of a packet.
+/// What came of a packet at a requester.
 #[derive(Drop)]
 pub enum Step<A: Allocator = Global> {
     /// The packet had no effect.
     Ignored,
-    /// The packet was kept, and others are still wanted.
+    /// The packet was kept. Others are still wanted.
     Kept,
     /// The packets still wanted were asked for again.
     AskAgain,
-    /// The transaction ended with these packets.
+    /// The transaction ended with this answer.
     Finished(Listed<Packet<A>, A>),
 }
 
@@ -20,6 +20,6 @@ pub enum Step<A: Allocator = Global> {
 pub enum Retry {
     /// The packets still wanted were asked for again.
     AskedAgain,
-    /// No retry was left, and the transaction is closed.
+    /// No retry was left, so the transaction ended without an answer.
     Failed,
 }

@@ -23,7 +23,7 @@ pub(crate) struct Transaction<A: Allocator> {
     data_: Bytes<A>,
     xo: bool,
     retries: u8,
-    // What came for each place that was asked for.
+    // What came for each packet that was asked for.
     parts: Vec<Option<Part<A>>, A>,
 }
 
@@ -37,7 +37,7 @@ impl<A: Allocator> Model for Transaction<A> {
     ghost invariant = { λ t. IsTransaction (record { tid = t.tid; to = t.to; user = t.user; data_ = t.data_; xo = t.xo; retries = t.retries; parts = t.parts.items }) };
 }
 
-// What a transaction asks, as it begins.
+// What a transaction asks when it begins.
 #[derive(Clone, Copy)]
 pub(crate) struct Asking<'a> {
     pub to: Address,
@@ -83,7 +83,7 @@ impl<A: Allocator> Transaction<A> {
         self.tid == tid && self.to == from
     }
 
-    // The request for what is still wanted.
+    // The request for the packets still wanted.
     pub(crate) fn request(&self) -> Frame<'_>
         ensures request { content result ≡ request_by self.now }
         ensures written { CanBeWritten (content result) }
@@ -99,7 +99,7 @@ impl<A: Allocator> Transaction<A> {
         }
     }
 
-    // Whether a packet for this place would end it, and it is for at-least-once.
+    // Whether a packet for this place would end this transaction, and the transaction is at-least-once.
     pub(crate) fn would_end(&self, place: u8, eom: bool) -> bool
         ensures { (part : Arrival) (sts : Bool) → part.eom ≡ eom → result ≡ (not self.now.xo && is_finished (came {A = A} self.now place part sts).step) }
     {
@@ -113,7 +113,7 @@ impl<A: Allocator> Transaction<A> {
         is_wanted(&self.parts, place)
     }
 
-    // Whether a packet for this place would bring the answer whole.
+    // Whether a packet for this place would complete the answer.
     fn completes(&self, place: u8, eom: bool) -> bool
         requires { place < length self.now.parts }
         ensures { (part : Arrival) → part.eom ≡ eom → result ≡ is_some (whole (with_part self.now.parts place part)) }
@@ -121,7 +121,7 @@ impl<A: Allocator> Transaction<A> {
         completes(&self.parts, place, eom)
     }
 
-    // Tells the responder that the answer came whole, if this is for exactly-once.
+    // If the transaction is exactly-once, sends the release: the answer is complete.
     fn release(&self, out: &mut Outbox<A>) -> Result<(), AllocError>
         ensures ok { OnOk result (Sends out.old out.new (spelled_all (release_by self.now))) }
         ensures err { OnErr result (Sends out.old out.new []) }
@@ -133,7 +133,7 @@ impl<A: Allocator> Transaction<A> {
         send(out, self.to, &Frame::Release { tid: self.tid })
     }
 
-    // Takes a retry and sends the request again, if there is one left.
+    // Uses up a retry and sends the request again. Returns false if no retry is left.
     pub(crate) fn take_retry(&mut self, out: &mut Outbox<A>) -> Result<bool, AllocError>
         ensures taken { IfOk result (λ taken. taken ≡ nat_lt 0 self.old.retries) }
         ensures state { OnOk result (self.new ≡ record self.old { retries = self.old.retries - 1 }) }
@@ -158,7 +158,7 @@ impl<A: Allocator> Transaction<A> {
     }
 }
 
-// A packet of an answer that comes in.
+// A packet of an answer, as it arrives.
 #[derive(Clone, Copy)]
 pub(crate) struct Arriving<'a> {
     pub place: u8,
@@ -172,7 +172,7 @@ impl<A: Allocator + Copy> Transaction<A> {
     ghost use Rattle.at_atp.specs.Requests.{was_kept, is_ignored, IsEffect};
     ghost use Rattle.at_atp.specs.Arriving.{arrival_of};
 
-    // Takes a packet in that came from the address that was asked, under this transaction's number.
+    // Takes a packet of the answer: it came from the address that was asked, with this transaction's number.
     pub(crate) fn take_in(
         &mut self,
         alloc: A,
@@ -194,7 +194,7 @@ impl<A: Allocator + Copy> Transaction<A> {
         }
     }
 
-    // A packet came whose place is not wanted.
+    // The place of the packet is not wanted. STS still makes the requester ask again.
     fn not_wanted(&self, sts: bool, out: &mut Outbox<A>) -> Result<Step<A>, AllocError>
         ensures ok { (place : ℕ) (part : Arrival) → is_wanted self.now.parts place ≡ false → IfOk result (λ step. IsEffect (came self.now place part sts) step self.now out.old out.new) }
         ensures nothing_sent { OnErr result (Sends out.old out.new []) }
@@ -207,7 +207,7 @@ impl<A: Allocator + Copy> Transaction<A> {
         Ok(Step::AskAgain)
     }
 
-    // A packet came after which others are still wanted.
+    // Keeps a packet that does not complete the answer. With STS it asks again for the rest.
     fn keep(
         &mut self,
         alloc: A,
@@ -231,7 +231,7 @@ impl<A: Allocator + Copy> Transaction<A> {
         Ok(Step::AskAgain)
     }
 
-    // A packet came with which the answer is there.
+    // Takes the packet that completes the answer.
     pub(crate) fn finish(
         &mut self,
         alloc: A,
@@ -245,6 +245,7 @@ impl<A: Allocator + Copy> Transaction<A> {
         ensures nothing_sent { OnErr result (Sends out.old out.new []) }
         ensures untouched { self.old.xo ≡ false → out.new ≡ out.old }
     {
+        // All memory comes first: once the release is sent, the transaction must end.
         let part = Part::copy_of(alloc, arriving.eom, arriving.user, arriving.bytes)?;
         let packets = Vec::with_capacity(alloc, self.parts.len())?;
         self.release(out)?;

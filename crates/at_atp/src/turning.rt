@@ -26,9 +26,9 @@ impl<A: Allocator + Copy> Requester<A> {
         }
     }
 
-    /// Takes a packet in that ends an at-least-once transaction, and begins the next with the same address: asks it for
-    /// one packet, at least once and without data. It answers what came of the packet, and the new number. Where memory
-    /// is refused, the packet is not taken in either.
+    /// Takes a packet that ends an at-least-once transaction, and begins the next one. The next one asks the same
+    /// address for one packet, at least once and without data. Returns what came of the packet, and the new number. If
+    /// memory runs out, the packet is not taken either.
     pub fn turn(
         &mut self,
         from: Address,
@@ -42,7 +42,7 @@ impl<A: Allocator + Copy> Requester<A> {
         ensures drawn { IfOk result (λ r. next_number (heard {A = A} self.old from (content frame.now)).after ≡ Some r.1) }
         ensures state { IfOk result (λ r. self.new ≡ begun (heard {A = A} self.old from (content frame.now)).after (beginning r.1 from user [] 1 false retries)) }
 
-        // An at-least-once transaction sends nothing as it ends.
+        // An at-least-once transaction sends no release at its end.
         ensures sent { IfOk result (λ r. Sends out.old out.new ((from, spelled (request_by (beginning r.1 from user [] 1 false retries))) ∷ [])) }
         ensures unchanged { OnErr result (self.new ≡ self.old) }
         ensures nothing_sent { OnErr result (Sends out.old out.new []) }
@@ -82,7 +82,7 @@ impl<A: Allocator + Copy> Requester<A> {
         Transaction::begin(self.alloc, tid, &asking)
     }
 
-    // Closes the transaction at an index and opens another, whose number it answers.
+    // Closes the transaction at an index and opens another. Returns the new number.
     fn pass_on(&mut self, index: usize, next: Transaction<A>) -> u16
         requires { index < length self.old.standing }
         ensures state { self.new ≡ begun (record self.old { standing = remove self.old.standing index }) next }
@@ -96,7 +96,7 @@ impl<A: Allocator + Copy> Requester<A> {
     }
 }
 
-// The number of a packet of an answer, and the packet.
+// The number and the contents of a packet of an answer.
 fn answer_in<'a>(frame: &Frame<'a>) -> Option<(u16, Arriving<'a>)>
     ensures answer { IfSome result (λ r. content frame.now ≡ Response r.1.place r.1.eom r.1.sts r.0 r.1.user r.1.bytes.now) }
     ensures other { is_some result ≡ is_response (content frame.now) }

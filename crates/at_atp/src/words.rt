@@ -5,12 +5,12 @@ ghost use Rattle.at_atp.specs.Lawfully.{AreWords};
 use crate::packet::Packet;
 use std::alloc::Allocator;
 
-/// What the type of bytes says of them. It does nothing.
+/// Every byte is under 256. The body is empty: the type of the bytes is the proof.
 pub fn ranges_of_bytes(_bytes: &[u8])
     ensures { AreBytes _bytes.now }
 {}
 
-/// What the types of the parts of packets say of them. It does nothing but pass them by.
+/// Every byte of every packet is under 256. The body only visits the packets.
 pub fn ranges_of<A: Allocator>(packets: &[Packet<A>])
     ensures { AllByRecursion AreWords packets.now }
 {

@@ -1,4 +1,4 @@
-//! A side that answers, for tests: its calls, and what is compared of them.
+//! A responder for tests: each method makes a call, and compares what it returns.
 use crate::shared::{ATP, request};
 use at_atp::{AtpFault, Frame, Key, Packet, Reception, Responder};
 use at_ddp::{Bytes, Datagrams, Listed, Outbox};
@@ -10,7 +10,7 @@ pub(crate) fn key(tid: u16) -> Key {
     Key { from: ASKER, tid }
 }
 
-// A side that answers, what it sent, and how many of its calls found no memory.
+// A responder, what it sent, and how many of its calls ran out of memory.
 #[derive(Drop)]
 pub(crate) struct Answerer<A: Allocator> {
     pub responder: Responder<A>,
@@ -31,7 +31,7 @@ impl<A: Allocator + Copy> Answerer<A> {
         self.responder.receive(ASKER, frame, &mut self.out)
     }
 
-    // Takes a packet in, and takes it in again where there was no memory.
+    // Receives a packet. Receives it again if memory ran out.
     fn receive_again(&mut self, frame: &Frame<'_>) -> Result<Reception, AtpFault> {
         match self.receive(frame) {
             Err(AtpFault::NoMemory) => {
@@ -46,7 +46,7 @@ impl<A: Allocator + Copy> Answerer<A> {
         self.responder.respond(key(tid), packets, &mut self.out)
     }
 
-    // Answers, and answers again where there was no memory.
+    // Answers a request. Answers it again if memory ran out.
     fn respond_again(&mut self, tid: u16, packets: &[Packet<A>]) -> Result<u8, AtpFault> {
         match self.respond(tid, packets) {
             Err(AtpFault::NoMemory) => {
@@ -57,7 +57,6 @@ impl<A: Allocator + Copy> Answerer<A> {
         }
     }
 
-    // Takes a packet in, and compares what comes of it.
     pub(crate) fn compare_frame(
         &mut self,
         rt: &impl Abort,
@@ -68,7 +67,7 @@ impl<A: Allocator + Copy> Answerer<A> {
         assert_eq!(rt; reception, want, "of {frame:?}");
     }
 
-    // Takes a request in that has this mask and this number, and compares what comes of it.
+    // Receives a request with this mask and this transaction number.
     pub(crate) fn compare_request(
         &mut self,
         rt: &impl Abort,
@@ -79,7 +78,6 @@ impl<A: Allocator + Copy> Answerer<A> {
         self.compare_frame(rt, &request(mask, tid), want);
     }
 
-    // Takes a request in that is new.
     pub(crate) fn compare_new(&mut self, rt: &impl Abort, mask: u8, tid: u16) {
         self.compare_request(rt, mask, tid, Ok(Reception::New(key(tid))));
     }
@@ -89,7 +87,7 @@ impl<A: Allocator + Copy> Answerer<A> {
         assert_eq!(rt; reception, Ok(Reception::Ignored), "of {frame:?}");
     }
 
-    // Answers, and compares how many packets are sent.
+    // Answers a request, and compares how many packets are sent.
     pub(crate) fn compare_respond(
         &mut self,
         rt: &impl Abort,
@@ -106,7 +104,7 @@ impl<A: Allocator + Copy> Answerer<A> {
         );
     }
 
-    // Hands an answer over, and compares how many packets are sent.
+    // Answers a request with packets that the responder takes over, and compares how many packets are sent.
     pub(crate) fn compare_hand_over(
         &mut self,
         rt: &impl Abort,
@@ -157,7 +155,7 @@ fn bare<A: Allocator>(alloc: A, user: u8) -> Packet<A> {
     Packet::new([user; 4], Bytes::from_vec(Vec::new(alloc)))
 }
 
-// An answer of so many packets without data, whose user bytes are their numbers from 1.
+// An answer of packets without data. Their user bytes are their numbers, from 1 on.
 pub(crate) fn bares<A: Allocator + Copy, B: Allocator>(
     memory: B,
     alloc: A,
@@ -170,7 +168,7 @@ pub(crate) fn bares<A: Allocator + Copy, B: Allocator>(
     Ok(packets)
 }
 
-// An answer of one packet with these data.
+// An answer of one packet with this data.
 pub(crate) fn answer(alloc: Global, bytes: &[u8]) -> Result<[Packet; 1], AllocError> {
     Ok([Packet::new([0; 4], Bytes::copy_of(alloc, bytes)?)])
 }

@@ -1,4 +1,4 @@
-//! Packets of transactions as bytes.
+//! Tests of ATP packets as bytes.
 ghost use Rattle.at_atp.specs.Frames.{content, CanBeWritten};
 
 use crate::shared::request;
@@ -8,7 +8,6 @@ use std::alloc::Global;
 use std::process::Abort;
 use std::test::Fail;
 
-// The bytes that a packet is written as.
 fn written(alloc: Global, frame: &Frame<'_>) -> Result<Vec<u8>, AtpFault>
     requires { CanBeWritten (content frame.now) }
 {
@@ -17,7 +16,7 @@ fn written(alloc: Global, frame: &Frame<'_>) -> Result<Vec<u8>, AtpFault>
     Ok(out)
 }
 
-// Writes a packet as these bytes, and reads it from them.
+// Encodes a packet as these bytes, and decodes the packet from them.
 fn compare_both_ways(
     rt: &impl Abort,
     alloc: Global,
@@ -99,8 +98,8 @@ fn a_release_is_written_and_read(rt: HostRuntime) -> Result<(), Fail> {
     Ok(())
 }
 
-// The control byte of a request, whether it is for exactly once, and its timer: 5 to 7 are read as 0, as any timer is
-// without exactly once. EOM and STS are free.
+// The control byte of a request, whether it is exactly-once, and its timer. The timer is read as 0 if it is 5 to 7, or
+// if the request is at-least-once. The EOM and STS bits are free.
 static REQUESTS: [(u8, bool, u8); 11] = [
     (0x60, true, 0),
     (0x61, true, 1),
@@ -128,7 +127,7 @@ fn compare_request(rt: &impl Abort, control: u8, xo: bool, timer: u8) {
     assert_eq!(rt; decode(&bytes), Ok(want), "of {control:02X}");
 }
 
-// The control byte of a response, and whether it has EOM and STS. XO and the timer are free.
+// The control byte of a response, and whether it has EOM and STS. The XO bit and the timer are free.
 static RESPONSES: [(u8, bool, bool); 5] = [
     (0x80, false, false),
     (0xA7, false, false),
@@ -162,7 +161,7 @@ fn the_free_bits_of_a_packet_are_ignored(rt: HostRuntime) {
     assert_eq!(rt; decode(&release), Ok(Frame::Release { tid: 5 }));
 }
 
-// Bytes that hold no packet, each with the fault that stands first in them.
+// Bytes that are no packet, each with its first fault.
 static REFUSED: [(&[u8], AtpFault); 6] = [
     (&[0; 7], AtpFault::ShortAtp),
     (&[], AtpFault::ShortAtp),
@@ -172,7 +171,7 @@ static REFUSED: [(&[u8], AtpFault); 6] = [
     (&[0xC0; 587], AtpFault::AtpTooLong),
 ];
 
-// The faults of packets and of calls, and their numbers.
+// The faults and their numbers.
 static NUMBERS: [(AtpFault, Option<u8>); 9] = [
     (AtpFault::ShortAtp, Some(10)),
     (AtpFault::BadFunction, Some(11)),
@@ -185,7 +184,7 @@ static NUMBERS: [(AtpFault, Option<u8>); 9] = [
     (AtpFault::NoMemory, None),
 ];
 
-// Writes a response with these data, and compares how long it is.
+// Encodes a response with this data, and compares the length of its encoding.
 fn compare_length(rt: &impl Abort, alloc: Global, bytes: &[u8], want: Result<usize, AtpFault>) {
     let frame = Frame::Response {
         place: 0,

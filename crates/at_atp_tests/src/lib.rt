@@ -1,4 +1,4 @@
-//! Tests of transactions, from outside their crate.
+//! Tests of at_atp through its public functions.
 #![tactic(auto)]
 
 #[cfg(test)]

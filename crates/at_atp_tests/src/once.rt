@@ -1,4 +1,4 @@
-//! The side of a transaction that answers, exactly once.
+//! Tests of the responder with exactly-once requests.
 use crate::answerer::{Answerer, bares, key};
 use crate::shared::{compare_sent, exactly_once};
 use at_atp::{AtpFault, Frame, Packet, Reception, decode};
@@ -8,7 +8,7 @@ use std::alloc::{AllocError, Allocator, Global};
 use std::process::Abort;
 use std::test::Fail;
 
-// Takes an exactly-once request in, and compares what comes of it.
+// Receives an exactly-once request.
 fn compare_asked<A: Allocator + Copy>(
     rt: &impl Abort,
     answerer: &mut Answerer<A>,
@@ -18,7 +18,7 @@ fn compare_asked<A: Allocator + Copy>(
     answerer.compare_frame(rt, &exactly_once(mask, 9), want);
 }
 
-// An exactly-once request for two packets is new, and answered by these.
+// Receives a new exactly-once request for two packets, and answers it with these.
 fn answer_once<A: Allocator + Copy>(
     rt: &impl Abort,
     answerer: &mut Answerer<A>,
@@ -39,12 +39,12 @@ fn answer_of_two<A: Allocator + Copy, B: Allocator>(
     Ok(packets)
 }
 
-// What is sent of it.
+// The first packet as it is sent; the second follows.
 const FIRST: &[u8] = b"\x80\x00\0\x09\x01\x01\x01\x01";
 
 const LAST: &[u8] = b"\x90\x01\0\x09\x02\x02\x02\x02ab";
 
-// Asked again, it sends what is asked for of the answer that is kept.
+// If the request comes again, the responder sends the packets that it asks for of the answer it keeps.
 fn compare_repeats<A: Allocator + Copy>(rt: &impl Abort, answerer: &mut Answerer<A>) {
     compare_asked(rt, answerer, 0xFF, Ok(Reception::Again(2)));
     compare_asked(rt, answerer, 2, Ok(Reception::Again(1)));
@@ -52,7 +52,7 @@ fn compare_repeats<A: Allocator + Copy>(rt: &impl Abort, answerer: &mut Answerer
     answerer.compare_request(rt, 1, 9, Ok(Reception::Again(1)));
 }
 
-// Answers once and is asked again, and tells how many calls found no memory. Without memory for the answer that is one.
+// Answers once and is asked again. Returns how many calls ran out of memory; it is one if the answer itself did.
 fn play_once<A: Allocator + Copy>(rt: &impl Abort, global: Global, alloc: A) -> u64 {
     let mut answerer = Answerer::new(alloc);
     let Ok(packets) = answer_of_two(global, alloc) else {
@@ -72,7 +72,7 @@ fn an_exactly_once_request_is_answered_again_from_what_is_kept(rt: HostRuntime) 
     assert_eq!(rt; play_once(&rt, rt.alloc(), rt.alloc()), 0);
 }
 
-// Plays with one request for memory refused after those that are granted, and tells how many calls found none.
+// The allocator grants `granted` requests and refuses the next one. Returns how many calls ran out of memory.
 fn play_refused(rt: &impl Abort, global: Global, granted: u64) -> u64 {
     let heap = Refusing::new(global, granted);
     let refused = play_once(rt, global, &heap);
@@ -93,7 +93,7 @@ fn no_memory_for_an_answer_that_is_kept_changes_nothing(rt: HostRuntime) {
     assert!(rt; 2 < refusals && refusals < 30, "{refusals} refusals");
 }
 
-// A request whose answer is kept, or was, is answered by no call.
+// A request that was answered exactly once is not answered by another call, whether its answer is still kept or not.
 fn compare_gone(
     rt: &impl Abort,
     alloc: Global,
@@ -108,7 +108,7 @@ fn compare_gone(
     Ok(())
 }
 
-// The packets in these bytes are taken in.
+// Receives the packet in these bytes.
 fn compare_bytes(
     rt: &impl Abort,
     answerer: &mut Answerer<Global>,

@@ -1,4 +1,4 @@
-//! The side of a transaction that asks.
+//! Tests of the requester.
 use crate::shared::{ATP, compare_sent, response};
 use at_atp::{AtpFault, Frame, Packet, Requester, Step};
 use at_ddp::{Address, Datagrams, Listed, Outbox};
@@ -8,7 +8,7 @@ use std::alloc::{AllocError, Allocator, Global};
 use std::process::Abort;
 use std::test::Fail;
 
-// A side that asks, what it sent, and how many of its calls found no memory. Its functions have no contract, so that no
+// A requester, what it sent, and how many of its calls ran out of memory. Its functions have no contract, so that no
 // proof carries the state from one call to the next.
 #[derive(Drop)]
 struct Asker<A: Allocator> {
@@ -18,7 +18,7 @@ struct Asker<A: Allocator> {
     refusals: u64,
 }
 
-// What came of a packet, whose answer the asker keeps.
+// What came of a packet. The asker keeps the answer.
 #[derive(Clone, Copy, Debug, PartialEq, Eq)]
 enum Heard {
     Ignored,
@@ -37,7 +37,7 @@ impl<A: Allocator + Copy> Asker<A> {
         }
     }
 
-    // Asks for 8 packets at once, or for one at least once.
+    // Asks for 8 packets exactly once, or for one at least once.
     fn begin(&mut self, bytes: &[u8], xo: bool) -> Result<u16, AtpFault> {
         let wanted = if xo { 8 } else { 1 };
         let user = [1, 2, 3, 4];
@@ -45,7 +45,7 @@ impl<A: Allocator + Copy> Asker<A> {
             .begin(SERVER, user, bytes, wanted, xo, 3, &mut self.out)
     }
 
-    // Asks, and asks again where there was no memory.
+    // Begins a transaction. Begins it again if memory ran out.
     fn begin_again(&mut self, bytes: &[u8], xo: bool) -> Result<u16, AtpFault> {
         match self.begin(bytes, xo) {
             Err(AtpFault::NoMemory) => {
@@ -60,7 +60,7 @@ impl<A: Allocator + Copy> Asker<A> {
         self.requester.receive(from, frame, &mut self.out)
     }
 
-    // Takes a packet in, and takes it in again where there was no memory.
+    // Receives a packet. Receives it again if memory ran out.
     fn receive_again(&mut self, from: Address, frame: &Frame<'_>) -> Result<Step<A>, AllocError> {
         match self.receive(from, frame) {
             Err(AllocError) => {
@@ -83,12 +83,11 @@ impl<A: Allocator + Copy> Asker<A> {
         }
     }
 
-    // Asks for one packet, and compares the number that the transaction has.
+    // Asks for one packet at least once, and compares the transaction number.
     fn compare_begin(&mut self, rt: &impl Abort, bytes: &[u8], want: Result<u16, AtpFault>) {
         assert_eq!(rt; self.begin(bytes, false), want);
     }
 
-    // Takes a packet in, and compares what comes of it.
     fn compare_hear(&mut self, rt: &impl Abort, from: Address, frame: &Frame<'_>, want: Heard) {
         assert_eq!(rt;
             self.hear(from, frame),
@@ -97,7 +96,7 @@ impl<A: Allocator + Copy> Asker<A> {
         );
     }
 
-    // The data of the answer's packets, each after the last of its user bytes.
+    // For each packet of the answer, the last of its user bytes and its data.
     fn answered(&self, alloc: Global) -> Result<Vec<u8>, AllocError> {
         let mut bytes = Vec::new(alloc);
         if let Some(packets) = &self.answer {
@@ -124,9 +123,9 @@ impl<A: Allocator + Copy> Asker<A> {
     }
 }
 
-// The packets of an answer as they come: place, EOM, STS, data, and what comes of each.
+// The packets of an answer in the order of their arrival: place, EOM, STS, data, and what comes of each.
 static COMING: [(u8, bool, bool, &[u8], Heard); 13] = [
-    // The sixth is the last, so places 6 and 7 are no longer wanted.
+    // This is packet 5, and EOM says that it is the last, so packets 6 and 7 are no longer wanted.
     (5, true, false, b"F", Heard::Kept),
     (0, false, false, b"A", Heard::Kept),
     (2, false, false, b"C", Heard::Kept),
@@ -135,7 +134,7 @@ static COMING: [(u8, bool, bool, &[u8], Heard); 13] = [
     (5, false, false, b"x", Heard::Ignored),
     (6, true, false, b"x", Heard::Ignored),
     (7, true, false, b"x", Heard::Ignored),
-    // One that is not wanted wants to be asked again, and then one that is.
+    // STS makes the requester ask again, both on a packet that is not wanted and on one that is.
     (6, false, true, b"x", Heard::AskAgain),
     (1, false, true, b"B", Heard::AskAgain),
     (4, false, false, b"E", Heard::Kept),
@@ -149,7 +148,7 @@ fn hear_coming<A: Allocator + Copy>(rt: &impl Abort, asker: &mut Asker<A>) {
     }
 }
 
-// The request, twice what was still wanted, and the release.
+// The request, two requests for what was still wanted, and the release.
 static SENT: [&[u8]; 4] = [
     b"\x60\xFF\0\0\x01\x02\x03\x04ab",
     b"\x60\x1A\0\0\x01\x02\x03\x04ab",
@@ -157,7 +156,7 @@ static SENT: [&[u8]; 4] = [
     b"\xC0\0\0\0\0\0\0\0",
 ];
 
-// Asks for eight packets exactly once, takes their answer in, and tells how many calls found no memory.
+// Asks for eight packets exactly once, and receives their answer. Returns how many calls ran out of memory.
 fn play_asker<A: Allocator + Copy>(
     rt: &impl Abort,
     global: Global,
@@ -180,7 +179,7 @@ fn an_answer_whose_packets_come_in_any_order_is_handed_up_in_their_order(
     Ok(())
 }
 
-// Plays with one request for memory refused after those that are granted, and tells how many calls found none.
+// The allocator grants `granted` requests and refuses the next one. Returns how many calls ran out of memory.
 fn play_refused(rt: &impl Abort, global: Global, granted: u64) -> Result<u64, AllocError> {
     let heap = Refusing::new(global, granted);
     let refused = play_asker(rt, global, &heap)?;
@@ -202,7 +201,7 @@ fn no_memory_for_a_transaction_leaves_it_as_it_was(rt: HostRuntime) -> Result<()
     Ok(())
 }
 
-// Packets that the server sends and that are no answer to transaction 0.
+// Packets from the server that do not answer transaction 0.
 static NO_ANSWERS: [Frame<'static>; 3] = [
     Frame::Request {
         mask: 1,
@@ -223,7 +222,7 @@ static NO_ANSWERS: [Frame<'static>; 3] = [
     },
 ];
 
-// Sockets of another network, another node and another number than the server's.
+// Addresses that differ from the server's in the network, the node or the socket.
 static OTHERS: [Address; 3] = [
     Address { net: 11, ..SERVER },
     Address { node: 8, ..SERVER },
@@ -248,14 +247,14 @@ fn only_responses_of_the_server_that_was_asked_are_taken(rt: HostRuntime) {
     asker.compare_hear(&rt, SERVER, &response(0, true, false, b"A"), Heard::Ignored);
     asker.compare_begin(&rt, b"", Ok(0));
     compare_ignored(&rt, &mut asker);
-    // The answer is whole by the number of its packets, without EOM.
+    // The answer is complete since all its packets came, although none has EOM.
     asker.compare_hear(
         &rt,
         SERVER,
         &response(0, false, false, b"A"),
         Heard::Finished,
     );
-    // No release is sent where the request is for at least once.
+    // An at-least-once transaction sends no release.
     compare_sent(
         &rt,
         &asker.into_list(),
@@ -271,7 +270,7 @@ fn at_most_32_transactions_are_open(rt: HostRuntime) {
         asker.compare_begin(&rt, &[0; 578], Ok(tid));
     }
     asker.compare_begin(&rt, b"", Err(AtpFault::Full));
-    // The length is looked at before the table.
+    // The length of the data is tested before the table of transactions.
     asker.compare_begin(&rt, &[0; 579], Err(AtpFault::AtpTooLong));
     asker.compare_hear(&rt, SERVER, &response(0, true, false, b""), Heard::Finished);
     asker.compare_begin(&rt, b"", Ok(32));

@@ -1,4 +1,4 @@
-//! The side of a transaction that answers, at least once.
+//! Tests of the responder with at-least-once requests.
 use crate::answerer::{Answerer, answer, bares};
 use crate::shared::{compare_sent, packet_at, request, response};
 use at_atp::{AtpFault, Frame, Packet, Reception};
@@ -8,8 +8,8 @@ use std::alloc::{AllocError, Allocator, Global};
 use std::process::Abort;
 use std::test::Fail;
 
-// Of two requests the second mask counts. The request is new again once it is answered, and then the last packet of the
-// answer is not asked for.
+// If a request comes twice, the second mask counts. The request is new again once it is answered. The second time it
+// does not ask for the last packet of the answer.
 fn answer_twice<A: Allocator + Copy>(
     rt: &impl Abort,
     answerer: &mut Answerer<A>,
@@ -23,7 +23,7 @@ fn answer_twice<A: Allocator + Copy>(
     answerer.compare_respond(rt, 9, packets, Ok(2));
 }
 
-// What is sent for it.
+// The packets that `answer_twice` sends.
 static SENT: [&[u8]; 4] = [
     b"\x80\x00\0\x09\x01\x01\x01\x01",
     b"\x90\x02\0\x09\x03\x03\x03\x03",
@@ -31,7 +31,7 @@ static SENT: [&[u8]; 4] = [
     b"\x80\x01\0\x09\x02\x02\x02\x02",
 ];
 
-// Answers a request twice, and tells how many calls found no memory.
+// Answers a request twice. Returns how many calls ran out of memory.
 fn play_answerer<A: Allocator + Copy>(
     rt: &impl Abort,
     global: Global,
@@ -50,7 +50,7 @@ fn an_answer_is_sent_as_far_as_it_was_asked_for(rt: HostRuntime) -> Result<(), F
     Ok(())
 }
 
-// Plays with one request for memory refused after those that are granted, and tells how many calls found none.
+// The allocator grants `granted` requests and refuses the next one. Returns how many calls ran out of memory.
 fn play_refused(rt: &impl Abort, global: Global, granted: u64) -> Result<u64, AllocError> {
     let heap = Refusing::new(global, granted);
     let refused = play_answerer(rt, global, &heap)?;
@@ -72,7 +72,7 @@ fn no_memory_for_an_answer_leaves_its_request_waiting(rt: HostRuntime) -> Result
     Ok(())
 }
 
-// Answers that are refused for their packets.
+// Answers with no packets, with nine packets and with too much data are refused.
 fn compare_refused(
     rt: &impl Abort,
     alloc: Global,
@@ -86,7 +86,7 @@ fn compare_refused(
     Ok(())
 }
 
-// What is sent is one packet, as long as a packet may be.
+// One packet is sent, of the greatest length.
 fn compare_longest(rt: &impl Abort, list: &Datagrams<Global>) {
     assert_eq!(rt; list.len(), 1);
     let length = packet_at(list, 0).map(|(_, packet)| packet.len());

@@ -1,4 +1,4 @@
-//! Retries of a transaction, and the numbers that transactions get.
+//! Tests of retries, and of the numbers that transactions get.
 use crate::shared::{ATP, compare_sent, response};
 use at_atp::{AtpFault, Requester, Retry, Step};
 use at_ddp::{Datagrams, Outbox};
@@ -7,7 +7,7 @@ use refusing::Refusing;
 use std::alloc::{AllocError, Allocator};
 use std::process::Abort;
 
-// A side that asks, and what it sent.
+// A requester, and what it sent.
 #[derive(Drop)]
 struct Asker<A: Allocator> {
     requester: Requester<A>,
@@ -22,7 +22,7 @@ impl<A: Allocator + Copy> Asker<A> {
         }
     }
 
-    // Asks at least once, for eight packets.
+    // Asks for eight packets at least once.
     fn begin(&mut self, retries: u8) -> Result<u16, AtpFault> {
         let user = [0; 4];
         self.requester
@@ -33,7 +33,7 @@ impl<A: Allocator + Copy> Asker<A> {
         self.requester.retry(tid, &mut self.out)
     }
 
-    // Whether this packet of the answer to transaction 0 is kept.
+    // Whether the requester keeps this packet of the answer to transaction 0.
     fn keeps(&mut self, place: u8, eom: bool) -> Result<bool, AllocError> {
         let frame = response(place, eom, false, b"A");
         let step = self.requester.receive(SERVER, &frame, &mut self.out)?;
@@ -112,7 +112,8 @@ fn a_full_table_has_a_number_once_one_is_closed(rt: HostRuntime) {
     asker.compare_next(&rt, Some(31), Some(32));
 }
 
-// Retries a transaction with one request for memory refused, and tells whether it was the retry's.
+// Begins a transaction and retries it, with one request for memory refused. Returns whether the retry ran out of
+// memory.
 fn is_retry_refused<A: Allocator + Copy>(rt: &impl Abort, alloc: A) -> bool {
     let mut asker = Asker::new(alloc);
     if asker.begin(1).is_err() {

@@ -1,4 +1,4 @@
-//! Room that is made for an answer before it is given.
+//! Tests of the room that is reserved for an answer before it is given.
 use crate::shared::{ATP, exactly_once, request};
 use at_atp::{AtpFault, Frame, Key, Packet, Reception, Responder};
 use at_ddp::{Bytes, Datagrams, Listed, Outbox};
@@ -13,8 +13,8 @@ const KEY: Key = Key {
     tid: 9,
 };
 
-// A side that answers, and what it sent. Its functions have no contract, so that no proof carries the room from one call
-// to the next.
+// A responder, and what it sent. Its functions have no contract, so that no proof carries the room from one call to the
+// next.
 #[derive(Drop)]
 struct Answerer<A: Allocator> {
     responder: Responder<A>,
@@ -29,7 +29,6 @@ impl<A: Allocator + Copy> Answerer<A> {
         }
     }
 
-    // Takes a request for eight packets in.
     fn receive(&mut self, frame: &Frame<'_>) -> Result<Reception, AtpFault> {
         self.responder.receive(ASKER, frame, &mut self.out)
     }
@@ -49,7 +48,7 @@ impl<A: Allocator + Copy> Answerer<A> {
         assert_eq!(rt; self.room(), want);
     }
 
-    // Answers, all packets of which are asked for.
+    // Answers the request, which asks for all packets.
     fn compare_respond(&mut self, rt: &impl Abort, packets: &[Packet<A>]) {
         let count = self.responder.respond(KEY, packets, &mut self.out);
         assert_eq!(rt; count.map(usize::from), Ok(packets.len()));
@@ -90,7 +89,7 @@ fn room_is_made_only_while_a_request_waits(rt: HostRuntime) -> Result<(), Fail> 
     Ok(())
 }
 
-// Makes room where a request waits, and tells whether memory for it was refused. A second try is granted.
+// Reserves room for the answer to a request that waits. Tries again if memory ran out, and returns whether it did.
 fn make_room<A: Allocator + Copy>(rt: &impl Abort, answerer: &mut Answerer<A>) -> bool {
     let first = answerer.room();
     if first.is_err() {
@@ -100,7 +99,7 @@ fn make_room<A: Allocator + Copy>(rt: &impl Abort, answerer: &mut Answerer<A>) -
     first.is_err()
 }
 
-// Makes room and answers with one request for memory refused, and tells whether it was the room's.
+// Reserves room and answers, with one request for memory refused. Returns whether the room ran out of memory.
 fn is_room_refused<A: Allocator + Copy>(rt: &impl Abort, global: Global, alloc: A) -> bool {
     let mut answerer = Answerer::new(alloc);
     let Ok(packets) = largest(global, alloc) else {
@@ -126,8 +125,8 @@ fn an_answer_takes_no_memory_once_there_is_room(rt: HostRuntime) {
     assert!(rt; refusals > 0);
 }
 
-// Makes room and hands over an answer that is kept, with one request for memory refused. It tells whether that came
-// before the answer was handed over.
+// Reserves room and hands over an answer that is kept, with one request for memory refused. Returns whether memory ran
+// out before the answer was handed over.
 fn is_kept_without_memory<A: Allocator + Copy>(rt: &impl Abort, alloc: A) -> bool {
     let mut answerer = Answerer::new(alloc);
     let Ok(packets) = largest(alloc, alloc) else {

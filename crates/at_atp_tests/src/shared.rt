@@ -1,4 +1,4 @@
-//! What the files of tests share: packets, and what was sent.
+//! What the test files share: packets, and comparisons of what was sent.
 ghost use Rattle.at_atp.specs.Frames.{content, CanBeWritten};
 
 use at_atp::Frame;
@@ -10,14 +10,14 @@ use std::process::Abort;
 /// The protocol of ATP's datagrams.
 pub(crate) const ATP: u8 = 3;
 
-// The packet in the datagram at an index, and the node that it goes to.
+// The ATP packet in the datagram at an index, and the node that it goes to.
 pub(crate) fn packet_at<A: Allocator>(list: &Datagrams<A>, index: usize) -> Option<(u8, &[u8])> {
     let (node, bytes) = at(list, index)?;
     let (_, packet) = bytes.split_at_checked(HEADER_LEN)?;
     Some((node, packet))
 }
 
-// Compares what was sent to a node.
+// Compares all that was sent, which goes to one node.
 pub(crate) fn compare_sent<A: Allocator>(
     rt: &impl Abort,
     list: &Datagrams<A>,
@@ -58,7 +58,7 @@ pub(crate) fn exactly_once(mask: u8, tid: u16) -> Frame<'static> {
     }
 }
 
-// A packet of the answer to transaction 0, whose last user byte is its place.
+// A packet of the answer to transaction 0. The last of its user bytes is its place.
 pub(crate) fn response(place: u8, eom: bool, sts: bool, bytes: &[u8]) -> Frame<'_> {
     Frame::Response {
         place,

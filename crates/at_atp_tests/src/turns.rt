@@ -1,4 +1,4 @@
-//! Packets that end a transaction, and turns from one transaction to the next.
+//! Tests of packets that end a transaction, and of turns from one transaction to the next.
 use crate::shared::{ATP, compare_sent, response};
 use at_atp::{AtpFault, Frame, Requester, Retry, Step};
 use at_ddp::{Address, Datagrams, Outbox};
@@ -7,7 +7,7 @@ use refusing::Refusing;
 use std::alloc::{AllocError, Allocator};
 use std::process::Abort;
 
-// A side that asks, and what it sent.
+// A requester, and what it sent.
 #[derive(Drop)]
 struct Asker<A: Allocator> {
     requester: Requester<A>,
@@ -29,7 +29,7 @@ impl<A: Allocator + Copy> Asker<A> {
             .begin(SERVER, user, b"ab", 2, xo, 3, &mut self.out)
     }
 
-    // Turns at a packet that ends a transaction, and tells the data of the first packet and the new number.
+    // Turns at a packet that ends a transaction. Returns the first byte of the answer and the new transaction number.
     fn turn(&mut self, frame: &Frame<'_>) -> Result<Option<(Option<u8>, u16)>, AllocError> {
         if !self.requester.finishes(SERVER, frame) {
             return Ok(None);
@@ -52,7 +52,7 @@ impl<A: Allocator + Copy> Asker<A> {
         );
     }
 
-    // Turns at an answer of this byte to transaction 0.
+    // Turns at an answer to transaction 0 that holds this byte.
     fn compare_turn(&mut self, rt: &impl Abort, byte: u8, want: u16) {
         let turned = self.turn(&response(0, true, false, &[byte]));
         assert_eq!(rt; turned, Ok(Some((Some(byte), want))));
@@ -64,7 +64,7 @@ impl<A: Allocator + Copy> Asker<A> {
     }
 }
 
-// The first byte of an answer.
+// The first byte of the answer that ended a transaction.
 fn first_byte<A: Allocator>(step: &Step<A>) -> Option<u8> {
     match step {
         Step::Finished(packets) => {
@@ -96,7 +96,7 @@ fn no_packet_finishes_an_exactly_once_transaction(rt: HostRuntime) {
     asker.compare_finishes(&rt, SERVER, &response(0, true, false, b"A"), false);
 }
 
-// The request that was answered, the one that a turn sends, and its retry.
+// The request that was answered, the request that the turn sends, and its retry.
 static SENT: [&[u8]; 3] = [
     b"\x40\x03\0\0\0\0\0\0ab",
     b"\x40\x01\0\x01\x01\x02\x03\x04",
@@ -125,7 +125,7 @@ fn a_full_table_turns(rt: HostRuntime) {
     assert_eq!(rt; asker.out.into_list().len(), 33);
 }
 
-// Turns with one request for memory refused, and tells whether it was the turn's.
+// Turns with one request for memory refused. Returns whether the turn ran out of memory.
 fn is_turn_refused<A: Allocator + Copy>(rt: &impl Abort, alloc: A) -> bool {
     let mut asker = Asker::new(alloc);
     if asker.begin(false).is_err() {

@@ -94,7 +94,7 @@ lies from (x ∷ ms) bytes (suc i) m h at =
       item = rest.item;
     }
 
--- the same of a list that is these pieces
+-- the same for a list of these pieces
 pub lies_in : (items : List Posted) (ms : List Mark) (bytes : List ℕ) (i : ℕ) → pieces 0 ms bytes ≡ items → AreMarks 0 ms (length bytes) → i < length items → (m : Mark) × (slice_get ms i ≡ Some m) × Lies ms bytes 0 i m
 lies_in items ms bytes i is h lt = go (slice_get_cases ms i).1
   where

@@ -1,4 +1,4 @@
--- Bytes, numbers in two of them, the parts of lists, and addresses: what every crate needs.
+-- Bytes, 16-bit numbers, parts of lists, and addresses: lemmas for every crate.
 use Rattle.std.proofs.Common.{◌≡◌, ℕ, ◌+◌, ◌-◌, ◌*◌, ◌/◌, ◌%◌, ◌^◌, ◌<◌, List, [], ◌∷◌, ◌++◌, length, get_or, take, drop, true, refl, ap, ◌∙◌, arith}
 use Rattle.std.specs.List.{All}
 use Rattle.std.proofs.lemmas.List.{get_or-drop, take_rest}
@@ -20,7 +20,7 @@ high_byte a b ha hb = omega arith
 pub low_byte : (a b : ℕ) → b < 256 → (256 * a + b) % 256 ≡ b
 low_byte a b hb = omega arith
 
--- numbers of 16 bits whose bytes are the same are the same
+-- two 16-bit numbers with the same bytes are equal
 pub same_number : (m n : ℕ) → m < 2 ^ 16 → n < 2 ^ 16 → m / 256 % 256 ≡ n / 256 % 256 → m % 256 ≡ n % 256 → m ≡ n
 same_number m n hm hn high low = omega arith
 
@@ -30,7 +30,7 @@ head_of a b xs ys e = cc
 tail_of : (a b : ℕ) (xs ys : List ℕ) → a ∷ xs ≡ b ∷ ys → xs ≡ ys
 tail_of a b xs ys e = cc
 
--- two lists whose first parts are as long as each other part alike
+-- if two lists are equal and their first parts have the same length, the parts are equal
 pub append_parts : (a b x y : List ℕ) → length a ≡ length b → a ++ x ≡ b ++ y → (a ≡ b) × (x ≡ y)
 append_parts [] [] x y len e = (refl, e)
 append_parts [] (n ∷ ns) x y len e = absurd (omega arith)
@@ -41,7 +41,7 @@ append_parts (m ∷ ms) (n ∷ ns) x y len e =
     let front : ms ≡ ns = tails.0 in
     (cc, tails.1)
 
--- the number that `read_u16` gives from a place on
+-- the number that `read_u16` returns at a place
 pub number_in : (i : ℕ) (input : List ℕ) (n : ℕ) → n ≡ big_number 2 (take (length input - i) (drop i input)) → n ≡ 256 * get_or input i 0 + get_or input (i + 1) 0
 number_in i input n e =
     let first : get_or (drop i input) 0 0 ≡ get_or input i 0 = rw (get_or-drop i input 0 0, add-zero i) refl in
@@ -53,7 +53,7 @@ number_in i input n e =
 pub bytes_of : (bytes : List ℕ) → InBytes bytes → All (λ b. b < 256) bytes
 bytes_of bytes fits = All-from_get_or (λ b. b < 256) bytes 0 (λ i _. fits i)
 
--- addresses that test as one are equal
+-- addresses for which the test is true are equal
 pub same_address-true : (a b : Address) → same_address a b ≡ true → a ≡ b
 same_address-true a b h =
     let outer = and_parts ((a.net == b.net) && (a.node == b.node)) (a.socket == b.socket) h in

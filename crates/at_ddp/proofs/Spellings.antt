@@ -5,7 +5,7 @@ use Rattle.at_ddp.specs.declared.address.Address.{Address}
 use Rattle.at_ddp.proofs.Octets.{same_number, append_parts}
 use Rattle.at_ddp.proofs.SumLemmas.{sum_of-lt}
 
--- where the first word is the same, so are its three parts
+-- if the first words are equal, so are their three parts
 same_word : (f f' h h' l l' : ℕ) → f < 4 → f' < 4 → h < 16 → h' < 16 → l ≤ 586 → l' ≤ 586 → f * 2 ^ 14 + h * 2 ^ 10 + (13 + l) ≡ f' * 2 ^ 14 + h' * 2 ^ 10 + (13 + l') → (f ≡ f') × (h ≡ h') × (l ≡ l')
 same_word f f' h h' l l' a a' b b' c c' e = (omega arith, omega arith, omega arith)
 

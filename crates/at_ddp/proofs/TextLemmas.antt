@@ -1,4 +1,4 @@
--- Texts that are equal in capitals are equal in small letters, and the other way round.
+-- Texts are equal in capitals just if they are equal in small letters.
 use Rattle.std.proofs.Common.{◌≡◌, ℕ, List, [], ◌∷◌, map, refl, sym, ap, ◌∙◌, arith}
 use Rattle.std.proofs.lemmas.Bool.Decides.{nat_tests}
 use Rattle.std.specs.Char.{to_ascii_lowercase}

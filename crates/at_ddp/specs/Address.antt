@@ -1,4 +1,4 @@
--- When two addresses are one.
+-- When two addresses are equal.
 use Rattle.std.specs.Prelude.{◌==◌, ◌&&◌, Bool}
 use Rattle.at_ddp.specs.declared.address.Address.{Address}
 

@@ -5,7 +5,7 @@ use Rattle.at_ddp.specs.Sum.{sum_of}
 use Rattle.at_ddp.specs.declared.address.Address.{Address}
 use Rattle.at_ddp.specs.declared.datagram.Datagram.{Datagram}
 
--- a datagram without where its data lies in memory
+-- the fields of a datagram, wherever its data lies in memory
 pub record Content : Type 0 where
   pub hops : ℕ
   pub sum : ℕ
@@ -37,13 +37,14 @@ pub record IsLawful (d : Content) : Type 0 where
   pub bytes : AreBytes d.data_
   pub len : length d.data_ ≤ 586
 
--- what stands after the sum: the networks, the nodes, the sockets, the type and the data
+-- what follows the checksum: the networks, the nodes, the sockets, the type and the data
 abbrev pub after_sum : Content → List ℕ
 after_sum d =
     to_be_bytes w16 d.to.net ++ to_be_bytes w16 d.from.net
     ++ (d.to.node ∷ d.from.node ∷ d.to.socket ∷ d.from.socket ∷ d.kind ∷ []) ++ d.data_
 
--- two free bits, four of the hops and ten of the length, which counts the 13 bytes of the header; the sum; and the rest
+-- two free bits, four bits of hops and ten of the length, which counts the 13 bytes of the header; the checksum; the
+-- rest
 unfoldable pub spelling : ℕ → Content → List ℕ
 spelling free d =
     to_be_bytes w16 (free * 2 ^ 14 + d.hops * 2 ^ 10 + (13 + length d.data_)) ++ to_be_bytes w16 d.sum ++ after_sum d
@@ -55,18 +56,18 @@ pub record Spells (bytes : List ℕ) (d : Content) : Type 0 where
   pub in_two_bits : free < 4
   pub fields : bytes ≡ spelling free d
 
--- the sum is right, or none was computed
+-- the checksum is right, or none was computed
 abbrev pub HasRightSum : Content → Type 0
 HasRightSum d = (d.sum ≡ 0) ⊎ (d.sum ≡ sum_of (after_sum d))
 
--- the input is a spelling of d with a right sum or none, and then rest
+-- the input is a spelling of d with a right checksum or none, and then rest
 pub record BeginsWith (input : List ℕ) (d : Content) (rest : List ℕ) : Type 0 where
   pub bytes : List ℕ
   pub spelled : Spells bytes d
   pub summed : HasRightSum d
   pub follows : input ≡ bytes ++ rest
 
--- the datagram that is written: it has passed no router, and its sum is computed
+-- a datagram as it is sent: it has passed no router, and its checksum is computed
 abbrev pub written : Address → Address → ℕ → List ℕ → Content
 written to from kind bytes =
     let d : Content = record { hops = 0; sum = 0; to = to; from = from; kind = kind; data_ = bytes } in

@@ -1,4 +1,4 @@
--- Finished datagrams in the order of sending, and the room that is made for more.
+-- Finished datagrams in the order of sending, and the room for more.
 use Rattle.std.specs.Prelude.{ℕ, ◌*◌, ◌≤◌, List}
 
 -- a finished datagram, and the node that it goes to
@@ -6,7 +6,7 @@ pub record Posted : Type 0 where
   pub node : ℕ
   pub bytes : List ℕ
 
--- how many more datagrams, and how many bytes of them, need no memory
+-- how many more datagrams, and how many more bytes of them, need no memory
 pub record Room : Type 0 where
   pub places : ℕ
   pub bytes : ℕ

@@ -14,14 +14,14 @@ number_of BadSum = Some 4
 number_of TooLong = Some 5
 number_of NoMemory = None
 
--- the number in the two bytes at a place
+-- the 16-bit number at a place
 abbrev pub number_at : ℕ → List ℕ → ℕ
 number_at i bytes = 256 * slice_index bytes i + slice_index bytes (i + 1)
 
 abbrev pub stated_length : List ℕ → ℕ
 stated_length input = number_at 0 input % 1024
 
--- the fault stands in the input
+-- the input has this fault
 abbrev pub Stands : DdpFault → List ℕ → Type 0
 Stands Short input = length input < 13
 Stands BadLength input = (stated_length input < 13) ⊎ (599 < stated_length input)
@@ -30,7 +30,7 @@ Stands BadSum input = (number_at 2 input ≢ 0) × (number_at 2 input ≢ sum_of
 Stands TooLong input = ⊥
 Stands NoMemory input = ⊥
 
--- the faults that are looked for before this one
+-- the faults that are tested before this one
 abbrev pub looked_for_before : DdpFault → List DdpFault
 looked_for_before Short = []
 looked_for_before BadLength = Short ∷ []
@@ -39,7 +39,7 @@ looked_for_before BadSum = Short ∷ BadLength ∷ Truncated ∷ []
 looked_for_before TooLong = []
 looked_for_before NoMemory = []
 
--- the fault is the first that stands in the input
+-- the fault is the first one that the input has
 pub record IsFirstFault (fault : DdpFault) (input : List ℕ) : Type 0 where
   pub stands : Stands fault input
   pub first : AllByRecursion (λ other. ¬ Stands other input) (looked_for_before fault)

@@ -4,12 +4,12 @@ use Rattle.std.specs.Option.{option_map_or}
 use Rattle.at_ddp.specs.Datagrams.{Posted}
 use Rattle.at_ddp.specs.declared.datagrams.Mark.{Mark}
 
--- the bytes cut at the marks, from a place on
+-- the bytes from start on, cut at the marks
 abbrev pub pieces : ℕ → List Mark → List ℕ → List Posted
 pieces start [] bytes = []
 pieces start (m ∷ ms) bytes = record { node = m.node; bytes = slice_range bytes start m.end } ∷ pieces m.end ms bytes
 
--- the marks follow each other from a place on, up to the last byte
+-- the marks ascend from start on, up to the number of bytes
 abbrev pub AreMarks : ℕ → List Mark → ℕ → Type 0
 AreMarks start [] len = start ≡ len
 AreMarks start (m ∷ ms) len = (start ≤ m.end) × AreMarks m.end ms len

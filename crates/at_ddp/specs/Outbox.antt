@@ -1,4 +1,4 @@
--- What a layer sends: where to, and its bytes.
+-- What a layer sends: a destination, and bytes of data.
 use Rattle.std.specs.Prelude.{◌≡◌, ℕ, ◌+◌, List, ◌++◌, map}
 use Rattle.at_ddp.specs.Datagram.{canonical}
 use Rattle.at_ddp.specs.Datagrams.{Posted, Room, HasRoom}

@@ -6,10 +6,10 @@ use Rattle.std.specs.Int.{rotate_left, w16}
 abbrev pub added : ℕ → ℕ → ℕ
 added sum byte = rotate_left w16 ((sum + byte) % 65536) 1
 
--- a sum of 0 is written 0xFFFF, since 0 says that none was computed
+-- a checksum of 0 is written 0xFFFF, since 0 means that none was computed
 abbrev pub written_sum : ℕ → ℕ
 written_sum sum = if sum == 0 then 0xFFFF else sum
 
--- the sum of all bytes, from 0 on
+-- the checksum of bytes, from a running sum of 0
 unfoldable pub sum_of : List ℕ → ℕ
 sum_of bytes = written_sum (fold added 0 bytes)

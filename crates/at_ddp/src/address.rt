@@ -1,4 +1,4 @@
-/// A socket of a node of a network: where datagrams come from and go to. Node 255 is every node of the network.
+/// A socket of a node of a network: where datagrams come from and go to. Node 255 means every node of the network.
 #[derive(Clone, Copy, Debug, PartialEq, Eq, Hash)]
 pub struct Address {
     pub net: u16,

@@ -3,7 +3,7 @@ ghost use Rattle.std.specs.Prelude.{◌≡◌, IfOk};
 use std::alloc::{AllocError, Allocator, Global};
 use std::marker::Model;
 
-/// Bytes that contracts compare as a list, whatever memory they lie in.
+/// Bytes whose contracts speak of their values, whatever memory they lie in.
 #[derive(Drop)]
 pub struct Bytes<A: Allocator = Global> {
     bytes: Vec<u8, A>,
@@ -18,7 +18,7 @@ impl<A: Allocator> Model for Bytes<A> {
 }
 
 impl<A: Allocator> Bytes<A> {
-    /// A copy of these bytes.
+    /// A copy of these bytes. The error is out of memory.
     pub fn copy_of(alloc: A, bytes: &[u8]) -> Result<Bytes<A>, AllocError>
         ensures { IfOk result (λ b. b ≡ bytes.now) }
     {
@@ -27,7 +27,7 @@ impl<A: Allocator> Bytes<A> {
         })
     }
 
-    /// The bytes of a vector, which needs no memory.
+    /// Wraps a vector of bytes. This needs no memory.
     pub fn from_vec(bytes: Vec<u8, A>) -> Bytes<A>
         ensures { result ≡ bytes.items }
     {

@@ -8,31 +8,31 @@ use crate::sum::{add_to_sum, close_sum, rotating_sum};
 use byteorder::{BigEndian, ByteOrder};
 use std::alloc::Allocator;
 
-/// How many bytes stand before the data.
+/// The length of a header in bytes.
 pub const HEADER_LEN: usize = 13;
 
-/// How many bytes of data a datagram carries at most.
+/// The most data that a datagram carries, in bytes.
 pub const MAX_DATA: usize = 586;
 
-/// A datagram, whose data lies in the bytes that it was read from.
+/// A decoded datagram. Its data stays in the bytes that it was decoded from.
 #[derive(Clone, Copy, Debug, PartialEq, Eq)]
 pub struct Datagram<'a> {
-    /// How many routers it has passed, 0 to 15.
+    /// How many routers the datagram has passed, 0 to 15.
     pub hops: u8,
-    /// The checksum field; 0 says that no sum was computed.
+    /// The checksum field; 0 means that no checksum was computed.
     pub sum: u16,
     pub to: Address,
     pub from: Address,
-    /// The protocol of the data: 2 NBP, 3 ATP, 7 ADSP.
+    /// The protocol of the data: 2 for NBP, 3 for ATP, 7 for ADSP.
     pub kind: u8,
     pub data_: &'a [u8],
 }
 
-/// Reads the datagram at the front of the input, and hands back what follows its stated length.
+/// Decodes the datagram at the front of the input, and returns it with the bytes after it. The header says its length.
 pub fn decode(input: &[u8]) -> Result<(Datagram<'_>, &[u8]), DdpFault>
-    // What is read is spelled there.
+    // What is decoded is spelled there.
     ensures found { IfOk result (λ r. BeginsWith input.now (content r.0) r.1.now) }
-    // What is spelled there is read.
+    // What is spelled there is decoded.
     ensures only { (d : Content) (rest : List ℕ) → BeginsWith input.now d rest → IsOkAnd result (λ r. (content r.0 ≡ d) × (r.1.now ≡ rest)) }
     ensures fault { IfErr result (λ fault. IsFirstFault fault input.now) }
 {
@@ -77,7 +77,7 @@ fn parse(input: &[u8]) -> Result<(Datagram<'_>, &[u8]), DdpFault>
     Ok((datagram, &input[len..]))
 }
 
-/// Appends the canonical spelling: no hops, the sum computed, 0 in the free bits.
+/// Appends a datagram in the canonical spelling: no hops, a computed checksum, and 0 in the free bits.
 pub fn encode<A: Allocator>(
     to: Address,
     from: Address,
@@ -90,7 +90,7 @@ pub fn encode<A: Allocator>(
     ensures too_long { IsErrOf result DdpFault.TooLong ↔ (586 < length bytes.now) }
     ensures memory { IfErr result (λ fault. fault ≢ DdpFault.TooLong → fault ≡ DdpFault.NoMemory) }
 
-    // Memory is refused only where room was missing.
+    // Out of memory only if the vector has no room left.
     ensures room { IsErrOf result DdpFault.NoMemory → vec_capacity out.old < vec_len out.old + 13 + length bytes.now }
 {
     if bytes.len() > MAX_DATA {
@@ -103,7 +103,7 @@ pub fn encode<A: Allocator>(
     Ok(())
 }
 
-/// The header that stands before these data in the canonical spelling.
+/// The header that precedes this data in the canonical spelling.
 pub(crate) fn header_of(to: Address, from: Address, kind: u8, bytes: &[u8]) -> [u8; HEADER_LEN]
     requires { length bytes.now ≤ 586 }
     ensures { result ++ bytes.now ≡ canonical to from kind bytes.now }

@@ -6,14 +6,15 @@ ghost use Rattle.at_ddp.specs.declared.datagrams.Mark.{Mark};
 use std::alloc::{AllocError, Allocator, Global};
 use std::marker::Model;
 
-// Where a datagram ends among the bytes of all, and the node that it goes to.
+// Where a datagram ends in the bytes of all datagrams, and the node that it goes to.
 #[derive(Clone, Copy)]
 struct Mark {
     end: usize,
     node: u8,
 }
 
-/// Finished datagrams in the order of sending, each with the node that it goes to, in memory one behind the other.
+/// Finished datagrams in the order of sending, each with the node that it goes to. Their bytes lie one behind the
+/// other.
 #[derive(Drop)]
 pub struct Datagrams<A: Allocator = Global> {
     bytes: Vec<u8, A>,
@@ -77,7 +78,7 @@ impl<A: Allocator> Datagrams<A> {
         &self.bytes[start..end]
     }
 
-    /// Makes room for `places` datagrams of at most `size` bytes each.
+    /// Makes room for `places` datagrams of at most `size` bytes each. The error is out of memory.
     pub fn reserve(&mut self, places: u32, size: usize) -> Result<(), AllocError>
         requires { size ≤ 599 }
         ensures items { self.new.items ≡ self.old.items }
@@ -90,7 +91,7 @@ impl<A: Allocator> Datagrams<A> {
         self.bytes.reserve(places * size)
     }
 
-    /// Appends the datagram that the two parts make.
+    /// Appends a datagram in two parts.
     pub(crate) fn push(&mut self, node: u8, front: &[u8], back: &[u8]) -> Result<(), AllocError>
         requires { length front.now + length back.now ≤ 599 }
         ensures ok { OnOk result (self.new.items ≡ self.old.items ++ record { node = node; bytes = front.now ++ back.now } ∷ []) }
@@ -107,7 +108,7 @@ impl<A: Allocator> Datagrams<A> {
     }
 }
 
-/// Where the bytes of the datagram at an index lie.
+/// Where the bytes of the datagram at an index begin and end.
 fn span(marks: &[Mark], index: usize) -> (usize, usize)
     requires { index < length marks.now }
     ensures start { result.0 ≡ start_at 0 marks.now index }

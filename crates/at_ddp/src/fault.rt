@@ -7,19 +7,19 @@ use thiserror::Error;
 /// Why a datagram is refused.
 #[derive(Clone, Copy, Debug, PartialEq, Eq, Error)]
 pub enum DdpFault {
-    /// A header has 13 bytes.
+    /// A datagram is shorter than its header, which has 13 bytes.
     #[error("the datagram is under 13 bytes, so its header is cut short")]
     Short,
-    /// A datagram has 13 to 599 bytes.
+    /// The length in the header is not 13 to 599.
     #[error("the length in the header is under 13 or over 599")]
     BadLength,
-    /// All the bytes of the stated length are there.
+    /// Bytes are missing at the end.
     #[error("the datagram is shorter than the length in its header")]
     Truncated,
-    /// A checksum field that is not 0 holds the checksum.
+    /// The checksum field is not 0, and is not the checksum.
     #[error("the checksum does not match the datagram")]
     BadSum,
-    /// A datagram carries at most 586 bytes of data.
+    /// The data to send is over 586 bytes.
     #[error("the data is over 586 bytes, more than a datagram carries")]
     TooLong,
     /// No rule was broken, but memory ran out.

@@ -1,16 +1,16 @@
-//! Laws of the spellings. The functions do nothing: each contract is a law.
+//! Laws of how datagrams are spelled. The functions do nothing: each contract is a law.
 ghost use Rattle.std.specs.Prelude.{◌≡◌, ◌<◌, ◌≤◌, ◌++◌, List, ℕ, length};
 ghost use Rattle.at_ddp.specs.declared.address.Address.{Address};
 ghost use Rattle.at_ddp.specs.Datagram.{Content, IsAddress, AreBytes, Spells, BeginsWith, canonical, written};
 ghost use Rattle.at_ddp.specs.Fault.{Stands};
 ghost use Rattle.at_ddp.specs.declared.fault.DdpFault.{DdpFault};
 
-/// No spelling begins another, and no bytes spell two datagrams.
+/// No spelling is the beginning of another, and no bytes spell two datagrams.
 pub fn no_spelling_begins_another()
     ensures { (a b x y : List ℕ) (d e : Content) → Spells a d → Spells b e → a ++ x ≡ b ++ y → (a ≡ b) × (d ≡ e) }
 {}
 
-/// What is encoded is decoded again, whatever follows it; nothing else is read there, and no fault stands there.
+/// An encoded datagram is decoded again, whatever follows it. Nothing else is read there, and no fault is found there.
 pub fn what_is_written_is_read()
     ensures read { (to from : Address) (kind : ℕ) (bytes rest : List ℕ) → IsAddress to → IsAddress from → kind < 256 → AreBytes bytes → length bytes ≤ 586
         → BeginsWith (canonical to from kind bytes ++ rest) (written to from kind bytes) rest }

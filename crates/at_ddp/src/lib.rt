@@ -1,5 +1,5 @@
-//! Datagrams of AppleTalk's Datagram Delivery Protocol (DDP), and what every layer above shares: addresses, short
-//! strings, lists that contracts compare, the list of finished datagrams and the outbox that a layer sends by.
+//! Datagrams of AppleTalk's Datagram Delivery Protocol (DDP), and what all layers above share. These are addresses,
+//! short strings, lists that contracts compare, the list of finished datagrams, and the outbox that a layer sends by.
 #![tactic(auto)]
 
 mod address;

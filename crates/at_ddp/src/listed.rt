@@ -3,7 +3,7 @@ ghost use Rattle.std.specs.Prelude.{◌≡◌};
 use std::alloc::{Allocator, Global};
 use std::marker::Model;
 
-/// A list that contracts compare as a list, whatever memory it lies in.
+/// A vector whose contracts speak of its items, whatever memory it lies in.
 #[derive(Drop)]
 pub struct Listed<T: Drop, A: Allocator = Global> {
     list: Vec<T, A>,
@@ -18,7 +18,7 @@ impl<T: Drop, A: Allocator> Model for Listed<T, A> {
 }
 
 impl<T: Drop, A: Allocator> Listed<T, A> {
-    /// The list of a vector, which needs no memory.
+    /// Wraps a vector. This needs no memory.
     pub fn from_vec(list: Vec<T, A>) -> Listed<T, A>
         ensures { result ≡ list.items }
     {
@@ -31,7 +31,7 @@ impl<T: Drop, A: Allocator> Listed<T, A> {
         &self.list
     }
 
-    /// The vector of the list, which needs no memory.
+    /// Unwraps the vector. This needs no memory.
     pub fn into_vec(self) -> Vec<T, A>
         ensures { result.items ≡ self }
     {

@@ -7,7 +7,7 @@ use crate::datagrams::Datagrams;
 use std::alloc::{AllocError, Allocator, Global};
 use std::marker::Model;
 
-/// A node's list of finished datagrams, while one of its sockets appends to it.
+/// The list that a node's datagrams go to, while one socket of the node appends to it.
 #[derive(Drop)]
 pub struct Outbox<A: Allocator = Global> {
     list: Datagrams<A>,
@@ -24,14 +24,15 @@ impl<A: Allocator> Model for Outbox<A> {
 }
 
 impl<A: Allocator> Outbox<A> {
-    /// Takes over a list; the pushes go to its end.
+    /// Takes over a list. The socket `from` sends datagrams of protocol `kind`, and each push goes to the end of the
+    /// list.
     pub fn over(list: Datagrams<A>, from: Address, kind: u8) -> Outbox<A>
         ensures { result ≡ record { items = list.items; from = from; kind = kind; room = list.room } }
     {
         Outbox { list, from, kind }
     }
 
-    /// Appends the finished datagram.
+    /// Appends a finished datagram with at most 586 bytes of data. The error is out of memory.
     pub fn push(&mut self, to: Address, bytes: &[u8]) -> Result<(), AllocError>
         requires { length bytes.now ≤ 586 }
         ensures ok { OnOk result (Sends self.old self.new ((to, bytes.now) ∷ [])) }
@@ -43,7 +44,7 @@ impl<A: Allocator> Outbox<A> {
         self.list.push(to.node, &header, bytes)
     }
 
-    /// Lets the next `pushes` pushes of at most `size` bytes each refuse no memory.
+    /// Makes room for `pushes` pushes of at most `size` bytes of data each, which then cannot run out of memory.
     pub fn room(&mut self, pushes: u32, size: usize) -> Result<(), AllocError>
         requires { size ≤ 586 }
         ensures ok { OnOk result (HasRoomFor self.new pushes size) }
@@ -54,7 +55,7 @@ impl<A: Allocator> Outbox<A> {
         self.list.reserve(pushes, HEADER_LEN + size)
     }
 
-    /// The list that was taken over, with what was pushed at its end.
+    /// Gives back the list, with the pushed datagrams at its end.
     pub fn into_list(self) -> Datagrams<A>
         ensures items { result.items ≡ self.items }
         ensures room { result.room ≡ self.room }

@@ -3,7 +3,7 @@ ghost use Rattle.std.specs.Prelude.{◌≡◌, ◌≤◌, ◌↔◌, length, IsS
 use arrayvec::ArrayVec;
 use std::marker::Model;
 
-/// A string of 0 to 32 bytes, as the names of nodes' entities and of zones are.
+/// A string of 0 to 32 bytes, as for the names of zones and of entities.
 #[derive(Clone, Debug, Drop, PartialEq, Eq, Hash)]
 pub struct Pascal {
     text: ArrayVec<u8, 32>,
@@ -22,7 +22,7 @@ impl Model for Pascal {
 impl Pascal {
     pub const MAX_LEN: usize = 32;
 
-    /// The string of these bytes; none where there are more than 32.
+    /// The string of these bytes; none if there are more than 32.
     pub fn new(bytes: &[u8]) -> Option<Pascal>
         ensures fits { IsSome result ↔ (length bytes.now ≤ 32) }
         ensures value { IfSome result (λ p. p ≡ bytes.now) }

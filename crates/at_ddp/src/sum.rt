@@ -9,7 +9,7 @@ pub fn rotating_sum(bytes: &[u8]) -> u16
     close_sum(add_to_sum(0, bytes))
 }
 
-/// The running sum, once these bytes are added to it.
+/// The running sum after these bytes.
 pub(crate) fn add_to_sum(sum: u16, bytes: &[u8]) -> u16
     ensures { result ≡ fold added sum bytes.now }
 {
@@ -18,7 +18,7 @@ pub(crate) fn add_to_sum(sum: u16, bytes: &[u8]) -> u16
     })
 }
 
-/// The running sum as it is written, where 0 would say that none was computed.
+/// The checksum field for a running sum: 0 would mean that none was computed, so 0xFFFF stands for it.
 pub(crate) fn close_sum(sum: u16) -> u16
     ensures { result ≡ written_sum sum }
 {

@@ -1,4 +1,4 @@
-//! Datagrams as bytes, and their checksum.
+//! Tests of datagrams as bytes, and of their checksum.
 use at_ddp::{Datagram, DdpFault, decode, encode, rotating_sum};
 use at_samples::{ASKER, EMPTY, ROUTER, ZERO};
 use refusing::Refusing;
@@ -10,7 +10,7 @@ fn write_empty<A: Allocator>(out: &mut Vec<u8, A>) -> Result<(), DdpFault> {
     encode(ROUTER, ASKER, 3, &[], out)
 }
 
-// Compares bytes with one byte and the empty datagram.
+// The bytes are to be 0x55 and then the empty datagram.
 fn compare_written(rt: &impl Abort, bytes: &[u8]) {
     let (first, datagram) = bytes.split_first().expect(rt, "nothing was written");
     assert_eq!(rt; *first, 0x55);
@@ -35,9 +35,9 @@ fn the_empty_datagram_is_written_and_read(rt: HostRuntime) -> Result<(), Fail> {
     Ok(())
 }
 
-// Bytes that hold no datagram, each with the fault that stands first in them and its number.
+// Bytes that begin with no datagram, each with its first fault and that fault's number.
 static REFUSED: [(&[u8], DdpFault, u8); 6] = [
-    // A sum that is wrong by one.
+    // The checksum is wrong by one.
     (
         &[
             0x00, 0x0D, 0x0F, 0x27, 0x00, 0x0A, 0x00, 0x0A, 0x01, 0x05, 0x06, 0x80, 0x03,
@@ -53,7 +53,7 @@ static REFUSED: [(&[u8], DdpFault, u8); 6] = [
         DdpFault::Short,
         1,
     ),
-    // A length of 14, 12 and 600.
+    // The length in the header is 14, 12 and 600.
     (
         &[
             0x00, 0x0E, 0x0F, 0x26, 0x00, 0x0A, 0x00, 0x0A, 0x01, 0x05, 0x06, 0x80, 0x03,
@@ -88,7 +88,7 @@ fn bytes_that_hold_no_datagram_are_refused(rt: HostRuntime) {
     assert_eq!(rt; DdpFault::NoMemory.number(), None);
 }
 
-// Bytes that begin with a datagram without data, each with its hops, its sum and what follows it.
+// Bytes that begin with a datagram without data, each with its hops, its checksum field and the rest.
 static TAKEN: [(&[u8], u8, u16, &[u8]); 4] = [
     (
         &[
@@ -99,7 +99,7 @@ static TAKEN: [(&[u8], u8, u16, &[u8]); 4] = [
         0x0F26,
         &[0xAA, 0xBB],
     ),
-    // The two highest bits are free, and the four after them count the hops.
+    // The two highest bits are free, and the next four count the hops.
     (
         &[
             0xFC, 0x0D, 0x0F, 0x26, 0x00, 0x0A, 0x00, 0x0A, 0x01, 0x05, 0x06, 0x80, 0x03,
@@ -108,7 +108,7 @@ static TAKEN: [(&[u8], u8, u16, &[u8]); 4] = [
         0x0F26,
         &[],
     ),
-    // A sum of 0 is written FFFF, and 0 says that none was computed.
+    // A checksum of 0 is written as FFFF; 0 in the field means that none was computed.
     (
         &[0x00, 0x0D, 0xFF, 0xFF, 0, 0, 0, 0, 0, 0, 0, 0, 0],
         0,
@@ -145,10 +145,10 @@ fn free_bits_hops_and_a_sum_that_was_not_computed_are_taken(rt: HostRuntime) -> 
     Ok(())
 }
 
-// Compares the longest datagram, which is all zeros, with what is written of it and with what is read.
+// Compares the longest datagram, all zeros, with its encoding and its decoding.
 fn compare_longest(rt: &impl Abort, written: &[u8]) -> Result<(), DdpFault> {
     assert_eq!(rt; written.len(), 599);
-    // A length of 599, and the sum of zeros.
+    // The length is 599, and the checksum of zeros is written as FFFF.
     assert!(rt; written.starts_with(&[0x02, 0x57, 0xFF, 0xFF, 0]));
     let (datagram, rest) = decode(written)?;
     assert_eq!(rt; datagram.data_, [0; 586].as_slice());
@@ -167,12 +167,12 @@ fn a_datagram_carries_at_most_586_bytes(rt: HostRuntime) -> Result<(), Fail> {
     Ok(())
 }
 
-// Bytes and their sums.
+// Bytes and their checksums.
 static SUMS: [(&[u8], u16); 5] = [
     (&[], 0xFFFF),
     (&[0, 0, 0], 0xFFFF),
     (&[1], 2),
-    // 1 rotated by 16 bits, and 0x80 by 9: the ninth brings the bit to the other end.
+    // A 1 is rotated by 16 places, and 0x80 by 9: the ninth moves the top bit to the bottom.
     (&[1, 0, 0, 0, 0, 0, 0, 0, 0, 0, 0, 0, 0, 0, 0, 0], 1),
     (&[0x80, 0, 0, 0, 0, 0, 0, 0, 0], 1),
 ];
@@ -184,8 +184,8 @@ fn a_sum_rotates_by_one_bit_a_byte_and_is_never_0(rt: HostRuntime) {
     }
 }
 
-// Writes the empty datagram after a byte, with one request for memory refused after those that are granted. Writes it
-// again where it was refused, and tells whether it was.
+// Encodes the empty datagram after a byte. The allocator grants `granted` requests for memory and refuses the next one.
+// Encodes it again if it was refused, and returns whether it was.
 fn write_refused(rt: &impl Abort, alloc: Global, granted: u64) -> Result<bool, Fail> {
     let heap = Refusing::new(alloc, granted);
     let mut out = Vec::with_capacity(&heap, 1)?;

@@ -1,4 +1,4 @@
-//! Tests of datagrams, from outside their crate.
+//! Tests of at_ddp through its public functions.
 #![tactic(auto)]
 
 #[cfg(test)]

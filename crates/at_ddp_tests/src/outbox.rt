@@ -1,4 +1,4 @@
-//! The list of datagrams that an outbox appends to.
+//! Tests of the list of datagrams that an outbox appends to.
 use at_ddp::{Datagrams, Outbox};
 use at_samples::{ASKER, EMPTY, ROUTER, ZERO, at};
 use refusing::Refusing;
@@ -8,17 +8,16 @@ use std::process::Abort;
 use std::rt::Files;
 use std::test::Fail;
 
-// The list with the empty datagram at its end.
 fn push_empty<A: Allocator>(list: Datagrams<A>) -> Result<Datagrams<A>, AllocError> {
     let mut out = Outbox::over(list, ASKER, 3);
     out.push(ROUTER, &[])?;
     Ok(out.into_list())
 }
 
-// The datagram of zeros.
+// A datagram of zeros, with its length and checksum.
 static ZEROS: [u8; 13] = [0x00, 0x0D, 0xFF, 0xFF, 0, 0, 0, 0, 0, 0, 0, 0, 0];
 
-// The list with it at its end, for which room is made twice.
+// Reserves room twice, and then pushes the datagram of zeros.
 fn push_zeros<A: Allocator>(mut list: Datagrams<A>) -> Result<Datagrams<A>, AllocError> {
     list.reserve(1, 599)?;
     let mut out = Outbox::over(list, ZERO, 0);
@@ -27,7 +26,6 @@ fn push_zeros<A: Allocator>(mut list: Datagrams<A>) -> Result<Datagrams<A>, Allo
     Ok(out.into_list())
 }
 
-// Compares the datagram at an index, and the node that it goes to.
 fn compare_at<A: Allocator>(
     rt: &impl Abort,
     list: &Datagrams<A>,
@@ -50,7 +48,7 @@ fn an_outbox_appends_finished_datagrams_to_the_list(rt: HostRuntime) -> Result<(
     Ok(())
 }
 
-// Pushes the empty datagram, and pushes it again where the first push is refused, which leaves the list as it was.
+// Pushes the empty datagram. If the first push runs out of memory, it left the list as it was, and the next succeeds.
 fn push_again<'a>(
     rt: &impl Abort,
     heap: &'a Refusing<Global>,
@@ -69,7 +67,7 @@ fn push_again<'a>(
     push_empty(list)
 }
 
-// Pushes nine datagrams with one request for memory refused after those that are granted, and tells whether one was.
+// Pushes nine datagrams. The allocator grants `granted` requests and refuses the next one. Returns whether it did.
 fn push_nine(rt: &impl Abort, alloc: Global, granted: u64) -> Result<bool, AllocError> {
     let heap = Refusing::new(alloc, granted);
     let mut list = Datagrams::new(&heap);
@@ -93,7 +91,7 @@ fn no_memory_for_a_push_leaves_the_list_as_it_was(rt: HostRuntime) -> Result<(),
     Ok(())
 }
 
-// Makes room for four datagrams with 100 bytes, again where it is refused, and tells whether it was.
+// Reserves room for four datagrams with 100 bytes of data. Tries again if memory ran out, and returns whether it did.
 fn room_again(
     rt: &impl Abort,
     heap: &Refusing<Global>,
@@ -107,8 +105,8 @@ fn room_again(
     Ok(true)
 }
 
-// Makes room for four pushes, and makes them and one more. Tells whether the room was refused, and whether the last
-// push was.
+// Reserves room for four pushes, and pushes five times. Returns whether memory ran out for the room, and whether it ran
+// out for the last push.
 fn push_into_room(
     rt: &impl Abort,
     alloc: Global,
@@ -137,12 +135,12 @@ fn after_room_is_made_as_many_pushes_ask_for_no_memory(rt: HostRuntime) -> Resul
         refused_after_them = refused_after_them.saturating_add(u64::from(was_last_refused));
     }
     assert!(rt; 0 < refused_in_room && refused_in_room < 20);
-    // So the pushes ran where the very next request would have been refused.
+    // Memory ran out at the push after these four, so the four asked for none.
     assert!(rt; 0 < refused_after_them);
     Ok(())
 }
 
-// The most memory that the process ever held at once, in kilobytes.
+// The most memory that the process has held so far, in kilobytes.
 fn most_memory<R: Files + AllocGlobal>(rt: &R) -> Result<u64, Fail> {
     let state = fs::read_to_string(rt, "/proc/self/status")?;
     let (_, rest) = state.as_str().split_once("VmHWM:").ok_or("no peak")?;
@@ -150,10 +148,10 @@ fn most_memory<R: Files + AllocGlobal>(rt: &R) -> Result<u64, Fail> {
     Ok(word.parse()?)
 }
 
-// A million datagrams with 17 bytes.
+// A million datagrams with 17 bytes of data.
 fn million(alloc: Global) -> Result<Datagrams, AllocError> {
     let mut out = Outbox::over(Datagrams::new(alloc), ASKER, 3);
-    // The pushes past this room make the list grow.
+    // There is room for half of the pushes, so that the list grows for the others.
     out.room(500_000, 17)?;
     for _ in 0..1_000_000u32 {
         out.push(ROUTER, &[0; 17])?;

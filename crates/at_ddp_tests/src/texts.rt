@@ -1,16 +1,16 @@
-//! Texts, short strings, bytes and lists.
+//! Tests of texts, short strings, bytes and lists.
 use at_ddp::{Bytes, Listed, Pascal, same_text};
 use refusing::Refusing;
 use std::alloc::{AllocError, Global};
 use std::process::Abort;
 use std::test::Fail;
 
-// Two texts, and whether they are the same.
+// Pairs of texts, and whether they are the same but for the case of letters.
 static TEXTS: [(&[u8], &[u8], bool); 7] = [
     (b"LaserWriter", b"laserwriteR", true),
     (b"LaserWriter", b"LaserWriter ", false),
     (b"", b"", true),
-    // The bytes around the letters, and those from 0x80.
+    // The bytes just before and after the letters, and bytes from 0x80 on.
     (b"@Z[", b"`Z{", false),
     (b"@Z[", b"@z[", true),
     (b"\xC9", b"\xE9", false),
@@ -24,7 +24,6 @@ fn texts_differ_by_more_than_the_case_of_a_to_z(rt: HostRuntime) {
     }
 }
 
-// The short string of these bytes.
 fn short_string(rt: &impl Abort, bytes: &[u8]) -> Pascal {
     let name = Pascal::new(bytes).expect(rt, "the bytes are refused");
     assert_eq!(rt; name.bytes(), bytes);

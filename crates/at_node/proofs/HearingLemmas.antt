@@ -117,7 +117,7 @@ comes_wider P Q old before Again new after f h = (h.0, f h.0 h.1, h.2)
 comes_wider P Q old before Ignored new after f h = (h.0, f h.0 h.1, h.2)
 comes_wider P Q old before (Refused n) new after f h = (h.0, f h.0 h.1, h.2)
 
--- an outcome that is no want of memory
+-- an outcome that is not out of memory
 pub comes_with : {A : Type 0} (P : Outcome A → Type 0) (o : Outcome A) (old : NodeState) (before : List Posted) (r : Report A) (new : NodeState) (after : List Posted) → P o → Exactly o before r new after → (r ≡ NoMemory → ⊥) → Comes P old before r new after
 comes_with P o old before NoMemory new after p e some = absurd (some refl)
 comes_with P o old before (Begun tid) new after p e some = (o, p, e)
@@ -261,7 +261,7 @@ no_question A said n from (Frames.Request mask xo timer tid user bytes) other ap
 no_question A said n from (Frames.Response place eom sts tid user bytes) other apart = refl
 no_question A said n from (Frames.Release tid) other apart = absurd (true≢false other)
 
--- what is reported of a release is no want of memory
+-- the report of a release is not out of memory
 pub release_some : {A : Type 0} (r : Reception) → ◌≡◌ {A = Report A} (released_report r) NoMemory → ⊥
 release_some reception.Ignored h = absurd (cc)
 release_some (reception.New key) h = absurd (cc)

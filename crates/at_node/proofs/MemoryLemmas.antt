@@ -1,4 +1,4 @@
--- What may take memory, where want of it is reported.
+-- Which events can run out of memory, if they report it.
 use Rattle.std.proofs.Common.{◌≡◌, ℕ, Bool, true, false, cond, List, refl, inl, inr}
 use Rattle.at_ddp.specs.declared.address.Address.{Address}
 use Rattle.at_atp.specs.Frames.{Content, Response}

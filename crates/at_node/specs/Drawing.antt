@@ -15,26 +15,26 @@ use Rattle.at_node.specs.declared.event.Report.TheVariants as report
 use Rattle.at_node.specs.Nodes.{NodeState}
 use Rattle.at_node.specs.Steps.{atp_kind, called}
 
--- the number that was drawn where this was reported
+-- the number that the node drew, if this is its report
 abbrev pub drawn_by : {A : Type 0} → Report A → Option Draw
 drawn_by (report.Begun tid) = Some (Tid tid)
 drawn_by other = None
 
--- the number that a call draws here, if no memory is refused
+-- the number that a call will draw, if memory does not run out
 abbrev pub draw_of : {A : Type 0} → NodeState → Call A → Option Draw
 draw_of n call = drawn_by (called n call).report
 
--- the same of whatever comes: for now only calls draw
+-- the same for any input: only calls draw a number
 abbrev pub draw_of_input : {A : Type 0} → NodeState → Input A → Option Draw
 draw_of_input n (input.Call call) = draw_of n call.now
 draw_of_input n (input.Timer timer) = None
 draw_of_input n (input.Received bytes) = None
 
--- does a record stand here under this number of the node?
+-- does the node hold a record of a request of that node with this number?
 abbrev pub holds : NodeState → ℕ → Draw → Bool
 holds n node (Tid tid) = list_any (is_from node tid) n.served || list_any (is_from node tid) n.service
 
--- bytes begin with a datagram that carries this number of the node
+-- the bytes begin with a datagram that carries this number of the node
 pub record Carries (bytes : List ℕ) (node : ℕ) (draw : Draw) : Type 0 where
   pub datagram : Datagram
   pub rest : List ℕ

@@ -1,4 +1,4 @@
--- What comes of bytes that a node receives: the first fault that stands in them, or the step of what they spell.
+-- What comes of received bytes: the first fault that they have, or the step of what they spell.
 use Rattle.std.specs.Prelude.{◌≡◌, ℕ, ◌==◌, ◌&&◌, ◌||◌, ◌≤◌, if◌then◌else◌, Bool, true, false, MatchBool, List, length, Option, Some, None, ◌⊎◌}
 use Rattle.at_ddp.specs.Datagram.{Content as Datagram, BeginsWith}
 use Rattle.at_ddp.specs.Fault as ddp
@@ -26,8 +26,8 @@ use Rattle.at_node.specs.declared.event.Report.TheVariants as report
 use Rattle.at_node.specs.Nodes.{NodeState, Outcome, idle}
 use Rattle.at_node.specs.Steps.{atp_kind, is_reading, packet_in, tid_of, after_heard, zone_asked, zone_released, service_asked, service_released}
 
--- what the page that ended a reading tells: for now a reading takes one page, so a page that is not the last is refused
--- as a list too long
+-- What a reading reports of its page. A reading takes one page, so a page that is not the last is refused: the list is
+-- too long.
 abbrev pub told_by : {A : Type 0} → page.Page → Report A
 told_by p = if p.last then report.Zones p.names else report.ZoneFault 34
 
@@ -43,7 +43,7 @@ pub record TellsFault {A : Type 0} (p : Packet) (r : Report A) : Type 0 where
   pub numbered : zip.number_of fault ≡ Some number
   pub tells : r ≡ report.ZoneFault number
 
--- what a reading of the zone list tells, which this packet ended
+-- what a reading of the zone list reports of the packet that ended it
 abbrev pub Tells : {A : Type 0} → Packet → Report A → Type 0
 Tells p r = TellsPage p r ⊎ TellsFault p r
 
@@ -52,7 +52,7 @@ pub record EndsReading {A : Type 0} (n : NodeState) (h : Heard A) (p : Packet) (
   pub tells : Tells p told
   pub outcome : o ≡ after_heard n h told None
 
--- a packet of this number was heard by the socket that asks, with p as its user bytes and data
+-- the socket that asks received a packet of this number, with p as its user bytes and data
 abbrev pub AtAsking : {A : Type 0} → NodeState → ℕ → Packet → Heard A → Step A → Outcome A → Type 0
 AtAsking n tid p h step.Ignored o = o ≡ after_heard n h report.Ignored n.reading
 AtAsking n tid p h step.Kept o = o ≡ after_heard n h report.Kept n.reading
@@ -65,7 +65,7 @@ pub record AsksForPage {A : Type 0} (n : NodeState) (from : Address) (f : Conten
   pub asks : RequestSpells user start
   pub outcome : o ≡ zone_asked n from f table start
 
--- a packet came for the router's zone socket: any request but one for a page is ignored, and so is a response
+-- a packet came for the router's zone socket: only a request for a page and a release have an effect
 abbrev pub AtZones : {A : Type 0} → NodeState → Address → List (List ℕ) → Content → Outcome A → Type 0
 AtZones n from table (Request mask xo timer tid user bytes) o =
     AsksForPage n from (Request mask xo timer tid user bytes) user table o ⊎ (((start : ℕ) → ¬ RequestSpells user start) × (o ≡ idle n report.Ignored))
@@ -137,16 +137,16 @@ pub record HearsDdpFault {A : Type 0} (n : NodeState) (bytes : List ℕ) (o : Ou
   pub numbered : ddp.number_of fault ≡ Some number
   pub outcome : o ≡ idle n (report.Refused number)
 
--- what comes of received bytes, at a node whose service would say this to a new request
+-- what comes of received bytes, if the service would reply this to a new request
 abbrev pub Hears : {A : Type 0} → Reply A → NodeState → List ℕ → Outcome A → Type 0
 Hears said n bytes o = HearsDatagram said n bytes o ⊎ HearsDdpFault n bytes o
 
--- a request was handed to the service
+-- a request was delivered to the service
 abbrev pub is_asked : {A : Type 0} → Report A → Bool
 is_asked (report.Asked key user bytes) = true
 is_asked other = false
 
--- The service was called once where a new request was handed to it, and said this; otherwise it stays as it was.
+-- If a new request was delivered to the service, it was called once and replied this. Otherwise it stays as it was.
 abbrev pub Serves : {A S : Type 0} → (S → Key → List ℕ → List ℕ → Reply A → S → Type 0) → Report A → Reply A → S → S → Type 0
 Serves serves (report.Asked key user bytes) said before after = serves before key user bytes said after
 Serves serves r said before after = after ≡ before

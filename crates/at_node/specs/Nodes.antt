@@ -8,9 +8,9 @@ use Rattle.at_atp.specs.Records.{Record}
 use Rattle.at_node.specs.declared.event.Report.{Report}
 use Rattle.at_node.specs.declared.event.Report.TheVariants as report
 
--- a node: its network and number, the number of the cable's router, the router's zone table where this node is the
--- router, the transaction that reads the zone list, its requester, the records of zone requests, and those of the
--- requests for its service
+-- A node: its network, its number and the number of the cable's router. If this node is the router, it has the zone
+-- table. Then come the transaction that reads the zone list, the requester, the records of zone requests, and the
+-- records of requests for the service.
 pub record NodeState : Type 0 where
   pub net : ℕ
   pub number : ℕ
@@ -31,7 +31,7 @@ pub record Outgoing : Type 0 where
   pub kind : ℕ
   pub data_ : List ℕ
 
--- as it is sent: the canonical spelling
+-- the datagram in its canonical spelling
 abbrev pub posted : Outgoing → Posted
 posted o = record { node = o.to.node; bytes = canonical o.to o.from o.kind o.data_ }
 
@@ -45,15 +45,15 @@ pub record Outcome (A : Type 0) : Type 0 where
   pub node : NodeState
   pub out : List Outgoing
 
--- nothing comes of it but the report
+-- the event has no effect but the report
 abbrev pub idle : {A : Type 0} → NodeState → Report A → Outcome A
 idle n r = record { report = r; node = n; out = [] }
 
 abbrev pub Exactly : {A : Type 0} → Outcome A → List Posted → Report A → NodeState → List Posted → Type 0
 Exactly o before r new after = (r ≡ o.report) × (new ≡ o.node) × (after ≡ before ++ map posted o.out)
 
--- may what is reported take memory? No refusal does, nor does the end of a transaction that has no retry left, or of a
--- record.
+-- can an event with this report run out of memory? A refusal cannot, and neither can the end of a transaction without
+-- retries or of a record
 abbrev pub takes_memory : {A : Type 0} → Report A → Bool
 takes_memory (report.Refused number) = false
 takes_memory (report.Failed tid) = false
@@ -61,12 +61,12 @@ takes_memory report.Done = false
 takes_memory report.ZonesFailed = false
 takes_memory other = true
 
--- the outcome; or, if that may take memory, want of it and nothing changed
+-- the outcome; or, if the event can run out of memory, that report and no change
 abbrev pub IsStep : {A : Type 0} → Outcome A → NodeState → List Posted → Report A → NodeState → List Posted → Type 0
 IsStep o old before report.NoMemory new after = (new ≡ old) × (after ≡ before) × (takes_memory o.report ≡ true)
 IsStep o old before r new after = Exactly o before r new after
 
--- an outcome of which P holds; or, if that may take memory, want of it and nothing changed
+-- an outcome with P; or, if the event can run out of memory, that report and no change
 abbrev pub Comes : {A : Type 0} → (Outcome A → Type 0) → NodeState → List Posted → Report A → NodeState → List Posted → Type 0
 Comes P old before report.NoMemory new after = (new ≡ old) × (after ≡ before) × ((o : Outcome _) × P o × (takes_memory o.report ≡ true))
 Comes P old before r new after = (o : Outcome _) × P o × Exactly o before r new after

@@ -27,7 +27,7 @@ use Rattle.at_node.specs.declared.event.Report.{Report}
 use Rattle.at_node.specs.declared.event.Report.TheVariants as report
 use Rattle.at_node.specs.Nodes.{NodeState, Outcome, idle, sent_by}
 
--- the sockets of a node: 128 asks, 129 is its service's, and 6 is the router's for zones
+-- the sockets of a node: it asks from 128, its service has 129, and a router serves zones at 6
 abbrev pub asking : ℕ → ℕ → Address
 asking net number = record { net = net; node = number; socket = 128 }
 
@@ -51,8 +51,8 @@ asks n reading t = record {
   out = sent_by (asking n.net n.number) atp_kind ((t.to, spelled (request_by t)) ∷ []);
 }
 
--- the transaction by which a node asks its router for the zone list, from the first name on: one packet, asked for at
--- most four times
+-- the transaction by which a node asks its router for the zone list, from the first name on: one packet, with three
+-- retries
 abbrev pub zone_transaction : NodeState → ℕ → ℕ → Transaction
 zone_transaction n router tid = beginning tid (zones_at n.net router) (request_user 1) [] 1 false 3
 
@@ -75,12 +75,12 @@ ask_called n to user bytes wanted xo retries =
     if nat_lt 578 (length bytes) then idle n (report.Refused 13)
     else asked_as n to user bytes wanted xo retries (next_number n.requester)
 
--- what a refusal of the transaction protocol is reported as
+-- the report of a refusal by ATP
 abbrev pub refused_as : {A : Type 0} → Option ℕ → Report A
 refused_as None = report.NoMemory
 refused_as (Some number) = report.Refused number
 
--- the node's user answers a request that was handed up
+-- the node's user answers a request that was delivered to the service
 abbrev pub answered_with : {A : Type 0} → NodeState → Key → List Packet → Option AtpFault → Outcome A
 answered_with n key packets (Some fault) = idle n (refused_as (number_of fault))
 answered_with n key packets None = record {
@@ -92,7 +92,7 @@ answered_with n key packets None = record {
 abbrev pub answer_called : {A : Type 0} → NodeState → Key → List Packet → Outcome A
 answer_called n key packets = answered_with n key packets (answer_fault n.service key packets)
 
--- a socket of the node's own network
+-- an address on the node's own network
 abbrev pub at_socket : NodeState → ℕ → ℕ → Address
 at_socket n node socket = record { net = n.net; node = node; socket = socket }
 
@@ -108,7 +108,7 @@ abbrev pub is_reading : Option ℕ → ℕ → Bool
 is_reading None tid = false
 is_reading (Some t) tid = t == tid
 
--- with no retry left the transaction is closed; one that reads the zone list ends the reading
+-- if no retry is left, the transaction is closed; if it read the zone list, the reading ends
 abbrev pub after_failing : {A : Type 0} → NodeState → ℕ → Requests → Bool → Outcome A
 after_failing n tid after true = record { report = report.ZonesFailed; node = record n { reading = None; requester = after }; out = [] }
 after_failing n tid after false = record { report = report.Failed tid; node = record n { requester = after }; out = [] }
@@ -121,14 +121,14 @@ abbrev pub retry_fired : {A : Type 0} → NodeState → ℕ → Option Retried �
 retry_fired n tid None = idle n (report.Refused 15)
 retry_fired n tid (Some r) = after_retry n tid r r.step
 
--- the records of one of the node's sockets that answer
+-- the records of a socket of the node that answers
 abbrev pub records_at : NodeState → ℕ → List Record
 records_at n socket = if socket == 129 then n.service else (if socket == 6 then n.served else [])
 
 abbrev pub with_records_at : NodeState → ℕ → List Record → NodeState
 with_records_at n socket rs = if socket == 129 then record n { service = rs } else (if socket == 6 then record n { served = rs } else n)
 
--- the record of a request at one of the node's sockets is taken away, if it was answered
+-- the record of a request at a socket of the node is removed, if the request was answered
 abbrev pub expired : {A : Type 0} → NodeState → ℕ → Key → Option AtpFault → Outcome A
 expired n socket key (Some fault) = idle n (refused_as (number_of fault))
 expired n socket key None = record { report = report.Done; node = with_records_at n socket (without_first (is_key key) (records_at n socket)); out = [] }
@@ -153,11 +153,11 @@ tid_of (Request mask xo timer tid user bytes) = tid
 tid_of (Response place eom sts tid user bytes) = tid
 tid_of (Release tid) = tid
 
--- a packet was heard: the report, and the reading after it
+-- a packet was received: the report, and the reading after it
 abbrev pub after_heard : {A : Type 0} → NodeState → Heard A → Report A → Option ℕ → Outcome A
 after_heard n h r reading = record { report = r; node = record n { reading = reading; requester = h.after }; out = sent_by (asking n.net n.number) atp_kind (spelled_all h.sent) }
 
--- what is reported of a step of a transaction that ends with this report
+-- the report of a step of a transaction that ends with this report
 abbrev pub reported : {A : Type 0} → Report A → Step A → Report A
 reported ends step.Ignored = report.Ignored
 reported ends step.Kept = report.Kept
@@ -168,14 +168,14 @@ reported ends (step.Finished packets) = ends
 abbrev pub reading_after : {A : Type 0} → Option ℕ → Step A → Option ℕ
 reading_after reading s = if is_finished s then None else reading
 
--- what is reported of a step of any other transaction
+-- the report of a step of any other transaction
 abbrev pub reported_other : {A : Type 0} → ℕ → Step A → Report A
 reported_other tid step.Ignored = report.Ignored
 reported_other tid step.Kept = report.Kept
 reported_other tid step.AskAgain = report.Again
 reported_other tid (step.Finished packets) = report.Response tid packets
 
--- ---- packets that say that an answer came whole
+-- ---- releases
 
 abbrev pub is_release : Content → Bool
 is_release (Release tid) = true
@@ -215,7 +215,7 @@ zone_asked n from frame table start =
     if finds_no_place n.served from frame then idle n (report.Refused 14)
     else at_zones n (taken n.served from frame) (page_packet table start) (taken n.served from frame).reception
 
--- it came for the router's zone socket that an answer came whole
+-- a release came for the router's zone socket
 abbrev pub zone_released : {A : Type 0} → NodeState → Taken → Outcome A
 zone_released n t = zone_taken n t (released_report t.reception)
 
@@ -224,7 +224,7 @@ zone_released n t = zone_taken n t (released_report t.reception)
 abbrev pub service_taken : {A : Type 0} → NodeState → Taken → Report A → Outcome A
 service_taken n t r = record { report = r; node = record n { service = t.after }; out = sent_by (serving n.net n.number) atp_kind (spelled_all t.sent) }
 
--- the records once the service replied to a request, and what is sent then
+-- the records after the service replied to a request, and what is sent then
 abbrev pub after_reply : {A : Type 0} → List Record → Key → Reply A → List Record
 after_reply rs key reply.Later = rs
 after_reply rs key (reply.Now packets) = after_answer rs key packets
@@ -233,7 +233,7 @@ abbrev pub sent_by_reply : {A : Type 0} → List Record → Key → Reply A → 
 sent_by_reply rs key reply.Later = []
 sent_by_reply rs key (reply.Now packets) = asked_for (find (is_key key) rs) key packets
 
--- a new request was handed to the service, which answers it at once or later
+-- a new request is delivered to the service, which answers it now or later
 abbrev pub handed_up : {A : Type 0} → NodeState → Taken → Key → List ℕ → List ℕ → Reply A → Outcome A
 handed_up n t key user bytes r = record {
   report = report.Asked key user bytes;
@@ -247,11 +247,11 @@ at_service n t user bytes said (reception.Again count) = service_taken n t repor
 at_service n t user bytes said reception.Released = service_taken n t report.Released
 at_service n t user bytes said (reception.New key) = handed_up n t key user bytes said
 
--- it came for the service that an answer came whole
+-- a release came for the service's socket
 abbrev pub service_released : {A : Type 0} → NodeState → Taken → Outcome A
 service_released n t = service_taken n t (released_report t.reception)
 
--- a request came for the service, which would say this to a new one
+-- a request came for the service, which would reply this to a new one
 abbrev pub service_asked : {A : Type 0} → NodeState → Address → Content → List ℕ → List ℕ → Reply A → Outcome A
 service_asked n from frame user bytes said =
     if finds_no_place n.service from frame then idle n (report.Refused 14)

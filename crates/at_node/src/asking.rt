@@ -28,7 +28,7 @@ pub(crate) struct Question<'a> {
     pub retries: u8,
 }
 
-// The question for the zone list, from the first name on: one packet, asked for at most four times.
+// The request for the zone list from the first name on: one packet, with three retries.
 pub(crate) fn read_from(router: Address) -> Question<'static>
     ensures to { result.to ≡ router }
     ensures user { result.user ≡ request_user 1 }
@@ -47,7 +47,6 @@ pub(crate) fn read_from(router: Address) -> Question<'static>
     }
 }
 
-// Begins a transaction.
 pub(crate) fn begin<A: Allocator + Copy>(
     alloc: A,
     requester: &mut Requester<A>,
@@ -81,7 +80,6 @@ pub(crate) fn begin<A: Allocator + Copy>(
     begun
 }
 
-// Retries a transaction.
 pub(crate) fn retry<A: Allocator + Copy>(
     alloc: A,
     requester: &mut Requester<A>,
@@ -103,7 +101,7 @@ pub(crate) fn retry<A: Allocator + Copy>(
     step
 }
 
-// Hands a packet to the requester.
+// The requester takes a packet.
 pub(crate) fn hear<A: Allocator + Copy>(
     alloc: A,
     requester: &mut Requester<A>,
@@ -125,7 +123,8 @@ pub(crate) fn hear<A: Allocator + Copy>(
     step
 }
 
-// What the page tells that ends a reading. For now a reading takes one page.
+// What a reading of the zone list reports of its page. A reading takes one page, so a page that is not the last is
+// refused.
 pub(crate) fn told<A: Allocator + Copy>(
     alloc: A,
     user: [u8; 4],
@@ -157,7 +156,7 @@ fn zone_fault<A: Allocator>(fault: ZipFault) -> Report<A>
     }
 }
 
-// What is reported of a step of a transaction that ends with this report.
+// The report of a step. If the step ended the transaction, `ends` is the report.
 pub(crate) fn reported<A: Allocator>(ends: Report<A>, step: Step<A>) -> Report<A>
     ensures report { result ≡ reported ends step }
     ensures not_asked { is_asked ends ≡ false → is_asked result ≡ false }
@@ -170,7 +169,7 @@ pub(crate) fn reported<A: Allocator>(ends: Report<A>, step: Step<A>) -> Report<A
     }
 }
 
-// What is reported of a step of any other transaction.
+// The report of a step of a transaction that does not read the zone list.
 pub(crate) fn reported_other<A: Allocator>(tid: u16, step: Step<A>) -> Report<A>
     ensures report { result ≡ reported_other tid step }
     ensures not_asked { is_asked result ≡ false }
@@ -183,7 +182,7 @@ pub(crate) fn reported_other<A: Allocator>(tid: u16, step: Step<A>) -> Report<A>
     }
 }
 
-// The transaction that reads the zone list, after this step of it.
+// The transaction that still reads the zone list after this step of it.
 pub(crate) fn reading_after<A: Allocator>(reading: Option<u16>, step: &Step<A>) -> Option<u16>
     ensures { result ≡ reading_after reading step.now }
 {
@@ -193,7 +192,6 @@ pub(crate) fn reading_after<A: Allocator>(reading: Option<u16>, step: &Step<A>) 
     }
 }
 
-// The transaction number of a packet.
 pub(crate) fn tid_of(frame: &Frame<'_>) -> u16
     ensures { result ≡ tid_of (content frame.now) }
 {

@@ -11,7 +11,7 @@ use at_ddp::{Address, Datagrams};
 use std::alloc::Allocator;
 
 impl<A: Allocator + Copy> Node<A> {
-    /// Plays a call of the node's user; what it sends goes to the end of the list.
+    /// Plays a call by the node's user. What the node sends goes to the end of the list.
     pub fn call(&mut self, call: &Call<A>, out: &mut Datagrams<A>) -> Report<A>
         ensures { IsStep (called self.old call.now) self.old out.old.items result self.new out.new.items }
     {
@@ -48,7 +48,7 @@ impl<A: Allocator + Copy> Node<A> {
         }
     }
 
-    // A socket of this node's network.
+    // The address of a socket on this node's network.
     pub(crate) fn there(&self, node: u8, socket: u8) -> Address
         ensures { result ≡ at_socket self.now node socket }
     {

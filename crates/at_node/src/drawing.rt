@@ -14,7 +14,7 @@ use at_atp::{Frame, MAX_DATA};
 use at_ddp::{Address, decode};
 use std::alloc::{Allocator, Global};
 
-/// A number that a node draws, and that is not to be drawn again while a packet or a record has it.
+/// A number that a node draws. It is not to be drawn again while a packet or a record has it.
 #[derive(Clone, Copy, Debug, PartialEq, Eq, Hash)]
 pub enum Draw {
     /// The number of a transaction.
@@ -30,7 +30,7 @@ pub enum Input<'a, A: Allocator = Global> {
 }
 
 impl<A: Allocator + Copy> Node<A> {
-    /// The number that this would draw here, if no memory is refused.
+    /// The number that the node will draw for this input, if memory does not run out.
     pub fn draw_of(&self, input: &Input<'_, A>) -> Option<Draw>
         ensures { result ≡ draw_of_input self.now input.now }
     {
@@ -41,7 +41,7 @@ impl<A: Allocator + Copy> Node<A> {
         }
     }
 
-    /// Whether a record stands here under this number of a node.
+    /// Whether this node holds a record of a request that has this number and came from `node`.
     pub fn holds(&self, node: u8, draw: Draw) -> bool
         ensures { result ≡ holds self.now node draw }
     {
@@ -80,15 +80,15 @@ impl<A: Allocator + Copy> Node<A> {
     }
 }
 
-/// The numbers that a datagram carries, each with the node that draws it; none where the bytes begin with no datagram, or
-/// it has no packet.
+/// The numbers that a datagram carries, each with the node that draws it. There are none if the bytes begin with no
+/// datagram, or if its data is no packet.
 pub fn carried(bytes: &[u8]) -> [Option<(u8, Draw)>; 2]
     ensures { (node : ℕ) (draw : Drawn) → Contains result (Some (node, draw)) ↔ Carries bytes.now node draw }
 {
     [owned(bytes), None]
 }
 
-// The transaction number in a datagram.
+// The transaction number in a datagram, and the node that draws it.
 fn owned(bytes: &[u8]) -> Option<(u8, Draw)>
     ensures found { IfSome result (λ r. Carries bytes.now r.0 r.1) }
     ensures only { (node : ℕ) (draw : Drawn) → Carries bytes.now node draw → result ≡ Some (node, draw) }
@@ -106,7 +106,7 @@ fn owned(bytes: &[u8]) -> Option<(u8, Draw)>
     Some((owner.node, Draw::Tid(tid_of(&frame))))
 }
 
-// Whose number a packet carries.
+// The requester that drew the transaction number of a packet.
 fn owner(from: Address, to: Address, frame: &Frame<'_>) -> Address
     ensures { result ≡ owner from to (content frame.now) }
 {

@@ -5,26 +5,26 @@ use at_atp::{Key, Packet, ranges_of, ranges_of_bytes};
 use at_ddp::{Bytes, Listed, Pascal};
 use std::alloc::{Allocator, Global};
 
-/// What a node's user calls.
+/// A call by the node's user.
 #[derive(Drop)]
 pub enum Call<A: Allocator = Global> {
     /// Reads the router's zone list.
     Zones,
-    /// Asks a socket of the cable.
+    /// Asks a socket of the cable for packets.
     Ask {
         node: u8,
         socket: u8,
         user: [u8; 4],
-        /// At most 578 bytes.
+        /// The data of the request, at most 578 bytes.
         data_: Bytes<A>,
         wanted: PacketCount,
-        /// Whether the request may run at most once.
+        /// Whether the service is to run the request at most once.
         exactly_once: bool,
-        /// How often the request may be sent again.
+        /// How often the request may be sent again, 0 to 255 times.
         retries: u8,
     },
-    /// Answers a request that was handed to the service: who asked, under which number, and the answer, of 1 to 8 packets
-    /// with at most 578 bytes each.
+    /// Answers a request that was delivered to the service: who asked, under which number, and the answer. An answer
+    /// has 1 to 8 packets with at most 578 bytes of data each.
     Answer {
         node: u8,
         socket: u8,
@@ -34,7 +34,7 @@ pub enum Call<A: Allocator = Global> {
 }
 
 impl<A: Allocator> Call<A> {
-    /// What the types of its parts say of them. It does nothing but pass them by.
+    /// The parts of the call are in the ranges of their types. The body only visits them.
     pub fn ranges(&self)
         ensures { IsCall self.now }
     {
@@ -69,12 +69,12 @@ impl<A: Allocator> Call<A> {
 /// A timer that fires.
 #[derive(Clone, Copy, Debug, PartialEq, Eq)]
 pub enum Timer {
-    /// The answer to a transaction is late.
+    /// The answer to a transaction has not come in time.
     Retry {
         tid: u16,
     },
-    /// A request that was answered exactly once is forgotten: the socket that answered, 6 or 129, who asked, and under which
-    /// number.
+    /// The record of an exactly-once request that was answered is to go. `own` is the socket that answered, 6 or 129,
+    /// and the rest says who asked and under which number.
     Release {
         own: u8,
         node: u8,
@@ -86,43 +86,43 @@ pub enum Timer {
 /// What came of an event.
 #[derive(Drop)]
 pub enum Report<A: Allocator = Global> {
-    /// A transaction was begun under this number.
+    /// A transaction began under this number.
     Begun(u16),
     /// A request was answered, and so many packets were sent.
     Answered(u8),
-    /// It was done, and sent nothing.
+    /// The record of a request was removed, and nothing was sent.
     Done,
-    /// The router answered a zone request with so many packets.
+    /// The router answered a zone request, and sent so many packets.
     Served(u8),
-    /// A request was handed to the service: who asked under which number, and what.
+    /// A new request was delivered to the service: who asked under which number, and what.
     Asked {
         key: Key,
         user: [u8; 4],
         data_: Bytes<A>,
     },
-    /// A reading of the zone list ended with these zones.
+    /// A reading of the zone list ended with these names.
     Zones(Listed<Pascal, A>),
-    /// A reading of the zone list ended by a page that was refused, with the refusal's number.
+    /// A reading of the zone list ended, since its page was refused. This is the number of the refusal.
     ZoneFault(u8),
-    /// A reading of the zone list ended since no retry was left.
+    /// A reading of the zone list ended, since no retry was left.
     ZonesFailed,
-    /// A packet of an answer was kept, and others are still wanted.
+    /// A packet of an answer was kept. Others are still wanted.
     Kept,
     /// A transaction ended with these packets.
     Response {
         tid: u16,
         packets: Listed<Packet<A>, A>,
     },
-    /// A transaction ended since no retry was left.
+    /// A transaction ended without an answer, since no retry was left.
     Failed(u16),
-    /// Something was sent again, or a request that waits came again.
+    /// Something was sent again, or a request that still waits came again.
     Again,
-    /// The answer to an exactly-once request came whole, and is no longer kept.
+    /// The answer to an exactly-once request arrived complete, and is no longer kept.
     Released,
-    /// A packet that has no effect.
+    /// The datagram had no effect.
     Ignored,
-    /// The event was refused, with the refusal's number.
+    /// The event was refused. This is the number of the refusal.
     Refused(u8),
-    /// A growth was refused, and nothing changed.
+    /// Out of memory: nothing changed.
     NoMemory,
 }

@@ -20,7 +20,7 @@ use std::alloc::{AllocError, Allocator};
 use std::mem;
 
 impl<A: Allocator + Copy> Node<A> {
-    // A datagram for the service.
+    // Takes a datagram for the service.
     pub(crate) fn take_question<S: Service<A>>(
         &mut self,
         service: &mut S,
@@ -65,7 +65,7 @@ impl<A: Allocator + Copy> Node<A> {
     }
 }
 
-// Takes a request for the service in: its user bytes and its data.
+// Takes a request for the service, with its user bytes and its data.
 fn take_request<A: Allocator + Copy, S: Service<A>>(
     alloc: A,
     records: &mut Responder<A>,
@@ -98,7 +98,8 @@ fn take_request<A: Allocator + Copy, S: Service<A>>(
     }
 }
 
-// Hands a request up to the service, and answers it, if the service does. The answer is a copy of its data.
+// Delivers a request to the service, and sends the answer if the service gives one now. Returns a copy of the request's
+// data for the report.
 fn hand_up<A: Allocator + Copy, S: Service<A>>(
     alloc: A,
     records: &mut Responder<A>,
@@ -117,6 +118,7 @@ fn hand_up<A: Allocator + Copy, S: Service<A>>(
     ensures nothing_sent { OnErr result (out.new.items ≡ out.old.items) }
     ensures not_asked { OnErr result (service.new ≡ service.old) }
 {
+    // The copy comes first: a delivery to the service cannot be taken back.
     let copy = Bytes::copy_of(alloc, bytes)?;
     let mut outbox = Outbox::over(mem::replace(out, Datagrams::new(alloc)), own, ATP);
     let replied = reply(records, service, key, user, bytes, &mut outbox);
@@ -127,7 +129,7 @@ fn hand_up<A: Allocator + Copy, S: Service<A>>(
     }
 }
 
-// The service's reply. Room for the largest answer is made before the service is asked.
+// Room for the largest answer comes first: after the service was called, nothing may fail.
 fn reply<A: Allocator + Copy, S: Service<A>>(
     records: &mut Responder<A>,
     service: &mut S,

@@ -14,7 +14,7 @@ use at_ddp::{Address, Datagram, Datagrams};
 use std::alloc::Allocator;
 
 impl<A: Allocator + Copy> Node<A> {
-    // A datagram for the socket that asks.
+    // Takes a datagram for the socket that asks.
     pub(crate) fn take_answer(
         &mut self,
         datagram: &Datagram<'_>,
@@ -44,7 +44,7 @@ impl<A: Allocator + Copy> Node<A> {
         }
     }
 
-    // A packet of the transaction that reads the zone list.
+    // Takes a packet of the transaction that reads the zone list.
     fn hear_page(
         &mut self,
         from: Address,
@@ -69,7 +69,7 @@ impl<A: Allocator + Copy> Node<A> {
         reported(told, step)
     }
 
-    // Any other packet for the socket that asks.
+    // Takes any other packet for the socket that asks.
     fn hear_other(&mut self, from: Address, frame: &Frame<'_>, out: &mut Datagrams<A>) -> Report<A>
         requires { (place : ℕ) (eom sts : Bool) (tid : ℕ) (user data_ : List ℕ) → packet frame.now ≡ Response place eom sts tid user data_ → is_reading self.old.reading tid ≡ false }
         ensures comes { (said : Said A) → Comes (AtSocket said self.old from Asker (packet frame.now)) self.old out.old.items result self.new out.new.items }

@@ -1,4 +1,4 @@
-//! Laws of what a node hears. The functions do nothing but cite the laws of the layers below: each contract is a law.
+//! Laws of what a node receives. The functions only call the laws of the layers below: each contract is a law.
 ghost use Rattle.std.specs.Prelude.{◌≡◌, ℕ, ◌^◌, ◌<◌, ◌≤◌, Bool, List};
 ghost use Rattle.at_ddp.specs.Datagram.{IsAddress, canonical, written};
 ghost use Rattle.at_ddp.specs.declared.address.Address.{Address};
@@ -17,7 +17,7 @@ ghost use Rattle.at_node.specs.declared.service.Reply.{Reply};
 
 use std::alloc::Allocator;
 
-/// What is sent is heard: bytes that were written for a packet do what that packet does at the socket that they go to.
+/// What is sent is received: the bytes of a packet do what that packet does at the socket that they go to.
 pub fn what_is_sent_is_heard<A: Allocator>()
     ensures { (said : Reply A) (n : NodeState) (to from : Address) (f : Content) (o : Outcome A) → IsAddress to → IsAddress from → IsLawful f → Hears said n (canonical to from atp_kind (spelled f)) o
         → AtSocket said n from (socket_of n (written to from atp_kind (spelled f))) f o }
@@ -27,7 +27,7 @@ pub fn what_is_sent_is_heard<A: Allocator>()
     at_atp::laws::what_is_written_fits();
 }
 
-/// A request that was written for the page from a place on is served that page, and no other.
+/// A request for the page from a place on is answered with that page, and no other.
 pub fn a_page_asked_for_is_served<A: Allocator>()
     ensures { (n : NodeState) (from : Address) (table : List (List ℕ)) (mask : ℕ) (xo : Bool) (timer tid start : ℕ) (bytes : List ℕ) (o : Outcome A) → 1 ≤ start → start < 2 ^ 16
         → AtZones n from table (Request mask xo timer tid (request_user start) bytes) o → o ≡ zone_asked n from (Request mask xo timer tid (request_user start) bytes) table start }
@@ -36,7 +36,7 @@ pub fn a_page_asked_for_is_served<A: Allocator>()
     at_zip::laws::one_page_a_spelling();
 }
 
-/// A page that was written is the page that is told.
+/// The page that was written is the page that is reported.
 pub fn a_page_written_is_told<A: Allocator>()
     ensures { (p : Page) (r : Report A) → IsLawfulPage p → Tells (record { user = page_user p; data_ = page_data p }) r → r ≡ told_by p }
 {
@@ -44,7 +44,7 @@ pub fn a_page_written_is_told<A: Allocator>()
     at_zip::laws::one_page_a_spelling();
 }
 
-/// Bytes that were written for a packet carry the number of that packet.
+/// The bytes of a packet carry the number of that packet.
 pub fn what_is_sent_carries_its_number()
     ensures { (to from : Address) (f : Content) → IsAddress to → IsAddress from → IsLawful f → Carries (canonical to from atp_kind (spelled f)) (owner from to f).node (Tid (number_of f)) }
 {

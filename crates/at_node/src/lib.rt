@@ -1,4 +1,4 @@
-//! A node of a cable: one event in, one report and its datagrams out.
+//! A node of a cable. Each event goes in by one call, which returns a report and appends what the node sends to a list.
 #![tactic(auto)]
 
 mod asking;

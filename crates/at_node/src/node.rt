@@ -14,13 +14,13 @@ use at_zip::Zones;
 use std::alloc::{Allocator, Global};
 use std::marker::Model;
 
-/// The socket that asks.
+/// The socket that asks, for the node's own transactions.
 pub(crate) const ASKING: u8 = 128;
 
 /// The socket of the node's service.
 pub(crate) const SERVICE: u8 = 129;
 
-/// The router's socket for zones.
+/// The router's zone socket.
 pub(crate) const ZONES: u8 = 6;
 
 /// A node of a cable.
@@ -29,16 +29,16 @@ pub struct Node<A: Allocator = Global> {
     pub(crate) alloc: A,
     pub(crate) net: u16,
     number: u8,
-    // The number of the cable's router.
+    // The number of the cable's router, if there is one.
     pub(crate) router: Option<u8>,
-    // The table, where this node is the router.
+    // The zone table, if this node is the router.
     pub(crate) zones: Option<Zones<A>>,
-    // The transaction that reads the zone list.
+    // The transaction that reads the zone list, if one is open.
     pub(crate) reading: Option<u16>,
     pub(crate) requester: Requester<A>,
-    // The zone requests that came.
+    // The requests that came to the zone socket.
     pub(crate) served: Responder<A>,
-    // The requests that came for the service.
+    // The requests that came to the service's socket.
     pub(crate) service: Responder<A>,
 }
 
@@ -51,8 +51,8 @@ impl<A: Allocator> Model for Node<A> {
 }
 
 impl<A: Allocator + Copy> Node<A> {
-    /// A node of a network, 1 to 65,535, under a number, 1 to 254. `router` is the number of the cable's router, if it
-    /// has one, and `zones` the router's table, if this node is the router.
+    /// A node with a number from 1 to 254 on a network from 1 to 65,535. `router` is the number of the cable's router,
+    /// if it has one. `zones` is the router's table, if this node is the router.
     pub fn new(
         alloc: A,
         net: u16,
@@ -75,8 +75,8 @@ impl<A: Allocator + Copy> Node<A> {
         }
     }
 
-    /// Takes received bytes in; what they make the node send goes to the end of the list. A new request for the service is
-    /// handed to it.
+    /// Takes received bytes. What the node sends goes to the end of the list. A new request for the service is
+    /// delivered to it.
     pub fn receive<S: Service<A>>(
         &mut self,
         service: &mut S,
@@ -98,7 +98,7 @@ impl<A: Allocator + Copy> Node<A> {
         self.number
     }
 
-    // A socket of this node.
+    // The address of a socket of this node.
     pub(crate) fn at(&self, socket: u8) -> Address
         ensures { result ≡ record { net = self.now.net; node = self.now.number; socket = socket } }
     {
@@ -140,7 +140,7 @@ impl<A: Allocator + Copy> Node<A> {
     }
 }
 
-// A refusal by its number.
+// The report of a refusal, or of out of memory if there is no number.
 pub(crate) fn refused<A: Allocator>(number: Option<u8>) -> Report<A>
     ensures report { result ≡ refused_as number }
     ensures not_asked { is_asked result ≡ false }

@@ -19,7 +19,7 @@ impl Model for PacketCount {
 }
 
 impl PacketCount {
-    /// None if the number is 0 or over 8.
+    /// None if the count is not 1 to 8.
     pub fn new(count: u8) -> Option<PacketCount>
         ensures { result ≡ (if nat_le 1 count && nat_le count 8 then Some count else None) }
     {

@@ -12,7 +12,7 @@ use at_ddp::{Address, Datagrams, Outbox};
 use std::alloc::Allocator;
 use std::mem;
 
-// Hands a packet to the responder.
+// The responder takes a packet.
 pub(crate) fn take<A: Allocator + Copy>(
     alloc: A,
     served: &mut Responder<A>,
@@ -37,7 +37,6 @@ pub(crate) fn take<A: Allocator + Copy>(
     reception
 }
 
-// Answers a request that waits.
 pub(crate) fn answer<A: Allocator + Copy>(
     alloc: A,
     served: &mut Responder<A>,
@@ -60,7 +59,7 @@ pub(crate) fn answer<A: Allocator + Copy>(
     answered
 }
 
-// Takes in what says that an answer came whole.
+// Takes a release, which never runs out of memory.
 pub(crate) fn release<A: Allocator + Copy>(
     alloc: A,
     served: &mut Responder<A>,

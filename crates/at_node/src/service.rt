@@ -8,29 +8,29 @@ use at_atp::{Key, Packet};
 use at_ddp::Listed;
 use std::alloc::{AllocError, Allocator, Global};
 
-/// What a service says to a request.
+/// What a service replies to a request.
 #[derive(Drop)]
 pub enum Reply<A: Allocator = Global> {
-    /// The answer: 1 to 8 packets with at most 578 bytes each.
+    /// The answer comes now: 1 to 8 packets with at most 578 bytes of data each.
     Now(Listed<Packet<A>, A>),
-    /// The answer comes by a call of the node.
+    /// The answer comes later, by a call of the node (`Call::Answer`).
     Later,
 }
 
-/// What answers the requests that come for a node's service.
+/// The program behind a node's service socket, which answers requests.
 pub trait Service<A: Allocator> {
-    /// What may come of a request: the service before it, its key, user bytes and data, the reply, and the service after
-    /// it.
+    /// What may come of a request: the service before it, the request's key, user bytes and data, the reply, and the
+    /// service after it.
     ghost serves: { Self → Asker → List ℕ → List ℕ → Said A → Self → Type 0 };
 
-    /// Takes a request that is new. Without memory nothing changes.
+    /// Takes a new request. The error is out of memory, and it leaves the service as it was.
     fn serve(&mut self, key: Key, user: [u8; 4], bytes: &[u8]) -> Result<Reply<A>, AllocError>
         ensures served { IfOk result (λ reply. serves self.old key user bytes.now reply self.new) }
         ensures lawful { IfOk result (λ reply. IsReply reply) }
         ensures unchanged { OnErr result (self.new ≡ self.old) };
 }
 
-/// A service that leaves every answer to calls of its node.
+/// A service that replies `Later` to every request.
 #[derive(Clone, Copy, Debug, PartialEq, Eq)]
 pub struct Deferring;
 

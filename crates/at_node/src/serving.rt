@@ -17,7 +17,7 @@ use at_zip::{Zones, page, read_request};
 use std::alloc::{AllocError, Allocator};
 
 impl<A: Allocator + Copy> Node<A> {
-    // A datagram for the socket that serves zones, where this node is the router.
+    // Takes a datagram for the zone socket, which only a router serves.
     pub(crate) fn take_request(
         &mut self,
         datagram: &Datagram<'_>,
@@ -70,7 +70,7 @@ impl<A: Allocator + Copy> Node<A> {
     }
 }
 
-// Takes a request in that asks for the page from a place on.
+// Takes a request for the page from a place on.
 fn serve_request<A: Allocator + Copy>(
     alloc: A,
     served: &mut Responder<A>,
@@ -101,7 +101,7 @@ fn serve_request<A: Allocator + Copy>(
     }
 }
 
-// The page of the table from a place on, as an answer of one packet.
+// The answer to a request for the page from a place on: one packet.
 fn page_answer<A: Allocator + Copy>(
     alloc: A,
     zones: &Zones<A>,
@@ -120,7 +120,7 @@ fn page_answer<A: Allocator + Copy>(
     }
 }
 
-// Answers a new zone request by the page from a place on, or takes its record away again.
+// Answers a new zone request. If memory runs out, removes its record, as if the request had not come.
 fn serve<A: Allocator + Copy>(
     alloc: A,
     served: &mut Responder<A>,

@@ -11,7 +11,7 @@ use at_ddp::Datagrams;
 use std::alloc::Allocator;
 
 impl<A: Allocator + Copy> Node<A> {
-    /// Plays a timer that fires; what it sends goes to the end of the list.
+    /// Plays a timer that fires. What the node sends goes to the end of the list.
     pub fn timer(&mut self, timer: Timer, out: &mut Datagrams<A>) -> Report<A>
         ensures { IsStep (timed self.old timer) self.old out.old.items result self.new out.new.items }
     {
@@ -41,7 +41,7 @@ impl<A: Allocator + Copy> Node<A> {
         }
     }
 
-    // The record of a request is taken away at one of the two sockets that answer.
+    // Removes the record of a request, at the service's socket or at the zone socket.
     fn expire(&mut self, own: u8, key: Key) -> Report<A>
         ensures report { result ≡ (release_fired {A = A} self.old own key).report }
         ensures state { self.new ≡ (release_fired {A = A} self.old own key).node }
@@ -57,7 +57,7 @@ impl<A: Allocator + Copy> Node<A> {
         }
     }
 
-    // The transaction of this number was closed without an answer.
+    // The transaction of this number ended without an answer.
     fn fail(&mut self, tid: u16) -> Report<A>
         ensures { (result ≡ (after_failing self.old tid self.old.requester (is_reading self.old.reading tid)).report) × (self.new ≡ (after_failing {A = A} self.old tid self.old.requester (is_reading self.old.reading tid)).node) }
     {

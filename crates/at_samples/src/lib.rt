@@ -1,4 +1,4 @@
-//! What several crates of tests share: addresses, a datagram, and what stands in a list of datagrams.
+//! What several test crates share: addresses, one datagram, and a look-up in a list of datagrams.
 #![tactic(auto)]
 
 ghost use Rattle.std.specs.Prelude.{◌≡◌, option_map, slice_get};
@@ -6,7 +6,7 @@ ghost use Rattle.std.specs.Prelude.{◌≡◌, option_map, slice_get};
 use at_ddp::{Address, Datagrams};
 use std::alloc::Allocator;
 
-/// The socket that asks.
+/// The client's socket.
 pub const ASKER: Address = Address {
     net: 10,
     node: 5,
@@ -20,26 +20,26 @@ pub const ROUTER: Address = Address {
     socket: 6,
 };
 
-/// A socket that answers.
+/// A server's socket.
 pub const SERVER: Address = Address {
     net: 10,
     node: 7,
     socket: 129,
 };
 
-/// The address of which every part is 0.
+/// The address with 0 in every field.
 pub const ZERO: Address = Address {
     net: 0,
     node: 0,
     socket: 0,
 };
 
-/// To socket 6 of node 1, from socket 128 of node 5, of type 3, with no data.
+/// A datagram without data, of type 3, from socket 128 of node 5 to socket 6 of node 1.
 pub static EMPTY: [u8; 13] = [
     0x00, 0x0D, 0x0F, 0x26, 0x00, 0x0A, 0x00, 0x0A, 0x01, 0x05, 0x06, 0x80, 0x03,
 ];
 
-/// The node and the bytes of the datagram at an index, if there is one.
+/// The datagram at an index, with the node that it goes to; none if the list is shorter.
 pub fn at<A: Allocator>(list: &Datagrams<A>, index: usize) -> Option<(u8, &[u8])>
     ensures { option_map (λ r. record { node = r.0; bytes = r.1.now }) result ≡ slice_get list.now.items index }
 {

@@ -1,9 +1,9 @@
-//! Requests that must not run twice.
+//! Tests of requests that must not run twice.
 use crate::shared::compare;
 use at_play::Status;
 
-// An exactly-once request for two packets is answered, asked again and released. Its record stays until its timer fires: the
-// request that is delivered after that, before its number is drawn again, is past what is promised, and is handed up anew.
+// An exactly-once request for two packets is answered, asked again and released. Its record stays until its release
+// timer fires. The copy that is delivered afterwards goes to the service again: what is promised ends with the record.
 const ASKED_ONCE: &str = "net 10
 node 5
 node 7
@@ -46,7 +46,7 @@ fn an_exactly_once_request_is_handed_up_once_until_its_release_timer_fires(rt: H
     compare(&rt, rt.alloc(), ASKED_ONCE, ASKED_ONCE_PLAYED, Status::Done);
 }
 
-// The same request comes twice more before the answer is whole.
+// The same request comes twice more before the answer is complete.
 const ANSWERED_AGAIN: &str = "net 10
 node 5
 node 7
@@ -93,8 +93,8 @@ fn an_answer_is_sent_again_and_not_asked_for_again(rt: HostRuntime) {
     );
 }
 
-// What a record refuses: a release timer that fires before the answer, and one without a record; an answer to what was
-// answered.
+// Refused: a release timer that fires before the answer, a release timer without a record, and an answer to a request
+// that was answered before.
 const REFUSED: &str = "net 10
 node 1 router zone Lab
 node 5 zone Lab
@@ -136,7 +136,7 @@ fn a_record_that_waits_does_not_expire_and_one_that_is_answered_is_not_answered_
     compare(&rt, rt.alloc(), REFUSED, REFUSED_PLAYED, Status::Done);
 }
 
-// An exactly-once request for the zone list: the router keeps its page until it is released.
+// An exactly-once request for the zone list: the router keeps its page until the release comes.
 const ZONES_ONCE: &str = "net 10
 node 1 router zone Lab
 node 5 zone Lab

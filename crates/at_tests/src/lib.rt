@@ -1,4 +1,4 @@
-//! Tests of nodes and of whole schedules, from outside their crates.
+//! Tests of nodes, worlds and whole schedules through the public functions of their crates.
 #![tactic(auto)]
 
 #[cfg(test)]

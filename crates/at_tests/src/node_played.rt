@@ -1,4 +1,4 @@
-//! A node that tests play events on, with what it sent.
+//! A node that the tests play events on, and what it sent.
 use at_ddp::{Address, Datagrams, Listed, Pascal, encode};
 use at_node::{Call, Deferring, Node, Report};
 use at_samples::at;
@@ -7,8 +7,8 @@ use std::alloc::{AllocError, Allocator, Global};
 use std::process::Abort;
 use std::test::Fail;
 
-// A node, what it sent, and how many events found no memory. Its functions have no contract, so that no proof carries the
-// state from one event to the next.
+// A node, what it sent, and how many events ran out of memory. Its functions have no contract, so that no proof carries
+// the state from one event to the next.
 #[derive(Drop)]
 pub(crate) struct Played<A: Allocator> {
     node: Node<A>,
@@ -17,7 +17,7 @@ pub(crate) struct Played<A: Allocator> {
     pub(crate) refusals: u64,
 }
 
-// What came of an event. The names of a zone list are kept beside it.
+// What came of an event. The names of zone lists are kept in the node's `zones`.
 #[derive(Clone, Copy, Debug, PartialEq, Eq)]
 pub(crate) enum Told {
     Begun(u16),
@@ -43,7 +43,7 @@ impl<A: Allocator + Copy> Played<A> {
         self.node.call(&Call::Zones, &mut self.out)
     }
 
-    // Calls for the zone list, and calls again where there was no memory and nothing was sent.
+    // Calls for the zone list. Calls again if memory ran out and nothing was sent.
     fn call_again(&mut self) -> Result<Told, AllocError> {
         let before = self.out.len();
         let mut report = self.call();
@@ -58,7 +58,7 @@ impl<A: Allocator + Copy> Played<A> {
         self.node.receive(&mut Deferring, bytes, &mut self.out)
     }
 
-    // Takes bytes in, and takes them in again where there was no memory and nothing was sent.
+    // Receives bytes. Receives them again if memory ran out and nothing was sent.
     fn receive_again(&mut self, bytes: &[u8]) -> Result<Told, AllocError> {
         let before = self.out.len();
         let mut report = self.receive(bytes);
@@ -92,17 +92,14 @@ impl<A: Allocator + Copy> Played<A> {
         at(&self.out, index)
     }
 
-    // Calls, and compares what comes of it.
     pub(crate) fn compare_call(&mut self, rt: &impl Abort, want: Told) {
         assert_eq!(rt; self.call_again(), Ok(want));
     }
 
-    // Takes bytes in, and compares what comes of them.
     pub(crate) fn compare_receive(&mut self, rt: &impl Abort, bytes: &[u8], want: Told) {
         assert_eq!(rt; self.receive_again(bytes), Ok(want), "of {bytes:?}");
     }
 
-    // Compares the datagram at an index, and the node that it goes to.
     pub(crate) fn compare_sent_at(&self, rt: &impl Abort, index: usize, node: u8, bytes: &[u8]) {
         assert_eq!(rt;
             self.sent_at(index),
@@ -111,18 +108,17 @@ impl<A: Allocator + Copy> Played<A> {
         );
     }
 
-    // Compares how many datagrams were sent.
     pub(crate) fn compare_sent(&self, rt: &impl Abort, want: usize) {
         assert_eq!(rt; self.out.len(), want);
     }
 
-    // Compares the names of the zone lists that were read.
+    // Compares the names of all zone lists that the node read. A slash ends each name.
     pub(crate) fn compare_zones(&self, rt: &impl Abort, want: &[u8]) {
         assert_eq!(rt; self.zones.as_slice(), want);
     }
 }
 
-// The router of network 10, whose table has Lab and Office. It makes one request for memory.
+// The router of network 10, whose zones are Lab and Office. It makes one request for memory.
 pub(crate) fn router<A: Allocator + Copy>(alloc: A, global: Global) -> Result<Played<A>, Fail> {
     let mut list = Vec::with_capacity(alloc, 2)?;
     list.push(Pascal::new(b"Lab").ok_or("a name is too long")?)?;
@@ -137,7 +133,7 @@ pub(crate) fn asker<A: Allocator + Copy>(alloc: A, global: Global) -> Played<A> 
     Played::new(Node::new(alloc, 10, 5, Some(1), None), alloc, global)
 }
 
-// Node 5's request for the zone list, and the answer of node 1.
+// Node 5's request for the zone list, and the router's answer.
 pub(crate) static ASKED: [u8; 21] = [
     0x00, 0x15, 0x67, 0x11, 0x00, 0x0A, 0x00, 0x0A, 0x01, 0x05, 0x06, 0x80, 0x03, 0x40, 0x01, 0x00,
     0x00, 0x08, 0x00, 0x00, 0x01,
@@ -148,7 +144,6 @@ pub(crate) static ANSWERED: [u8; 32] = [
     0x00, 0x01, 0x00, 0x00, 0x02, 0x03, 0x4C, 0x61, 0x62, 0x06, 0x4F, 0x66, 0x66, 0x69, 0x63, 0x65,
 ];
 
-// The datagram of these parts.
 pub(crate) fn datagram(
     alloc: Global,
     to: Address,

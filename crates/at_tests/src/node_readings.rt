@@ -1,4 +1,4 @@
-//! Readings of the zone list.
+//! Tests of readings of the zone list.
 use crate::node_played::{ANSWERED, ASKED, Played, Told, asker, datagram, router};
 use at_ddp::Address;
 use at_node::Node;
@@ -8,7 +8,7 @@ use std::alloc::{Allocator, Global};
 use std::process::Abort;
 use std::test::Fail;
 
-// Asks for the zone list, and cannot ask again while that reading is open.
+// Asks for the zone list. The node cannot ask again while that reading is open.
 fn ask<A: Allocator + Copy>(rt: &impl Abort, node: &mut Played<A>) {
     node.compare_call(rt, Told::Begun(0));
     node.compare_sent_at(rt, 0, 1, &ASKED);
@@ -25,7 +25,7 @@ fn answer<A: Allocator + Copy>(rt: &impl Abort, router: &mut Played<A>) {
     router.compare_sent(rt, 2);
 }
 
-// Takes the answer in, and again to no effect. The next reading has the next number.
+// Receives the answer. The second copy is ignored. The next reading has the next transaction number.
 fn take_answer<A: Allocator + Copy>(rt: &impl Abort, node: &mut Played<A>) {
     node.compare_receive(rt, &ANSWERED, Told::Zones(2));
     node.compare_zones(rt, b"Lab/Office/");
@@ -35,7 +35,7 @@ fn take_answer<A: Allocator + Copy>(rt: &impl Abort, node: &mut Played<A>) {
     node.compare_sent(rt, 2);
 }
 
-// Reads the zone list, and tells how many events found no memory.
+// Reads the zone list. Returns how many events ran out of memory.
 fn play_reading<A: Allocator + Copy>(
     rt: &impl Abort,
     global: Global,
@@ -55,7 +55,7 @@ fn the_zone_list_is_asked_for_and_answered(rt: HostRuntime) -> Result<(), Fail> 
     Ok(())
 }
 
-// Plays with one request for memory refused after those that are granted, and tells how many events found none.
+// The allocator grants `granted` requests and refuses the next one. Returns how many events ran out of memory.
 fn play_refused(rt: &impl Abort, global: Global, granted: u64) -> Result<u64, Fail> {
     let heap = Refusing::new(global, granted);
     let refused = play_reading(rt, global, &heap)?;
@@ -70,7 +70,7 @@ fn play_refused(rt: &impl Abort, global: Global, granted: u64) -> Result<u64, Fa
 #[test]
 fn no_memory_for_an_event_leaves_the_node_as_it_was(rt: HostRuntime) -> Result<(), Fail> {
     let mut refusals = 0u64;
-    // The router itself makes the first request.
+    // The first request for memory makes the router itself, so it is granted.
     for granted in 1..60u64 {
         refusals = refusals.saturating_add(play_refused(&rt, rt.alloc(), granted)?);
     }
@@ -78,7 +78,7 @@ fn no_memory_for_an_event_leaves_the_node_as_it_was(rt: HostRuntime) -> Result<(
     Ok(())
 }
 
-// Takes in the datagram at an index, which the router sent to itself.
+// The router receives the datagram at an index, which it sent to itself.
 fn hear_itself(
     rt: &impl Abort,
     alloc: Global,
@@ -111,16 +111,16 @@ fn a_network_without_a_router_has_no_zone_list(rt: HostRuntime) {
     node.compare_sent(&rt, 0);
 }
 
-// Answers to a reading, each with the fault of its page.
+// Answers to a reading whose page is refused, each with the number of the fault.
 static FAULTY_PAGES: [(&[u8], u8); 4] = [
     (b"\x90\0\0\0\x00\0\0\0", 33),
     (b"\x90\0\0\0\x01\0\0\x02\x03Lab", 31),
     (b"\x90\0\0\0\x01\0\0\x01\x00", 32),
-    // A reading takes one page.
+    // The page is not the last, and a reading takes one page.
     (b"\x90\0\0\0\x00\0\0\x01\x03Lab", 34),
 ];
 
-// Takes in a page that another server sent, which is not heard, and then that page of the router.
+// Receives a page from another node, which is ignored, and then the same page from the router.
 fn take_faulty(
     rt: &impl Abort,
     alloc: Global,

@@ -1,4 +1,4 @@
-//! What a node ignores and refuses.
+//! Tests of what a node ignores and refuses.
 use crate::node_played::{ANSWERED, Played, Told, asker, datagram, router};
 use at_ddp::Address;
 use at_samples::{ASKER, EMPTY, ROUTER};
@@ -8,8 +8,9 @@ use std::test::Fail;
 
 static ASKS: [u8; 8] = [0x40, 0x01, 0x00, 0x00, 0x08, 0x00, 0x00, 0x01];
 
-// Where packets go, their type and their bytes: another network, node, socket and type, every node, no packets asked for,
-// a request of another kind, one from place 0, and a release.
+// Network, node, socket, type and bytes of datagrams that are ignored. First come another network, node, socket and
+// type, and the broadcast node. Then come requests for no packets, with another code and from place 0. The last is a
+// release.
 static NOT_ASKED: [(u16, u8, u8, u8, [u8; 8]); 9] = [
     (11, 1, 6, 3, [0x40, 1, 0, 0, 8, 0, 0, 1]),
     (10, 2, 6, 3, [0x40, 1, 0, 0, 8, 0, 0, 1]),
@@ -22,7 +23,7 @@ static NOT_ASKED: [(u16, u8, u8, u8, [u8; 8]); 9] = [
     (10, 1, 6, 3, [0xC0, 0, 0, 0, 8, 0, 0, 1]),
 ];
 
-// Takes in the datagram of these parts, which comes from node 5.
+// Receives a datagram from node 5.
 fn compare_datagram(
     rt: &impl Abort,
     alloc: Global,
@@ -57,7 +58,7 @@ fn a_router_ignores_what_does_not_ask_it_for_zones(rt: HostRuntime) -> Result<()
         )?;
     }
     router.compare_sent(&rt, 0);
-    // Network 0 is the own one.
+    // Network 0 means the node's own network.
     let to = Address { net: 0, ..ROUTER };
     compare_datagram(&rt, rt.alloc(), &mut router, to, 3, &ASKS, Told::Served(1))?;
     router.compare_sent_at(&rt, 0, 5, &ANSWERED);
@@ -81,7 +82,7 @@ static NO_DATAGRAM: [(&[u8], u8); 4] = [
     (&[0x00, 0x0D, 0, 1, 0, 0, 0, 0, 0, 0, 0, 0, 0], 4),
 ];
 
-// Bytes that are no packet, each with the number of its fault.
+// Bytes that are no ATP packet, each with the number of its fault.
 static NO_PACKET: [([u8; 8], u8); 2] = [([0; 8], 11), ([0x80, 8, 0, 0, 0, 0, 0, 0], 12)];
 
 fn compare_refused(rt: &impl Abort, alloc: Global, node: &mut Played<Global>) -> Result<(), Fail> {

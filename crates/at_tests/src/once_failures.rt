@@ -1,4 +1,4 @@
-//! Plays of exactly-once requests that find no memory.
+//! Plays of exactly-once requests that run out of memory.
 use crate::shared::compare;
 use crate::transaction_failures::{Row, refuse_each};
 use at_play::Status;
@@ -31,7 +31,8 @@ sent 3 7 00157E14000A000A0705818003C000000000000000
 7 done
 ";
 
-// Where a node finds no memory nothing changes: what it would have reported comes with the next datagram of the same bytes.
+// If a node runs out of memory, nothing changes. What it would have reported comes with the next datagram of the same
+// bytes.
 static EVENTS: [Row; 8] = [
     Row {
         lines: "0 begun 0

@@ -1,11 +1,11 @@
-//! Retries up to the last, and numbers that are drawn again.
+//! Tests of retries up to the last, and of transaction numbers that are drawn again.
 use crate::shared::{compare, compare_end};
 use at_play::Status;
 use std::alloc::Global;
 use std::fmt::Write;
 use std::test::Fail;
 
-// A reading of the zone list is sent again three times.
+// The request of a zone list reading is sent again three times.
 const READING: &str = "net 10
 node 1 router zone Lab
 node 5 zone Lab
@@ -37,7 +37,7 @@ fn a_reading_fails_with_its_last_retry_and_another_may_begin(rt: HostRuntime) {
     compare(&rt, rt.alloc(), READING, READING_PLAYED, Status::Done);
 }
 
-// An ask is sent again as often as it says; the answer to one that failed has no effect.
+// A request is sent again as often as the ask says. The answer to a transaction that failed is ignored.
 const ASK: &str = "net 10
 node 5
 node 7
@@ -73,7 +73,7 @@ fn an_ask_fails_with_its_last_retry(rt: HostRuntime) {
 
 const ASKED: &str = "call 5 ask 7 129 00000000 - 1 alo 0\n";
 
-// Asks under the numbers from this one to 65,535, each failed before the next.
+// Asks under the numbers from `first` to 65,535. Each transaction fails before the next begins.
 fn push_failures(text: &mut String, first: u32) -> Result<(), Fail> {
     for tid in first..65_536 {
         writeln!(
@@ -84,7 +84,7 @@ fn push_failures(text: &mut String, first: u32) -> Result<(), Fail> {
     Ok(())
 }
 
-// Events, asks that fail up to the last number, and more events.
+// Events, then asks that fail up to the last number, then more events.
 fn round(alloc: Global, first: u32, before: &str, after: &str) -> Result<String, Fail> {
     let mut text = String::from_str(alloc, "net 10\nnode 5\nnode 7\n")?;
     text.push_str(before)?;
@@ -130,7 +130,7 @@ fn a_datagram_comes_late_until_its_number_is_drawn_again(rt: HostRuntime) -> Res
     Ok(())
 }
 
-// The first request waits at node 7 when its transaction fails.
+// The first request still waits at node 7 when its transaction fails.
 const WAITING: &str = "call 5 ask 7 129 00000000 - 1 alo 0\ndeliver 0 7\ntimer 5 retry 0\n";
 
 #[test]
@@ -141,7 +141,7 @@ fn a_number_is_not_drawn_again_while_a_record_has_it(rt: HostRuntime) -> Result<
     Ok(())
 }
 
-// The same, exactly once, and answered: node 7 keeps its record.
+// The first request is exactly-once and answered: node 7 keeps its record.
 const KEPT: &str =
     "call 5 ask 7 129 00000000 - 1 xo 0\ndeliver 0 7\ncall 7 answer 5 128 0 00000000:-\ntimer 5 retry 0\n";
 
@@ -171,7 +171,7 @@ fn a_number_is_drawn_again_once_its_record_expired(rt: HostRuntime) -> Result<()
     Ok(())
 }
 
-// Node 7 answers before the number is drawn again; its answer comes too late after that.
+// Node 7 answers before the number is drawn again. Its response comes after that, too late.
 const ANSWERED: &str =
     "call 7 answer 5 128 0 00000000:-\ncall 5 ask 7 129 00000000 - 1 alo 0\ndeliver 65536 5\n";
 

@@ -1,4 +1,4 @@
-//! Plays that find no memory, and plays whose writes fail.
+//! Plays that run out of memory, and plays whose writes fail.
 use crate::shared::{ZONE_LIST, ZONE_LIST_PLAYED, played};
 use at_play::{Printer, Status, play_text};
 use refusing::Refusing;
@@ -7,8 +7,9 @@ use std::io;
 use std::io::ErrorKind;
 use std::process::Abort;
 
-// What is printed of the zone list where one request for memory is refused: the play stops before an event, or a node
-// reports it. What comes after such a report lacks what the node did not send, or has the list from the second answer.
+// What is printed of the zone list if one request for memory is refused. The play stops before an event, or a node
+// reports that it ran out of memory. In the latter case the datagram is missing, or the list comes with the second
+// answer.
 static SHORT_OF_MEMORY: [(&str, Status); 7] = [
     ("stopped nomemory at 0\n", Status::Failed),
     (
@@ -63,7 +64,7 @@ sent 1 5 0020CA71000A000A05018006039000000001000002034C6162064F6666696365
     ),
 ];
 
-// Whether this is what comes of a request for memory that is refused.
+// Whether this output and status follow from one refused request for memory.
 fn is_told(printed: &[u8], status: Status) -> bool {
     for (text, want) in SHORT_OF_MEMORY.iter() {
         if printed == text.as_bytes() && status == *want {
@@ -73,7 +74,7 @@ fn is_told(printed: &[u8], status: Status) -> bool {
     false
 }
 
-// Plays with one request for memory refused after those that are granted, and tells whether one was.
+// The allocator grants `granted` requests and refuses the next one. Returns whether it did.
 fn play_refused(rt: &impl Abort, alloc: Global, granted: u64) -> bool {
     let heap = Refusing::new(alloc, granted);
     let (printed, status) = played(&heap, alloc, ZONE_LIST);
@@ -103,7 +104,7 @@ fn each_request_for_memory_that_is_refused_is_told_in_its_place(rt: HostRuntime)
     assert!(rt; 6 < refusals && refusals < 100, "{refusals} refusals");
 }
 
-// Takes so many writes, and refuses the one after them; what follows it would be taken again.
+// A writer that refuses the write after the first `left`, and takes every other one.
 #[derive(Drop)]
 struct Scarce {
     left: u32,
@@ -127,7 +128,7 @@ impl io::Write for Scarce {
     }
 }
 
-// What is printed before a write that fails is the beginning of the whole.
+// What is printed before the refused write is the beginning of the whole.
 fn compare_cut(rt: &impl Abort, status: Status, printed: &[u8]) {
     assert_eq!(rt; status.code(), 1, "of {printed:?}");
     assert!(rt;
@@ -141,7 +142,7 @@ fn compare_whole(rt: &impl Abort, status: Status, printed: &[u8]) {
     assert_eq!(rt; printed, ZONE_LIST_PLAYED.as_bytes());
 }
 
-// Plays with one write refused after those that are taken, and tells whether one was.
+// Plays with the write after the first `left` refused. Returns whether one was refused.
 fn write_refused(rt: &impl Abort, alloc: Global, left: u32) -> bool {
     let mut writer = Scarce {
         left,

@@ -1,4 +1,4 @@
-//! Schedules that are read again from their beginning, as files are.
+//! Schedules that are read a second time from the beginning, as files are.
 use crate::shared::{ZONE_LIST, ZONE_LIST_PLAYED};
 use at_play::{Printer, Status, play_file};
 use refusing::Refusing;
@@ -7,7 +7,7 @@ use std::io;
 use std::io::{Cursor, ErrorKind, Read, Seek, SeekFrom};
 use std::process::Abort;
 
-// Gives another text each time that it is read from its beginning, which it can be so often.
+// A file with another text each time that it is read from the beginning, which it can be `turns` times.
 #[derive(Drop)]
 struct Changing {
     texts: [&'static str; 3],
@@ -41,7 +41,6 @@ impl Seek for Changing {
     }
 }
 
-// What is printed of a file, and how its play ends.
 fn played<A: Allocator + Copy, F: Read + Seek>(
     alloc: A,
     global: Global,
@@ -113,7 +112,7 @@ fn a_file_that_changes_while_it_is_played_is_told_as_unreadable(rt: HostRuntime)
     );
 }
 
-// Numbers signs without a line feed, so many at a time.
+// A file of number signs without a line feed. `left` of its `len` bytes are still to be read.
 #[derive(Drop)]
 struct Signs {
     len: usize,
@@ -146,8 +145,8 @@ fn a_file_has_at_most_67_108_864_bytes(rt: HostRuntime) {
     }
 }
 
-// Plays with one request for memory refused after those that are granted, and tells whether one was. The events before
-// that were printed.
+// The allocator grants `granted` requests and refuses the next one. Returns whether it did. The events before the
+// refusal were printed.
 fn play_refused(rt: &impl Abort, alloc: Global, granted: u64) -> bool {
     let heap = Refusing::new(alloc, granted);
     let (printed, _) = played(&heap, alloc, &mut Cursor::new(ZONE_LIST.as_bytes()));

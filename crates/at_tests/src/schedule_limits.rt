@@ -1,4 +1,4 @@
-//! Schedules as large as one may be.
+//! Tests of the largest schedules.
 use crate::shared::played;
 use at_play::Status;
 use std::alloc::{AllocError, Global};
@@ -6,7 +6,7 @@ use std::fmt::Write;
 use std::process::Abort;
 use std::test::Fail;
 
-// 17 names of 32 bytes and one of 16, which a page spells to 578 bytes.
+// 17 names of 32 bytes and one of 16, which fill the 578 bytes of a page.
 fn push_full_table(text: &mut String) -> Result<(), AllocError> {
     for _ in 0..17u8 {
         text.push_str(" xxxxxxxxxxxxxxxxxxxxxxxxxxxxxxxx")?;
@@ -14,7 +14,7 @@ fn push_full_table(text: &mut String) -> Result<(), AllocError> {
     text.push_str(" yyyyyyyyyyyyyyyy\n")
 }
 
-// A reading of that table.
+// A reading of that zone table.
 fn full_schedule(alloc: Global) -> Result<String, AllocError> {
     let mut text = String::from_str(
         alloc,
@@ -25,7 +25,7 @@ fn full_schedule(alloc: Global) -> Result<String, AllocError> {
     Ok(text)
 }
 
-// Its page, as the bytes of a datagram print.
+// The page of that table, as hexadecimal digits.
 fn push_full_page(text: &mut String) -> Result<(), AllocError> {
     for _ in 0..17u8 {
         text.push_str("20")?;
@@ -64,7 +64,7 @@ fn a_table_that_fills_its_page_is_read(rt: HostRuntime) -> Result<(), Fail> {
     Ok(())
 }
 
-// Compares what is printed of a schedule that is too long to be shown.
+// Compares what is printed of a schedule that is too long for a failure message.
 fn compare_long(rt: &impl Abort, alloc: Global, text: &str, want: &str, want_status: Status) {
     let (printed, status) = played(alloc, alloc, text);
     assert!(rt;
@@ -75,7 +75,7 @@ fn compare_long(rt: &impl Abort, alloc: Global, text: &str, want: &str, want_sta
     assert_eq!(rt; status, want_status, "of {} bytes", text.len());
 }
 
-// So many calls, and what is printed of them.
+// A number of calls, and what is printed of them.
 fn push_calls(text: &mut String, want: &mut String, count: u32) -> Result<(), Fail> {
     for event in 0..count {
         text.push_str("call 5 zones\n")?;

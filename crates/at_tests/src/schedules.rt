@@ -1,8 +1,8 @@
-//! Schedules played from their text to what is printed.
+//! Schedules as text, played to what is printed.
 use crate::shared::{ZONE_LIST, ZONE_LIST_PLAYED, played};
 use at_play::Status;
 
-// Schedules, what is printed of each, and how its play ends.
+// Schedules, what is printed of each, and the status of its play.
 static PLAYED: [(&str, &str, Status); 10] = [
     (ZONE_LIST, ZONE_LIST_PLAYED, Status::Done),
     ("net 10\n", "", Status::Done),
@@ -29,7 +29,7 @@ sent 2 5 0020CA71000A000A05018006039000000001000002034C6162064F6666696365
 ",
         Status::Done,
     ),
-    // An empty table.
+    // The zone table is empty.
     (
         "net 10
 node 1 router zone Lab
@@ -46,7 +46,7 @@ sent 1 5 0015DE21000A000A05018006039000000001000000
 ",
         Status::Done,
     ),
-    // Names of bytes that do not stand for themselves.
+    // Names with bytes that are printed as escapes.
     (
         "net 10
 node 1 router zone Lab
@@ -64,7 +64,7 @@ sent 1 5 00206462000A000A0501800603900000000100000303C974E904313030250100
 ",
         Status::Done,
     ),
-    // A refusal of a node does not end a play.
+    // A node's refusal does not end a play.
     (
         "net 10
 node 5

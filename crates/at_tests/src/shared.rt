@@ -1,4 +1,4 @@
-//! What the files of schedules share: one of them, and its play.
+//! What the files of schedules share: a schedule of the zone list, and comparisons of what a play prints.
 use at_play::{Printer, Status, play_text};
 use std::alloc::{AllocError, Allocator, Global};
 use std::process::Abort;
@@ -22,7 +22,7 @@ sent 1 5 0020CA71000A000A05018006039000000001000002034C6162064F6666696365
 3 ignored
 ";
 
-// What is printed of a schedule, and how its play ends.
+// What a play of this schedule prints, and its status.
 pub(crate) fn played<A: Allocator + Copy>(
     alloc: A,
     global: Global,
@@ -34,14 +34,13 @@ pub(crate) fn played<A: Allocator + Copy>(
     (writer, status)
 }
 
-// Compares what is printed of a schedule, and how its play ends.
 pub(crate) fn compare(rt: &impl Abort, alloc: Global, text: &str, want: &str, want_status: Status) {
     let (printed, status) = played(alloc, alloc, text);
     assert_eq!(rt; printed.as_slice(), want.as_bytes(), "of {text:?}");
     assert_eq!(rt; status, want_status, "of {text:?}");
 }
 
-// Compares the end of what is printed of a schedule that is too long to be shown, and how its play ends.
+// Compares the end of what is printed of a schedule that is too long for a failure message, and the status of its play.
 pub(crate) fn compare_end(
     rt: &impl Abort,
     alloc: Global,
@@ -59,7 +58,6 @@ pub(crate) fn compare_end(
     assert_eq!(rt; status, want_status, "with {want:?}");
 }
 
-// Adds a text so many times.
 pub(crate) fn push_times(text: &mut String, part: &str, count: u32) -> Result<(), AllocError> {
     for _ in 0..count {
         text.push_str(part)?;

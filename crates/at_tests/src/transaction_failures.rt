@@ -1,11 +1,11 @@
-//! Plays of asks, answers and retries that find no memory.
+//! Plays of asks, answers and retries that run out of memory.
 use crate::shared::{compare, played};
 use at_play::Status;
 use refusing::Refusing;
 use std::alloc::Global;
 use std::process::Abort;
 
-// Two packets are asked for and answered, and one comes before the retry and one after it.
+// Two packets are asked for and answered. One comes before the retry, and the other after it.
 const SCHEDULE: &str = "net 10
 node 5
 node 7
@@ -29,8 +29,8 @@ sent 3 7 0015FF13000A000A07058180034002000000000000
 5 response 0 00000000:AA 00000000:BB
 ";
 
-// What is printed of an event; of the play from it on where the world found no memory, and where its node found none; and
-// how the play ends then.
+// What is printed of an event. `stop` is printed instead if the world runs out of memory there. `end` and `status` are
+// the rest of the play if the node does.
 pub(crate) struct Row {
     pub(crate) lines: &'static str,
     pub(crate) stop: &'static str,
@@ -97,7 +97,7 @@ sent 3 7 0015FF13000A000A07058180034002000000000000
     },
 ];
 
-// Whether this is what comes of a request for memory that is refused.
+// Whether this output and status follow from one refused request for memory.
 fn is_told(printed: &[u8], status: Status, events: &[Row]) -> bool {
     let mut rest = printed;
     for row in events {
@@ -115,7 +115,7 @@ fn is_told(printed: &[u8], status: Status, events: &[Row]) -> bool {
     false
 }
 
-// Plays with each request for memory refused in turn, and tells how many were.
+// Plays with each request for memory refused in turn. Returns how many were.
 pub(crate) fn refuse_each(
     rt: &impl Abort,
     alloc: Global,

@@ -5,7 +5,7 @@ use std::alloc::{AllocError, Global};
 use std::fmt::Write;
 use std::test::Fail;
 
-// Asks that are left open.
+// Asks whose transactions stay open.
 fn push_asks(text: &mut String, node: u8, count: u32) -> Result<(), Fail> {
     for _ in 0..count {
         writeln!(text, "call {node} ask 7 129 00000000 - 1 alo 3")?;
@@ -26,7 +26,7 @@ fn the_thirty_third_open_transaction_is_refused(rt: HostRuntime) -> Result<(), F
     Ok(())
 }
 
-// The datagrams up to this number come to node 7.
+// Deliveries of the first `count` datagrams to node 7.
 fn push_deliveries(text: &mut String, count: u32) -> Result<(), Fail> {
     for which in 0..count {
         writeln!(text, "deliver {which} 7")?;
@@ -34,7 +34,7 @@ fn push_deliveries(text: &mut String, count: u32) -> Result<(), Fail> {
     Ok(())
 }
 
-// Three nodes ask node 7, and all that they ask comes to it.
+// Three nodes ask node 7, and all their requests are delivered.
 fn requests(alloc: Global, last: u32) -> Result<String, Fail> {
     let mut text = String::from_str(alloc, "net 10\nnode 5\nnode 6\nnode 7\nnode 8\n")?;
     push_asks(&mut text, 5, 32)?;
@@ -54,7 +54,7 @@ fn the_sixty_fifth_record_of_a_socket_is_refused(rt: HostRuntime) -> Result<(), 
     Ok(())
 }
 
-// An ask with so many bytes of data.
+// An ask with `len` bytes of data.
 fn long_ask(alloc: Global, len: u32) -> Result<String, AllocError> {
     let mut text = String::from_str(alloc, "net 10\nnode 5\nnode 7\ncall 5 ask 7 129 00000000 ")?;
     push_times(&mut text, "A5", len)?;
@@ -62,7 +62,7 @@ fn long_ask(alloc: Global, len: u32) -> Result<String, AllocError> {
     Ok(text)
 }
 
-// What is printed of an ask with the most data.
+// What is printed of an ask with the most data, 578 bytes.
 fn long_ask_played(alloc: Global) -> Result<String, AllocError> {
     let mut text = String::from_str(
         alloc,
@@ -93,7 +93,8 @@ call 5 ask 7 129 00000000 - 8 alo 3
 deliver 0 7
 ";
 
-// Answers to it, and what comes of each: none with a packet, one of nine packets, ones to another node, socket and number, and one of eight.
+// Answers to that request, and what comes of each. The first have no packet and nine packets. The next are to another
+// node, socket and number. The last has one packet, and is sent.
 static ANSWERS: [(&str, &str); 8] = [
     ("5 128 0", "\n2 refused 16\n"),
     ("6 128 9", "\n2 refused 16\n"),
@@ -122,7 +123,7 @@ fn an_answer_has_one_to_eight_packets_and_a_request_that_waits(
     Ok(())
 }
 
-// An answer whose second packet has so many bytes of data.
+// An answer whose second packet has `len` bytes of data.
 fn long_answer(alloc: Global, len: u32) -> Result<String, AllocError> {
     let mut text = String::from_str(alloc, WAITING)?;
     text.push_str("call 7 answer 5 128 0 00000000:- 00000000:")?;
@@ -131,7 +132,7 @@ fn long_answer(alloc: Global, len: u32) -> Result<String, AllocError> {
     Ok(text)
 }
 
-// What is printed of an answer with the most data.
+// What is printed of an answer with the most data, 578 bytes a packet.
 fn long_answer_end(alloc: Global) -> Result<String, AllocError> {
     let mut text = String::from_str(
         alloc,

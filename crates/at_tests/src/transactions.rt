@@ -1,8 +1,8 @@
-//! Schedules of asks, answers and retries, played from their text to what is printed.
+//! Schedules of asks, answers and retries, played to what is printed.
 use crate::shared::compare;
 use at_play::Status;
 
-// A node asks another, and asks again. The request comes twice and is answered twice.
+// A node asks another node twice. The first request comes twice, and is answered twice.
 const ASKED_TWICE: &str = "net 10
 node 5
 node 7
@@ -44,7 +44,7 @@ fn a_request_that_comes_twice_is_answered_twice_and_one_answer_is_taken(rt: Host
     );
 }
 
-// Eight packets are asked for and six are answered, of which the last, the first and the third come before the retry.
+// Node 5 asks for eight packets, and the answer has six. The last, the first and the third come before the retry.
 const ASKED_FOR_EIGHT: &str = "net 10
 node 5
 node 7
@@ -95,8 +95,8 @@ fn a_retry_asks_for_the_packets_that_are_still_missing(rt: HostRuntime) {
     );
 }
 
-// User bytes and data go both ways. The request comes again while it waits. Of an answer of two packets only the one is
-// sent that was asked for.
+// User bytes and data go both ways. The request comes again while it waits. The answer has two packets, and only the
+// one that was asked for is sent.
 const WITH_DATA: &str = "net 10
 node 1
 node 254
@@ -123,7 +123,7 @@ fn user_bytes_and_data_come_as_they_were_sent(rt: HostRuntime) {
     compare(&rt, rt.alloc(), WITH_DATA, WITH_DATA_PLAYED, Status::Done);
 }
 
-// A node asks its own service, and a socket where nothing listens.
+// A node asks its own service, and a socket that nobody serves.
 const ITSELF: &str = "net 10
 node 5
 call 5 ask 5 129 00000000 - 1 alo 0

@@ -1,4 +1,4 @@
-//! A play of a list of events, and the same events played one by one.
+//! A play of a list of events, and the same events stepped one by one.
 use at_ddp::{Listed, Pascal};
 use at_node::{Call, Report};
 use at_world::{Event, Fault, NodeSetup, PlayFault, Refusal, Setup, Transcript, World, play};
@@ -23,7 +23,7 @@ fn node(number: u8, router: bool) -> NodeSetup {
     }
 }
 
-// Node 5 and the router, node 1, whose table has two zones.
+// Node 5, and node 1 as the router, whose table has two zones.
 fn setup(alloc: Global) -> Result<Setup<Global>, AllocError> {
     let mut nodes = Vec::new(alloc);
     nodes.push(node(1, true))?;
@@ -41,7 +41,7 @@ fn setup(alloc: Global) -> Result<Setup<Global>, AllocError> {
     })
 }
 
-// A reading of the zone list, and a delivery of a datagram that nobody sent.
+// A reading of the zone list, and a delivery of a datagram that was not sent.
 fn events(alloc: Global) -> Result<Vec<Event<Global>>, AllocError> {
     let mut events = Vec::new(alloc);
     let call = Call::Zones;
@@ -52,7 +52,7 @@ fn events(alloc: Global) -> Result<Vec<Event<Global>>, AllocError> {
     Ok(events)
 }
 
-// Whether a report is what the event of this place gives.
+// Whether a report is the one that the event at this place gives.
 fn is_given<A: Allocator>(at: usize, report: &Report<A>) -> bool {
     match (at, report) {
         (0, Report::Begun(0)) => true,
@@ -118,7 +118,7 @@ fn a_play_of_events_that_are_not_refused_has_a_report_for_each(
     Ok(())
 }
 
-// Whether a world sent these bytes under a number.
+// Whether a world sent these bytes under a number, to this node and at the event of that number.
 fn has_sent<A: Allocator + Copy>(world: &World<A>, number: usize, to: u8, bytes: &[u8]) -> bool {
     if number < world.sent_count() {
         let sent = world.sent(number);

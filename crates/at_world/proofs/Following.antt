@@ -21,7 +21,7 @@ pub follows_more : (A : Type 0) (w : WorldState) (es : List (Event A)) (i : ℕ)
 follows_more A w es i e rs mid r w' within is h fine plays =
     subst (λ l. Follows w l (rs ++ r ∷ []) w') (sym (take_more es i e within ∙ ap (λ x. take i es ++ x ∷ []) (sym is))) (one_more A w (take i es) rs mid e r w' h fine plays)
 
--- where the world's step did not play an event, the play stops there
+-- if the world's step did not play an event, the play stops there
 pub stops : (A : Type 0) (w : WorldState) (es : List (Event A)) (i : ℕ) (e : Event A) (f : Fault) (w' : WorldState) → i < length es → e ≡ get_or es i e → IsFault w e f w' → StopsAt w (slice_get es i) f × (w'.sent ≡ w.sent)
 stops A w es i e (Refused r) w' within is h =
     (subst (λ o. IsRefused w o r) (sym (slice_get-get_or es i e within ∙ ap (λ x. Some x) (sym is))) h.0, ap (λ (x : WorldState). x.sent) h.1)

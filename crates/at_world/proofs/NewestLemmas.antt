@@ -1,4 +1,4 @@
--- The newest transaction of a number along a history: whether it must not run twice, and where its answers are from.
+-- The newest transaction of a number along a history: whether it must not run twice, and which answers it was given.
 use Rattle.std.proofs.Common.{◌≡◌, ◌⊎◌, inl, inr, ℕ, zero, suc, Bool, true, false, cond, List, [], ◌∷◌, ◌++◌, Option, Some, None, refl, sym, ap, subst, ◌∙◌, arith}
 use Rattle.std.specs.Prelude.{slice_get, find, ◌==◌, ◌&&◌}
 use Rattle.std.specs.List.{Contains}
@@ -122,7 +122,7 @@ once_newest A net (x ∷ xs) (h ∷ hs) key told once = go (λ is. once_newest A
     go before true e is = subst (λ xo. Newest (done A (after A hs) h).asked key (xo, asks_for x.event)) is (drawn_newest A net (after A hs) h x.event x.report key m (m.draws_it key ∙ e))
     go before false e is = kept_newest A (after A hs) h key (true, wanted_by net xs key) (m.draws_it key ∙ e) (before is)
 
--- ---- where an answer is from
+-- ---- which answer a response is from
 
 -- what happens gives this answer to the request of a key
 abbrev pub Gave : Network → Happening → Key → List Packet → Type 0

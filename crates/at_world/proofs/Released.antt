@@ -27,7 +27,7 @@ stays A m which k reception.Released = refl
 
 module _ (A : Type 0) (laws : Laws A) (w : WorldState) (m : Machine) (which k : ℕ) (n : NodeState) (t : Tied A w m) (stands : node_at w k ≡ Some n) (s : Sent) (was_sent : slice_get (after A t.history).sent which ≡ Some s)
     (fresh : network.is_fresh (after A t.history).drawn s ≡ true) (timely : network.ComesInTime (after A t.history) which) (tid : ℕ) (packet_is : s.packet ≡ Release tid) where
-  -- the newest transaction of this number, which asked where it came
+  -- the newest transaction of this number, which asked the address that the release came to
   pub released_where : Asked m.asked s.from tid s.to
   released_where =
       let gives = laws.answers t.history t.timely in

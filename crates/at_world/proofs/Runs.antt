@@ -28,7 +28,7 @@ Follow A w m t e r w' = (m' : Machine) × Step m e r m' × (now : Tied A w' m') 
 
 -- ---- the two ends of a step
 
--- want of memory and nothing else, or an outcome
+-- out of memory and no change, or an outcome
 abbrev pub Nothing : {A : Type 0} → Report A → NodeState → NodeState → List Posted → Type 0
 Nothing r n after out = (r ≡ NoMemory) × (after ≡ n) × (out ≡ [])
 

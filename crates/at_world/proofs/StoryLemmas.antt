@@ -159,7 +159,7 @@ module _ (A : Type 0) (net : ℕ) (n : Network) where
       finishes = no_end A net n (event.Deliver which k) r q;
     }
 
-    -- a request that is handed up
+    -- a request that is delivered
     pub takes_new : (key : Key) (user bytes : List ℕ) → (taken (n.responders s.to) s.from s.packet).reception ≡ reception.New key → Matches {A = A} net n (Takes which) (event.Deliver which k) (report.Asked key user bytes)
     takes_new new user bytes is = record { draws_it = λ key. refl; expires_it = λ at key. refl; hands_up = λ key. ap (brings n key) was_sent ∙ ap (is_new_of key) is; takes_in = (k, refl); begins_as = tt; answers_as = tt; finishes = tt }
 
@@ -189,7 +189,7 @@ module _ (A : Type 0) (net : ℕ) (n : Network) where
     finishes = tt;
   }
 
--- a release is not handed up
+-- a release is not delivered
 pub release_is_old : (rs : List Record) (k : Key) (o : Option Record) (key : Key) → is_new_of key (release_came rs k o).reception ≡ false
 release_is_old rs k None key = refl
 release_is_old rs k (Some r) key = go r.state

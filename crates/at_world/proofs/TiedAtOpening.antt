@@ -69,7 +69,7 @@ router_fits (n ∷ ns) r h is = go (λ each g. router_fits ns r each g) n.router
 routers-cons : (x : NodeSetup) (ns : List NodeSetup) → count_by (λ n. n.router) (x ∷ ns) ≡ cond x.router 1 0 + count_by (λ n. n.router) ns
 routers-cons x ns = sum_by-cons (λ (n : NodeSetup). cond n.router 1 0) x ns
 
--- where a router is found, one is counted
+-- if a router is found, one is counted
 router_counts : (ns : List NodeSetup) (k : ℕ) → router_of ns ≡ Some k → 1 ≤ count_by (λ n. n.router) ns
 router_counts [] k is = absurd (cc)
 router_counts (x ∷ ns) k is = rw (routers-cons x ns) (go (router_counts ns k) x.router is)

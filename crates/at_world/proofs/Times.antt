@@ -20,7 +20,7 @@ use Rattle.at_world.proofs.Places.{service_of, served_of, records_at}
 
 -- ---- deliveries
 
--- a number that was drawn stands in the world's list, with that event or a later one, and no event to come
+-- the world's list has a number that was drawn, with that event or a later one, and no event to come
 pub record IsNoted (last : Draws) (events : ℕ) (x : Drawn) : Type 0 where
   pub latest : ℕ
   pub is_there : last_of last (x.who).node (Tid x.tid) ≡ Some latest

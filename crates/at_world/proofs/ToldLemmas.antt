@@ -1,4 +1,4 @@
--- A play and its history side by side, and how often a request is handed up in each.
+-- A play and its history side by side, and how often each delivers a request.
 use Rattle.std.proofs.Common.{◌≡◌, inl, inr, ℕ, zero, suc, ◌+◌, ◌<◌, ◌≤◌, Bool, true, false, cond, List, [], ◌∷◌, ◌++◌, length, Some, refl, sym, ap, subst, ◌∙◌, arith, lit<}
 use Rattle.std.specs.Prelude.{slice_get, ◌||◌, ◌==◌, ◌&&◌}
 use Rattle.std.specs.List.{AllByRecursion}
@@ -62,7 +62,7 @@ get_more (y ∷ xs) ys (suc i) x h = get_more xs ys i x h
 pub within_before : (A : Type 0) (sent : List SentDatagram) (h : Happening) (hs : List Happening) → Grows A (after A hs) h → Within sent (after A (h ∷ hs)) → Within sent (after A hs)
 within_before A sent h hs g within i s is = within i s (ap (λ l. slice_get l i) g.1 ∙ get_more (after A hs).sent g.0 i s is)
 
--- ---- what is handed up
+-- ---- what is delivered
 
 module _ (A : Type 0) (laws : OnceLaws A) (net : ℕ) (sent : List SentDatagram) where
   pub all_in : (P : Sent → Type 0) (xs : List Sent) (i : ℕ) (s : Sent) → AllByRecursion P xs → slice_get xs i ≡ Some s → P s
@@ -96,7 +96,7 @@ module _ (A : Type 0) (laws : OnceLaws A) (net : ℕ) (sent : List SentDatagram)
       some_one : (a b : SentDatagram) → Some a ≡ Some b → a ≡ b
       some_one a b h = cc
 
-  -- what the network hands up is what the reports say was handed up
+  -- what the network delivers is what the reports say was delivered
   pub hands_sound : (e : Event A) (r : Report A) (n : Network) (key : Key) → Within sent n → AllByRecursion IsLawfullySent n.sent → Finishes net n e r → HandsUpBy sent e r key → handed_up_by n.sent e r key ≡ true
   hands_sound (event.Call node call) r n key within ok f h = absurd h
   hands_sound (event.Deliver which node) (report.Begun tid) n key within ok f h = absurd h

@@ -1,4 +1,4 @@
--- The numbers that nodes drew, and when each was drawn last.
+-- The numbers that nodes drew, and the event that drew each last.
 use Rattle.std.specs.Prelude.{ℕ, ◌==◌, ◌&&◌, nat_le, if◌then◌else◌, Bool, true, List, [], ◌∷◌, Option, Some, None}
 use Rattle.at_node.specs.declared.drawing.Draw.{Draw}
 use Rattle.at_node.specs.declared.drawing.Draw.TheVariants.{Tid}
@@ -18,7 +18,7 @@ abbrev pub last_of : Draws → ℕ → Draw → Option ℕ
 last_of [] node draw = None
 last_of (d ∷ ds) node draw = if is_number node draw d.0 then Some d.1 else last_of ds node draw
 
--- an event drew this number of a node
+-- the draws after an event drew this number of a node
 abbrev pub drawn_at : Draws → ℕ → Draw → ℕ → Draws
 drawn_at [] node draw event = ((node, draw), event) ∷ []
 drawn_at (d ∷ ds) node draw event = if is_number node draw d.0 then (d.0, event) ∷ ds else d ∷ drawn_at ds node draw event
@@ -28,7 +28,7 @@ abbrev pub noted : Draws → ℕ → ℕ → Option Draw → Draws
 noted ds node event None = ds
 noted ds node event (Some draw) = drawn_at ds node draw event
 
--- no later event than this one drew it
+-- no event after this one drew it
 abbrev pub is_no_later : Option ℕ → ℕ → Bool
 is_no_later None event = true
 is_no_later (Some drawn) event = nat_le drawn event

@@ -1,5 +1,5 @@
--- How often a play hands an exactly-once request to its service (Inside AppleTalk, ATP, "At-least-once and exactly-once
--- transactions"), by its events, its reports and the datagrams that were sent.
+-- How often a play delivers an exactly-once request to its service, by its events, its reports and what was sent
+-- (Inside AppleTalk, ATP, "At-least-once and exactly-once transactions").
 use Rattle.std.specs.Prelude.{◌≡◌, ℕ, ◌||◌, if◌then◌else◌, Bool, true, false, List, [], ◌∷◌, take, slice_get, Some, Result, Ok, Err, ◌⊎◌}
 use Rattle.at_ddp.specs.Datagram.{Content as Datagram, BeginsWith, canonical}
 use Rattle.at_ddp.specs.declared.address.Address.{Address}
@@ -20,12 +20,12 @@ use Rattle.at_world.specs.declared.setup.Setup.{Setup}
 use Rattle.at_world.specs.declared.transcript.Transcript.{Transcript}
 use Rattle.at_world.specs.declared.transcript.PlayFault.{PlayFault}
 
--- one step of a play: an event, and what was reported of it
+-- one step of a play: an event and its report
 pub record Played (A : Type 0) : Type 0 where
   pub event : Event A
   pub report : Report A
 
--- the steps of a play, the newest first, onto those that were before
+-- the steps of a play, the newest first, added to those before
 abbrev pub onto : {A : Type 0} → List (Played A) → List (Event A) → List (Report A) → List (Played A)
 onto past [] rs = past
 onto past (e ∷ es) [] = past
@@ -43,7 +43,7 @@ abbrev pub is_once : {A : Type 0} → ℕ → List (Played A) → Key → Bool
 is_once net [] key = false
 is_once net (x ∷ xs) key = if began_under net x.event x.report key then asks_once x.event else is_once net xs key
 
--- a packet of this key stands in a datagram that was sent
+-- a datagram that was sent has a packet of this key
 pub record CameFrom (sent : List SentDatagram) (which : ℕ) (key : Key) : Type 0 where
   pub datagram : SentDatagram
   pub was_sent : slice_get sent which ≡ Some datagram
@@ -55,7 +55,7 @@ pub record CameFrom (sent : List SentDatagram) (which : ℕ) (key : Key) : Type 
   pub sender : header.from ≡ key.from
   pub numbered : number_of packet ≡ key.tid
 
--- it was handed up: to a node's service, which is told its key, or to the router, which answers what came
+-- it was delivered: to a node's service, whose report has its key, or to the router, which answers what came
 abbrev pub HandsUpBy : {A : Type 0} → List SentDatagram → Event A → Report A → Key → Type 0
 HandsUpBy sent (event.Deliver which node) (report.Asked k user bytes) key = same_key k key ≡ true
 HandsUpBy sent (event.Deliver which node) (report.Served count) key = CameFrom sent which key
@@ -76,12 +76,12 @@ abbrev pub SomeHandsUp : {A : Type 0} → List SentDatagram → Key → List (Pl
 SomeHandsUp sent key [] = ⊥
 SomeHandsUp sent key (x ∷ xs) = HandsUp sent key x ⊎ SomeHandsUp sent key xs
 
--- for how many packets did its transaction ask?
+-- how many packets did its transaction ask for?
 abbrev pub wanted_by : {A : Type 0} → ℕ → List (Played A) → Key → ℕ
 wanted_by net [] key = 0
 wanted_by net (x ∷ xs) key = if began_under net x.event x.report key then asks_for x.event else wanted_by net xs key
 
--- this answer was given to it: by the user of a node, or by the router to what came
+-- this answer was given to it: by a node's user, or by the router, which answers what came
 abbrev pub GivesBy : {A : Type 0} → ℕ → List SentDatagram → Event A → Report A → Key → List Packet → Type 0
 GivesBy net sent (event.Call node (Answer k socket tid given)) (report.Answered count) key answer = (same_key (record { from = record { net = net; node = k; socket = socket }; tid = tid }) key ≡ true) × (given ≡ answer)
 GivesBy net sent (event.Deliver which node) (report.Served count) key answer = CameFrom sent which key
@@ -98,7 +98,7 @@ abbrev pub has_expired : {A : Type 0} → ℕ → List (Played A) → Address �
 has_expired net [] at key = false
 has_expired net (x ∷ xs) at key = if began_under net x.event x.report key then false else expired_at net x.event x.report at key || has_expired net xs at key
 
--- where a request is delivered, its record did not expire there
+-- if a request is delivered, its record did not expire there
 abbrev pub LivesBy : {A : Type 0} → ℕ → List SentDatagram → Event A → List (Played A) → Type 0
 LivesBy net sent (event.Deliver which node) past = (d : SentDatagram) (to from : Address) (mask : ℕ) (xo : Bool) (timer tid : ℕ) (user bytes : List ℕ) → slice_get sent which ≡ Some d
     → d.bytes ≡ canonical to from atp_kind (spelled (Request mask xo timer tid user bytes)) → has_expired net past to (record { from = from; tid = tid }) ≡ false
@@ -110,21 +110,21 @@ AllLive net sent (x ∷ xs) = LivesBy net sent x.event xs × AllLive net sent xs
 
 -- ---- the promise
 
--- a response that is told was asked for by a request that was handed up, and is the answer that was given to it, or as many of
--- its first packets as were asked for
+-- The request of a response that is reported was delivered. The response is the answer that was given to it, or as many
+-- of its first packets as were asked for.
 abbrev pub EndsBy : {A : Type 0} → ℕ → List SentDatagram → Event A → Report A → List (Played A) → Type 0
 EndsBy net sent (event.Deliver which node) (report.Response tid packets) past =
     is_once net past (record { from = asking net node; tid = tid }) ≡ true → SomeHandsUp sent (record { from = asking net node; tid = tid }) (since net past (record { from = asking net node; tid = tid }))
     × ((answer : List Packet) × SomeGives net sent (record { from = asking net node; tid = tid }) answer (since net past (record { from = asking net node; tid = tid })) × (packets ≡ take (wanted_by net past (record { from = asking net node; tid = tid })) answer))
 EndsBy net sent e r past = Unit {0}
 
--- At each moment each exactly-once request was handed up at most once since its transaction began, and where the
--- transaction ended with a response, once, and the response is of the answer that was given to it.
+-- At each moment, each exactly-once request was delivered at most once since its transaction began. If the transaction
+-- ended with a response, it was delivered once, and the response is of the answer that was given to it.
 abbrev pub RunsOnce : {A : Type 0} → ℕ → List SentDatagram → List (Played A) → Type 0
 RunsOnce net sent [] = Unit {0}
 RunsOnce net sent (x ∷ xs) = ((key : Key) → is_once net (x ∷ xs) key ≡ true → AtMostOneHandsUp sent key (since net (x ∷ xs) key)) × EndsBy net sent x.event x.report xs × RunsOnce net sent xs
 
--- the same of a play, whole or up to where it stopped, if no request outlives its record
+-- the same for a play, whole or up to where it stopped, if no request outlives its record
 abbrev pub IsOnce : {A : Type 0} → Setup A → List (Event A) → Result (Transcript A) (PlayFault A) → Type 0
 IsOnce s events (Ok t) = AllLive s.net t.sent (onto [] events t.reports) → RunsOnce s.net t.sent (onto [] events t.reports)
 IsOnce s events (Err f) = AllLive s.net f.transcript.sent (onto [] (take f.at events) f.transcript.reports) → RunsOnce s.net f.transcript.sent (onto [] (take f.at events) f.transcript.reports)

@@ -1,4 +1,4 @@
--- The abstract machine: what the users of the nodes may be told. It has no packet, no record, no window and no timer; a
+-- The abstract machine: what the nodes' users may be told. It has no packet, no record, no window and no timer. A
 -- transaction is known by who asked and under which number (Inside AppleTalk, ATP, "Transactions", and ZIP,
 -- "GetZoneList").
 use Rattle.std.specs.Prelude.{◌≡◌, ℕ, ◌<◌, ◌≤◌, ◌==◌, not, Bool, false, List, [], ◌∷◌, ◌++◌, length, filter, find, take, slice_index_or, option_map, Option, Some, Result, Ok, Err}
@@ -25,7 +25,7 @@ pub record Reading : Type 0 where
   pub node : ℕ
   pub since : ℕ
 
--- A moment is the state after an event, and the opening state is the first.
+-- A moment is the state after an event. The first moment is the opening state.
 pub record Machine : Type 0 where
   pub net : ℕ
   pub router : Option ℕ
@@ -37,7 +37,7 @@ pub record Machine : Type 0 where
 abbrev pub opening_machine : {A : Type 0} → Setup A → Machine
 opening_machine s = record { net = s.net; router = router_of s.nodes; table = s.zones; past = s.zones ∷ []; asked = []; readings = [] }
 
--- one moment more
+-- the machine one moment later
 abbrev pub next : Machine → Machine
 next m = record m { past = m.past ++ m.table ∷ [] }
 
@@ -78,7 +78,7 @@ StoodSince past since table = (moment : ℕ) → since ≤ moment → moment < l
 abbrev pub at_net : Machine → ℕ → ℕ → Address
 at_net m node socket = record { net = m.net; node = node; socket = socket }
 
--- a reading of the zone list begins, and its first transaction
+-- a reading of the zone list begins with its first transaction
 pub record BeginsReading (m : Machine) (node tid : ℕ) (m' : Machine) : Type 0 where
   pub router : ℕ
   pub is_router : m.router ≡ Some router
@@ -94,19 +94,19 @@ pub record GivesAnswer (m : Machine) (node : ℕ) (requester : Address) (tid : �
   pub few : count ≤ length packets
   pub becomes : m' ≡ next (record m { asked = answered m.asked requester tid packets })
 
--- the service is handed what such a transaction asks
+-- the service receives what such a transaction asks
 pub record IsAsked (m : Machine) (node : ℕ) (key : Key) (user bytes : List ℕ) : Type 0 where
   pub asked : Asked m.asked key.from key.tid (serving m.net node)
   pub is_user : (asked.transaction).user ≡ user
   pub is_data : (asked.transaction).data_ ≡ bytes
 
--- what ends a node's transaction is a response to it
+-- a node's transaction ends with a response to it
 pub record IsAnswered (m : Machine) (node tid : ℕ) (packets : List Packet) : Type 0 where
   pub transaction : Transaction
   pub newest : transaction_of m.asked (asking m.net node) tid ≡ Some transaction
   pub response : IsResponse transaction packets
 
--- the router answers a transaction that asked it for the page from a place on: the page of the table of this moment
+-- the router answers a transaction that asked it for the page from a place on, with that page of the present table
 pub record Serves (m : Machine) (node count : ℕ) (m' : Machine) : Type 0 where
   pub is_router : m.router ≡ Some node
   pub requester : Address
@@ -117,7 +117,7 @@ pub record Serves (m : Machine) (node count : ℕ) (m' : Machine) : Type 0 where
   pub one : count ≤ 1
   pub becomes : m' ≡ next (record m { asked = answered m.asked requester tid (page_answer m.table start) })
 
--- a reading ends: what is told is the table, if that stood at every moment since the reading began
+-- a reading ends: the zones that are reported are the table, if it was the same at every moment since the reading began
 pub record EndsReading (m : Machine) (node : ℕ) (names : List (List ℕ)) (m' : Machine) : Type 0 where
   pub since : ℕ
   pub began : since_of m.readings node ≡ Some since
@@ -130,19 +130,19 @@ pub record FailsReading (m : Machine) (node : ℕ) (m' : Machine) : Type 0 where
   pub began : since_of m.readings node ≡ Some since
   pub becomes : m' ≡ next (record m { readings = without_reading m.readings node })
 
--- a call begins this transaction
+-- a call begins this transaction, under this number
 abbrev pub Begins : {A : Type 0} → Machine → ℕ → Call A → ℕ → Machine → Type 0
 Begins m node Zones tid m' = BeginsReading m node tid m'
 Begins m node (Ask k socket user bytes wanted xo retries) tid m' = BeginsAsking m node (at_net m k socket) user bytes wanted xo tid m'
 Begins m node (Answer k socket number packets) tid m' = ⊥
 
--- a call gives this answer, of which so many packets are sent
+-- a call gives this answer, and so many of its packets are sent
 abbrev pub Answers : {A : Type 0} → Machine → ℕ → Call A → ℕ → Machine → Type 0
 Answers m node (Answer k socket tid packets) count m' = GivesAnswer m node (at_net m k socket) tid packets count m'
 Answers m node Zones count m' = ⊥
 Answers m node (Ask k socket user bytes wanted xo retries) count m' = ⊥
 
--- a call is answered by this report
+-- a call gives this report
 abbrev pub StepCall : {A : Type 0} → Machine → ℕ → Call A → Report A → Machine → Type 0
 StepCall m node call (report.Begun tid) m' = Begins m node call tid m'
 StepCall m node call (report.Answered count) m' = Answers m node call count m'
@@ -150,7 +150,7 @@ StepCall m node call (report.Refused number) m' = m' ≡ next m
 StepCall m node call report.NoMemory m' = m' ≡ next m
 StepCall m node call r m' = ⊥
 
--- something that came is answered by this report
+-- a delivery gives this report
 abbrev pub StepDelivery : {A : Type 0} → Machine → ℕ → Report A → Machine → Type 0
 StepDelivery m node (report.Served count) m' = Serves m node count m'
 StepDelivery m node (report.Asked key user bytes) m' = IsAsked m node key user bytes × (m' ≡ next m)
@@ -164,7 +164,7 @@ StepDelivery m node (report.Refused number) m' = m' ≡ next m
 StepDelivery m node report.NoMemory m' = m' ≡ next m
 StepDelivery m node r m' = ⊥
 
--- a timer is answered by this report
+-- a timer gives this report
 abbrev pub StepTimer : {A : Type 0} → Machine → ℕ → Report A → Machine → Type 0
 StepTimer m node report.Again m' = m' ≡ next m
 StepTimer m node report.Done m' = m' ≡ next m

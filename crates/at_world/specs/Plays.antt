@@ -1,4 +1,4 @@
--- A whole play: each event by the world's step, one report an event.
+-- A whole play: each event by the world's step, with one report for each event.
 use Rattle.std.specs.Prelude.{◌≡◌, ℕ, false, if◌then◌else◌, List, [], ◌∷◌, map, take, find, slice_get, option_map, Option, Some, None, Result, Ok, Err}
 use Rattle.at_node.specs.declared.event.Report.{Report}
 use Rattle.at_node.specs.Nodes.{NodeState, opening}
@@ -25,14 +25,14 @@ opening_node s n = opening s.net n.node (router_of s.nodes) (if n.router then So
 abbrev pub opening_world : {A : Type 0} → Setup A → WorldState
 opening_world s = record { nodes = map (opening_node s) s.nodes; sent = []; last = []; events = 0; failed = false }
 
--- From the first world these events, none of them refused, give these reports and the last world.
+-- From the first world on, these events are not refused, and they give these reports and the last world.
 abbrev pub Follows : {A : Type 0} → WorldState → List (Event A) → List (Report A) → WorldState → Type 0
 Follows w [] [] w' = w' ≡ w
 Follows w (e ∷ es) (r ∷ rs) w' = (mid : WorldState) × IsPlayable w e × Plays w e r mid × Follows mid es rs w'
 Follows w [] (r ∷ rs) w' = ⊥
 Follows w (e ∷ es) [] w' = ⊥
 
--- why a play stopped: the first event that is left is refused so, or memory was wanted
+-- why a play stopped: the next event is refused so, or memory ran out
 abbrev pub IsRefused : {A : Type 0} → WorldState → Option (Event A) → Refusal → Type 0
 IsRefused w None r = ⊥
 IsRefused w (Some e) r = Refuses w e r
@@ -45,7 +45,7 @@ StopsAt w e (fault.Refused r) = IsRefused w e r
 abbrev pub IsPlayed : {A : Type 0} → Setup A → List (Event A) → Transcript A → WorldState → Type 0
 IsPlayed s events t w = Follows (opening_world s) events t.reports w × (t.sent ≡ w.sent)
 
--- what a play answers: the whole of it, or the events before the first that was not played
+-- what a play returns: all of it, or the events before the first that was not played
 abbrev pub IsPlay : {A : Type 0} → Setup A → List (Event A) → Result (Transcript A) (PlayFault A) → Type 0
 IsPlay s events (Ok t) = (w : WorldState) × IsPlayed s events t w
 IsPlay s events (Err f) = (w : WorldState) × IsPlayed s (take f.at events) f.transcript w × StopsAt w (slice_get events f.at) f.fault

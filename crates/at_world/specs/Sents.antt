@@ -1,4 +1,4 @@
--- What was sent in a world, by number.
+-- The datagrams that were sent in a world, by number.
 use Rattle.std.specs.Prelude.{◌≡◌, ℕ, List, [], ◌∷◌}
 use Rattle.std.specs.List.{AllByRecursion}
 use Rattle.at_ddp.specs.Datagram.{canonical}
@@ -20,7 +20,7 @@ stamped [] ps = []
 stamped (e ∷ es) [] = []
 stamped (e ∷ es) (p ∷ ps) = stamp e p ∷ stamped es ps
 
--- the bytes are the canonical spelling of a datagram, which goes to the node that it says
+-- the bytes are the canonical spelling of a datagram, which goes to the node in its header
 pub record IsCanonical (s : SentDatagram) : Type 0 where
   pub receiver : Address
   pub sender : Address

@@ -15,11 +15,11 @@ abbrev pub is_zone : Option (List ℕ) → Bool
 is_zone None = false
 is_zone (Some name) = is_name name
 
--- a node by itself: its number is 1 to 254, and its rooms hold something
+-- a node by itself: its number is 1 to 254, and its rooms are not 0
 abbrev pub is_lawful_node : NodeSetup → Bool
 is_lawful_node n = nat_lt 0 n.node && nat_lt n.node 255 && nat_lt 0 n.receive_room && nat_lt 0 n.send_room
 
--- one node of these has this node's number
+-- just one of these nodes has this node's number
 abbrev pub stands_once : List NodeSetup → NodeSetup → Bool
 stands_once ns n = count_by (λ m. m.node == n.node) ns == 1
 
@@ -35,11 +35,11 @@ are_lawful_nodes ns =
     nat_le (length ns) 16 && list_all is_lawful_node ns && list_all (stands_once ns) ns
     && nat_le (count_by (λ n. n.router) ns) 1 && are_in_zones ns
 
--- how many bytes the names spell to, each with its length before it
+-- how many bytes the names have, with a length byte each
 abbrev pub spelled_len : List (List ℕ) → ℕ
 spelled_len names = sum_by (λ name. length name + 1) names
 
--- a table that one page holds whole, and that is empty without a router
+-- a table that fits one page, and that is empty without a router
 abbrev pub is_lawful_table : Bool → List (List ℕ) → Bool
 is_lawful_table router names = list_all is_name names && nat_le (spelled_len names) 578 && (router || (length names == 0))
 

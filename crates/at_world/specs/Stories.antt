@@ -1,5 +1,5 @@
--- What a play is in the network of its requesters and responders: each event is one happening there (Inside AppleTalk, ATP,
--- "At-least-once and exactly-once transactions").
+-- What a play is in the network of its requesters and responders: each event is one happening there (Inside AppleTalk,
+-- ATP, "At-least-once and exactly-once transactions").
 use Rattle.std.specs.Prelude.{◌≡◌, ℕ, ◌&&◌, Bool, true, false, List, [], ◌∷◌, ◌++◌, map, slice_get, Option, Some, None}
 use Rattle.std.specs.List.{AllByRecursion}
 use Rattle.at_ddp.specs.Address.{same_address}
@@ -30,7 +30,7 @@ abbrev pub began_under : {A : Type 0} → ℕ → Event A → Report A → Key �
 began_under net (event.Call node call) (report.Begun tid) key = same_key (record { from = asking net node; tid = tid }) key
 began_under net e r key = false
 
--- the record of this key at a responder was taken away by its release timer
+-- the release timer removed the record of this key at a responder
 abbrev pub expired_at : {A : Type 0} → ℕ → Event A → Report A → Address → Key → Bool
 expired_at net (event.Timer node (timer.Release own k socket tid)) report.Done at key =
     same_address (record { net = net; node = node; socket = own }) at && same_key (record { from = record { net = net; node = k; socket = socket }; tid = tid }) key
@@ -41,7 +41,7 @@ abbrev pub came_under : Option Sent → Key → Bool
 came_under None key = false
 came_under (Some s) key = same_key (record { from = s.from; tid = number_of s.packet }) key
 
--- the request of this key was handed up, to a node's service or to the router
+-- the request of this key was delivered, to a node's service or to the router
 abbrev pub handed_up_by : {A : Type 0} → List Sent → Event A → Report A → Key → Bool
 handed_up_by sent (event.Deliver which node) (report.Asked k user bytes) key = same_key k key
 handed_up_by sent (event.Deliver which node) (report.Served count) key = came_under (slice_get sent which) key
@@ -49,7 +49,7 @@ handed_up_by sent e r key = false
 
 -- ---- one happening for each event
 
--- what is taken in is what was delivered
+-- the happening takes the datagram that the event delivers
 abbrev pub TakesIn : {A : Type 0} → Happening → Event A → Type 0
 TakesIn (Takes which) e = (node : ℕ) × (e ≡ event.Deliver which node)
 TakesIn (Serves which packets) e = (node : ℕ) × (e ≡ event.Deliver which node)
@@ -60,7 +60,7 @@ abbrev pub asks_once : {A : Type 0} → Event A → Bool
 asks_once (event.Call node (Ask k socket user bytes wanted xo retries)) = xo
 asks_once e = false
 
--- for how many packets does it ask? For one where it reads the zone list.
+-- how many packets does it ask for? one, if it reads the zone list
 abbrev pub asks_for : {A : Type 0} → Event A → ℕ
 asks_for (event.Call node (Ask k socket user bytes wanted xo retries)) = wanted
 asks_for (event.Call node Zones) = 1
@@ -70,14 +70,14 @@ abbrev pub BeginsAs : {A : Type 0} → Happening → Event A → Type 0
 BeginsAs (Begins who to user bytes wanted xo retries) e = (asks_once e ≡ xo) × (asks_for e ≡ wanted)
 BeginsAs h e = Unit {0}
 
--- an answer is given by a call, or by the router to what came
+-- a call gives an answer, or the router answers what came
 abbrev pub AnswersAs : {A : Type 0} → ℕ → Happening → Event A → Report A → Type 0
 AnswersAs net (Answers at key packets) e r =
     (node : ℕ) × (k : ℕ) × (socket : ℕ) × (tid : ℕ) × (count : ℕ) × (e ≡ event.Call node (Answer k socket tid packets)) × (r ≡ report.Answered count) × (key ≡ record { from = record { net = net; node = k; socket = socket }; tid = tid })
 AnswersAs net (Serves which packets) e r = (node : ℕ) × (count : ℕ) × (e ≡ event.Deliver which node) × (r ≡ report.Served count)
 AnswersAs net h e r = Unit {0}
 
--- a packet in time came that ends the transaction of a number with these packets
+-- a packet in time came that ends the transaction of this number with these packets
 pub record Ends (A : Type 0) (net : ℕ) (n : Network) (which node tid : ℕ) (packets : List Packet) : Type 0 where
   pub packet : Sent
   pub was_sent : slice_get n.sent which ≡ Some packet
@@ -86,7 +86,7 @@ pub record Ends (A : Type 0) (net : ℕ) (n : Network) (which node tid : ℕ) (p
   pub comes_to : packet.to ≡ asking net node
   pub numbered : number_of packet.packet ≡ tid
 
--- what came where a response is told, and where the router served a request
+-- what came, if a response is reported or the router served a request
 abbrev pub Finishes : {A : Type 0} → ℕ → Network → Event A → Report A → Type 0
 Finishes {A} net n (event.Deliver which node) (report.Response tid packets) = Ends A net n which node tid packets
 Finishes net n (event.Deliver which node) (report.Served count) = (s : Sent) × (slice_get n.sent which ≡ Some s)
@@ -102,18 +102,18 @@ pub record Matches {A : Type 0} (net : ℕ) (n : Network) (h : Happening) (e : E
   pub answers_as : AnswersAs net h e r
   pub finishes : Finishes net n e r
 
--- what is sent joins what was sent
+-- what is sent is added to what was sent
 abbrev pub Grows : (A : Type 0) → Network → Happening → Type 0
 Grows A n h = (more : List Sent) × ((done A n h).sent ≡ n.sent ++ more)
 
--- these events and reports, after what happened before, make this history, whose newest happening stands first
+-- these events and reports, after what happened before, make this history, whose newest happening comes first
 abbrev pub Tells : {A : Type 0} → ℕ → List Happening → List (Event A) → List (Report A) → List Happening → Type 0
 Tells net before [] [] history = history ≡ before
 Tells {A} net before (e ∷ es) (r ∷ rs) history = (h : Happening) × Matches net (after A before) h e r × Grows A (after A before) h × Tells net (h ∷ before) es rs history
 Tells net before [] (r ∷ rs) history = ⊥
 Tells net before (e ∷ es) [] history = ⊥
 
--- a packet as a world has it
+-- a packet as the world's list has it
 abbrev pub posted_packet : Sent → SentDatagram
 posted_packet s = record { event = s.event; to = (s.to).node; bytes = canonical s.to s.from atp_kind (spelled s.packet) }
 

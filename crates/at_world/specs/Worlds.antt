@@ -46,7 +46,7 @@ abbrev pub node_refusal : Option NodeState → Option Refusal
 node_refusal None = Some refusals.NotForNode
 node_refusal (Some n) = None
 
--- a datagram is for the node that it was sent to, and for each node where it was sent to 255
+-- a datagram is for the node that it was sent to, and for every node if it was sent to 255
 abbrev pub is_for : SentDatagram → ℕ → Bool
 is_for s k = (s.to == k) || (s.to == 255)
 
@@ -59,31 +59,31 @@ refusal_at w (event.Call k call) = node_refusal (node_at w k)
 refusal_at w (event.Deliver which k) = delivery_refusal w k (slice_get w.sent which)
 refusal_at w (event.Timer k timer) = node_refusal (node_at w k)
 
--- why an event is refused whatever its numbers, the first reason that there is
+-- why an event is refused whatever its numbers: the first reason
 abbrev pub refusal : {A : Type 0} → WorldState → Event A → Option Refusal
 refusal w e = if is_over w then Some refusals.Limit else refusal_at w e
 
--- no number that a datagram carries was drawn by a later event than the one that sent it
+-- no event after the one that sent a datagram drew a number that it carries
 abbrev pub IsFresh : WorldState → SentDatagram → Type 0
 IsFresh w s = (node : ℕ) (draw : Draw) → Carries s.bytes node draw → is_no_later (last_of w.last node draw) s.event ≡ true
 
--- some node holds a record under a number of a node, if there is one
+-- does some node hold a record under this number of a node? not if there is no number
 abbrev pub holds_some : List NodeState → ℕ → Option Draw → Bool
 holds_some nodes k None = false
 holds_some nodes k (Some draw) = list_any (λ n. holds n k draw) nodes
 
--- no node holds a record under a number that would be drawn
+-- no node holds a record under the number that would be drawn
 abbrev pub IsFree : WorldState → ℕ → Option Draw → Type 0
 IsFree w k draw = holds_some w.nodes k draw ≡ false
 
--- No packet outlives the number that it carries: a datagram comes before its numbers are drawn again, and no number is
--- drawn while a record is held under it. For now only calls draw.
+-- No packet outlives the number that it carries. A datagram comes before its numbers are drawn again, and no number is
+-- drawn while a record is held under it. Only calls draw numbers.
 abbrev pub IsTimely : {A : Type 0} → WorldState → Event A → Type 0
 IsTimely w (event.Call k call) = (n : NodeState) → node_at w k ≡ Some n → IsFree w k (draw_of n call)
 IsTimely w (event.Deliver which k) = (s : SentDatagram) → slice_get w.sent which ≡ Some s → IsFresh w s
 IsTimely w (event.Timer k timer) = Unit {0}
 
--- an event that no reason refuses
+-- an event that nothing refuses
 pub record IsPlayable {A : Type 0} (w : WorldState) (e : Event A) : Type 0 where
   pub allowed : refusal w e ≡ None
   pub timely : IsTimely w e
@@ -93,14 +93,14 @@ abbrev pub Refuses : {A : Type 0} → WorldState → Event A → Refusal → Typ
 Refuses w e refusals.Untimely = (refusal w e ≡ None) × ¬ IsTimely w e
 Refuses w e r = refusal w e ≡ Some r
 
--- a number, if there is one, was drawn by no later event
+-- no event after this one drew the number, if there is one
 abbrev pub is_in_time : Draws → Option (ℕ × Draw) → ℕ → Bool
 is_in_time last None event = true
 is_in_time last (Some number) event = is_no_later (last_of last number.0 number.1) event
 
 -- ---- steps
 
--- the world once a node's step, what it drew and what it sent are booked
+-- the world after a node's step: what the node drew and sent is recorded
 abbrev pub recorded : {A : Type 0} → WorldState → ℕ → Report A → NodeState → List Posted → WorldState
 recorded w k r after out = record {
   nodes = replaced (is_numbered k) after w.nodes;
@@ -119,11 +119,11 @@ pub record PlaysAt {A : Type 0} (w : WorldState) (k : ℕ) (S : NodeState → Li
   pub steps : S node [] r after out
   pub booked : w' ≡ recorded w k r after out
 
--- a node whose service leaves every answer for later receives bytes
+-- a node receives bytes, and its service leaves every answer for later
 abbrev pub Receives : {A : Type 0} → List ℕ → NodeState → List Posted → Report A → NodeState → List Posted → Type 0
 Receives {A} bytes n before r after out = (said : Reply A) × Comes (Hears said n bytes) n before r after out × (is_asked r ≡ true → said ≡ reply.Later)
 
--- a node takes what comes to it
+-- a node takes an input
 abbrev pub Takes : {A : Type 0} → Input A → NodeState → List Posted → Report A → NodeState → List Posted → Type 0
 Takes (input.Call call) n before r after out = IsStep (called n call.now) n before r after out
 Takes (input.Timer timer) n before r after out = IsStep (timed n timer) n before r after out
@@ -135,8 +135,8 @@ pub record PlaysDelivery {A : Type 0} (w : WorldState) (which k : ℕ) (r : Repo
   pub is_for_it : is_for datagram k ≡ true
   pub plays : PlaysAt w k (Receives datagram.bytes) r w'
 
--- the world after an event that is answered by a report: the node's own step, over the bytes that were sent; a call's
--- parts are in the range of their types
+-- The world after an event that gives a report: the node's own step, over the bytes that were sent. The parts of a call
+-- are in the ranges of their types.
 abbrev pub Plays : {A : Type 0} → WorldState → Event A → Report A → WorldState → Type 0
 Plays w (event.Call k call) r w' = PlaysAt w k (λ n before said after out. IsStep (called n call) n before said after out) r w' × IsCall call
 Plays w (event.Deliver which k) r w' = PlaysDelivery w which k r w'
@@ -147,7 +147,7 @@ abbrev pub IsFault : {A : Type 0} → WorldState → Event A → Fault → World
 IsFault w e (fault.Refused r) w' = Refuses w e r × (w' ≡ w)
 IsFault w e fault.NoMemory w' = (w'.failed ≡ true) × (w'.sent ≡ w.sent)
 
--- why a node did not take what came to it
+-- why a node did not take an input
 abbrev pub IsNotTaken : {A : Type 0} → WorldState → ℕ → Input A → Fault → WorldState → Type 0
 IsNotTaken w k i (fault.Refused refusals.Untimely) w' = ((n : NodeState) × (node_at w k ≡ Some n) × ¬ IsFree w k (draw_of_input n i)) × (w' ≡ w)
 IsNotTaken w k i (fault.Refused r) w' = (node_refusal (node_at w k) ≡ Some r) × (w' ≡ w)

@@ -9,7 +9,7 @@ use std::marker::Model;
 
 type Events<A> = IndexMap<(u8, Draw), u32, BuildHasherDefault<FoldHasher>, A>;
 
-/// The event of the last draw of each number of each node.
+/// For each number of each node, the event that drew it last.
 #[derive(Drop)]
 pub(crate) struct LastDraws<A: Allocator> {
     events: Events<A>,
@@ -32,14 +32,14 @@ impl<A: Allocator + Copy> LastDraws<A> {
         }
     }
 
-    /// The event that drew a number last.
+    /// The event that drew this number of a node last.
     pub(crate) fn last(&self, node: u8, draw: Draw) -> Option<u32>
         ensures { result ≡ last_of self.now node draw }
     {
         self.events.get(&(node, draw)).copied()
     }
 
-    /// An event drew a number.
+    /// Records that an event drew a number of a node.
     pub(crate) fn note(&mut self, node: u8, draw: Draw, event: u32) -> Result<(), AllocError>
         ensures ok { OnOk result (self.new ≡ drawn_at self.old node draw event) }
     {

@@ -4,31 +4,31 @@ use at_node::{Call, Timer};
 use std::alloc::{Allocator, Global};
 use thiserror::Error;
 
-/// What happens next in a world.
+/// An event of a world.
 #[derive(Drop)]
 pub enum Event<A: Allocator = Global> {
-    /// A node's user calls.
+    /// A node's user makes a call.
     Call { node: u8, call: Call<A> },
-    /// The datagram of this number comes to a node: its first time, or again.
+    /// The datagram of this number comes to a node, for the first time or again.
     Deliver { which: u64, node: u8 },
     /// A timer of a node fires.
     Timer { node: u8, timer: Timer },
 }
 
-/// Why an event is not played.
+/// Why an event is refused.
 #[derive(Clone, Copy, Debug, PartialEq, Eq, Error)]
 pub enum Refusal {
-    /// At most 200,000 events are played, and none once more than 868,928 datagrams were sent.
+    /// 200,000 events were played, or more than 868,928 datagrams were sent.
     #[error("200,000 events were played, or more than 868,928 datagrams were sent")]
     Limit,
-    /// A datagram that is delivered was sent.
+    /// No datagram of this number was sent.
     #[error("no datagram of this number was sent")]
     NoDatagram,
-    /// The node stands in the setup, and a datagram comes to its destination.
+    /// The setup has no such node, or the datagram goes to another.
     #[error("the setup has no such node, or the datagram goes to another")]
     NotForNode,
-    /// No number that a datagram carries was drawn again since it was sent, and no number is drawn under which a node
-    /// holds a record.
+    /// A number that the datagram carries was drawn again since it was sent. Or a node still holds a record under the
+    /// number to be drawn.
     #[error("a number was drawn again since the datagram was sent, or a node still holds a record under the number to be drawn")]
     Untimely,
 }

@@ -14,14 +14,14 @@ ghost use Rattle.at_world.specs.declared.setup.Setup.{Setup};
 
 use std::alloc::Allocator;
 
-/// Whoever steps a world from its opening on gets reports that are a run of the machine, and what is sent is spelled
+/// The reports of a world that is stepped from its opening on are a run of the machine. All that it sends is spelled
 /// canonically.
 pub fn steps_are_a_run<A: Allocator>()
     ensures machine { (s : Setup A) (events : List (Event A)) (reports : List (Report A)) (w : WorldState) → is_lawful s ≡ true → Follows (opening_world s) events reports w
         → (m : Machine) × Run (opening_machine s) events reports m }
     ensures sent { (s : Setup A) (events : List (Event A)) (reports : List (Report A)) (w : WorldState) → Follows (opening_world s) events reports w → AreCanonical w.sent }
 
-    // Each event is one happening in the network of the requesters and responders.
+    // Each event is one happening in the network of requesters and responders.
     ensures history { (s : Setup A) (events : List (Event A)) (reports : List (Report A)) (w : WorldState) → is_lawful s ≡ true → Follows (opening_world s) events reports w
         → (history : List Happening) × IsHistory s.net events reports w.sent history }
 {
@@ -40,9 +40,9 @@ pub fn steps_are_a_run<A: Allocator>()
     at_zip::laws::a_small_table_is_one_page();
 }
 
-/// At each moment of a world that is stepped from its opening on, each exactly-once request was handed up at most once since
-/// its transaction began, and once where that ended with a response, if no request is delivered after its record expired and
-/// before its number is drawn again.
+/// If no request is delivered between the end of its record and the next draw of its number, exactly-once requests run
+/// at most once. At each moment of a stepped world, each was delivered to the service at most once since its
+/// transaction began. It was delivered exactly once if the transaction ended with a response.
 pub fn exactly_once_requests_run_once<A: Allocator>()
     ensures { (s : Setup A) (events : List (Event A)) (reports : List (Report A)) (w : WorldState) → is_lawful s ≡ true → Follows (opening_world s) events reports w
         → AllLive s.net w.sent (onto [] events reports) → RunsOnce s.net w.sent (onto [] events reports) }

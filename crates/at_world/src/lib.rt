@@ -1,4 +1,4 @@
-//! A world of nodes on one cable, in which any datagram may come late, again or never.
+//! A world of nodes on one cable. Any datagram may come late, again or never.
 #![tactic(auto)]
 
 mod draws;

@@ -1,4 +1,4 @@
-//! What may be seen of a world.
+//! What can be seen of a world.
 ghost use Rattle.std.specs.Prelude.{◌≡◌, ◌<◌, length, slice_get, Some};
 ghost use Rattle.at_world.specs.Sents.{SentDatagram};
 
@@ -21,7 +21,7 @@ impl<A: Allocator + Copy> World<A> {
         self.stamps.len()
     }
 
-    /// The datagram of a number, from 0.
+    /// The datagram of a number. Datagrams are numbered from 0 in the order of sending.
     pub fn sent(&self, number: usize) -> Sent<'_>
         requires { number < length self.now.sent }
         ensures { (s : SentDatagram) × (slice_get self.now.sent number ≡ Some s) × (result.event ≡ s.event) × (result.to ≡ s.to) × (result.bytes.now ≡ s.bytes) }

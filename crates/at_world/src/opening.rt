@@ -7,7 +7,7 @@ use at_node::Node;
 use at_zip::Zones;
 use std::alloc::{AllocError, Allocator};
 
-/// The nodes of a setup before anything happened.
+/// The nodes of a setup before anything happened. The error is out of memory.
 pub(crate) fn opening_nodes<A: Allocator + Copy>(
     alloc: A,
     setup: &Setup<A>,
@@ -31,7 +31,7 @@ fn router_of(nodes: &[NodeSetup]) -> Option<u8>
     Some(router.node)
 }
 
-// The router's table: the names, copied.
+// The zone table of a node, with copies of the names; none if the node is not the router.
 fn table_of<A: Allocator + Copy>(
     alloc: A,
     router: bool,

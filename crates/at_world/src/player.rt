@@ -14,7 +14,7 @@ use at_ddp::Listed;
 use at_node::Report;
 use std::alloc::Allocator;
 
-/// Plays events from the opening world up to the first that is refused.
+/// Opens a world and plays events up to the first that is refused.
 pub fn play<A: Allocator + Copy>(
     alloc: A,
     setup: &Setup<A>,
@@ -57,7 +57,7 @@ fn play_all<A: Allocator + Copy>(
     Ok(transcript(reports, world))
 }
 
-// No world was opened, and no event played.
+// The result if there is no memory to open a world.
 fn unopened<A: Allocator + Copy>(alloc: A, reports: Vec<Report<A>, A>) -> PlayFault<A>
     ensures fault { result.fault ≡ Fault.NoMemory }
     ensures at { result.at ≡ 0 }

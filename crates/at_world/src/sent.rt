@@ -8,18 +8,19 @@ use std::marker::Model;
 /// A datagram that was sent.
 #[derive(Clone, Copy, Debug, PartialEq, Eq)]
 pub struct Sent<'a> {
-    /// The number of the event that sent it.
+    /// The number of the event that sent it, from 0.
     pub event: u32,
-    /// The node that it goes to; 255 is every node.
+    /// The node that it goes to; 255 means every node.
     pub to: u8,
     pub bytes: &'a [u8],
 }
 
-/// All that was sent, by number from 0.
+/// All datagrams that were sent, numbered from 0.
 #[derive(Drop)]
 pub struct SentList<A: Allocator = Global> {
     list: Datagrams<A>,
-    // The event that sent each; datagrams that no event of a play sent have none, and are not counted.
+    // The event that sent each datagram. The list may have more datagrams, if memory ran out for this; those do not
+    // count.
     events: Vec<u32, A>,
 }
 
@@ -46,7 +47,6 @@ impl<A: Allocator + Copy> SentList<A> {
 }
 
 impl<A: Allocator> SentList<A> {
-    // The datagrams with the events that sent them.
     pub(crate) fn of(list: Datagrams<A>, events: Vec<u32, A>) -> SentList<A>
         requires { length events.items ≤ length list.items }
         ensures { result ≡ stamped events.items list.items }
@@ -72,7 +72,7 @@ impl<A: Allocator> SentList<A> {
     }
 }
 
-// Stamps the datagrams that have no stamp yet, up to so many; without memory for all, none.
+// Stamps the datagrams without a stamp, up to `count` in all. If memory runs out, none is stamped.
 pub(crate) fn stamp_all<A: Allocator>(
     stamps: &mut Vec<u32, A>,
     count: usize,

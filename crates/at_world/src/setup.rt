@@ -8,24 +8,25 @@ use std::alloc::{Allocator, Global};
 /// A node of a setup.
 #[derive(Drop)]
 pub struct NodeSetup {
-    /// 1 to 254.
+    /// The node's number, 1 to 254.
     pub node: u8,
     pub router: bool,
     pub zone: Option<Pascal>,
-    /// How many items a stream end here may hold unread, 1 to 65,535.
+    /// How many unread items a stream end here may hold, 1 to 65,535.
     pub receive_room: u16,
-    /// How many items a stream end here may hold unsent or unacknowledged, 1 to 65,535.
+    /// How many unsent or unacknowledged items a stream end here may hold, 1 to 65,535.
     pub send_room: u16,
 }
 
-/// A cable and its nodes: at most 16, of different numbers, at most one of them the router. With a router each node has a
-/// zone of 1 to 32 bytes; without one none has, and there is no zone table.
+/// A cable and its nodes. There are at most 16 nodes with different numbers, and at most one of them is the router.
+/// With a router each node has a zone of 1 to 32 bytes. Without one no node has a zone, and there is no zone table.
 #[derive(Drop)]
 pub struct Setup<A: Allocator = Global> {
-    /// 1 to 65,535.
+    /// The number of the network, 1 to 65,535.
     pub net: u16,
     pub nodes: Listed<NodeSetup, A>,
-    /// The router's table: at most 1,024 names of 1 to 32 bytes, whose spellings have at most 578 bytes together.
+    /// The router's zone table: at most 1,024 names of 1 to 32 bytes. With a length byte each, they have at most 578
+    /// bytes together.
     pub zones: Listed<Pascal, A>,
 }
 
@@ -50,7 +51,6 @@ fn is_name(name: &Pascal) -> bool
     is_name_spelled(name.bytes())
 }
 
-// The same of a string's bytes.
 fn is_name_spelled(bytes: &[u8]) -> bool
     requires { length bytes.now ≤ 32 }
     ensures { result ≡ is_name bytes.now }
@@ -135,7 +135,7 @@ fn are_lawful_nodes(nodes: &[NodeSetup]) -> bool
         && are_in_zones(nodes)
 }
 
-// Whether these names spell to at most so many bytes.
+// Whether the names fit in this many bytes, with a length byte each.
 #[tactic(auto, using(crate::proofs::SetupLemmas::fits_after, crate::proofs::SetupLemmas::too_long))]
 fn fit(names: &[Pascal], room: usize) -> bool
     ensures { result ≡ nat_le (spelled_len names.now) room }

@@ -4,14 +4,14 @@ use at_ddp::Listed;
 use at_node::Report;
 use std::alloc::{Allocator, Global};
 
-/// What the nodes reported, one report an event, and all that they sent.
+/// What the nodes reported, with one report for each event, and all that they sent.
 #[derive(Drop)]
 pub struct Transcript<A: Allocator = Global> {
     pub reports: Listed<Report<A>, A>,
     pub sent: SentList<A>,
 }
 
-/// Why a play stopped, the place of the event that was not played, counted from 0, and the transcript so far.
+/// Why a play stopped, which event was not played, counted from 0, and the transcript up to it.
 #[derive(Drop)]
 pub struct PlayFault<A: Allocator = Global> {
     pub fault: Fault,

@@ -17,19 +17,19 @@ use at_node::{Deferring, Draw, Input, Node, Report, carried};
 use std::alloc::{AllocError, Allocator};
 use std::marker::Model;
 
-/// How many events are played at most.
+/// The most events that are played.
 const MAX_EVENTS: u32 = 200_000;
 
-/// Once more than so many datagrams were sent, no event is played.
+/// If more datagrams than this were sent, no event is played.
 const MAX_DATAGRAMS: usize = 868_928;
 
-/// The nodes, and all that was ever sent.
+/// The nodes of a cable, and all that they sent.
 #[derive(Drop)]
 pub struct World<A: Allocator> {
     alloc: A,
     nodes: Vec<Node<A>, A>,
     pub(crate) datagrams: Datagrams<A>,
-    // The event that sent each datagram; a world that failed may lack the last ones.
+    // The event that sent each datagram. If the world failed, those of its last event may be missing.
     pub(crate) stamps: Vec<u32, A>,
     last: LastDraws<A>,
     pub(crate) events: u32,
@@ -49,7 +49,7 @@ impl<A: Allocator> Model for World<A> {
 }
 
 impl<A: Allocator + Copy> World<A> {
-    /// The world before anything happened.
+    /// A world in which nothing has happened yet. The error is out of memory.
     pub fn open(alloc: A, setup: &Setup<A>) -> Result<World<A>, AllocError>
         ensures { IfOk result (λ world. world ≡ opening_world setup.now) }
     {
@@ -65,14 +65,13 @@ impl<A: Allocator + Copy> World<A> {
         })
     }
 
-    /// All that was sent.
     pub(crate) fn into_sent(self) -> SentList<A>
         ensures { result ≡ self.sent }
     {
         SentList::of(self.datagrams, self.stamps)
     }
 
-    /// Plays an event, or says why not. A world that found no memory has failed.
+    /// Plays an event, or says why not. A world that ran out of memory has failed, and plays no more events.
     pub fn step(&mut self, event: &Event<A>) -> Result<Report<A>, Fault>
         ensures played { IfOk result (λ report. IsPlayable self.old event.now × Plays self.old event.now report self.new) }
         ensures not_played { IfErr result (λ fault. IsFault self.old event.now fault self.new) }
@@ -99,7 +98,7 @@ impl<A: Allocator + Copy> World<A> {
         self.events >= MAX_EVENTS || self.stamps.len() > MAX_DATAGRAMS
     }
 
-    // A node takes what comes to it, unless it would draw a number that some node holds.
+    // A node takes an input, unless it would draw a number under which some node still holds a record.
     fn play(&mut self, node: u8, input: &Input<'_, A>) -> Result<Report<A>, Fault>
         requires whole { self.old.failed ≡ false }
         requires runs { is_over self.old ≡ false }
@@ -149,6 +148,7 @@ impl<A: Allocator + Copy> World<A> {
         if !is_fresh(&self.last, self.datagrams.get(which), self.stamps[which]) {
             return Err(Fault::Refused(Refusal::Untimely));
         }
+        // The bytes are copied, since what the node sends may move the list that they lie in.
         let Ok(bytes) = Bytes::copy_of(self.alloc, self.datagrams.get(which)) else {
             self.failed = true;
             return Err(Fault::NoMemory);
@@ -157,7 +157,7 @@ impl<A: Allocator + Copy> World<A> {
     }
 }
 
-// A node takes what comes to it; its service leaves every answer for later.
+// A node takes an input. Its service leaves every answer for later.
 fn take<A: Allocator + Copy>(
     node: &mut Node<A>,
     input: &Input<'_, A>,
@@ -172,7 +172,7 @@ fn take<A: Allocator + Copy>(
     }
 }
 
-// The number that was drawn where this was reported.
+// The number that a node drew, if this is its report.
 fn drawn_by<A: Allocator>(report: &Report<A>) -> Option<Draw>
     ensures { result ≡ drawn_by report.now }
 {
@@ -182,7 +182,7 @@ fn drawn_by<A: Allocator>(report: &Report<A>) -> Option<Draw>
     }
 }
 
-// Books what an event drew and sent; without memory for all, nothing of what it sent.
+// Records what an event drew and sent. If memory runs out, nothing that it sent is stamped.
 fn book<A: Allocator + Copy>(
     stamps: &mut Vec<u32, A>,
     last: &mut LastDraws<A>,
@@ -202,7 +202,7 @@ fn book<A: Allocator + Copy>(
     stamp_all(stamps, count, event)
 }
 
-// The report, if all that was drawn and sent was booked.
+// The report, unless memory ran out for the record of what was drawn and sent.
 fn kept<A: Allocator>(booked: Result<(), AllocError>, report: Report<A>) -> Result<Report<A>, Fault>
     ensures ok { IfOk result (λ r. (r ≡ report) × IsOk booked) }
     ensures err { IfErr result (λ fault. (fault ≡ Fault.NoMemory) × IsErr booked) }
@@ -213,14 +213,14 @@ fn kept<A: Allocator>(booked: Result<(), AllocError>, report: Report<A>) -> Resu
     }
 }
 
-// Whether what was sent to one node, or to 255, comes to another.
+// Whether a datagram to this node, or to every node, may be delivered to `node`.
 fn is_for(to: u8, node: u8) -> bool
     ensures { result ≡ ((to == node) || (to == 255)) }
 {
     to == node || to == 255
 }
 
-// Whether some node holds a record under a number that a node would draw.
+// Whether some node holds a record under the number that a node would draw.
 fn is_held<A: Allocator + Copy>(nodes: &[Node<A>], node: u8, draw: Option<Draw>) -> bool
     ensures { result ≡ holds_some nodes.now node draw }
 {
@@ -236,7 +236,7 @@ fn is_held_by_some<A: Allocator + Copy>(nodes: &[Node<A>], node: u8, draw: Draw)
     nodes.iter().any(|n| n.holds(node, draw))
 }
 
-// Whether no number that these bytes carry was drawn by a later event.
+// Whether no event after this one drew a number that these bytes carry.
 fn is_fresh<A: Allocator + Copy>(last: &LastDraws<A>, bytes: &[u8], event: u32) -> bool
     ensures fresh { result ≡ true → (node : ℕ) (draw : Drawn) → Carries bytes.now node draw → is_no_later (last_of last.now node draw) event ≡ true }
     ensures stale { result ≡ false → (node : ℕ) × (draw : Drawn) × Carries bytes.now node draw × (is_no_later (last_of last.now node draw) event ≡ false) }
@@ -245,7 +245,7 @@ fn is_fresh<A: Allocator + Copy>(last: &LastDraws<A>, bytes: &[u8], event: u32) 
     is_no_later(last, first, event) && is_no_later(last, second, event)
 }
 
-// Whether no later event drew a number of a node.
+// Whether no event after this one drew this number of a node.
 fn is_no_later<A: Allocator + Copy>(
     last: &LastDraws<A>,
     number: Option<(u8, Draw)>,
@@ -262,7 +262,6 @@ fn is_no_later<A: Allocator + Copy>(
     }
 }
 
-// Where the node of a number stands.
 fn place_of<A: Allocator + Copy>(nodes: &[Node<A>], number: u8) -> Option<usize>
     ensures { result ≡ position_from (is_numbered number) 0 nodes.now }
 {

@@ -1,4 +1,4 @@
--- Names at the front of bytes: what is read there, and that no fault stands where names are spelled.
+-- Names at the front of bytes: what is read there, and that bytes that spell names have no fault.
 use Rattle.std.proofs.Common.{◌≡◌, inl, inr, ℕ, ◌+◌, ◌<◌, ◌≤◌, List, [], ◌∷◌, ◌++◌, length, take, drop, Result, Ok, Err, Bor, refl, sym, ap, subst, ◌∙◌, append_assoc, arith}
 use Rattle.std.specs.Prelude.{All, IfOk, IfErr, IsOkAnd}
 use Rattle.std.proofs.lemmas.List.{append_cancel_left, length-append, length-take-le, take-append-drop}
@@ -32,7 +32,7 @@ begins_more count bytes rest name after b ok is = record {
       ∙ ap (λ l. l ++ after) (sym (spelled-append b.names (name ∷ [])));
 }
 
--- ---- where names are spelled
+-- ---- bytes that spell names
 
 head_of : (a b : ℕ) (xs ys : List ℕ) → a ∷ xs ≡ b ∷ ys → a ≡ b
 head_of a b xs ys e = cc
@@ -57,14 +57,14 @@ no_fault_before fault (x ∷ xs) (y ∷ ys) r s ok lt e h =
     let parts = same_fronts x y (spelled xs ++ r) (spelled ys ++ s) (sym (spelled_front x xs r) ∙ e ∙ spelled_front y ys s) in
     no_fault_before fault xs ys r s (All-tail IsName y ys ok) (omega arith) parts.1 h
 
--- where so many names begin the bytes, no fault stands after fewer
+-- if the bytes begin with so many names, no fault comes after fewer
 pub no_fault_after : (fault : ZipFault) (names : List (List ℕ)) (bytes rest : List ℕ) → All IsName names → bytes ≡ spelled names ++ rest → ¬ StandsAfterNames fault (length names) bytes
 no_fault_after fault names bytes rest ok is h =
     no_fault_before fault h.begins.names names h.rest rest ok (omega (arith, h.fewer, h.begins.counted)) (sym h.begins.follows ∙ is) h.stands
 
 -- ---- one fault
 
--- no two faults stand at one place
+-- bytes have at most one fault at a place
 one_fault_at : (fault other : ZipFault) (bytes : List ℕ) → StandsAt fault bytes → StandsAt other bytes → fault ≡ other
 one_fault_at CountMismatch CountMismatch bytes h k = refl
 one_fault_at CountMismatch BadZone [] h k = absurd k
@@ -76,7 +76,7 @@ one_fault_at BadZone CountMismatch (b ∷ bytes) h k = elim h [ inl none ↦ abs
 one_fault_at BadZone _ bytes h k = absurd k
 one_fault_at _ other bytes h k = absurd h
 
--- names before a fault are as many as those before any other
+-- all faults come after equally many names
 no_fewer : (fault other : ZipFault) (count : ℕ) (bytes : List ℕ) (h : StandsAfterNames fault count bytes) (k : StandsAfterNames other count bytes) → h.before < k.before → ⊥
 no_fewer fault other count bytes h k lt =
     no_fault_before fault h.begins.names k.begins.names h.rest k.rest k.begins.each (omega (arith, h.begins.counted, k.begins.counted)) (sym h.begins.follows ∙ k.begins.follows) h.stands

@@ -50,7 +50,7 @@ run_is_longest room (name ∷ names) (y ∷ ys) after e more =
     go run rest false is shorter =
         omega (arith, ap (length {A = ℕ}) (head_of name y names (ys ++ after) e), leb-false (length name + 1) room is, length-spelled-cons y ys)
 
--- where there is room for all, the run is all
+-- if there is room for all names, the run is all of them
 pub run_is_whole : (room : ℕ) (names : List (List ℕ)) → length (spelled names) ≤ room → longest_run room names ≡ names
 run_is_whole room [] fits = refl
 run_is_whole room (name ∷ names) fits =

@@ -57,11 +57,11 @@ spelled_more names i name lt at =
     ap spelled (take_more names i name lt ∙ ap (λ n. take i names ++ n ∷ []) (sym at)) ∙ spelled-append (take i names) (name ∷ [])
     ∙ ap (λ l. spelled (take i names) ++ l) (append-nil (name_spelling name))
 
--- the next name fits where all do
+-- the next name fits if all names fit
 pub next_fits : (names : List (List ℕ)) (i : ℕ) (name : List ℕ) → i < length names → name ≡ get_or names i name → length (spelled (take i names)) + length (name_spelling name) ≤ length (spelled names)
 next_fits names i name lt at =
     omega (arith, take_le_spelled (i + 1) names, ap (length {A = ℕ}) (spelled_more names i name lt at), length-append (spelled (take i names)) (name_spelling name))
 
--- the names from a place on begin with the one there
+-- the names from a place on begin with the name at that place
 pub spelled_at : (names : List (List ℕ)) (i : ℕ) (rest : List ℕ) → i < length names → spelled (drop i names) ++ rest ≡ name_spelling (get_or names i []) ++ (spelled (drop (i + 1) names) ++ rest)
 spelled_at names i rest lt = ap (λ l. spelled l ++ rest) (drop_more names i [] lt) ∙ spelled_front (get_or names i []) (drop (i + 1) names) rest

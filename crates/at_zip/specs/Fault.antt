@@ -18,11 +18,11 @@ number_of NoMemory = None
 abbrev pub flag_of : List ℕ → ℕ
 flag_of user = slice_index user 0
 
--- the number of names that they state
+-- the number of names that the user bytes state
 abbrev pub count_of : List ℕ → ℕ
 count_of user = number_at 2 user
 
--- the fault stands where a counted name ought to begin: no length byte or a cut name, or a bad length
+-- the fault of the name at the front: no length byte, a name cut short, or a length that is not 1 to 32
 abbrev pub StandsAt : ZipFault → List ℕ → Type 0
 StandsAt CountMismatch [] = Unit {0}
 StandsAt CountMismatch (len ∷ bytes) = (1 ≤ len) × (len ≤ 32) × (length bytes < len)
@@ -33,7 +33,7 @@ StandsAt EmptyPage bytes = ⊥
 StandsAt TooManyZones bytes = ⊥
 StandsAt NoMemory bytes = ⊥
 
--- fewer names than counted, and then the fault
+-- the bytes begin with fewer names than counted, and then comes the fault
 pub record StandsAfterNames (fault : ZipFault) (count : ℕ) (bytes : List ℕ) : Type 0 where
   pub before : ℕ
   pub fewer : before < count
@@ -41,7 +41,7 @@ pub record StandsAfterNames (fault : ZipFault) (count : ℕ) (bytes : List ℕ) 
   pub begins : BeginsWithNames before bytes rest
   pub stands : StandsAt fault rest
 
--- the first fault of a page: no names in one that is not the last, or what stands in the place of its first bad name
+-- the first fault of a page: it has no names and is not the last, or the fault of its first bad name
 abbrev pub IsFirstFault : ZipFault → List ℕ → List ℕ → Type 0
 IsFirstFault EmptyPage user bytes = (flag_of user ≡ 0) × (count_of user ≡ 0)
 IsFirstFault CountMismatch user bytes = StandsAfterNames CountMismatch (count_of user) bytes

@@ -11,7 +11,7 @@ name_spelling name = length name ∷ name
 abbrev pub spelled : List (List ℕ) → List ℕ
 spelled names = flat_map name_spelling names
 
--- so many names stand at the front of the bytes, and then rest
+-- the bytes begin with so many names, and rest follows
 pub record BeginsWithNames (count : ℕ) (bytes rest : List ℕ) : Type 0 where
   pub names : List (List ℕ)
   pub each : All IsName names

@@ -1,5 +1,5 @@
--- Pages of a zone table (Inside AppleTalk, ZIP, "ZIP packet formats": the reply to GetZoneList, whose user bytes and
--- data are those of one ATP response packet).
+-- Pages of a zone table (Inside AppleTalk, ZIP, "ZIP packet formats"). A page is the reply to GetZoneList. Its user
+-- bytes and data are those of one ATP response packet.
 use Rattle.std.specs.Prelude.{◌≡◌, ◌≢◌, ℕ, ◌+◌, ◌-◌, ◌^◌, ◌<◌, ◌≤◌, ◌↔◌, Bool, false, IsTrue, nat_le, if◌then◌else◌, List, [], ◌∷◌, ◌++◌, length, drop, All}
 use Rattle.std.specs.Int.{to_be_bytes, w16}
 use Rattle.at_zip.specs.Names.{spelled}
@@ -20,8 +20,8 @@ pub record IsLawful (p : Page) : Type 0 where
 abbrev pub user_spelling : ℕ → ℕ → Page → List ℕ
 user_spelling flag free p = flag ∷ free ∷ to_be_bytes w16 (length p.names)
 
--- user bytes and data spell p: any flag but 0 says that the page is the last, the free byte has any content, and
--- anything follows the counted names
+-- User bytes and data spell p. Any flag but 0 means the last page. The free byte has any content, and anything follows
+-- the counted names.
 pub record Spells (user «data» : List ℕ) (p : Page) : Type 0 where
   pub lawful : IsLawful p
   pub flag : ℕ
@@ -41,20 +41,20 @@ page_user p = user_spelling (if p.last then 1 else 0) 0 p
 abbrev pub page_data : Page → List ℕ
 page_data p = spelled p.names
 
--- the longest beginning of the names whose spellings have at most so many bytes together
+-- the longest run of names, from the first on, whose spellings have at most so many bytes together
 abbrev pub longest_run : ℕ → List (List ℕ) → List (List ℕ)
 longest_run room [] = []
 longest_run room (name ∷ names) =
     if nat_le (length name + 1) room then name ∷ longest_run (room - (length name + 1)) names else []
 
--- the page from a place on, of which the first is 1: as many names as 578 bytes hold
+-- the page from a place on, of which the first is 1: as many names as fit 578 bytes
 unfoldable pub page_of : List (List ℕ) → ℕ → Page
 page_of table start =
     let names = longest_run 578 (drop (start - 1) table) in
     record { last = nat_le (length table) (start - 1 + length names); names = names }
 
--- the page has the longest run of names from a place on whose spellings have at most 578 bytes together, and is the
--- last where the run reaches the table's end
+-- The page has the longest run of names from a place on that fits 578 bytes. It is the last page if the run reaches the
+-- table's end.
 pub record IsPageFrom (table : List (List ℕ)) (start : ℕ) (p : Page) : Type 0 where
   pub rest : List (List ℕ)
   pub begins : drop (start - 1) table ≡ p.names ++ rest

@@ -1,15 +1,15 @@
--- A page whose names lie in the data that it was read from (Inside AppleTalk, ZIP, "ZIP packet formats").
+-- A page that was read, whose names lie in its data (Inside AppleTalk, ZIP, "ZIP packet formats").
 use Rattle.std.specs.Prelude.{◌≡◌, ℕ, zero, suc, List, [], ◌∷◌, ◌++◌, length, take, drop}
 use Rattle.at_zip.specs.Names.{spelled}
 use Rattle.at_zip.specs.Page.{Page, IsLawful}
 
--- so many names at the front of the bytes, cut where their length bytes say
+-- so many names at the front of the bytes, cut by their length bytes
 abbrev pub cut : ℕ → List ℕ → List (List ℕ)
 cut zero bytes = []
 cut (suc n) [] = []
 cut (suc n) (len ∷ bytes) = take len bytes ∷ cut n (drop len bytes)
 
--- the counted names of a lawful page stand at the front of the data
+-- the data of a lawful page begins with the counted names
 pub record IsFront (p : Page) (count : ℕ) (bytes : List ℕ) : Type 0 where
   pub lawful : IsLawful p
   pub counted : length p.names ≡ count

@@ -3,7 +3,7 @@
 use Rattle.std.specs.Prelude.{◌≡◌, ℕ, ◌^◌, ◌<◌, ◌≤◌, List, ◌∷◌}
 use Rattle.std.specs.Int.{to_be_bytes, w16}
 
--- code 8, a free byte, and the place to begin at, of which the first is 1
+-- code 8, a free byte, and the place to begin at; the first place is 1
 abbrev pub request_spelling : ℕ → ℕ → List ℕ
 request_spelling free start = 8 ∷ free ∷ to_be_bytes w16 start
 

@@ -8,7 +8,7 @@ pub record IsName (name : List ℕ) : Type 0 where
   pub fits : length name ≤ 32
   pub bytes : AreBytes name
 
--- a table has at most 1,024 names, which is a limit of these crates
+-- a table has at most 1,024 names, a limit of these crates
 pub record IsTable (names : List (List ℕ)) : Type 0 where
   pub each : All IsName names
   pub count : length names ≤ 1024

@@ -7,19 +7,19 @@ use thiserror::Error;
 /// Why a request, a page or a table is refused.
 #[derive(Clone, Copy, Debug, PartialEq, Eq, Error)]
 pub enum ZipFault {
-    /// A request has code 8 and a start of at least 1.
+    /// A request has another code than 8, or asks from place 0.
     #[error("the ZIP request has a code other than 8, or starts at name 0")]
     NotZip,
-    /// A page has as many names as it counts.
+    /// A page has fewer names than it counts.
     #[error("the page has fewer names than it counts")]
     CountMismatch,
-    /// A zone name has 1 to 32 bytes.
+    /// A zone name has no bytes, or over 32.
     #[error("a zone name is empty or over 32 bytes")]
     BadZone,
-    /// Only the last page of a table may have no names.
+    /// A page without names is not the last.
     #[error("a page that is not the last has no names")]
     EmptyPage,
-    /// A table has at most 1,024 names.
+    /// A table has over 1,024 names.
     #[error("the table has more than 1,024 names")]
     TooManyZones,
     /// No rule was broken, but memory ran out.

@@ -8,8 +8,8 @@ ghost use Rattle.at_zip.specs.Request.{RequestSpells, request_user};
 ghost use Rattle.at_zip.specs.Zones.{IsTable};
 ghost use Rattle.at_zip.specs.declared.fault.ZipFault.{ZipFault};
 
-/// What is written is read: the canonical bytes spell the request or the page that they are written for, and the
-/// page of a table is lawful.
+/// What is written is read: the canonical bytes spell the request or the page that they were written for. The page of a
+/// table is lawful.
 pub fn what_is_written_is_read()
     ensures request { (start : ℕ) → 1 ≤ start → start < 2 ^ 16 → RequestSpells (request_user start) start }
     ensures page { (p : Page) (rest : List ℕ) → IsLawful p → Spells (page_user p) (page_data p ++ rest) p }
@@ -23,14 +23,14 @@ pub fn one_page_a_spelling()
     ensures faultless { (user bytes : List ℕ) (p : Page) → Spells user bytes p → (fault : ZipFault) → ¬ IsFirstFault fault user bytes }
 {}
 
-/// What is written for a page of a table fits one ATP packet: four user bytes, and at most 578 bytes of data.
+/// The page of a table fits one ATP packet: four user bytes, and at most 578 bytes of data.
 pub fn a_page_fits_one_packet()
     ensures user { (table : List (List ℕ)) (start : ℕ) → AreBytes (page_user (page_of table start)) }
     ensures bytes { (table : List (List ℕ)) (start : ℕ) → IsTable table → AreBytes (page_data (page_of table start)) }
     ensures fits { (table : List (List ℕ)) (start : ℕ) → length (page_data (page_of table start)) ≤ 578 }
 {}
 
-/// The page from a place on is the longest run of names that 578 bytes hold, and no other page is.
+/// The page from a place on is the longest run of names that fits 578 bytes, and no other page is.
 pub fn a_page_is_the_longest_run()
     ensures longest { (table : List (List ℕ)) (start : ℕ) → IsPageFrom table start (page_of table start) }
     ensures only { (table : List (List ℕ)) (start : ℕ) (p : Page) → IsPageFrom table start p → p ≡ page_of table start }

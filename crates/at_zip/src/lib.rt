@@ -1,5 +1,5 @@
-//! The zone table of a router's Zone Information Protocol (ZIP), and its pages as ATP carries them: requests for a
-//! page, the page of a table from a place on, and the reading of one.
+//! The zone table of a router in the Zone Information Protocol (ZIP), and its pages as ATP carries them. The crate
+//! reads and writes requests for a page, makes the page of a table, and reads one.
 #![tactic(auto)]
 
 mod fault;

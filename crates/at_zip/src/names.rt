@@ -6,7 +6,7 @@ ghost use Rattle.at_zip.specs.Zones.{IsName};
 use crate::fault::ZipFault;
 use at_ddp::Pascal;
 
-/// Tests that so many names stand at the front.
+/// Checks that so many names are at the front. The error is the first fault.
 pub(crate) fn check_names(count: u16, bytes: &[u8]) -> Result<(), ZipFault>
     ensures found { OnOk result ((rest : List ℕ) × BeginsWithNames count bytes.now rest) }
     ensures fault { IfErr result (λ fault. StandsAfterNames fault count bytes.now) }

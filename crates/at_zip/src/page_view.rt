@@ -10,7 +10,7 @@ use byteorder::{BigEndian, ByteOrder};
 use std::alloc::{AllocError, Allocator};
 use std::marker::Model;
 
-/// A page, whose names lie in the data that it was read from.
+/// A page that was read. Its names stay in the data that it was read from.
 #[derive(Drop)]
 pub struct PageView<'a> {
     last: bool,
@@ -31,7 +31,7 @@ impl<'a> Model for PageView<'a> {
 }
 
 impl<'a> PageView<'a> {
-    /// Whether the table ends with this page.
+    /// Whether this is the last page of the table.
     pub fn is_last(&self) -> bool
         ensures { result ≡ self.now.last }
     {
@@ -46,7 +46,7 @@ impl<'a> PageView<'a> {
         usize::from(self.count)
     }
 
-    /// The names, in their order. All memory is asked for at once.
+    /// A list of the names, in order. All memory is requested first.
     pub fn to_list<A: Allocator>(&self, alloc: A) -> Result<Listed<Pascal, A>, AllocError>
         ensures { IfOk result (λ list. list ≡ self.now.names) }
     {
@@ -61,13 +61,13 @@ impl<'a> PageView<'a> {
     }
 }
 
-/// Reads the page that an answer's user bytes and data spell. The bytes after the counted names are not read.
+/// Reads the page in an answer's user bytes and data. Bytes after the counted names are not read.
 pub fn read_page(user: [u8; 4], bytes: &[u8]) -> Result<PageView<'_>, ZipFault>
     // What is read is spelled there.
     ensures found { IfOk result (Spells user bytes.now) }
     // What is spelled there is read.
     ensures only { (p : Page) → Spells user bytes.now p → result ≡ Ok p }
-    // A refusal is the first fault that stands there, and where one stands it is the refusal.
+    // The refusal is the first fault of these bytes, and bytes with a fault are refused.
     ensures fault { IfErr result (λ fault. IsFirstFault fault user bytes.now) }
     ensures refused { (fault : ZipFault) → IsFirstFault fault user bytes.now → result ≡ Err fault }
 {

@@ -7,17 +7,17 @@ use crate::zones::Zones;
 use at_ddp::{Bytes, Pascal};
 use std::alloc::{Allocator, Global};
 
-/// How many bytes of names a page holds at most.
+/// The most bytes of names in a page.
 pub const MAX_PAGE_DATA: usize = 578;
 
-/// A page as it is sent.
+/// A page as it is sent: the user bytes and the data of an ATP packet.
 #[derive(Drop)]
 pub struct PageBytes<A: Allocator = Global> {
     pub user: [u8; 4],
     pub data_: Bytes<A>,
 }
 
-/// The page of a table from a place on; the first is 1.
+/// The page of a table that begins at a place. The first place is 1.
 pub fn page<A: Allocator, B: Allocator>(
     alloc: A,
     zones: &Zones<B>,
@@ -42,7 +42,7 @@ pub fn page<A: Allocator, B: Allocator>(
     })
 }
 
-/// The longest beginning of these names that one page holds.
+/// The longest run of names, from the first on, that fits a page.
 fn run_of(names: &[Pascal]) -> &[Pascal]
     ensures { result.now ≡ longest_run 578 names.now }
 {
@@ -57,7 +57,7 @@ fn run_of(names: &[Pascal]) -> &[Pascal]
     names
 }
 
-/// These names as a page spells them. All memory is asked for at once.
+/// These names as a page spells them. All memory is requested first.
 fn spelled_names<A: Allocator>(alloc: A, names: &[Pascal]) -> Result<Vec<u8, A>, ZipFault>
     requires { length (spelled names.now) ≤ 578 }
     ensures ok { IfOk result (λ bytes. bytes.items ≡ spelled names.now) }
@@ -70,7 +70,7 @@ fn spelled_names<A: Allocator>(alloc: A, names: &[Pascal]) -> Result<Vec<u8, A>,
     Ok(bytes)
 }
 
-/// Appends a name as a page spells it, in the room that there is.
+/// Appends a name as a page spells it. The vector has room for it.
 fn push_name<A: Allocator>(bytes: &mut Vec<u8, A>, name: &[u8])
     requires short { length name.now ≤ 32 }
     requires room { length bytes.old.items + length (name_spelling name.now) ≤ vec_capacity bytes.old }

@@ -4,10 +4,10 @@ ghost use Rattle.at_zip.specs.Request.{RequestSpells, request_user};
 use crate::fault::ZipFault;
 use byteorder::{BigEndian, ByteOrder};
 
-// The code of a request for a page.
+// The code of a request for a page (GetZoneList).
 const GET_ZONE_LIST: u8 = 8;
 
-/// The place that a request's user bytes ask from; the first is 1.
+/// The place that a request's user bytes ask from, 1 to 65,535.
 pub fn read_request(user: [u8; 4]) -> Result<u16, ZipFault>
     // What is read is spelled there.
     ensures found { IfOk result (RequestSpells user) }
@@ -31,7 +31,7 @@ fn parse(user: &[u8]) -> Result<u16, ZipFault>
     Ok(start)
 }
 
-/// The user bytes that ask from a place on.
+/// The user bytes of a request for the page that begins at a place, 1 to 65,535.
 pub fn request_user(start: u16) -> [u8; 4]
     requires { 1 ≤ start }
     ensures { result ≡ request_user start }

@@ -7,10 +7,10 @@ use at_ddp::{Listed, Pascal};
 use std::alloc::{Allocator, Global};
 use std::marker::Model;
 
-/// How many names a table has at most.
+/// The most names of a table.
 pub const MAX_ZONES: usize = 1024;
 
-/// A router's table of zones: their names, in order.
+/// A router's zone table: the names, in order.
 #[derive(Drop)]
 pub struct Zones<A: Allocator = Global> {
     list: Listed<Pascal, A>,
@@ -28,7 +28,7 @@ impl<A: Allocator> Model for Zones<A> {
 }
 
 impl<A: Allocator> Zones<A> {
-    /// The table of these names, which needs no memory.
+    /// The table of these names. This needs no memory.
     pub fn new(list: Listed<Pascal, A>) -> Result<Zones<A>, ZipFault>
         ensures ok { IfOk result (λ zones. zones ≡ list) }
         ensures table { IfOk result IsTable }
@@ -53,7 +53,6 @@ impl<A: Allocator> Zones<A> {
     }
 }
 
-/// Whether no string is empty.
 fn are_names(strings: &[Pascal]) -> bool
     ensures each { OnTrue result (All IsName strings.now) }
     ensures empty { OnFalse result (Contains strings.now []) }

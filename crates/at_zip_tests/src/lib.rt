@@ -1,4 +1,4 @@
-//! Tests of zone tables and their pages, from outside their crate.
+//! Tests of at_zip through its public functions.
 #![tactic(auto)]
 
 #[cfg(test)]

@@ -1,4 +1,4 @@
-//! A zone table and its pages.
+//! Tests of zone tables and their pages.
 ghost use Rattle.std.specs.Prelude.{◌≤◌};
 
 use at_ddp::{Listed, Pascal};
@@ -11,7 +11,6 @@ use std::alloc::Global;
 use std::process::Abort;
 use std::test::Fail;
 
-// A table of these names.
 fn table(alloc: Global, names: &[&[u8]]) -> Result<Zones, Fail> {
     let mut list = Vec::new(alloc);
     for name in names {
@@ -28,7 +27,7 @@ fn long_name(number: u8) -> [u8; 32] {
     name
 }
 
-// A table of so many names of 32 bytes, and then this one.
+// A table of `count` names of 32 bytes, and this name at the end.
 fn long_table(alloc: Global, count: u8, last: &[u8]) -> Result<Zones, Fail> {
     let mut list = Vec::new(alloc);
     for number in 0..count {
@@ -40,7 +39,7 @@ fn long_table(alloc: Global, count: u8, last: &[u8]) -> Result<Zones, Fail> {
     Ok(Zones::new(Listed::from_vec(list))?)
 }
 
-// The names from one number up to before another, as a page spells them.
+// The names from number `first` up to before `end`, as a page spells them.
 fn spelled(alloc: Global, first: u8, end: u8) -> Result<Vec<u8>, Fail> {
     let mut bytes = Vec::new(alloc);
     for number in first..end {
@@ -50,7 +49,7 @@ fn spelled(alloc: Global, first: u8, end: u8) -> Result<Vec<u8>, Fail> {
     Ok(bytes)
 }
 
-// Compares the page from a place on.
+// Compares the page that begins at a place of the table.
 fn compare_page(
     rt: &impl Abort,
     alloc: Global,
@@ -66,7 +65,7 @@ fn compare_page(
     assert_eq!(rt; parts, (user, bytes), "from {start}");
 }
 
-// Compares what a page tells.
+// Compares what is read from a page.
 fn compare_reading(
     rt: &impl Abort,
     alloc: Global,
@@ -105,7 +104,7 @@ fn a_table_of_594_bytes_is_two_pages(rt: HostRuntime) -> Result<(), Fail> {
     compare_reading(&rt, rt.alloc(), [0, 0, 0, 17], &bytes, false, front.names());
     let last = spelled(rt.alloc(), 17, 18)?;
     compare_page(&rt, rt.alloc(), &zones, 18, [1, 0, 0, 1], &last);
-    // Past the table.
+    // The page begins after the last name.
     compare_page(&rt, rt.alloc(), &zones, 19, [1, 0, 0, 0], &[]);
     compare_page(&rt, rt.alloc(), &zones, 65535, [1, 0, 0, 0], &[]);
     Ok(())
@@ -147,17 +146,17 @@ fn an_empty_table_is_a_page_without_names(rt: HostRuntime) -> Result<(), Fail> {
     Ok(())
 }
 
-// User bytes and data that are no page, each with the fault that comes first and its number.
+// User bytes and data that are no page, each with its first fault and that fault's number.
 static REFUSED: [([u8; 4], &[u8], ZipFault, u8); 10] = [
-    // No names, and not the last page.
+    // The page has no names, and is not the last.
     ([0, 0, 0, 0], b"", ZipFault::EmptyPage, 33),
     ([0, 9, 0, 0], b"\x00", ZipFault::EmptyPage, 33),
-    // Fewer names than counted, and a name that is cut.
+    // The page has fewer names than it counts, or its last name is cut short.
     ([1, 0, 0, 2], b"\x03Lab", ZipFault::CountMismatch, 31),
     ([0, 0, 0, 1], b"", ZipFault::CountMismatch, 31),
     ([1, 0, 0, 1], b"\x04Lab", ZipFault::CountMismatch, 31),
     ([1, 0, 1, 0], b"\x03Lab", ZipFault::CountMismatch, 31),
-    // A length of 0 and of 33, which is looked at before the name's bytes.
+    // The length of a name is 0 or 33. It is tested before the name's bytes.
     ([1, 0, 0, 1], b"\x00", ZipFault::BadZone, 32),
     ([1, 0, 0, 2], b"\x03Lab\x00", ZipFault::BadZone, 32),
     ([1, 0, 0, 1], &[33; 34], ZipFault::BadZone, 32),
@@ -196,7 +195,7 @@ fn any_flag_but_0_is_the_last_page_and_what_follows_the_names_is_ignored(
     Ok(())
 }
 
-// User bytes, and the place that they ask from.
+// The user bytes of a request, and the place of the first name that they ask for.
 static REQUESTS: [([u8; 4], Result<u16, ZipFault>); 5] = [
     ([8, 0, 0, 1], Ok(1)),
     ([8, 0xFF, 0x12, 0x34], Ok(0x1234)),
@@ -215,7 +214,7 @@ fn a_request_names_the_place_that_it_asks_from(rt: HostRuntime) {
     assert_eq!(rt; ZipFault::NotZip.number(), Some(30));
 }
 
-// A list of so many names, of which the last is this one.
+// A list of `count` names, the last of which is this one.
 fn names(alloc: Global, count: usize, last: &[u8]) -> Result<Listed<Pascal>, Fail> {
     let mut list = Vec::new(alloc);
     for _ in 1..count {
@@ -225,10 +224,10 @@ fn names(alloc: Global, count: usize, last: &[u8]) -> Result<Listed<Pascal>, Fai
     Ok(Listed::from_vec(list))
 }
 
-// The number of names of a list and its last name, each with the fault of such a table and its number.
+// The number of names and the last name of a list that is no table, with its fault and that fault's number.
 static NO_TABLES: [(usize, &[u8], ZipFault, u8); 4] = [
     (1025, b"Office", ZipFault::TooManyZones, 34),
-    // The number of names is looked at first.
+    // The number of names is tested first.
     (1025, b"", ZipFault::TooManyZones, 34),
     (1024, b"", ZipFault::BadZone, 32),
     (1, b"", ZipFault::BadZone, 32),
@@ -247,7 +246,7 @@ fn a_table_has_at_most_1024_names_and_none_is_empty(rt: HostRuntime) -> Result<(
     Ok(())
 }
 
-// All names of a view take one request for memory.
+// Memory for all names of a page is requested at once, so one refusal is enough.
 fn compare_refusals(rt: &impl Abort, alloc: Global, view: &PageView<'_>, names: &[Pascal]) {
     let heap = Refusing::new(alloc, 0);
     assert!(rt; view.to_list(&heap).is_err());

@@ -20,7 +20,7 @@ fn main(rt: HostRuntime) -> io::Result<()> {
     step(&rt, &mut world, &retry())?;
     step(&rt, &mut world, &deliver(1, 7))?;
     step(&rt, &mut world, &answer(rt.alloc())?)?;
-    // Datagram 2 is on its way for so long that the client asks again, by datagram 3. Its response, datagram 4, is faster.
+    // Datagram 2 takes so long that the client asks again, by datagram 3. The response to it, datagram 4, is faster.
     step(&rt, &mut world, &retry())?;
     step(&rt, &mut world, &deliver(3, 7))?;
     step(&rt, &mut world, &deliver(4, 5))?;

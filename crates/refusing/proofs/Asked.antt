@@ -1,4 +1,5 @@
--- `is_refused` at a call: what its caller hands over, a `&` to the cell and a token of its lifetime, and what the caller gets back. Assumes `Logic`.
+-- `is_refused` at a call: what its caller passes, a `&` to the cell and a token of its lifetime, and what the caller
+-- gets back. Assumes `Logic`.
 use Rattle.refusing.proofs.Steps.{◌≡◌, ℕ, Bool, List, [], ◌∷◌, refl, ap, Ura, Val, vbool, vptr, SProp, ent, sep, ex, guard, id⊢, Lft, Share, ftrue, fsep, flft, Memory, Routine, Logic, sem, Fun, ‵, raw, ◌⊛◌, some, later, ◌$◌, ◌∵◌, !, qed, move, keep, use1, split, join, pick, fjoin, feq_i, feq_l, check, show, await, updating, done, RattleType, hidden_shr, bool, nothing, only, triple_of, Contract}
 use types.Kit.{now as at_once}
 use Rattle.std.specs.contracts.cell.Cell as cell

@@ -1,4 +1,4 @@
--- What a clause sees of the allocator: which one it hands requests on to.
+-- What a clause sees of the allocator: the inner allocator that takes its requests.
 use Rattle.refusing.specs.declared.Refusing.{Refusing}
 
 abbrev pub inner_of : {B : Type 0} → Refusing B → B

@@ -12,10 +12,10 @@ mod tests;
 
 /// An allocator for tests: it grants a given number of requests, refuses the next one, and grants all after it.
 ///
-/// To allocate, to grow and to shrink a block is one request each; to give a block back is none. A granted request is
-/// handed on to the inner allocator, which may still refuse it.
+/// Allocating, growing and shrinking a block is one request each, and giving a block back is none. A granted request
+/// goes on to the inner allocator, which may still refuse it.
 ///
-/// That each block is allocated and given back rightly is proved. Which request is refused is only tested, since no
+/// It is proved that each block is allocated and given back rightly. Which request is refused is only tested, since no
 /// clause can say what a cell holds.
 #[derive(Drop)]
 pub struct Refusing<B: Allocator> {
@@ -23,16 +23,16 @@ pub struct Refusing<B: Allocator> {
     refusal: Cell<Refusal>,
 }
 
-// Where the one refusal stands.
+// Which request is refused.
 #[derive(Clone, Copy)]
 enum Refusal {
-    // It is still to come, after so many granted requests.
+    // The refusal is still to come, after so many granted requests.
     After(u64),
     Given,
 }
 
 impl<B: Allocator> Refusing<B> {
-    /// An allocator over `inner` that grants the first `granted` requests, and refuses the one after them.
+    /// An allocator over `inner` that grants the first `granted` requests, and refuses the next one.
     pub fn new(inner: B, granted: u64) -> Refusing<B>
         ensures inner { inner_of result ≡ inner }
     {
@@ -42,13 +42,13 @@ impl<B: Allocator> Refusing<B> {
         }
     }
 
-    /// Whether a request was refused already. A request that the inner allocator refused does not count.
+    /// Whether a request was refused. A request that the inner allocator refused does not count.
     pub fn has_refused(&self) -> bool {
         matches!(self.refusal.get(), Refusal::Given)
     }
 }
 
-// Counts one request, and says whether it is the one to refuse.
+// Counts a request, and returns whether it is the one to refuse.
 fn is_refused(refusal: &Cell<Refusal>) -> bool {
     match refusal.get() {
         Refusal::After(0) => {

@@ -1,4 +1,4 @@
-// No clause says what the cell holds, so which request is refused is tested.
+// No clause says what the cell holds, so tests say which request is refused.
 use crate::Refusing;
 use std::alloc::{AllocError, Global};
 use std::test::Fail;

@@ -7,7 +7,7 @@ use Rattle.at_atp.specs.Fault.{IsFirstFault}
 use Rattle.at_atp.proofs.FrameLemmas.{one_packet, no_fault}
 use Rattle.at_atp.proofs.frame.decode.Goals as goal
 
--- what is spelled can't be refused, and is no other packet
+-- what is spelled there is not refused, and is not another packet
 only : (input : List ℕ) (r : Result Frame AtpFault) → IfOk r (λ f. Spells input (content f)) → IfErr r (λ fault. IsFirstFault fault input) →
     (f : Content) → Spells input f → IsOkAnd r (λ g. content g ≡ f)
 only input (Ok x) found fault f spelled = one_packet input (content x) f found spelled

@@ -8,7 +8,7 @@ use Rattle.at_ddp.proofs.Spellings.{one_reading}
 use Rattle.at_ddp.proofs.Readings.{no_fault}
 use Rattle.at_ddp.proofs.datagram.decode.Goals as goal
 
--- what is spelled can't be refused, and is no other datagram
+-- what is spelled there is not refused, and is not another datagram
 only : (input : List ℕ) (r : Result (Datagram × Bor (List ℕ)) DdpFault) →
     IfOk r (λ x. BeginsWith input (content x.0) x.1.now) → IfErr r (λ fault. IsFirstFault fault input) →
     (d : Content) (rest : List ℕ) → BeginsWith input d rest → IsOkAnd r (λ x. (content x.0 ≡ d) × (x.1.now ≡ rest))

@@ -15,7 +15,7 @@ pub overflow_cast-run : goal.overflow_cast-run
 overflow_cast-run g c =
     omega (arith, run_fits 578 c.split_at.result.1.now, ap (λ (l : List (List ℕ)). length (spelled l)) c.run_of-run.ensures, count_le_spelled c.run_of-run.result.now)
 
--- the run is the page's, and reaches the end where the page is the last
+-- the run is the page's, and reaches the end of the table if the page is the last
 is_run : (g : Over) (c : goal.After-from_vec g) → (c.run_of-run.result.now ≡ (page_of c.args.zones.now c.args.start).names)
     × (nat_eq (length c.run_of-run.result.now) (length c.split_at.result.1.now) ≡ (page_of c.args.zones.now c.args.start).last)
 is_run g c =

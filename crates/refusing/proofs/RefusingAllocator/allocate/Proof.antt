@@ -1,4 +1,5 @@
--- It asks whether this request is the one to refuse, and else answers what the inner allocator answers. Assumes `Logic`.
+-- It tests whether this request is the one to refuse. If not, it returns what the inner allocator returns. Assumes
+-- `Logic`.
 use Rattle.refusing.proofs.Steps.{◌≡◌, ℕ, ◌^◌, ◌<◌, true, false, Bool, List, [], ◌∷◌, Ok, Err, refl, w64, Al, seen, token, block_if_ok, Answer, answer_val, Answer-typed, Answer-Ok, Answer-err, Answered, answers, takes_key, Takes, at_takes, Takes-goes, Takes-gives, after, Ura, Ty, Fn, Val, vbool, vint, vptr, inst_fn, SProp, ent, emp, id⊢, Lft, Share, ftrue, flft, Memory, size, align, capped, Routine, WpFn, Tables, Logic, sem, ◌⊑◌, ⊑_trans, Fun, fact, tables, tables_of, fm_of, WpFn-mono, Sq, prop, ‵, raw, ◌⊛◌, some, later, given, at_ret, ◌$◌, ◌∵◌, !, qed, move, keep, drop, use0, use1, use2, split, join, pick, learn, fsplit, fjoin, suffices, await, done, agg, stop, fld, addr, lit, no_more, and_then, first, branches, skips, exec, returns, returns_within, enter, alloc_all, pass_all, free_all, look_at, get, through, sets, lands_as, env, owns, usize, yes, unhide, uint_vals, uint_Tells, block_ptr, shr_vals, plain, types_at, heard, nothing, calls_at, Ended, Clauses, triple_of, Triple, entered, cited, Stays, stay_dropped, walk_of, ends_at, walked, Goes-dropped, walk_Meets}
 use Rattle.refusing.proofs.Asked.{Asks, at_asks, Asks-goes, Asks-gives}
 use Rattle.refusing.proofs.Handle.{args, self, Handle, inner_at, refusal_at}

@@ -7,7 +7,7 @@ use Rattle.at_ddp.proofs.MarkLemmas.{length-pieces, lies_in}
 use Rattle.at_ddp.proofs.datagrams.Datagrams.get.Given.{Over}
 use Rattle.at_ddp.proofs.datagrams.Datagrams.get.Goals as goal
 
--- where `span` says that the bytes lie
+-- the bytes lie between the two places that `span` returns
 record Spans (items : List Posted) (now : List ℕ) (i start end : ℕ) : Type 0 where
   pub in_order : start ≤ end
   pub within : end ≤ length now
