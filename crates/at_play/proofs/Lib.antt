@@ -1,4 +1,5 @@
-mod InputLemmas
-pub mod NumberLemmas
+mod LineLemmas
 mod PrintLemmas
+mod ReportLemmas
 mod ShownLemmas
+mod ToldLemmas

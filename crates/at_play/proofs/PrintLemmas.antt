@@ -1,13 +1,15 @@
 -- What several prints print, one after the other.
-use Rattle.std.proofs.Common.{append-nil, Bool, append_assoc, ◌≡◌, ◌⊎◌, ◌+◌, ◌<◌, ◌/◌, ◌%◌, ◌++◌, ◌∷◌, [], List, ℕ, true, length, take, get_or, inl, inr, refl, sym, ap, subst, ◌∙◌}
-use Rattle.std.proofs.lemmas.List.{take_more}
+use Rattle.std.proofs.Common.{arith, append-nil, Bool, append_assoc, ◌≡◌, ◌⊎◌, ◌+◌, ◌<◌, ◌/◌, ◌%◌, ◌++◌, ◌∷◌, [], List, ℕ, true, length, take, get_or, inl, inr, refl, sym, ap, subst, ◌∙◌}
+use Rattle.std.proofs.Math.ListN.{set}
+use Rattle.std.proofs.lemmas.Grind.{take-set_at}
+use Rattle.std.proofs.lemmas.List.{length-set, take_more}
 use Rattle.at_ddp.specs.Datagram.{Content}
 use Rattle.std.specs.Fmt.{decimal, digit_glyph}
 use Rattle.at_play.specs.Lines.{address_text, header_line, packet_line, pairs, parts, sum_text, WordText, NoHex, NoRoom}
 use Rattle.at_play.specs.HexFaults.{fault_line}
-use Rattle.at_play.specs.Shown.{IsHex}
-use Rattle.at_play.specs.declared.hex_word.HexFault.{HexFault}
-use Rattle.at_play.specs.declared.hex_word.HexFault.TheVariants as fault
+use Rattle.at_schedule.specs.Hexes.{IsHex}
+use Rattle.at_schedule.specs.declared.hex_word.HexFault.{HexFault}
+use Rattle.at_schedule.specs.declared.hex_word.HexFault.TheVariants as fault
 use Rattle.std.specs.List.{concat}
 use Rattle.std.specs.Int.{from_bool}
 use Rattle.at_atp.specs.Frames.{Request, Response}
@@ -39,6 +41,14 @@ pairs-append (x ∷ xs) ys = ap (λ l. digit_glyph true (x / 16) ∷ digit_glyph
 pub pairs-next : (bytes : List ℕ) (i : ℕ) → i < length bytes
     → pairs (take (i + 1) bytes) ≡ pairs (take i bytes) ++ (digit_glyph true (get_or bytes i 0 / 16) ∷ digit_glyph true (get_or bytes i 0 % 16) ∷ [])
 pairs-next bytes i lt = ap pairs (take_more bytes i 0 lt) ∙ pairs-append (take i bytes) (get_or bytes i 0 ∷ [])
+
+-- two more elements that are written after the first ones
+pub two_more : (xs : List ℕ) (i n a b : ℕ) → n ≡ i + 1 + 1 → i + 1 < length xs → take n (set (set xs i a) (i + 1) b) ≡ take i xs ++ (a ∷ b ∷ [])
+two_more xs i n a b is lt =
+    let within : i + 1 < length (set xs i a) = omega (arith, length-set xs i a) in
+    take-set_at (set xs i a) (i + 1) n b is within
+    ∙ ap (λ l. l ++ b ∷ []) (take-set_at xs i (i + 1) a refl (omega arith))
+    ∙ append_assoc (take i xs) (a ∷ []) (b ∷ [])
 
 flat5 : (a b c d e r : List ℕ) → (a ++ (b ++ (c ++ (d ++ e)))) ++ r ≡ a ++ (b ++ (c ++ (d ++ (e ++ r))))
 flat5 a b c d e r = simp append_assoc

@@ -1,7 +1,8 @@
--- Words and bytes that are shown, where a reading of them is known.
+-- Words and bytes that are shown, if a reading of them is known.
 use Rattle.std.proofs.Common.{◌≡◌, ◌∷◌, [], List, ℕ, Ok, refl, sym, ◌∙◌, ap, subst, inl, inr}
 use Rattle.at_ddp.specs.Datagram.{Content, BeginsWith}
-use Rattle.at_play.specs.Shown.{IsHex, IsReadable, IsSound, Shows}
+use Rattle.at_play.specs.Shown.{IsReadable, IsSound, Shows}
+use Rattle.at_schedule.specs.Hexes.{IsHex}
 use Rattle.hex.proofs.HexLemmas.{decode_of-odd}
 use Rattle.hex.specs.Hex.{decode_of}
 

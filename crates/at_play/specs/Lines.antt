@@ -2,7 +2,7 @@
 use Rattle.std.specs.Prelude.{MatchBool, ◌≡◌, ℕ, ◌+◌, ◌<◌, ◌/◌, ◌%◌, ◌==◌, if◌then◌else◌, true, List, [], ◌∷◌, ◌++◌, length, Option, Some, None, codes}
 use Rattle.std.specs.Fmt.{decimal, digit_glyph}
 use Rattle.std.specs.List.{concat}
-use Rattle.at_play.specs.Shown.{IsHex}
+use Rattle.at_schedule.specs.Hexes.{IsHex}
 use Rattle.std.specs.Int.{from_bool, to_be_bytes, w16}
 use Rattle.at_ddp.specs.declared.address.Address.{Address}
 use Rattle.at_ddp.specs.Datagram.{Content, BeginsWith}
@@ -44,7 +44,7 @@ raw_line bytes = codes "raw " ++ hex_text bytes ++ codes "\n"
 abbrev pub no_memory_line : List ℕ
 no_memory_line = codes "stopped nomemory at 0\n"
 
--- a refusal by its number; want of memory is none
+-- a refusal by its number; out of memory has none
 abbrev pub refusal_line : Option ℕ → List ℕ
 refusal_line (Some number) = codes "refused " ++ decimal number ++ codes "\n"
 refusal_line None = no_memory_line
@@ -78,7 +78,7 @@ pub data BytesText (bytes : List ℕ) : List ℕ → Type 0 where
       → BytesText bytes (header_line d (length rest) ++ text)
   Stop : (fault : DdpFault) → ddp.IsFirstFault fault bytes → BytesText bytes (refusal_line (ddp.number_of fault))
 
--- what is printed of a word, where there is room for so many bytes
+-- what is printed of a word, if there is room for so many bytes
 pub data WordText (word : List ℕ) (room : ℕ) : List ℕ → Type 0 where
   Spelled : (bytes text : List ℕ) → IsHex word bytes → BytesText bytes text → WordText word room text
   NoHex : ((bytes : List ℕ) → ¬ IsHex word bytes) → WordText word room (codes "fault 1\n")

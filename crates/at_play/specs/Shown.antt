@@ -1,12 +1,8 @@
 -- Which words in hexadecimal digits are shown without a refusal.
-use Rattle.std.specs.Prelude.{◌≡◌, ◌⊎◌, ℕ, ◌<◌, ◌==◌, MatchBool, List, [], ◌∷◌, length, Ok}
-use Rattle.hex.specs.Hex.{decode_of}
+use Rattle.std.specs.Prelude.{ℕ, ◌==◌, MatchBool, List}
 use Rattle.at_ddp.specs.Datagram.{Content as Datagram, BeginsWith}
 use Rattle.at_atp.specs.Frames.{Content, Spells}
-
--- the word is `-` and there are no bytes, or it has digits, two for each byte
-abbrev pub IsHex : List ℕ → List ℕ → Type 0
-IsHex word bytes = ((word ≡ 45 ∷ []) × (bytes ≡ [])) ⊎ ((0 < length word) × (decode_of word ≡ Ok bytes))
+use Rattle.at_schedule.specs.Hexes.{IsHex}
 
 -- the data is an ATP packet
 abbrev pub IsPacket : List ℕ → Type 0

@@ -5,7 +5,7 @@ ghost use Rattle.at_ddp.specs.Datagram.{content};
 ghost use Rattle.at_play.specs.Lines.{address_text, header_line, packet_line, parts, raw_line, sum_text};
 ghost use Rattle.at_play.specs.Printers.{Prints};
 
-use crate::print::write_hex;
+use crate::digits::write_hex;
 use crate::printer::Printer;
 use at_atp::Frame;
 use at_ddp::{Address, Datagram, HEADER_LEN};

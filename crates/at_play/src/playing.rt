@@ -1,13 +1,17 @@
 //! The play of a schedule's events: each is read, played and printed before the next.
-ghost use Rattle.std.specs.Prelude.{◌≡◌, true};
+ghost use Rattle.std.specs.Prelude.{◌≡◌, true, IfErr, IfOk, MatchResult, OnOk};
+ghost use Rattle.at_play.specs.Ends.{Obeys};
+ghost use Rattle.at_play.specs.Printers.{Prints};
+ghost use Rattle.at_schedule.specs.Says.{Reads};
+ghost use Rattle.at_schedule.specs.Schedules.{is_event_line};
+ghost use Rattle.at_play.specs.Told.{IsStopped, IsUnread, IsWhole, Played, StopsIn, Tells, TellsLine};
 ghost use Rattle.at_world.specs.Setups.{is_lawful};
 
-use crate::draft::Draft;
-use crate::line_fault::LineFault;
 use crate::print::{write_event, write_sent};
 use crate::printer::Printer;
-use crate::schedule::{Fault, lines_of};
 use crate::stop::Stop;
+use at_schedule::{Draft, Fault, LineFault, Unreadable, lines_of};
+use at_world::laws::{exactly_once_requests_run_once, steps_are_a_run};
 use at_world::{Event, Setup, World};
 use std::alloc::{AllocError, Allocator};
 use std::io;
@@ -21,17 +25,53 @@ pub(crate) fn play_lines<A: Allocator + Copy, R: Read, W: Write>(
     printer: &mut Printer<W>,
 ) -> Result<(), Stop>
     requires { is_lawful setup.now ≡ true }
+    ensures told { (p : Played setup.now) × Obeys setup.now p
+        × Prints W.contents printer.old printer.new p.text × IsWhole A (R.remaining reader.old) result p }
+{
+    steps_are_a_run::<A>();
+    exactly_once_requests_run_once::<A>();
+    play_all(alloc, setup, reader, printer)
+}
+
+fn play_all<A: Allocator + Copy, R: Read, W: Write>(
+    alloc: A,
+    setup: &Setup<A>,
+    reader: &mut R,
+    printer: &mut Printer<W>,
+) -> Result<(), Stop>
+    ensures told { (p : Played setup.now)
+        × Prints W.contents printer.old printer.new p.text × IsWhole A (R.remaining reader.old) result p }
 {
     let Ok(mut world) = World::open(alloc, setup) else {
-        return Err(Stop::no_memory(0));
+        return Err(Stop::no_memory(0, 0));
     };
     let mut draft = Draft::new(alloc);
+    let mut number = 0usize;
     for line in lines_of(alloc, reader)? {
-        if let Some(event) = event_of(&mut draft, line, world.played())? {
-            play_event(&mut world, &event, printer)?;
-        }
+        number = number.saturating_add(1);
+        play_line(&mut world, &mut draft, number, line, printer)?;
     }
     Ok(())
+}
+
+// Plays the event of the line of this number, if it has one.
+fn play_line<A: Allocator + Copy, W: Write>(
+    world: &mut World<A>,
+    draft: &mut Draft<A>,
+    number: usize,
+    line: io::Result<Vec<u8, A>>,
+    printer: &mut Printer<W>,
+) -> Result<(), Stop>
+    ensures told { OnOk result (MatchResult line
+        (λ bytes. TellsLine A W.contents (is_event_line bytes.items) bytes.items world.old world.new printer.old printer.new)
+        (λ _. ⊥)) }
+    ensures stopped { IfErr result (λ stop. (printer.new ≡ printer.old) × StopsIn A world.old stop) }
+{
+    match event_of(draft, line, world.played(), number) {
+        Ok(Some(event)) => play_event(world, &event, number, printer),
+        Ok(None) => Ok(()),
+        Err(stop) => Err(stop),
+    }
 }
 
 // The event of a line, if it has one. The line was lawful when the setup was read.
@@ -39,24 +79,33 @@ fn event_of<A: Allocator + Copy>(
     draft: &mut Draft<A>,
     line: io::Result<Vec<u8, A>>,
     at: u32,
-) -> Result<Option<Event<A>>, Stop> {
+    number: usize,
+) -> Result<Option<Event<A>>, Stop>
+    ensures unread { IfErr result (λ stop. IsUnread at stop) }
+    ensures read { IfOk result (λ event. MatchResult line (λ bytes. Reads bytes.items event) (λ _. ⊥)) }
+{
     let line = match line.map_err(Fault::from) {
         Ok(line) => line,
-        Err(Fault::NoMemory) => return Err(Stop::no_memory(at)),
+        Err(Fault::NoMemory) => return Err(Stop::no_memory(at, number)),
         Err(fault) => return Err(Stop::Text(fault)),
     };
     match draft.take_line(&line) {
         Ok(event) => Ok(event),
-        Err(LineFault::NoMemory) => Err(Stop::no_memory(at)),
-        Err(LineFault::Unlawful) => Err(Stop::Text(Fault::Unreadable)),
+        Err(LineFault::NoMemory) => Err(Stop::no_memory(at, number)),
+        Err(LineFault::Unlawful(_)) => { Err(Stop::Text(Fault::Unreadable(Unreadable::Changed))) }
     }
 }
 
 fn play_event<A: Allocator + Copy, W: Write>(
     world: &mut World<A>,
     event: &Event<A>,
+    line: usize,
     printer: &mut Printer<W>,
-) -> Result<(), Stop> {
+) -> Result<(), Stop>
+    ensures told { OnOk result (Tells W.contents world.old event.now world.new printer.old printer.new) }
+    ensures stopped { IfErr result
+        (λ stop. (printer.new ≡ printer.old) × IsStopped world.old event.now world.new stop) }
+{
     let at = world.played();
     let first = world.sent_count();
     match world.step(event) {
@@ -65,6 +114,19 @@ fn play_event<A: Allocator + Copy, W: Write>(
             write_sent(printer, world, first);
             Ok(())
         }
-        Err(fault) => Err(Stop::Event { fault, at }),
+        Err(fault) => Err(Stop::Event {
+            fault,
+            at,
+            line,
+            which: delivered(event),
+        }),
+    }
+}
+
+// The number of the datagram that is to be delivered.
+fn delivered<A: Allocator>(event: &Event<A>) -> Option<u64> {
+    match event {
+        Event::Deliver { which, .. } => Some(*which),
+        _ => None,
     }
 }

@@ -1,7 +1,13 @@
 //! What is printed of a play.
-ghost use Rattle.at_play.specs.Lines.{hex_text, pairs};
+ghost use Rattle.std.specs.Prelude.{◌≡◌, ◌++◌, codes, drop};
+ghost use Rattle.std.specs.Fmt.{decimal};
+ghost use Rattle.std.specs.List.{flat_map};
+ghost use Rattle.at_play.specs.Lines.{hex_text};
 ghost use Rattle.at_play.specs.Printers.{Prints};
+ghost use Rattle.at_play.specs.Reports.{asked_text, event_line, packet_text, report_text, sent_lines, zone_text};
+ghost use Rattle.at_play.specs.Reports.{glyph, is_sign, stands_for_itself, text_word};
 
+use crate::digits::{write_hex, write_pairs};
 use crate::printer::Printer;
 use at_atp::{Key, Packet};
 use at_ddp::Pascal;
@@ -15,7 +21,9 @@ pub(crate) fn write_event<A: Allocator, W: Write>(
     printer: &mut Printer<W>,
     event: u32,
     report: &Report<A>,
-) {
+)
+    ensures { Prints W.contents printer.old printer.new (event_line event report.now) }
+{
     write!(printer, "{event} ");
     write_report(printer, report);
     printer.write_all(b"\n");
@@ -26,7 +34,9 @@ pub(crate) fn write_sent<A: Allocator + Copy, W: Write>(
     printer: &mut Printer<W>,
     world: &World<A>,
     first: usize,
-) {
+)
+    ensures { Prints W.contents printer.old printer.new (sent_lines first (drop first world.now.sent)) }
+{
     for number in first..world.sent_count() {
         let sent = world.sent(number);
         write!(printer, "sent {number} {} ", sent.to);
@@ -35,7 +45,9 @@ pub(crate) fn write_sent<A: Allocator + Copy, W: Write>(
     }
 }
 
-fn write_report<A: Allocator, W: Write>(printer: &mut Printer<W>, report: &Report<A>) {
+fn write_report<A: Allocator, W: Write>(printer: &mut Printer<W>, report: &Report<A>)
+    ensures { Prints W.contents printer.old printer.new (report_text report.now) }
+{
     match report {
         Report::Begun(tid) => write!(printer, "begun {tid}"),
         Report::Answered(count) => write!(printer, "answered {count}"),
@@ -56,7 +68,10 @@ fn write_report<A: Allocator, W: Write>(printer: &mut Printer<W>, report: &Repor
     }
 }
 
-fn write_asked<W: Write>(printer: &mut Printer<W>, key: Key, user: [u8; 4], bytes: &[u8]) {
+fn write_asked<W: Write>(printer: &mut Printer<W>, key: Key, user: [u8; 4], bytes: &[u8])
+    ensures { Prints W.contents printer.old printer.new
+        (asked_text key ++ (hex_text user ++ (codes " " ++ hex_text bytes.now))) }
+{
     write!(
         printer,
         "asked {} {} {} ",
@@ -67,7 +82,9 @@ fn write_asked<W: Write>(printer: &mut Printer<W>, key: Key, user: [u8; 4], byte
     write_hex(printer, bytes);
 }
 
-fn write_zones<W: Write>(printer: &mut Printer<W>, zones: &[Pascal]) {
+fn write_zones<W: Write>(printer: &mut Printer<W>, zones: &[Pascal])
+    ensures { Prints W.contents printer.old printer.new (codes "zones" ++ flat_map zone_text zones.now) }
+{
     printer.write_all(b"zones");
     for zone in zones {
         printer.write_all(b" ");
@@ -75,11 +92,10 @@ fn write_zones<W: Write>(printer: &mut Printer<W>, zones: &[Pascal]) {
     }
 }
 
-fn write_response<A: Allocator, W: Write>(
-    printer: &mut Printer<W>,
-    tid: u16,
-    packets: &[Packet<A>],
-) {
+fn write_response<A: Allocator, W: Write>(printer: &mut Printer<W>, tid: u16, packets: &[Packet<A>])
+    ensures { Prints W.contents printer.old printer.new
+        ((codes "response " ++ decimal tid) ++ flat_map packet_text packets.now) }
+{
     write!(printer, "response {tid}");
     for packet in packets {
         printer.write_all(b" ");
@@ -89,39 +105,44 @@ fn write_response<A: Allocator, W: Write>(
     }
 }
 
-/// Pairs of hexadecimal digits, or `-` for no bytes.
-pub(crate) fn write_hex<W: Write>(printer: &mut Printer<W>, bytes: &[u8])
-    ensures { Prints W.contents printer.old printer.new (hex_text bytes.now) }
-{
-    if bytes.is_empty() {
-        printer.write_all(b"-");
-    } else {
-        write_pairs(printer, bytes);
-    }
-}
-
-fn write_pairs<W: Write>(printer: &mut Printer<W>, bytes: &[u8])
-    ensures { Prints W.contents printer.old printer.new (pairs bytes.now) }
-{
-    for byte in bytes {
-        write!(printer, "{byte:02X}");
-    }
-}
-
 /// Letters, digits and a few signs as they are, `%` and two digits for every other byte, and `%` for the empty text.
-pub(crate) fn write_text<W: Write>(printer: &mut Printer<W>, text: &[u8]) {
+pub(crate) fn write_text<W: Write>(printer: &mut Printer<W>, text: &[u8])
+    ensures { Prints W.contents printer.old printer.new (text_word text.now) }
+{
     if text.is_empty() {
         printer.write_all(b"%");
-    }
-    for byte in text {
-        if stands_for_itself(*byte) {
-            printer.write_all(&[*byte]);
-        } else {
-            write!(printer, "%{byte:02X}");
-        }
+    } else {
+        write_glyphs(printer, text);
     }
 }
 
-fn stands_for_itself(byte: u8) -> bool {
-    byte.is_ascii_alphanumeric() || b"-_.=*".contains(&byte)
+fn write_glyphs<W: Write>(printer: &mut Printer<W>, text: &[u8])
+    ensures { Prints W.contents printer.old printer.new (flat_map glyph text.now) }
+{
+    for byte in text {
+        write_glyph(printer, *byte);
+    }
+}
+
+fn write_glyph<W: Write>(printer: &mut Printer<W>, byte: u8)
+    ensures { Prints W.contents printer.old printer.new (glyph byte) }
+{
+    if stands_for_itself(byte) {
+        printer.write_all(&[byte]);
+    } else {
+        printer.write_all(b"%");
+        write_pairs(printer, &[byte]);
+    }
+}
+
+fn stands_for_itself(byte: u8) -> bool
+    ensures { result ≡ stands_for_itself byte }
+{
+    byte.is_ascii_alphanumeric() || is_sign(byte)
+}
+
+fn is_sign(byte: u8) -> bool
+    ensures { result ≡ is_sign byte }
+{
+    byte == b'-' || (byte == b'_' || (byte == b'.' || (byte == b'=' || byte == b'*')))
 }

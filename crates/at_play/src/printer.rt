@@ -1,5 +1,5 @@
 //! A writer that keeps in mind whether a write to it failed.
-ghost use Rattle.std.specs.Prelude.{◌≡◌, ◌↔◌, [], IfSome};
+ghost use Rattle.std.specs.Prelude.{◌≡◌, ◌↔◌, true, [], IfSome};
 ghost use Rattle.at_play.specs.Printers.{HasFailed, Prints};
 
 use crate::program::Status;
@@ -42,7 +42,14 @@ impl<W: Write> Printer<W> {
         }
     }
 
-    /// Flushes, and hands on the status, or `Failed` where a write or the flush failed.
+    /// Whether a write failed.
+    pub(crate) fn has_failed(&self) -> bool
+        ensures { (result ≡ true) ↔ HasFailed self.now }
+    {
+        self.has_failed
+    }
+
+    /// Flushes, and hands on the status, or `Failed` if a write or the flush failed.
     pub(crate) fn finish(&mut self, status: Status) -> Status
         ensures printed { Prints W.contents self.old self.new [] }
         ensures done { (result ≡ Status.Done) ↔ ((status ≡ Status.Done) × ¬ HasFailed self.new) }

@@ -1,12 +1,13 @@
 //! The play of a schedule, from its text to what is printed.
-ghost use Rattle.std.specs.Prelude.{◌≡◌, ◌<◌, length, IfSome, IsErr, IsOk};
-ghost use Rattle.at_play.specs.Printers.{HasFailed};
+ghost use Rattle.std.specs.Prelude.{◌≡◌, ◌<◌, List, ℕ, length, IfSome, IsErr, IsOk};
+ghost use Rattle.at_play.specs.Ends.{Ended, FileText, PlayText, end_text};
+ghost use Rattle.at_play.specs.Printers.{HasFailed, Prints};
 
-use crate::input::{MAX_LEN, check_length, read_bytes};
+use crate::diagnostics::Diagnostics;
 use crate::playing::play_lines;
 use crate::printer::Printer;
-use crate::schedule::read_setup;
 use crate::stop::{Stop, write_stop};
+use at_schedule::{MAX_LEN, check_length, read_bytes, read_setup};
 use std::alloc::Allocator;
 use std::io::{Read, Seek, Write};
 
@@ -33,32 +34,38 @@ impl Status {
     }
 }
 
-/// Reads a schedule to its end, plays it, and prints what came of each event.
-pub fn play_text<A: Allocator + Copy, R: Read, W: Write>(
+/// Reads a schedule to its end, plays it, and prints what came of each event. Why a play ended before its last event is
+/// told to a person as well.
+pub fn play_text<A: Allocator + Copy, R: Read, W: Write, E: Write>(
     alloc: A,
     reader: &mut R,
     printer: &mut Printer<W>,
+    diagnostics: &mut Diagnostics<'_, E>,
 ) -> Status
-    // Where a contract knows what the reader gives: a schedule that is too long is not played.
+    // A schedule that is too long is not played. Said if it is known what the reader holds.
     ensures too_long { IfSome (R.remaining reader.old) (λ all. MAX_LEN < length all → result ≡ Status.Failed) }
     ensures printed { result ≡ Status.Done → ¬ HasFailed printer.new }
+    ensures ended { Ended (PlayText A (R.remaining reader.old)) W.contents result printer.old printer.new }
 {
     let played = play_stream(alloc, reader, printer);
-    end(played, printer)
+    end(played, printer, diagnostics)
 }
 
-/// Plays a schedule that can be read again from its beginning, as a file can: nothing of it is kept but its setup. It is
-/// read for its length, then for its faults, and last to be played. One that changes meanwhile is told as unreadable.
-pub fn play_file<A: Allocator + Copy, F: Read + Seek, W: Write>(
+/// Plays a schedule that can be read again from its beginning, as a file can: nothing of it is kept but its setup. It
+/// is read for its length, then for its faults, and last to be played. One that changes meanwhile is told as unreadable.
+pub fn play_file<A: Allocator + Copy, F: Read + Seek, W: Write, E: Write>(
     alloc: A,
     file: &mut F,
     printer: &mut Printer<W>,
+    diagnostics: &mut Diagnostics<'_, E>,
 ) -> Status
     ensures too_long { IfSome (F.remaining file.old) (λ all. MAX_LEN < length all → result ≡ Status.Failed) }
     ensures printed { result ≡ Status.Done → ¬ HasFailed printer.new }
+    ensures ended { Ended (FileText A F.remaining F.stream_position F.stream_bytes) W.contents result
+        printer.old printer.new }
 {
     let played = play_again(alloc, file, printer);
-    end(played, printer)
+    end(played, printer, diagnostics)
 }
 
 fn play_stream<A: Allocator + Copy, R: Read, W: Write>(
@@ -66,7 +73,9 @@ fn play_stream<A: Allocator + Copy, R: Read, W: Write>(
     reader: &mut R,
     printer: &mut Printer<W>,
 ) -> Result<(), Stop>
-    ensures { IfSome (R.remaining reader.old) (λ all. MAX_LEN < length all → IsErr result) }
+    ensures too_long { IfSome (R.remaining reader.old) (λ all. MAX_LEN < length all → IsErr result) }
+    ensures told { (text : List ℕ) × PlayText A (R.remaining reader.old) result text
+        × Prints W.contents printer.old printer.new text }
 {
     let bytes = read_bytes(alloc, reader)?;
     let setup = read_setup(alloc, &mut bytes.as_slice())?;
@@ -78,7 +87,9 @@ fn play_again<A: Allocator + Copy, F: Read + Seek, W: Write>(
     file: &mut F,
     printer: &mut Printer<W>,
 ) -> Result<(), Stop>
-    ensures { IfSome (F.remaining file.old) (λ all. MAX_LEN < length all → IsErr result) }
+    ensures too_long { IfSome (F.remaining file.old) (λ all. MAX_LEN < length all → IsErr result) }
+    ensures told { (text : List ℕ) × FileText A F.remaining F.stream_position F.stream_bytes result text
+        × Prints W.contents printer.old printer.new text }
 {
     check_length(file)?;
     file.rewind()?;
@@ -87,14 +98,33 @@ fn play_again<A: Allocator + Copy, F: Read + Seek, W: Write>(
     play_lines(alloc, &setup, file, printer)
 }
 
-// Tells why a play stopped, if it did, and how it ended.
-fn end<W: Write>(played: Result<(), Stop>, printer: &mut Printer<W>) -> Status
+// Tells how a play ended, and why it stopped if it did.
+fn end<W: Write, E: Write>(
+    played: Result<(), Stop>,
+    printer: &mut Printer<W>,
+    diagnostics: &mut Diagnostics<'_, E>,
+) -> Status
     ensures done { result ≡ Status.Done → IsOk played × (¬ HasFailed printer.new) }
+    ensures printed { Prints W.contents printer.old printer.new (end_text played) }
+{
+    let status = finish(played, printer, diagnostics);
+    diagnostics.tell_writes(printer);
+    status
+}
+
+fn finish<W: Write, E: Write>(
+    played: Result<(), Stop>,
+    printer: &mut Printer<W>,
+    diagnostics: &mut Diagnostics<'_, E>,
+) -> Status
+    ensures done { result ≡ Status.Done → IsOk played × (¬ HasFailed printer.new) }
+    ensures printed { Prints W.contents printer.old printer.new (end_text played) }
 {
     match played {
         Ok(()) => printer.finish(Status::Done),
         Err(stop) => {
             write_stop(printer, stop);
+            diagnostics.tell_stop(stop);
             printer.finish(Status::Failed)
         }
     }

@@ -6,73 +6,104 @@ ghost use Rattle.at_play.specs.HexFaults.{fault_line};
 ghost use Rattle.at_play.specs.Lines.{BytesText, DataText, PacketText, WordText, header_line, refusal_line};
 ghost use Rattle.at_play.specs.Shown.{IsPacket, IsReadable, IsSound, Shows};
 
-use crate::hex_word::{HexFault, bytes_of};
+use crate::diagnostics::Diagnostics;
+use crate::hex_reason::HexReason;
 use crate::packet_lines::{write_frame, write_header, write_raw};
 use crate::printer::Printer;
 use crate::program::Status;
 use at_ddp::Datagram;
+use at_schedule::{HexFault, bytes_of};
 use std::alloc::Allocator;
+use std::fmt::Display;
 use std::io::Write;
 
 /// The protocol of ATP's datagrams.
 const ATP: u8 = 3;
 
 /// Prints the datagram that a word spells in hexadecimal digits, its header and its packet, or the number of the first
-/// refusal. What follows the datagram is counted only. The bytes are put into the room.
-pub fn show_text<A: Allocator, W: Write>(
+/// refusal. What follows the datagram is counted only. The bytes are put into the room. Why a word or a datagram is
+/// refused is told to a person as well.
+pub fn show_text<A: Allocator, W: Write, E: Write>(
     word: &[u8],
     room: &mut Vec<u8, A>,
     printer: &mut Printer<W>,
+    diagnostics: &mut Diagnostics<'_, E>,
 ) -> Status
     ensures done { result ≡ Status.Done → Shows word.now × ¬ HasFailed printer.new }
-    ensures printed { (text : List ℕ) × WordText word.now (vec_capacity room.old) text × Prints W.contents printer.old printer.new text }
-    // It fails only where the word is not to be shown, room was missing, or a write failed.
-    ensures only { Shows word.now → length word.now / 2 ≤ vec_capacity room.old → ¬ HasFailed printer.new → result ≡ Status.Done }
+    ensures printed { (text : List ℕ) × WordText word.now (vec_capacity room.old) text
+        × Prints W.contents printer.old printer.new text }
+    // It fails only if the word is not to be shown, room was missing, or a write failed.
+    ensures only { Shows word.now → length word.now / 2 ≤ vec_capacity room.old → ¬ HasFailed printer.new
+        → result ≡ Status.Done }
 {
     let status = match bytes_of(word, room) {
-        Ok(()) => show_bytes(room.as_slice(), printer),
-        Err(fault) => show_fault(fault, printer),
+        Ok(()) => show_bytes(room.as_slice(), printer, diagnostics),
+        Err(fault) => show_fault(fault, word, printer, diagnostics),
     };
     printer.finish(status)
 }
 
-fn show_fault<W: Write>(fault: HexFault, printer: &mut Printer<W>) -> Status
+fn show_fault<W: Write, E: Write>(
+    fault: HexFault,
+    word: &[u8],
+    printer: &mut Printer<W>,
+    diagnostics: &mut Diagnostics<'_, E>,
+) -> Status
     ensures failed { result ≡ Status.Failed }
     ensures printed { Prints W.contents printer.old printer.new (fault_line fault) }
 {
     match fault {
-        HexFault::NoHex => printer.write_all(b"fault 1\n"),
-        HexFault::NoMemory => printer.write_all(b"stopped nomemory at 0\n"),
+        HexFault::NoHex => {
+            printer.write_all(b"fault 1\n");
+            diagnostics.tell_word(HexReason::of(word));
+        }
+        HexFault::NoMemory => {
+            printer.write_all(b"stopped nomemory at 0\n");
+            diagnostics.tell_refusal("out of memory", None);
+        }
     }
     Status::Failed
 }
 
-fn show_bytes<W: Write>(bytes: &[u8], printer: &mut Printer<W>) -> Status
+fn show_bytes<W: Write, E: Write>(
+    bytes: &[u8],
+    printer: &mut Printer<W>,
+    diagnostics: &mut Diagnostics<'_, E>,
+) -> Status
     ensures done { (result ≡ Status.Done) ↔ IsSound bytes.now }
     ensures printed { (text : List ℕ) × BytesText bytes.now text × Prints W.contents printer.old printer.new text }
 {
     match at_ddp::decode(bytes) {
-        Ok((datagram, rest)) => show_datagram(&datagram, rest.len(), printer),
-        Err(refusal) => show_refusal(refusal.number(), printer),
+        Ok((datagram, rest)) => show_datagram(&datagram, rest.len(), printer, diagnostics),
+        Err(refusal) => show_refusal(refusal, refusal.number(), printer, diagnostics),
     }
 }
 
 // The header's line, and the line of what the datagram carries.
-fn show_datagram<W: Write>(datagram: &Datagram<'_>, rest: usize, printer: &mut Printer<W>) -> Status
+fn show_datagram<W: Write, E: Write>(
+    datagram: &Datagram<'_>,
+    rest: usize,
+    printer: &mut Printer<W>,
+    diagnostics: &mut Diagnostics<'_, E>,
+) -> Status
     ensures done { (result ≡ Status.Done) ↔ IsReadable datagram.now.kind datagram.now.data_.now }
     ensures printed { (text : List ℕ) × DataText datagram.now.kind datagram.now.data_.now text
         × Prints W.contents printer.old printer.new (header_line (content datagram.now) rest ++ text) }
 {
     write_header(printer, datagram, rest);
     if datagram.kind == ATP {
-        show_packet(datagram.data_, printer)
+        show_packet(datagram.data_, printer, diagnostics)
     } else {
         write_raw(printer, datagram.data_);
         Status::Done
     }
 }
 
-fn show_packet<W: Write>(bytes: &[u8], printer: &mut Printer<W>) -> Status
+fn show_packet<W: Write, E: Write>(
+    bytes: &[u8],
+    printer: &mut Printer<W>,
+    diagnostics: &mut Diagnostics<'_, E>,
+) -> Status
     ensures done { (result ≡ Status.Done) ↔ IsPacket bytes.now }
     ensures printed { (text : List ℕ) × PacketText bytes.now text × Prints W.contents printer.old printer.new text }
 {
@@ -81,12 +112,17 @@ fn show_packet<W: Write>(bytes: &[u8], printer: &mut Printer<W>) -> Status
             write_frame(printer, &frame);
             Status::Done
         }
-        Err(fault) => show_refusal(fault.number(), printer),
+        Err(fault) => show_refusal(fault, fault.number(), printer, diagnostics),
     }
 }
 
 // The refusal's number, in the place of the line of what was refused.
-fn show_refusal<W: Write>(number: Option<u8>, printer: &mut Printer<W>) -> Status
+fn show_refusal<F: Display + Drop, W: Write, E: Write>(
+    fault: F,
+    number: Option<u8>,
+    printer: &mut Printer<W>,
+    diagnostics: &mut Diagnostics<'_, E>,
+) -> Status
     ensures failed { result ≡ Status.Failed }
     ensures printed { Prints W.contents printer.old printer.new (refusal_line number) }
 {
@@ -94,5 +130,6 @@ fn show_refusal<W: Write>(number: Option<u8>, printer: &mut Printer<W>) -> Statu
         Some(number) => writeln!(printer, "refused {number}"),
         None => printer.write_all(b"stopped nomemory at 0\n"),
     }
+    diagnostics.tell_refusal(fault, number);
     Status::Failed
 }

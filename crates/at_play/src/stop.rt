@@ -1,47 +1,69 @@
-//! Why a play ends before its last event.
+//! Why a play ends before its last event, and the line that says so.
+ghost use Rattle.std.specs.Prelude.{◌≡◌};
+ghost use Rattle.at_play.specs.Ends.{stop_line, text_fault_line};
+ghost use Rattle.at_play.specs.Printers.{Prints};
+ghost use Rattle.at_play.specs.Told.{IsUnread};
+
 use crate::printer::Printer;
-use crate::schedule::Fault;
+use at_schedule::Fault;
 use std::io;
 use std::io::Write;
 
 /// Why a play ends before its last event.
+#[derive(Clone, Copy)]
 pub(crate) enum Stop {
     /// There is no schedule.
     Text(Fault),
-    /// The event of this place, counted from 0, was not played.
-    Event { fault: at_world::Fault, at: u32 },
+    /// The event of this place, counted from 0, was not played. It stands in the line of this number, counted from 1; the
+    /// number is 0 before any line was read. `which` is the datagram that was to be delivered.
+    Event {
+        fault: at_world::Fault,
+        at: u32,
+        line: usize,
+        which: Option<u64>,
+    },
 }
 
 impl Stop {
-    /// There is no memory to read the event of this place.
-    pub(crate) fn no_memory(at: u32) -> Stop {
+    /// There is no memory to read the event of this place, in this line.
+    pub(crate) fn no_memory(at: u32, line: usize) -> Stop
+        ensures { IsUnread at result }
+    {
         Stop::Event {
             fault: at_world::Fault::NoMemory,
             at,
+            line,
+            which: None,
         }
     }
 }
 
 impl From<Fault> for Stop {
+    ghost from_gives = { λ _ stop. IsUnread 0 stop };
+
     fn from(fault: Fault) -> Stop {
         match fault {
-            Fault::NoMemory => Stop::no_memory(0),
+            Fault::NoMemory => Stop::no_memory(0, 0),
             _ => Stop::Text(fault),
         }
     }
 }
 
 impl From<io::Error> for Stop {
+    ghost from_gives = { λ _ stop. IsUnread 0 stop };
+
     fn from(error: io::Error) -> Stop {
         Stop::from(Fault::from(error))
     }
 }
 
 /// Prints why a play ended.
-pub(crate) fn write_stop<W: Write>(printer: &mut Printer<W>, stop: Stop) {
+pub(crate) fn write_stop<W: Write>(printer: &mut Printer<W>, stop: Stop)
+    ensures { Prints W.contents printer.old printer.new (stop_line stop) }
+{
     match stop {
         Stop::Text(fault) => write_fault(printer, fault),
-        Stop::Event { fault, at } => match fault {
+        Stop::Event { fault, at, .. } => match fault {
             at_world::Fault::Refused(refusal) => {
                 writeln!(printer, "stopped {} at {at}", refusal.number());
             }
@@ -50,10 +72,12 @@ pub(crate) fn write_stop<W: Write>(printer: &mut Printer<W>, stop: Stop) {
     }
 }
 
-fn write_fault<W: Write>(printer: &mut Printer<W>, fault: Fault) {
+fn write_fault<W: Write>(printer: &mut Printer<W>, fault: Fault)
+    ensures { Prints W.contents printer.old printer.new (text_fault_line fault) }
+{
     match fault {
-        Fault::Unreadable => printer.write_all(b"fault 0\n"),
-        Fault::Line(number) => writeln!(printer, "fault {number}"),
+        Fault::Unreadable(_) => printer.write_all(b"fault 0\n"),
+        Fault::Line { number, .. } => writeln!(printer, "fault {number}"),
         Fault::NoMemory => printer.write_all(b"stopped nomemory at 0\n"),
     }
 }

@@ -1,5 +1,5 @@
 //! Tests of retries up to the last, and of transaction numbers that are drawn again.
-use crate::shared::{compare, compare_end};
+use crate::shared::{compare, compare_end, told};
 use at_play::Status;
 use std::alloc::Global;
 use std::fmt::Write;
@@ -181,5 +181,23 @@ fn a_number_is_drawn_again_once_its_record_is_answered(rt: HostRuntime) -> Resul
     let end =
         "\n131074 begun 0\nsent 65537 7 0015FE93000A000A07058180034001000000000000\nstopped 72 at 131075\n";
     compare_end(&rt, rt.alloc(), &text, end, Status::Failed);
+    Ok(())
+}
+
+#[test]
+fn an_event_that_is_not_timely_is_told_with_its_line_and_its_reason(
+    rt: HostRuntime,
+) -> Result<(), Fail> {
+    let text = round(rt.alloc(), 0, "", ASKED)?;
+    let text = format!(in rt.alloc(); "{text}deliver 0 7\n")?;
+    let want = "atnode: rounds.txt:131077: event 131073 was not played: \
+        a number in datagram 0 has been drawn again since (refusal 72)\n";
+    let said = told(rt.alloc(), "rounds.txt", &text);
+    assert_eq!(rt; said.as_slice(), want.as_bytes());
+    let text = round(rt.alloc(), 1, WAITING, ASKED)?;
+    let want = "atnode: rounds.txt:131077: event 131073 was not played: \
+        a node still holds a record under the number that would be drawn (refusal 72)\n";
+    let said = told(rt.alloc(), "rounds.txt", &text);
+    assert_eq!(rt; said.as_slice(), want.as_bytes());
     Ok(())
 }

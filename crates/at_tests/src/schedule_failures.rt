@@ -1,6 +1,6 @@
 //! Plays that run out of memory, and plays whose writes fail.
 use crate::shared::{ZONE_LIST, ZONE_LIST_PLAYED, played};
-use at_play::{Printer, Status, play_text};
+use at_play::{Diagnostics, Printer, Status, play_text};
 use refusing::Refusing;
 use std::alloc::Global;
 use std::io;
@@ -150,7 +150,13 @@ fn write_refused(rt: &impl Abort, alloc: Global, left: u32) -> bool {
         bytes: Vec::new(alloc),
     };
     let mut printer = Printer::new(&mut writer);
-    let status = play_text(alloc, &mut ZONE_LIST.as_bytes(), &mut printer);
+    let mut told = Vec::new(alloc);
+    let status = play_text(
+        alloc,
+        &mut ZONE_LIST.as_bytes(),
+        &mut printer,
+        &mut Diagnostics::new("a.txt", &mut told),
+    );
     if writer.has_refused {
         compare_cut(rt, status, &writer.bytes);
     } else {

@@ -1,6 +1,6 @@
 //! Schedules that are read a second time from the beginning, as files are.
 use crate::shared::{ZONE_LIST, ZONE_LIST_PLAYED};
-use at_play::{Printer, Status, play_file};
+use at_play::{Diagnostics, Printer, Status, play_file};
 use refusing::Refusing;
 use std::alloc::{Allocator, Global};
 use std::io;
@@ -47,7 +47,13 @@ fn played<A: Allocator + Copy, F: Read + Seek>(
     file: &mut F,
 ) -> (Vec<u8>, Status) {
     let mut writer = Vec::new(global);
-    let status = play_file(alloc, file, &mut Printer::new(&mut writer));
+    let mut told = Vec::new(global);
+    let status = play_file(
+        alloc,
+        file,
+        &mut Printer::new(&mut writer),
+        &mut Diagnostics::new("a.txt", &mut told),
+    );
     (writer, status)
 }
 

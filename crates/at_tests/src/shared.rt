@@ -1,5 +1,5 @@
 //! What the files of schedules share: a schedule of the zone list, and comparisons of what a play prints.
-use at_play::{Printer, Status, play_text};
+use at_play::{Diagnostics, Printer, Status, play_text};
 use std::alloc::{AllocError, Allocator, Global};
 use std::process::Abort;
 
@@ -30,7 +30,13 @@ pub(crate) fn played<A: Allocator + Copy>(
 ) -> (Vec<u8>, Status) {
     let mut writer = Vec::new(global);
     let mut printer = Printer::new(&mut writer);
-    let status = play_text(alloc, &mut text.as_bytes(), &mut printer);
+    let mut told = Vec::new(global);
+    let status = play_text(
+        alloc,
+        &mut text.as_bytes(),
+        &mut printer,
+        &mut Diagnostics::new("a.txt", &mut told),
+    );
     (writer, status)
 }
 
@@ -63,4 +69,17 @@ pub(crate) fn push_times(text: &mut String, part: &str, count: u32) -> Result<()
         text.push_str(part)?;
     }
     Ok(())
+}
+
+// What a person is told of the play of a schedule, whose file is named so.
+pub(crate) fn told(alloc: Global, file: &str, text: &str) -> Vec<u8> {
+    let mut printed = Vec::new(alloc);
+    let mut told = Vec::new(alloc);
+    let _status = play_text(
+        alloc,
+        &mut text.as_bytes(),
+        &mut Printer::new(&mut printed),
+        &mut Diagnostics::new(file, &mut told),
+    );
+    told
 }

@@ -12,7 +12,7 @@ pub enum Request<'a> {
     Show(&'a str),
     /// Nothing that is known.
     Usage,
-    /// The words could not be read for want of memory.
+    /// The words could not be read, out of memory.
     NoMemory,
 }
 

@@ -2,37 +2,46 @@
 #![tactic(auto)]
 
 mod command_line;
+mod telling;
 #[cfg(test)]
 mod tests;
 
-use at_play::{Printer, Status, play_file, play_text, show_text};
+use at_play::{Diagnostics, Printer, Status, play_file, play_text, show_text};
 use command_line::{Request, request_of};
 use std::env::Env;
-use std::io::{BufWriter, ErrorKind, Read, Seek};
+use std::io::{BufWriter, ErrorKind, Read, Seek, Write};
 use std::process::ExitCode;
 use std::rt::Files;
 use std::{env, fs, io};
+use telling::{tell, tell_unopened, tell_usage};
 
 /// The status after a command line that asks for nothing.
 const USAGE: u8 = 2;
 
+/// What stands for the name of a file in what is told of the standard input.
+const STANDARD_INPUT: &str = "standard input";
+
 fn main(rt: HostRuntime) -> ExitCode {
-    let status = run(&rt).unwrap_or(Status::Failed.code());
+    let mut errors = rt.stderr();
+    let status = run(&rt, &mut errors).unwrap_or(Status::Failed.code());
     ExitCode::from(status)
 }
 
 // Does what the command line asks for, and tells the status to end with. An error is a write that failed.
-fn run<R: Env + Files + Input + Print + AllocGlobal>(rt: &R) -> io::Result<u8> {
+fn run<R: Env + Files + Input + Print + AllocGlobal, E: Write>(
+    rt: &R,
+    errors: &mut E,
+) -> io::Result<u8> {
     let words = match words(rt) {
         Ok(words) => words,
-        Err(error) if error.kind() == ErrorKind::OutOfMemory => return stop(rt),
-        Err(_) => return tell_usage(rt),
+        Err(error) if error.kind() == ErrorKind::OutOfMemory => return stop(rt, errors),
+        Err(_) => return usage(rt, errors),
     };
     match request_of(rt.alloc(), words.as_slice()) {
-        Request::Play(file) => play_named(rt, file),
-        Request::Show(word) => show_word(rt, word),
-        Request::Usage => tell_usage(rt),
-        Request::NoMemory => stop(rt),
+        Request::Play(file) => play_named(rt, file, errors),
+        Request::Show(word) => show_word(rt, word, errors),
+        Request::Usage => usage(rt, errors),
+        Request::NoMemory => stop(rt, errors),
     }
 }
 
@@ -40,25 +49,33 @@ fn words<R: Env + AllocGlobal>(rt: &R) -> io::Result<Vec<String>> {
     Ok(env::args(rt)?.collect(rt.alloc())?)
 }
 
-fn tell_usage(rt: &impl Print) -> io::Result<u8> {
+fn usage<E: Write>(rt: &impl Print, errors: &mut E) -> io::Result<u8> {
+    tell_usage(errors);
     rt.println("usage")?;
     Ok(USAGE)
 }
 
 // There is no memory for the first event.
-fn stop(rt: &impl Print) -> io::Result<u8> {
+fn stop<E: Write>(rt: &impl Print, errors: &mut E) -> io::Result<u8> {
+    tell(errors, "out of memory");
     rt.println("stopped nomemory at 0")?;
     Ok(Status::Failed.code())
 }
 
 // Plays a file, or the standard input for `-`.
-fn play_named<R: Files + Input + Print + AllocGlobal>(rt: &R, file: &str) -> io::Result<u8> {
+fn play_named<R: Files + Input + Print + AllocGlobal, E: Write>(
+    rt: &R,
+    file: &str,
+    errors: &mut E,
+) -> io::Result<u8> {
     if file == "-" {
-        return play_from(rt, &mut rt.reader());
+        tell(errors, "the schedule is read from standard input");
+        return play_from(rt, STANDARD_INPUT, &mut rt.reader(), errors);
     }
     match fs::open(rt, file) {
-        Ok(mut file) => play_opened(rt, &mut file),
-        Err(_) => {
+        Ok(mut opened) => play_opened(rt, file, &mut opened, errors),
+        Err(error) => {
+            tell_unopened(rt.alloc(), errors, file, error);
             rt.println("fault 0")?;
             Ok(Status::Failed.code())
         }
@@ -66,31 +83,51 @@ fn play_named<R: Files + Input + Print + AllocGlobal>(rt: &R, file: &str) -> io:
 }
 
 // A pipe has no beginning to go back to, and is read whole.
-fn play_opened<R: Print + AllocGlobal, F: Read + Seek>(rt: &R, file: &mut F) -> io::Result<u8> {
+fn play_opened<R: Print + AllocGlobal, F: Read + Seek, E: Write>(
+    rt: &R,
+    name: &str,
+    file: &mut F,
+    errors: &mut E,
+) -> io::Result<u8> {
     if file.rewind().is_err() {
-        return play_from(rt, file);
+        return play_from(rt, name, file, errors);
     }
     let mut printer = match BufWriter::new(rt.alloc(), io::writer(rt)) {
         Ok(writer) => Printer::new(writer),
-        Err(_) => return stop(rt),
+        Err(_) => return stop(rt, errors),
     };
-    Ok(play_file(rt.alloc(), file, &mut printer).code())
+    let mut diagnostics = Diagnostics::new(name, errors);
+    Ok(play_file(rt.alloc(), file, &mut printer, &mut diagnostics).code())
 }
 
-fn play_from<R: Print + AllocGlobal, I: Read>(rt: &R, reader: &mut I) -> io::Result<u8> {
+fn play_from<R: Print + AllocGlobal, I: Read, E: Write>(
+    rt: &R,
+    name: &str,
+    reader: &mut I,
+    errors: &mut E,
+) -> io::Result<u8> {
     let mut printer = match BufWriter::new(rt.alloc(), io::writer(rt)) {
         Ok(writer) => Printer::new(writer),
-        Err(_) => return stop(rt),
+        Err(_) => return stop(rt, errors),
     };
-    Ok(play_text(rt.alloc(), reader, &mut printer).code())
+    let mut diagnostics = Diagnostics::new(name, errors);
+    Ok(play_text(rt.alloc(), reader, &mut printer, &mut diagnostics).code())
 }
 
 // Shows the datagram that a word spells in hexadecimal digits.
-fn show_word<R: Print + AllocGlobal>(rt: &R, word: &str) -> io::Result<u8> {
+fn show_word<R: Print + AllocGlobal, E: Write>(
+    rt: &R,
+    word: &str,
+    errors: &mut E,
+) -> io::Result<u8> {
+    if word == "-" {
+        tell(errors, "`-` stands for no bytes");
+    }
     let mut printer = match BufWriter::new(rt.alloc(), io::writer(rt)) {
         Ok(writer) => Printer::new(writer),
-        Err(_) => return stop(rt),
+        Err(_) => return stop(rt, errors),
     };
     let mut room = Vec::new(rt.alloc());
-    Ok(show_text(word.as_bytes(), &mut room, &mut printer).code())
+    let mut diagnostics = Diagnostics::new(word, errors);
+    Ok(show_text(word.as_bytes(), &mut room, &mut printer, &mut diagnostics).code())
 }

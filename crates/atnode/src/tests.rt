@@ -1,5 +1,8 @@
-//! What command lines ask for.
+//! What command lines ask for, and what the program tells of itself.
 use crate::command_line::{Request, request_of};
+use crate::telling::{tell, tell_unopened, tell_usage};
+use std::io;
+use std::io::ErrorKind;
 use std::test::Fail;
 
 // Words after the program's name, and what they ask for.
@@ -53,6 +56,55 @@ fn a_play_or_a_show_of_one_word_is_all_that_can_be_asked_for(rt: HostRuntime) ->
             *want,
             "at {line:?}"
         );
+    }
+    Ok(())
+}
+
+#[test]
+fn a_sentence_is_told_as_one_line(rt: HostRuntime) {
+    let mut told = Vec::new(rt.alloc());
+    tell(&mut told, "`-` stands for no bytes");
+    assert_eq!(rt;
+        told.as_slice(),
+        b"atnode: `-` stands for no bytes\n".as_slice()
+    );
+}
+
+#[test]
+fn a_file_that_can_not_be_opened_is_told_with_the_reason(rt: HostRuntime) {
+    let mut told = Vec::new(rt.alloc());
+    tell_unopened(
+        rt.alloc(),
+        &mut told,
+        "zones.txt",
+        io::Error::from_raw_os_error(2),
+    );
+    let want = b"atnode: zones.txt: can't be opened: No such file or directory\n";
+    assert_eq!(rt; told.as_slice(), want.as_slice());
+    told.clear();
+    let error = io::Error::from(ErrorKind::InvalidInput);
+    tell_unopened(rt.alloc(), &mut told, "zones.txt", error);
+    let want = b"atnode: zones.txt: can't be opened: invalid input parameter\n";
+    assert_eq!(rt; told.as_slice(), want.as_slice());
+}
+
+#[test]
+fn the_usage_is_a_page_with_each_command_an_example_and_the_version(
+    rt: HostRuntime,
+) -> Result<(), Fail> {
+    let mut told = Vec::new(rt.alloc());
+    tell_usage(&mut told);
+    let page = str::from_utf8(told.as_slice()).map_err(|_| "no text")?;
+    for part in [
+        "atnode 0.1 ",
+        "\n  atnode play FILE   ",
+        "\n  atnode show HEX    ",
+        "\nFILE is ",
+        "\nHEX is ",
+        "\nFor example:\n",
+        "\n  atnode show 00156711000A000A01050680034001000008000001\n",
+    ] {
+        assert!(rt; page.contains(part), "{part:?}");
     }
     Ok(())
 }

@@ -1,6 +1,6 @@
 //! At which line a schedule is at fault.
-use crate::schedule::read_setup;
-use crate::{Printer, Status, play_text};
+use crate::{Diagnostics, Printer, Status, play_text};
+use at_schedule::read_setup;
 use std::alloc::{AllocError, Global};
 use std::fmt::Write;
 use std::test::Fail;
@@ -127,7 +127,13 @@ pub(super) fn is_schedule(alloc: Global, mut text: &[u8]) -> bool {
 pub(super) fn has_fault(alloc: Global, text: &str, line: u32) -> Result<bool, AllocError> {
     let mut reader = text.as_bytes();
     let mut writer = Vec::new(alloc);
-    let status = play_text(alloc, &mut reader, &mut Printer::new(&mut writer));
+    let mut told = Vec::new(alloc);
+    let status = play_text(
+        alloc,
+        &mut reader,
+        &mut Printer::new(&mut writer),
+        &mut Diagnostics::new("a.txt", &mut told),
+    );
     let fault = format!(in alloc; "fault {line}\n")?;
     Ok(status == Status::Failed && writer.as_slice() == fault.as_bytes())
 }

@@ -1,10 +1,10 @@
 //! How reports print.
 use crate::print::{write_event, write_text};
-use crate::word::text;
 use crate::{Printer, Status};
 use at_atp::{Key, Packet};
 use at_ddp::{Address, Bytes, Listed, Pascal};
 use at_node::Report;
+use at_schedule::read_setup;
 use std::alloc::{AllocError, Global};
 use std::io;
 use std::io::{ErrorKind, Write};
@@ -199,9 +199,12 @@ fn a_write_that_fails_is_told_and_none_follows_it(rt: HostRuntime) -> Result<(),
 fn a_printed_name_is_read_as_it_was(rt: HostRuntime) -> Result<(), Fail> {
     for byte in 0..=255u8 {
         let name = Pascal::new(&[b'A', byte, b'4', b'1']).ok_or("a name")?;
-        let mut word = Vec::new(rt.alloc());
-        write_text(&mut Printer::new(&mut word), name.bytes());
-        assert_eq!(rt; text(word.as_slice()), Some(name), "with byte {byte}");
+        let mut text = Vec::new(rt.alloc());
+        text.extend_from_slice(b"net 1\nnode 1 router zone ")?;
+        write_text(&mut Printer::new(&mut text), name.bytes());
+        let setup = read_setup(rt.alloc(), &mut text.as_slice()).map_err(|_| "a fault")?;
+        let node = setup.nodes.as_slice().first().ok_or("no node")?;
+        assert_eq!(rt; &node.zone, &Some(name), "with byte {byte}");
     }
     Ok(())
 }

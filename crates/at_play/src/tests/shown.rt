@@ -1,12 +1,12 @@
 //! What is shown of datagrams in hexadecimal digits.
 use super::streams::Full;
-use crate::{Printer, Status, show_text};
+use crate::{Diagnostics, Printer, Status, show_text};
 use at_ddp::{Address, encode};
 use refusing::Refusing;
 use std::alloc::{Allocator, Global};
 use std::test::Fail;
 
-// The words of `examples/datagrams.txt`, and what is shown of each.
+// The words of `examples/datagrams.txt` that are one word, and what is shown of each.
 static SHOWN: &str = "show 00156711000A000A01050680034001000008000001
 ddp length 21 hops 0 sum 6711 from 10.5.128 to 10.1.6 type 3 rest 0
 atp request mask 01 xo 0 timer 0 id 0 user 08000001 data -
@@ -156,7 +156,13 @@ fault 1
 fn shown<A: Allocator>(alloc: A, global: Global, word: &str) -> (Vec<u8>, Status) {
     let mut writer = Vec::new(global);
     let mut room = Vec::new(alloc);
-    let status = show_text(word.as_bytes(), &mut room, &mut Printer::new(&mut writer));
+    let mut told = Vec::new(global);
+    let status = show_text(
+        word.as_bytes(),
+        &mut room,
+        &mut Printer::new(&mut writer),
+        &mut Diagnostics::new("", &mut told),
+    );
     (writer, status)
 }
 
@@ -218,7 +224,13 @@ fn a_write_or_a_flush_that_fails_ends_the_show(rt: HostRuntime) {
         for word in ["000DFFFF000000000000000000", "00", "0"] {
             let mut printer = Printer::new(Full { takes_writes });
             let mut room = Vec::new(rt.alloc());
-            let status = show_text(word.as_bytes(), &mut room, &mut printer);
+            let mut told = Vec::new(rt.alloc());
+            let status = show_text(
+                word.as_bytes(),
+                &mut room,
+                &mut printer,
+                &mut Diagnostics::new("", &mut told),
+            );
             assert_eq!(rt; status, Status::Failed, "at {word:?}");
         }
     }

@@ -1,6 +1,6 @@
 //! What comes of a read, a write or a request for memory that fails.
-use crate::schedule::{Fault, read_setup};
-use crate::{Printer, Status, play_text};
+use crate::{Diagnostics, Printer, Status, play_text};
+use at_schedule::{Fault, read_setup};
 use refusing::Refusing;
 use std::alloc::{AllocError, Global};
 use std::io;
@@ -37,10 +37,17 @@ impl Read for Slow<'_> {
     }
 }
 
-// What is printed, where the play fails.
+// What is printed, if the play fails.
 fn printed<R: Read>(alloc: Global, reader: &mut R) -> Option<Vec<u8>> {
     let mut writer = Vec::new(alloc);
-    match play_text(alloc, reader, &mut Printer::new(&mut writer)) {
+    let mut told = Vec::new(alloc);
+    let status = play_text(
+        alloc,
+        reader,
+        &mut Printer::new(&mut writer),
+        &mut Diagnostics::new("a.txt", &mut told),
+    );
+    match status {
         Status::Failed => Some(writer),
         Status::Done => None,
     }
@@ -112,7 +119,13 @@ fn a_write_or_a_flush_that_fails_ends_the_play(rt: HostRuntime) {
     for takes_writes in [false, true] {
         for text in ["fault", "net 1", "net 1\ncall 5 zones\n"] {
             let mut printer = Printer::new(Full { takes_writes });
-            let status = play_text(rt.alloc(), &mut text.as_bytes(), &mut printer);
+            let mut told = Vec::new(rt.alloc());
+            let status = play_text(
+                rt.alloc(),
+                &mut text.as_bytes(),
+                &mut printer,
+                &mut Diagnostics::new("a.txt", &mut told),
+            );
             assert_eq!(rt; status, Status::Failed, "at {text:?}");
         }
     }
@@ -147,7 +160,13 @@ fn no_memory_for_the_bytes_stops_before_the_first_event(rt: HostRuntime) -> Resu
     let heap = Refusing::new(rt.alloc(), 0);
     let mut writer = Vec::new(rt.alloc());
     let mut printer = Printer::new(&mut writer);
-    let status = play_text(&heap, &mut b"fault".as_slice(), &mut printer);
+    let mut told = Vec::new(rt.alloc());
+    let status = play_text(
+        &heap,
+        &mut b"fault".as_slice(),
+        &mut printer,
+        &mut Diagnostics::new("a.txt", &mut told),
+    );
     assert_eq!(rt; status, Status::Failed);
     assert_eq!(rt; writer.as_slice(), b"stopped nomemory at 0\n".as_slice());
     Ok(())

@@ -1,6 +1,6 @@
 use Rattle.std.proofs.Common.{arith, ap, ◌≡◌, ◌∙◌, Err, sym, subst, vec_capacity, length, ◌<◌, ◌/◌}
 use Rattle.at_play.specs.Shown.{IsSound}
-use Rattle.at_play.specs.declared.hex_word.HexFault.TheVariants.{NoHex, NoMemory}
+use Rattle.at_schedule.specs.declared.hex_word.HexFault.TheVariants.{NoHex, NoMemory}
 use Rattle.at_play.specs.HexFaults.{fault_line}
 use Rattle.at_play.specs.Lines.{BytesText, Spelled}
 use Rattle.at_play.proofs.PrintLemmas.{Prints-last, fault_text}

@@ -1,0 +1,74 @@
+-- How a play ends, and all that is printed of it.
+use Rattle.std.specs.Prelude.{◌≡◌, ◌⊎◌, ℕ, List, [], ◌++◌, Option, Some, Result, Ok, Err, IfSome, IsErr, IsOk}
+use Rattle.std.specs.Prelude.{true, codes}
+use Rattle.std.specs.Fmt.{decimal}
+use Rattle.std.specs.Io.KnownBytes.{Keeps}
+use Rattle.at_world.specs.ExactlyOnce.{AllLive, RunsOnce, onto}
+use Rattle.at_world.specs.Machine.{Machine, Run, opening_machine}
+use Rattle.at_world.specs.Refusals.{number_of}
+use Rattle.at_world.specs.Setups.{is_lawful}
+use Rattle.at_world.specs.declared.event.Fault.TheVariants as fault
+use Rattle.at_world.specs.declared.setup.Setup.{Setup}
+use Rattle.at_play.specs.Lines.{no_memory_line}
+use Rattle.at_play.specs.Printers.{Prints}
+use Rattle.at_play.specs.Told.{IsWhole, Played}
+use Rattle.at_play.specs.declared.printer.Printer.{Printer}
+use Rattle.at_play.specs.declared.program.Status.{Status}
+use Rattle.at_play.specs.declared.program.Status.TheVariants.{Done}
+use Rattle.at_schedule.specs.declared.fault.Fault.{Fault}
+use Rattle.at_schedule.specs.declared.fault.Fault.TheVariants as text
+use Rattle.at_play.specs.declared.stop.Stop.{Stop}
+use Rattle.at_play.specs.declared.stop.Stop.TheVariants as stop
+
+-- there is no schedule
+abbrev pub text_fault_line : Fault → List ℕ
+text_fault_line (text.Unreadable why) = codes "fault 0\n"
+text_fault_line (text.Line number rule) = codes "fault " ++ (decimal number ++ codes "\n")
+text_fault_line text.NoMemory = no_memory_line
+
+-- why a play ended before its last event
+abbrev pub stop_line : Stop → List ℕ
+stop_line (stop.Text f) = text_fault_line f
+stop_line (stop.Event (fault.Refused r) at line which) =
+    codes "stopped " ++ (decimal (number_of r) ++ (codes " at " ++ (decimal at ++ codes "\n")))
+stop_line (stop.Event fault.NoMemory at line which) = codes "stopped nomemory at " ++ (decimal at ++ codes "\n")
+
+abbrev pub end_text : Result (Unit {0}) Stop → List ℕ
+end_text (Ok u) = []
+end_text (Err s) = stop_line s
+
+-- the setup is lawful, the reports of a play are a run of its machine, and exactly-once requests run once
+pub record Obeys {A : Type 0} (setup : Setup A) (p : Played setup) : Type 0 where
+  pub lawful : is_lawful setup ≡ true
+  pub run : (m : Machine) × Run (opening_machine setup) p.events p.reports m
+  pub once : AllLive setup.net (p.world).sent (onto [] p.events p.reports)
+      → RunsOnce setup.net (p.world).sent (onto [] p.events p.reports)
+
+-- What a schedule's play prints of its events: nothing if there is no schedule, and else what is told of those that
+-- were played. These are all of them unless it stopped, which is said if the schedule's text is known.
+abbrev pub PlayText : Type 0 → Option (List ℕ) → Result (Unit {0}) Stop → List ℕ → Type 0
+PlayText A known result text =
+    (IsErr result × (text ≡ []))
+    ⊎ ((setup : Setup A) × (p : Played setup) × Obeys setup p × (text ≡ p.text) × IsWhole A known result p)
+
+-- a file that was sent back to its beginning
+pub record Rewound {F : Type 0} (position : F → Option ℕ) (bytes : F → Option (List ℕ)) : Type 0 where
+  pub before : F
+  pub file : F
+  pub moved : IfSome (position before) (λ at. position file ≡ Some 0)
+  pub kept : Keeps (bytes before) (bytes file)
+
+-- the same of a file, whose text is what is read of it from its beginning on
+abbrev pub FileText : Type 0 → {F : Type 0} → (F → Option (List ℕ)) → (F → Option ℕ) → (F → Option (List ℕ))
+    → Result (Unit {0}) Stop → List ℕ → Type 0
+FileText A remaining position bytes result text =
+    (IsErr result × (text ≡ [])) ⊎ ((again : Rewound position bytes) × PlayText A (remaining again.file) result text)
+
+-- how a play ended, and what is printed of it: its events, and why it stopped if it did
+pub record Ended {W : Type 0} (IsText : Result (Unit {0}) Stop → List ℕ → Type 0) (contents : W → Option (List ℕ))
+    (status : Status) (old new : Printer W) : Type 0 where
+  pub result : Result (Unit {0}) Stop
+  pub text : List ℕ
+  pub plays : IsText result text
+  pub done : status ≡ Done → IsOk result
+  pub printed : Prints contents old new (text ++ end_text result)

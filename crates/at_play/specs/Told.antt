@@ -1,0 +1,78 @@
+-- What is printed of a play: each event that was played, in its order.
+use Rattle.std.specs.Prelude.{◌≡◌, ℕ, Bool, true, false, List, [], ◌∷◌, ◌++◌, length, IfSome, Option, Result, Ok, Err}
+use Rattle.at_node.specs.declared.event.Report.{Report}
+use Rattle.at_world.specs.declared.event.Event.{Event}
+use Rattle.at_world.specs.declared.event.Fault.{Fault}
+use Rattle.at_world.specs.declared.event.Fault.TheVariants as fault
+use Rattle.at_world.specs.declared.setup.Setup.{Setup}
+use Rattle.at_world.specs.Plays.{opening_world}
+use Rattle.at_world.specs.Worlds.{WorldState, IsPlayable, IsFault, Plays, Refuses}
+use Rattle.at_play.specs.Printers.{Prints}
+use Rattle.at_play.specs.Reports.{event_text}
+use Rattle.at_schedule.specs.Says.{SayAll, Says}
+use Rattle.at_schedule.specs.Schedules.{event_lines}
+use Rattle.at_play.specs.declared.printer.Printer.{Printer}
+use Rattle.at_play.specs.declared.stop.Stop.{Stop}
+use Rattle.at_play.specs.declared.stop.Stop.TheVariants as stop
+
+-- From the first world these events, none of them refused, give these reports and the last world. This is printed of
+-- them.
+abbrev pub Told : {A : Type 0} → WorldState → List (Event A) → List (Report A) → WorldState → List ℕ → Type 0
+Told w [] [] w' text = (w' ≡ w) × (text ≡ [])
+Told w (e ∷ es) (r ∷ rs) w' text =
+    (mid : WorldState) × (rest : List ℕ) × IsPlayable w e × Plays w e r mid × Told mid es rs w' rest
+    × (text ≡ event_text w.events r mid.sent (length w.sent) ++ rest)
+Told w [] (r ∷ rs) w' text = ⊥
+Told w (e ∷ es) [] w' text = ⊥
+
+-- an event was played, and its text is printed
+pub record Tells {A W : Type 0} (contents : W → Option (List ℕ)) (w : WorldState) (e : Event A) (w' : WorldState)
+    (old new : Printer W) : Type 0 where
+  pub report : Report A
+  pub playable : IsPlayable w e
+  pub plays : Plays w e report w'
+  pub printed : Prints contents old new (event_text w.events report w'.sent (length w.sent))
+
+-- a line that is no event changes nothing, and the event that any other says is played and printed
+abbrev pub TellsLine : (A : Type 0) {W : Type 0} → (W → Option (List ℕ)) → Bool → List ℕ → WorldState → WorldState
+    → Printer W → Printer W → Type 0
+TellsLine A contents true line w w' old new = (e : Event A) × Says line e × Tells contents w e w' old new
+TellsLine A contents false line w w' old new = (w' ≡ w) × (new ≡ old)
+
+-- an event was not played, and this is why
+pub record IsStopped {A : Type 0} (w : WorldState) (e : Event A) (w' : WorldState) (s : Stop) : Type 0 where
+  pub fault : Fault
+  pub line : ℕ
+  pub which : Option ℕ
+  pub says : s ≡ stop.Event fault w.events line which
+  pub faulty : IsFault w e fault w'
+
+-- events that were played in their order from the opening world on, one report each, and what is printed of them
+pub record Played {A : Type 0} (setup : Setup A) : Type 0 where
+  pub events : List (Event A)
+  pub reports : List (Report A)
+  pub world : WorldState
+  pub text : List ℕ
+  pub told : Told (opening_world setup) events reports world text
+
+-- the event of this place could not be read
+abbrev pub IsUnread : ℕ → Stop → Type 0
+IsUnread at (stop.Text f) = Unit {0}
+IsUnread at (stop.Event fault.NoMemory n line which) = n ≡ at
+IsUnread at (stop.Event (fault.Refused r) n line which) = ⊥
+
+-- why a play stopped in a world: the next event is refused so, or could not be read, or memory was wanted
+abbrev pub StopsIn : Type 0 → WorldState → Stop → Type 0
+StopsIn A w (stop.Text f) = Unit {0}
+StopsIn A w (stop.Event fault.NoMemory at line which) = at ≡ w.events
+StopsIn A w (stop.Event (fault.Refused r) at line which) = (at ≡ w.events) × ((e : Event A) × Refuses w e r)
+
+-- the first event lines of a schedule say these events
+abbrev pub BeginsWith : {A : Type 0} → List ℕ → List (Event A) → Type 0
+BeginsWith text es = (said later : List (List ℕ)) × (event_lines text ≡ said ++ later) × SayAll said es
+
+-- The events are what the event lines say, if the schedule's text is known: what all of them say, or the first ones if
+-- the play stopped.
+abbrev pub IsWhole : (A : Type 0) {setup : Setup A} → Option (List ℕ) → Result (Unit {0}) Stop → Played setup → Type 0
+IsWhole A known (Ok u) p = IfSome known (λ text. SayAll (event_lines text) p.events)
+IsWhole A known (Err s) p = StopsIn A p.world s × IfSome known (λ text. BeginsWith text p.events)

@@ -1,0 +1,97 @@
+//! What a person is told, a line for each reason, as on standard error.
+ghost use Rattle.std.specs.Prelude.{◌≡◌};
+
+use crate::hex_reason::HexReason;
+use crate::printer::Printer;
+use crate::stop::Stop;
+use at_schedule::Fault;
+use at_world::Refusal;
+use std::fmt::Display;
+use std::io::Write;
+
+/// A writer of reasons, and the name of the file that they are about.
+#[derive(Drop)]
+pub struct Diagnostics<'a, W> {
+    file: &'a str,
+    printer: Printer<W>,
+}
+
+impl<'a, W: Write> Diagnostics<'a, W> {
+    /// Reasons about the file of this name are written to the writer.
+    pub fn new(file: &'a str, writer: W) -> Diagnostics<'a, W>
+        ensures { result.file.now ≡ file.now }
+    {
+        Diagnostics {
+            file,
+            printer: Printer::new(writer),
+        }
+    }
+
+    /// Tells why a play ended, with the file's name, the number of the line and the rule.
+    pub(crate) fn tell_stop(&mut self, stop: Stop) {
+        let file = self.file;
+        match stop {
+            Stop::Text(Fault::Line { number, rule }) => {
+                writeln!(self.printer, "atnode: {file}:{number}: {rule}");
+            }
+            Stop::Text(fault) => writeln!(self.printer, "atnode: {file}: {fault}"),
+            Stop::Event { line: 0, fault, .. } => {
+                writeln!(self.printer, "atnode: {file}: {fault}");
+            }
+            Stop::Event {
+                fault,
+                at,
+                line,
+                which,
+            } => {
+                write!(
+                    self.printer,
+                    "atnode: {file}:{line}: event {at} was not played: "
+                );
+                self.tell_fault(fault, which);
+            }
+        }
+    }
+
+    // Why an event was not played. Which number is untimely depends on whether it is a delivery.
+    fn tell_fault(&mut self, fault: at_world::Fault, which: Option<u64>) {
+        match (fault, which) {
+            (at_world::Fault::Refused(Refusal::Untimely), Some(which)) => writeln!(
+                self.printer,
+                "a number in datagram {which} has been drawn again since (refusal 72)"
+            ),
+            (at_world::Fault::Refused(Refusal::Untimely), None) => writeln!(
+                self.printer,
+                "a node still holds a record under the number that would be drawn (refusal 72)"
+            ),
+            (at_world::Fault::Refused(refusal), _) => {
+                writeln!(self.printer, "{refusal} (refusal {})", refusal.number());
+            }
+            (at_world::Fault::NoMemory, _) => writeln!(self.printer, "out of memory"),
+        }
+    }
+
+    /// Tells that some of what was printed could not be written, if so.
+    pub(crate) fn tell_writes<P: Write>(&mut self, printed: &Printer<P>) {
+        if printed.has_failed() {
+            let file = self.file;
+            writeln!(
+                self.printer,
+                "atnode: {file}: standard output could not be written to its end"
+            );
+        }
+    }
+
+    /// Tells why a word is no hexadecimal text.
+    pub(crate) fn tell_word(&mut self, reason: HexReason) {
+        writeln!(self.printer, "atnode: {reason}");
+    }
+
+    /// Tells which rule a datagram or its packet breaks, with the number of the refusal if it has one.
+    pub(crate) fn tell_refusal<F: Display + Drop>(&mut self, fault: F, number: Option<u8>) {
+        match number {
+            Some(number) => writeln!(self.printer, "atnode: {fault} (refusal {number})"),
+            None => writeln!(self.printer, "atnode: {fault}"),
+        }
+    }
+}

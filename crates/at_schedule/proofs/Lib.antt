@@ -1,0 +1,3 @@
+mod InputLemmas
+mod NumberLemmas
+mod WordLemmas

@@ -1,0 +1,4 @@
+pub mod Hexes
+pub mod Says
+pub mod Schedules
+pub mod Words

@@ -1,0 +1,50 @@
+//! The bytes of a schedule.
+ghost use Rattle.std.specs.Prelude.{◌≡◌, ◌≤◌, length, IfOk, IfSome, OnOk, vec_len};
+
+use crate::fault::{Fault, Unreadable};
+use std::alloc::Allocator;
+use std::io::{ErrorKind, Read};
+
+/// How many bytes a schedule has at most.
+pub const MAX_LEN: usize = 67_108_864;
+
+/// Reads to the end.
+pub fn read_bytes<A: Allocator, R: Read>(alloc: A, reader: &mut R) -> Result<Vec<u8, A>, Fault>
+    ensures fits { IfOk result (λ bytes. vec_len bytes ≤ MAX_LEN) }
+    // Said if it is known what the reader holds.
+    ensures whole { IfOk result (λ bytes. IfSome (R.remaining reader.old) (λ all. bytes.items ≡ all)) }
+{
+    let mut bytes = Vec::new(alloc);
+    let mut part = [0; 4096];
+    for _ in 0..u64::MAX {
+        match reader.read(&mut part) {
+            Ok(0) => return Ok(bytes),
+            Ok(len) if len > MAX_LEN - bytes.len() => {
+                return Err(Fault::Unreadable(Unreadable::TooLong));
+            }
+            Ok(len) => bytes.extend_from_slice(&part[..len])?,
+            Err(error) if error.kind() == ErrorKind::Interrupted => {}
+            Err(error) => return Err(Fault::Unreadable(Unreadable::from(error))),
+        }
+    }
+    Err(Fault::Unreadable(Unreadable::Failed))
+}
+
+/// Reads to the end, and tells whether this is too much for a schedule.
+pub fn check_length<R: Read>(reader: &mut R) -> Result<(), Fault>
+    // Said if it is known what the reader holds.
+    ensures { OnOk result (IfSome (R.remaining reader.old) (λ all. length all ≤ MAX_LEN)) }
+{
+    let mut left = MAX_LEN;
+    let mut part = [0; 4096];
+    for _ in 0..u64::MAX {
+        match reader.read(&mut part) {
+            Ok(0) => return Ok(()),
+            Ok(len) if len > left => return Err(Fault::Unreadable(Unreadable::TooLong)),
+            Ok(len) => left -= len,
+            Err(error) if error.kind() == ErrorKind::Interrupted => {}
+            Err(error) => return Err(Fault::Unreadable(Unreadable::from(error))),
+        }
+    }
+    Err(Fault::Unreadable(Unreadable::Failed))
+}

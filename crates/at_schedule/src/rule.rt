@@ -1,0 +1,97 @@
+//! The rules on the lines of a schedule, each as the sentence of a line that breaks it.
+use thiserror::Error;
+
+/// A rule on the lines of a schedule. Its text tells a person which rule a line breaks.
+#[derive(Clone, Copy, Debug, PartialEq, Eq, Error)]
+pub enum Rule {
+    /// Lines end with a line feed.
+    #[error("the line ends with a carriage return; lines end with a line feed alone")]
+    CarriageReturn,
+    /// Words are parted by spaces.
+    #[error("the line has a tab; words are parted by spaces")]
+    Tab,
+    /// An empty line has no bytes.
+    #[error("the line has spaces alone; an empty line has no bytes at all")]
+    SpacesAlone,
+    /// The first word says what a line is.
+    #[error("a line begins with `net`, `node`, `zones`, `call`, `deliver`, `timer` or `#`")]
+    FirstWord,
+    /// `net N`
+    #[error("`net` wants a network's number, 1 to 65535, as in \"net 10\"")]
+    Net,
+    /// `node N [router] [zone TEXT] [rooms R S]`
+    #[error("`node` wants a number, 1 to 254, then `router`, `zone` and `rooms` if needed, as in \"node 1 router zone Lab\"")]
+    Node,
+    /// `zones TEXT ..`
+    #[error("`zones` wants names of 1 to 32 bytes, as in \"zones Lab Office\"")]
+    Zones,
+    /// `call N CALL ..`
+    #[error("`call` wants a node and `zones`, `ask` or `answer`, as in \"call 5 zones\"")]
+    Call,
+    /// `call N zones`
+    #[error("`zones` wants nothing after it in a call, as in \"call 5 zones\"")]
+    CallZones,
+    /// `call N ask NODE SOCKET USER DATA WANTED alo|xo RETRIES`
+    #[error("`ask` wants a node, a socket, user bytes, data, 1 to 8 packets, `alo` or `xo`, and retries, as in \"call 5 ask 7 129 00000000 AA 1 alo 3\"")]
+    Ask,
+    /// `call N answer NODE SOCKET T USER:DATA ..`
+    #[error("`answer` wants a node, a socket, a transaction's number and packets, as in \"call 7 answer 5 128 0 00000000:BB\"")]
+    Answer,
+    /// Pairs of hexadecimal digits, or `-`.
+    #[error("data is pairs of hexadecimal digits, or `-` for no bytes")]
+    Data,
+    /// `deliver K N`
+    #[error("`deliver` wants a datagram's number and a node, as in \"deliver 0 1\"")]
+    Deliver,
+    /// `timer N TIMER ..`
+    #[error("`timer` wants a node and `retry` or `release`, as in \"timer 5 retry 0\"")]
+    Timer,
+    /// `timer N retry T`
+    #[error("`retry` wants a transaction's number, 0 to 65535, as in \"timer 5 retry 0\"")]
+    Retry,
+    /// `timer N release OWN NODE SOCKET T`
+    #[error("`release` wants socket 6 or 129, and a request's node, socket and number, as in \"timer 7 release 129 5 128 0\"")]
+    Release,
+    /// `net` comes before all other lines.
+    #[error("`net` comes first, as in \"net 10\"")]
+    NetFirst,
+    /// `net` stands once.
+    #[error("`net` stands once")]
+    NetOnce,
+    /// Nodes come before the zones and the events.
+    #[error("a `node` line comes before `zones` and before the events")]
+    NodesFirst,
+    /// Numbers of nodes differ.
+    #[error("a node of this number stands already")]
+    NodeOnce,
+    /// At most 16 nodes stand.
+    #[error("a cable has at most 16 nodes")]
+    SixteenNodes,
+    /// All nodes are in zones, or none is.
+    #[error("either all nodes have a zone or none has")]
+    AllInZones,
+    /// One node may be a router.
+    #[error("a cable has at most one router")]
+    OneRouter,
+    /// A router is in a zone.
+    #[error("a router has a zone, as in \"node 1 router zone Lab\"")]
+    RouterInZone,
+    /// Nodes in zones have a router among them.
+    #[error("the nodes have zones, so one of the 16 is the router")]
+    RouterMissing,
+    /// `zones` stands once, after the nodes and before the events.
+    #[error("`zones` stands once, after the nodes and before the events")]
+    ZonesOnce,
+    /// `zones` wants a router.
+    #[error("`zones` wants a router among the nodes, as in \"node 1 router zone Lab\"")]
+    ZonesOfRouter,
+    /// A zone table fits one page.
+    #[error("the names of `zones` have at most 578 bytes, a byte for each one's length included")]
+    ZonesFitPage,
+    /// A schedule has a network.
+    #[error("the schedule ends without a `net` line")]
+    NoNet,
+    /// A schedule whose nodes are in zones has a router.
+    #[error("the schedule ends without a router, though its nodes have zones")]
+    NoRouter,
+}

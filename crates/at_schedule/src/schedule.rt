@@ -1,0 +1,40 @@
+//! The lines of a schedule, and the setup that they begin with.
+ghost use Rattle.std.specs.Prelude.{◌≡◌, true, IfOk};
+ghost use Rattle.std.specs.Io.Buffered.{reader_remaining};
+ghost use Rattle.std.specs.Io.Iter.{split_byte, split_known_bytes};
+ghost use Rattle.at_world.specs.Setups.{is_lawful};
+
+use crate::draft::Draft;
+use crate::fault::Fault;
+use at_world::Setup;
+use std::alloc::Allocator;
+use std::io;
+use std::io::{BufRead, BufReader, Read, Split};
+
+/// Reads the lines of a schedule, all of which have to be lawful, and gives the setup that they begin with.
+pub fn read_setup<A: Allocator + Copy, R: Read>(alloc: A, reader: &mut R) -> Result<Setup<A>, Fault>
+    ensures { IfOk result (λ s. is_lawful s ≡ true) }
+{
+    let mut draft = Draft::new(alloc);
+    let mut number = 1usize;
+    for line in lines_of(alloc, reader)? {
+        let line = line?;
+        match draft.take_line(&line) {
+            Ok(_) => number = number.saturating_add(1),
+            Err(fault) => return Err(fault.at(number, &line)),
+        }
+    }
+    draft.finish().map_err(|rule| Fault::Line { number, rule })
+}
+
+/// The lines of a text, without their line feeds.
+pub fn lines_of<A: Allocator + Copy, R: Read>(
+    alloc: A,
+    reader: &mut R,
+) -> io::Result<Split<BufReader<&mut R, A>, A>>
+    ensures byte { IfOk result (λ lines. split_byte lines ≡ 10) }
+    ensures known { IfOk result (λ lines.
+        split_known_bytes (reader_remaining (λ r. R.remaining r.now)) lines ≡ R.remaining reader.old) }
+{
+    Ok(BufReader::new(alloc, reader)?.split(alloc, b'\n'))
+}

@@ -1,0 +1,45 @@
+//! What the program itself tells a person on standard error. The status does not depend on whether that can be written.
+use std::alloc::{AllocError, Global};
+use std::io;
+use std::io::Write;
+
+/// The page for a command line that asks for nothing.
+const PAGE: &str = "atnode 0.1 plays schedules of AppleTalk nodes on one cable, and shows datagrams.
+
+  atnode play FILE   plays a schedule, and prints what each event comes to
+  atnode show HEX    shows a datagram, or tells the first rule that it breaks
+
+FILE is a schedule as text, one line for each event; `-` is standard input.
+HEX is the bytes of a datagram as one word of hexadecimal digits, two for each byte; `-` is no bytes.
+
+For example:
+
+  atnode show 00156711000A000A01050680034001000008000001
+";
+
+/// Tells how the program is called.
+pub(crate) fn tell_usage<E: Write>(errors: &mut E) {
+    let _told = errors.write_all(PAGE.as_bytes());
+}
+
+/// Tells a sentence, as one line.
+pub(crate) fn tell<E: Write>(errors: &mut E, sentence: &str) {
+    let _told = writeln!(errors, "atnode: {sentence}");
+}
+
+/// Tells why a file can't be opened.
+pub(crate) fn tell_unopened<E: Write>(alloc: Global, errors: &mut E, file: &str, error: io::Error) {
+    let _told = match reason_of(alloc, error) {
+        Ok(reason) => writeln!(errors, "atnode: {file}: can't be opened: {reason}"),
+        Err(AllocError) => writeln!(errors, "atnode: {file}: can't be opened"),
+    };
+}
+
+// The system's words, without the number of its error.
+fn reason_of(alloc: Global, error: io::Error) -> Result<String, AllocError> {
+    let text = format!(in alloc; "{error}")?;
+    match text.split_once(" (os error ") {
+        Some((reason, _)) => String::from_str(alloc, reason),
+        None => Ok(text),
+    }
+}
