@@ -1,5 +1,5 @@
 #!/usr/bin/env python3
-"""Plays three kinds of schedules at two sizes, and prints how fast they were played and the memory that it took.
+"""Plays four kinds of schedules at two sizes, and prints how fast they were played and the memory that it took.
 
     python3 bench/measure.py [PROGRAM]
 
@@ -47,10 +47,26 @@ def numbers(events):
         yield f"timer 5 retry {number % 65536}"
 
 
+# Nodes, each of which asks the 15 others in turn.
+NODES = 16
+
+
+def sixteen_nodes(events):
+    yield from ("net 10", *(f"node {node}" for node in range(1, NODES + 1)))
+    for turn in range(events // 4):
+        asker, number = turn % NODES, turn // NODES
+        answerer = (asker + 1 + number % (NODES - 1)) % NODES
+        yield f"call {asker + 1} ask {answerer + 1} 129 00000000 - 1 alo 0"
+        yield f"deliver {2 * turn} {answerer + 1}"
+        yield f"call {answerer + 1} answer {asker + 1} 128 {number % 65536} 00000000:{'A5' * 16}"
+        yield f"deliver {2 * turn + 1} {asker + 1}"
+
+
 KINDS = (
     ("zone requests", zone_requests),
     ("transactions of eight full packets", transactions),
     ("all numbers in turn", numbers),
+    ("sixteen nodes that ask each other", sixteen_nodes),
 )
 
 
