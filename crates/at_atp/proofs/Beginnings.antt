@@ -6,16 +6,16 @@ use Rattle.std.proofs.lemmas.Bool.{true≢false, false≢true, and_parts, leb-tr
 use Rattle.at_ddp.specs.Address.{same_address}
 use Rattle.at_ddp.specs.declared.address.Address.{Address}
 use Rattle.at_ddp.proofs.Octets.{same_address-true, same_address_itself}
-use Rattle.at_atp.specs.Network.{Network, Sent, Drawn, owner, number_of, is_no_later, NoneHolds, begins, begun, new_transaction}
-use Rattle.at_atp.specs.Records.{is_key}
-use Rattle.at_atp.specs.Requests as requests
-use Rattle.at_atp.specs.Requests.{Requests, has_number, next_number, beginning}
+use Rattle.at_atp_frame.specs.Frames.{owner, number_of}
+use Rattle.at_atp.specs.Network.{Network, Sent, Drawn, is_no_later, NoneHolds, begins, begun, new_transaction}
+use Rattle.at_atp_responder.specs.Records.{is_key}
+use Rattle.at_atp_requester.specs.Requests as requests
+use Rattle.at_atp_requester.specs.Requests.{Requests, has_number, next_number, beginning}
 use Rattle.at_atp.specs.Transactions.{Transaction, Asked}
-use Rattle.at_atp.proofs.Alls.{all_implied, all_pairs, all_both, none_passes}
+use Rattle.at_ddp.proofs.Alls.{all_implied, all_pairs, all_both, none_passes}
 use Rattle.at_atp.proofs.Carried.{tells_kept, Holds, holds_kept, no_parts, Waits, waits_kept}
 use Rattle.at_atp.proofs.NetworkLemmas.{Fresh, Sound, put_all, more_past, more_fresh}
 use Rattle.at_atp.proofs.Newest.{begun_keeps}
-use Rattle.at_atp.proofs.OpenLemmas.{drawn_free}
 
 -- ---- other numbers
 
@@ -73,9 +73,13 @@ not_drawn who w tid k event sent lt h = go (same_address who w && (tid == k)) h
 
 -- ---- the beginning
 
-begun_sound : (n : Network) (who to : Address) (user bytes : List ℕ) (wanted : ℕ) (xo : Bool) (times tid : ℕ) → Sound n.event n → next_number (n.requesters who) ≡ Some tid → NoneHolds n.responders who tid →
+-- a number that is drawn is not open, as the requester's laws say
+abbrev pub DrawsFree : Type 0
+DrawsFree = (r : Requests) (tid : ℕ) → next_number r ≡ Some tid → has_number r.standing tid ≡ false
+
+begun_sound : (draws : DrawsFree) (n : Network) (who to : Address) (user bytes : List ℕ) (wanted : ℕ) (xo : Bool) (times tid : ℕ) → Sound n.event n → next_number (n.requesters who) ≡ Some tid → NoneHolds n.responders who tid →
     Sound (n.event + 1) (begun n who (beginning tid to user bytes wanted xo times))
-begun_sound n who to user bytes wanted xo times tid sound drawn free = record {
+begun_sound draws n who to user bytes wanted xo times tid sound drawn free = record {
   past = more_past n.event who n.sent ((to, requests.request_by t) ∷ []) (all_implied (λ s. s.event < n.event) (λ s. s.event < n.event + 1) n.sent (λ s lt. omega arith) sound.past);
   sent = more_fresh (n.drawn ++ d ∷ []) (new ∷ n.asked) n.event who n.sent ((to, requests.request_by t) ∷ []) (all_implied (λ s. (s.event < n.event) × Fresh n.drawn n.asked s) (Fresh (n.drawn ++ d ∷ []) (new ∷ n.asked)) n.sent stays (all_pairs (λ s. s.event < n.event) (Fresh n.drawn n.asked) n.sent sound.past sound.sent)) ((it, refl, refl, refl), tt);
   standing = put_all (λ a x. AllByRecursion (Holds (new ∷ n.asked) a) x.standing) n.requesters who (requests.begun (n.requesters who) t) standing (all_both (Holds (new ∷ n.asked) who) (n.requesters who).standing (t ∷ []) (standing who) (holds, tt));
@@ -112,7 +116,7 @@ begun_sound n who to user bytes wanted xo times tid sound drawn free = record {
     standing w = go (same_address who w) refl
       where
         own : who ≡ w → has_number (n.requesters w).standing tid ≡ false
-        own e = subst (λ a. has_number (n.requesters a).standing tid ≡ false) e (drawn_free (n.requesters who) tid drawn)
+        own e = subst (λ a. has_number (n.requesters a).standing tid ≡ false) e (draws (n.requesters who) tid drawn)
 
         go : (b : Bool) → same_address who w ≡ b → AllByRecursion (Holds (new_transaction who (beginning tid to user bytes wanted xo times) ∷ n.asked) w) (n.requesters w).standing
         go true e = all_implied (λ x. Holds n.asked w x × ((x.tid == tid) ≡ false)) (Holds (new_transaction who (beginning tid to user bytes wanted xo times) ∷ n.asked) w) (n.requesters w).standing
@@ -123,10 +127,10 @@ begun_sound n who to user bytes wanted xo times tid sound drawn free = record {
 pub later : (n : Network) → Sound n.event n → Sound (n.event + 1) n
 later n s = record { past = all_implied (λ x. x.event < n.event) (λ x. x.event < n.event + 1) n.sent (λ x lt. omega arith) s.past; sent = s.sent; standing = s.standing; records = s.records }
 
-pub begins_sound : (n : Network) (who to : Address) (user bytes : List ℕ) (wanted : ℕ) (xo : Bool) (times : ℕ) → Sound n.event n → ((tid : ℕ) → next_number (n.requesters who) ≡ Some tid → NoneHolds n.responders who tid) →
+pub begins_sound : (draws : DrawsFree) (n : Network) (who to : Address) (user bytes : List ℕ) (wanted : ℕ) (xo : Bool) (times : ℕ) → Sound n.event n → ((tid : ℕ) → next_number (n.requesters who) ≡ Some tid → NoneHolds n.responders who tid) →
     Sound (n.event + 1) (begins n who to user bytes wanted xo times (next_number (n.requesters who)))
-begins_sound n who to user bytes wanted xo times sound timely = go (next_number (n.requesters who)) refl
+begins_sound draws n who to user bytes wanted xo times sound timely = go (next_number (n.requesters who)) refl
   where
     go : (o : Option ℕ) → next_number (n.requesters who) ≡ o → Sound (n.event + 1) (begins n who to user bytes wanted xo times o)
     go None e = later n sound
-    go (Some tid) e = begun_sound n who to user bytes wanted xo times tid sound e (timely tid e)
+    go (Some tid) e = begun_sound draws n who to user bytes wanted xo times tid sound e (timely tid e)

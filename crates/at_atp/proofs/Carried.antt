@@ -4,15 +4,14 @@ use Rattle.std.specs.Prelude.{slice_get, option_map, ◌==◌, ◌/◌, ◌%◌}
 use Rattle.std.specs.List.{AllByRecursion, Contains}
 use Rattle.std.proofs.lemmas.Bool.Decides.{nat_tests}
 use Rattle.at_ddp.specs.declared.address.Address.{Address}
-use Rattle.at_atp.specs.Answers.{Arrival, whole, with_part}
-use Rattle.at_atp.specs.Frames.{Content, Request, Response, Release}
-use Rattle.at_atp.specs.Network.{owner, number_of}
-use Rattle.at_atp.specs.Packets.{Packet}
-use Rattle.at_atp.specs.Records.{State, Waiting, Answered, Released, Record, responses}
-use Rattle.at_atp.specs.Requests as requests
+use Rattle.at_atp_requester.specs.Answers.{Arrival, whole, with_part}
+use Rattle.at_atp_frame.specs.Frames.{Content, Request, Response, Release, owner, number_of}
+use Rattle.at_atp_frame.specs.Packets.{Packet}
+use Rattle.at_atp_responder.specs.Records.{State, Waiting, Answered, Released, Record, responses}
+use Rattle.at_atp_requester.specs.Requests as requests
 use Rattle.at_atp.specs.Transactions.{Transaction, Asked, IsPart, AreParts, EndsAnswer}
-use Rattle.at_atp.specs.declared.reception.Key.{Key}
-use Rattle.at_atp.proofs.Alls.{all_both}
+use Rattle.at_atp_responder.specs.declared.reception.Key.{Key}
+use Rattle.at_ddp.proofs.Alls.{all_both}
 use Rattle.at_atp.proofs.Newest.{Extends, Keeps, asked_kept, part_kept}
 
 -- ---- packets

@@ -7,16 +7,15 @@ use Rattle.std.proofs.lemmas.List.{length-set}
 use Rattle.at_ddp.specs.Address.{same_address}
 use Rattle.at_ddp.specs.declared.address.Address.{Address}
 use Rattle.at_ddp.proofs.Octets.{same_address-true}
-use Rattle.at_atp.specs.Answers.{Arrival, is_wanted, whole, with_part}
-use Rattle.at_atp.specs.Frames.{Content, Request, Response, Release}
-use Rattle.at_atp.specs.Network.{number_of}
-use Rattle.at_atp.specs.Packets.{Packet}
-use Rattle.at_atp.specs.Requests.{Requests, Effect, Heard, Retried, came, came_for, was_kept, asked_again, release_by, is_of, is_finished, settled, response_came, heard, retried_with, is_numbered}
-use Rattle.at_atp.specs.Requests as requests
-use Rattle.at_atp.specs.Tables.{replaced, without_first}
+use Rattle.at_atp_requester.specs.Answers.{Arrival, is_wanted, whole, with_part}
+use Rattle.at_atp_frame.specs.Frames.{Content, Request, Response, Release, number_of}
+use Rattle.at_atp_frame.specs.Packets.{Packet}
+use Rattle.at_atp_requester.specs.Requests.{Requests, Effect, Heard, Retried, came, came_for, was_kept, asked_again, release_by, is_of, is_finished, settled, response_came, heard, retried_with, is_numbered}
+use Rattle.at_atp_requester.specs.Requests as requests
+use Rattle.at_ddp.specs.Tables.{replaced, without_first}
 use Rattle.at_atp.specs.Transactions.{Transaction, transaction_of, Asked, IsPart, EndsAnswer, IsResponse}
-use Rattle.at_atp.specs.declared.step.Step.TheVariants.{Finished}
-use Rattle.at_atp.proofs.Alls.{all_replaced, all_without, all_found}
+use Rattle.at_atp_requester.specs.declared.step.Step.TheVariants.{Finished}
+use Rattle.at_ddp.proofs.Alls.{all_replaced, all_without, all_found}
 use Rattle.at_atp.proofs.Carried.{Tells, Holds, parts_with, wholly}
 use Rattle.at_atp.proofs.Newest.{one_newest}
 

@@ -4,30 +4,30 @@ use Rattle.std.specs.Prelude.{find, slice_get}
 use Rattle.std.proofs.lemmas.Bool.{eqb-true}
 use Rattle.at_ddp.specs.declared.address.Address.{Address}
 use Rattle.at_atp.specs.Network.{Network, Sent, Happening, Begins, Answers, Hears, Takes, Serves, Expires, Retries, Other, begins, answers, handed_up, hears, takes, takes_in, serves, expires, retries, is_fresh, done, tick, after, IsTimely, AllTimely, GivesAnswers}
-use Rattle.at_atp.specs.Packets.{Packet}
-use Rattle.at_atp.specs.Records.{is_key, taken, answer_fault, expiry_fault}
-use Rattle.at_atp.specs.Requests as requests
-use Rattle.at_atp.specs.Requests.{heard, is_numbered, next_number, retried}
+use Rattle.at_atp_frame.specs.Packets.{Packet}
+use Rattle.at_atp_responder.specs.Records.{is_key, taken, answer_fault, expiry_fault}
+use Rattle.at_atp_requester.specs.Requests as requests
+use Rattle.at_atp_requester.specs.Requests.{heard, is_numbered, next_number, retried}
 use Rattle.at_atp.specs.Transactions.{transaction_of}
-use Rattle.at_atp.specs.declared.fault.AtpFault.{AtpFault}
-use Rattle.at_atp.specs.declared.reception.Key.{Key}
-use Rattle.at_atp.specs.declared.reception.Reception.{Reception}
-use Rattle.at_atp.specs.declared.reception.Reception.TheVariants as reception
-use Rattle.at_atp.proofs.Alls.{all_implied, all_at, all_found}
-use Rattle.at_atp.proofs.Beginnings.{begins_sound, later}
+use Rattle.at_atp_frame.specs.declared.fault.AtpFault.{AtpFault}
+use Rattle.at_atp_responder.specs.declared.reception.Key.{Key}
+use Rattle.at_atp_responder.specs.declared.reception.Reception.{Reception}
+use Rattle.at_atp_responder.specs.declared.reception.Reception.TheVariants as reception
+use Rattle.at_ddp.proofs.Alls.{all_implied, all_at, all_found}
+use Rattle.at_atp.proofs.Beginnings.{DrawsFree, begins_sound, later}
 use Rattle.at_atp.proofs.Carried.{Tells, Holds}
 use Rattle.at_atp.proofs.Hearings.{heard_sound}
 use Rattle.at_atp.proofs.NetworkLemmas.{Fresh, Sound, asked_by, hears_sound, takes_sound, serves_sound, expires_sound, retries_sound, gives_sound}
 
-done_sound : (A : Type 0) (n : Network) (h : Happening) → Sound n.event n → IsTimely n h → Sound (n.event + 1) (done A n h)
-done_sound A n (Begins who to user bytes wanted xo times) sound timely = begins_sound n who to user bytes wanted xo times sound timely
-done_sound A n (Answers at key packets) sound timely = gives_sound n at key packets (later n sound)
-done_sound A n (Hears which) sound timely = hears_sound A n which (later n sound) timely
-done_sound A n (Takes which) sound timely = takes_sound n which (later n sound) timely
-done_sound A n (Serves which packets) sound timely = serves_sound n which packets (later n sound) timely
-done_sound A n (Expires at key) sound timely = expires_sound n at key (later n sound)
-done_sound A n (Retries who tid) sound timely = retries_sound n who tid (later n sound)
-done_sound A n Other sound timely = later n sound
+done_sound : (A : Type 0) (draws : DrawsFree) (n : Network) (h : Happening) → Sound n.event n → IsTimely n h → Sound (n.event + 1) (done A n h)
+done_sound A draws n (Begins who to user bytes wanted xo times) sound timely = begins_sound draws n who to user bytes wanted xo times sound timely
+done_sound A draws n (Answers at key packets) sound timely = gives_sound n at key packets (later n sound)
+done_sound A draws n (Hears which) sound timely = hears_sound A n which (later n sound) timely
+done_sound A draws n (Takes which) sound timely = takes_sound n which (later n sound) timely
+done_sound A draws n (Serves which packets) sound timely = serves_sound n which packets (later n sound) timely
+done_sound A draws n (Expires at key) sound timely = expires_sound n at key (later n sound)
+done_sound A draws n (Retries who tid) sound timely = retries_sound n who tid (later n sound)
+done_sound A draws n Other sound timely = later n sound
 
 -- no happening counts events but the tick
 given : (n : Network) (at : Address) (key : Key) (packets : List Packet) (o : Option AtpFault) → (answers n at key packets o).event ≡ n.event
@@ -77,9 +77,9 @@ same_event A n Other = refl
 ticked : (e : ℕ) (n : Network) → n.event ≡ e → Sound (e + 1) n → Sound (tick n).event (tick n)
 ticked e n same s = record { past = all_implied (λ x. x.event < e + 1) (λ x. x.event < n.event + 1) n.sent (λ x lt. omega (arith, same)) s.past; sent = s.sent; standing = s.standing; records = s.records }
 
-pub history_sound : (A : Type 0) (history : List Happening) → AllTimely A history → Sound (after A history).event (after A history)
-history_sound A [] timely = record { past = tt; sent = tt; standing = λ who. tt; records = λ at. tt }
-history_sound A (h ∷ hs) timely = ticked (after A hs).event (done A (after A hs) h) (same_event A (after A hs) h) (done_sound A (after A hs) h (history_sound A hs timely.1) timely.0)
+pub history_sound : (A : Type 0) (draws : DrawsFree) (history : List Happening) → AllTimely A history → Sound (after A history).event (after A history)
+history_sound A draws [] timely = record { past = tt; sent = tt; standing = λ who. tt; records = λ at. tt }
+history_sound A draws (h ∷ hs) timely = ticked (after A hs).event (done A (after A hs) h) (same_event A (after A hs) h) (done_sound A draws (after A hs) h (history_sound A draws hs timely.1) timely.0)
 
 sound_gives : (A : Type 0) (events : ℕ) (n : Network) → Sound events n → GivesAnswers A n
 sound_gives A events n sound = record {
@@ -98,5 +98,5 @@ sound_gives A events n sound = record {
     told : (which : ℕ) (s : Sent) → slice_get n.sent which ≡ Some s → is_fresh n.drawn s ≡ true → Tells n.asked s.from s.to s.packet
     told which s is fresh = all_at (Fresh n.drawn n.asked) n.sent which s sound.sent is fresh
 
-pub gives_answers : (A : Type 0) (history : List Happening) → AllTimely A history → GivesAnswers A (after A history)
-gives_answers A history timely = sound_gives A (after A history).event (after A history) (history_sound A history timely)
+pub gives_answers : (A : Type 0) (draws : DrawsFree) (history : List Happening) → AllTimely A history → GivesAnswers A (after A history)
+gives_answers A draws history timely = sound_gives A (after A history).event (after A history) (history_sound A draws history timely)

@@ -2,15 +2,14 @@
 use Rattle.std.proofs.Common.{◌≡◌, Bool, true, false, cond, List, [], ◌∷◌, ◌++◌, Option, Some, None, refl, sym, ap, ◌∙◌}
 use Rattle.std.specs.Prelude.{find}
 use Rattle.std.proofs.lemmas.Bool.{eq-eqb}
-use Rattle.at_ddp.proofs.Octets.{same_address_itself}
-use Rattle.at_atp.specs.Once.{same_key}
-use Rattle.at_atp.specs.Records.{Released, Record, is_key}
-use Rattle.at_atp.specs.Tables.{replaced, without_first}
-use Rattle.at_atp.specs.declared.reception.Key.{Key}
-use Rattle.at_atp.proofs.RecordLemmas.{own}
+use Rattle.at_ddp.proofs.Octets.{same_address_itself, same_both}
+use Rattle.at_atp_responder.specs.Once.{same_key}
+use Rattle.at_atp_responder.specs.Records.{Record, is_key}
+use Rattle.at_ddp.specs.Tables.{replaced, without_first}
+use Rattle.at_atp_responder.specs.declared.reception.Key.{Key}
 
 pub one_key : (k key : Key) → same_key k key ≡ true → k ≡ key
-one_key k key h = own key (record { key = k; state = Released }) h
+one_key k key h = let both = same_both k.from key.from k.tid key.tid h in λ i. record { from = both.0 i; tid = both.1 i }
 
 pub same_itself : (key : Key) → same_key key key ≡ true
 same_itself key = rw (same_address_itself key.from, eq-eqb key.tid key.tid refl) refl
@@ -84,7 +83,7 @@ those_without key (r ∷ rs) = go (those_without key rs) (is_key key r) refl
 -- ---- another key's records
 
 not_its : (key k : Key) (r : Record) → same_key k key ≡ false → is_key k r ≡ true → is_key key r ≡ false
-not_its key k r other is = ap (λ x. same_key x key) (own k r is) ∙ other
+not_its key k r other is = ap (λ x. same_key x key) (one_key r.key k is) ∙ other
 
 pub others_last : (key : Key) (x : Record) (rs : List Record) → is_key key x ≡ false → those key (rs ++ x ∷ []) ≡ those key rs
 others_last key x [] other = those_other key x [] other

@@ -6,22 +6,22 @@ use Rattle.std.proofs.lemmas.Bool.{leb-true}
 use Rattle.std.proofs.lemmas.List.{length-set, length-replicate}
 use Rattle.at_ddp.specs.Datagram.{IsAddress}
 use Rattle.at_ddp.specs.declared.address.Address.{Address}
-use Rattle.at_atp.specs.Answers.{Arrival, is_wanted, whole, with_part}
-use Rattle.at_atp.specs.Frames.{Content, Request, Response, Release, IsLawful}
-use Rattle.at_atp.specs.Lawfully.{IsPacket, IsAsking, IsInRange, IsLawfullySent}
+use Rattle.at_atp_requester.specs.Answers.{Arrival, is_wanted, whole, with_part}
+use Rattle.at_atp_frame.specs.Frames.{Content, Request, Response, Release, IsLawful}
+use Rattle.at_atp.specs.Lawfully.{IsAsking, IsInRange, IsLawfullySent}
 use Rattle.at_atp.specs.Network.{Network, Sent, Happening, Begins, Answers, Hears, Takes, Serves, Expires, Retries, Other, begins, begun, answers, gives, hears, takes, takes_in, handed_up, serves, expires, retries, done, after}
-use Rattle.at_atp.specs.Packets.{Packet}
-use Rattle.at_atp.specs.Records.{State, Waiting, Answered, Released, Record, Taken, is_key, is_kept, repeated, released, came_again, request_came, release_came, passed, is_passed_over, taken, answer_fault, asked_for, asked_mask, after_answer, expiry_fault, fit, record_fault}
-use Rattle.at_atp.specs.Requests.{Transaction, Requests, Retried, next_number, beginning, request_by, came, came_for, was_kept, is_finished, is_of, response_came, Effect, Heard, heard, is_numbered, retried_with, retried}
-use Rattle.at_atp.specs.Tables.{replaced, without_first}
-use Rattle.at_atp.specs.declared.fault.AtpFault.{AtpFault}
-use Rattle.at_atp.specs.declared.fault.AtpFault.TheVariants.{AtpTooLong}
-use Rattle.at_atp.specs.declared.reception.Key.{Key}
-use Rattle.at_atp.specs.declared.reception.Reception.{Reception}
-use Rattle.at_atp.specs.declared.reception.Reception.TheVariants as reception
-use Rattle.at_atp.proofs.Alls.{all_both, all_replaced, all_without, all_at, all_found}
+use Rattle.at_atp_frame.specs.Packets.{Packet, IsPacket}
+use Rattle.at_atp_responder.specs.Records.{State, Waiting, Answered, Released, Record, Taken, is_key, is_kept, repeated, released, came_again, request_came, release_came, passed, is_passed_over, taken, answer_fault, asked_for, asked_mask, after_answer, expiry_fault, fit, record_fault}
+use Rattle.at_atp_requester.specs.Requests.{Transaction, Requests, Retried, next_number, beginning, request_by, came, came_for, was_kept, is_finished, is_of, response_came, Effect, Heard, heard, is_numbered, retried_with, retried}
+use Rattle.at_ddp.specs.Tables.{replaced, without_first}
+use Rattle.at_atp_frame.specs.declared.fault.AtpFault.{AtpFault}
+use Rattle.at_atp_frame.specs.declared.fault.AtpFault.TheVariants.{AtpTooLong}
+use Rattle.at_atp_responder.specs.declared.reception.Key.{Key}
+use Rattle.at_atp_responder.specs.declared.reception.Reception.{Reception}
+use Rattle.at_atp_responder.specs.declared.reception.Reception.TheVariants as reception
+use Rattle.at_ddp.proofs.Alls.{all_both, all_replaced, all_without, all_at, all_found}
 use Rattle.at_atp.proofs.NetworkLemmas.{put_all}
-use Rattle.at_atp.proofs.RecordLemmas.{own}
+use Rattle.at_atp.proofs.KeyedRecords.{one_key}
 use Rattle.at_atp.proofs.Ranges.{FitsOpen, FitsRequests, FitsState, FitsRecord, FitSent, Fits, number_fits, asks_fit, responses_fit, more_fits, requester_fits, responder_fits}
 
 -- ---- a packet comes to a requester
@@ -164,7 +164,7 @@ gave_fits n at key packets fits f all None e = record {
         keeps false = all_without FitsRecord (is_key key) (n.responders at) (fits.responders at)
         keeps true =
             let f = all_found FitsRecord (is_key key) (n.responders at) r (fits.responders at) g in
-            let same = own key r f.1 in
+            let same = one_key r.key key f.1 in
             all_replaced FitsRecord (is_key key) (record { key = key; state = Answered packets }) (n.responders at) (fits.responders at) (record {
               from = subst (λ (k : Key). IsAddress k.from) same (f.0).from;
               tid = subst (λ (k : Key). k.tid < 65536) same (f.0).tid;
@@ -175,7 +175,7 @@ gave_fits n at key packets fits f all None e = record {
     go None g = tt
     go (Some r) g =
         let found = all_found FitsRecord (is_key key) (n.responders at) r (fits.responders at) g in
-        let same = own key r found.1 in
+        let same = one_key r.key key found.1 in
         let few = few_packets (n.responders at) key packets e in
         responses_fit key 0 (asked_mask r.state) packets (subst (λ (k : Key). IsAddress k.from) same (found.0).from) (subst (λ (k : Key). k.tid < 65536) same (found.0).tid) (omega (arith, few)) all
 

@@ -5,22 +5,22 @@ use Rattle.std.specs.List.{AllByRecursion, Contains}
 use Rattle.at_ddp.specs.Address.{same_address}
 use Rattle.at_ddp.specs.declared.address.Address.{Address}
 use Rattle.at_ddp.proofs.Octets.{same_address-true}
-use Rattle.at_atp.specs.Frames.{Content}
-use Rattle.at_atp.specs.Network.{Network, Sent, Drawn, owner, number_of, is_fresh, put, stamped, with_requester, with_responder, answers, gives, hears, takes, takes_in, handed_up, serves, expires, retries, ComesInTime}
-use Rattle.at_atp.specs.Packets.{Packet}
-use Rattle.at_atp.specs.Records.{Answered, Record, is_key, is_kept, taken, answer_fault, asked_for, asked_mask, after_answer, expiry_fault}
-use Rattle.at_atp.specs.Requests.{Requests, Retried, heard, retried}
-use Rattle.at_atp.specs.Tables.{replaced, without_first}
+use Rattle.at_atp_frame.specs.Frames.{Content, owner, number_of}
+use Rattle.at_atp.specs.Network.{Network, Sent, Drawn, is_fresh, put, stamped, with_requester, with_responder, answers, gives, hears, takes, takes_in, handed_up, serves, expires, retries, ComesInTime}
+use Rattle.at_atp_frame.specs.Packets.{Packet}
+use Rattle.at_atp_responder.specs.Records.{Answered, Record, is_key, is_kept, taken, answer_fault, asked_for, asked_mask, after_answer, expiry_fault}
+use Rattle.at_atp_requester.specs.Requests.{Requests, Retried, heard, retried}
+use Rattle.at_ddp.specs.Tables.{replaced, without_first}
 use Rattle.at_atp.specs.Transactions.{Transaction, transaction_of, Asked, answered}
-use Rattle.at_atp.specs.declared.fault.AtpFault.{AtpFault}
-use Rattle.at_atp.specs.declared.reception.Key.{Key}
-use Rattle.at_atp.specs.declared.reception.Reception.{Reception}
-use Rattle.at_atp.specs.declared.reception.Reception.TheVariants as reception
-use Rattle.at_atp.proofs.Alls.{all_implied, all_both, all_replaced, all_without, all_at, all_found}
+use Rattle.at_atp_frame.specs.declared.fault.AtpFault.{AtpFault}
+use Rattle.at_atp_responder.specs.declared.reception.Key.{Key}
+use Rattle.at_atp_responder.specs.declared.reception.Reception.{Reception}
+use Rattle.at_atp_responder.specs.declared.reception.Reception.TheVariants as reception
+use Rattle.at_ddp.proofs.Alls.{all_implied, all_both, all_replaced, all_without, all_at, all_found}
 use Rattle.at_atp.proofs.Carried.{Tells, tells_kept, Holds, holds_kept, Waits, waits_kept}
 use Rattle.at_atp.proofs.Hearings.{TellsAll, heard_sound, retried_sound}
 use Rattle.at_atp.proofs.Newest.{Keeps, answered_keeps, answered_joins}
-use Rattle.at_atp.proofs.RecordLemmas.{own}
+use Rattle.at_atp.proofs.KeyedRecords.{one_key}
 use Rattle.at_atp.proofs.Takings.{answer_tells, taken_sound}
 
 -- what is sent while no later event drew its number is of the newest transaction of that number
@@ -39,7 +39,7 @@ pub asked_by : (asked : List Transaction) (at : Address) (key : Key) (rs : List 
 asked_by asked at key rs r all is =
     let found = all_found (Waits asked at) (is_key key) rs r all is in
     let a = (found.0).asked in
-    record { transaction = a.transaction; newest = subst (λ (k : Key). transaction_of asked k.from k.tid ≡ Some a.transaction) (own key r found.1) a.newest; asked_it = a.asked_it }
+    record { transaction = a.transaction; newest = subst (λ (k : Key). transaction_of asked k.from k.tid ≡ Some a.transaction) (one_key r.key key found.1) a.newest; asked_it = a.asked_it }
 
 -- ---- what changes at one address
 
@@ -141,7 +141,7 @@ gave_sound n at key packets sound free = record {
     given : (r : Record) → find (is_key key) (n.responders at) ≡ Some r → (a : Asked (answered n.asked key.from key.tid packets) key.from key.tid at) × Contains (a.transaction).answers packets
     given r e =
         let found = all_found (Waits n.asked at) (is_key key) (n.responders at) r (sound.records at) e in
-        let same = own key r found.1 in
+        let same = one_key r.key key found.1 in
         let newest = subst (λ (k : Key). transaction_of n.asked k.from k.tid ≡ Some ((found.0).asked).transaction) same ((found.0).asked).newest in
         let more = answered_joins n.asked key.from key.tid packets ((found.0).asked).transaction newest in
         (record { transaction = more.0; newest = more.1; asked_it = more.2.responder ∙ ((found.0).asked).asked_it }, more.3)

@@ -7,7 +7,7 @@ use Rattle.std.proofs.lemmas.List.Elements.{Contains-append_left, Contains-appen
 use Rattle.at_ddp.specs.Address.{same_address}
 use Rattle.at_ddp.specs.declared.address.Address.{Address}
 use Rattle.at_ddp.proofs.Octets.{same_address-true}
-use Rattle.at_atp.specs.Packets.{Packet}
+use Rattle.at_atp_frame.specs.Packets.{Packet}
 use Rattle.at_atp.specs.Transactions.{Transaction, is_transaction, transaction_of, Asked, answered, IsPart}
 
 -- the same transaction, perhaps with more answers
@@ -113,3 +113,9 @@ part_kept t u place ends p extends part = record { answer = part.answer; given =
 -- there is only one newest transaction
 pub one_newest : (ts : List Transaction) (who : Address) (tid : ℕ) (a b : Address) (x : Asked ts who tid a) (y : Asked ts who tid b) → x.transaction ≡ y.transaction
 one_newest ts who tid a b x y = some_same x.transaction y.transaction (sym x.newest ∙ y.newest)
+
+pub still_asked : (ts : List Transaction) (from : Address) (tid : ℕ) (packets : List Packet) (who : Address) (k : ℕ) (responder : Address) (a : Asked ts who k responder) →
+    (b : Asked (answered ts from tid packets) who k responder) × ((b.transaction).user ≡ (a.transaction).user)
+still_asked ts from tid packets who k responder a =
+    let more = asked_kept ts (answered ts from tid packets) who k responder (answered_keeps ts from tid packets who k) a in
+    (more.0, more.1.user)

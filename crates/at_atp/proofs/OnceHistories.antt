@@ -7,21 +7,20 @@ use Rattle.std.proofs.lemmas.List.{take_all}
 use Rattle.std.proofs.Math.Seq.{take-append_seam}
 use Rattle.at_ddp.specs.Address.{same_address}
 use Rattle.at_ddp.specs.declared.address.Address.{Address}
-use Rattle.at_atp.specs.Frames.{Content, Request, Response, Release}
+use Rattle.at_atp_frame.specs.Frames.{Content, Request, Response, Release, number_of}
 use Rattle.at_atp.specs.HandUps.{is_drawn, brings, hand_ups_since, has_expired, ComesInLife, Lives, AllLived, AnswersOnce}
-use Rattle.at_atp.specs.Network.{Network, Sent, Happening, Begins, Answers, Hears, Takes, Serves, Expires, Retries, Other, begins, answers, gives, handed_up, hears, takes, takes_in, serves, expires, retries, number_of, new_transaction, after, IsTimely, AllTimely}
-use Rattle.at_atp.specs.Once.{same_key}
-use Rattle.at_atp.specs.Packets.{Packet}
-use Rattle.at_atp.specs.Records.{State, Waiting, Answered, Released, Record, is_key, taken, record_fault, answer_fault, expiry_fault}
-use Rattle.at_atp.specs.Requests as requests
-use Rattle.at_atp.specs.Requests.{heard, next_number, retried, beginning}
+use Rattle.at_atp.specs.Network.{Network, Sent, Happening, Begins, Answers, Hears, Takes, Serves, Expires, Retries, Other, begins, answers, gives, handed_up, hears, takes, takes_in, serves, expires, retries, new_transaction, after, IsTimely, AllTimely}
+use Rattle.at_atp_responder.specs.Once.{same_key}
+use Rattle.at_atp_frame.specs.Packets.{Packet}
+use Rattle.at_atp_responder.specs.Records.{State, Waiting, Answered, Released, Record, is_key, taken, record_fault, answer_fault, expiry_fault}
+use Rattle.at_atp_requester.specs.Requests as requests
+use Rattle.at_atp_requester.specs.Requests.{heard, next_number, retried, beginning}
 use Rattle.at_atp.specs.Transactions.{Transaction, Asked, IsPart, AreParts, EndsAnswer, IsResponse}
-use Rattle.at_atp.specs.declared.fault.AtpFault.{AtpFault}
-use Rattle.at_atp.specs.declared.reception.Key.{Key}
-use Rattle.at_atp.specs.declared.reception.Reception.{Reception}
-use Rattle.at_atp.specs.declared.reception.Reception.TheVariants as reception
-use Rattle.at_atp.proofs.AnsweringLemmas.{answerable}
-use Rattle.at_atp.proofs.Beginnings.{later}
+use Rattle.at_atp_frame.specs.declared.fault.AtpFault.{AtpFault}
+use Rattle.at_atp_responder.specs.declared.reception.Key.{Key}
+use Rattle.at_atp_responder.specs.declared.reception.Reception.{Reception}
+use Rattle.at_atp_responder.specs.declared.reception.Reception.TheVariants as reception
+use Rattle.at_atp.proofs.Beginnings.{DrawsFree, later}
 use Rattle.at_atp.proofs.Histories.{history_sound, gives_answers}
 use Rattle.at_atp.proofs.KeyedRecords.{those}
 use Rattle.at_atp.proofs.NetworkLemmas.{Sound, asked_by, tells_at, took_sound}
@@ -37,25 +36,29 @@ OnceAfter A hs = IsOnce (after A hs) (hand_ups_since A hs) (has_expired A hs)
 
 -- ---- answers
 
+-- only a request that waits is answered, as the responder's laws say
+abbrev pub AnswersWaiting : Type 0
+AnswersWaiting = (rs : List Record) (key : Key) (packets : List Packet) → answer_fault rs key packets ≡ None → record_fault (find (is_key key) rs) ≡ None
+
 waiting : (o : Option Record) → record_fault o ≡ None → (r : Record) × (o ≡ Some r)
 waiting None h = absurd (cc)
 waiting (Some r) h = (r, refl)
 
-gives_once : (events : ℕ) (n : Network) (hands : Key → ℕ) (expired : Address → Key → Bool) (at : Address) (key : Key) (packets : List Packet) → Sound events n → IsOnce n hands expired → IsOnce (gives n at key packets) hands expired
-gives_once events n hands expired at key packets sound each = go (answer_fault (n.responders at) key packets) refl
+gives_once : (waits : AnswersWaiting) (events : ℕ) (n : Network) (hands : Key → ℕ) (expired : Address → Key → Bool) (at : Address) (key : Key) (packets : List Packet) → Sound events n → IsOnce n hands expired → IsOnce (gives n at key packets) hands expired
+gives_once waits events n hands expired at key packets sound each = go (answer_fault (n.responders at) key packets) refl
   where
     go : (o : Option AtpFault) → answer_fault (n.responders at) key packets ≡ o → IsOnce (answers n at key packets o) hands expired
     go (Some f) e = each
     go None e =
-        let free = answerable (n.responders at) key packets e in
+        let free = waits (n.responders at) key packets e in
         let there = waiting (find (is_key key) (n.responders at)) free in
         answered_once n.asked n.responders hands expired at key packets (asked_by n.asked at key (n.responders at) there.0 (sound.records at) there.1) free each
 
-handed_once : (events : ℕ) (n : Network) (hands : Key → ℕ) (expired : Address → Key → Bool) (at : Address) (packets : List Packet) (r : Reception) → Sound events n → IsOnce n hands expired → IsOnce (handed_up n at packets r) hands expired
-handed_once events n hands expired at packets (reception.New key) sound each = gives_once events n hands expired at key packets sound each
-handed_once events n hands expired at packets (reception.Again count) sound each = each
-handed_once events n hands expired at packets reception.Released sound each = each
-handed_once events n hands expired at packets reception.Ignored sound each = each
+handed_once : (waits : AnswersWaiting) (events : ℕ) (n : Network) (hands : Key → ℕ) (expired : Address → Key → Bool) (at : Address) (packets : List Packet) (r : Reception) → Sound events n → IsOnce n hands expired → IsOnce (handed_up n at packets r) hands expired
+handed_once waits events n hands expired at packets (reception.New key) sound each = gives_once waits events n hands expired at key packets sound each
+handed_once waits events n hands expired at packets (reception.Again count) sound each = each
+handed_once waits events n hands expired at packets reception.Released sound each = each
+handed_once waits events n hands expired at packets reception.Ignored sound each = each
 
 -- ---- one happening more
 
@@ -64,46 +67,46 @@ alive A hs which s lives is (Request mask xo timer tid user bytes) e = lives s m
 alive A hs which s lives is (Response place eom sts tid user bytes) e = tt
 alive A hs which s lives is (Release tid) e = tt
 
-step : (A : Type 0) (h : Happening) (hs : List Happening) → Sound (after A hs).event (after A hs) → IsTimely (after A hs) h → Lives A hs h → OnceAfter A hs → OnceAfter A (h ∷ hs)
-step A (Begins who to user bytes wanted xo times) hs sound timely lives each = go (next_number ((after A hs).requesters who)) refl
+step : (A : Type 0) (waits : AnswersWaiting) (h : Happening) (hs : List Happening) → Sound (after A hs).event (after A hs) → IsTimely (after A hs) h → Lives A hs h → OnceAfter A hs → OnceAfter A (h ∷ hs)
+step A waits (Begins who to user bytes wanted xo times) hs sound timely lives each = go (next_number ((after A hs).requesters who)) refl
   where
     go : (o : Option ℕ) → next_number ((after A hs).requesters who) ≡ o → IsOnce (begins (after A hs) who to user bytes wanted xo times o) (λ key. cond (is_drawn who o key) 0 (hand_ups_since A hs key)) (λ at key. cond (is_drawn who o key) false (has_expired A hs at key))
     go None e = each
     go (Some tid) e = begun_once (after A hs).asked (after A hs).responders (hand_ups_since A hs) (has_expired A hs) (new_transaction who (beginning tid to user bytes wanted xo times)) refl (timely tid e) each
-step A (Answers at key packets) hs sound timely lives each = gives_once (after A hs).event (after A hs) (hand_ups_since A hs) (has_expired A hs) at key packets sound each
-step A (Hears which) hs sound timely lives each = go (slice_get (after A hs).sent which)
+step A waits (Answers at key packets) hs sound timely lives each = gives_once waits (after A hs).event (after A hs) (hand_ups_since A hs) (has_expired A hs) at key packets sound each
+step A waits (Hears which) hs sound timely lives each = go (slice_get (after A hs).sent which)
   where
     go : (o : Option Sent) → IsOnce (hears A (after A hs) o) (hand_ups_since A hs) (has_expired A hs)
     go None = each
     go (Some s) = each
-step A (Takes which) hs sound timely lives each = go (slice_get (after A hs).sent which) refl
+step A waits (Takes which) hs sound timely lives each = go (slice_get (after A hs).sent which) refl
   where
     go : (o : Option Sent) → slice_get (after A hs).sent which ≡ o → IsOnce (takes_in (after A hs) o) (λ key. cond (brings (after A hs) key o) (hand_ups_since A hs key + 1) (hand_ups_since A hs key)) (has_expired A hs)
     go None e = each
     go (Some s) e = comes_once (after A hs).asked (after A hs).responders (hand_ups_since A hs) (has_expired A hs) s.from s.to s.packet (tells_at (after A hs).event (after A hs) which s sound e (timely s e)) (alive A hs which s lives e s.packet refl) each
-step A (Serves which packets) hs sound timely lives each = go (slice_get (after A hs).sent which) refl
+step A waits (Serves which packets) hs sound timely lives each = go (slice_get (after A hs).sent which) refl
   where
     go : (o : Option Sent) → slice_get (after A hs).sent which ≡ o → IsOnce (serves (after A hs) packets o) (λ key. cond (brings (after A hs) key o) (hand_ups_since A hs key + 1) (hand_ups_since A hs key)) (has_expired A hs)
     go None e = each
     go (Some s) e =
-        handed_once ((after A hs).event + 1) (takes (after A hs) s) (λ key. cond (brings (after A hs) key (Some s)) (hand_ups_since A hs key + 1) (hand_ups_since A hs key)) (has_expired A hs) s.to packets (taken ((after A hs).responders s.to) s.from s.packet).reception
+        handed_once waits ((after A hs).event + 1) (takes (after A hs) s) (λ key. cond (brings (after A hs) key (Some s)) (hand_ups_since A hs key + 1) (hand_ups_since A hs key)) (has_expired A hs) s.to packets (taken ((after A hs).responders s.to) s.from s.packet).reception
         (took_sound (after A hs) which s (later (after A hs) sound) timely e)
         (comes_once (after A hs).asked (after A hs).responders (hand_ups_since A hs) (has_expired A hs) s.from s.to s.packet (tells_at (after A hs).event (after A hs) which s sound e (timely s e)) (alive A hs which s lives e s.packet refl) each)
-step A (Expires place k) hs sound timely lives each = go (expiry_fault (find (is_key k) ((after A hs).responders place))) refl
+step A waits (Expires place k) hs sound timely lives each = go (expiry_fault (find (is_key k) ((after A hs).responders place))) refl
   where
     go : (o : Option AtpFault) → expiry_fault (find (is_key k) ((after A hs).responders place)) ≡ o → IsOnce (expires (after A hs) place k o) (hand_ups_since A hs) (λ at key. is_none o && same_address place at && same_key k key || has_expired A hs at key)
     go (Some f) e = each
     go None e = expires_once (after A hs).asked (after A hs).responders (hand_ups_since A hs) (has_expired A hs) place k e each
-step A (Retries who tid) hs sound timely lives each = go (retried ((after A hs).requesters who) tid)
+step A waits (Retries who tid) hs sound timely lives each = go (retried ((after A hs).requesters who) tid)
   where
     go : (o : Option requests.Retried) → IsOnce (retries (after A hs) who o) (hand_ups_since A hs) (has_expired A hs)
     go None = each
     go (Some r) = each
-step A Other hs sound timely lives each = each
+step A waits Other hs sound timely lives each = each
 
-each_once : (A : Type 0) (history : List Happening) → AllTimely A history → AllLived A history → OnceAfter A history
-each_once A [] timely lived = λ key at a xo. let none = a.newest in absurd (cc)
-each_once A (h ∷ hs) timely lived = step A h hs (history_sound A hs timely.1) timely.0 lived.0 (each_once A hs timely.1 lived.1)
+each_once : (A : Type 0) (draws : DrawsFree) (waits : AnswersWaiting) (history : List Happening) → AllTimely A history → AllLived A history → OnceAfter A history
+each_once A draws waits [] timely lived = λ key at a xo. let none = a.newest in absurd (cc)
+each_once A draws waits (h ∷ hs) timely lived = step A waits h hs (history_sound A draws hs timely.1) timely.0 lived.0 (each_once A draws waits hs timely.1 lived.1)
 
 -- ---- what that says
 
@@ -183,11 +186,11 @@ some_answer t (p ∷ ps) some parts = let given = parts.0.1.given in let lt = gi
 
 -- ---- the law
 
-pub answers_once : (A : Type 0) (history : List Happening) → AllTimely A history → AllLived A history → AnswersOnce A history
-answers_once A history timely lived = record {
+pub answers_once : (A : Type 0) (draws : DrawsFree) (waits : AnswersWaiting) (history : List Happening) → AllTimely A history → AllLived A history → AnswersOnce A history
+answers_once A draws waits history timely lived = record {
   once = λ who tid t newest xo. bounds (record { from = who; tid = tid }) t.responder (record { transaction = t; newest = newest; asked_it = refl }) xo;
   finished = λ which s packets is fresh ends a xo.
-      let given = (gives_answers A history timely).finished which s packets is fresh ends in
+      let given = (gives_answers A draws history timely).finished which s packets is fresh ends in
       let same : given.0.transaction ≡ a.transaction = one_newest (after A history).asked s.to (number_of s.packet) s.from s.from given.0 a in
       let response : IsResponse a.transaction packets = subst (λ t. IsResponse t packets) same given.1 in
       let some = some_answer a.transaction packets response.some response.parts in
@@ -197,4 +200,4 @@ answers_once A history timely lived = record {
 }
   where
     bounds : (key : Key) (at : Address) (a : Asked (after A history).asked key.from key.tid at) → a.transaction.xo ≡ true → (hand_ups_since A history key ≤ 1) × (length a.transaction.answers ≤ hand_ups_since A history key)
-    bounds key at a xo = bounded a.transaction.answers (hand_ups_since A history key) (has_expired A history at key) (those key ((after A history).responders at)) (each_once A history timely lived key at a xo)
+    bounds key at a xo = bounded a.transaction.answers (hand_ups_since A history key) (has_expired A history at key) (those key ((after A history).responders at)) (each_once A draws waits history timely lived key at a xo)

@@ -4,14 +4,14 @@ use Rattle.std.specs.Prelude.{find, ◌&&◌, ◌||◌}
 use Rattle.at_ddp.specs.Address.{same_address}
 use Rattle.at_ddp.specs.declared.address.Address.{Address}
 use Rattle.at_ddp.proofs.Octets.{same_address-true, same_address_itself}
-use Rattle.at_atp.specs.Frames.{Content, Request, Response, Release}
-use Rattle.at_atp.specs.Network.{number_of, put}
-use Rattle.at_atp.specs.Once.{same_key, is_new_of}
-use Rattle.at_atp.specs.Packets.{Packet}
-use Rattle.at_atp.specs.Records.{Record, is_key, Taken, passed, request_came, is_passed_over, taken, record_fault, after_answer, expiry_fault}
-use Rattle.at_atp.specs.Tables.{without_first}
+use Rattle.at_atp_frame.specs.Frames.{Content, Request, Response, Release, number_of}
+use Rattle.at_atp.specs.Network.{put}
+use Rattle.at_atp_responder.specs.Once.{same_key, is_new_of}
+use Rattle.at_atp_frame.specs.Packets.{Packet}
+use Rattle.at_atp_responder.specs.Records.{Record, is_key, Taken, passed, request_came, is_passed_over, taken, record_fault, after_answer, expiry_fault}
+use Rattle.at_ddp.specs.Tables.{without_first}
 use Rattle.at_atp.specs.Transactions.{Transaction, transaction_of, Asked, answered}
-use Rattle.at_atp.specs.declared.reception.Key.{Key}
+use Rattle.at_atp_responder.specs.declared.reception.Key.{Key}
 use Rattle.at_atp.proofs.Carried.{Tells}
 use Rattle.at_atp.proofs.KeyedRecords.{one_key, those, none_those, others_without}
 use Rattle.at_atp.proofs.Newest.{joined, joined_exactly, others_unanswered, some_same}

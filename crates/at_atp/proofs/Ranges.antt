@@ -6,16 +6,16 @@ use Rattle.std.proofs.Math.Pow.{pow_mono}
 use Rattle.std.proofs.Math.Nat.{pow-suc}
 use Rattle.at_ddp.specs.Datagram.{IsAddress}
 use Rattle.at_ddp.specs.declared.address.Address.{Address}
-use Rattle.at_atp.specs.Answers.{Arrival, mask_of}
-use Rattle.at_atp.specs.Frames.{Content, Request, Response, Release, IsTimer, IsLawful}
-use Rattle.at_atp.specs.Frames as frames
-use Rattle.at_atp.specs.Lawfully.{IsPacket, IsLawfullySent}
+use Rattle.at_atp_requester.specs.Answers.{Arrival, mask_of}
+use Rattle.at_atp_frame.specs.Frames.{Content, Request, Response, Release, IsTimer, IsLawful}
+use Rattle.at_atp_frame.specs.Frames as frames
+use Rattle.at_atp.specs.Lawfully.{IsLawfullySent}
 use Rattle.at_atp.specs.Network.{Network, Sent, stamped, with_requester, with_responder}
-use Rattle.at_atp.specs.Packets.{Packet}
-use Rattle.at_atp.specs.Records.{State, Waiting, Answered, Released, Record, responses}
-use Rattle.at_atp.specs.Requests.{Transaction, Requests, has_number, draw_from, next_number, request_by}
-use Rattle.at_atp.specs.declared.reception.Key.{Key}
-use Rattle.at_atp.proofs.Alls.{all_both}
+use Rattle.at_atp_frame.specs.Packets.{Packet, IsPacket}
+use Rattle.at_atp_responder.specs.Records.{State, Waiting, Answered, Released, Record, responses}
+use Rattle.at_atp_requester.specs.Requests.{Transaction, Requests, has_number, draw_from, next_number, request_by}
+use Rattle.at_atp_responder.specs.declared.reception.Key.{Key}
+use Rattle.at_ddp.proofs.Alls.{all_both}
 use Rattle.at_atp.proofs.NetworkLemmas.{put_all}
 
 -- ---- masks and numbers

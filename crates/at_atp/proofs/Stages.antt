@@ -2,15 +2,14 @@
 use Rattle.std.proofs.Common.{◌≡◌, ℕ, ◌+◌, Bool, true, false, cond, List, [], ◌∷◌, ◌++◌, length, Option, Some, None, refl, sym, ap, subst, ◌∙◌, arith}
 use Rattle.std.specs.Prelude.{find}
 use Rattle.at_ddp.specs.declared.address.Address.{Address}
-use Rattle.at_atp.specs.Frames.{Content, Request, Response, Release}
-use Rattle.at_atp.specs.Network.{number_of}
-use Rattle.at_atp.specs.Once.{same_key, is_new_of}
-use Rattle.at_atp.specs.Packets.{Packet}
-use Rattle.at_atp.specs.Records.{State, Waiting, Answered, Released, Record, Repeat, Taken, is_key, repeated, released, came_again, request_came, release_came, passed, is_passed_over, taken, record_fault, state_fault, is_kept, keeps_answer, after_answer, expiry_fault, expiry_fault_of}
-use Rattle.at_atp.specs.Tables.{replaced, without_first}
-use Rattle.at_atp.specs.declared.reception.Key.{Key}
+use Rattle.at_atp_frame.specs.Frames.{Content, Request, Response, Release, number_of}
+use Rattle.at_atp_responder.specs.Once.{same_key, is_new_of}
+use Rattle.at_atp_frame.specs.Packets.{Packet}
+use Rattle.at_atp_responder.specs.Records.{State, Waiting, Answered, Released, Record, Repeat, Taken, is_key, repeated, released, came_again, request_came, release_came, passed, is_passed_over, taken, record_fault, state_fault, is_kept, keeps_answer, after_answer, expiry_fault, expiry_fault_of}
+use Rattle.at_ddp.specs.Tables.{replaced, without_first}
+use Rattle.at_atp_responder.specs.declared.reception.Key.{Key}
 use Rattle.at_atp.proofs.KeyedRecords.{same_itself, those, first, first_set, rest, find_those, those_first, those_last, those_replaced, those_without, others_last, others_replaced, others_without}
-use Rattle.at_atp.proofs.Alls.{found_passes}
+use Rattle.at_ddp.proofs.Alls.{found_passes}
 
 -- the answers that were given, by what became of the request
 abbrev pub Given : List (List Packet) → State → Type 0

@@ -3,16 +3,16 @@ use Rattle.std.proofs.Common.{◌≡◌, ℕ, Bool, true, false, cond, List, [],
 use Rattle.std.specs.Prelude.{find}
 use Rattle.std.specs.List.{AllByRecursion, Contains}
 use Rattle.at_ddp.specs.declared.address.Address.{Address}
-use Rattle.at_atp.specs.Frames.{Content, Request, Response, Release}
-use Rattle.at_atp.specs.Packets.{Packet}
-use Rattle.at_atp.specs.Records.{State, Waiting, Answered, Released, Record, Taken, is_key, responses, repeated, released, came_again, request_came, release_came, passed, is_passed_over, taken}
-use Rattle.at_atp.specs.Tables.{replaced}
+use Rattle.at_atp_frame.specs.Frames.{Content, Request, Response, Release}
+use Rattle.at_atp_frame.specs.Packets.{Packet}
+use Rattle.at_atp_responder.specs.Records.{State, Waiting, Answered, Released, Record, Taken, is_key, responses, repeated, released, came_again, request_came, release_came, passed, is_passed_over, taken}
+use Rattle.at_ddp.specs.Tables.{replaced}
 use Rattle.at_atp.specs.Transactions.{Transaction, transaction_of, Asked}
-use Rattle.at_atp.specs.declared.reception.Key.{Key}
-use Rattle.at_atp.proofs.Alls.{all_both, all_replaced, all_found}
+use Rattle.at_atp_responder.specs.declared.reception.Key.{Key}
+use Rattle.at_ddp.proofs.Alls.{all_both, all_replaced, all_found}
 use Rattle.at_atp.proofs.Carried.{Tells, Waits, Kept, responses_tell}
 use Rattle.at_atp.proofs.Hearings.{TellsAll}
-use Rattle.at_atp.proofs.RecordLemmas.{own}
+use Rattle.at_atp.proofs.KeyedRecords.{one_key}
 
 pub record SoundTaken (ts : List Transaction) (at : Address) (t : Taken) : Type 0 where
   pub records : AllByRecursion (Waits ts at) t.after
@@ -54,7 +54,7 @@ came_sound ts at rs key xo mask None is all a = record {
 }
 came_sound ts at rs key xo mask (Some r) is all a =
     let found = all_found (Waits ts at) (is_key key) rs r all is in
-    again_sound ts at rs key mask r all found.0 (own key r found.1)
+    again_sound ts at rs key mask r all found.0 (one_key r.key key found.1)
 
 release_sound : (ts : List Transaction) (at : Address) (rs : List Record) (key : Key) (o : Option Record) → find (is_key key) rs ≡ o → AllByRecursion (Waits ts at) rs → SoundTaken ts at (release_came rs key o)
 release_sound ts at rs key None is all = record { records = all; sent = tt }

@@ -3,15 +3,15 @@
 use Rattle.std.specs.Prelude.{◌≡◌, ℕ, ◌+◌, ◌≤◌, ◌&&◌, ◌||◌, if◌then◌else◌, is_none, Bool, true, false, List, [], ◌∷◌, length, take, find, slice_get, Option, Some, None}
 use Rattle.at_ddp.specs.Address.{same_address}
 use Rattle.at_ddp.specs.declared.address.Address.{Address}
-use Rattle.at_atp.specs.Frames.{Request}
-use Rattle.at_atp.specs.Network.{Network, Sent, Happening, Begins, Takes, Serves, Expires, number_of, is_fresh, after}
-use Rattle.at_atp.specs.Once.{Comes, hands_up, same_key}
-use Rattle.at_atp.specs.Packets.{Packet}
-use Rattle.at_atp.specs.Records.{is_key, expiry_fault}
-use Rattle.at_atp.specs.Requests.{next_number, heard}
+use Rattle.at_atp_frame.specs.Frames.{Request, number_of}
+use Rattle.at_atp.specs.Network.{Network, Sent, Happening, Begins, Takes, Serves, Expires, is_fresh, after}
+use Rattle.at_atp_responder.specs.Once.{Comes, hands_up, same_key}
+use Rattle.at_atp_frame.specs.Packets.{Packet}
+use Rattle.at_atp_responder.specs.Records.{is_key, expiry_fault}
+use Rattle.at_atp_requester.specs.Requests.{next_number, heard}
 use Rattle.at_atp.specs.Transactions.{Transaction, Asked, transaction_of}
-use Rattle.at_atp.specs.declared.reception.Key.{Key}
-use Rattle.at_atp.specs.declared.step.Step.TheVariants as step
+use Rattle.at_atp_responder.specs.declared.reception.Key.{Key}
+use Rattle.at_atp_requester.specs.declared.step.Step.TheVariants as step
 
 -- does this requester draw the number of the key?
 abbrev pub is_drawn : Address → Option ℕ → Key → Bool

@@ -1,24 +1,11 @@
 -- Networks in which all that is asked and answered is in range (Inside AppleTalk, ATP, "Packet format").
-use Rattle.std.specs.Prelude.{◌≡◌, ℕ, ◌≤◌, List, length}
+use Rattle.std.specs.Prelude.{ℕ, ◌≤◌, List}
 use Rattle.std.specs.List.{AllByRecursion}
-use Rattle.at_ddp.specs.Datagram.{AreBytes, IsAddress}
+use Rattle.at_ddp.specs.Datagram.{IsAddress}
 use Rattle.at_ddp.specs.declared.address.Address.{Address}
-use Rattle.at_atp.specs.Frames.{IsLawful}
+use Rattle.at_atp_frame.specs.Frames.{IsLawful}
 use Rattle.at_atp.specs.Network.{Happening, Begins, Answers, Hears, Takes, Serves, Expires, Retries, Other, Sent}
-use Rattle.at_atp.specs.Packets.{Packet}
-
--- four user bytes, and at most 578 bytes of data
-pub record IsPacket (p : Packet) : Type 0 where
-  pub four : length p.user ≡ 4
-  pub user : AreBytes p.user
-  pub bytes : AreBytes p.data_
-  pub fits : length p.data_ ≤ 578
-
--- four user bytes, and data of bytes
-pub record AreWords (p : Packet) : Type 0 where
-  pub four : length p.user ≡ 4
-  pub user : AreBytes p.user
-  pub bytes : AreBytes p.data_
+use Rattle.at_atp_frame.specs.Packets.{IsPacket}
 
 -- what a transaction is to ask, and whom
 pub record IsAsking (who to : Address) (user bytes : List ℕ) (wanted : ℕ) : Type 0 where

@@ -1,16 +1,4 @@
-pub mod Answers
-pub mod Arriving
-pub mod Fault
-pub mod Frames
 pub mod HandUps
 pub mod Lawfully
 pub mod Network
-pub mod Once
-pub mod Packets
-pub mod Reading
-pub mod Records
-pub mod Requests
-pub mod States
-pub mod Tables
 pub mod Transactions
-pub mod Wholes

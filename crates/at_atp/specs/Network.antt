@@ -4,18 +4,18 @@ use Rattle.std.specs.Prelude.{◌≡◌, ℕ, ◌+◌, ◌==◌, ◌&&◌, ◌||
 use Rattle.std.specs.List.{list_all}
 use Rattle.at_ddp.specs.Address.{same_address}
 use Rattle.at_ddp.specs.declared.address.Address.{Address}
-use Rattle.at_atp.specs.Frames.{Content, Request, Response, Release}
-use Rattle.at_atp.specs.Packets.{Packet}
-use Rattle.at_atp.specs.Records.{Record, is_key, taken, answer_fault, asked_for, after_answer, expiry_fault}
-use Rattle.at_atp.specs.Requests as requests
-use Rattle.at_atp.specs.Requests.{Requests, Retried, no_requests, next_number, beginning, request_by, heard, is_numbered, retried}
-use Rattle.at_atp.specs.Tables.{without_first}
+use Rattle.at_atp_frame.specs.Frames.{Content, Request, Response, Release, owner, number_of}
+use Rattle.at_atp_frame.specs.Packets.{Packet}
+use Rattle.at_atp_responder.specs.Records.{Record, is_key, taken, answer_fault, asked_for, after_answer, expiry_fault}
+use Rattle.at_atp_requester.specs.Requests as requests
+use Rattle.at_atp_requester.specs.Requests.{Requests, Retried, no_requests, next_number, beginning, request_by, heard, is_numbered, retried}
+use Rattle.at_ddp.specs.Tables.{without_first}
 use Rattle.at_atp.specs.Transactions.{Transaction, Asked, answered, IsPart, IsResponse}
-use Rattle.at_atp.specs.declared.fault.AtpFault.{AtpFault}
-use Rattle.at_atp.specs.declared.reception.Key.{Key}
-use Rattle.at_atp.specs.declared.reception.Reception.{Reception}
-use Rattle.at_atp.specs.declared.reception.Reception.TheVariants as reception
-use Rattle.at_atp.specs.declared.step.Step.TheVariants as step
+use Rattle.at_atp_frame.specs.declared.fault.AtpFault.{AtpFault}
+use Rattle.at_atp_responder.specs.declared.reception.Key.{Key}
+use Rattle.at_atp_responder.specs.declared.reception.Reception.{Reception}
+use Rattle.at_atp_responder.specs.declared.reception.Reception.TheVariants as reception
+use Rattle.at_atp_requester.specs.declared.step.Step.TheVariants as step
 
 -- a packet that was sent, with the event that sent it
 pub record Sent : Type 0 where
@@ -43,17 +43,6 @@ abbrev pub opening : Network
 opening = record { event = 0; requesters = λ _. no_requests; responders = λ _. []; sent = []; drawn = []; asked = [] }
 
 -- ---- numbers that are not reused
-
--- the requester whose number a packet carries
-abbrev pub owner : Address → Address → Content → Address
-owner from to (Request mask xo timer tid user bytes) = from
-owner from to (Response place eom sts tid user bytes) = to
-owner from to (Release tid) = from
-
-abbrev pub number_of : Content → ℕ
-number_of (Request mask xo timer tid user bytes) = tid
-number_of (Response place eom sts tid user bytes) = tid
-number_of (Release tid) = tid
 
 -- the draw is of another number, or its event is not after this one
 abbrev pub is_no_later : Address → ℕ → ℕ → Drawn → Bool

@@ -4,7 +4,7 @@ use Rattle.std.specs.Prelude.{◌≡◌, ℕ, ◌+◌, ◌≤◌, ◌==◌, ◌&
 use Rattle.std.specs.List.{Contains}
 use Rattle.at_ddp.specs.Address.{same_address}
 use Rattle.at_ddp.specs.declared.address.Address.{Address}
-use Rattle.at_atp.specs.Packets.{Packet}
+use Rattle.at_atp_frame.specs.Packets.{Packet}
 
 -- One transaction from its beginning on: who asks whom, for what, and under which number. It has the number of packets
 -- wanted, whether it is exactly-once, and the answers that were given to it.

@@ -1,5 +1,5 @@
 //! Tests of ATP packets as bytes.
-ghost use Rattle.at_atp.specs.Frames.{content, CanBeWritten};
+ghost use Rattle.at_atp_frame.specs.Frames.{content, CanBeWritten};
 
 use crate::shared::request;
 use at_atp::{AtpFault, Frame, decode, encode};

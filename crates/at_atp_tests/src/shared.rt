@@ -1,5 +1,5 @@
 //! What the test files share: packets, and comparisons of what was sent.
-ghost use Rattle.at_atp.specs.Frames.{content, CanBeWritten};
+ghost use Rattle.at_atp_frame.specs.Frames.{content, CanBeWritten};
 
 use at_atp::Frame;
 use at_ddp::{Datagrams, HEADER_LEN};

@@ -60,5 +60,9 @@ same_address-true a b h =
     let inner = and_parts (a.net == b.net) (a.node == b.node) outer.0 in
     λ i. record { net = eqb-true a.net b.net inner.0 i; node = eqb-true a.node b.node inner.1 i; socket = eqb-true a.socket b.socket outer.1 i }
 
+-- a number of an address: both are the same
+pub same_both : (a b : Address) (m n : ℕ) → (same_address a b && (m == n)) ≡ true → (a ≡ b) × (m ≡ n)
+same_both a b m n h = let both = and_parts (same_address a b) (m == n) h in (same_address-true a b both.0, eqb-true m n both.1)
+
 pub same_address_itself : (a : Address) → same_address a a ≡ true
 same_address_itself a = rw (eq-eqb a.net a.net refl, eq-eqb a.node a.node refl, eq-eqb a.socket a.socket refl) refl

@@ -5,4 +5,5 @@ pub mod Fault
 pub mod Marks
 pub mod Outbox
 pub mod Sum
+pub mod Tables
 pub mod Text

@@ -1,8 +1,8 @@
 -- The numbers that packets carry.
 use Rattle.std.proofs.Common.{◌≡◌, ◌<◌, ℕ, zero, suc, List, [], ◌∷◌, length, Option, Some, None, refl, sym, ap, subst, arith}
 use Rattle.std.specs.List.{Contains}
-use Rattle.at_atp.specs.Frames.{Content, Request, Response, Release}
-use Rattle.at_atp.specs.Network.{number_of}
+use Rattle.at_atp_frame.specs.Frames.{Content, Request, Response, Release}
+use Rattle.at_atp_frame.specs.Frames.{number_of}
 use Rattle.at_node.specs.Steps.{tid_of}
 
 pub numbers_alike : (f : Content) → tid_of f ≡ number_of f

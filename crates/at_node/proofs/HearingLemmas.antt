@@ -6,9 +6,9 @@ use Rattle.at_ddp.specs.Datagrams.{Posted}
 use Rattle.at_ddp.specs.Fault as ddp
 use Rattle.at_ddp.specs.declared.fault.DdpFault.{DdpFault}
 use Rattle.at_ddp.specs.declared.fault.DdpFault.TheVariants as ddps
-use Rattle.at_atp.specs.Fault as atp
-use Rattle.at_atp.specs.declared.fault.AtpFault.{AtpFault}
-use Rattle.at_atp.specs.declared.fault.AtpFault.TheVariants as atps
+use Rattle.at_atp_frame.specs.Fault as atp
+use Rattle.at_atp_frame.specs.declared.fault.AtpFault.{AtpFault}
+use Rattle.at_atp_frame.specs.declared.fault.AtpFault.TheVariants as atps
 use Rattle.at_zip.specs.Fault as zip
 use Rattle.at_zip.specs.Request.{RequestSpells}
 use Rattle.at_zip.specs.declared.fault.ZipFault.{ZipFault}
@@ -16,18 +16,18 @@ use Rattle.at_zip.specs.declared.fault.ZipFault.TheVariants as zips
 use Rattle.std.proofs.lemmas.Bool.{eq-eqb, ne_eqb, false≢true, true≢false}
 use Rattle.at_ddp.specs.Datagram.{Content as Datagram}
 use Rattle.at_ddp.specs.declared.address.Address.{Address}
-use Rattle.at_atp.specs.Frames as Frames
-use Rattle.at_atp.specs.Frames.{Content, spelled_all}
-use Rattle.at_atp.specs.declared.frame.Frame.{Frame}
-use Rattle.at_atp.specs.declared.frame.Frame.TheVariants as frames
-use Rattle.at_atp.specs.Packets.{Packet}
-use Rattle.at_atp.specs.Records.{Record, taken}
-use Rattle.at_atp.specs.declared.reception.Key.{Key}
-use Rattle.at_atp.specs.declared.reception.Reception.{Reception}
-use Rattle.at_atp.specs.declared.reception.Reception.TheVariants as reception
-use Rattle.at_atp.specs.Requests.{Heard, heard, is_finished}
-use Rattle.at_atp.specs.declared.step.Step.{Step}
-use Rattle.at_atp.specs.declared.step.Step.TheVariants as step
+use Rattle.at_atp_frame.specs.Frames as Frames
+use Rattle.at_atp_frame.specs.Frames.{Content, spelled_all}
+use Rattle.at_atp_frame.specs.declared.frame.Frame.{Frame}
+use Rattle.at_atp_frame.specs.declared.frame.Frame.TheVariants as frames
+use Rattle.at_atp_frame.specs.Packets.{Packet}
+use Rattle.at_atp_responder.specs.Records.{Record, taken}
+use Rattle.at_atp_responder.specs.declared.reception.Key.{Key}
+use Rattle.at_atp_responder.specs.declared.reception.Reception.{Reception}
+use Rattle.at_atp_responder.specs.declared.reception.Reception.TheVariants as reception
+use Rattle.at_atp_requester.specs.Requests.{Heard, heard, is_finished}
+use Rattle.at_atp_requester.specs.declared.step.Step.{Step}
+use Rattle.at_atp_requester.specs.declared.step.Step.TheVariants as step
 use Rattle.at_node.specs.Hearing.{Serves, is_asked, Tells, HearsAt, HearsAtpFault, AtAsking, AtSocket, Asker, Nobody, Service, socket_of, router_socket, is_mine}
 use Rattle.at_node.specs.Steps.{refused_as, asking, atp_kind, tid_of, packet_in, is_reading, after_heard, reported, reported_other, reading_after, is_release, released_report, service_released, serving, zone_asked, zone_released, zones_at}
 use Rattle.at_node.specs.declared.service.Reply.{Reply}

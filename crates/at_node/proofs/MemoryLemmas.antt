@@ -1,14 +1,14 @@
 -- Which events can run out of memory, if they report it.
 use Rattle.std.proofs.Common.{◌≡◌, ℕ, Bool, true, false, cond, List, refl, inl, inr}
 use Rattle.at_ddp.specs.declared.address.Address.{Address}
-use Rattle.at_atp.specs.Frames.{Content, Response}
-use Rattle.at_atp.specs.Packets.{Packet}
-use Rattle.at_atp.specs.Records.{finds_no_place, taken}
-use Rattle.at_atp.specs.Requests.{Heard, heard}
-use Rattle.at_atp.specs.declared.reception.Reception.{Reception}
-use Rattle.at_atp.specs.declared.reception.Reception.TheVariants as reception
-use Rattle.at_atp.specs.declared.step.Step.{Step}
-use Rattle.at_atp.specs.declared.step.Step.TheVariants as step
+use Rattle.at_atp_frame.specs.Frames.{Content, Response}
+use Rattle.at_atp_frame.specs.Packets.{Packet}
+use Rattle.at_atp_responder.specs.Records.{finds_no_place, taken}
+use Rattle.at_atp_requester.specs.Requests.{Heard, heard}
+use Rattle.at_atp_responder.specs.declared.reception.Reception.{Reception}
+use Rattle.at_atp_responder.specs.declared.reception.Reception.TheVariants as reception
+use Rattle.at_atp_requester.specs.declared.step.Step.{Step}
+use Rattle.at_atp_requester.specs.declared.step.Step.TheVariants as step
 use Rattle.at_node.specs.Hearing.{Tells, AtSocket, Asker}
 use Rattle.at_node.specs.Nodes.{NodeState, Outcome, takes_memory}
 use Rattle.at_node.specs.Steps.{is_reading, packet_in, tid_of, after_heard, reported, reported_other, reading_after, page_packet, at_zones, zone_asked, at_service, service_asked}

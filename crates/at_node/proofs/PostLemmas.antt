@@ -5,12 +5,12 @@ use Rattle.std.specs.Prelude.{find, IfOk, OnOk, OnErr}
 use Rattle.std.proofs.lemmas.List.{append-nil}
 use Rattle.at_ddp.specs.Outbox.{Outbox, Sends, finished}
 use Rattle.at_ddp.specs.declared.address.Address.{Address}
-use Rattle.at_atp.specs.Frames.{spelled_all}
-use Rattle.at_atp.specs.Packets.{Packet}
-use Rattle.at_atp.specs.Records.{Record, Taken, is_key, asked_for, IsTaken, IsAnswered}
-use Rattle.at_atp.specs.declared.fault.AtpFault.{AtpFault}
-use Rattle.at_atp.specs.declared.reception.Key.{Key}
-use Rattle.at_atp.specs.declared.reception.Reception.{Reception}
+use Rattle.at_atp_frame.specs.Frames.{spelled_all}
+use Rattle.at_atp_frame.specs.Packets.{Packet}
+use Rattle.at_atp_responder.specs.Records.{Record, Taken, is_key, asked_for, IsTaken, IsAnswered}
+use Rattle.at_atp_frame.specs.declared.fault.AtpFault.{AtpFault}
+use Rattle.at_atp_responder.specs.declared.reception.Key.{Key}
+use Rattle.at_atp_responder.specs.declared.reception.Reception.{Reception}
 use Rattle.at_node.specs.Nodes.{posted, sent_by}
 use Rattle.at_node.specs.Steps.{atp_kind}
 

@@ -5,12 +5,12 @@ use Rattle.at_ddp.specs.Datagram.{Content as Datagram, IsAddress, AreBytes, Begi
 use Rattle.at_ddp.specs.Fault as ddp
 use Rattle.at_ddp.specs.declared.address.Address.{Address}
 use Rattle.at_ddp.specs.declared.fault.DdpFault.{DdpFault}
-use Rattle.at_atp.specs.Frames.{Content, Request, IsLawful, Spells, spelled}
-use Rattle.at_atp.specs.Fault as atp
-use Rattle.at_atp.specs.Network.{owner, number_of}
+use Rattle.at_atp_frame.specs.Frames.{Content, Request, IsLawful, Spells, spelled}
+use Rattle.at_atp_frame.specs.Fault as atp
+use Rattle.at_atp_frame.specs.Frames.{owner, number_of}
 use Rattle.at_node.specs.Drawing.{Carries}
 use Rattle.at_node.specs.declared.drawing.Draw.TheVariants.{Tid}
-use Rattle.at_atp.specs.declared.fault.AtpFault.{AtpFault}
+use Rattle.at_atp_frame.specs.declared.fault.AtpFault.{AtpFault}
 use Rattle.at_zip.specs.Page as page
 use Rattle.at_zip.specs.Fault as zip
 use Rattle.at_zip.specs.Request.{RequestSpells, request_user}

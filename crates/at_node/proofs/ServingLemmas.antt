@@ -4,11 +4,11 @@ use Rattle.std.specs.Prelude.{find}
 use Rattle.std.proofs.lemmas.Bool.{eq-eqb}
 use Rattle.at_ddp.proofs.Octets.{same_address_itself}
 use Rattle.at_ddp.specs.declared.address.Address.{Address}
-use Rattle.at_atp.specs.Frames.{Content, Request, Response, Release}
-use Rattle.at_atp.specs.Tables.{without_first}
-use Rattle.at_atp.specs.Records.{Record, State, Waiting, Answered, Released, Taken, is_key, repeated, came_again, request_came, passed, is_passed_over, released, release_came, taken, record_fault}
-use Rattle.at_atp.specs.declared.reception.Key.{Key}
-use Rattle.at_atp.specs.declared.reception.Reception.TheVariants.{New}
+use Rattle.at_atp_frame.specs.Frames.{Content, Request, Response, Release}
+use Rattle.at_ddp.specs.Tables.{without_first}
+use Rattle.at_atp_responder.specs.Records.{Record, State, Waiting, Answered, Released, Taken, is_key, repeated, came_again, request_came, passed, is_passed_over, released, release_came, taken, record_fault}
+use Rattle.at_atp_responder.specs.declared.reception.Key.{Key}
+use Rattle.at_atp_responder.specs.declared.reception.Reception.TheVariants.{New}
 
 -- a new request has a record at the end, and had none
 pub record IsNew (rs : List Record) (t : Taken) (key : Key) : Type 0 where

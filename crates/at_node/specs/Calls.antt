@@ -2,7 +2,7 @@
 use Rattle.std.specs.Prelude.{◌≡◌, ◌<◌, ◌≤◌, length}
 use Rattle.std.specs.List.{AllByRecursion}
 use Rattle.at_ddp.specs.Datagram.{AreBytes}
-use Rattle.at_atp.specs.Lawfully.{AreWords}
+use Rattle.at_atp_frame.specs.Packets.{AreWords}
 use Rattle.at_node.specs.declared.event.Call.{Call}
 use Rattle.at_node.specs.declared.event.Call.TheVariants.{Zones, Ask, Answer}
 

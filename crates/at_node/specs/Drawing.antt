@@ -2,9 +2,9 @@
 use Rattle.std.specs.Prelude.{◌≡◌, ℕ, ◌==◌, ◌&&◌, ◌||◌, Bool, List, Option, Some, None}
 use Rattle.std.specs.List.{list_any}
 use Rattle.at_ddp.specs.Datagram.{Content as Datagram, BeginsWith}
-use Rattle.at_atp.specs.Frames.{Content, Spells}
-use Rattle.at_atp.specs.Network.{owner, number_of}
-use Rattle.at_atp.specs.Records.{is_from}
+use Rattle.at_atp_frame.specs.Frames.{Content, Spells}
+use Rattle.at_atp_frame.specs.Frames.{owner, number_of}
+use Rattle.at_atp_responder.specs.Records.{is_from}
 use Rattle.at_node.specs.declared.drawing.Draw.{Draw}
 use Rattle.at_node.specs.declared.drawing.Draw.TheVariants.{Tid}
 use Rattle.at_node.specs.declared.drawing.Input.{Input}

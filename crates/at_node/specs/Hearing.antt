@@ -4,17 +4,17 @@ use Rattle.at_ddp.specs.Datagram.{Content as Datagram, BeginsWith}
 use Rattle.at_ddp.specs.Fault as ddp
 use Rattle.at_ddp.specs.declared.address.Address.{Address}
 use Rattle.at_ddp.specs.declared.fault.DdpFault.{DdpFault}
-use Rattle.at_atp.specs.Frames.{Content, Request, Response, Release, Spells}
-use Rattle.at_atp.specs.Fault as atp
-use Rattle.at_atp.specs.Packets.{Packet}
-use Rattle.at_atp.specs.Requests.{Heard, heard}
-use Rattle.at_atp.specs.Records.{fit, taken}
-use Rattle.at_atp.specs.declared.fault.AtpFault.{AtpFault}
-use Rattle.at_atp.specs.declared.reception.Key.{Key}
-use Rattle.at_atp.specs.declared.reception.Reception.{Reception}
-use Rattle.at_atp.specs.declared.reception.Reception.TheVariants as reception
-use Rattle.at_atp.specs.declared.step.Step.{Step}
-use Rattle.at_atp.specs.declared.step.Step.TheVariants as step
+use Rattle.at_atp_frame.specs.Frames.{Content, Request, Response, Release, Spells}
+use Rattle.at_atp_frame.specs.Fault as atp
+use Rattle.at_atp_frame.specs.Packets.{Packet}
+use Rattle.at_atp_requester.specs.Requests.{Heard, heard}
+use Rattle.at_atp_responder.specs.Records.{fit, taken}
+use Rattle.at_atp_frame.specs.declared.fault.AtpFault.{AtpFault}
+use Rattle.at_atp_responder.specs.declared.reception.Key.{Key}
+use Rattle.at_atp_responder.specs.declared.reception.Reception.{Reception}
+use Rattle.at_atp_responder.specs.declared.reception.Reception.TheVariants as reception
+use Rattle.at_atp_requester.specs.declared.step.Step.{Step}
+use Rattle.at_atp_requester.specs.declared.step.Step.TheVariants as step
 use Rattle.at_zip.specs.Page as page
 use Rattle.at_zip.specs.Fault as zip
 use Rattle.at_zip.specs.Request.{RequestSpells}

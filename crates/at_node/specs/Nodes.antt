@@ -3,8 +3,8 @@ use Rattle.std.specs.Prelude.{◌≡◌, ℕ, Bool, true, false, List, [], ◌++
 use Rattle.at_ddp.specs.Datagram.{canonical}
 use Rattle.at_ddp.specs.Datagrams.{Posted}
 use Rattle.at_ddp.specs.declared.address.Address.{Address}
-use Rattle.at_atp.specs.Requests.{Requests, no_requests}
-use Rattle.at_atp.specs.Records.{Record}
+use Rattle.at_atp_requester.specs.Requests.{Requests, no_requests}
+use Rattle.at_atp_responder.specs.Records.{Record}
 use Rattle.at_node.specs.declared.event.Report.{Report}
 use Rattle.at_node.specs.declared.event.Report.TheVariants as report
 

@@ -1,20 +1,20 @@
 -- What each call, timer and packet does to a node (Inside AppleTalk, ZIP, "GetZoneList", over ATP).
 use Rattle.std.specs.Prelude.{ℕ, ◌==◌, nat_lt, if◌then◌else◌, Bool, true, false, List, [], ◌∷◌, length, find, Option, Some, None}
 use Rattle.at_ddp.specs.declared.address.Address.{Address}
-use Rattle.at_atp.specs.Packets.{Packet}
-use Rattle.at_atp.specs.Frames.{Content, Request, Response, Release, spelled, spelled_all}
-use Rattle.at_atp.specs.Requests.{Transaction, Requests, Heard, Retried, next_number, beginning, begun, request_by, is_finished, retried}
-use Rattle.at_atp.specs.Records.{Record, Taken, is_key, taken, finds_no_place, asked_for, answer_fault, after_answer, expiry_fault}
-use Rattle.at_atp.specs.Fault.{number_of}
-use Rattle.at_atp.specs.declared.fault.AtpFault.{AtpFault}
-use Rattle.at_atp.specs.Tables.{without_first}
-use Rattle.at_atp.specs.declared.step.Retry.{Retry}
-use Rattle.at_atp.specs.declared.step.Retry.TheVariants as retry
-use Rattle.at_atp.specs.declared.step.Step.{Step}
-use Rattle.at_atp.specs.declared.step.Step.TheVariants as step
-use Rattle.at_atp.specs.declared.reception.Key.{Key}
-use Rattle.at_atp.specs.declared.reception.Reception.{Reception}
-use Rattle.at_atp.specs.declared.reception.Reception.TheVariants as reception
+use Rattle.at_atp_frame.specs.Packets.{Packet}
+use Rattle.at_atp_frame.specs.Frames.{Content, Request, Response, Release, spelled, spelled_all}
+use Rattle.at_atp_requester.specs.Requests.{Transaction, Requests, Heard, Retried, next_number, beginning, begun, request_by, is_finished, retried}
+use Rattle.at_atp_responder.specs.Records.{Record, Taken, is_key, taken, finds_no_place, asked_for, answer_fault, after_answer, expiry_fault}
+use Rattle.at_atp_frame.specs.Fault.{number_of}
+use Rattle.at_atp_frame.specs.declared.fault.AtpFault.{AtpFault}
+use Rattle.at_ddp.specs.Tables.{without_first}
+use Rattle.at_atp_requester.specs.declared.step.Retry.{Retry}
+use Rattle.at_atp_requester.specs.declared.step.Retry.TheVariants as retry
+use Rattle.at_atp_requester.specs.declared.step.Step.{Step}
+use Rattle.at_atp_requester.specs.declared.step.Step.TheVariants as step
+use Rattle.at_atp_responder.specs.declared.reception.Key.{Key}
+use Rattle.at_atp_responder.specs.declared.reception.Reception.{Reception}
+use Rattle.at_atp_responder.specs.declared.reception.Reception.TheVariants as reception
 use Rattle.at_zip.specs.Page.{page_of, page_user, page_data}
 use Rattle.at_zip.specs.Request.{request_user}
 use Rattle.at_node.specs.declared.event.Call.{Call}

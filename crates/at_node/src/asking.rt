@@ -1,6 +1,6 @@
 ghost use Rattle.std.specs.Prelude.{◌≡◌, ◌≢◌, ◌↔◌, ◌<◌, ◌≤◌, length, ◌++◌, ◌∷◌, [], map, None, Some, IfOk, IfErr, IfSome, IsOk, OnErr, IsErrOf, true, false};
-ghost use Rattle.at_atp.specs.Frames.{content, spelled, spelled_all};
-ghost use Rattle.at_atp.specs.Requests.{Heard, Retried, next_number, beginning, begun, request_by, is_ignored, heard, retried};
+ghost use Rattle.at_atp_frame.specs.Frames.{content, spelled, spelled_all};
+ghost use Rattle.at_atp_requester.specs.Requests.{Heard, Retried, next_number, beginning, begun, request_by, is_ignored, heard, retried};
 ghost use Rattle.at_node.specs.Nodes.{posted, sent_by};
 ghost use Rattle.at_node.specs.Hearing.{Tells, is_asked};
 ghost use Rattle.at_node.specs.Steps.{atp_kind, tid_of, reported, reported_other, reading_after};

@@ -1,8 +1,8 @@
 ghost use Rattle.std.specs.Prelude.{◌≡◌, ◌↔◌, ℕ, Some, IfSome, option_map};
 ghost use Rattle.std.specs.List.{Contains};
-ghost use Rattle.at_atp.specs.Network.{owner};
-ghost use Rattle.at_atp.specs.Frames.{content};
-ghost use Rattle.at_atp.specs.Requests.{next_number};
+ghost use Rattle.at_atp_frame.specs.Frames.{owner};
+ghost use Rattle.at_atp_frame.specs.Frames.{content};
+ghost use Rattle.at_atp_requester.specs.Requests.{next_number};
 ghost use Rattle.at_node.specs.Drawing.{Carries, draw_of, draw_of_input, holds};
 ghost use Rattle.at_node.specs.declared.drawing.Draw.{Draw as Drawn};
 ghost use Rattle.at_node.specs.declared.drawing.Draw.TheVariants.{Tid};

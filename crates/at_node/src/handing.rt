@@ -1,7 +1,7 @@
 ghost use Rattle.std.specs.Prelude.{◌≡◌, ◌++◌, [], map, find, None, IfOk, OnOk, OnErr};
 ghost use Rattle.at_ddp.specs.Outbox.{Sends};
-ghost use Rattle.at_atp.specs.Frames.{content, spelled_all};
-ghost use Rattle.at_atp.specs.Records.{record_fault, is_key};
+ghost use Rattle.at_atp_frame.specs.Frames.{content, spelled_all};
+ghost use Rattle.at_atp_responder.specs.Records.{record_fault, is_key};
 ghost use Rattle.at_ddp.specs.Datagram.{content as written};
 ghost use Rattle.at_node.specs.Hearing as Heard;
 ghost use Rattle.at_node.specs.Hearing.{AtSocket, HearsAt, Serves};

@@ -1,6 +1,6 @@
 ghost use Rattle.std.specs.Prelude.{◌≡◌, ℕ, Bool, true, false, List};
 ghost use Rattle.at_ddp.specs.Datagram.{content};
-ghost use Rattle.at_atp.specs.Frames.{Response, content as packet};
+ghost use Rattle.at_atp_frame.specs.Frames.{Response, content as packet};
 ghost use Rattle.at_node.specs.Hearing.{Asker, AtSocket, HearsAt, is_asked};
 ghost use Rattle.at_node.specs.declared.service.Reply.{Reply as Said};
 ghost use Rattle.at_node.specs.Nodes.{Comes};

@@ -2,13 +2,13 @@
 ghost use Rattle.std.specs.Prelude.{◌≡◌, ℕ, ◌^◌, ◌<◌, ◌≤◌, Bool, List};
 ghost use Rattle.at_ddp.specs.Datagram.{IsAddress, canonical, written};
 ghost use Rattle.at_ddp.specs.declared.address.Address.{Address};
-ghost use Rattle.at_atp.specs.Frames.{Content, Request, IsLawful, spelled};
-ghost use Rattle.at_atp.specs.Packets.{Packet};
+ghost use Rattle.at_atp_frame.specs.Frames.{Content, Request, IsLawful, spelled};
+ghost use Rattle.at_atp_frame.specs.Packets.{Packet};
 ghost use Rattle.at_zip.specs.Page.{Page, IsLawful as IsLawfulPage, page_user, page_data};
 ghost use Rattle.at_zip.specs.Request.{request_user};
 ghost use Rattle.at_node.specs.Nodes.{NodeState, Outcome};
 ghost use Rattle.at_node.specs.Steps.{atp_kind, zone_asked};
-ghost use Rattle.at_atp.specs.Network.{owner, number_of};
+ghost use Rattle.at_atp_frame.specs.Frames.{owner, number_of};
 ghost use Rattle.at_node.specs.Drawing.{Carries};
 ghost use Rattle.at_node.specs.declared.drawing.Draw.TheVariants.{Tid};
 ghost use Rattle.at_node.specs.Hearing.{Hears, AtSocket, AtZones, Tells, socket_of, told_by};

@@ -1,6 +1,6 @@
 ghost use Rattle.std.specs.Prelude.{◌≡◌, ◌≢◌, ◌↔◌, ◌++◌, map, length, find, None, Err, true, IfOk, IfErr, IfSome, OnOk, OnErr, IsOk, IsErrOf, false};
-ghost use Rattle.at_atp.specs.Frames.{content, spelled_all};
-ghost use Rattle.at_atp.specs.Records.{taken, finds_no_place, after_answer, answer_fault, is_key, asked_for};
+ghost use Rattle.at_atp_frame.specs.Frames.{content, spelled_all};
+ghost use Rattle.at_atp_responder.specs.Records.{taken, finds_no_place, after_answer, answer_fault, is_key, asked_for};
 ghost use Rattle.at_node.specs.Hearing.{is_asked};
 ghost use Rattle.at_node.specs.Nodes.{posted, sent_by};
 ghost use Rattle.at_node.specs.Steps.{atp_kind, is_release, released_report};

@@ -1,7 +1,7 @@
 ghost use Rattle.std.specs.Prelude.{◌≡◌, ◌≢◌, ◌↔◌, ◌≤◌, ◌++◌, ◌∷◌, [], map, length, find, None, Some, true, false, IfOk, IfErr, OnOk, OnErr, IsErrOf};
-ghost use Rattle.at_atp.specs.Frames.{content, spelled_all};
-ghost use Rattle.at_atp.specs.Records.{Taken, taken, finds_no_place, record_fault, is_key, after_answer, asked_for};
-ghost use Rattle.at_atp.specs.Tables.{without_first};
+ghost use Rattle.at_atp_frame.specs.Frames.{content, spelled_all};
+ghost use Rattle.at_atp_responder.specs.Records.{Taken, taken, finds_no_place, record_fault, is_key, after_answer, asked_for};
+ghost use Rattle.at_ddp.specs.Tables.{without_first};
 ghost use Rattle.at_ddp.specs.Datagram.{content as written};
 ghost use Rattle.at_node.specs.Hearing.{AtSocket, HearsAt, router_socket, is_asked};
 ghost use Rattle.at_node.specs.declared.service.Reply.{Reply as Said};

@@ -1,7 +1,7 @@
 ghost use Rattle.std.specs.Prelude.{◌≡◌};
 ghost use Rattle.at_node.specs.Nodes.{IsStep};
 ghost use Rattle.at_node.specs.Steps.{timed, release_fired, retry_fired, after_failing, is_reading};
-ghost use Rattle.at_atp.specs.Requests.{retried};
+ghost use Rattle.at_atp_requester.specs.Requests.{retried};
 
 use crate::asking::retry;
 use crate::event::{Report, Timer};

@@ -12,7 +12,7 @@ use Rattle.at_schedule.specs.declared.hex_word.HexFault.{HexFault}
 use Rattle.at_schedule.specs.declared.hex_word.HexFault.TheVariants as fault
 use Rattle.std.specs.List.{concat}
 use Rattle.std.specs.Int.{from_bool}
-use Rattle.at_atp.specs.Frames.{Request, Response}
+use Rattle.at_atp_frame.specs.Frames.{Request, Response}
 use Rattle.std.specs.Prelude.{Option, codes}
 use Rattle.std.specs.Io.KnownBytes.{Appends}
 use Rattle.std.proofs.KnownBytes.{Appends-trans}

@@ -9,7 +9,7 @@ use Rattle.std.proofs.lemmas.Option.{slice_get-get_or}
 use Rattle.std.specs.Fmt.{decimal}
 use Rattle.std.specs.Prelude.{Option, codes, slice_get}
 use Rattle.at_play.specs.Lines.{hex_text}
-use Rattle.at_atp.specs.Packets.{Packet}
+use Rattle.at_atp_frame.specs.Packets.{Packet}
 use Rattle.at_play.specs.Printers.{Prints}
 use Rattle.at_play.specs.Reports.{packet_text, sent_line, sent_lines}
 use Rattle.at_play.specs.declared.printer.Printer.{Printer}

@@ -8,9 +8,9 @@ use Rattle.at_ddp.specs.declared.address.Address.{Address}
 use Rattle.at_ddp.specs.Datagram.{Content, BeginsWith}
 use Rattle.at_ddp.specs.Fault as ddp
 use Rattle.at_ddp.specs.declared.fault.DdpFault.{DdpFault}
-use Rattle.at_atp.specs.Frames.{Content as Packet, Request, Response, Release, Spells}
-use Rattle.at_atp.specs.Fault.{IsFirstFault, number_of}
-use Rattle.at_atp.specs.declared.fault.AtpFault.{AtpFault}
+use Rattle.at_atp_frame.specs.Frames.{Content as Packet, Request, Response, Release, Spells}
+use Rattle.at_atp_frame.specs.Fault.{IsFirstFault, number_of}
+use Rattle.at_atp_frame.specs.declared.fault.AtpFault.{AtpFault}
 
 -- two digits for each byte
 abbrev pub pairs : List ℕ → List ℕ

@@ -1,7 +1,7 @@
 -- Which words in hexadecimal digits are shown without a refusal.
 use Rattle.std.specs.Prelude.{ℕ, ◌==◌, MatchBool, List}
 use Rattle.at_ddp.specs.Datagram.{Content as Datagram, BeginsWith}
-use Rattle.at_atp.specs.Frames.{Content, Spells}
+use Rattle.at_atp_frame.specs.Frames.{Content, Spells}
 use Rattle.at_schedule.specs.Hexes.{IsHex}
 
 -- the data is an ATP packet

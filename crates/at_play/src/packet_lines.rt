@@ -1,6 +1,6 @@
 //! How datagrams and packets print, a line each.
 ghost use Rattle.std.specs.List.{concat};
-ghost use Rattle.at_atp.specs.Frames.{content as packet_of};
+ghost use Rattle.at_atp_frame.specs.Frames.{content as packet_of};
 ghost use Rattle.at_ddp.specs.Datagram.{content};
 ghost use Rattle.at_play.specs.Lines.{address_text, header_line, packet_line, parts, raw_line, sum_text};
 ghost use Rattle.at_play.specs.Printers.{Prints};

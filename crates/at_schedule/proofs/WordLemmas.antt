@@ -8,7 +8,7 @@ use Rattle.std.proofs.lemmas.Bool.{eq-eqb, eqb-true}
 use Rattle.std.proofs.lemmas.List.Sums.{prefix_len-le-length, prefix_len_passes}
 use Rattle.at_schedule.specs.Says.{After, ArePacketWords, IsPacketWord}
 use Rattle.at_schedule.specs.Words.{EndsWord, HasWords, first_word, is_no_space, is_space}
-use Rattle.at_atp.specs.Packets.{Packet}
+use Rattle.at_atp_frame.specs.Packets.{Packet}
 
 stops_at : (b : Bool) (k n m : ℕ) (r : Option ℕ) → unwrap_or r m ≡ k + 1 + n → unwrap_or (cond (not b) (Some k) r) m ≡ k + cond b (1 + n) 0
 stops_at true k n m r h = h ∙ omega arith

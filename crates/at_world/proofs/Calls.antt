@@ -9,19 +9,19 @@ use Rattle.std.proofs.lemmas.List.Elements.{All-from_recursion, All-nil}
 use Rattle.at_ddp.specs.Datagram.{IsAddress}
 use Rattle.at_ddp.specs.declared.address.Address.{Address}
 use Rattle.at_ddp.proofs.Octets.{same_address_itself}
-use Rattle.at_atp.specs.Fault.{number_of}
-use Rattle.at_atp.specs.Lawfully.{IsPacket, AreWords}
+use Rattle.at_atp_frame.specs.Fault.{number_of}
+use Rattle.at_atp_frame.specs.Packets.{IsPacket, AreWords}
 use Rattle.at_atp.specs.Network as network
 use Rattle.at_atp.specs.Network.{Network, Happening, Answers, after, done, put, stamped, new_transaction}
-use Rattle.at_atp.specs.Packets.{Packet}
-use Rattle.at_atp.specs.Answers as arrivals
-use Rattle.at_atp.specs.Records.{Record, is_key, after_answer, answer_fault, record_fault, asked_for, fit}
-use Rattle.at_atp.specs.Requests as requests
-use Rattle.at_atp.specs.Requests.{Requests, has_number, next_number, beginning, request_by}
+use Rattle.at_atp_frame.specs.Packets.{Packet}
+use Rattle.at_atp_requester.specs.Answers as arrivals
+use Rattle.at_atp_responder.specs.Records.{Record, is_key, after_answer, answer_fault, record_fault, asked_for, fit}
+use Rattle.at_atp_requester.specs.Requests as requests
+use Rattle.at_atp_requester.specs.Requests.{Requests, has_number, next_number, beginning, request_by}
 use Rattle.at_atp.specs.Transactions.{Transaction, is_transaction, transaction_of, Asked, answered}
-use Rattle.at_atp.specs.declared.fault.AtpFault.{AtpFault}
-use Rattle.at_atp.specs.declared.fault.AtpFault.TheVariants.{AtpTooLong}
-use Rattle.at_atp.specs.declared.reception.Key.{Key}
+use Rattle.at_atp_frame.specs.declared.fault.AtpFault.{AtpFault}
+use Rattle.at_atp_frame.specs.declared.fault.AtpFault.TheVariants.{AtpTooLong}
+use Rattle.at_atp_responder.specs.declared.reception.Key.{Key}
 use Rattle.at_zip.specs.Request.{request_user}
 use Rattle.at_node.specs.Calls.{IsCall}
 use Rattle.at_node.specs.Drawing.{drawn_by, draw_of}

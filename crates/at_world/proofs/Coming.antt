@@ -7,7 +7,8 @@ use Rattle.at_ddp.specs.Address.{same_address}
 use Rattle.at_ddp.specs.declared.address.Address.{Address}
 use Rattle.at_ddp.proofs.Octets.{same_address-true}
 use Rattle.at_atp.specs.Lawfully.{IsLawfullySent}
-use Rattle.at_atp.specs.Network.{Sent, owner, number_of, is_fresh, ComesInTime, after}
+use Rattle.at_atp_frame.specs.Frames.{owner, number_of}
+use Rattle.at_atp.specs.Network.{Sent, is_fresh, ComesInTime, after}
 use Rattle.at_atp.specs.Transactions.{Asked}
 use Rattle.at_node.specs.declared.drawing.Draw.TheVariants.{Tid}
 use Rattle.at_world.specs.Machine.{Machine}

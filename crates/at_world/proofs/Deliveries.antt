@@ -3,9 +3,9 @@ use Rattle.std.proofs.Common.{◌≡◌, inl, inr, ℕ, Bool, true, false, cond,
 use Rattle.std.specs.Prelude.{◌==◌, ◌&&◌, ◌||◌}
 use Rattle.std.proofs.lemmas.Bool.{and_parts, eqb-true}
 use Rattle.at_ddp.specs.Datagram.{Content as Datagram, written}
-use Rattle.at_atp.specs.Frames.{Content, Request, Response, Release, spelled}
+use Rattle.at_atp_frame.specs.Frames.{Content, Request, Response, Release, spelled}
 use Rattle.at_atp.specs.Network.{Sent}
-use Rattle.at_atp.specs.Requests.{heard}
+use Rattle.at_atp_requester.specs.Requests.{heard}
 use Rattle.at_node.specs.Hearing.{Nobody, Asker, Service, AtAsking, AtService, AtZones, AtSocket, Hears, is_asked, is_mine, socket_of, router_socket}
 use Rattle.at_node.specs.Nodes.{NodeState, Outcome, idle}
 use Rattle.at_node.specs.Steps.{atp_kind, packet_in, tid_of, zone_asked}

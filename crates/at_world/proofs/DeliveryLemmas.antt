@@ -3,7 +3,7 @@ use Rattle.std.proofs.Common.{◌≡◌, ℕ, ◌≤◌, Bool, true, false, not,
 use Rattle.std.proofs.lemmas.Option.{slice_get_past}
 use Rattle.std.specs.List.{position_from}
 use Rattle.std.specs.Option.{is_some}
-use Rattle.at_atp.proofs.TableLemmas.{found_by, none_by}
+use Rattle.at_ddp.proofs.TableLemmas.{found_by, none_by}
 use Rattle.std.specs.Prelude.{slice_get, ◌==◌, ◌||◌, if◌then◌else◌, Result, Ok, Err, IfOk, IfErr}
 use Rattle.at_node.specs.Drawing.{Carries}
 use Rattle.at_node.specs.Nodes.{NodeState}

@@ -6,14 +6,14 @@ use Rattle.std.proofs.lemmas.Bool.{eq-eqb}
 use Rattle.std.proofs.lemmas.List.{append-nil}
 use Rattle.at_ddp.specs.Address.{same_address}
 use Rattle.at_ddp.specs.declared.address.Address.{Address}
-use Rattle.at_atp.specs.Frames.{Content, spelled_all}
+use Rattle.at_atp_frame.specs.Frames.{Content, spelled_all}
 use Rattle.at_atp.specs.Lawfully.{IsInRange, IsAsking}
 use Rattle.at_atp.specs.Network as network
 use Rattle.at_atp.specs.Network.{Network, Sent, Happening, Begins, Answers, Other, NoneHolds, after, done, put, stamped, with_requester, with_responder, new_transaction, IsTimely}
-use Rattle.at_atp.specs.Packets.{Packet}
-use Rattle.at_atp.specs.Records.{Record}
-use Rattle.at_atp.specs.Requests as requests
-use Rattle.at_atp.specs.Requests.{Requests, next_number, beginning, request_by}
+use Rattle.at_atp_frame.specs.Packets.{Packet}
+use Rattle.at_atp_responder.specs.Records.{Record}
+use Rattle.at_atp_requester.specs.Requests as requests
+use Rattle.at_atp_requester.specs.Requests.{Requests, next_number, beginning, request_by}
 use Rattle.at_atp.specs.Transactions.{Transaction, is_transaction, transaction_of, Asked, answered}
 use Rattle.at_node.specs.Drawing.{drawn_by}
 use Rattle.at_node.specs.Nodes.{NodeState, posted, sent_by}

@@ -8,19 +8,20 @@ use Rattle.std.proofs.lemmas.List.Elements.{Contains-append_cases}
 use Rattle.at_ddp.specs.Address.{same_address}
 use Rattle.at_ddp.specs.declared.address.Address.{Address}
 use Rattle.at_ddp.proofs.Octets.{same_address-true, same_address_itself}
-use Rattle.at_atp.specs.Answers as arrivals
+use Rattle.at_atp_requester.specs.Answers as arrivals
 use Rattle.at_atp.specs.HandUps.{brings, draws, is_drawn}
 use Rattle.at_atp.specs.Network as network
-use Rattle.at_atp.specs.Network.{Network, Sent, Happening, Begins, Answers, Hears, Takes, Serves, Expires, Retries, Other, AllTimely, GivesAnswers, number_of, after, done}
-use Rattle.at_atp.specs.Once.{is_new_of, same_key}
-use Rattle.at_atp.specs.Packets.{Packet}
-use Rattle.at_atp.specs.Records.{answer_fault, expiry_fault, is_key, taken}
-use Rattle.at_atp.specs.Requests.{next_number, beginning, retried, Retried}
+use Rattle.at_atp_frame.specs.Frames.{number_of}
+use Rattle.at_atp.specs.Network.{Network, Sent, Happening, Begins, Answers, Hears, Takes, Serves, Expires, Retries, Other, AllTimely, GivesAnswers, after, done}
+use Rattle.at_atp_responder.specs.Once.{is_new_of, same_key}
+use Rattle.at_atp_frame.specs.Packets.{Packet}
+use Rattle.at_atp_responder.specs.Records.{answer_fault, expiry_fault, is_key, taken}
+use Rattle.at_atp_requester.specs.Requests.{next_number, beginning, retried, Retried}
 use Rattle.at_atp.specs.Transactions.{Transaction, is_transaction, transaction_of, answered}
-use Rattle.at_atp.specs.declared.fault.AtpFault.{AtpFault}
-use Rattle.at_atp.specs.declared.reception.Key.{Key}
-use Rattle.at_atp.specs.declared.reception.Reception.{Reception}
-use Rattle.at_atp.specs.declared.reception.Reception.TheVariants as reception
+use Rattle.at_atp_frame.specs.declared.fault.AtpFault.{AtpFault}
+use Rattle.at_atp_responder.specs.declared.reception.Key.{Key}
+use Rattle.at_atp_responder.specs.declared.reception.Reception.{Reception}
+use Rattle.at_atp_responder.specs.declared.reception.Reception.TheVariants as reception
 use Rattle.at_node.specs.declared.event.Report.{Report}
 use Rattle.at_world.specs.ExactlyOnce.{Played, is_once, wanted_by}
 use Rattle.at_world.specs.Stories.{asks_once, asks_for, began_under, Matches}

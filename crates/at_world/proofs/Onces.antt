@@ -5,10 +5,10 @@ use Rattle.std.specs.List.{AllByRecursion, Contains}
 use Rattle.at_atp.specs.HandUps.{hand_ups_since}
 use Rattle.at_atp.specs.Lawfully.{IsInRange, IsLawfullySent}
 use Rattle.at_atp.specs.Network.{Network, Sent, Happening, Begins, Answers, Hears, Takes, Serves, Expires, Retries, Other, AllTimely, after}
-use Rattle.at_atp.specs.Once.{same_key}
-use Rattle.at_atp.specs.Packets.{Packet}
+use Rattle.at_atp_responder.specs.Once.{same_key}
+use Rattle.at_atp_frame.specs.Packets.{Packet}
 use Rattle.at_atp.specs.Transactions.{Transaction, transaction_of}
-use Rattle.at_atp.specs.declared.reception.Key.{Key}
+use Rattle.at_atp_responder.specs.declared.reception.Key.{Key}
 use Rattle.at_node.specs.Steps.{asking}
 use Rattle.at_node.specs.declared.event.Call.TheVariants.{Answer}
 use Rattle.at_node.specs.declared.event.Report.{Report}

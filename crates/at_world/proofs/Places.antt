@@ -4,9 +4,9 @@ use Rattle.std.specs.Prelude.{find, ◌==◌, ◌&&◌}
 use Rattle.std.proofs.lemmas.Bool.{true≢false, eq-eqb, eqb-true}
 use Rattle.at_ddp.specs.declared.address.Address.{Address}
 use Rattle.at_atp.specs.Network.{put}
-use Rattle.at_atp.specs.Records.{Record}
-use Rattle.at_atp.specs.Requests.{Requests, no_requests}
-use Rattle.at_atp.specs.Tables.{replaced}
+use Rattle.at_atp_responder.specs.Records.{Record}
+use Rattle.at_atp_requester.specs.Requests.{Requests, no_requests}
+use Rattle.at_ddp.specs.Tables.{replaced}
 use Rattle.at_node.specs.Nodes.{NodeState}
 use Rattle.at_node.specs.Steps.{asking, serving, zones_at}
 use Rattle.at_world.specs.Worlds.{is_numbered}

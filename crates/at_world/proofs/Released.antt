@@ -1,13 +1,13 @@
 -- What a release that comes to a node's service, or to the router's zone socket, is in the machine.
 use Rattle.std.proofs.Common.{◌≡◌, ℕ, true, Some, refl, sym, ap, ◌∙◌}
 use Rattle.std.specs.Prelude.{find, slice_get}
-use Rattle.at_atp.specs.Frames.{Release}
+use Rattle.at_atp_frame.specs.Frames.{Release}
 use Rattle.at_atp.specs.Network as network
 use Rattle.at_atp.specs.Network.{Sent, Takes, after, done, with_responder}
-use Rattle.at_atp.specs.Records.{is_key, taken}
+use Rattle.at_atp_responder.specs.Records.{is_key, taken}
 use Rattle.at_atp.specs.Transactions.{transaction_of, Asked}
-use Rattle.at_atp.specs.declared.reception.Reception.{Reception}
-use Rattle.at_atp.specs.declared.reception.Reception.TheVariants as reception
+use Rattle.at_atp_responder.specs.declared.reception.Reception.{Reception}
+use Rattle.at_atp_responder.specs.declared.reception.Reception.TheVariants as reception
 use Rattle.at_node.specs.Nodes.{NodeState}
 use Rattle.at_node.specs.Steps.{serving, zones_at, released_report, service_released, zone_released}
 use Rattle.at_world.specs.Machine.{Machine, Step, next}

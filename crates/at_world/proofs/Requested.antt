@@ -7,17 +7,17 @@ use Rattle.std.proofs.lemmas.List.{append-nil}
 use Rattle.std.proofs.lemmas.List.Elements.{Contains-append_cases}
 use Rattle.at_ddp.specs.Address.{same_address}
 use Rattle.at_ddp.specs.declared.address.Address.{Address}
-use Rattle.at_atp.specs.Frames.{Request}
-use Rattle.at_atp.specs.Lawfully.{IsPacket}
+use Rattle.at_atp_frame.specs.Frames.{Request, number_of}
+use Rattle.at_atp_frame.specs.Packets.{IsPacket}
 use Rattle.at_atp.specs.Network as network
 use Rattle.at_atp.specs.Network.{Network, Sent, Takes, Serves, after, done, put, stamped, with_responder}
-use Rattle.at_atp.specs.Packets.{Packet}
-use Rattle.at_atp.specs.Records.{Record, Taken, is_key, after_answer, taken, finds_no_place, record_fault, answer_fault, asked_for}
+use Rattle.at_atp_frame.specs.Packets.{Packet}
+use Rattle.at_atp_responder.specs.Records.{Record, Taken, is_key, after_answer, taken, finds_no_place, record_fault, answer_fault, asked_for}
 use Rattle.at_atp.specs.Transactions.{Transaction, transaction_of, Asked, answered}
-use Rattle.at_atp.specs.declared.fault.AtpFault.TheVariants.{AtpTooLong}
-use Rattle.at_atp.specs.declared.reception.Key.{Key}
-use Rattle.at_atp.specs.declared.reception.Reception.{Reception}
-use Rattle.at_atp.specs.declared.reception.Reception.TheVariants as reception
+use Rattle.at_atp_frame.specs.declared.fault.AtpFault.TheVariants.{AtpTooLong}
+use Rattle.at_atp_responder.specs.declared.reception.Key.{Key}
+use Rattle.at_atp_responder.specs.declared.reception.Reception.{Reception}
+use Rattle.at_atp_responder.specs.declared.reception.Reception.TheVariants as reception
 use Rattle.at_zip.specs.Page.{page_of, page_data}
 use Rattle.at_zip.specs.Request.{RequestSpells}
 use Rattle.at_node.specs.Hearing.{is_asked}
@@ -162,7 +162,7 @@ module _ (A : Type 0) (laws : Laws A) (w : WorldState) (m : Machine) (which k : 
         (ap (λ (x : Network). x.drawn) d)
         (ap (λ (x : Network). x.asked) d ∙ (λ i. answered (after A t.history).asked (waits.2 i).from (waits.2 i).tid (page_answer m.table start)))
         (pages_more (a.0).transaction a.1))
-        (serves_new A m.net (after A t.history) which k s was_sent key (page_answer m.table start) (length (asked_for (find (is_key key) (taken n.served s.from (Request mask xo timer tid user bytes)).after) key (page_answer m.table start))) ((λ i. (taken (its_served i) s.from (packet_is i)).reception) ∙ is) (waits.2 ∙ ap (λ f. record { from = s.from; tid = network.number_of f }) (sym packet_is)))
+        (serves_new A m.net (after A t.history) which k s was_sent key (page_answer m.table start) (length (asked_for (find (is_key key) (taken n.served s.from (Request mask xo timer tid user bytes)).after) key (page_answer m.table start))) ((λ i. (taken (its_served i) s.from (packet_is i)).reception) ∙ is) (waits.2 ∙ ap (λ f. record { from = s.from; tid = number_of f }) (sym packet_is)))
         (record {
           is_router = is_router;
           requester = s.from;

@@ -3,14 +3,15 @@ use Rattle.std.proofs.Common.{◌≡◌, ℕ, zero, suc, Bool, true, false, List
 use Rattle.std.specs.Prelude.{slice_get, MatchBool, ◌==◌}
 use Rattle.std.specs.List.{Contains}
 use Rattle.std.proofs.lemmas.Bool.{true≢false, false≢true, eq-eqb, eqb-true}
-use Rattle.at_atp.specs.Frames.{Response}
+use Rattle.at_atp_frame.specs.Frames.{Response}
 use Rattle.at_atp.specs.Network as network
-use Rattle.at_atp.specs.Network.{Sent, Hears, number_of, after, done, with_requester}
-use Rattle.at_atp.specs.Packets.{Packet}
-use Rattle.at_atp.specs.Requests.{Heard, is_finished, heard}
+use Rattle.at_atp_frame.specs.Frames.{number_of}
+use Rattle.at_atp.specs.Network.{Sent, Hears, after, done, with_requester}
+use Rattle.at_atp_frame.specs.Packets.{Packet}
+use Rattle.at_atp_requester.specs.Requests.{Heard, is_finished, heard}
 use Rattle.at_atp.specs.Transactions.{Transaction, transaction_of, Asked, IsPart, IsResponse}
-use Rattle.at_atp.specs.declared.step.Step.{Step as Stepped}
-use Rattle.at_atp.specs.declared.step.Step.TheVariants as step
+use Rattle.at_atp_requester.specs.declared.step.Step.{Step as Stepped}
+use Rattle.at_atp_requester.specs.declared.step.Step.TheVariants as step
 use Rattle.at_zip.specs.Page.{Page, page_of, page_user, page_data}
 use Rattle.at_zip.specs.Request.{RequestSpells, request_user}
 use Rattle.at_node.specs.Hearing.{AtAsking, EndsReading, Tells, told_by}

@@ -7,17 +7,18 @@ use Rattle.at_ddp.specs.Address.{same_address}
 use Rattle.at_ddp.specs.Datagram.{canonical, written, IsAddress, AreBytes}
 use Rattle.at_ddp.specs.declared.address.Address.{Address}
 use Rattle.at_ddp.proofs.Octets.{same_address-true, same_address_itself}
-use Rattle.at_atp.specs.Frames.{Content, IsLawful, spelled, spelled_all}
+use Rattle.at_atp_frame.specs.Frames.{Content, IsLawful, spelled, spelled_all}
 use Rattle.at_atp.specs.Lawfully.{IsInRange, IsLawfullySent}
-use Rattle.at_atp.specs.Network.{Network, Sent, Happening, owner, number_of, after, done, put, stamped, IsTimely, AllTimely, GivesAnswers}
-use Rattle.at_atp.specs.Packets.{Packet}
-use Rattle.at_atp.specs.Records.{Record, is_key, taken, record_fault, asked_for}
-use Rattle.at_atp.specs.Requests.{Requests, Retried, has_number, next_number, is_finished, heard, retried}
-use Rattle.at_atp.specs.Tables.{replaced}
+use Rattle.at_atp_frame.specs.Frames.{owner, number_of}
+use Rattle.at_atp.specs.Network.{Network, Sent, Happening, after, done, put, stamped, IsTimely, AllTimely, GivesAnswers}
+use Rattle.at_atp_frame.specs.Packets.{Packet}
+use Rattle.at_atp_responder.specs.Records.{Record, is_key, taken, record_fault, asked_for}
+use Rattle.at_atp_requester.specs.Requests.{Requests, Retried, has_number, next_number, is_finished, heard, retried}
+use Rattle.at_ddp.specs.Tables.{replaced}
 use Rattle.at_atp.specs.Transactions.{Transaction, Asked, answered}
-use Rattle.at_atp.specs.declared.reception.Key.{Key}
-use Rattle.at_atp.specs.declared.reception.Reception.TheVariants.{New}
-use Rattle.at_atp.specs.declared.step.Retry.TheVariants.{Failed}
+use Rattle.at_atp_responder.specs.declared.reception.Key.{Key}
+use Rattle.at_atp_responder.specs.declared.reception.Reception.TheVariants.{New}
+use Rattle.at_atp_requester.specs.declared.step.Retry.TheVariants.{Failed}
 use Rattle.at_zip.specs.Names as names
 use Rattle.at_zip.specs.Page.{Page, IsLawful as IsLawfulPage, page_of, page_user, page_data}
 use Rattle.at_zip.specs.Request.{RequestSpells, request_user}

@@ -7,7 +7,7 @@ use Rattle.std.proofs.lemmas.List.{length-append}
 use Rattle.std.proofs.lemmas.List.Elements.{All-from_recursion}
 use Rattle.std.proofs.lemmas.List.Sums.{sum_by-cons}
 use Rattle.at_ddp.specs.declared.address.Address.{Address}
-use Rattle.at_atp.specs.Requests.{no_requests}
+use Rattle.at_atp_requester.specs.Requests.{no_requests}
 use Rattle.at_zip.specs.Names.{spelled}
 use Rattle.at_zip.specs.Zones.{IsName}
 use Rattle.at_node.specs.Nodes.{NodeState, opening}

@@ -5,15 +5,15 @@ use Rattle.std.proofs.lemmas.List.{append-nil}
 use Rattle.std.proofs.lemmas.Bool.{true≢false, false≢true, eq-eqb, eqb-true}
 use Rattle.at_atp.specs.Network as network
 use Rattle.at_atp.specs.Network.{Network, Expires, Retries, after, done, put, with_requester, with_responder}
-use Rattle.at_atp.specs.Fault.{number_of}
-use Rattle.at_atp.specs.Records.{Record, expiry_fault, is_key}
-use Rattle.at_atp.specs.Tables.{without_first}
-use Rattle.at_atp.specs.declared.fault.AtpFault.{AtpFault}
-use Rattle.at_atp.specs.declared.reception.Key.{Key}
+use Rattle.at_atp_frame.specs.Fault.{number_of}
+use Rattle.at_atp_responder.specs.Records.{Record, expiry_fault, is_key}
+use Rattle.at_ddp.specs.Tables.{without_first}
+use Rattle.at_atp_frame.specs.declared.fault.AtpFault.{AtpFault}
+use Rattle.at_atp_responder.specs.declared.reception.Key.{Key}
 use Rattle.at_ddp.specs.declared.address.Address.{Address}
-use Rattle.at_atp.specs.Requests.{Requests, Retried, Transaction, is_numbered, retried_with, retried}
-use Rattle.at_atp.specs.declared.step.Retry.{Retry}
-use Rattle.at_atp.specs.declared.step.Retry.TheVariants as retry
+use Rattle.at_atp_requester.specs.Requests.{Requests, Retried, Transaction, is_numbered, retried_with, retried}
+use Rattle.at_atp_requester.specs.declared.step.Retry.{Retry}
+use Rattle.at_atp_requester.specs.declared.step.Retry.TheVariants as retry
 use Rattle.at_node.specs.Nodes.{NodeState, Outcome, idle}
 use Rattle.at_node.specs.Steps.{at_socket, records_at, refused_as, serving, zones_at, asking, is_reading, after_failing, after_retry, retry_fired, timed}
 use Rattle.at_node.specs.declared.event.Report.TheVariants as report

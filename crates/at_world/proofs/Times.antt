@@ -8,7 +8,7 @@ use Rattle.at_ddp.specs.declared.address.Address.{Address}
 use Rattle.at_ddp.proofs.Octets.{same_address-true}
 use Rattle.at_atp.specs.Network as network
 use Rattle.at_atp.specs.Network.{Drawn, NoneHolds}
-use Rattle.at_atp.specs.Records.{Record, is_key, is_from}
+use Rattle.at_atp_responder.specs.Records.{Record, is_key, is_from}
 use Rattle.at_node.specs.Drawing.{holds}
 use Rattle.at_node.specs.Nodes.{NodeState}
 use Rattle.at_node.specs.Steps.{asking}

@@ -8,13 +8,14 @@ use Rattle.at_ddp.specs.Address.{same_address}
 use Rattle.at_ddp.specs.Datagram.{Content as Datagram, IsAddress, AreBytes, BeginsWith, canonical, written}
 use Rattle.at_ddp.specs.declared.address.Address.{Address}
 use Rattle.at_ddp.proofs.Octets.{same_address-true, same_address_itself}
-use Rattle.at_atp.specs.Frames.{Content, Request, IsLawful, Spells, spelled}
+use Rattle.at_atp_frame.specs.Frames.{Content, Request, IsLawful, Spells, spelled}
 use Rattle.at_atp.specs.HandUps as HandUps
 use Rattle.at_atp.specs.HandUps.{brings, draws, is_drawn, is_handed_up, expires_there, hand_ups_since, has_expired as record_expired, AllLived, AnswersOnce}
 use Rattle.at_atp.specs.Lawfully.{IsInRange, IsLawfullySent}
-use Rattle.at_atp.specs.Network.{Network, Sent, Happening, Begins, Answers, Hears, Takes, Serves, Expires, Retries, Other, AllTimely, GivesAnswers, number_of, after}
-use Rattle.at_atp.specs.Once.{same_key}
-use Rattle.at_atp.specs.declared.reception.Key.{Key}
+use Rattle.at_atp_frame.specs.Frames.{number_of}
+use Rattle.at_atp.specs.Network.{Network, Sent, Happening, Begins, Answers, Hears, Takes, Serves, Expires, Retries, Other, AllTimely, GivesAnswers, after}
+use Rattle.at_atp_responder.specs.Once.{same_key}
+use Rattle.at_atp_responder.specs.declared.reception.Key.{Key}
 use Rattle.at_node.specs.Steps.{atp_kind}
 use Rattle.at_node.specs.declared.event.Report.{Report}
 use Rattle.at_node.specs.declared.event.Report.TheVariants as report

@@ -7,7 +7,7 @@ use Rattle.std.specs.Prelude.{nat_le, nat_lt, ◌||◌, find, Result, Ok, Err, I
 use Rattle.std.specs.Result.{is_err}
 use Rattle.std.specs.declared.alloc.AllocError.{AllocError}
 use Rattle.at_ddp.specs.Datagrams.{Posted}
-use Rattle.at_atp.proofs.TableLemmas.{Found}
+use Rattle.at_ddp.proofs.TableLemmas.{Found}
 use Rattle.at_node.specs.declared.drawing.Draw.{Draw}
 use Rattle.at_node.specs.declared.drawing.Input.{Input}
 use Rattle.at_node.specs.declared.drawing.Input.TheVariants as input

@@ -3,11 +3,11 @@
 use Rattle.std.specs.Prelude.{◌≡◌, ℕ, ◌||◌, if◌then◌else◌, Bool, true, false, List, [], ◌∷◌, take, slice_get, Some, Result, Ok, Err, ◌⊎◌}
 use Rattle.at_ddp.specs.Datagram.{Content as Datagram, BeginsWith, canonical}
 use Rattle.at_ddp.specs.declared.address.Address.{Address}
-use Rattle.at_atp.specs.Frames.{Content, Request, Spells, spelled}
-use Rattle.at_atp.specs.Network.{number_of}
-use Rattle.at_atp.specs.Once.{same_key}
-use Rattle.at_atp.specs.Packets.{Packet}
-use Rattle.at_atp.specs.declared.reception.Key.{Key}
+use Rattle.at_atp_frame.specs.Frames.{Content, Request, Spells, spelled}
+use Rattle.at_atp_frame.specs.Frames.{number_of}
+use Rattle.at_atp_responder.specs.Once.{same_key}
+use Rattle.at_atp_frame.specs.Packets.{Packet}
+use Rattle.at_atp_responder.specs.declared.reception.Key.{Key}
 use Rattle.at_node.specs.Steps.{asking, atp_kind}
 use Rattle.at_node.specs.declared.event.Call.TheVariants.{Answer}
 use Rattle.at_node.specs.declared.event.Report.{Report}

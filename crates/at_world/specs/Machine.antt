@@ -3,9 +3,9 @@
 -- "GetZoneList").
 use Rattle.std.specs.Prelude.{◌≡◌, ℕ, ◌<◌, ◌≤◌, ◌==◌, not, Bool, false, List, [], ◌∷◌, ◌++◌, length, filter, find, take, slice_index_or, option_map, Option, Some, Result, Ok, Err}
 use Rattle.at_ddp.specs.declared.address.Address.{Address}
-use Rattle.at_atp.specs.Packets.{Packet}
+use Rattle.at_atp_frame.specs.Packets.{Packet}
 use Rattle.at_atp.specs.Transactions.{Transaction, Asked, transaction_of, answered, IsResponse}
-use Rattle.at_atp.specs.declared.reception.Key.{Key}
+use Rattle.at_atp_responder.specs.declared.reception.Key.{Key}
 use Rattle.at_zip.specs.Page.{page_of, page_user, page_data}
 use Rattle.at_zip.specs.Request.{RequestSpells, request_user}
 use Rattle.at_node.specs.Steps.{asking, serving, zones_at}

@@ -5,15 +5,16 @@ use Rattle.std.specs.List.{AllByRecursion}
 use Rattle.at_ddp.specs.Address.{same_address}
 use Rattle.at_ddp.specs.Datagram.{canonical}
 use Rattle.at_ddp.specs.declared.address.Address.{Address}
-use Rattle.at_atp.specs.Frames.{spelled}
+use Rattle.at_atp_frame.specs.Frames.{spelled}
 use Rattle.at_atp.specs.HandUps.{draws, is_handed_up, expires_there}
 use Rattle.at_atp.specs.Lawfully.{IsInRange}
-use Rattle.at_atp.specs.Network.{Network, Sent, Happening, Begins, Answers, Takes, Serves, AllTimely, is_fresh, number_of, after, done}
-use Rattle.at_atp.specs.Once.{same_key}
-use Rattle.at_atp.specs.Packets.{Packet}
-use Rattle.at_atp.specs.Requests.{heard}
-use Rattle.at_atp.specs.declared.reception.Key.{Key}
-use Rattle.at_atp.specs.declared.step.Step.TheVariants as step
+use Rattle.at_atp_frame.specs.Frames.{number_of}
+use Rattle.at_atp.specs.Network.{Network, Sent, Happening, Begins, Answers, Takes, Serves, AllTimely, is_fresh, after, done}
+use Rattle.at_atp_responder.specs.Once.{same_key}
+use Rattle.at_atp_frame.specs.Packets.{Packet}
+use Rattle.at_atp_requester.specs.Requests.{heard}
+use Rattle.at_atp_responder.specs.declared.reception.Key.{Key}
+use Rattle.at_atp_requester.specs.declared.step.Step.TheVariants as step
 use Rattle.at_node.specs.Steps.{asking, atp_kind}
 use Rattle.at_node.specs.declared.event.Call.TheVariants.{Zones, Ask, Answer}
 use Rattle.at_node.specs.declared.event.Report.{Report}

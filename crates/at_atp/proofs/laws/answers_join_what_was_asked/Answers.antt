@@ -1,4 +1,4 @@
-use Rattle.at_atp.proofs.LawLemmas.{still_asked}
+use Rattle.at_atp.proofs.Newest.{still_asked}
 use Rattle.at_atp.proofs.laws.answers_join_what_was_asked.Goals as goal
 
 pub returns : goal.returns

@@ -1,7 +1,7 @@
 use Rattle.std.proofs.Common.{ap, refl, ◌∙◌}
 use Rattle.at_ddp.specs.Datagrams.{Datagrams}
 use Rattle.at_ddp.specs.Outbox.{Outbox}
-use Rattle.at_atp.specs.Frames.{spelled_all}
+use Rattle.at_atp_frame.specs.Frames.{spelled_all}
 use Rattle.at_node.specs.Steps.{atp_kind, sent_by_reply}
 use Rattle.at_node.proofs.PostLemmas.{posts}
 use Rattle.at_node.proofs.handing.hand_up.Goals as goal

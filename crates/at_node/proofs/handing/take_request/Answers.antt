@@ -1,9 +1,9 @@
 use Rattle.std.proofs.Common.{◌≡◌, ◌++◌, map, None, List, refl, sym, ap, ◌∙◌}
 use Rattle.std.specs.Prelude.{find}
 use Rattle.std.proofs.lemmas.List.{append-nil}
-use Rattle.at_atp.specs.Frames.{content, spelled_all}
-use Rattle.at_atp.specs.Records.{Record, is_key, finds_no_place, record_fault, taken}
-use Rattle.at_atp.specs.Tables.{without_first}
+use Rattle.at_atp_frame.specs.Frames.{content, spelled_all}
+use Rattle.at_atp_responder.specs.Records.{Record, is_key, finds_no_place, record_fault, taken}
+use Rattle.at_ddp.specs.Tables.{without_first}
 use Rattle.at_node.specs.Nodes.{posted, sent_by}
 use Rattle.at_node.specs.Steps.{atp_kind}
 use Rattle.at_node.specs.declared.service.Reply.TheVariants.{Later}

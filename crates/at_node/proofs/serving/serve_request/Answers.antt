@@ -3,9 +3,9 @@ use Rattle.std.proofs.lemmas.List.{append-nil}
 use Rattle.at_node.specs.Nodes.{posted, sent_by}
 use Rattle.at_node.specs.Steps.{atp_kind}
 use Rattle.std.specs.Prelude.{find}
-use Rattle.at_atp.specs.Frames.{content, spelled_all}
-use Rattle.at_atp.specs.Records.{finds_no_place, taken, is_key, record_fault, Record}
-use Rattle.at_atp.specs.Tables.{without_first}
+use Rattle.at_atp_frame.specs.Frames.{content, spelled_all}
+use Rattle.at_atp_responder.specs.Records.{finds_no_place, taken, is_key, record_fault, Record}
+use Rattle.at_ddp.specs.Tables.{without_first}
 use Rattle.at_node.proofs.MemoryLemmas.{zone_takes}
 use Rattle.at_node.proofs.ServingLemmas.{is_new, waits, undone}
 use Rattle.at_node.proofs.serving.serve_request.Goals as goal

@@ -1,5 +1,5 @@
-use Rattle.at_atp.specs.Frames.{content}
-use Rattle.at_atp.specs.Fault.{number_of}
+use Rattle.at_atp_frame.specs.Frames.{content}
+use Rattle.at_atp_frame.specs.Fault.{number_of}
 use Rattle.at_play.specs.Lines.{packet_line, refusal_line, Read, Refused}
 use Rattle.at_play.proofs.show.show_packet.Goals as goal
 

@@ -1,6 +1,6 @@
 use Rattle.std.proofs.Common.{ap, ◌∙◌, ◌≡◌, ◌++◌, map}
-use Rattle.at_atp.specs.Frames.{content, spelled_all}
-use Rattle.at_atp.specs.Requests.{heard}
+use Rattle.at_atp_frame.specs.Frames.{content, spelled_all}
+use Rattle.at_atp_requester.specs.Requests.{heard}
 use Rattle.at_node.specs.Nodes.{NodeState, posted, sent_by}
 use Rattle.at_node.specs.Steps.{asking, atp_kind}
 use Rattle.at_node.proofs.HearingLemmas.{comes_other}

@@ -1,5 +1,5 @@
 use Rattle.std.proofs.Common.{◌≡◌, Some, refl, ap, sym, ◌∙◌, subst}
-use Rattle.at_atp.specs.Frames.{content}
+use Rattle.at_atp_frame.specs.Frames.{content}
 use Rattle.at_node.specs.Nodes.{NodeState, Comes}
 use Rattle.at_node.specs.Steps.{zone_asked}
 use Rattle.at_node.specs.Hearing.{AtSocket, router_socket}

@@ -1,6 +1,6 @@
 use Rattle.std.proofs.Common.{inl, inr, refl, ◌∙◌}
 use Rattle.at_ddp.specs.Datagram.{content}
-use Rattle.at_atp.specs.Frames.{content as packet}
+use Rattle.at_atp_frame.specs.Frames.{content as packet}
 use Rattle.at_node.specs.Hearing.{AtSocket, HearsAt, Asker}
 use Rattle.at_node.proofs.HearingLemmas.{atp_number, comes_refused, comes_wider}
 use Rattle.at_node.proofs.node.Node.take_answer.Goals as goal

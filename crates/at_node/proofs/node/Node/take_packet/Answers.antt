@@ -1,5 +1,5 @@
 use Rattle.std.proofs.Common.{◌≡◌, refl, sym, ap, subst}
-use Rattle.at_atp.specs.Frames.{content}
+use Rattle.at_atp_frame.specs.Frames.{content}
 use Rattle.at_node.specs.Nodes.{NodeState, Comes}
 use Rattle.at_node.specs.Steps.{service_asked}
 use Rattle.at_node.specs.Hearing.{AtSocket, Service}

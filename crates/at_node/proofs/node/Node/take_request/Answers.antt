@@ -1,7 +1,7 @@
 use Rattle.std.proofs.Common.{rules, ◌≡◌, false, true, refl, ap, sym, ◌∙◌}
 use Rattle.std.specs.Prelude.{is_none}
 use Rattle.at_ddp.specs.Datagram.{content}
-use Rattle.at_atp.specs.Frames.{content as packet}
+use Rattle.at_atp_frame.specs.Frames.{content as packet}
 use Rattle.at_node.specs.Nodes.{NodeState}
 use Rattle.at_node.specs.Hearing.{AtSocket, HearsAt, router_socket}
 use Rattle.at_node.proofs.HearingLemmas.{atp_number, comes_refused, comes_wider, for_no_router, router_fault, router_packet, none_of}

@@ -1,6 +1,6 @@
 use Rattle.std.proofs.Common.{◌≡◌, ◌∙◌, true, false, sym, ap, refl, arith}
 use Rattle.std.proofs.lemmas.Bool.{true≢false}
-use Rattle.at_atp.proofs.TableLemmas.{found_by, none_by}
+use Rattle.at_ddp.proofs.TableLemmas.{found_by, none_by}
 use Rattle.at_world.specs.Sents.{stamped}
 use Rattle.at_world.specs.Worlds.{WorldState, is_numbered, Takes}
 use Rattle.at_world.proofs.WorldLemmas.{takes_splits, has_room, node_stands, none_stands, held_at, whole_inside, Ran, ran_ok, ran_err, ran_invariant, world_after, taken, not_taken, if_ok}

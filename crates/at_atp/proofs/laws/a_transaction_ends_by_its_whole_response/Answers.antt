@@ -1,5 +1,0 @@
-use Rattle.at_atp.proofs.WholeLemmas.{wants_alike, ends_whole}
-use Rattle.at_atp.proofs.laws.a_transaction_ends_by_its_whole_response.Goals as goal
-
-pub returns : goal.returns
-returns g c = record { wants = wants_alike g.row.A.Denot; ends = ends_whole g.row.A.Denot }

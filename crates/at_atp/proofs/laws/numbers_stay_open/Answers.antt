@@ -1,6 +1,0 @@
-use Rattle.at_atp.proofs.LawLemmas.{heard_stays, retried_stays}
-use Rattle.at_atp.proofs.OpenLemmas.{drawn_free}
-use Rattle.at_atp.proofs.laws.numbers_stay_open.Goals as goal
-
-pub returns : goal.returns
-returns g c = record { drawn = drawn_free; heard = heard_stays g.row.A.Denot; retried = retried_stays }

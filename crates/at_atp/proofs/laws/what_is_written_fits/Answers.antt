@@ -1,5 +1,0 @@
-use Rattle.at_atp.proofs.FrameLemmas.{written_fits}
-use Rattle.at_atp.proofs.laws.what_is_written_fits.Goals as goal
-
-pub returns : goal.returns
-returns c = written_fits

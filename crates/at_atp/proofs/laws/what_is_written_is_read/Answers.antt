@@ -1,5 +1,0 @@
-use Rattle.at_atp.proofs.FrameLemmas.{written_is_read, one_packet, no_fault}
-use Rattle.at_atp.proofs.laws.what_is_written_is_read.Goals as goal
-
-pub returns : goal.returns
-returns c = record { read = written_is_read; alone = one_packet; faultless = no_fault }

@@ -1,8 +1,0 @@
-use Rattle.std.proofs.Common.{IsSome, subst, sym, arith}
-use Rattle.std.proofs.lemmas.List.{length-append}
-use Rattle.at_atp.proofs.RequestLemmas.{draws_one}
-use Rattle.at_atp.proofs.numbers.next_of.Goals as goal
-
-pub returns-then-open-lt-OPEN-clause-some : goal.returns-then-open-lt-OPEN-clause-some
-returns-then-open-lt-OPEN-clause-some g c = λ few. subst (λ o. IsSome o) (sym c.free_number.ensures)
-    (draws_one _ c.args.next _ (omega arith) (omega arith) (omega (arith, length-append c.args.front.now c.args.back.now)))

@@ -1,6 +1,0 @@
--- A packet of an answer as it arrives.
-use Rattle.at_atp.specs.Answers.{Arrival}
-use Rattle.at_atp.specs.declared.transaction.Arriving.{Arriving}
-
-abbrev pub arrival_of : Arriving → Arrival
-arrival_of a = record { eom = a.eom; packet = record { user = a.user; data_ = a.bytes.now } }

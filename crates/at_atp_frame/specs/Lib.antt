@@ -1,0 +1,4 @@
+pub mod Fault
+pub mod Frames
+pub mod Packets
+pub mod Reading

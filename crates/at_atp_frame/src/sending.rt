@@ -1,0 +1,26 @@
+ghost use Rattle.std.specs.Prelude.{◌≡◌, ℕ, ◌+◌, ◌≤◌, ◌∷◌, [], length, OnOk, OnErr, IsOk};
+ghost use Rattle.at_ddp.specs.Outbox.{Sends, HasRoomFor};
+ghost use Rattle.at_atp_frame.specs.Frames.{content, CanBeWritten, data_of, spelled};
+
+use crate::frame::{Frame, PACKET_LEN, data_in, header_of};
+use arrayvec::ArrayVec;
+use at_ddp::{Address, Outbox};
+use std::alloc::{AllocError, Allocator};
+
+/// Sends a packet in the canonical spelling.
+pub fn send<A: Allocator>(
+    out: &mut Outbox<A>,
+    to: Address,
+    frame: &Frame<'_>,
+) -> Result<(), AllocError>
+    requires written { CanBeWritten (content frame.now) }
+    requires fits { length (data_of (content frame.now)) ≤ 578 }
+    ensures ok { OnOk result (Sends out.old out.new ((to, spelled (content frame.now)) ∷ [])) }
+    ensures err { OnErr result (Sends out.old out.new []) }
+    ensures room { (n size : ℕ) → HasRoomFor out.old (n + 1) size → 8 + length (data_of (content frame.now)) ≤ size → IsOk result × HasRoomFor out.new n size }
+{
+    let mut bytes: ArrayVec<u8, PACKET_LEN> = ArrayVec::new();
+    bytes.try_extend_from_slice(&header_of(frame)).unwrap();
+    bytes.try_extend_from_slice(data_in(frame)).unwrap();
+    out.push(to, bytes.as_slice())
+}

@@ -1,0 +1,10 @@
+mod AnswerLemmas
+mod MoveLemmas
+mod OpenLemmas
+mod RequestLemmas
+mod RequesterLemmas
+mod RetryLemmas
+mod StayLemmas
+mod StepLemmas
+mod TurnLemmas
+mod WholeLemmas

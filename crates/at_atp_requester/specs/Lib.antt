@@ -1,0 +1,4 @@
+pub mod Answers
+pub mod Arriving
+pub mod Requests
+pub mod Wholes

@@ -1,0 +1,136 @@
+ghost use Rattle.std.specs.Prelude.{◌≡◌, ◌+◌, ◌≤◌, ◌<◌, ◌^◌, ◌++◌, length, is_some, nat_lt, slice_set, Some, IfOk, vec_capacity, vec_len};
+ghost use Rattle.at_atp_requester.specs.Answers.{Arrival, is_wanted, mask_of, whole, with_part, gathered};
+ghost use Rattle.at_atp_frame.specs.Packets.{Packet};
+
+use at_atp_frame::Packet;
+use at_ddp::Bytes;
+use std::alloc::{AllocError, Allocator};
+use std::marker::Model;
+
+/// A packet that came, and whether the answer ends with it.
+#[derive(Drop)]
+pub(crate) struct Part<A: Allocator> {
+    eom: bool,
+    packet: Packet<A>,
+}
+
+impl<A: Allocator> Model for Part<A> {
+    ghost use Rattle.at_atp_requester.specs.Answers.{Arrival};
+
+    ghost Value = { Arrival };
+
+    ghost view = { λ p. record { eom = p.eom; packet = p.packet } };
+}
+
+impl<A: Allocator> Part<A> {
+    pub(crate) fn copy_of(
+        alloc: A,
+        eom: bool,
+        user: [u8; 4],
+        bytes: &[u8],
+    ) -> Result<Part<A>, AllocError>
+        ensures { IfOk result (λ p. p ≡ record { eom = eom; packet = record { user = user; data_ = bytes.now } }) }
+    {
+        let packet = Packet::new(user, Bytes::copy_of(alloc, bytes)?);
+        Ok(Part { eom, packet })
+    }
+
+    fn ends_answer(&self) -> bool
+        ensures { result ≡ self.now.eom }
+    {
+        self.eom
+    }
+
+    fn into_packet(self) -> Packet<A>
+        ensures { result ≡ self.packet }
+    {
+        self.packet
+    }
+}
+
+// Whether a place is still wanted.
+pub(crate) fn is_wanted<A: Allocator>(parts: &[Option<Part<A>>], place: u8) -> bool
+    ensures { result ≡ is_wanted parts.now place }
+{
+    match parts {
+        [] => false,
+        [first, rest @ ..] => {
+            if place == 0 {
+                return first.is_none();
+            }
+            match first {
+                None => is_wanted(rest, place - 1),
+                Some(part) => !part.ends_answer() && is_wanted(rest, place - 1),
+            }
+        }
+    }
+}
+
+// The places still wanted, as a mask.
+pub(crate) fn mask_of<A: Allocator>(parts: &[Option<Part<A>>]) -> u8
+    requires { length parts.now ≤ 8 }
+    ensures mask { result ≡ mask_of parts.now }
+    ensures fits { result < 2 ^ length parts.now }
+{
+    match parts {
+        [] => 0,
+        [first, rest @ ..] => match first {
+            None => 1 + 2 * mask_of(rest),
+            Some(part) if part.ends_answer() => 0,
+            Some(_) => 2 * mask_of(rest),
+        },
+    }
+}
+
+// Whether the answer is there.
+fn are_whole<A: Allocator>(parts: &[Option<Part<A>>]) -> bool
+    ensures { result ≡ is_some (whole parts.now) }
+{
+    match parts {
+        [] => true,
+        [first, rest @ ..] => match first {
+            None => false,
+            Some(part) => part.ends_answer() || are_whole(rest),
+        },
+    }
+}
+
+// Whether the answer is there once a packet has come for this place.
+pub(crate) fn completes<A: Allocator>(parts: &[Option<Part<A>>], place: u8, eom: bool) -> bool
+    requires { place < length parts.now }
+    ensures { (part : Arrival) → part.eom ≡ eom → result ≡ is_some (whole (with_part parts.now place part)) }
+{
+    match parts {
+        [] => false,
+        [first, rest @ ..] => {
+            if place == 0 {
+                return eom || are_whole(rest);
+            }
+            match first {
+                None => false,
+                Some(part) => part.ends_answer() || completes(rest, place - 1, eom),
+            }
+        }
+    }
+}
+
+// Moves the packets of an answer to the end of the list, which has room for them.
+pub(crate) fn gather<A: Allocator>(
+    mut parts: Vec<Option<Part<A>>, A>,
+    mut packets: Vec<Packet<A>, A>,
+) -> Vec<Packet<A>, A>
+    requires { vec_len packets + length parts.items ≤ vec_capacity packets }
+    ensures { result.items ≡ gathered packets.items parts.items }
+{
+    while !parts.is_empty() {
+        let Some(part) = parts.remove(0) else {
+            return packets;
+        };
+        let ends = part.ends_answer();
+        packets.push(part.into_packet()).unwrap();
+        if ends {
+            return packets;
+        }
+    }
+    packets
+}

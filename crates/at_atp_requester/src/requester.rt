@@ -1,0 +1,199 @@
+ghost use Rattle.std.specs.Prelude.{◌≡◌, ◌≢◌, ◌↔◌, ◌+◌, ◌≤◌, ◌<◌, ◌∷◌, [], length, remove, if◌then◌else◌, IfOk, IfErr, IfSome, OnErr, IsOk, IsErrOf, true, Some, None};
+ghost use Rattle.std.specs.List.{position_from};
+ghost use Rattle.at_ddp.specs.Outbox.{Sends};
+ghost use Rattle.at_atp_frame.specs.Frames.{content, spelled};
+ghost use Rattle.at_atp_requester.specs.Requests.{no_requests, next_number, closing, beginning, begun, request_by, is_of, is_finished, is_ignored, is_numbered, heard, retried, IsHeard, IsRetried};
+
+use crate::numbers::next_of;
+use crate::step::{Retry, Step};
+use crate::transaction::{Arriving, Asking, Transaction};
+use at_atp_frame::{AtpFault, Frame, MAX_DATA, send};
+use at_ddp::{Address, Outbox};
+use std::alloc::{AllocError, Allocator, Global};
+use std::marker::Model;
+
+/// The requester of a socket: its open transactions, at most 32.
+#[derive(Drop)]
+pub struct Requester<A: Allocator = Global> {
+    pub(crate) alloc: A,
+    pub(crate) next: u16,
+    pub(crate) standing: Vec<Transaction<A>, A>,
+}
+
+impl<A: Allocator> Model for Requester<A> {
+    ghost use Rattle.at_atp_requester.specs.Requests.{Requests};
+
+    ghost Value = { Requests };
+
+    ghost view = { λ r. record { next = r.next; standing = r.standing.items } };
+
+    ghost use Rattle.std.specs.Prelude.{◌≤◌, length};
+
+    ghost invariant = { λ r. length r.standing.items ≤ 32 };
+}
+
+impl<A: Allocator + Copy> Requester<A> {
+    pub fn new(alloc: A) -> Requester<A>
+        ensures { result ≡ no_requests }
+    {
+        Requester {
+            alloc,
+            next: 0,
+            standing: Vec::new(alloc),
+        }
+    }
+
+    /// The number that the next transaction will get; none if 32 are open. If `closed` is a number, its transaction
+    /// counts as closed.
+    pub fn next_number(&self, closed: Option<u16>) -> Option<u16>
+        ensures { result ≡ next_number (closing self.now closed) }
+    {
+        let standing = self.standing.as_slice();
+        let Some(tid) = closed else {
+            return next_of(standing, &standing[..0], self.next);
+        };
+        match place_numbered(standing, tid) {
+            Some(index) => next_of(&standing[..index], &standing[index + 1..], self.next),
+            None => next_of(standing, &standing[..0], self.next),
+        }
+    }
+
+    /// Begins a transaction that asks for `wanted` packets, 1 to 8, and returns its number. The request may be sent
+    /// again `retries` times.
+    pub fn begin(
+        &mut self,
+        to: Address,
+        user: [u8; 4],
+        bytes: &[u8],
+        wanted: u8,
+        xo: bool,
+        retries: u8,
+        out: &mut Outbox<A>,
+    ) -> Result<u16, AtpFault>
+        requires some { 1 ≤ wanted }
+        requires few { wanted ≤ 8 }
+        ensures drawn { IfOk result (λ tid. next_number self.old ≡ Some tid) }
+        ensures state { IfOk result (λ tid. self.new ≡ begun self.old (beginning tid to user bytes.now wanted xo retries)) }
+        ensures sent { IfOk result (λ tid. Sends out.old out.new ((to, spelled (request_by (beginning tid to user bytes.now wanted xo retries))) ∷ [])) }
+
+        // The length of the data is tested first, and then whether a number is free.
+        ensures too_long { IsErrOf result AtpFault.AtpTooLong ↔ (578 < length bytes.now) }
+        ensures full { IsErrOf result AtpFault.Full ↔ ((length bytes.now ≤ 578) × (next_number self.old ≡ None)) }
+        ensures memory { IfErr result (λ fault. fault ≢ AtpFault.AtpTooLong → fault ≢ AtpFault.Full → fault ≡ AtpFault.NoMemory) }
+        ensures unchanged { OnErr result (self.new ≡ self.old) }
+        ensures nothing_sent { OnErr result (Sends out.old out.new []) }
+    {
+        if bytes.len() > MAX_DATA {
+            return Err(AtpFault::AtpTooLong);
+        }
+        let Some(tid) = self.next_number(None) else {
+            return Err(AtpFault::Full);
+        };
+        let asking = Asking {
+            to,
+            user,
+            bytes,
+            wanted,
+            xo,
+            retries,
+        };
+        let transaction = Transaction::begin(self.alloc, tid, &asking)?;
+        self.standing.reserve(1)?;
+        send(out, to, &transaction.request())?;
+        self.standing.push(transaction).unwrap();
+        self.next = tid.wrapping_add(1);
+        Ok(tid)
+    }
+
+    /// Takes a packet that came from this address.
+    pub fn receive(
+        &mut self,
+        from: Address,
+        frame: &Frame<'_>,
+        out: &mut Outbox<A>,
+    ) -> Result<Step<A>, AllocError>
+        ensures ok { IfOk result (λ step. IsHeard (heard self.old from (content frame.now)) step self.new out.old out.new) }
+        ensures unchanged { OnErr result (self.new ≡ self.old) }
+        ensures nothing_sent { OnErr result (Sends out.old out.new []) }
+
+        // A packet that has no effect needs no memory.
+        ensures ignored { is_ignored (heard {A = A} self.old from (content frame.now)).step ≡ true → IsOk result }
+    {
+        let Frame::Response {
+            place,
+            eom,
+            sts,
+            tid,
+            user,
+            data_,
+        } = *frame
+        else {
+            return Ok(Step::Ignored);
+        };
+        let Some(index) = place_of(&self.standing, tid, from) else {
+            return Ok(Step::Ignored);
+        };
+        let arriving = Arriving {
+            place,
+            eom,
+            sts,
+            user,
+            bytes: data_,
+        };
+        let transaction = &mut self.standing[index];
+        let step = transaction.take_in(self.alloc, &arriving, out)?;
+        settle(&mut self.standing, index, &step);
+        Ok(step)
+    }
+
+    /// Sends the request of the open transaction of this number again, for the packets still wanted, and uses up a
+    /// retry. If no retry is left, it closes the transaction, which needs no memory.
+    pub fn retry(&mut self, tid: u16, out: &mut Outbox<A>) -> Result<Retry, AtpFault>
+        ensures ok { IfOk result (λ step. IsRetried self.old tid step self.new out.old out.new) }
+        ensures missing { IsErrOf result AtpFault.NoSuch ↔ (retried self.old tid ≡ None) }
+        ensures memory { IfErr result (λ fault. fault ≢ AtpFault.NoSuch → fault ≡ AtpFault.NoMemory) }
+        ensures unchanged { OnErr result (self.new ≡ self.old) }
+        ensures nothing_sent { OnErr result (Sends out.old out.new []) }
+        ensures closes { IfSome (retried self.old tid) (λ effect. effect.step ≡ Retry.Failed → IsOk result) }
+    {
+        let Some(index) = place_numbered(&self.standing, tid) else {
+            return Err(AtpFault::NoSuch);
+        };
+        let transaction = &mut self.standing[index];
+        match transaction.take_retry(out) {
+            Err(AllocError) => Err(AtpFault::NoMemory),
+            Ok(true) => Ok(Retry::AskedAgain),
+            Ok(false) => {
+                drop(self.standing.remove(index));
+                Ok(Retry::Failed)
+            }
+        }
+    }
+}
+
+// Closes the transaction at an index if the step finished it.
+fn settle<A: Allocator>(standing: &mut Vec<Transaction<A>, A>, index: usize, step: &Step<A>)
+    requires { index < length standing.old.items }
+    ensures { standing.new.items ≡ (if is_finished step.now then remove standing.old.items index else standing.old.items) }
+{
+    if let Step::Finished(_) = step {
+        drop(standing.remove(index));
+    }
+}
+
+fn place_numbered<A: Allocator>(standing: &[Transaction<A>], tid: u16) -> Option<usize>
+    ensures first { result ≡ position_from (is_numbered tid) 0 standing.now }
+    ensures within { IfSome result (λ index. index < length standing.now) }
+{
+    standing.iter().position(|t| t.tid() == tid)
+}
+
+pub(crate) fn place_of<A: Allocator>(
+    standing: &[Transaction<A>],
+    tid: u16,
+    from: Address,
+) -> Option<usize>
+    ensures { result ≡ position_from (is_of tid from) 0 standing.now }
+{
+    standing.iter().position(|t| t.is_of(tid, from))
+}

@@ -1,0 +1,122 @@
+ghost use Rattle.std.specs.Prelude.{◌≡◌, ◌<◌, ◌∷◌, [], true, false, length, remove, is_some, Some, IfSome, IfOk, OnErr};
+ghost use Rattle.at_ddp.specs.Outbox.{Sends};
+ghost use Rattle.at_atp_frame.specs.Frames.{Response, content, spelled};
+ghost use Rattle.at_atp_requester.specs.Requests.{Requests, next_number, beginning, begun, request_by, is_response, finishes, heard};
+
+use crate::numbers::next_of;
+use crate::requester::{Requester, place_of};
+use crate::step::Step;
+use crate::transaction::{Arriving, Asking, Transaction};
+use at_atp_frame::{Frame, PACKET_LEN, send};
+use at_ddp::{Address, Outbox};
+use std::alloc::{AllocError, Allocator};
+
+impl<A: Allocator + Copy> Requester<A> {
+    /// Whether this packet from this address would end an at-least-once transaction.
+    pub fn finishes(&self, from: Address, frame: &Frame<'_>) -> bool
+        ensures { result ≡ finishes A self.now from (content frame.now) }
+    {
+        let Some((tid, arriving)) = answer_in(frame) else {
+            return false;
+        };
+        match place_of(&self.standing, tid, from) {
+            None => false,
+            Some(index) => self.standing[index].would_end(arriving.place, arriving.eom),
+        }
+    }
+
+    /// Takes a packet that ends an at-least-once transaction, and begins the next one. The next one asks the same
+    /// address for one packet, at least once and without data. Returns what came of the packet, and the new number. If
+    /// memory runs out, the packet is not taken either.
+    pub fn turn(
+        &mut self,
+        from: Address,
+        frame: &Frame<'_>,
+        user: [u8; 4],
+        retries: u8,
+        out: &mut Outbox<A>,
+    ) -> Result<(Step<A>, u16), AllocError>
+        requires { finishes A self.old from (content frame.now) ≡ true }
+        ensures step { IfOk result (λ r. r.0 ≡ (heard self.old from (content frame.now)).step) }
+        ensures drawn { IfOk result (λ r. next_number (heard {A = A} self.old from (content frame.now)).after ≡ Some r.1) }
+        ensures state { IfOk result (λ r. self.new ≡ begun (heard {A = A} self.old from (content frame.now)).after (beginning r.1 from user [] 1 false retries)) }
+
+        // An at-least-once transaction sends no release at its end.
+        ensures sent { IfOk result (λ r. Sends out.old out.new ((from, spelled (request_by (beginning r.1 from user [] 1 false retries))) ∷ [])) }
+        ensures unchanged { OnErr result (self.new ≡ self.old) }
+        ensures nothing_sent { OnErr result (Sends out.old out.new []) }
+    {
+        let (tid, arriving) = answer_in(frame).unwrap();
+        let index = place_of(&self.standing, tid, from).unwrap();
+        let next = self.following(index, from, user, retries)?;
+        out.room(1, PACKET_LEN)?;
+        let ended = &mut self.standing[index];
+        let step = ended.finish(self.alloc, &arriving, out)?;
+        send(out, from, &next.request()).unwrap();
+        Ok((step, self.pass_on(index, next)))
+    }
+
+    // The transaction that would begin if the one at an index were closed.
+    fn following(
+        &self,
+        index: usize,
+        to: Address,
+        user: [u8; 4],
+        retries: u8,
+    ) -> Result<Transaction<A>, AllocError>
+        requires { index < length self.now.standing }
+        ensures drawn { IfOk result (λ t. next_number (record self.now { standing = remove self.now.standing index }) ≡ Some t.tid) }
+        ensures asks { IfOk result (λ t. t ≡ beginning t.tid to user [] 1 false retries) }
+    {
+        let standing = self.standing.as_slice();
+        let tid = next_of(&standing[..index], &standing[index + 1..], self.next).unwrap();
+        let asking = Asking {
+            to,
+            user,
+            bytes: &[],
+            wanted: 1,
+            xo: false,
+            retries,
+        };
+        Transaction::begin(self.alloc, tid, &asking)
+    }
+
+    // Closes the transaction at an index and opens another. Returns the new number.
+    fn pass_on(&mut self, index: usize, next: Transaction<A>) -> u16
+        requires { index < length self.old.standing }
+        ensures state { self.new ≡ begun (record self.old { standing = remove self.old.standing index }) next }
+        ensures number { result ≡ next.tid }
+    {
+        let tid = next.tid();
+        drop(self.standing.remove(index));
+        self.standing.push(next).unwrap();
+        self.next = tid.wrapping_add(1);
+        tid
+    }
+}
+
+// The number and the contents of a packet of an answer.
+fn answer_in<'a>(frame: &Frame<'a>) -> Option<(u16, Arriving<'a>)>
+    ensures answer { IfSome result (λ r. content frame.now ≡ Response r.1.place r.1.eom r.1.sts r.0 r.1.user r.1.bytes.now) }
+    ensures other { is_some result ≡ is_response (content frame.now) }
+{
+    let Frame::Response {
+        place,
+        eom,
+        sts,
+        tid,
+        user,
+        data_,
+    } = *frame
+    else {
+        return None;
+    };
+    let arriving = Arriving {
+        place,
+        eom,
+        sts,
+        user,
+        bytes: data_,
+    };
+    Some((tid, arriving))
+}

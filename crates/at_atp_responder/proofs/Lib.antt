@@ -1,0 +1,4 @@
+mod AnsweringLemmas
+mod OnceLemmas
+mod RecordLemmas
+mod WaitLemmas

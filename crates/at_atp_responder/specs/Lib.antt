@@ -1,0 +1,3 @@
+pub mod Once
+pub mod Records
+pub mod States

@@ -1,0 +1,206 @@
+ghost use Rattle.std.specs.Prelude.{◌≡◌, ℕ, ◌+◌, ◌≤◌, ◌∷◌, [], length, true, false, if◌then◌else◌, IfOk, OnErr, IsOk};
+ghost use Rattle.at_ddp.specs.Outbox.{Sends, HasRoomFor};
+ghost use Rattle.at_atp_frame.specs.Frames.{Response, spelled_all};
+ghost use Rattle.at_atp_responder.specs.Records.{Waiting, Answered, fit, responses, is_key, is_from, state_fault, expiry_fault_of, asked_mask, keeps_answer, repeated, released, IsRepeat};
+
+use crate::reception::{Key, Reception};
+use at_atp_frame::{AtpFault, Frame, PACKET_LEN, Packet, send};
+use at_ddp::{Listed, Outbox};
+use std::alloc::{AllocError, Allocator};
+use std::marker::Model;
+
+// What became of a request.
+#[derive(Drop)]
+pub(crate) enum Held<A: Allocator> {
+    Waiting { xo: bool, mask: u8 },
+    Answered(Listed<Packet<A>, A>),
+    Released,
+}
+
+/// A record: a request that came, and what became of it.
+#[derive(Drop)]
+pub(crate) struct Entry<A: Allocator> {
+    key: Key,
+    held: Held<A>,
+}
+
+impl<A: Allocator> Model for Entry<A> {
+    ghost use Rattle.at_atp_responder.specs.Records.{Record};
+
+    ghost Value = { Record };
+
+    ghost use Rattle.at_atp_responder.specs.States.{state_of, CanBeSent};
+
+    ghost view = { λ e. record { key = e.key; state = state_of e.held } };
+
+    ghost invariant = { λ e. CanBeSent (state_of e.held) };
+}
+
+impl<A: Allocator> Entry<A> {
+    pub(crate) fn waiting(key: Key, xo: bool, mask: u8) -> Entry<A>
+        ensures { result ≡ record { key = key; state = Waiting xo mask } }
+    {
+        Entry {
+            key,
+            held: Held::Waiting { xo, mask },
+        }
+    }
+
+    pub(crate) fn is_of(&self, key: Key) -> bool
+        ensures { result ≡ is_key key self.now }
+    {
+        self.key.from == key.from && self.key.tid == key.tid
+    }
+
+    // Whether the request has this number and came from this node.
+    pub(crate) fn is_from(&self, node: u8, tid: u16) -> bool
+        ensures { result ≡ is_from node tid self.now }
+    {
+        self.key.from.node == node && self.key.tid == tid
+    }
+
+    // Why the request cannot be answered.
+    pub(crate) fn fault(&self) -> Option<AtpFault>
+        ensures { result ≡ state_fault self.now.state }
+    {
+        match &self.held {
+            Held::Waiting { .. } => None,
+            Held::Answered(_) => Some(AtpFault::Gone),
+            Held::Released => Some(AtpFault::Gone),
+        }
+    }
+
+    // Why the record cannot expire.
+    pub(crate) fn expiry_fault(&self) -> Option<AtpFault>
+        ensures { result ≡ expiry_fault_of self.now.state }
+    {
+        match &self.held {
+            Held::Waiting { .. } => Some(AtpFault::StillPending),
+            Held::Answered(_) => None,
+            Held::Released => None,
+        }
+    }
+
+    pub(crate) fn mask(&self) -> u8
+        ensures { result ≡ asked_mask self.now.state }
+    {
+        match &self.held {
+            Held::Waiting { mask, .. } => *mask,
+            Held::Answered(_) => 0,
+            Held::Released => 0,
+        }
+    }
+
+    // Whether the request is exactly-once and waits, so that its answer will be kept.
+    pub(crate) fn keeps_answer(&self) -> bool
+        ensures { result ≡ keeps_answer self.now.state }
+    {
+        match &self.held {
+            Held::Waiting { xo, .. } => *xo,
+            Held::Answered(_) => false,
+            Held::Released => false,
+        }
+    }
+
+    pub(crate) fn keep(&mut self, packets: Listed<Packet<A>, A>)
+        requires few { length packets ≤ 8 }
+        requires fits { fit packets ≡ true }
+        ensures { self.new ≡ record self.old { state = Answered packets } }
+    {
+        self.held = Held::Answered(packets);
+    }
+
+    // Sends what is kept of the answer again. A request that still waits takes the new mask.
+    pub(crate) fn come_again(
+        &mut self,
+        mask: u8,
+        out: &mut Outbox<A>,
+    ) -> Result<Reception, AllocError>
+        ensures ok { IfOk result (λ r. IsRepeat (repeated self.old.key mask self.old.state) r self.old self.new out.old out.new) }
+        ensures unchanged { OnErr result (self.new ≡ self.old) }
+        ensures nothing_sent { OnErr result (Sends out.old out.new []) }
+        ensures ignored { (repeated self.old.key mask self.old.state).reception ≡ Reception.Ignored → IsOk result }
+    {
+        let key = self.key;
+        match &self.held {
+            Held::Released => Ok(Reception::Ignored),
+            Held::Answered(packets) => {
+                let packets = packets.as_slice();
+                out.room(packets.len() as u32, PACKET_LEN)?;
+                Ok(Reception::Again(send_answer(out, key, 0, mask, packets)))
+            }
+            Held::Waiting { xo, .. } => {
+                self.held = Held::Waiting { xo: *xo, mask };
+                Ok(Reception::Again(0))
+            }
+        }
+    }
+
+    // Drops the answer that is kept, since it arrived complete.
+    pub(crate) fn release(&mut self) -> Reception
+        ensures reception { result ≡ (released self.old.state).reception }
+        ensures state { self.new ≡ record self.old { state = (released self.old.state).state } }
+    {
+        match &self.held {
+            Held::Waiting { .. } => Reception::Ignored,
+            Held::Released => Reception::Ignored,
+            Held::Answered(_) => {
+                self.held = Held::Released;
+                Reception::Released
+            }
+        }
+    }
+}
+
+// Sends the packets whose bits are set in the mask, and counts them. Bit 0 is for the packet at `place`.
+pub(crate) fn send_answer<A: Allocator>(
+    out: &mut Outbox<A>,
+    key: Key,
+    place: u8,
+    mask: u8,
+    packets: &[Packet<A>],
+) -> u8
+    requires fits { fit packets.now ≡ true }
+    requires few { place + length packets.now ≤ 8 }
+    requires room { HasRoomFor out.old (length packets.now) 586 }
+    ensures sent { Sends out.old out.new (spelled_all (responses key place mask packets.now)) }
+    ensures count { result ≡ length (responses key place mask packets.now) }
+    ensures few { result ≤ length packets.now }
+{
+    match packets {
+        [] => 0,
+        [packet, rest @ ..] => {
+            let asked = mask % 2 == 1;
+            send_if(asked, out, key, place, rest.is_empty(), packet);
+            u8::from(asked) + send_answer(out, key, place + 1, mask / 2, rest)
+        }
+    }
+}
+
+fn send_if<A: Allocator>(
+    asked: bool,
+    out: &mut Outbox<A>,
+    key: Key,
+    place: u8,
+    eom: bool,
+    packet: &Packet<A>,
+)
+    requires place { place ≤ 7 }
+    requires fits { length packet.now.data_ ≤ 578 }
+    requires room { HasRoomFor out.old 1 586 }
+    ensures sent { Sends out.old out.new (spelled_all (if asked then (key.from, Response place eom false key.tid packet.now.user packet.now.data_) ∷ [] else [])) }
+    ensures room { (n : ℕ) → HasRoomFor out.old (n + 1) 586 → HasRoomFor out.new n 586 }
+{
+    if !asked {
+        return;
+    }
+    let frame = Frame::Response {
+        place,
+        eom,
+        sts: false,
+        tid: key.tid,
+        user: packet.user(),
+        data_: packet.data_(),
+    };
+    send(out, key.from, &frame).unwrap();
+}

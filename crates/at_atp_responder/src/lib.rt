@@ -1,0 +1,12 @@
+//! The side that answers, of the AppleTalk Transaction Protocol (ATP): the requests that came to one socket.
+#![tactic(auto)]
+
+mod answering;
+mod entry;
+pub mod laws;
+mod reception;
+mod records;
+mod responder;
+
+pub use reception::{Key, Reception};
+pub use responder::Responder;

@@ -1,0 +1,112 @@
+ghost use Rattle.std.specs.Prelude.{◌≡◌, ◌≢◌, ◌↔◌, [], true, find, is_some, IfOk, IfErr, IfSome, OnOk, OnErr, IsOk, IsErrOf, None, Err};
+ghost use Rattle.std.specs.List.{list_any};
+ghost use Rattle.at_ddp.specs.Outbox.{Sends};
+ghost use Rattle.at_atp_frame.specs.Frames.{content};
+ghost use Rattle.at_atp_responder.specs.Records.{is_from, is_key, taken, finds_no_place, record_fault, expiry_fault, IsTaken};
+ghost use Rattle.at_ddp.specs.Tables.{without_first};
+
+use crate::entry::Entry;
+use crate::reception::{Key, Reception};
+use crate::records::{entry_of, expiry_fault, forget, record_fault, take_in, take_release};
+use at_atp_frame::{AtpFault, Frame};
+use at_ddp::{Address, Outbox};
+use std::alloc::{Allocator, Global};
+use std::marker::Model;
+
+/// The responder of a socket: a record for each request that came, with what became of it. At most 64 records stand.
+#[derive(Drop)]
+pub struct Responder<A: Allocator = Global> {
+    pub(crate) alloc: A,
+    pub(crate) entries: Vec<Entry<A>, A>,
+}
+
+impl<A: Allocator> Model for Responder<A> {
+    ghost use Rattle.std.specs.Prelude.{List};
+    ghost use Rattle.at_atp_responder.specs.Records.{Record};
+
+    ghost Value = { List Record };
+
+    ghost view = { λ r. r.entries.items };
+}
+
+impl<A: Allocator + Copy> Responder<A> {
+    pub fn new(alloc: A) -> Responder<A>
+        ensures { result ≡ [] }
+    {
+        Responder {
+            alloc,
+            entries: Vec::new(alloc),
+        }
+    }
+
+    /// Takes a packet that came from this address. A new request waits for its answer from then on.
+    pub fn receive(
+        &mut self,
+        from: Address,
+        frame: &Frame<'_>,
+        out: &mut Outbox<A>,
+    ) -> Result<Reception, AtpFault>
+        ensures ok { IfOk result (λ r. IsTaken (taken self.old from (content frame.now)) r self.new out.old out.new) }
+        ensures full { IsErrOf result AtpFault.Full ↔ (finds_no_place self.old from (content frame.now) ≡ true) }
+        ensures memory { IfErr result (λ fault. fault ≢ AtpFault.Full → fault ≡ AtpFault.NoMemory) }
+        ensures unchanged { OnErr result (self.new ≡ self.old) }
+        ensures nothing_sent { OnErr result (Sends out.old out.new []) }
+
+        // A packet that has no effect needs no memory, and neither does a release.
+        ensures ignored { (taken self.old from (content frame.now)).reception ≡ Reception.Ignored → IsOk result }
+        ensures released { (taken self.old from (content frame.now)).reception ≡ Reception.Released → IsOk result }
+    {
+        match *frame {
+            Frame::Request { mask, xo, tid, .. } => {
+                if mask == 0 {
+                    return Ok(Reception::Ignored);
+                }
+                take_in(&mut self.entries, Key { from, tid }, xo, mask, out)
+            }
+            Frame::Release { tid } => Ok(take_release(&mut self.entries, Key { from, tid })),
+            Frame::Response { .. } => Ok(Reception::Ignored),
+        }
+    }
+
+    /// Whether this request has a record.
+    pub fn holds(&self, key: Key) -> bool
+        ensures { result ≡ is_some (find (is_key key) self.now) }
+    {
+        entry_of(&self.entries, key).is_some()
+    }
+
+    /// Whether a request with this number from this node has a record.
+    pub fn holds_number(&self, node: u8, tid: u16) -> bool
+        ensures { result ≡ list_any (is_from node tid) self.now }
+    {
+        self.entries.iter().any(|e| e.is_from(node, tid))
+    }
+
+    /// Removes the record of a request that waits, as if the request had not come. This needs no memory.
+    pub fn undo(&mut self, key: Key) -> Result<(), AtpFault>
+        ensures ok { OnOk result (self.new ≡ without_first (is_key key) self.old) }
+        ensures refuses { IfSome (record_fault (find (is_key key) self.old)) (λ fault. result ≡ Err fault) }
+        ensures succeeds { record_fault (find (is_key key) self.old) ≡ None → IsOk result }
+        ensures unchanged { OnErr result (self.new ≡ self.old) }
+    {
+        if let Some(fault) = record_fault(&self.entries, key) {
+            return Err(fault);
+        }
+        let _ = forget(&mut self.entries, key);
+        Ok(())
+    }
+
+    /// Removes the record of a request that was answered, since its release timer fired. This needs no memory.
+    pub fn expire(&mut self, key: Key) -> Result<(), AtpFault>
+        ensures ok { OnOk result (self.new ≡ without_first (is_key key) self.old) }
+        ensures refuses { IfSome (expiry_fault (find (is_key key) self.old)) (λ fault. result ≡ Err fault) }
+        ensures succeeds { expiry_fault (find (is_key key) self.old) ≡ None → IsOk result }
+        ensures unchanged { OnErr result (self.new ≡ self.old) }
+    {
+        if let Some(fault) = expiry_fault(&self.entries, key) {
+            return Err(fault);
+        }
+        let _ = forget(&mut self.entries, key);
+        Ok(())
+    }
+}
