@@ -3,7 +3,7 @@ use Rattle.std.proofs.Common.{◌≡◌, ◌<◌, ℕ, zero, suc, List, [], ◌�
 use Rattle.std.specs.List.{Contains}
 use Rattle.at_atp_frame.specs.Frames.{Content, Request, Response, Release}
 use Rattle.at_atp_frame.specs.Frames.{number_of}
-use Rattle.at_node.specs.Steps.{tid_of}
+use Rattle.at_node.specs.AtpParts.{tid_of}
 
 pub numbers_alike : (f : Content) → tid_of f ≡ number_of f
 numbers_alike (Request mask xo timer tid user bytes) = refl

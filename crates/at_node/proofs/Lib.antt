@@ -1,6 +1,7 @@
 mod DrawingLemmas
-mod HearingLemmas
-mod MemoryLemmas
+mod OutcomeLemmas
 mod PostLemmas
+mod RequesterLemmas
+mod ResponderLemmas
 mod ServingLemmas
 mod SentHeard

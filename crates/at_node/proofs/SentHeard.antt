@@ -1,5 +1,6 @@
 -- What is sent is heard, from the laws of the spellings.
-use Rattle.std.proofs.Common.{lit<, ◌≡◌, ◌⊎◌, inl, inr, ℕ, ◌^◌, ◌<◌, ◌≤◌, Bool, List, [], ◌++◌, length, refl, ap, subst, ◌∙◌}
+use Rattle.std.proofs.Common.{lit<, ◌≡◌, inl, inr, ℕ, ◌^◌, ◌<◌, ◌≤◌, Bool, true, false, List, [], ◌++◌, length, Option, Some, None, refl, ap, subst, ◌∙◌}
+use Rattle.std.specs.Prelude.{MatchBool}
 use Rattle.std.proofs.lemmas.List.{append-nil}
 use Rattle.at_ddp.specs.Datagram.{Content as Datagram, IsAddress, AreBytes, BeginsWith, canonical, written}
 use Rattle.at_ddp.specs.Fault as ddp
@@ -17,9 +18,16 @@ use Rattle.at_zip.specs.Request.{RequestSpells, request_user}
 use Rattle.at_zip.specs.declared.fault.ZipFault.{ZipFault}
 use Rattle.at_node.specs.declared.service.Reply.{Reply}
 use Rattle.at_node.specs.declared.event.Report.{Report}
-use Rattle.at_node.specs.Nodes.{NodeState, Outcome}
-use Rattle.at_node.specs.Steps.{atp_kind, zone_asked}
-use Rattle.at_node.specs.Hearing.{Nobody, Asker, Service, Zones, Socket, socket_of, AtSocket, AtZones, HearsAt, HearsPacket, HearsAtpFault, Hears, Tells, told_by}
+use Rattle.at_node.specs.declared.event.Report.TheVariants.{Ignored}
+use Rattle.at_node.specs.declared.seat.Seat.{Seat}
+use Rattle.at_node.specs.AtpHearing.{AtpSocket, AtSocket, HearsAt, HearsPacket, HearsAtpFault, HearsAtp, atp_socket}
+use Rattle.at_node.specs.AtpParts.{AtpState, atp_kind}
+use Rattle.at_node.specs.Hearing.{HearsIt, HearsMine, Hears, HearsSent}
+use Rattle.at_node.specs.Nodes.{NodeState, with_atp}
+use Rattle.at_node.specs.Outcomes.{Outcome, Over, idle}
+use Rattle.at_node.specs.Seats.{is_mine}
+use Rattle.at_node.specs.ZoneReading.{Tells, told_by}
+use Rattle.at_node.specs.ZoneSocket.{AtZones, zone_asked}
 
 -- ---- packets
 
@@ -28,19 +36,13 @@ pub record PacketLaws : Type 0 where
   pub alone : (input : List ℕ) (f g : Content) → Spells input f → Spells input g → f ≡ g
   pub faultless : (input : List ℕ) (f : Content) → Spells input f → (fault : AtpFault) → ¬ atp.Stands fault input
 
-one_packet_heard : (A : Type 0) (said : Reply A) (n : NodeState) (d : Datagram) (socket : Socket) (f : Content) (o : Outcome A) → PacketLaws → IsLawful f → d.data_ ≡ spelled f →
-    HearsPacket said n d socket o ⊎ HearsAtpFault n d o → AtSocket said n d.from socket f o
-one_packet_heard A said n d socket f o laws ok is (inl h) =
-    subst (λ g. AtSocket said n d.from socket g o) (laws.alone (spelled f) h.packet f (subst (λ bytes. Spells bytes h.packet) is h.spelled) (laws.reads f ok)) h.outcome
-one_packet_heard A said n d socket f o laws ok is (inr h) =
+at_socket : (A : Type 0) (said : Reply A) (s : Seat) (a : AtpState) (d : Datagram) (socket : Option AtpSocket) (f : Content) (o : Outcome A AtpState) → PacketLaws → IsLawful f → d.data_ ≡ spelled f → HearsAt said s a d socket o → AtSocket said s a d.from socket f o
+at_socket A said s a d None f o laws ok is h = h
+at_socket A said s a d (Some socket) f o laws ok is (inl h) =
+    subst (λ g. AtSocket said s a d.from (Some socket) g o) (laws.alone (spelled f) h.packet f (subst (λ bytes. Spells bytes h.packet) is h.spelled) (laws.reads f ok)) h.outcome
+at_socket A said s a d (Some socket) f o laws ok is (inr h) =
     let first = h.first in
     absurd (laws.faultless (spelled f) f (laws.reads f ok) h.fault (subst (atp.Stands h.fault) is first.stands))
-
-at_socket : (A : Type 0) (said : Reply A) (n : NodeState) (d : Datagram) (socket : Socket) (f : Content) (o : Outcome A) → PacketLaws → IsLawful f → d.data_ ≡ spelled f → HearsAt said n d socket o → AtSocket said n d.from socket f o
-at_socket A said n d Nobody f o laws ok is h = h
-at_socket A said n d Asker f o laws ok is h = one_packet_heard A said n d Asker f o laws ok is h
-at_socket A said n d Service f o laws ok is h = one_packet_heard A said n d Service f o laws ok is h
-at_socket A said n d (Zones table) f o laws ok is h = one_packet_heard A said n d (Zones table) f o laws ok is h
 
 -- ---- datagrams
 
@@ -70,24 +72,34 @@ carries to from f laws reads to_fits from_fits ok = record {
   is_draw = refl;
 }
 
-pub heard_as_sent : (A : Type 0) (said : Reply A) (n : NodeState) (to from : Address) (f : Content) (o : Outcome A) → DatagramLaws → PacketLaws → IsAddress to → IsAddress from → IsLawful f →
-    Hears said n (canonical to from atp_kind (spelled f)) o → AtSocket said n from (socket_of n (written to from atp_kind (spelled f))) f o
+-- what its part does with a datagram of ATP that was written for a packet
+mine_as_sent : (A : Type 0) (said : Reply A) (n : NodeState) (to from : Address) (f : Content) (o : Outcome A NodeState) → PacketLaws → IsLawful f →
+    HearsIt said n (written to from atp_kind (spelled f)) o → HearsSent said n to from f o
+mine_as_sent A said n to from f o packets ok = go (is_mine n.seat to)
+  where
+    go : (b : Bool) → MatchBool b (HearsMine said n (written to from atp_kind (spelled f)) o) (o ≡ idle n Ignored)
+        → MatchBool b (Over (with_atp n) (AtSocket said n.seat n.atp from (atp_socket n.atp to.socket) f) o) (o ≡ idle n Ignored)
+    go false h = h
+    go true h = (h.0, at_socket A said n.seat n.atp (written to from atp_kind (spelled f)) (atp_socket n.atp to.socket) f h.0 packets ok refl h.1, h.2)
+
+pub heard_as_sent : (A : Type 0) (said : Reply A) (n : NodeState) (to from : Address) (f : Content) (o : Outcome A NodeState) → DatagramLaws → PacketLaws → IsAddress to → IsAddress from → IsLawful f →
+    Hears said n (canonical to from atp_kind (spelled f)) o → HearsSent said n to from f o
 heard_as_sent A said n to from f o laws packets to_fits from_fits ok (inl h) =
     let sent = written to from atp_kind (spelled f) in
     let same = laws.alone (canonical to from atp_kind (spelled f)) h.datagram sent h.rest [] h.begins (begins laws to from f to_fits from_fits ok) in
-    at_socket A said n sent (socket_of n sent) f o packets ok refl (subst (λ (d : Datagram). HearsAt said n d (socket_of n d) o) same.0 h.outcome)
+    mine_as_sent A said n to from f o packets ok (subst (λ (d : Datagram). HearsIt said n d o) same.0 h.outcome)
 heard_as_sent A said n to from f o laws packets to_fits from_fits ok (inr h) =
     let first = h.first in
     absurd (laws.faultless (canonical to from atp_kind (spelled f)) (written to from atp_kind (spelled f)) [] (begins laws to from f to_fits from_fits ok) h.fault first.stands)
 
 -- ---- zone requests and pages
 
-pub asked_is_served : (A : Type 0) (n : NodeState) (from : Address) (table : List (List ℕ)) (mask : ℕ) (xo : Bool) (timer tid start : ℕ) (bytes : List ℕ) (o : Outcome A) →
-    ((s : ℕ) → 1 ≤ s → s < 2 ^ 16 → RequestSpells (request_user s) s) → ((user : List ℕ) (m k : ℕ) → RequestSpells user m → RequestSpells user k → m ≡ k) → 1 ≤ start → start < 2 ^ 16 →
-    AtZones n from table (Request mask xo timer tid (request_user start) bytes) o → o ≡ zone_asked n from (Request mask xo timer tid (request_user start) bytes) table start
-asked_is_served A n from table mask xo timer tid start bytes o reads alone some fits (inl h) =
-    h.outcome ∙ ap (λ s. zone_asked {A = A} n from (Request mask xo timer tid (request_user start) bytes) table s) (alone (request_user start) h.start start h.asks (reads start some fits))
-asked_is_served A n from table mask xo timer tid start bytes o reads alone some fits (inr h) = absurd (h.0 start (reads start some fits))
+pub asked_is_served : (A : Type 0) (s : Seat) (a : AtpState) (from : Address) (table : List (List ℕ)) (mask : ℕ) (xo : Bool) (timer tid start : ℕ) (bytes : List ℕ) (o : Outcome A AtpState) →
+    ((k : ℕ) → 1 ≤ k → k < 2 ^ 16 → RequestSpells (request_user k) k) → ((user : List ℕ) (m k : ℕ) → RequestSpells user m → RequestSpells user k → m ≡ k) → 1 ≤ start → start < 2 ^ 16 →
+    AtZones s a from table (Request mask xo timer tid (request_user start) bytes) o → o ≡ zone_asked s a from (Request mask xo timer tid (request_user start) bytes) table start
+asked_is_served A s a from table mask xo timer tid start bytes o reads alone some fits (inl h) =
+    h.outcome ∙ ap (λ k. zone_asked {A = A} s a from (Request mask xo timer tid (request_user start) bytes) table k) (alone (request_user start) h.start start h.asks (reads start some fits))
+asked_is_served A s a from table mask xo timer tid start bytes o reads alone some fits (inr h) = absurd (h.0 start (reads start some fits))
 
 pub told_as_written : (A : Type 0) (p : page.Page) (r : Report A) →
     ((q : page.Page) (rest : List ℕ) → page.IsLawful q → page.Spells (page.page_user q) (page.page_data q ++ rest) q) →

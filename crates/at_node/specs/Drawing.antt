@@ -12,8 +12,8 @@ use Rattle.at_node.specs.declared.drawing.Input.TheVariants as input
 use Rattle.at_node.specs.declared.event.Call.{Call}
 use Rattle.at_node.specs.declared.event.Report.{Report}
 use Rattle.at_node.specs.declared.event.Report.TheVariants as report
-use Rattle.at_node.specs.Nodes.{NodeState}
-use Rattle.at_node.specs.Steps.{atp_kind, called}
+use Rattle.at_node.specs.AtpParts.{atp_kind}
+use Rattle.at_node.specs.Nodes.{NodeState, called}
 
 -- the number that the node drew, if this is its report
 abbrev pub drawn_by : {A : Type 0} → Report A → Option Draw
@@ -32,7 +32,7 @@ draw_of_input n (input.Received bytes) = None
 
 -- does the node hold a record of a request of that node with this number?
 abbrev pub holds : NodeState → ℕ → Draw → Bool
-holds n node (Tid tid) = list_any (is_from node tid) n.served || list_any (is_from node tid) n.service
+holds n node (Tid tid) = list_any (is_from node tid) n.atp.zone_responder || list_any (is_from node tid) n.atp.service_responder
 
 -- the bytes begin with a datagram that carries this number of the node
 pub record Carries (bytes : List ℕ) (node : ℕ) (draw : Draw) : Type 0 where

@@ -1,5 +1,15 @@
+pub mod AtpHearing
+pub mod AtpParts
 pub mod Calls
 pub mod Drawing
+pub mod Faults
 pub mod Hearing
+pub mod Kinds
 pub mod Nodes
-pub mod Steps
+pub mod Outcomes
+pub mod RequesterSocket
+pub mod Responders
+pub mod Seats
+pub mod ServiceSocket
+pub mod ZoneReading
+pub mod ZoneSocket

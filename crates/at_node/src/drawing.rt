@@ -7,9 +7,10 @@ ghost use Rattle.at_node.specs.Drawing.{Carries, draw_of, draw_of_input, holds};
 ghost use Rattle.at_node.specs.declared.drawing.Draw.{Draw as Drawn};
 ghost use Rattle.at_node.specs.declared.drawing.Draw.TheVariants.{Tid};
 
-use crate::asking::{ATP, tid_of};
+use crate::atp_part::ATP;
 use crate::event::{Call, Timer};
 use crate::node::Node;
+use crate::requester_socket::tid_of;
 use at_atp::{Frame, MAX_DATA};
 use at_ddp::{Address, decode};
 use std::alloc::{Allocator, Global};
@@ -47,7 +48,8 @@ impl<A: Allocator + Copy> Node<A> {
     {
         match draw {
             Draw::Tid(tid) => {
-                self.served.holds_number(node, tid) || self.service.holds_number(node, tid)
+                self.atp.zone_responder.holds_number(node, tid)
+                    || self.atp.service_responder.holds_number(node, tid)
             }
         }
     }
@@ -57,7 +59,7 @@ impl<A: Allocator + Copy> Node<A> {
     {
         match call {
             Call::Zones => {
-                if self.router.is_none() || self.reading.is_some() {
+                if self.seat.router.is_none() || self.atp.reading.is_some() {
                     return None;
                 }
                 self.next_draw()
@@ -73,9 +75,9 @@ impl<A: Allocator + Copy> Node<A> {
     }
 
     fn next_draw(&self) -> Option<Draw>
-        ensures { result ≡ option_map (λ tid. Tid tid) (next_number self.now.requester) }
+        ensures { result ≡ option_map (λ tid. Tid tid) (next_number self.now.atp.requester) }
     {
-        let tid = self.requester.next_number(None)?;
+        let tid = self.atp.requester.next_number(None)?;
         Some(Draw::Tid(tid))
     }
 }

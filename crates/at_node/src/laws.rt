@@ -6,21 +6,25 @@ ghost use Rattle.at_atp_frame.specs.Frames.{Content, Request, IsLawful, spelled}
 ghost use Rattle.at_atp_frame.specs.Packets.{Packet};
 ghost use Rattle.at_zip.specs.Page.{Page, IsLawful as IsLawfulPage, page_user, page_data};
 ghost use Rattle.at_zip.specs.Request.{request_user};
-ghost use Rattle.at_node.specs.Nodes.{NodeState, Outcome};
-ghost use Rattle.at_node.specs.Steps.{atp_kind, zone_asked};
+ghost use Rattle.at_node.specs.AtpParts.{AtpState, atp_kind};
+ghost use Rattle.at_node.specs.Nodes.{NodeState};
+ghost use Rattle.at_node.specs.Outcomes.{Outcome};
 ghost use Rattle.at_atp_frame.specs.Frames.{owner, number_of};
 ghost use Rattle.at_node.specs.Drawing.{Carries};
 ghost use Rattle.at_node.specs.declared.drawing.Draw.TheVariants.{Tid};
-ghost use Rattle.at_node.specs.Hearing.{Hears, AtSocket, AtZones, Tells, socket_of, told_by};
+ghost use Rattle.at_node.specs.Hearing.{Hears, HearsSent};
+ghost use Rattle.at_node.specs.ZoneReading.{Tells, told_by};
+ghost use Rattle.at_node.specs.ZoneSocket.{AtZones, zone_asked};
+ghost use Rattle.at_node.specs.declared.seat.Seat.{Seat};
 ghost use Rattle.at_node.specs.declared.event.Report.{Report};
 ghost use Rattle.at_node.specs.declared.service.Reply.{Reply};
 
 use std::alloc::Allocator;
 
-/// What is sent is received: the bytes of a packet do what that packet does at the socket that they go to.
+/// What is sent is received: the bytes of a packet do what that packet does at the socket that it was sent to.
 pub fn what_is_sent_is_heard<A: Allocator>()
-    ensures { (said : Reply A) (n : NodeState) (to from : Address) (f : Content) (o : Outcome A) → IsAddress to → IsAddress from → IsLawful f → Hears said n (canonical to from atp_kind (spelled f)) o
-        → AtSocket said n from (socket_of n (written to from atp_kind (spelled f))) f o }
+    ensures { (said : Reply A) (n : NodeState) (to from : Address) (f : Content) (o : Outcome A NodeState) → IsAddress to → IsAddress from → IsLawful f
+        → Hears said n (canonical to from atp_kind (spelled f)) o → HearsSent said n to from f o }
 {
     at_ddp::laws::what_is_written_is_read();
     at_atp::laws::what_is_written_is_read();
@@ -29,8 +33,8 @@ pub fn what_is_sent_is_heard<A: Allocator>()
 
 /// A request for the page from a place on is answered with that page, and no other.
 pub fn a_page_asked_for_is_served<A: Allocator>()
-    ensures { (n : NodeState) (from : Address) (table : List (List ℕ)) (mask : ℕ) (xo : Bool) (timer tid start : ℕ) (bytes : List ℕ) (o : Outcome A) → 1 ≤ start → start < 2 ^ 16
-        → AtZones n from table (Request mask xo timer tid (request_user start) bytes) o → o ≡ zone_asked n from (Request mask xo timer tid (request_user start) bytes) table start }
+    ensures { (s : Seat) (a : AtpState) (from : Address) (table : List (List ℕ)) (mask : ℕ) (xo : Bool) (timer tid start : ℕ) (bytes : List ℕ) (o : Outcome A AtpState) → 1 ≤ start → start < 2 ^ 16
+        → AtZones s a from table (Request mask xo timer tid (request_user start) bytes) o → o ≡ zone_asked s a from (Request mask xo timer tid (request_user start) bytes) table start }
 {
     at_zip::laws::what_is_written_is_read();
     at_zip::laws::one_page_a_spelling();

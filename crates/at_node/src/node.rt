@@ -1,45 +1,27 @@
 ghost use Rattle.std.specs.Prelude.{◌≡◌, ℕ, List, false};
 ghost use Rattle.at_ddp.specs.Datagram.{content};
-ghost use Rattle.at_node.specs.Hearing.{HearsAt, Hears, Serves, is_mine, is_asked, socket_of};
-ghost use Rattle.at_node.specs.Nodes.{Comes, opening};
-ghost use Rattle.at_node.specs.Steps.{refused_as};
+ghost use Rattle.at_node.specs.Hearing.{HearsIt, Hears};
+ghost use Rattle.at_node.specs.Nodes.{opening, called, timed};
+ghost use Rattle.at_node.specs.Outcomes.{Comes, IsStep, refused_as};
+ghost use Rattle.at_node.specs.ServiceSocket.{Serves, is_asked};
 ghost use Rattle.at_node.specs.declared.service.Reply.{Reply};
 
-use crate::asking::ATP;
-use crate::event::Report;
+use crate::atp_part::{ATP, AtpPart};
+use crate::event::{Call, Report, Timer};
+use crate::requester_socket::Question;
+use crate::seat::Seat;
 use crate::service::Service;
-use at_atp::{Requester, Responder};
-use at_ddp::{Address, Datagram, Datagrams, decode};
+use at_atp::Key;
+use at_ddp::{Datagram, Datagrams, decode};
 use at_zip::Zones;
 use std::alloc::{Allocator, Global};
 use std::marker::Model;
 
-/// The socket that asks, for the node's own transactions.
-pub(crate) const ASKING: u8 = 128;
-
-/// The socket of the node's service.
-pub(crate) const SERVICE: u8 = 129;
-
-/// The router's zone socket.
-pub(crate) const ZONES: u8 = 6;
-
 /// A node of a cable.
 #[derive(Drop)]
 pub struct Node<A: Allocator = Global> {
-    pub(crate) alloc: A,
-    pub(crate) net: u16,
-    number: u8,
-    // The number of the cable's router, if there is one.
-    pub(crate) router: Option<u8>,
-    // The zone table, if this node is the router.
-    pub(crate) zones: Option<Zones<A>>,
-    // The transaction that reads the zone list, if one is open.
-    pub(crate) reading: Option<u16>,
-    pub(crate) requester: Requester<A>,
-    // The requests that came to the zone socket.
-    pub(crate) served: Responder<A>,
-    // The requests that came to the service's socket.
-    pub(crate) service: Responder<A>,
+    pub(crate) seat: Seat,
+    pub(crate) atp: AtpPart<A>,
 }
 
 impl<A: Allocator> Model for Node<A> {
@@ -47,7 +29,7 @@ impl<A: Allocator> Model for Node<A> {
 
     ghost Value = { NodeState };
 
-    ghost view = { λ n. record { net = n.net; number = n.number; router = n.router; table = n.zones; reading = n.reading; requester = n.requester; served = n.served; service = n.service } };
+    ghost view = { λ n. record { seat = n.seat; atp = n.atp } };
 }
 
 impl<A: Allocator + Copy> Node<A> {
@@ -63,15 +45,75 @@ impl<A: Allocator + Copy> Node<A> {
         ensures { result ≡ opening net number router zones }
     {
         Node {
-            alloc,
-            net,
-            number,
-            router,
-            zones,
-            reading: None,
-            requester: Requester::new(alloc),
-            served: Responder::new(alloc),
-            service: Responder::new(alloc),
+            seat: Seat {
+                net,
+                number,
+                router,
+            },
+            atp: AtpPart::new(alloc, zones),
+        }
+    }
+
+    /// The node's number, 1 to 254.
+    pub fn number(&self) -> u8
+        ensures { result ≡ self.now.seat.number }
+    {
+        self.seat.number
+    }
+
+    /// Plays a call by the node's user. What the node sends goes to the end of the list.
+    pub fn call(&mut self, call: &Call<A>, out: &mut Datagrams<A>) -> Report<A>
+        ensures { IsStep (called self.old call.now) self.old out.old.items result self.new out.new.items }
+    {
+        match call {
+            Call::Zones => self.atp.read_zones(self.seat, out),
+            Call::Ask {
+                node,
+                socket,
+                user,
+                data_,
+                wanted,
+                exactly_once,
+                retries,
+            } => {
+                let question = Question {
+                    to: self.seat.there(*node, *socket),
+                    user: *user,
+                    bytes: data_.as_slice(),
+                    wanted: wanted.get(),
+                    exactly_once: *exactly_once,
+                    retries: *retries,
+                };
+                self.atp.ask(self.seat, &question, out)
+            }
+            Call::Answer {
+                node,
+                socket,
+                tid,
+                packets,
+            } => {
+                let from = self.seat.there(*node, *socket);
+                let key = Key { from, tid: *tid };
+                self.atp.answer(self.seat, key, packets.as_slice(), out)
+            }
+        }
+    }
+
+    /// Plays a timer that fires. What the node sends goes to the end of the list.
+    pub fn timer(&mut self, timer: Timer, out: &mut Datagrams<A>) -> Report<A>
+        ensures { IsStep (timed self.old timer) self.old out.old.items result self.new out.new.items }
+    {
+        match timer {
+            Timer::Retry { tid } => self.atp.retry(self.seat, tid, out),
+            Timer::Release {
+                own,
+                node,
+                socket,
+                tid,
+            } => {
+                let from = self.seat.there(node, socket);
+                self.atp.expire(own, Key { from, tid })
+            }
         }
     }
 
@@ -91,52 +133,22 @@ impl<A: Allocator + Copy> Node<A> {
         }
     }
 
-    /// The node's number, 1 to 254.
-    pub fn number(&self) -> u8
-        ensures { result ≡ self.now.number }
-    {
-        self.number
-    }
-
-    // The address of a socket of this node.
-    pub(crate) fn at(&self, socket: u8) -> Address
-        ensures { result ≡ record { net = self.now.net; node = self.now.number; socket = socket } }
-    {
-        Address {
-            net: self.net,
-            node: self.number,
-            socket,
-        }
-    }
-
+    // Takes a datagram: the part that speaks its protocol does, if it is for this node.
     fn take_in<S: Service<A>>(
         &mut self,
         service: &mut S,
         datagram: &Datagram<'_>,
         out: &mut Datagrams<A>,
     ) -> Report<A>
-        ensures { (said : Reply A) × Comes (HearsAt said self.old (content datagram.now) (socket_of self.old (content datagram.now))) self.old out.old.items result self.new out.new.items × Serves S.serves result said service.old service.new }
+        ensures { (said : Reply A) × Comes (HearsIt said self.old (content datagram.now)) self.old out.old.items result self.new out.new.items × Serves S.serves result said service.old service.new }
     {
-        if !self.is_mine(datagram) {
+        if !self.seat.is_mine(datagram.to) {
             return Report::Ignored;
         }
-        if datagram.to.socket == ASKING {
-            return self.take_answer(datagram, out);
-        }
-        if datagram.to.socket == SERVICE {
-            return self.take_question(service, datagram, out);
-        }
-        if datagram.to.socket == ZONES {
-            return self.take_request(datagram, out);
+        if datagram.kind == ATP {
+            return self.atp.hear(self.seat, service, datagram, out);
         }
         Report::Ignored
-    }
-
-    fn is_mine(&self, datagram: &Datagram<'_>) -> bool
-        ensures { result ≡ is_mine self.now (content datagram.now) }
-    {
-        let to = datagram.to;
-        (to.net == self.net || to.net == 0) && to.node == self.number && datagram.kind == ATP
     }
 }
 

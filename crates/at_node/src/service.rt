@@ -1,6 +1,6 @@
 ghost use Rattle.std.specs.Prelude.{◌≡◌, ℕ, List, IfOk, OnErr};
 ghost use Rattle.at_atp_responder.specs.declared.reception.Key.{Key as Asker};
-ghost use Rattle.at_node.specs.Hearing.{IsReply};
+ghost use Rattle.at_node.specs.ServiceSocket.{IsReply};
 ghost use Rattle.at_node.specs.declared.service.Reply.{Reply as Said};
 ghost use Rattle.at_node.specs.declared.service.Reply.TheVariants.{Later};
 

@@ -3,9 +3,9 @@ use Rattle.std.proofs.Common.{ℕ, List, [], ◌∷◌, ◌++◌, map, take, Res
 use Rattle.at_ddp.specs.Datagrams.{Posted}
 use Rattle.at_node.specs.declared.event.Report.{Report}
 use Rattle.at_node.specs.declared.event.Report.TheVariants.{NoMemory}
-use Rattle.at_node.specs.Nodes.{NodeState, Outcome, Outgoing, posted, IsStep, Comes}
-use Rattle.at_node.specs.Steps.{called, timed}
 use Rattle.at_node.specs.Hearing.{Hears}
+use Rattle.at_node.specs.Nodes.{NodeState, called, timed}
+use Rattle.at_node.specs.Outcomes.{Outcome, Outgoing, posted, IsStep, Comes}
 use Rattle.at_world.specs.Sents.{SentDatagram, stamp, AreCanonical}
 use Rattle.at_world.specs.declared.event.Event.{Event}
 use Rattle.at_world.specs.declared.event.Event.TheVariants as event
@@ -23,11 +23,11 @@ both : (xs ys : List SentDatagram) → AreCanonical xs → AreCanonical ys → A
 both [] ys a b = b
 both (x ∷ xs) ys a b = (a.0, both xs ys a.1 b)
 
-of_step : (A : Type 0) (event : ℕ) (o : Outcome A) (old : NodeState) (r : Report A) (new : NodeState) (out : List Posted) → IsStep o old [] r new out → AreCanonical (map (stamp event) out)
+of_step : (A : Type 0) (event : ℕ) (o : Outcome A NodeState) (old : NodeState) (r : Report A) (new : NodeState) (out : List Posted) → IsStep o old [] r new out → AreCanonical (map (stamp event) out)
 of_step A event o old NoMemory new out h = subst (λ l. AreCanonical (map (stamp event) l)) (sym h.1) tt
 of_step A event o old r new out h = subst (λ l. AreCanonical (map (stamp event) l)) (sym h.2) (all_posted event o.out)
 
-of_coming : (A : Type 0) (event : ℕ) (P : Outcome A → Type 0) (old : NodeState) (r : Report A) (new : NodeState) (out : List Posted) → Comes P old [] r new out → AreCanonical (map (stamp event) out)
+of_coming : (A : Type 0) (event : ℕ) (P : Outcome A NodeState → Type 0) (old : NodeState) (r : Report A) (new : NodeState) (out : List Posted) → Comes P old [] r new out → AreCanonical (map (stamp event) out)
 of_coming A event P old NoMemory new out h = subst (λ l. AreCanonical (map (stamp event) l)) (sym h.1) tt
 of_coming A event P old r new out h = subst (λ l. AreCanonical (map (stamp event) l)) (sym h.2.2) (all_posted event h.0.out)
 

@@ -11,12 +11,14 @@ use Rattle.at_atp_frame.specs.Frames.{owner, number_of}
 use Rattle.at_atp.specs.Network.{Sent, is_fresh, ComesInTime, after}
 use Rattle.at_atp.specs.Transactions.{Asked}
 use Rattle.at_node.specs.declared.drawing.Draw.TheVariants.{Tid}
-use Rattle.at_world.specs.Machine.{Machine}
+use Rattle.at_world.specs.AtpGuards.{AtpMachine}
+use Rattle.at_world.specs.Cables.{Cable}
+use Rattle.at_world.proofs.CableTie.{Wire, CableTie, spelled_wire}
 use Rattle.at_world.specs.Sents.{SentDatagram}
 use Rattle.at_world.specs.Worlds.{WorldState, IsFresh}
 use Rattle.at_world.proofs.Moves.{one_of}
 use Rattle.at_world.specs.Stories.{posted_packet}
-use Rattle.at_world.proofs.Tied.{Laws, OnNet, Tied}
+use Rattle.at_world.proofs.AtpTie.{Laws, OnNet, AtpTie, wire_of}
 use Rattle.at_world.proofs.Times.{in_time}
 
 sent_at : (P : Sent → Type 0) (sent : List Sent) (i : ℕ) (s : Sent) → AllByRecursion P sent → slice_get sent i ≡ Some s → P s
@@ -25,7 +27,7 @@ sent_at P (x ∷ sent) zero s h is = let same : x ≡ s = cc in subst P same h.0
 sent_at P (x ∷ sent) (suc i) s h is = sent_at P sent i s h.1 is
 
 -- a packet of the network at the same place
-sent_in : (sent : List Sent) (i : ℕ) (d : SentDatagram) → slice_get (map posted_packet sent) i ≡ Some d → (s : Sent) × (slice_get sent i ≡ Some s) × (d ≡ posted_packet s)
+sent_in : (sent : List Sent) (i : ℕ) (d : SentDatagram) → slice_get (map spelled_wire (map wire_of sent)) i ≡ Some d → (s : Sent) × (slice_get sent i ≡ Some s) × (d ≡ posted_packet s)
 sent_in [] i d is = absurd (cc)
 sent_in (s ∷ sent) zero d is = let same : posted_packet s ≡ d = cc in (s, refl, sym same)
 sent_in (s ∷ sent) (suc i) d is = sent_in sent i d is
@@ -33,7 +35,7 @@ sent_in (s ∷ sent) (suc i) d is = sent_in sent i d is
 some_sent : (a b : Sent) → Some a ≡ Some b → a ≡ b
 some_sent a b h = cc
 
-pub record Comes (A : Type 0) (w : WorldState) (m : Machine) (t : Tied A w m) (which : ℕ) (d : SentDatagram) : Type 0 where
+pub record Comes (A : Type 0) (w : WorldState) (cable : Cable) (m : AtpMachine) (ct : CableTie w cable) (t : AtpTie A w cable ct.wires m) (which : ℕ) (d : SentDatagram) : Type 0 where
   pub packet : Sent
   pub was_sent : slice_get (after A t.history).sent which ≡ Some packet
   pub spells : d ≡ posted_packet packet
@@ -41,9 +43,9 @@ pub record Comes (A : Type 0) (w : WorldState) (m : Machine) (t : Tied A w m) (w
   pub fresh : is_fresh (after A t.history).drawn packet ≡ true
   pub timely : ComesInTime (after A t.history) which
 
-pub comes : (A : Type 0) (laws : Laws A) (w : WorldState) (m : Machine) (t : Tied A w m) (which : ℕ) (d : SentDatagram) → slice_get w.sent which ≡ Some d → IsFresh w d → Comes A w m t which d
-comes A laws w m t which d is fresh =
-    let s = sent_in (after A t.history).sent which d (ap (λ l. slice_get l which) (sym t.sent) ∙ is) in
+pub comes : (A : Type 0) (laws : Laws A) (w : WorldState) (cable : Cable) (m : AtpMachine) (ct : CableTie w cable) (t : AtpTie A w cable ct.wires m) (which : ℕ) (d : SentDatagram) → slice_get w.sent which ≡ Some d → IsFresh w d → Comes A w cable m ct t which d
+comes A laws w cable m ct t which d is fresh =
+    let s = sent_in (after A t.history).sent which d (ap (λ l. slice_get l which) (sym (ct.sent ∙ ap (map spelled_wire) t.sent)) ∙ is) in
     let lawful = sent_at IsLawfullySent (after A t.history).sent which s.0 (laws.lawful_sent t.history t.in_range) s.1 in
     let carried = laws.carries (s.0).to (s.0).from (s.0).packet lawful.to_fits lawful.from_fits lawful.lawful in
     let late = subst (λ (x : SentDatagram). IsFresh w x) s.2 fresh in
@@ -59,13 +61,13 @@ comes A laws w m t which d is fresh =
     }
 
 -- who asked, and whom, is on the cable
-pub requester_on_net : (m : Machine) (who : Address) (tid : ℕ) (responder : Address) → AllByRecursion (OnNet m) m.asked → Asked m.asked who tid responder → who.net ≡ m.net
-requester_on_net m who tid responder nets a =
-    let one = one_of (OnNet m) m.asked who tid a.transaction a.newest nets in
+pub requester_on_net : (cable : Cable) (m : AtpMachine) (who : Address) (tid : ℕ) (responder : Address) → AllByRecursion (OnNet cable) m.asked → Asked m.asked who tid responder → who.net ≡ cable.net
+requester_on_net cable m who tid responder nets a =
+    let one = one_of (OnNet cable) m.asked who tid a.transaction a.newest nets in
     let both = and_parts (same_address (a.transaction).requester who) ((a.transaction).tid == tid) one.1 in
     ap (λ (x : Address). x.net) (sym (same_address-true (a.transaction).requester who both.0)) ∙ (one.0).0
 
-pub responder_on_net : (m : Machine) (who : Address) (tid : ℕ) (responder : Address) → AllByRecursion (OnNet m) m.asked → Asked m.asked who tid responder → responder.net ≡ m.net
-responder_on_net m who tid responder nets a =
-    let one = one_of (OnNet m) m.asked who tid a.transaction a.newest nets in
+pub responder_on_net : (cable : Cable) (m : AtpMachine) (who : Address) (tid : ℕ) (responder : Address) → AllByRecursion (OnNet cable) m.asked → Asked m.asked who tid responder → responder.net ≡ cable.net
+responder_on_net cable m who tid responder nets a =
+    let one = one_of (OnNet cable) m.asked who tid a.transaction a.newest nets in
     ap (λ (x : Address). x.net) (sym a.asked_it) ∙ (one.0).1

@@ -15,9 +15,12 @@ mod Released
 mod Requested
 mod Responded
 mod Runs
+mod Seats
 mod SentLemmas
 mod SetupLemmas
 mod StoryLemmas
+mod AtpTie
+mod CableTie
 mod Tied
 mod Timers
 mod TiedAtOpening

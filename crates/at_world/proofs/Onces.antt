@@ -9,7 +9,7 @@ use Rattle.at_atp_responder.specs.Once.{same_key}
 use Rattle.at_atp_frame.specs.Packets.{Packet}
 use Rattle.at_atp.specs.Transactions.{Transaction, transaction_of}
 use Rattle.at_atp_responder.specs.declared.reception.Key.{Key}
-use Rattle.at_node.specs.Steps.{asking}
+use Rattle.at_node.specs.AtpParts.{asking}
 use Rattle.at_node.specs.declared.event.Call.TheVariants.{Answer}
 use Rattle.at_node.specs.declared.event.Report.{Report}
 use Rattle.at_node.specs.declared.event.Report.TheVariants as report
@@ -95,22 +95,8 @@ module _ (A : Type 0) (laws : OnceLaws A) (net : ℕ) (sent : List SentDatagram)
 
   ends_by : (e : Event A) (r : Report A) (past : List (Played A)) (hs : List Happening) → Told A net past hs → Within sent (after A hs) → AllTimely A hs → AllByRecursion IsInRange hs → AllLive net sent past → Finishes net (after A hs) e r → EndsBy net sent e r past
   ends_by (event.Call node call) r past hs told within timely range live f = tt
-  ends_by (event.Deliver which node) (report.Begun tid) past hs told within timely range live f = tt
-  ends_by (event.Deliver which node) (report.Answered count) past hs told within timely range live f = tt
-  ends_by (event.Deliver which node) report.Done past hs told within timely range live f = tt
-  ends_by (event.Deliver which node) (report.Served count) past hs told within timely range live f = tt
-  ends_by (event.Deliver which node) (report.Asked k user bytes) past hs told within timely range live f = tt
-  ends_by (event.Deliver which node) (report.Zones names) past hs told within timely range live f = tt
-  ends_by (event.Deliver which node) (report.ZoneFault number) past hs told within timely range live f = tt
-  ends_by (event.Deliver which node) report.ZonesFailed past hs told within timely range live f = tt
-  ends_by (event.Deliver which node) report.Kept past hs told within timely range live f = tt
   ends_by (event.Deliver which node) (report.Response tid packets) past hs told within timely range live f = ended past hs which node tid packets told within timely range live f
-  ends_by (event.Deliver which node) (report.Failed tid) past hs told within timely range live f = tt
-  ends_by (event.Deliver which node) report.Again past hs told within timely range live f = tt
-  ends_by (event.Deliver which node) report.Released past hs told within timely range live f = tt
-  ends_by (event.Deliver which node) report.Ignored past hs told within timely range live f = tt
-  ends_by (event.Deliver which node) (report.Refused number) past hs told within timely range live f = tt
-  ends_by (event.Deliver which node) report.NoMemory past hs told within timely range live f = tt
+  ends_by (event.Deliver which node) r past hs told within timely range live f = tt
   ends_by (event.Timer node time) r past hs told within timely range live f = tt
 
   pub runs_once : (past : List (Played A)) (hs : List Happening) → Told A net past hs → Within sent (after A hs) → AllTimely A hs → AllByRecursion IsInRange hs → AllLive net sent past → RunsOnce net sent past

@@ -7,48 +7,48 @@ use Rattle.at_atp.specs.Network.{put}
 use Rattle.at_atp_responder.specs.Records.{Record}
 use Rattle.at_atp_requester.specs.Requests.{Requests, no_requests}
 use Rattle.at_ddp.specs.Tables.{replaced}
+use Rattle.at_node.specs.AtpParts.{asking, serving, zones_at}
 use Rattle.at_node.specs.Nodes.{NodeState}
-use Rattle.at_node.specs.Steps.{asking, serving, zones_at}
 use Rattle.at_world.specs.Worlds.{is_numbered}
 
 some_same : (a b : NodeState) → Some a ≡ Some b → a ≡ b
 some_same a b h = cc
 
 -- the node of a number, once that of another or the same number changed
-pub at_after : (k j : ℕ) (x n : NodeState) (nodes : List NodeState) → x.number ≡ k → find (is_numbered k) nodes ≡ Some n → find (is_numbered j) (replaced (is_numbered k) x nodes) ≡ cond (k == j) (Some x) (find (is_numbered j) nodes)
+pub at_after : (k j : ℕ) (x n : NodeState) (nodes : List NodeState) → x.seat.number ≡ k → find (is_numbered k) nodes ≡ Some n → find (is_numbered j) (replaced (is_numbered k) x nodes) ≡ cond (k == j) (Some x) (find (is_numbered j) nodes)
 at_after k j x n [] same stands = absurd (cc)
-at_after k j x n (y ∷ ys) same stands = go (λ g. at_after k j x n ys same g) (y.number == k) refl stands
+at_after k j x n (y ∷ ys) same stands = go (λ g. at_after k j x n ys same g) (y.seat.number == k) refl stands
   where
     apart : (a : ℕ) → (a == k) ≡ false → k ≡ j → (a == j) ≡ false
     apart a other is = ap (λ i. a == i) (sym is) ∙ other
 
-    here : y.number ≡ k → (b : Bool) → (k == j) ≡ b → cond (x.number == j) (Some x) (find (is_numbered j) ys) ≡ cond b (Some x) (cond (y.number == j) (Some y) (find (is_numbered j) ys))
+    here : y.seat.number ≡ k → (b : Bool) → (k == j) ≡ b → cond (x.seat.number == j) (Some x) (find (is_numbered j) ys) ≡ cond b (Some x) (cond (y.seat.number == j) (Some y) (find (is_numbered j) ys))
     here is true e = ap (λ b. cond b (Some x) (find (is_numbered j) ys)) (ap (λ i. i == j) same ∙ e)
     here is false e = ap (λ b. cond b (Some x) (find (is_numbered j) ys)) (ap (λ i. i == j) same ∙ e) ∙ sym (ap (λ b. cond b (Some y) (find (is_numbered j) ys)) (ap (λ i. i == j) is ∙ e))
 
-    there : (y.number == k) ≡ false → (b : Bool) → (k == j) ≡ b → cond (y.number == j) (Some y) (cond b (Some x) (find (is_numbered j) ys)) ≡ cond b (Some x) (cond (y.number == j) (Some y) (find (is_numbered j) ys))
-    there other true e = ap (λ b. cond b (Some y) (Some x)) (apart y.number other (eqb-true k j e))
+    there : (y.seat.number == k) ≡ false → (b : Bool) → (k == j) ≡ b → cond (y.seat.number == j) (Some y) (cond b (Some x) (find (is_numbered j) ys)) ≡ cond b (Some x) (cond (y.seat.number == j) (Some y) (find (is_numbered j) ys))
+    there other true e = ap (λ b. cond b (Some y) (Some x)) (apart y.seat.number other (eqb-true k j e))
     there other false e = refl
 
-    go : (find (is_numbered k) ys ≡ Some n → find (is_numbered j) (replaced (is_numbered k) x ys) ≡ cond (k == j) (Some x) (find (is_numbered j) ys)) → (b : Bool) → (y.number == k) ≡ b → cond b (Some y) (find (is_numbered k) ys) ≡ Some n →
+    go : (find (is_numbered k) ys ≡ Some n → find (is_numbered j) (replaced (is_numbered k) x ys) ≡ cond (k == j) (Some x) (find (is_numbered j) ys)) → (b : Bool) → (y.seat.number == k) ≡ b → cond b (Some y) (find (is_numbered k) ys) ≡ Some n →
         find (is_numbered j) (cond b (x ∷ ys) (y ∷ replaced (is_numbered k) x ys)) ≡ cond (k == j) (Some x) (find (is_numbered j) (y ∷ ys))
-    go ih true e g = here (eqb-true y.number k e) (k == j) refl
-    go ih false e g = ap (λ o. cond (y.number == j) (Some y) o) (ih g) ∙ there e (k == j) refl
+    go ih true e g = here (eqb-true y.seat.number k e) (k == j) refl
+    go ih false e g = ap (λ o. cond (y.seat.number == j) (Some y) o) (ih g) ∙ there e (k == j) refl
 
 -- ---- the requester at an address: that of the node, at the socket that asks
 
 abbrev pub requester_of : Option NodeState → Requests
 requester_of None = no_requests
-requester_of (Some n) = n.requester
+requester_of (Some n) = n.atp.requester
 
 abbrev pub requester_at : ℕ → List NodeState → Address → Requests
 requester_at net nodes who = cond ((net == who.net) && (128 == who.socket)) (requester_of (find (is_numbered who.node) nodes)) no_requests
 
-pub requester_after : (net : ℕ) (nodes : List NodeState) (k : ℕ) (n x : NodeState) → x.number ≡ k → find (is_numbered k) nodes ≡ Some n → (who : Address) → requester_at net (replaced (is_numbered k) x nodes) who ≡ put (requester_at net nodes) (asking net k) x.requester who
+pub requester_after : (net : ℕ) (nodes : List NodeState) (k : ℕ) (n x : NodeState) → x.seat.number ≡ k → find (is_numbered k) nodes ≡ Some n → (who : Address) → requester_at net (replaced (is_numbered k) x nodes) who ≡ put (requester_at net nodes) (asking net k) x.atp.requester who
 requester_after net nodes k n x same stands who =
     ap (λ o. cond ((net == who.net) && (128 == who.socket)) (requester_of o) no_requests) (at_after k who.node x n nodes same stands) ∙ go (net == who.net) (k == who.node) (128 == who.socket) (find (is_numbered who.node) nodes)
   where
-    go : (a b c : Bool) (o : Option NodeState) → cond (a && c) (requester_of (cond b (Some x) o)) no_requests ≡ cond (a && b && c) x.requester (cond (a && c) (requester_of o) no_requests)
+    go : (a b c : Bool) (o : Option NodeState) → cond (a && c) (requester_of (cond b (Some x) o)) no_requests ≡ cond (a && b && c) x.atp.requester (cond (a && c) (requester_of o) no_requests)
     go true true true o = refl
     go true true false o = refl
     go true false true o = refl
@@ -58,24 +58,24 @@ requester_after net nodes k n x same stands who =
     go false false true o = refl
     go false false false o = refl
 
-pub requester_here : (net : ℕ) (nodes : List NodeState) (k : ℕ) (n : NodeState) → find (is_numbered k) nodes ≡ Some n → requester_at net nodes (asking net k) ≡ n.requester
+pub requester_here : (net : ℕ) (nodes : List NodeState) (k : ℕ) (n : NodeState) → find (is_numbered k) nodes ≡ Some n → requester_at net nodes (asking net k) ≡ n.atp.requester
 requester_here net nodes k n stands = rw (eq-eqb net net refl) (ap requester_of stands)
 
 -- ---- the records at an address: those of the node's service, or of its zone requests
 
 abbrev pub service_of : Option NodeState → List Record
 service_of None = []
-service_of (Some n) = n.service
+service_of (Some n) = n.atp.service_responder
 
 abbrev pub served_of : Option NodeState → List Record
 served_of None = []
-served_of (Some n) = n.served
+served_of (Some n) = n.atp.zone_responder
 
 abbrev pub records_at : ℕ → List NodeState → Address → List Record
 records_at net nodes at = cond (net == at.net) (cond (129 == at.socket) (service_of (find (is_numbered at.node) nodes)) (cond (6 == at.socket) (served_of (find (is_numbered at.node) nodes)) [])) []
 
-pub records_after : (net : ℕ) (nodes : List NodeState) (k : ℕ) (n x : NodeState) → x.number ≡ k → find (is_numbered k) nodes ≡ Some n → (at : Address) →
-    records_at net (replaced (is_numbered k) x nodes) at ≡ put (put (records_at net nodes) (serving net k) x.service) (zones_at net k) x.served at
+pub records_after : (net : ℕ) (nodes : List NodeState) (k : ℕ) (n x : NodeState) → x.seat.number ≡ k → find (is_numbered k) nodes ≡ Some n → (at : Address) →
+    records_at net (replaced (is_numbered k) x nodes) at ≡ put (put (records_at net nodes) (serving net k) x.atp.service_responder) (zones_at net k) x.atp.zone_responder at
 records_after net nodes k n x same stands at =
     ap (λ o. cond (net == at.net) (cond (129 == at.socket) (service_of o) (cond (6 == at.socket) (served_of o) [])) []) (at_after k at.node x n nodes same stands)
     ∙ go (net == at.net) (k == at.node) (129 == at.socket) (6 == at.socket) (find (is_numbered at.node) nodes) apart
@@ -84,7 +84,7 @@ records_after net nodes k n x same stands at =
     apart e = ap (λ s. 6 == s) (sym (eqb-true 129 at.socket e))
 
     go : (a b c d : Bool) (o : Option NodeState) → (c ≡ true → d ≡ false) →
-        cond a (cond c (service_of (cond b (Some x) o)) (cond d (served_of (cond b (Some x) o)) [])) [] ≡ cond (a && b && d) x.served (cond (a && b && c) x.service (cond a (cond c (service_of o) (cond d (served_of o) [])) []))
+        cond a (cond c (service_of (cond b (Some x) o)) (cond d (served_of (cond b (Some x) o)) [])) [] ≡ cond (a && b && d) x.atp.zone_responder (cond (a && b && c) x.atp.service_responder (cond a (cond c (service_of o) (cond d (served_of o) [])) []))
     go true true true true o other = absurd (true≢false (other refl))
     go true true true false o other = refl
     go true true false true o other = refl
@@ -102,8 +102,8 @@ records_after net nodes k n x same stands at =
     go false false false true o other = refl
     go false false false false o other = refl
 
-pub service_here : (net : ℕ) (nodes : List NodeState) (k : ℕ) (n : NodeState) → find (is_numbered k) nodes ≡ Some n → records_at net nodes (serving net k) ≡ n.service
+pub service_here : (net : ℕ) (nodes : List NodeState) (k : ℕ) (n : NodeState) → find (is_numbered k) nodes ≡ Some n → records_at net nodes (serving net k) ≡ n.atp.service_responder
 service_here net nodes k n stands = rw (eq-eqb net net refl) (ap service_of stands)
 
-pub served_here : (net : ℕ) (nodes : List NodeState) (k : ℕ) (n : NodeState) → find (is_numbered k) nodes ≡ Some n → records_at net nodes (zones_at net k) ≡ n.served
+pub served_here : (net : ℕ) (nodes : List NodeState) (k : ℕ) (n : NodeState) → find (is_numbered k) nodes ≡ Some n → records_at net nodes (zones_at net k) ≡ n.atp.zone_responder
 served_here net nodes k n stands = rw (eq-eqb net net refl) (ap served_of stands)

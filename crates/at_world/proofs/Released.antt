@@ -8,24 +8,30 @@ use Rattle.at_atp_responder.specs.Records.{is_key, taken}
 use Rattle.at_atp.specs.Transactions.{transaction_of, Asked}
 use Rattle.at_atp_responder.specs.declared.reception.Reception.{Reception}
 use Rattle.at_atp_responder.specs.declared.reception.Reception.TheVariants as reception
-use Rattle.at_node.specs.Nodes.{NodeState}
-use Rattle.at_node.specs.Steps.{serving, zones_at, released_report, service_released, zone_released}
-use Rattle.at_world.specs.Machine.{Machine, Step, next}
+use Rattle.at_node.specs.AtpParts.{serving, zones_at}
+use Rattle.at_node.specs.Outcomes.{over}
+use Rattle.at_node.specs.Nodes.{with_atp, NodeState}
+use Rattle.at_node.specs.Responders.{released_report}
+use Rattle.at_node.specs.ServiceSocket.{service_released}
+use Rattle.at_node.specs.ZoneSocket.{zone_released}
+use Rattle.at_world.specs.AtpGuards.{AtpMachine, next}
+use Rattle.at_world.specs.Cables.{Cable}
+use Rattle.at_world.proofs.CableTie.{CableTie}
 use Rattle.at_world.specs.Worlds.{WorldState, node_at}
 use Rattle.at_world.specs.declared.event.Event.TheVariants as event
-use Rattle.at_world.proofs.Calls.{Good, good_next}
+use Rattle.at_world.proofs.Calls.{Allows, Good, good_next}
 use Rattle.at_world.proofs.Moves.{service_is, served_is, service_next, zones_next}
 use Rattle.at_world.proofs.StoryLemmas.{takes_quietly, release_is_old, release_is_quiet}
-use Rattle.at_world.proofs.Tied.{Laws, Tied}
+use Rattle.at_world.proofs.AtpTie.{Laws, AtpTie}
 
 -- whatever is reported of a release, the machine stays
-stays : (A : Type 0) (m : Machine) (which k : ℕ) (r : Reception) → Step {A = A} m (event.Deliver which k) (released_report r) (next m)
-stays A m which k reception.Ignored = refl
-stays A m which k (reception.New key) = refl
-stays A m which k (reception.Again count) = refl
-stays A m which k reception.Released = refl
+stays : (A : Type 0) (cable : Cable) (m : AtpMachine) (which k : ℕ) (r : Reception) → Allows {A = A} cable m (event.Deliver which k) (released_report r) (next m)
+stays A cable m which k reception.Ignored = (tt, refl)
+stays A cable m which k (reception.New key) = (tt, refl)
+stays A cable m which k (reception.Again count) = (tt, refl)
+stays A cable m which k reception.Released = (tt, refl)
 
-module _ (A : Type 0) (laws : Laws A) (w : WorldState) (m : Machine) (which k : ℕ) (n : NodeState) (t : Tied A w m) (stands : node_at w k ≡ Some n) (s : Sent) (was_sent : slice_get (after A t.history).sent which ≡ Some s)
+module _ (A : Type 0) (laws : Laws A) (w : WorldState) (cable : Cable) (m : AtpMachine) (which k : ℕ) (n : NodeState) (ct : CableTie w cable) (t : AtpTie A w cable ct.wires m) (stands : node_at w k ≡ Some n) (s : Sent) (was_sent : slice_get (after A t.history).sent which ≡ Some s)
     (fresh : network.is_fresh (after A t.history).drawn s ≡ true) (timely : network.ComesInTime (after A t.history) which) (tid : ℕ) (packet_is : s.packet ≡ Release tid) where
   -- the newest transaction of this number, which asked the address that the release came to
   pub released_where : Asked m.asked s.from tid s.to
@@ -34,22 +40,22 @@ module _ (A : Type 0) (laws : Laws A) (w : WorldState) (m : Machine) (which k : 
       let a = gives.released which s tid was_sent fresh packet_is in
       record { transaction = a.transaction; newest = ap (λ ts. transaction_of ts s.from tid) (sym t.asked) ∙ a.newest; asked_it = a.asked_it }
 
-  pub good_service_release : s.to ≡ serving m.net k → Good A w m t k (event.Deliver which k) (service_released n (taken n.service s.from (Release tid)))
+  pub good_service_release : s.to ≡ serving cable.net k → Good A w cable m ct t k (event.Deliver which k) (over (with_atp n) (service_released n.seat n.atp (taken n.atp.service_responder s.from (Release tid))))
   good_service_release to_is =
-      let its = ap (after A t.history).responders to_is ∙ service_is A w m k n t stands in
-      let is_taken : done A (after A t.history) (Takes which) ≡ with_responder (after A t.history) (serving m.net k) (taken n.service s.from (Release tid)).after (taken n.service s.from (Release tid)).sent =
+      let its = ap (after A t.history).responders to_is ∙ service_is A w cable m k n ct t stands in
+      let is_taken : done A (after A t.history) (Takes which) ≡ with_responder (after A t.history) (serving cable.net k) (taken n.atp.service_responder s.from (Release tid)).after (taken n.atp.service_responder s.from (Release tid)).sent =
       ap (network.takes_in (after A t.history)) was_sent ∙ (λ i. with_responder (after A t.history) (to_is i) (taken (its i) s.from (packet_is i)).after (taken (its i) s.from (packet_is i)).sent) in
-      good_next A w m k n (event.Deliver which k) (service_released n (taken n.service s.from (Release tid))) m.asked m.readings t stands
-      (service_next A w m k n t stands (Takes which) (taken n.service s.from (Release tid)).after (taken n.service s.from (Release tid)).sent (released_report (taken n.service s.from (Release tid)).reception) timely tt is_taken)
-      (takes_quietly A m.net (after A t.history) which k s was_sent (released_report (taken n.service s.from (Release tid)).reception) (taken n.service s.from (Release tid)).reception (λ i. (taken (its i) s.from (packet_is i)).reception) (λ key. release_is_old n.service (record { from = s.from; tid = tid }) (find (is_key (record { from = s.from; tid = tid })) n.service) key) (release_is_quiet A (taken n.service s.from (Release tid)).reception))
-      (stays A m which k (taken n.service s.from (Release tid)).reception)
+      good_next A w cable m k n (event.Deliver which k) (over (with_atp n) (service_released n.seat n.atp (taken n.atp.service_responder s.from (Release tid)))) m.asked m.readings ct t stands
+      (service_next A w cable m k n ct t stands (Takes which) (taken n.atp.service_responder s.from (Release tid)).after (taken n.atp.service_responder s.from (Release tid)).sent (released_report (taken n.atp.service_responder s.from (Release tid)).reception) timely tt is_taken)
+      (takes_quietly A cable.net (after A t.history) which k s was_sent (released_report (taken n.atp.service_responder s.from (Release tid)).reception) (taken n.atp.service_responder s.from (Release tid)).reception (λ i. (taken (its i) s.from (packet_is i)).reception) (λ key. release_is_old n.atp.service_responder (record { from = s.from; tid = tid }) (find (is_key (record { from = s.from; tid = tid })) n.atp.service_responder) key) (release_is_quiet A (taken n.atp.service_responder s.from (Release tid)).reception))
+      (stays A cable m which k (taken n.atp.service_responder s.from (Release tid)).reception)
 
-  pub good_zone_release : s.to ≡ zones_at m.net k → Good A w m t k (event.Deliver which k) (zone_released n (taken n.served s.from (Release tid)))
+  pub good_zone_release : s.to ≡ zones_at cable.net k → Good A w cable m ct t k (event.Deliver which k) (over (with_atp n) (zone_released n.seat n.atp (taken n.atp.zone_responder s.from (Release tid))))
   good_zone_release to_is =
-      let its = ap (after A t.history).responders to_is ∙ served_is A w m k n t stands in
-      let is_taken : done A (after A t.history) (Takes which) ≡ with_responder (after A t.history) (zones_at m.net k) (taken n.served s.from (Release tid)).after (taken n.served s.from (Release tid)).sent =
+      let its = ap (after A t.history).responders to_is ∙ served_is A w cable m k n ct t stands in
+      let is_taken : done A (after A t.history) (Takes which) ≡ with_responder (after A t.history) (zones_at cable.net k) (taken n.atp.zone_responder s.from (Release tid)).after (taken n.atp.zone_responder s.from (Release tid)).sent =
       ap (network.takes_in (after A t.history)) was_sent ∙ (λ i. with_responder (after A t.history) (to_is i) (taken (its i) s.from (packet_is i)).after (taken (its i) s.from (packet_is i)).sent) in
-      good_next A w m k n (event.Deliver which k) (zone_released n (taken n.served s.from (Release tid))) m.asked m.readings t stands
-      (zones_next A w m k n t stands (Takes which) (taken n.served s.from (Release tid)).after (taken n.served s.from (Release tid)).sent (released_report (taken n.served s.from (Release tid)).reception) timely tt is_taken)
-      (takes_quietly A m.net (after A t.history) which k s was_sent (released_report (taken n.served s.from (Release tid)).reception) (taken n.served s.from (Release tid)).reception (λ i. (taken (its i) s.from (packet_is i)).reception) (λ key. release_is_old n.served (record { from = s.from; tid = tid }) (find (is_key (record { from = s.from; tid = tid })) n.served) key) (release_is_quiet A (taken n.served s.from (Release tid)).reception))
-      (stays A m which k (taken n.served s.from (Release tid)).reception)
+      good_next A w cable m k n (event.Deliver which k) (over (with_atp n) (zone_released n.seat n.atp (taken n.atp.zone_responder s.from (Release tid)))) m.asked m.readings ct t stands
+      (zones_next A w cable m k n ct t stands (Takes which) (taken n.atp.zone_responder s.from (Release tid)).after (taken n.atp.zone_responder s.from (Release tid)).sent (released_report (taken n.atp.zone_responder s.from (Release tid)).reception) timely tt is_taken)
+      (takes_quietly A cable.net (after A t.history) which k s was_sent (released_report (taken n.atp.zone_responder s.from (Release tid)).reception) (taken n.atp.zone_responder s.from (Release tid)).reception (λ i. (taken (its i) s.from (packet_is i)).reception) (λ key. release_is_old n.atp.zone_responder (record { from = s.from; tid = tid }) (find (is_key (record { from = s.from; tid = tid })) n.atp.zone_responder) key) (release_is_quiet A (taken n.atp.zone_responder s.from (Release tid)).reception))
+      (stays A cable m which k (taken n.atp.zone_responder s.from (Release tid)).reception)

@@ -3,28 +3,34 @@ use Rattle.std.proofs.Common.{◌≡◌, ◌⊎◌, inl, inr, ⊎_elim, ℕ, Lis
 use Rattle.at_ddp.specs.Datagrams.{Posted}
 use Rattle.at_node.specs.declared.event.Report.{Report}
 use Rattle.at_node.specs.declared.event.Report.TheVariants.{NoMemory}
-use Rattle.at_node.specs.Hearing.{Hears, is_asked}
-use Rattle.at_node.specs.Nodes.{NodeState, Outcome, idle, posted, IsStep, Comes}
-use Rattle.at_node.specs.Steps.{called, timed}
+use Rattle.at_node.specs.Hearing.{Hears}
+use Rattle.at_node.specs.Nodes.{NodeState, called, timed}
+use Rattle.at_node.specs.Outcomes.{Outcome, idle, posted, IsStep, Comes}
+use Rattle.at_node.specs.ServiceSocket.{is_asked}
 use Rattle.at_world.specs.declared.event.Event.{Event}
 use Rattle.at_world.specs.declared.event.Event.TheVariants as event
 use Rattle.at_world.specs.declared.setup.Setup.{Setup}
 use Rattle.at_world.specs.declared.transcript.Transcript.{Transcript}
 use Rattle.at_world.specs.declared.transcript.PlayFault.{PlayFault}
-use Rattle.at_world.specs.Machine.{Machine, opening_machine, next, Step, Run, IsRun}
+use Rattle.at_world.specs.AtpGuards.{next}
+use Rattle.at_world.specs.Cables.{Cable}
+use Rattle.at_world.specs.Machine.{Machine, opening_machine, Step, Run, IsRun}
 use Rattle.at_atp.specs.Network as network
 use Rattle.at_world.specs.Plays.{opening_world, Follows, IsPlay}
-use Rattle.at_world.specs.Stories.{Matches, Tells}
+use Rattle.at_world.specs.Stories.{Tells}
 use Rattle.at_world.specs.Worlds.{WorldState, node_at, recorded, IsTimely, Plays}
-use Rattle.at_world.proofs.Calls.{Good, Grown, good_called, good_idle}
+use Rattle.at_world.proofs.AtpTie.{Laws, AtpTie}
+use Rattle.at_world.proofs.CableTie.{cable_next}
+use Rattle.at_world.proofs.Calls.{Allows, Good, Grown, good_called, good_idle}
+use Rattle.at_world.proofs.Seats.{KeepsSeat, call_keeps_seat, timer_keeps_seat, hearing_keeps_seat}
 use Rattle.at_world.proofs.Coming.{comes}
 use Rattle.at_world.proofs.Deliveries.{good_delivered}
-use Rattle.at_world.proofs.Tied.{Laws, Tied}
+use Rattle.at_world.proofs.Tied.{Tied}
 use Rattle.at_world.proofs.Timers.{good_timed}
 
 -- the machine may answer an event so, and is tied to the world after it
 abbrev pub Follow : (A : Type 0) (w : WorldState) (m : Machine) → Tied A w m → Event A → Report A → WorldState → Type 0
-Follow A w m t e r w' = (m' : Machine) × Step m e r m' × (now : Tied A w' m') × Grown A w w' m m' t now e r
+Follow A w m t e r w' = (m' : Machine) × Step m e r m' × (now : Tied A w' m') × Grown A m.cable (t.atp).history (now.atp).history e r × (m'.cable ≡ m.cable)
 
 -- ---- the two ends of a step
 
@@ -32,30 +38,34 @@ Follow A w m t e r w' = (m' : Machine) × Step m e r m' × (now : Tied A w' m') 
 abbrev pub Nothing : {A : Type 0} → Report A → NodeState → NodeState → List Posted → Type 0
 Nothing r n after out = (r ≡ NoMemory) × (after ≡ n) × (out ≡ [])
 
-abbrev pub Its : {A : Type 0} → Outcome A → Report A → NodeState → List Posted → Type 0
-Its o r after out = (r ≡ o.report) × (after ≡ o.node) × (out ≡ map posted o.out)
+abbrev pub Its : {A : Type 0} → Outcome A NodeState → Report A → NodeState → List Posted → Type 0
+Its o r after out = (r ≡ o.report) × (after ≡ o.state) × (out ≡ map posted o.out)
 
-either : (A : Type 0) (o : Outcome A) (n : NodeState) (r : Report A) (after : NodeState) (out : List Posted) → IsStep o n [] r after out → Nothing r n after out ⊎ Its o r after out
+either : (A : Type 0) (o : Outcome A NodeState) (n : NodeState) (r : Report A) (after : NodeState) (out : List Posted) → IsStep o n [] r after out → Nothing r n after out ⊎ Its o r after out
 either A o n NoMemory after out h = inl (refl, h.0, h.1)
 either A o n r after out h = inr h
 
-either_coming : (A : Type 0) (P : Outcome A → Type 0) (n : NodeState) (r : Report A) (after : NodeState) (out : List Posted) → Comes P n [] r after out → Nothing r n after out ⊎ ((o : Outcome A) × P o × Its o r after out)
+either_coming : (A : Type 0) (P : Outcome A NodeState → Type 0) (n : NodeState) (r : Report A) (after : NodeState) (out : List Posted) → Comes P n [] r after out → Nothing r n after out ⊎ ((o : Outcome A NodeState) × P o × Its o r after out)
 either_coming A P n NoMemory after out h = inl (refl, h.0, h.1)
 either_coming A P n r after out h = inr h
 
-module _ (A : Type 0) (w : WorldState) (m : Machine) (e : Event A) (k : ℕ) (n : NodeState) (r : Report A) (after : NodeState) (out : List Posted) (w' : WorldState) (is : w' ≡ recorded w k r after out) where
-  -- the world is the one that was recorded
-  moved_on : (t : Tied A w m) (o : Outcome A) (m' : Machine) (now : Tied A (recorded w k o.report o.node (map posted o.out)) m') → Its o r after out → Step m e o.report m' → Grown A w (recorded w k o.report o.node (map posted o.out)) m m' t now e o.report → Follow A w m t e r w'
-  moved_on t o m' now l step grown =
-      let both = subst (λ x. (x' : Tied A x m') × Grown A w x m m' t x' e r) (sym (is ∙ (λ i. recorded w k (l.0 i) (l.1 i) (l.2 i))))
-      (now, (grown.0, grown.1, subst (λ x. Matches m.net (network.after A t.history) grown.0 e x) (sym l.0) grown.2, grown.3, grown.4)) in
-      (m', subst (λ x. Step m e x m') (sym l.0) step, both.0, both.1)
+module _ (A : Type 0) (w : WorldState) (m : Machine) (t : Tied A w m) (e : Event A) (k : ℕ) (n : NodeState) (stands : node_at w k ≡ Some n) where
+  -- the parts and the cable follow an outcome together
+  together : (o : Outcome A NodeState) → KeepsSeat n o → Good A w m.cable m.atp t.cable t.atp k e o → Follow A w m t e o.report (recorded w k o.report o.state (map posted o.out))
+  together o seat good =
+      let cable = cable_next A w m.cable k n o t.cable stands seat in
+      let both = subst (λ l. (x : AtpTie A (recorded w k o.report o.state (map posted o.out)) m.cable l good.0) × Grown A m.cable (t.atp).history x.history e o.report) (sym cable.1) (good.2, good.3) in
+      let allows = good.1 in
+      (record { cable = m.cable; atp = good.0 }, record { cable = record { said = allows.0; becomes = refl }; atp = allows.1 }, record { cable = cable.0; atp = both.0 }, both.1, refl)
 
-  of_good : (t : Tied A w m) (o : Outcome A) → Good A w m t k e o → Its o r after out → Follow A w m t e r w'
-  of_good t o good l = moved_on t o good.0 good.2 l good.1 good.3
+  module _ (r : Report A) (after : NodeState) (out : List Posted) (w' : WorldState) (is : w' ≡ recorded w k r after out) where
+    of_good : (o : Outcome A NodeState) → KeepsSeat n o → Good A w m.cable m.atp t.cable t.atp k e o → Its o r after out → Follow A w m t e r w'
+    of_good o seat good l =
+        subst (Follow A w m t e r) (sym (is ∙ (λ i. recorded w k (l.0 i) (l.1 i) (l.2 i))))
+        (subst (λ x. Follow A w m t e x (recorded w k o.report o.state (map posted o.out))) (sym l.0) (together o seat good))
 
-  of_nothing : (t : Tied A w m) → node_at w k ≡ Some n → Step {A = A} m e NoMemory (next m) → Nothing r n after out → Follow A w m t e r w'
-  of_nothing t stands step l = let good = good_idle A w m k n e NoMemory t stands refl step in moved_on t (idle n NoMemory) good.0 good.2 l good.1 good.3
+    of_nothing : Allows {A = A} m.cable m.atp e NoMemory (next m.atp) → Nothing r n after out → Follow A w m t e r w'
+    of_nothing allows l = of_good (idle n NoMemory) refl (good_idle A w m.cable m.atp k n e NoMemory t.cable t.atp stands refl allows) l
 
 -- ---- one event
 
@@ -64,42 +74,43 @@ followed A laws w m (event.Call k call) r w' t timely both =
     let p = both.0 in
     let n = p.node in
     ⊎_elim
-    (of_nothing A w m (event.Call k call) k n r p.after p.out w' p.booked t p.stands refl)
-    (of_good A w m (event.Call k call) k n r p.after p.out w' p.booked t (called n call) (good_called A laws w m k n t p.stands call both.1 (timely n p.stands)))
+    (of_nothing A w m t (event.Call k call) k n p.stands r p.after p.out w' p.booked (tt, refl))
+    (of_good A w m t (event.Call k call) k n p.stands r p.after p.out w' p.booked (called n call) (call_keeps_seat A n call) (good_called A laws w m.cable m.atp k n t.cable t.atp p.stands call both.1 (timely n p.stands)))
     (either A (called n call) n r p.after p.out p.steps)
 followed A laws w m (event.Timer k time) r w' t timely p =
     let n = p.node in
     ⊎_elim
-    (of_nothing A w m (event.Timer k time) k n r p.after p.out w' p.booked t p.stands refl)
-    (of_good A w m (event.Timer k time) k n r p.after p.out w' p.booked t (timed n time) (good_timed A laws w m k n t p.stands time))
+    (of_nothing A w m t (event.Timer k time) k n p.stands r p.after p.out w' p.booked (tt, refl))
+    (of_good A w m t (event.Timer k time) k n p.stands r p.after p.out w' p.booked (timed n time) (timer_keeps_seat A n time) (good_timed A laws w m.cable m.atp k n t.cable t.atp p.stands time))
     (either A (timed n time) n r p.after p.out p.steps)
 followed A laws w m (event.Deliver which k) r w' t timely d =
     let p = d.plays in
     let n = p.node in
-    let c = comes A laws w m t which d.datagram d.was_sent (timely d.datagram d.was_sent) in
+    let c = comes A laws w m.cable m.atp t.cable t.atp which d.datagram d.was_sent (timely d.datagram d.was_sent) in
     let said = p.steps.0 in
     let later = p.steps.2 in
     ⊎_elim
-    (of_nothing A w m (event.Deliver which k) k n r p.after p.out w' p.booked t p.stands refl)
-    (λ (x : (o : Outcome A) × Hears said n (d.datagram).bytes o × Its o r p.after p.out). of_good A w m (event.Deliver which k) k n r p.after p.out w' p.booked t x.0
-    (good_delivered A laws w m which k n t p.stands d.datagram c said x.0 (λ asked. later (ap is_asked (x.2).0 ∙ asked)) x.1) x.2)
+    (of_nothing A w m t (event.Deliver which k) k n p.stands r p.after p.out w' p.booked (tt, refl))
+    (λ (x : (o : Outcome A NodeState) × Hears said n (d.datagram).bytes o × Its o r p.after p.out). of_good A w m t (event.Deliver which k) k n p.stands r p.after p.out w' p.booked x.0
+    (hearing_keeps_seat A said n (d.datagram).bytes x.0 x.1)
+    (good_delivered A laws w m.cable m.atp which k n t.cable t.atp p.stands d.datagram c said x.0 (λ asked. later (ap is_asked (x.2).0 ∙ asked)) x.1) x.2)
     (either_coming A (Hears said n (d.datagram).bytes) n r p.after p.out p.steps.1)
 
 -- ---- all of them
 
 -- a run of the machine, and the history that it made
 abbrev pub Ran : (A : Type 0) (w : WorldState) (m : Machine) → Tied A w m → List (Event A) → List (Report A) → WorldState → Type 0
-Ran A w m t es rs w' = (m' : Machine) × Run m es rs m' × (now : Tied A w' m') × Tells m.net t.history es rs now.history
+Ran A w m t es rs w' = (m' : Machine) × Run m es rs m' × (now : Tied A w' m') × Tells (m.cable).net (t.atp).history es rs (now.atp).history
 
 pub runs : (A : Type 0) → Laws A → (w : WorldState) (m : Machine) (es : List (Event A)) (rs : List (Report A)) (w' : WorldState) (t : Tied A w m) → Follows w es rs w' → Ran A w m t es rs w'
-runs A laws w m [] [] w' t h = let same = subst (λ x. (now : Tied A x m) × (now.history ≡ t.history)) (sym h) (t, refl) in (m, refl, same.0, same.1)
+runs A laws w m [] [] w' t h = let same = subst (λ x. (now : Tied A x m) × ((now.atp).history ≡ (t.atp).history)) (sym h) (t, refl) in (m, refl, same.0, same.1)
 runs A laws w m (e ∷ es) (r ∷ rs) w' t h =
     let playable = h.1 in
     let one = followed A laws w m e r h.0 t playable.timely h.2 in
     let rest = runs A laws h.0 one.0 es rs w' one.2 h.3 in
     let grown = one.3 in
-    let told = subst (λ l. Tells m.net l es rs (rest.2).history) grown.1 (subst (λ net. Tells net (one.2).history es rs (rest.2).history) grown.3 rest.3) in
-    (rest.0, (one.0, one.1, rest.1), rest.2, (grown.0, grown.2, grown.4, told))
+    let told = subst (λ l. Tells (m.cable).net l es rs ((rest.2).atp).history) grown.1 (subst (λ (c : Cable). Tells c.net ((one.2).atp).history es rs ((rest.2).atp).history) one.4 rest.3) in
+    (rest.0, (one.0, one.1, rest.1), rest.2, (grown.0, grown.2, grown.3, told))
 runs A laws w m [] (r ∷ rs) w' t h = absurd h
 runs A laws w m (e ∷ es) [] w' t h = absurd h
 

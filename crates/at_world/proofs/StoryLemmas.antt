@@ -14,7 +14,8 @@ use Rattle.at_atp_requester.specs.Requests.{next_number}
 use Rattle.at_atp_responder.specs.declared.reception.Key.{Key}
 use Rattle.at_atp_responder.specs.declared.reception.Reception.{Reception}
 use Rattle.at_atp_responder.specs.declared.reception.Reception.TheVariants as reception
-use Rattle.at_node.specs.Steps.{asking, released_report}
+use Rattle.at_node.specs.AtpParts.{asking}
+use Rattle.at_node.specs.Responders.{released_report}
 use Rattle.at_node.specs.declared.event.Call.{Call}
 use Rattle.at_node.specs.declared.event.Call.TheVariants.{Answer}
 use Rattle.at_node.specs.declared.event.Report.{Report}
@@ -27,101 +28,37 @@ use Rattle.at_world.specs.Stories.{Matches, Finishes, Ends, asks_once, asks_for,
 -- a report that tells of no beginning, no request and no expiry
 abbrev pub is_quiet : {A : Type 0} → Report A → Bool
 is_quiet (report.Begun tid) = false
-is_quiet (report.Answered count) = true
 is_quiet report.Done = false
 is_quiet (report.Served count) = false
 is_quiet (report.Asked k user bytes) = false
-is_quiet (report.Zones names) = true
-is_quiet (report.ZoneFault number) = true
-is_quiet report.ZonesFailed = true
-is_quiet report.Kept = true
 is_quiet (report.Response tid packets) = false
-is_quiet (report.Failed tid) = true
-is_quiet report.Again = true
-is_quiet report.Released = true
-is_quiet report.Ignored = true
-is_quiet (report.Refused number) = true
-is_quiet report.NoMemory = true
+is_quiet other = true
 
 no_begin : (A : Type 0) (net : ℕ) (e : Event A) (r : Report A) (key : Key) → is_quiet r ≡ true → began_under net e r key ≡ false
 no_begin A net (event.Call node call) (report.Begun tid) key q = absurd (false≢true q)
-no_begin A net (event.Call node call) (report.Answered count) key q = refl
-no_begin A net (event.Call node call) report.Done key q = absurd (false≢true q)
-no_begin A net (event.Call node call) (report.Served count) key q = absurd (false≢true q)
-no_begin A net (event.Call node call) (report.Asked k user bytes) key q = absurd (false≢true q)
-no_begin A net (event.Call node call) (report.Zones names) key q = refl
-no_begin A net (event.Call node call) (report.ZoneFault number) key q = refl
-no_begin A net (event.Call node call) report.ZonesFailed key q = refl
-no_begin A net (event.Call node call) report.Kept key q = refl
-no_begin A net (event.Call node call) (report.Response tid packets) key q = absurd (false≢true q)
-no_begin A net (event.Call node call) (report.Failed tid) key q = refl
-no_begin A net (event.Call node call) report.Again key q = refl
-no_begin A net (event.Call node call) report.Released key q = refl
-no_begin A net (event.Call node call) report.Ignored key q = refl
-no_begin A net (event.Call node call) (report.Refused number) key q = refl
-no_begin A net (event.Call node call) report.NoMemory key q = refl
+no_begin A net (event.Call node call) r key q = refl
 no_begin A net (event.Deliver which node) r key q = refl
 no_begin A net (event.Timer node time) r key q = refl
 
 no_hand_up : (A : Type 0) (sent : List Sent) (e : Event A) (r : Report A) (key : Key) → is_quiet r ≡ true → handed_up_by sent e r key ≡ false
 no_hand_up A sent (event.Call node call) r key q = refl
-no_hand_up A sent (event.Deliver which node) (report.Begun tid) key q = absurd (false≢true q)
-no_hand_up A sent (event.Deliver which node) (report.Answered count) key q = refl
-no_hand_up A sent (event.Deliver which node) report.Done key q = absurd (false≢true q)
 no_hand_up A sent (event.Deliver which node) (report.Served count) key q = absurd (false≢true q)
 no_hand_up A sent (event.Deliver which node) (report.Asked k user bytes) key q = absurd (false≢true q)
-no_hand_up A sent (event.Deliver which node) (report.Zones names) key q = refl
-no_hand_up A sent (event.Deliver which node) (report.ZoneFault number) key q = refl
-no_hand_up A sent (event.Deliver which node) report.ZonesFailed key q = refl
-no_hand_up A sent (event.Deliver which node) report.Kept key q = refl
-no_hand_up A sent (event.Deliver which node) (report.Response tid packets) key q = absurd (false≢true q)
-no_hand_up A sent (event.Deliver which node) (report.Failed tid) key q = refl
-no_hand_up A sent (event.Deliver which node) report.Again key q = refl
-no_hand_up A sent (event.Deliver which node) report.Released key q = refl
-no_hand_up A sent (event.Deliver which node) report.Ignored key q = refl
-no_hand_up A sent (event.Deliver which node) (report.Refused number) key q = refl
-no_hand_up A sent (event.Deliver which node) report.NoMemory key q = refl
+no_hand_up A sent (event.Deliver which node) r key q = refl
 no_hand_up A sent (event.Timer node time) r key q = refl
 
 no_expiry : (A : Type 0) (net : ℕ) (e : Event A) (r : Report A) (at : Address) (key : Key) → is_quiet r ≡ true → expired_at net e r at key ≡ false
 no_expiry A net (event.Call node call) r at key q = refl
 no_expiry A net (event.Deliver which node) r at key q = refl
 no_expiry A net (event.Timer node (timer.Retry tid)) r at key q = refl
-no_expiry A net (event.Timer node (timer.Release own k' socket tid')) (report.Begun tid) at key q = absurd (false≢true q)
-no_expiry A net (event.Timer node (timer.Release own k' socket tid')) (report.Answered count) at key q = refl
 no_expiry A net (event.Timer node (timer.Release own k' socket tid')) report.Done at key q = absurd (false≢true q)
-no_expiry A net (event.Timer node (timer.Release own k' socket tid')) (report.Served count) at key q = absurd (false≢true q)
-no_expiry A net (event.Timer node (timer.Release own k' socket tid')) (report.Asked k user bytes) at key q = absurd (false≢true q)
-no_expiry A net (event.Timer node (timer.Release own k' socket tid')) (report.Zones names) at key q = refl
-no_expiry A net (event.Timer node (timer.Release own k' socket tid')) (report.ZoneFault number) at key q = refl
-no_expiry A net (event.Timer node (timer.Release own k' socket tid')) report.ZonesFailed at key q = refl
-no_expiry A net (event.Timer node (timer.Release own k' socket tid')) report.Kept at key q = refl
-no_expiry A net (event.Timer node (timer.Release own k' socket tid')) (report.Response tid packets) at key q = absurd (false≢true q)
-no_expiry A net (event.Timer node (timer.Release own k' socket tid')) (report.Failed tid) at key q = refl
-no_expiry A net (event.Timer node (timer.Release own k' socket tid')) report.Again at key q = refl
-no_expiry A net (event.Timer node (timer.Release own k' socket tid')) report.Released at key q = refl
-no_expiry A net (event.Timer node (timer.Release own k' socket tid')) report.Ignored at key q = refl
-no_expiry A net (event.Timer node (timer.Release own k' socket tid')) (report.Refused number) at key q = refl
-no_expiry A net (event.Timer node (timer.Release own k' socket tid')) report.NoMemory at key q = refl
+no_expiry A net (event.Timer node (timer.Release own k' socket tid')) r at key q = refl
 
 no_end : (A : Type 0) (net : ℕ) (n : Network) (e : Event A) (r : Report A) → is_quiet r ≡ true → Finishes net n e r
 no_end A net n (event.Call node call) r q = tt
-no_end A net n (event.Deliver which node) (report.Begun tid) q = absurd (false≢true q)
-no_end A net n (event.Deliver which node) (report.Answered count) q = tt
-no_end A net n (event.Deliver which node) report.Done q = absurd (false≢true q)
 no_end A net n (event.Deliver which node) (report.Served count) q = absurd (false≢true q)
-no_end A net n (event.Deliver which node) (report.Asked k user bytes) q = absurd (false≢true q)
-no_end A net n (event.Deliver which node) (report.Zones names) q = tt
-no_end A net n (event.Deliver which node) (report.ZoneFault number) q = tt
-no_end A net n (event.Deliver which node) report.ZonesFailed q = tt
-no_end A net n (event.Deliver which node) report.Kept q = tt
 no_end A net n (event.Deliver which node) (report.Response tid packets) q = absurd (false≢true q)
-no_end A net n (event.Deliver which node) (report.Failed tid) q = tt
-no_end A net n (event.Deliver which node) report.Again q = tt
-no_end A net n (event.Deliver which node) report.Released q = tt
-no_end A net n (event.Deliver which node) report.Ignored q = tt
-no_end A net n (event.Deliver which node) (report.Refused number) q = tt
-no_end A net n (event.Deliver which node) report.NoMemory q = tt
+no_end A net n (event.Deliver which node) r q = tt
 no_end A net n (event.Timer node time) r q = tt
 
 module _ (A : Type 0) (net : ℕ) (n : Network) where

@@ -1,5 +1,5 @@
 -- The opening world and the opening machine are tied.
-use Rattle.std.proofs.Common.{◌≡◌, ℕ, ◌+◌, ◌<◌, ◌≤◌, Bool, true, false, cond, List, [], ◌∷◌, length, map, nat_le, Some, None, refl, sym, ap, subst, arith}
+use Rattle.std.proofs.Common.{◌≡◌, ℕ, ◌+◌, ◌<◌, ◌≤◌, Bool, true, false, cond, List, [], ◌∷◌, length, map, nat_le, Some, None, refl, sym, ap, subst, ◌∙◌, arith}
 use Rattle.std.specs.Prelude.{find, option_map, count_by, ◌==◌, ◌&&◌, ◌||◌, nat_lt}
 use Rattle.std.specs.List.{list_all, AllByRecursion}
 use Rattle.std.proofs.lemmas.Bool.{and_parts, leb-true, ltb-true, eqb-true}
@@ -19,7 +19,11 @@ use Rattle.at_world.specs.Setups.{is_byte, is_name, is_lawful_node, stands_once,
 use Rattle.at_world.specs.Worlds.{is_numbered}
 use Rattle.at_world.proofs.Places.{requester_of, requester_at, service_of, served_of, records_at}
 use Rattle.at_world.proofs.SetupLemmas.{spelled_len-cons}
-use Rattle.at_world.proofs.Tied.{TiedNode, IsReading, Tied}
+use Rattle.at_world.specs.AtpGuards as atp
+use Rattle.at_world.specs.Cables as cables
+use Rattle.at_world.proofs.AtpTie.{IsReading, AtpTie}
+use Rattle.at_world.proofs.CableTie.{CableTie, SeatTie}
+use Rattle.at_world.proofs.Tied.{Tied}
 
 -- ---- what a lawful setup has
 
@@ -82,7 +86,7 @@ router_counts (x ∷ ns) k is = rw (routers-cons x ns) (go (router_counts ns k) 
 
 module _ (A : Type 0) (s : Setup A) where
   -- of at most one router, a node that has a table is the first
-  router_is : (ns : List NodeSetup) → count_by (λ n. n.router) ns ≤ 1 → (k : ℕ) (n : NodeState) → find (is_numbered k) (map (opening_node s) ns) ≡ Some n → (t : List (List ℕ)) → n.table ≡ Some t → router_of ns ≡ Some k
+  router_is : (ns : List NodeSetup) → count_by (λ n. n.router) ns ≤ 1 → (k : ℕ) (n : NodeState) → find (is_numbered k) (map (opening_node s) ns) ≡ Some n → (t : List (List ℕ)) → n.atp.table ≡ Some t → router_of ns ≡ Some k
   router_is [] few k n h t has = absurd (cc)
   router_is (x ∷ ns) few k n h t has = go (λ less g. router_is ns less k n g t has) x.router (x.node == k) refl (subst (λ m. m ≤ 1) (routers-cons x ns) few) h
     where
@@ -93,31 +97,42 @@ module _ (A : Type 0) (s : Setup A) where
           → option_map (λ (n : NodeSetup). n.node) (cond b (Some x) (find (λ n. n.router) ns)) ≡ Some k
       go ih true true e less g = ap Some (eqb-true x.node k e)
       go ih true false e less g = let one = router_counts ns k (ih (omega (arith, less)) g) in absurd (omega (arith, one, less))
-      go ih false true e less g = absurd (cc)
+      go ih false true e less g = let same : opened false ≡ n = cc in let none : None ≡ Some t = ap (λ (y : NodeState). y.atp.table) same ∙ has in absurd (cc)
       go ih false false e less g = ih (omega (arith, less)) g
 
-  tied_one : (k : ℕ) (x : NodeSetup) → is_lawful_node x ≡ true → (x.node == k) ≡ true → ((t : List (List ℕ)) → (opening_node s x).table ≡ Some t → router_of s.nodes ≡ Some k) → TiedNode (opening_machine s) k (opening_node s x)
-  tied_one k x ok is first =
+  seat_opens : (k : ℕ) (x : NodeSetup) → is_lawful_node x ≡ true → (x.node == k) ≡ true → SeatTie (cables.opening s) k (opening_node s x)
+  seat_opens k x ok is =
       let same : x.node ≡ k = eqb-true x.node k is in
       let fits = node_fits x ok in
-      record { net = refl; number = same; small = omega (arith, same, fits); router = refl; table = λ t h. (table_is x.router t h, first t h) }
-    where
-      table_is : (b : Bool) (t : List (List ℕ)) → cond b (Some s.zones) None ≡ Some t → t ≡ s.zones
-      table_is true t h = cc
-      table_is false t h = absurd (cc)
+      record { net = refl; number = same; small = omega (arith, same, fits); router = refl }
 
-  tied_nodes : (ns : List NodeSetup) → list_all is_lawful_node ns ≡ true → (k : ℕ) (n : NodeState) → ((t : List (List ℕ)) → n.table ≡ Some t → router_of s.nodes ≡ Some k) → find (is_numbered k) (map (opening_node s) ns) ≡ Some n → TiedNode (opening_machine s) k n
-  tied_nodes [] ok k n first h = absurd (cc)
-  tied_nodes (x ∷ ns) ok k n first h = go (λ each g. tied_nodes ns each k n first g) (x.node == k) refl h
+  -- the table of a node that has one is that of the setup
+  table_is : (ns : List NodeSetup) (k : ℕ) (n : NodeState) → find (is_numbered k) (map (opening_node s) ns) ≡ Some n → (t : List (List ℕ)) → n.atp.table ≡ Some t → t ≡ s.zones
+  table_is [] k n h t has = absurd (cc)
+  table_is (x ∷ ns) k n h t has = go (λ g. table_is ns k n g t has) x.router (x.node == k) h
     where
-      go : (list_all is_lawful_node ns ≡ true → find (is_numbered k) (map (opening_node s) ns) ≡ Some n → TiedNode (opening_machine s) k n) → (b : Bool) → (x.node == k) ≡ b → cond b (Some (opening_node s x)) (find (is_numbered k) (map (opening_node s) ns)) ≡ Some n → TiedNode (opening_machine s) k n
+      opened : Bool → NodeState
+      opened b = opening s.net x.node (router_of s.nodes) (cond b (Some s.zones) None)
+
+      of_one : (b : Bool) → opened b ≡ n → t ≡ s.zones
+      of_one true same = let some : Some s.zones ≡ Some t = ap (λ (y : NodeState). y.atp.table) same ∙ has in cc
+      of_one false same = let none : None ≡ Some t = ap (λ (y : NodeState). y.atp.table) same ∙ has in absurd (cc)
+
+      go : (find (is_numbered k) (map (opening_node s) ns) ≡ Some n → t ≡ s.zones) → (b c : Bool) → cond c (Some (opened b)) (find (is_numbered k) (map (opening_node s) ns)) ≡ Some n → t ≡ s.zones
+      go ih b true g = let same : opened b ≡ n = cc in of_one b same
+      go ih b false g = ih g
+
+  seats_open : (ns : List NodeSetup) → list_all is_lawful_node ns ≡ true → (k : ℕ) (n : NodeState) → find (is_numbered k) (map (opening_node s) ns) ≡ Some n → SeatTie (cables.opening s) k n
+  seats_open [] ok k n h = absurd (cc)
+  seats_open (x ∷ ns) ok k n h = go (λ each g. seats_open ns each k n g) (x.node == k) refl h
+    where
+      go : (list_all is_lawful_node ns ≡ true → find (is_numbered k) (map (opening_node s) ns) ≡ Some n → SeatTie (cables.opening s) k n) → (b : Bool) → (x.node == k) ≡ b → cond b (Some (opening_node s x)) (find (is_numbered k) (map (opening_node s) ns)) ≡ Some n → SeatTie (cables.opening s) k n
       go ih true e g =
           let parts = and_parts (is_lawful_node x) (list_all is_lawful_node ns) ok in
           let same : opening_node s x ≡ n = cc in
-          subst (TiedNode (opening_machine s) k) same (tied_one k x parts.0 e (subst (λ (y : NodeState). (t : List (List ℕ)) → y.table ≡ Some t → router_of s.nodes ≡ Some k) (sym same) first))
+          subst (SeatTie (cables.opening s) k) same (seat_opens k x parts.0 e)
       go ih false e g = let parts = and_parts (is_lawful_node x) (list_all is_lawful_node ns) ok in ih parts.1 g
 
-  -- no node has begun anything
   nothing_begun : (ns : List NodeSetup) (k : ℕ) → requester_of (find (is_numbered k) (map (opening_node s) ns)) ≡ no_requests
   nothing_begun [] k = refl
   nothing_begun (x ∷ ns) k = go (nothing_begun ns k) (x.node == k)
@@ -142,12 +157,12 @@ module _ (A : Type 0) (s : Setup A) where
       go ih true = refl
       go ih false = ih
 
-  nothing_read : (ns : List NodeSetup) (k : ℕ) (n : NodeState) → find (is_numbered k) (map (opening_node s) ns) ≡ Some n → n.reading ≡ None
+  nothing_read : (ns : List NodeSetup) (k : ℕ) (n : NodeState) → find (is_numbered k) (map (opening_node s) ns) ≡ Some n → n.atp.reading ≡ None
   nothing_read [] k n h = absurd (cc)
   nothing_read (x ∷ ns) k n h = go (nothing_read ns k n) (x.node == k) h
     where
-      go : (find (is_numbered k) (map (opening_node s) ns) ≡ Some n → n.reading ≡ None) → (b : Bool) → cond b (Some (opening_node s x)) (find (is_numbered k) (map (opening_node s) ns)) ≡ Some n → n.reading ≡ None
-      go ih true g = cc
+      go : (find (is_numbered k) (map (opening_node s) ns) ≡ Some n → n.atp.reading ≡ None) → (b : Bool) → cond b (Some (opening_node s x)) (find (is_numbered k) (map (opening_node s) ns)) ≡ Some n → n.atp.reading ≡ None
+      go ih true g = let same : opening_node s x ≡ n = cc in ap (λ (y : NodeState). y.atp.reading) (sym same)
       go ih false g = ih g
 
   requester_opens : (who : Address) → no_requests ≡ requester_at s.net (map (opening_node s) s.nodes) who
@@ -166,10 +181,18 @@ module _ (A : Type 0) (s : Setup A) where
       go true false true = sym (nothing_served s.nodes at.node)
       go true false false = refl
 
-  -- ---- the whole
+  -- ---- the ties
 
-  pub tied_at_opening : is_lawful s ≡ true → (t : Tied A (opening_world s) (opening_machine s)) × (t.history ≡ [])
-  tied_at_opening ok =
+  -- what a lawful setup has
+  record Lawful : Type 0 where
+    net : s.net < 65536
+    each : list_all is_lawful_node s.nodes ≡ true
+    one : count_by (λ n. n.router) s.nodes ≤ 1
+    names : list_all is_name s.zones ≡ true
+    small : spelled_len s.zones ≤ 578
+
+  lawful_has : is_lawful s ≡ true → Lawful
+  lawful_has ok =
       let ns = s.nodes in
       let router = has_router ns in
       let a = and_parts (nat_lt 0 s.net && nat_lt s.net 65536 && are_lawful_nodes ns) (is_lawful_table router s.zones) ok in
@@ -177,19 +200,30 @@ module _ (A : Type 0) (s : Setup A) where
       let c = and_parts (nat_lt 0 s.net) (nat_lt s.net 65536) b.0 in
       let d = and_parts (nat_le (length ns) 16 && list_all is_lawful_node ns && list_all (stands_once ns) ns && nat_le (count_by (λ n. n.router) ns) 1) (are_in_zones ns) b.1 in
       let e = and_parts (nat_le (length ns) 16 && list_all is_lawful_node ns && list_all (stands_once ns) ns) (nat_le (count_by (λ n. n.router) ns) 1) d.0 in
-      let one = leb-true (count_by (λ n. n.router) ns) 1 e.1 in
       let f = and_parts (nat_le (length ns) 16 && list_all is_lawful_node ns) (list_all (stands_once ns) ns) e.0 in
       let g = and_parts (nat_le (length ns) 16) (list_all is_lawful_node ns) f.0 in
       let h = and_parts (list_all is_name s.zones && nat_le (spelled_len s.zones) 578) (router || (length s.zones == 0)) a.1 in
       let i = and_parts (list_all is_name s.zones) (nat_le (spelled_len s.zones) 578) h.0 in
-      let small = leb-true (spelled_len s.zones) 578 i.1 in (
+      record {
+        net = ltb-true s.net 65536 c.1;
+        each = g.1;
+        one = leb-true (count_by (λ n. n.router) ns) 1 e.1;
+        names = i.0;
+        small = leb-true (spelled_len s.zones) 578 i.1;
+      }
+
+  pub cable_at_opening : is_lawful s ≡ true → (t : CableTie (opening_world s) (cables.opening s)) × (t.wires ≡ [])
+  cable_at_opening ok =
+      let has = lawful_has ok in
+      (record { net = has.net; router = λ r is. router_fits s.nodes r has.each is; wires = []; sent = refl; seats = λ k n is. seats_open s.nodes has.each k n is }, refl)
+
+  atp_at_opening : is_lawful s ≡ true → (t : AtpTie A (opening_world s) (cables.opening s) [] (atp.opening s)) × (t.history ≡ [])
+  atp_at_opening ok =
+      let law = lawful_has ok in
+      let small = law.small in (
         record {
-          fixed = record {
-            net = ltb-true s.net 65536 c.1;
-            router = λ r is. router_fits ns r g.1 is;
-            table = record { each = All-from_recursion IsName s.zones (names_are s.zones i.0); count = omega (arith, few_names s.zones, small) };
-            small = omega (arith, spelled_as_counted s.zones, small);
-          };
+          table = record { each = All-from_recursion IsName s.zones (names_are s.zones law.names); count = omega (arith, few_names s.zones, small) };
+          small = omega (arith, spelled_as_counted s.zones, small);
           history = [];
           timely = tt;
           in_range = tt;
@@ -199,10 +233,16 @@ module _ (A : Type 0) (s : Setup A) where
           sent = refl;
           drawn = tt;
           asked = refl;
-          nodes = λ k n is. tied_nodes ns g.1 k n (λ t has. router_is ns one k n is t has) is;
-          readings = λ k n is. subst (IsReading (opening_machine s) k n.requester) (sym (nothing_read ns k n is)) tt;
+          tables = λ k n is t has. (table_is s.nodes k n is t has, router_is s.nodes law.one k n is t has);
+          readings = λ k n is. subst (IsReading (cables.opening s) (atp.opening s) k n.atp.requester) (sym (nothing_read s.nodes k n is)) tt;
           pages = tt;
           nets = tt;
         },
         refl,
       )
+
+  pub tied_at_opening : is_lawful s ≡ true → (t : Tied A (opening_world s) (opening_machine s)) × ((t.atp).history ≡ [])
+  tied_at_opening ok =
+      let cable = cable_at_opening ok in
+      let both = subst (λ l. (t : AtpTie A (opening_world s) (cables.opening s) l (atp.opening s)) × (t.history ≡ [])) (sym cable.1) (atp_at_opening ok) in
+      (record { cable = cable.0; atp = both.0 }, both.1)

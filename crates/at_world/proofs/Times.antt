@@ -10,8 +10,8 @@ use Rattle.at_atp.specs.Network as network
 use Rattle.at_atp.specs.Network.{Drawn, NoneHolds}
 use Rattle.at_atp_responder.specs.Records.{Record, is_key, is_from}
 use Rattle.at_node.specs.Drawing.{holds}
+use Rattle.at_node.specs.AtpParts.{asking}
 use Rattle.at_node.specs.Nodes.{NodeState}
-use Rattle.at_node.specs.Steps.{asking}
 use Rattle.at_node.specs.declared.drawing.Draw.{Draw}
 use Rattle.at_node.specs.declared.drawing.Draw.TheVariants.{Tid}
 use Rattle.at_world.specs.Draws.{Draws, is_number, same_draw, last_of, drawn_at, noted, is_no_later}
@@ -160,7 +160,7 @@ not_held : (k : ℕ) (draw : Draw) (j : ℕ) (n : NodeState) (nodes : List NodeS
 not_held k draw j n [] h is = absurd (cc)
 not_held k draw j n (y ∷ ys) h is =
     let both = or_parts (holds y k draw) (list_any (λ x. holds x k draw) ys) h in
-    go (y.number == j) is both.0 (λ g. not_held k draw j n ys both.1 g)
+    go (y.seat.number == j) is both.0 (λ g. not_held k draw j n ys both.1 g)
   where
     go : (b : Bool) → cond b (Some y) (find (is_numbered j) ys) ≡ Some n → holds y k draw ≡ false → (find (is_numbered j) ys ≡ Some n → holds n k draw ≡ false) → holds n k draw ≡ false
     go true g apart ih = let same : y ≡ n = cc in subst (λ x. holds x k draw ≡ false) same apart
@@ -170,8 +170,8 @@ none_held_by : (net k tid : ℕ) (o : Option NodeState) (nodes : List NodeState)
     (find (is_key (record { from = asking net k; tid = tid })) (service_of o) ≡ None) × (find (is_key (record { from = asking net k; tid = tid })) (served_of o) ≡ None)
 none_held_by net k tid None nodes j h is = (refl, refl)
 none_held_by net k tid (Some n) nodes j h is =
-    let both = or_parts (list_any (is_from k tid) n.served) (list_any (is_from k tid) n.service) (not_held k (Tid tid) j n nodes h is) in
-    (none_of_key net k tid n.service both.1, none_of_key net k tid n.served both.0)
+    let both = or_parts (list_any (is_from k tid) n.atp.zone_responder) (list_any (is_from k tid) n.atp.service_responder) (not_held k (Tid tid) j n nodes h is) in
+    (none_of_key net k tid n.atp.service_responder both.1, none_of_key net k tid n.atp.zone_responder both.0)
 
 -- a number that no node holds, no responder holds
 pub none_holds : (net k tid : ℕ) (nodes : List NodeState) (responders : Address → List Record) → ((at : Address) → responders at ≡ records_at net nodes at) → holds_some nodes k (Some (Tid tid)) ≡ false → NoneHolds responders (asking net k) tid

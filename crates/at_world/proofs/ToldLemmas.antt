@@ -16,7 +16,7 @@ use Rattle.at_atp_frame.specs.Frames.{number_of}
 use Rattle.at_atp.specs.Network.{Network, Sent, Happening, Begins, Answers, Hears, Takes, Serves, Expires, Retries, Other, AllTimely, GivesAnswers, after}
 use Rattle.at_atp_responder.specs.Once.{same_key}
 use Rattle.at_atp_responder.specs.declared.reception.Key.{Key}
-use Rattle.at_node.specs.Steps.{atp_kind}
+use Rattle.at_node.specs.AtpParts.{atp_kind}
 use Rattle.at_node.specs.declared.event.Report.{Report}
 use Rattle.at_node.specs.declared.event.Report.TheVariants as report
 use Rattle.at_world.specs.ExactlyOnce.{Played, onto, since, CameFrom, HandsUpBy, HandsUp, NoneHandsUp, AtMostOneHandsUp, SomeHandsUp, has_expired, LivesBy, AllLive}
@@ -100,42 +100,16 @@ module _ (A : Type 0) (laws : OnceLaws A) (net : ℕ) (sent : List SentDatagram)
   -- what the network delivers is what the reports say was delivered
   pub hands_sound : (e : Event A) (r : Report A) (n : Network) (key : Key) → Within sent n → AllByRecursion IsLawfullySent n.sent → Finishes net n e r → HandsUpBy sent e r key → handed_up_by n.sent e r key ≡ true
   hands_sound (event.Call node call) r n key within ok f h = absurd h
-  hands_sound (event.Deliver which node) (report.Begun tid) n key within ok f h = absurd h
-  hands_sound (event.Deliver which node) (report.Answered count) n key within ok f h = absurd h
-  hands_sound (event.Deliver which node) report.Done n key within ok f h = absurd h
   hands_sound (event.Deliver which node) (report.Served count) n key within ok f h = let it = f.0 in ap (λ o. came_under o key) f.1 ∙ came_so which key it (within which it f.1) (all_in IsLawfullySent n.sent which it ok f.1) h
   hands_sound (event.Deliver which node) (report.Asked k user bytes) n key within ok f h = h
-  hands_sound (event.Deliver which node) (report.Zones names) n key within ok f h = absurd h
-  hands_sound (event.Deliver which node) (report.ZoneFault number) n key within ok f h = absurd h
-  hands_sound (event.Deliver which node) report.ZonesFailed n key within ok f h = absurd h
-  hands_sound (event.Deliver which node) report.Kept n key within ok f h = absurd h
-  hands_sound (event.Deliver which node) (report.Response tid packets) n key within ok f h = absurd h
-  hands_sound (event.Deliver which node) (report.Failed tid) n key within ok f h = absurd h
-  hands_sound (event.Deliver which node) report.Again n key within ok f h = absurd h
-  hands_sound (event.Deliver which node) report.Released n key within ok f h = absurd h
-  hands_sound (event.Deliver which node) report.Ignored n key within ok f h = absurd h
-  hands_sound (event.Deliver which node) (report.Refused number) n key within ok f h = absurd h
-  hands_sound (event.Deliver which node) report.NoMemory n key within ok f h = absurd h
+  hands_sound (event.Deliver which node) r n key within ok f h = absurd h
   hands_sound (event.Timer node time) r n key within ok f h = absurd h
 
   pub hands_complete : (e : Event A) (r : Report A) (n : Network) (key : Key) → Within sent n → AllByRecursion IsLawfullySent n.sent → Finishes net n e r → handed_up_by n.sent e r key ≡ true → HandsUpBy sent e r key
   hands_complete (event.Call node call) r n key within ok f h = absurd (false≢true h)
-  hands_complete (event.Deliver which node) (report.Begun tid) n key within ok f h = absurd (false≢true h)
-  hands_complete (event.Deliver which node) (report.Answered count) n key within ok f h = absurd (false≢true h)
-  hands_complete (event.Deliver which node) report.Done n key within ok f h = absurd (false≢true h)
   hands_complete (event.Deliver which node) (report.Served count) n key within ok f h = let it = f.0 in came_there which key it (within which it f.1) (all_in IsLawfullySent n.sent which it ok f.1) (sym (ap (λ o. came_under o key) f.1) ∙ h)
   hands_complete (event.Deliver which node) (report.Asked k user bytes) n key within ok f h = h
-  hands_complete (event.Deliver which node) (report.Zones names) n key within ok f h = absurd (false≢true h)
-  hands_complete (event.Deliver which node) (report.ZoneFault number) n key within ok f h = absurd (false≢true h)
-  hands_complete (event.Deliver which node) report.ZonesFailed n key within ok f h = absurd (false≢true h)
-  hands_complete (event.Deliver which node) report.Kept n key within ok f h = absurd (false≢true h)
-  hands_complete (event.Deliver which node) (report.Response tid packets) n key within ok f h = absurd (false≢true h)
-  hands_complete (event.Deliver which node) (report.Failed tid) n key within ok f h = absurd (false≢true h)
-  hands_complete (event.Deliver which node) report.Again n key within ok f h = absurd (false≢true h)
-  hands_complete (event.Deliver which node) report.Released n key within ok f h = absurd (false≢true h)
-  hands_complete (event.Deliver which node) report.Ignored n key within ok f h = absurd (false≢true h)
-  hands_complete (event.Deliver which node) (report.Refused number) n key within ok f h = absurd (false≢true h)
-  hands_complete (event.Deliver which node) report.NoMemory n key within ok f h = absurd (false≢true h)
+  hands_complete (event.Deliver which node) r n key within ok f h = absurd (false≢true h)
   hands_complete (event.Timer node time) r n key within ok f h = absurd (false≢true h)
 
   -- ---- how often

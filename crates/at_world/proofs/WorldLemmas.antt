@@ -15,8 +15,8 @@ use Rattle.at_node.specs.declared.event.Report.{Report}
 use Rattle.at_node.specs.declared.event.Report.TheVariants.{NoMemory}
 use Rattle.at_node.specs.Drawing.{drawn_by, draw_of_input}
 use Rattle.at_node.specs.Hearing.{Hears}
-use Rattle.at_node.specs.Nodes.{NodeState, Outcome, posted, IsStep, Comes}
-use Rattle.at_node.specs.Steps.{called, timed}
+use Rattle.at_node.specs.Nodes.{NodeState, called, timed}
+use Rattle.at_node.specs.Outcomes.{Outcome, posted, IsStep, Comes}
 use Rattle.at_world.specs.Draws.{Draws, noted}
 use Rattle.at_world.specs.Sents.{SentDatagram, stamp, stamped}
 use Rattle.at_world.specs.declared.event.Refusal.TheVariants.{NotForNode}
@@ -34,11 +34,11 @@ pub record Splits {A : Type 0} (S : List Posted → Report A → NodeState → L
 none_sent : {A : Type 0} (S : List Posted → Report A → NodeState → List Posted → Type 0) (before : List Posted) (r : Report A) (new : NodeState) (after : List Posted) → S [] r new [] → after ≡ before → Splits S before r new after
 none_sent S before r new after steps is = record { out = []; steps = steps; is = is ∙ sym (append-nil before) }
 
-pub step_splits : (A : Type 0) (o : Outcome A) (old : NodeState) (before : List Posted) (r : Report A) (new : NodeState) (after : List Posted) → IsStep o old before r new after → Splits (IsStep o old) before r new after
+pub step_splits : (A : Type 0) (o : Outcome A NodeState) (old : NodeState) (before : List Posted) (r : Report A) (new : NodeState) (after : List Posted) → IsStep o old before r new after → Splits (IsStep o old) before r new after
 step_splits A o old before NoMemory new after h = none_sent (IsStep o old) before NoMemory new after (h.0, refl, h.2) h.1
 step_splits A o old before r new after h = record { out = map posted o.out; steps = (h.0, h.1, refl); is = h.2 }
 
-pub coming_splits : (A : Type 0) (P : Outcome A → Type 0) (old : NodeState) (before : List Posted) (r : Report A) (new : NodeState) (after : List Posted) → Comes P old before r new after → Splits (Comes P old) before r new after
+pub coming_splits : (A : Type 0) (P : Outcome A NodeState → Type 0) (old : NodeState) (before : List Posted) (r : Report A) (new : NodeState) (after : List Posted) → Comes P old before r new after → Splits (Comes P old) before r new after
 coming_splits A P old before NoMemory new after h = none_sent (Comes P old) before NoMemory new after (h.0, refl, h.2) h.1
 coming_splits A P old before r new after h = record { out = map posted h.0.out; steps = (h.0, h.1, (h.2.0, h.2.1, refl)); is = h.2.2 }
 

@@ -8,7 +8,7 @@ use Rattle.at_atp_frame.specs.Frames.{number_of}
 use Rattle.at_atp_responder.specs.Once.{same_key}
 use Rattle.at_atp_frame.specs.Packets.{Packet}
 use Rattle.at_atp_responder.specs.declared.reception.Key.{Key}
-use Rattle.at_node.specs.Steps.{asking, atp_kind}
+use Rattle.at_node.specs.AtpParts.{asking, atp_kind}
 use Rattle.at_node.specs.declared.event.Call.TheVariants.{Answer}
 use Rattle.at_node.specs.declared.event.Report.{Report}
 use Rattle.at_node.specs.declared.event.Report.TheVariants as report

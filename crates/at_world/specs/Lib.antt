@@ -1,3 +1,5 @@
+pub mod AtpGuards
+pub mod Cables
 pub mod Draws
 pub mod ExactlyOnce
 pub mod Machine

@@ -15,7 +15,7 @@ use Rattle.at_atp_frame.specs.Packets.{Packet}
 use Rattle.at_atp_requester.specs.Requests.{heard}
 use Rattle.at_atp_responder.specs.declared.reception.Key.{Key}
 use Rattle.at_atp_requester.specs.declared.step.Step.TheVariants as step
-use Rattle.at_node.specs.Steps.{asking, atp_kind}
+use Rattle.at_node.specs.AtpParts.{asking, atp_kind}
 use Rattle.at_node.specs.declared.event.Call.TheVariants.{Zones, Ask, Answer}
 use Rattle.at_node.specs.declared.event.Report.{Report}
 use Rattle.at_node.specs.declared.event.Report.TheVariants as report

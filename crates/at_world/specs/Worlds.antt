@@ -11,9 +11,10 @@ use Rattle.at_node.specs.declared.service.Reply.{Reply}
 use Rattle.at_node.specs.declared.service.Reply.TheVariants as reply
 use Rattle.at_node.specs.Calls.{IsCall}
 use Rattle.at_node.specs.Drawing.{Carries, drawn_by, draw_of, draw_of_input, holds}
-use Rattle.at_node.specs.Nodes.{NodeState, IsStep, Comes}
-use Rattle.at_node.specs.Steps.{called, timed}
-use Rattle.at_node.specs.Hearing.{Hears, is_asked}
+use Rattle.at_node.specs.Hearing.{Hears}
+use Rattle.at_node.specs.Nodes.{NodeState, called, timed}
+use Rattle.at_node.specs.Outcomes.{IsStep, Comes}
+use Rattle.at_node.specs.ServiceSocket.{is_asked}
 use Rattle.at_world.specs.Draws.{Draws, last_of, noted, is_no_later}
 use Rattle.at_world.specs.Sents.{SentDatagram, stamp}
 use Rattle.at_world.specs.declared.event.Event.{Event}
@@ -31,7 +32,7 @@ pub record WorldState : Type 0 where
   pub failed : Bool  -- the world found no memory of its own
 
 abbrev pub is_numbered : ℕ → NodeState → Bool
-is_numbered k n = n.number == k
+is_numbered k n = n.seat.number == k
 
 abbrev pub node_at : WorldState → ℕ → Option NodeState
 node_at w k = find (is_numbered k) w.nodes

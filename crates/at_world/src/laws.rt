@@ -1,17 +1,16 @@
 //! Laws of worlds. The functions do nothing: each contract is a law.
 ghost use Rattle.std.specs.Prelude.{◌≡◌, List, [], true};
 ghost use Rattle.at_node.specs.declared.event.Report.{Report};
-ghost use Rattle.at_atp.specs.Network.{Happening};
 ghost use Rattle.at_world.specs.ExactlyOnce.{AllLive, RunsOnce, onto};
 ghost use Rattle.at_world.specs.Machine.{Machine, Run, opening_machine};
 ghost use Rattle.at_world.specs.Plays.{Follows, opening_world};
 ghost use Rattle.at_world.specs.Sents.{AreCanonical};
 ghost use Rattle.at_world.specs.Setups.{is_lawful};
-ghost use Rattle.at_world.specs.Stories.{IsHistory};
 ghost use Rattle.at_world.specs.Worlds.{WorldState};
 ghost use Rattle.at_world.specs.declared.event.Event.{Event};
 ghost use Rattle.at_world.specs.declared.setup.Setup.{Setup};
 
+use crate::history::steps_make_a_history;
 use std::alloc::Allocator;
 
 /// The reports of a world that is stepped from its opening on are a run of the machine. All that it sends is spelled
@@ -20,24 +19,8 @@ pub fn steps_are_a_run<A: Allocator>()
     ensures machine { (s : Setup A) (events : List (Event A)) (reports : List (Report A)) (w : WorldState) → is_lawful s ≡ true → Follows (opening_world s) events reports w
         → (m : Machine) × Run (opening_machine s) events reports m }
     ensures sent { (s : Setup A) (events : List (Event A)) (reports : List (Report A)) (w : WorldState) → Follows (opening_world s) events reports w → AreCanonical w.sent }
-
-    // Each event is one happening in the network of requesters and responders.
-    ensures history { (s : Setup A) (events : List (Event A)) (reports : List (Report A)) (w : WorldState) → is_lawful s ≡ true → Follows (opening_world s) events reports w
-        → (history : List Happening) × IsHistory s.net events reports w.sent history }
 {
-    at_atp::laws::responses_are_answers::<A>();
-    at_atp::laws::what_is_sent_is_lawful::<A>();
-    at_atp::laws::numbers_stay_open::<A>();
-    at_atp::laws::a_new_request_waits();
-    at_atp::laws::no_more_is_sent_than_answered();
-    at_atp::laws::answers_join_what_was_asked();
-    at_node::laws::what_is_sent_is_heard::<A>();
-    at_node::laws::what_is_sent_carries_its_number();
-    at_node::laws::a_page_written_is_told::<A>();
-    at_zip::laws::what_is_written_is_read();
-    at_zip::laws::one_page_a_spelling();
-    at_zip::laws::a_page_fits_one_packet();
-    at_zip::laws::a_small_table_is_one_page();
+    steps_make_a_history::<A>();
 }
 
 /// If no request is delivered between the end of its record and the next draw of its number, exactly-once requests run
@@ -47,7 +30,7 @@ pub fn exactly_once_requests_run_once<A: Allocator>()
     ensures { (s : Setup A) (events : List (Event A)) (reports : List (Report A)) (w : WorldState) → is_lawful s ≡ true → Follows (opening_world s) events reports w
         → AllLive s.net w.sent (onto [] events reports) → RunsOnce s.net w.sent (onto [] events reports) }
 {
-    steps_are_a_run::<A>();
+    steps_make_a_history::<A>();
     at_atp::laws::responses_are_answers::<A>();
     at_atp::laws::exactly_once_requests_are_answered_once::<A>();
     at_atp::laws::what_is_sent_is_lawful::<A>();

@@ -3,6 +3,7 @@
 
 mod draws;
 mod event;
+mod history;
 pub mod laws;
 mod looking;
 mod opening;

@@ -2,7 +2,7 @@ use Rattle.std.proofs.Common.{◌≡◌, Some, subst, lit<}
 use Rattle.std.specs.Prelude.{IfSome}
 use Rattle.at_node.specs.Drawing.{Carries}
 use Rattle.at_node.proofs.DrawingLemmas.{is_first}
-use Rattle.at_node.proofs.HearingLemmas.{when_some}
+use Rattle.at_node.proofs.OutcomeLemmas.{when_some}
 use Rattle.at_node.proofs.drawing.carried.Goals as goal
 
 pub returns : goal.returns

@@ -3,7 +3,7 @@ use Rattle.at_ddp.specs.Datagram.{Content as Datagram, content}
 use Rattle.at_atp_frame.specs.Frames.{Content, Spells, content as packet}
 use Rattle.at_atp_frame.specs.Frames.{owner, number_of}
 use Rattle.at_node.specs.declared.drawing.Draw.TheVariants.{Tid}
-use Rattle.at_node.specs.Steps.{tid_of}
+use Rattle.at_node.specs.AtpParts.{tid_of}
 use Rattle.at_node.proofs.DrawingLemmas.{numbers_alike}
 use Rattle.at_node.proofs.drawing.owned.Goals as goal
 

@@ -18,6 +18,6 @@ returns g c s events reports w lawful follows live =
       packet_alone = c.what_is_written_is_read.ensures.alone;
       packet_fits = c.what_is_written_fits.ensures;
     } in
-    let h = c.steps_are_a_run.ensures.history s events reports w lawful follows in
+    let h = (c.steps_make_a_history.ensures s events reports w lawful follows).1 in
     let is = h.1 in
     runs_once A laws s.net w.sent (onto [] events reports) h.0 (told_of A s.net [] [] events reports h.0 tt is.tells) (all_within w.sent (after A h.0) is.is_sent) is.timely is.in_range live

@@ -1,8 +1,9 @@
 use Rattle.std.proofs.Common.{inl, inr, refl, ◌∙◌}
 use Rattle.at_ddp.specs.Datagram.{content}
-use Rattle.at_node.specs.Hearing.{Hears, HearsAt, socket_of}
+use Rattle.at_node.specs.Hearing.{Hears, HearsIt}
 use Rattle.at_node.specs.declared.service.Reply.TheVariants.{Later}
-use Rattle.at_node.proofs.HearingLemmas.{ddp_number, comes_refused, comes_wider, not_served}
+use Rattle.at_node.proofs.OutcomeLemmas.{ddp_number, comes_refused, comes_wider}
+use Rattle.at_node.proofs.ResponderLemmas.{not_served}
 use Rattle.at_node.proofs.node.Node.receive.Goals as goal
 
 pub returns-in-Err : goal.returns-in-Err
@@ -18,7 +19,7 @@ pub returns-in-Ok : goal.returns-in-Ok
 returns-in-Ok g c =
     let r = c.take_in.ensures in (
       r.0,
-      comes_wider (HearsAt r.0 c.args.self.now (content c.in-Ok.datagram) (socket_of c.args.self.now (content c.in-Ok.datagram))) (Hears r.0 c.args.self.now c.args.bytes.now) c.args.self.now c.args.out.now.items c.take_in.result c.take_in.new.self c.take_in.new.out.items
+      comes_wider (HearsIt r.0 c.args.self.now (content c.in-Ok.datagram)) (Hears r.0 c.args.self.now c.args.bytes.now) c.args.self.now c.args.out.now.items c.take_in.result c.take_in.new.self c.take_in.new.out.items
           (λ o p. inl (record { datagram = content c.in-Ok.datagram; rest = c.in-Ok.field-0-1.now; begins = c.in-Ok.ensures.found; outcome = p })) r.1,
       r.2,
     )

@@ -1,49 +1,42 @@
-use Rattle.std.proofs.Common.{◌≡◌, rules, true, false, refl, sym, subst}
+use Rattle.std.proofs.Common.{rules, ◌≡◌, true, false, refl, subst}
+use Rattle.std.specs.Prelude.{◌==◌}
+use Rattle.std.proofs.lemmas.Bool.{eq-eqb, ne_eqb}
 use Rattle.at_ddp.specs.Datagram.{content}
-use Rattle.at_node.specs.Hearing.{HearsAt, socket_of, is_mine}
-use Rattle.at_node.specs.Nodes.{Comes}
+use Rattle.at_node.specs.AtpHearing.{HearsAtp}
+use Rattle.at_node.specs.AtpParts.{atp_kind}
+use Rattle.at_node.specs.Hearing.{HearsIt}
+use Rattle.at_node.specs.Nodes.{NodeState, with_atp}
+use Rattle.at_node.specs.Outcomes.{Comes, Over}
+use Rattle.at_node.specs.Seats.{is_mine}
 use Rattle.at_node.specs.declared.service.Reply.TheVariants.{Later}
-use Rattle.at_node.proofs.HearingLemmas.{comes_ignored, for_nobody, for_asker, for_service, for_router, for_no_socket, not_served}
+use Rattle.at_node.proofs.OutcomeLemmas.{comes_ignored, comes_over, comes_wider}
 use Rattle.at_node.proofs.node.Node.take_in.Goals as goal
 
 pub returns-then-not-is_mine : goal.returns-then-not-is_mine
 returns-then-not-is_mine g c =
-    let other : is_mine c.args.self.now (content c.args.datagram.now) ≡ false = search rules in (
-      Later,
-      comes_ignored (HearsAt Later c.args.self.now (content c.args.datagram.now) (socket_of c.args.self.now (content c.args.datagram.now))) c.args.self.now c.args.out.now.items
-          (rw (for_nobody c.args.self.now (content c.args.datagram.now) other) refl),
-      refl,
-    )
+    let other : is_mine c.args.self.now.seat (c.args.datagram.now).to ≡ false = search rules in
+    (Later, comes_ignored (HearsIt Later c.args.self.now (content c.args.datagram.now)) c.args.self.now c.args.out.now.items (rw other refl), refl)
 
 pub returns : goal.returns
-returns g c = (
-  Later,
-  comes_ignored (HearsAt Later c.args.self.now (content c.args.datagram.now) (socket_of c.args.self.now (content c.args.datagram.now))) c.args.self.now c.args.out.now.items
-      (rw (for_no_socket c.args.self.now (content c.args.datagram.now) c.if-datagram.false c.if-datagram-2.false c.if-datagram-eq-ZONES.false) refl),
-  refl,
-)
+returns g c =
+    let mine : is_mine c.args.self.now.seat (c.args.datagram.now).to ≡ true = search rules in
+    let other : ((c.args.datagram.now).kind == atp_kind) ≡ false = ne_eqb (c.args.datagram.now).kind atp_kind c.if-datagram-eq-ATP.false in
+    (Later, comes_ignored (HearsIt Later c.args.self.now (content c.args.datagram.now)) c.args.self.now c.args.out.now.items (rw (mine, other) refl), refl)
 
-pub returns-then-datagram : goal.returns-then-datagram
-returns-then-datagram g c =
-    let mine : is_mine c.args.self.now (content c.args.datagram.now) ≡ true = search rules in (
-      Later,
-      subst (λ socket. Comes (HearsAt Later c.args.self.now (content c.args.datagram.now) socket) c.args.self.now c.args.out.now.items c.take_answer.result c.take_answer.new.self c.take_answer.new.out.items) (sym (for_asker c.args.self.now (content c.args.datagram.now) mine c.if-datagram.true)) (c.take_answer.ensures.comes Later),
-      not_served _ c.take_answer.result Later c.args.service.now c.take_answer.ensures.not_asked,
-    )
-
-pub returns-then-datagram-2 : goal.returns-then-datagram-2
-returns-then-datagram-2 g c =
-    let mine : is_mine c.args.self.now (content c.args.datagram.now) ≡ true = search rules in
-    let r = c.take_question.ensures in (
+pub returns-then-datagram-eq-ATP : goal.returns-then-datagram-eq-ATP
+returns-then-datagram-eq-ATP g c =
+    let r = c.hear.ensures in
+    let inside : NodeState = record { seat = c.self.inside.seat; atp = c.self.inside.atp } in
+    let new : NodeState = record { seat = c.self.inside.seat; atp = c.hear.new.self } in
+    let d = content c.args.datagram.now in
+    let before = c.args.out.now.items in
+    let after = c.hear.new.out.items in
+    let mine : is_mine c.self.inside.seat (c.args.datagram.now).to ≡ true = search rules in
+    let its : ((c.args.datagram.now).kind == atp_kind) ≡ true = eq-eqb (c.args.datagram.now).kind atp_kind c.if-datagram-eq-ATP.true in (
       r.0,
-      subst (λ socket. Comes (HearsAt r.0 c.args.self.now (content c.args.datagram.now) socket) c.args.self.now c.args.out.now.items c.take_question.result c.take_question.new.self c.take_question.new.out.items) (sym (for_service c.args.self.now (content c.args.datagram.now) mine c.if-datagram-2.true)) r.1,
+      subst (λ (n : NodeState). Comes (HearsIt r.0 n d) n before c.hear.result new after) c.self.view_is
+          (comes_wider (Over (with_atp inside) (HearsAtp r.0 c.self.inside.seat c.self.inside.atp d)) (HearsIt r.0 inside d) inside before c.hear.result new after
+          (λ o p. rw (mine, its) p)
+          (comes_over (with_atp inside) inside c.self.inside.atp refl before c.hear.result c.hear.new.self after (HearsAtp r.0 c.self.inside.seat c.self.inside.atp d) r.1)),
       r.2,
-    )
-
-pub returns-then-datagram-eq-ZONES : goal.returns-then-datagram-eq-ZONES
-returns-then-datagram-eq-ZONES g c =
-    let mine : is_mine c.args.self.now (content c.args.datagram.now) ≡ true = search rules in (
-      Later,
-      subst (λ socket. Comes (HearsAt Later c.args.self.now (content c.args.datagram.now) socket) c.args.self.now c.args.out.now.items c.take_request.result c.take_request.new.self c.take_request.new.out.items) (sym (for_router c.args.self.now (content c.args.datagram.now) mine c.if-datagram-eq-ZONES.true)) (c.take_request.ensures.comes Later),
-      not_served _ c.take_request.result Later c.args.service.now c.take_request.ensures.not_asked,
     )

@@ -1,0 +1,105 @@
+-- Outcomes of a part and of the whole, refusals, and what may come.
+use Rattle.std.proofs.Common.{◌≡◌, ℕ, Bool, true, false, List, ◌++◌, map, Option, Some, None, Result, Ok, Err, refl, sym, ap, subst, ◌∙◌}
+use Rattle.std.specs.Prelude.{MatchBool, IfSome, OnOk, IsOk}
+use Rattle.std.proofs.lemmas.List.{append-nil}
+use Rattle.at_ddp.specs.Datagrams.{Posted}
+use Rattle.at_ddp.specs.Fault as ddp
+use Rattle.at_ddp.specs.declared.fault.DdpFault.{DdpFault}
+use Rattle.at_ddp.specs.declared.fault.DdpFault.TheVariants as ddps
+use Rattle.at_atp_frame.specs.Fault as atp
+use Rattle.at_atp_frame.specs.declared.fault.AtpFault.{AtpFault}
+use Rattle.at_atp_frame.specs.declared.fault.AtpFault.TheVariants as atps
+use Rattle.at_zip.specs.Fault as zip
+use Rattle.at_zip.specs.declared.fault.ZipFault.{ZipFault}
+use Rattle.at_zip.specs.declared.fault.ZipFault.TheVariants as zips
+use Rattle.at_node.specs.declared.event.Report.{Report}
+use Rattle.at_node.specs.declared.event.Report.TheVariants.{Ignored, Refused}
+use Rattle.at_node.specs.Outcomes.{wants_memory, takes_memory, refused_as, Outcome, Over, over, idle, posted, Exactly, IsStep, Comes}
+
+-- ---- each fault that stands has a number
+
+pub ddp_number : (f : DdpFault) (input : List ℕ) → ddp.IsFirstFault f input → (n : ℕ) × (ddp.number_of f ≡ Some n)
+ddp_number ddps.Short input h = (1, refl)
+ddp_number ddps.BadLength input h = (2, refl)
+ddp_number ddps.Truncated input h = (3, refl)
+ddp_number ddps.BadSum input h = (4, refl)
+ddp_number ddps.TooLong input h = (5, refl)
+ddp_number ddps.NoMemory input h = absurd h.stands
+
+pub atp_number : (f : AtpFault) (input : List ℕ) → atp.IsFirstFault f input → (n : ℕ) × (atp.number_of f ≡ Some n)
+atp_number atps.ShortAtp input h = (10, refl)
+atp_number atps.BadFunction input h = (11, refl)
+atp_number atps.BadSequence input h = (12, refl)
+atp_number atps.AtpTooLong input h = (13, refl)
+atp_number atps.Full input h = (14, refl)
+atp_number atps.NoSuch input h = (15, refl)
+atp_number atps.EmptyAnswer input h = (16, refl)
+atp_number atps.StillPending input h = (17, refl)
+atp_number atps.Gone input h = (18, refl)
+atp_number atps.NoMemory input h = absurd h.stands
+
+pub zip_number : (f : ZipFault) (user bytes : List ℕ) → zip.IsFirstFault f user bytes → (n : ℕ) × (zip.number_of f ≡ Some n)
+zip_number zips.NotZip user bytes h = (30, refl)
+zip_number zips.CountMismatch user bytes h = (31, refl)
+zip_number zips.BadZone user bytes h = (32, refl)
+zip_number zips.EmptyPage user bytes h = (33, refl)
+zip_number zips.TooManyZones user bytes h = (34, refl)
+zip_number zips.NoMemory user bytes h = absurd h
+
+pub when_ok : {T E : Type 0} (r : Result T E) (P : Type 0) → OnOk r P → IsOk r → P
+when_ok (Ok x) P h is = h
+when_ok (Err e) P h is = absurd (cc)
+
+pub when_some : {X : Type 0} (o : Option X) (x : X) (P : X → Type 0) → o ≡ Some x → IfSome o P → P x
+when_some {X} o x P is h = subst (λ (y : Option X). IfSome y P) is h
+
+-- ---- what may come
+
+module _ {A S : Type 0} (May : Outcome A S → Type 0) (old : S) (before : List Posted) where
+  -- a refusal by a number
+  pub comes_refused : (r : Report A) (number : Option ℕ) (k : ℕ) → number ≡ Some k → r ≡ refused_as number → May (idle old (Refused k)) → Comes May old before r old before
+  comes_refused r number k is h p =
+      subst (λ x. Comes May old before x old before) (sym (h ∙ ap refused_as is)) (idle old (Refused k), p, (refl, refl, sym (append-nil before)))
+
+  pub comes_ignored : May (idle old Ignored) → Comes May old before Ignored old before
+  comes_ignored p = (idle old Ignored, p, (refl, refl, sym (append-nil before)))
+
+  -- an outcome that is not out of memory
+  pub comes_with : (o : Outcome A S) (r : Report A) (new : S) (after : List Posted) → May o → Exactly o before r new after → wants_memory r ≡ false → Comes May old before r new after
+  comes_with o r new after p e some = rw some (o, p, e)
+
+  pub step_comes : (o : Outcome A S) (r : Report A) (new : S) (after : List Posted) → May o → IsStep o old before r new after → Comes May old before r new after
+  step_comes o r new after p = go (wants_memory r)
+    where
+      go : (b : Bool) → MatchBool b ((new ≡ old) × (after ≡ before) × (takes_memory o.report ≡ true)) (Exactly o before r new after)
+          → MatchBool b ((new ≡ old) × (after ≡ before) × ((o : Outcome A S) × May o × (takes_memory o.report ≡ true))) ((o : Outcome A S) × May o × Exactly o before r new after)
+      go true e = (e.0, e.1, (o, p, e.2))
+      go false e = (o, p, e)
+
+-- what comes by one definition comes by a wider one
+pub comes_wider : {A S : Type 0} (P Q : Outcome A S → Type 0) (old : S) (before : List Posted) (r : Report A) (new : S) (after : List Posted) → ((o : Outcome A S) → P o → Q o) → Comes P old before r new after → Comes Q old before r new after
+comes_wider {A} {S} P Q old before r new after f = go (wants_memory r)
+  where
+    go : (b : Bool) → MatchBool b ((new ≡ old) × (after ≡ before) × ((o : Outcome A S) × P o × (takes_memory o.report ≡ true))) ((o : Outcome A S) × P o × Exactly o before r new after)
+        → MatchBool b ((new ≡ old) × (after ≡ before) × ((o : Outcome A S) × Q o × (takes_memory o.report ≡ true))) ((o : Outcome A S) × Q o × Exactly o before r new after)
+    go true h = let wanted = h.2 in (h.0, h.1, (wanted.0, f wanted.0 wanted.1, wanted.2))
+    go false h = (h.0, f h.0 h.1, h.2)
+
+-- ---- a part and the whole
+
+module _ {A S N : Type 0} (f : S → N) (whole : N) (old : S) (is : f old ≡ whole) (before : List Posted) (r : Report A) (new : S) (after : List Posted) where
+  pub step_over : (o : Outcome A S) → IsStep o old before r new after → IsStep (over f o) whole before r (f new) after
+  step_over o = go (wants_memory r)
+    where
+      go : (b : Bool) → MatchBool b ((new ≡ old) × (after ≡ before) × (takes_memory o.report ≡ true)) (Exactly o before r new after)
+          → MatchBool b ((f new ≡ whole) × (after ≡ before) × (takes_memory o.report ≡ true)) (Exactly (over f o) before r (f new) after)
+      go true h = (ap f h.0 ∙ is, h.1, h.2)
+      go false h = (h.0, ap f h.1, h.2)
+
+  pub comes_over : (May : Outcome A S → Type 0) → Comes May old before r new after → Comes (Over f May) whole before r (f new) after
+  comes_over May = go (wants_memory r)
+    where
+      go : (b : Bool) → MatchBool b ((new ≡ old) × (after ≡ before) × ((o : Outcome A S) × May o × (takes_memory o.report ≡ true))) ((o : Outcome A S) × May o × Exactly o before r new after)
+          → MatchBool b ((f new ≡ whole) × (after ≡ before) × ((o : Outcome A N) × Over f May o × (takes_memory o.report ≡ true))) ((o : Outcome A N) × Over f May o × Exactly o before r (f new) after)
+      go true h = let wanted = h.2 in (ap f h.0 ∙ is, h.1, (over f wanted.0, (wanted.0, wanted.1, refl), wanted.2))
+      go false h = let e = h.2 in (over f h.0, (h.0, h.1, refl), (e.0, ap f e.1, e.2))

@@ -1,0 +1,68 @@
+-- The part of a node that speaks ATP and ZIP, which share the requester (Inside AppleTalk, ATP, and ZIP, "GetZoneList",
+-- over ATP).
+use Rattle.std.specs.Prelude.{ℕ, Bool, List, [], ◌∷◌, Option, None}
+use Rattle.at_ddp.specs.declared.address.Address.{Address}
+use Rattle.at_atp_frame.specs.Frames.{Content, Request, Response, Release, spelled, spelled_all}
+use Rattle.at_atp_frame.specs.Packets.{Packet}
+use Rattle.at_atp_responder.specs.Records.{Record}
+use Rattle.at_atp_requester.specs.Requests.{Transaction, Requests, Heard, no_requests, begun, request_by}
+use Rattle.at_node.specs.declared.event.Report.{Report}
+use Rattle.at_node.specs.declared.event.Report.TheVariants as report
+use Rattle.at_node.specs.declared.seat.Seat.{Seat}
+use Rattle.at_node.specs.Outcomes.{Outcome, sent_by}
+
+pub record AtpState : Type 0 where
+  pub table : Option (List (List ℕ))  -- the zone table, if the node is the router
+  pub reading : Option ℕ  -- the transaction that reads the zone list
+  pub requester : Requests
+  pub zone_responder : List Record  -- the records of zone requests
+  pub service_responder : List Record  -- the records of requests for the service
+
+abbrev pub opening : Option (List (List ℕ)) → AtpState
+opening table =
+    record { table = table; reading = None; requester = no_requests; zone_responder = []; service_responder = [] }
+
+-- the sockets of a node: it asks from 128, its service has 129, and a router serves zones at 6
+abbrev pub asking : ℕ → ℕ → Address
+asking net number = record { net = net; node = number; socket = 128 }
+
+abbrev pub serving : ℕ → ℕ → Address
+serving net number = record { net = net; node = number; socket = 129 }
+
+abbrev pub zones_at : ℕ → ℕ → Address
+zones_at net number = record { net = net; node = number; socket = 6 }
+
+-- the protocol of ATP's datagrams
+abbrev pub atp_kind : ℕ
+atp_kind = 3
+
+-- ---- packets
+
+-- the user bytes and the data of a packet
+abbrev pub packet_in : Content → Packet
+packet_in (Request mask xo timer tid user bytes) = record { user = user; data_ = bytes }
+packet_in (Response place eom sts tid user bytes) = record { user = user; data_ = bytes }
+packet_in (Release tid) = record { user = []; data_ = [] }
+
+abbrev pub tid_of : Content → ℕ
+tid_of (Request mask xo timer tid user bytes) = tid
+tid_of (Response place eom sts tid user bytes) = tid
+tid_of (Release tid) = tid
+
+-- ---- the requester
+
+-- a transaction begins, and its request is sent
+abbrev pub asks : {A : Type 0} → Seat → AtpState → Option ℕ → Transaction → Outcome A AtpState
+asks s a reading t = record {
+  report = report.Begun t.tid;
+  state = record a { reading = reading; requester = begun a.requester t };
+  out = sent_by (asking s.net s.number) atp_kind ((t.to, spelled (request_by t)) ∷ []);
+}
+
+-- a packet was received: the report, and the reading after it
+abbrev pub after_heard : {A : Type 0} → Seat → AtpState → Heard A → Report A → Option ℕ → Outcome A AtpState
+after_heard s a h r reading = record {
+  report = r;
+  state = record a { reading = reading; requester = h.after };
+  out = sent_by (asking s.net s.number) atp_kind (spelled_all h.sent);
+}

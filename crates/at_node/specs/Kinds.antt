@@ -1,0 +1,42 @@
+-- Of which protocol a call, a timer, a datagram and a report are.
+use Rattle.std.specs.Prelude.{ℕ, ◌==◌, if◌then◌else◌}
+use Rattle.at_node.specs.AtpParts.{atp_kind}
+use Rattle.at_node.specs.declared.event.Call.{Call}
+use Rattle.at_node.specs.declared.event.Call.TheVariants.{Zones, Ask, Answer}
+use Rattle.at_node.specs.declared.event.Report.{Report}
+use Rattle.at_node.specs.declared.event.Report.TheVariants as report
+use Rattle.at_node.specs.declared.event.Timer.{Timer}
+use Rattle.at_node.specs.declared.event.Timer.TheVariants as timer
+
+-- the parts of a node, and nobody
+pub data Kind : Type 0 where
+  Nobody : Kind
+  Atp : Kind
+
+abbrev pub kind_of_call : {A : Type 0} → Call A → Kind
+kind_of_call Zones = Atp
+kind_of_call (Ask node socket user bytes wanted xo retries) = Atp
+kind_of_call (Answer node socket tid packets) = Atp
+
+abbrev pub kind_of_timer : Timer → Kind
+kind_of_timer (timer.Retry tid) = Atp
+kind_of_timer (timer.Release own node socket tid) = Atp
+
+-- which part speaks the protocol of this number
+abbrev pub kind_of : ℕ → Kind
+kind_of protocol = if protocol == atp_kind then Atp else Nobody
+
+-- which part alone reports this; nobody, if several do, or none
+abbrev pub reporter_of : {A : Type 0} → Report A → Kind
+reporter_of (report.Begun tid) = Atp
+reporter_of (report.Answered count) = Atp
+reporter_of (report.Served count) = Atp
+reporter_of (report.Asked key user bytes) = Atp
+reporter_of (report.Zones names) = Atp
+reporter_of (report.ZoneFault number) = Atp
+reporter_of report.ZonesFailed = Atp
+reporter_of report.Kept = Atp
+reporter_of (report.Response tid packets) = Atp
+reporter_of (report.Failed tid) = Atp
+reporter_of report.Released = Atp
+reporter_of other = Nobody

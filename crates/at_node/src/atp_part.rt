@@ -1,0 +1,83 @@
+ghost use Rattle.std.specs.Prelude.{◌≡◌, Option, None};
+ghost use Rattle.at_ddp.specs.Datagram.{content};
+ghost use Rattle.at_node.specs.AtpHearing.{HearsAtp};
+ghost use Rattle.at_node.specs.AtpParts.{opening};
+ghost use Rattle.at_node.specs.Outcomes.{Comes};
+ghost use Rattle.at_node.specs.ServiceSocket.{Serves};
+ghost use Rattle.at_node.specs.declared.service.Reply.{Reply as Said};
+
+use crate::event::Report;
+use crate::requester_socket::REQUESTER_SOCKET;
+use crate::seat::Seat;
+use crate::service::Service;
+use crate::service_socket::SERVICE_SOCKET;
+use crate::zone_socket::ZONE_SOCKET;
+use at_atp::{Requester, Responder};
+use at_ddp::{Datagram, Datagrams};
+use at_zip::Zones;
+use std::alloc::Allocator;
+use std::marker::Model;
+
+/// The protocol of ATP's datagrams.
+pub(crate) const ATP: u8 = 3;
+
+// The part of a node that speaks ATP and ZIP.
+#[derive(Drop)]
+pub(crate) struct AtpPart<A: Allocator> {
+    pub(crate) alloc: A,
+    // The zone table, if the node is the router.
+    pub(crate) zones: Option<Zones<A>>,
+    // The transaction that reads the zone list, if one is open.
+    pub(crate) reading: Option<u16>,
+    pub(crate) requester: Requester<A>,
+    // The requests that came to the zone socket.
+    pub(crate) zone_responder: Responder<A>,
+    // The requests that came to the service's socket.
+    pub(crate) service_responder: Responder<A>,
+}
+
+impl<A: Allocator> Model for AtpPart<A> {
+    ghost use Rattle.at_node.specs.AtpParts.{AtpState};
+
+    ghost Value = { AtpState };
+
+    ghost view = { λ a. record { table = a.zones; reading = a.reading; requester = a.requester; zone_responder = a.zone_responder; service_responder = a.service_responder } };
+}
+
+impl<A: Allocator + Copy> AtpPart<A> {
+    pub(crate) fn new(alloc: A, zones: Option<Zones<A>>) -> AtpPart<A>
+        ensures { result ≡ opening zones }
+    {
+        AtpPart {
+            alloc,
+            zones,
+            reading: None,
+            requester: Requester::new(alloc),
+            zone_responder: Responder::new(alloc),
+            service_responder: Responder::new(alloc),
+        }
+    }
+
+    // Takes a datagram of ATP that is for this node.
+    pub(crate) fn hear<S: Service<A>>(
+        &mut self,
+        seat: Seat,
+        service: &mut S,
+        datagram: &Datagram<'_>,
+        out: &mut Datagrams<A>,
+    ) -> Report<A>
+        ensures { (said : Said A) × Comes (HearsAtp said seat self.old (content datagram.now)) self.old out.old.items result self.new out.new.items
+            × Serves S.serves result said service.old service.new }
+    {
+        if datagram.to.socket == REQUESTER_SOCKET {
+            return self.hear_response(seat, datagram, out);
+        }
+        if datagram.to.socket == SERVICE_SOCKET {
+            return self.hear_request(seat, service, datagram, out);
+        }
+        if datagram.to.socket == ZONE_SOCKET {
+            return self.hear_zone_request(seat, datagram, out);
+        }
+        Report::Ignored
+    }
+}

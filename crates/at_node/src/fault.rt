@@ -1,0 +1,27 @@
+ghost use Rattle.std.specs.Prelude.{◌≡◌};
+ghost use Rattle.at_node.specs.Faults.{number_of};
+
+use thiserror::Error;
+
+/// Why a node itself refuses a call.
+#[derive(Clone, Copy, Debug, PartialEq, Eq, Error)]
+pub enum NodeFault {
+    /// The cable has no router, so there is no zone list.
+    #[error("the cable has no router, so there is no zone list to read")]
+    NoRouter,
+    /// The node reads the zone list already.
+    #[error("the node reads the zone list already")]
+    StillReading,
+}
+
+impl NodeFault {
+    /// The number by which this refusal is reported.
+    pub fn number(self) -> u8
+        ensures { result ≡ number_of self }
+    {
+        match self {
+            NodeFault::NoRouter => 60,
+            NodeFault::StillReading => 63,
+        }
+    }
+}

@@ -1,0 +1,199 @@
+ghost use Rattle.std.specs.Prelude.{◌≡◌, ◌≢◌, ◌↔◌, ℕ, ◌<◌, ◌≤◌, Bool, length, List, ◌++◌, ◌∷◌, [], map, None, Some, IfOk, IfErr, IfSome, IsOk, OnErr, IsErrOf, true, false};
+ghost use Rattle.at_ddp.specs.Datagram.{content as written};
+ghost use Rattle.at_atp_frame.specs.Frames.{Response, content, spelled, spelled_all};
+ghost use Rattle.at_atp_requester.specs.Requests.{Heard, Retried, next_number, beginning, begun, request_by, is_ignored, heard, retried};
+ghost use Rattle.at_node.specs.AtpHearing.{AtSocket, HearsAt, Requester as RequesterSocket};
+ghost use Rattle.at_node.specs.AtpParts.{atp_kind, tid_of};
+ghost use Rattle.at_node.specs.Outcomes.{Comes, IsStep, posted, sent_by};
+ghost use Rattle.at_node.specs.RequesterSocket.{ask_called, retry_fired, reported_other};
+ghost use Rattle.at_node.specs.ServiceSocket.{is_asked};
+ghost use Rattle.at_node.specs.ZoneReading.{is_reading};
+ghost use Rattle.at_node.specs.declared.service.Reply.{Reply as Said};
+
+use crate::atp_part::{ATP, AtpPart};
+use crate::event::Report;
+use crate::node::refused;
+use crate::seat::Seat;
+use at_atp::{AtpFault, Frame, Requester, Retry, Step};
+use at_ddp::{Address, Datagram, Datagrams, Outbox};
+use std::alloc::{AllocError, Allocator};
+use std::mem;
+
+/// The socket that asks, for the node's own transactions.
+pub(crate) const REQUESTER_SOCKET: u8 = 128;
+
+// What a transaction is to ask.
+#[derive(Clone, Copy)]
+pub(crate) struct Question<'a> {
+    pub to: Address,
+    pub user: [u8; 4],
+    pub bytes: &'a [u8],
+    pub wanted: u8,
+    pub exactly_once: bool,
+    pub retries: u8,
+}
+
+impl<A: Allocator + Copy> AtpPart<A> {
+    pub(crate) fn ask(&mut self, seat: Seat, question: &Question<'_>, out: &mut Datagrams<A>) -> Report<A>
+        requires some { 1 ≤ question.now.wanted }
+        requires few { question.now.wanted ≤ 8 }
+        ensures { IsStep (ask_called seat self.old question.now.to question.now.user question.now.bytes.now question.now.wanted question.now.exactly_once question.now.retries)
+            self.old out.old.items result self.new out.new.items }
+    {
+        let own = seat.at(REQUESTER_SOCKET);
+        match begin(self.alloc, &mut self.requester, own, question, out) {
+            Ok(tid) => Report::Begun(tid),
+            Err(fault) => refused(fault.number()),
+        }
+    }
+
+    // Sends the request of this number again, or closes its transaction.
+    pub(crate) fn retry(&mut self, seat: Seat, tid: u16, out: &mut Datagrams<A>) -> Report<A>
+        ensures { IsStep (retry_fired seat self.old tid (retried self.old.requester tid)) self.old out.old.items result self.new out.new.items }
+    {
+        let own = seat.at(REQUESTER_SOCKET);
+        match retry(self.alloc, &mut self.requester, own, tid, out) {
+            Ok(Retry::AskedAgain) => Report::Again,
+            Ok(Retry::Failed) => self.fail(tid),
+            Err(fault) => refused(fault.number()),
+        }
+    }
+
+    // Takes a datagram for the socket that asks.
+    pub(crate) fn hear_response(&mut self, seat: Seat, datagram: &Datagram<'_>, out: &mut Datagrams<A>) -> Report<A>
+        ensures comes { (said : Said A) → Comes (HearsAt said seat self.old (written datagram.now) (Some RequesterSocket)) self.old out.old.items result self.new out.new.items }
+        ensures not_asked { is_asked result ≡ false }
+    {
+        match at_atp::decode(datagram.data_) {
+            Ok(frame) => self.take_response(seat, datagram.from, &frame, out),
+            Err(fault) => refused(fault.number()),
+        }
+    }
+
+    fn take_response(&mut self, seat: Seat, from: Address, frame: &Frame<'_>, out: &mut Datagrams<A>) -> Report<A>
+        ensures comes { (said : Said A) → Comes (AtSocket said seat self.old from (Some RequesterSocket) (content frame.now)) self.old out.old.items result self.new out.new.items }
+        ensures not_asked { is_asked result ≡ false }
+    {
+        match frame {
+            Frame::Response {
+                tid,
+                user,
+                data_,
+                ..
+            } if self.reading == Some(*tid) => self.take_page(seat, from, frame, *user, data_, out),
+            _ => self.take_other(seat, from, frame, out),
+        }
+    }
+
+    // Takes a packet that is not of the transaction that reads the zone list.
+    fn take_other(&mut self, seat: Seat, from: Address, frame: &Frame<'_>, out: &mut Datagrams<A>) -> Report<A>
+        requires { (place : ℕ) (eom sts : Bool) (tid : ℕ) (user data_ : List ℕ) → content frame.now ≡ Response place eom sts tid user data_ → is_reading self.old.reading tid ≡ false }
+        ensures comes { (said : Said A) → Comes (AtSocket said seat self.old from (Some RequesterSocket) (content frame.now)) self.old out.old.items result self.new out.new.items }
+        ensures not_asked { is_asked result ≡ false }
+    {
+        let own = seat.at(REQUESTER_SOCKET);
+        let Ok(step) = hear(self.alloc, &mut self.requester, own, from, frame, out) else {
+            return Report::NoMemory;
+        };
+        reported_other(tid_of(frame), step)
+    }
+}
+
+pub(crate) fn begin<A: Allocator + Copy>(
+    alloc: A,
+    requester: &mut Requester<A>,
+    own: Address,
+    question: &Question<'_>,
+    out: &mut Datagrams<A>,
+) -> Result<u16, AtpFault>
+    requires some { 1 ≤ question.now.wanted }
+    requires few { question.now.wanted ≤ 8 }
+    ensures drawn { IfOk result (λ tid. next_number requester.old ≡ Some tid) }
+    ensures state { IfOk result (λ tid. requester.new ≡ begun requester.old (beginning tid question.now.to question.now.user question.now.bytes.now question.now.wanted question.now.exactly_once question.now.retries)) }
+    ensures sent { IfOk result (λ tid. out.new.items ≡ out.old.items ++ map posted (sent_by own atp_kind ((question.now.to, spelled (request_by (beginning tid question.now.to question.now.user question.now.bytes.now question.now.wanted question.now.exactly_once question.now.retries))) ∷ []))) }
+    ensures fits { IfOk result (λ tid. length question.now.bytes.now ≤ 578) }
+    ensures too_long { IsErrOf result AtpFault.AtpTooLong ↔ (578 < length question.now.bytes.now) }
+    ensures full { IsErrOf result AtpFault.Full ↔ ((length question.now.bytes.now ≤ 578) × (next_number requester.old ≡ None)) }
+    ensures memory { IfErr result (λ fault. fault ≢ AtpFault.AtpTooLong → fault ≢ AtpFault.Full → fault ≡ AtpFault.NoMemory) }
+    ensures unchanged { OnErr result (requester.new ≡ requester.old) }
+    ensures nothing_sent { OnErr result (out.new.items ≡ out.old.items) }
+{
+    let Question {
+        to,
+        user,
+        bytes,
+        wanted,
+        exactly_once,
+        retries,
+    } = *question;
+    let mut outbox = Outbox::over(mem::replace(out, Datagrams::new(alloc)), own, ATP);
+    let begun = requester.begin(to, user, bytes, wanted, exactly_once, retries, &mut outbox);
+    *out = outbox.into_list();
+    begun
+}
+
+fn retry<A: Allocator + Copy>(
+    alloc: A,
+    requester: &mut Requester<A>,
+    own: Address,
+    tid: u16,
+    out: &mut Datagrams<A>,
+) -> Result<Retry, AtpFault>
+    ensures ok { IfOk result (λ step. (effect : Retried) × (retried requester.old tid ≡ Some effect) × (step ≡ effect.step) × (requester.new ≡ effect.after)
+        × (out.new.items ≡ out.old.items ++ map posted (sent_by own atp_kind (spelled_all effect.sent)))) }
+    ensures missing { IsErrOf result AtpFault.NoSuch ↔ (retried requester.old tid ≡ None) }
+    ensures memory { IfErr result (λ fault. fault ≢ AtpFault.NoSuch → fault ≡ AtpFault.NoMemory) }
+    ensures closes { IfSome (retried requester.old tid) (λ effect. effect.step ≡ Retry.Failed → IsOk result) }
+    ensures unchanged { OnErr result (requester.new ≡ requester.old) }
+    ensures nothing_sent { OnErr result (out.new.items ≡ out.old.items) }
+{
+    let mut outbox = Outbox::over(mem::replace(out, Datagrams::new(alloc)), own, ATP);
+    let step = requester.retry(tid, &mut outbox);
+    *out = outbox.into_list();
+    step
+}
+
+// The requester takes a packet.
+pub(crate) fn hear<A: Allocator + Copy>(
+    alloc: A,
+    requester: &mut Requester<A>,
+    own: Address,
+    from: Address,
+    frame: &Frame<'_>,
+    out: &mut Datagrams<A>,
+) -> Result<Step<A>, AllocError>
+    ensures step { IfOk result (λ step. step ≡ (heard requester.old from (content frame.now)).step) }
+    ensures state { IfOk result (λ step. requester.new ≡ (heard {A = A} requester.old from (content frame.now)).after) }
+    ensures sent { IfOk result (λ step. out.new.items ≡ out.old.items ++ map posted (sent_by own atp_kind (spelled_all (heard {A = A} requester.old from (content frame.now)).sent))) }
+    ensures unchanged { OnErr result (requester.new ≡ requester.old) }
+    ensures nothing_sent { OnErr result (out.new.items ≡ out.old.items) }
+    ensures ignored { is_ignored (heard {A = A} requester.old from (content frame.now)).step ≡ true → IsOk result }
+{
+    let mut outbox = Outbox::over(mem::replace(out, Datagrams::new(alloc)), own, ATP);
+    let step = requester.receive(from, frame, &mut outbox);
+    *out = outbox.into_list();
+    step
+}
+
+// The report of a step of a transaction that does not read the zone list.
+fn reported_other<A: Allocator>(tid: u16, step: Step<A>) -> Report<A>
+    ensures report { result ≡ reported_other tid step }
+    ensures not_asked { is_asked result ≡ false }
+{
+    match step {
+        Step::Ignored => Report::Ignored,
+        Step::Kept => Report::Kept,
+        Step::AskAgain => Report::Again,
+        Step::Finished(packets) => Report::Response { tid, packets },
+    }
+}
+
+pub(crate) fn tid_of(frame: &Frame<'_>) -> u16
+    ensures { result ≡ tid_of (content frame.now) }
+{
+    match frame {
+        Frame::Request { tid, .. } => *tid,
+        Frame::Response { tid, .. } => *tid,
+        Frame::Release { tid } => *tid,
+    }
+}

@@ -1,0 +1,187 @@
+ghost use Rattle.std.specs.Prelude.{◌≡◌, ◌++◌, [], map, find, None, Some, IfOk, OnOk, OnErr};
+ghost use Rattle.at_ddp.specs.Datagram.{content as written};
+ghost use Rattle.at_ddp.specs.Outbox.{Sends};
+ghost use Rattle.at_atp_frame.specs.Frames.{content, spelled_all};
+ghost use Rattle.at_atp_responder.specs.Records.{record_fault, is_key};
+ghost use Rattle.at_node.specs.AtpHearing as Heard;
+ghost use Rattle.at_node.specs.AtpHearing.{AtSocket, HearsAt};
+ghost use Rattle.at_node.specs.AtpParts.{AtpState, atp_kind};
+ghost use Rattle.at_node.specs.Outcomes.{Comes, IsStep, posted, sent_by};
+ghost use Rattle.at_node.specs.ServiceSocket.{Serves, answer_called, service_asked, after_reply, sent_by_reply};
+ghost use Rattle.at_node.specs.declared.seat.Seat.{Seat as Place};
+ghost use Rattle.at_node.specs.declared.service.Reply.{Reply as Said};
+ghost use Rattle.at_node.specs.AtpParts.{serving};
+
+use crate::atp_part::{ATP, AtpPart};
+use crate::event::Report;
+use crate::node::refused;
+use crate::responders::{answer, release, take};
+use crate::seat::Seat;
+use crate::service::{Reply, Service};
+use at_atp::{Frame, Key, Packet, Reception, Responder};
+use at_ddp::{Address, Bytes, Datagram, Datagrams, Outbox};
+use std::alloc::{AllocError, Allocator};
+use std::mem;
+
+/// The socket of the node's service.
+pub(crate) const SERVICE_SOCKET: u8 = 129;
+
+impl<A: Allocator + Copy> AtpPart<A> {
+    // Answers a request that was delivered to the service.
+    pub(crate) fn answer(
+        &mut self,
+        seat: Seat,
+        key: Key,
+        packets: &[Packet<A>],
+        out: &mut Datagrams<A>,
+    ) -> Report<A>
+        ensures { IsStep (answer_called seat self.old key packets.now) self.old out.old.items result self.new out.new.items }
+    {
+        let own = seat.at(SERVICE_SOCKET);
+        match answer(self.alloc, &mut self.service_responder, own, key, packets, out) {
+            Ok(count) => Report::Answered(count),
+            Err(fault) => refused(fault.number()),
+        }
+    }
+
+    // Takes a datagram for the service.
+    pub(crate) fn hear_request<S: Service<A>>(
+        &mut self,
+        seat: Seat,
+        service: &mut S,
+        datagram: &Datagram<'_>,
+        out: &mut Datagrams<A>,
+    ) -> Report<A>
+        ensures { (said : Said A) × Comes (HearsAt said seat self.old (written datagram.now) (Some Heard.Service)) self.old out.old.items result self.new out.new.items
+            × Serves S.serves result said service.old service.new }
+    {
+        match at_atp::decode(datagram.data_) {
+            Ok(frame) => self.take_packet(seat, service, datagram.from, &frame, out),
+            Err(fault) => refused(fault.number()),
+        }
+    }
+
+    fn take_packet<S: Service<A>>(
+        &mut self,
+        seat: Seat,
+        service: &mut S,
+        from: Address,
+        frame: &Frame<'_>,
+        out: &mut Datagrams<A>,
+    ) -> Report<A>
+        ensures { (said : Said A) × Comes (AtSocket said seat self.old from (Some Heard.Service) (content frame.now)) self.old out.old.items result self.new out.new.items
+            × Serves S.serves result said service.old service.new }
+    {
+        let own = seat.at(SERVICE_SOCKET);
+        if let Frame::Release { .. } = frame {
+            return release(self.alloc, &mut self.service_responder, own, from, frame, out);
+        }
+        let Frame::Request { user, data_, .. } = frame else {
+            return Report::Ignored;
+        };
+        take_request(
+            self.alloc,
+            &mut self.service_responder,
+            service,
+            own,
+            from,
+            frame,
+            *user,
+            data_,
+            out,
+        )
+    }
+}
+
+// Takes a request for the service, with its user bytes and its data.
+fn take_request<A: Allocator + Copy, S: Service<A>>(
+    alloc: A,
+    records: &mut Responder<A>,
+    service: &mut S,
+    own: Address,
+    from: Address,
+    frame: &Frame<'_>,
+    user: [u8; 4],
+    bytes: &[u8],
+    out: &mut Datagrams<A>,
+) -> Report<A>
+    ensures { (said : Said A) × ((s : Place) (a : AtpState) → a.service_responder ≡ records.old → serving s.net s.number ≡ own →
+        IsStep (service_asked s a from (content frame.now) user bytes.now said) a out.old.items result (record a { service_responder = records.new }) out.new.items)
+        × Serves S.serves result said service.old service.new }
+{
+    match take(alloc, records, own, from, frame, out) {
+        Err(fault) => refused(fault.number()),
+        Ok(Reception::Ignored) => Report::Ignored,
+        Ok(Reception::Again(_)) => Report::Again,
+        Ok(Reception::Released) => Report::Released,
+        Ok(Reception::New(key)) => {
+            match hand_up(alloc, records, service, own, key, user, bytes, out) {
+                Ok(data_) => Report::Asked { key, user, data_ },
+                Err(AllocError) => {
+                    let _ = records.undo(key);
+                    Report::NoMemory
+                }
+            }
+        }
+    }
+}
+
+// Delivers a request to the service, and sends the answer if the service gives one now. Returns a copy of the request's
+// data for the report.
+fn hand_up<A: Allocator + Copy, S: Service<A>>(
+    alloc: A,
+    records: &mut Responder<A>,
+    service: &mut S,
+    own: Address,
+    key: Key,
+    user: [u8; 4],
+    bytes: &[u8],
+    out: &mut Datagrams<A>,
+) -> Result<Bytes<A>, AllocError>
+    requires waits { record_fault (find (is_key key) records.old) ≡ None }
+    ensures copy { IfOk result (λ copy. copy ≡ bytes.now) }
+    ensures replied { OnOk result ((reply : Said A) × S.serves service.old key user bytes.now reply service.new × (records.new ≡ after_reply records.old key reply)
+        × (out.new.items ≡ out.old.items ++ map posted (sent_by own atp_kind (spelled_all (sent_by_reply records.old key reply))))) }
+    ensures unchanged { OnErr result (records.new ≡ records.old) }
+    ensures nothing_sent { OnErr result (out.new.items ≡ out.old.items) }
+    ensures not_asked { OnErr result (service.new ≡ service.old) }
+{
+    // The copy comes first: a delivery to the service cannot be taken back.
+    let copy = Bytes::copy_of(alloc, bytes)?;
+    let mut outbox = Outbox::over(mem::replace(out, Datagrams::new(alloc)), own, ATP);
+    let replied = reply(records, service, key, user, bytes, &mut outbox);
+    *out = outbox.into_list();
+    match replied {
+        Ok(()) => Ok(copy),
+        Err(AllocError) => Err(AllocError),
+    }
+}
+
+// Room for the largest answer comes first: after the service was called, nothing may fail.
+fn reply<A: Allocator + Copy, S: Service<A>>(
+    records: &mut Responder<A>,
+    service: &mut S,
+    key: Key,
+    user: [u8; 4],
+    bytes: &[u8],
+    out: &mut Outbox<A>,
+) -> Result<(), AllocError>
+    requires waits { record_fault (find (is_key key) records.old) ≡ None }
+    ensures replied { OnOk result ((reply : Said A) × S.serves service.old key user bytes.now reply service.new × (records.new ≡ after_reply records.old key reply)
+        × Sends out.old out.new (spelled_all (sent_by_reply records.old key reply))) }
+    ensures unchanged { OnErr result (records.new ≡ records.old) }
+    ensures nothing_sent { OnErr result (Sends out.old out.new []) }
+    ensures not_asked { OnErr result (service.new ≡ service.old) }
+{
+    let Ok(()) = records.room(key, out) else {
+        return Err(AllocError);
+    };
+    match service.serve(key, user, bytes) {
+        Err(AllocError) => Err(AllocError),
+        Ok(Reply::Later) => Ok(()),
+        Ok(Reply::Now(packets)) => {
+            records.hand_over(key, packets, out).unwrap();
+            Ok(())
+        }
+    }
+}

@@ -1,0 +1,150 @@
+ghost use Rattle.std.specs.Prelude.{◌≡◌, ◌≢◌, ◌↔◌, ◌≤◌, ◌++◌, ◌∷◌, [], map, length, find, option_map, None, Some, true, false, IfOk, IfErr, OnOk, OnErr, IsErrOf};
+ghost use Rattle.at_ddp.specs.Datagram.{content as written};
+ghost use Rattle.at_atp_frame.specs.Frames.{content, spelled_all};
+ghost use Rattle.at_atp_responder.specs.Records.{Taken, taken, finds_no_place, record_fault, is_key, after_answer, asked_for};
+ghost use Rattle.at_ddp.specs.Tables.{without_first};
+ghost use Rattle.at_node.specs.AtpHearing.{AtSocket, HearsAt, Zones as ZoneSocket};
+ghost use Rattle.at_node.specs.AtpParts.{AtpState, atp_kind, zones_at};
+ghost use Rattle.at_node.specs.Outcomes.{Comes, IsStep, posted, sent_by};
+ghost use Rattle.at_node.specs.ServiceSocket.{is_asked};
+ghost use Rattle.at_node.specs.ZoneSocket.{page_packet, zone_asked};
+ghost use Rattle.at_node.specs.declared.seat.Seat.{Seat as Place};
+ghost use Rattle.at_node.specs.declared.service.Reply.{Reply as Said};
+
+use crate::atp_part::AtpPart;
+use crate::event::Report;
+use crate::node::refused;
+use crate::responders::{answer, release, take};
+use crate::seat::Seat;
+use at_atp::{AtpFault, Frame, Key, Packet, Reception, Responder};
+use at_ddp::{Address, Datagram, Datagrams};
+use at_zip::{Zones, page, read_request};
+use std::alloc::{AllocError, Allocator};
+
+/// The router's zone socket.
+pub(crate) const ZONE_SOCKET: u8 = 6;
+
+impl<A: Allocator + Copy> AtpPart<A> {
+    // Takes a datagram for the zone socket, which only a router serves.
+    pub(crate) fn hear_zone_request(&mut self, seat: Seat, datagram: &Datagram<'_>, out: &mut Datagrams<A>) -> Report<A>
+        ensures comes { (said : Said A) → Comes (HearsAt said seat self.old (written datagram.now) (option_map ZoneSocket self.old.table)) self.old out.old.items result self.new out.new.items }
+        ensures not_asked { is_asked result ≡ false }
+    {
+        if self.zones.is_none() {
+            return Report::Ignored;
+        }
+        match at_atp::decode(datagram.data_) {
+            Ok(frame) => self.serve_packet(seat, datagram.from, &frame, out),
+            Err(fault) => refused(fault.number()),
+        }
+    }
+
+    fn serve_packet(&mut self, seat: Seat, from: Address, frame: &Frame<'_>, out: &mut Datagrams<A>) -> Report<A>
+        ensures comes { (said : Said A) → Comes (AtSocket said seat self.old from (option_map ZoneSocket self.old.table) (content frame.now)) self.old out.old.items result self.new out.new.items }
+        ensures not_asked { is_asked result ≡ false }
+    {
+        let own = seat.at(ZONE_SOCKET);
+        let Some(zones) = &self.zones else {
+            return Report::Ignored;
+        };
+        if let Frame::Release { .. } = frame {
+            return release(self.alloc, &mut self.zone_responder, own, from, frame, out);
+        }
+        let Frame::Request { user, .. } = frame else {
+            return Report::Ignored;
+        };
+        match read_request(*user) {
+            Ok(start) => serve_request(
+                self.alloc,
+                &mut self.zone_responder,
+                own,
+                from,
+                frame,
+                zones,
+                start,
+                out,
+            ),
+            Err(_) => Report::Ignored,
+        }
+    }
+}
+
+// Takes a request for the page from a place on.
+fn serve_request<A: Allocator + Copy>(
+    alloc: A,
+    records: &mut Responder<A>,
+    own: Address,
+    from: Address,
+    frame: &Frame<'_>,
+    zones: &Zones<A>,
+    start: u16,
+    out: &mut Datagrams<A>,
+) -> Report<A>
+    requires { 1 ≤ start }
+    ensures step { (s : Place) (a : AtpState) → a.zone_responder ≡ records.old → zones_at s.net s.number ≡ own →
+        IsStep (zone_asked s a from (content frame.now) zones.now start) a out.old.items result (record a { zone_responder = records.new }) out.new.items }
+    ensures not_asked { is_asked result ≡ false }
+{
+    match take(alloc, records, own, from, frame, out) {
+        Err(fault) => refused(fault.number()),
+        Ok(Reception::Ignored) => Report::Ignored,
+        Ok(Reception::Again(_)) => Report::Again,
+        Ok(Reception::Released) => Report::Released,
+        Ok(Reception::New(key)) => {
+            match serve(alloc, records, own, key, zones, start, out) {
+                Ok(count) => Report::Served(count),
+                Err(AllocError) => Report::NoMemory,
+            }
+        }
+    }
+}
+
+// The answer to a request for the page from a place on: one packet.
+fn page_answer<A: Allocator + Copy>(
+    alloc: A,
+    zones: &Zones<A>,
+    start: u16,
+) -> Result<Vec<Packet<A>, A>, AllocError>
+    requires { 1 ≤ start }
+    ensures { IfOk result (λ packets. packets.items ≡ page_packet zones.now start ∷ []) }
+{
+    let mut packets = Vec::with_capacity(alloc, 1)?;
+    match page(alloc, zones, start) {
+        Ok(page) => {
+            packets.push(Packet::new(page.user, page.data_)).unwrap();
+            Ok(packets)
+        }
+        Err(_) => Err(AllocError),
+    }
+}
+
+// Answers a new zone request. If memory runs out, removes its record, as if the request had not come.
+fn serve<A: Allocator + Copy>(
+    alloc: A,
+    records: &mut Responder<A>,
+    own: Address,
+    key: Key,
+    zones: &Zones<A>,
+    start: u16,
+    out: &mut Datagrams<A>,
+) -> Result<u8, AllocError>
+    requires start { 1 ≤ start }
+    requires waits { record_fault (find (is_key key) records.old) ≡ None }
+    ensures state { OnOk result (records.new ≡ after_answer records.old key (page_packet zones.now start ∷ [])) }
+    ensures undone { OnErr result (records.new ≡ without_first (is_key key) records.old) }
+    ensures count { IfOk result (λ count. count ≡ length (asked_for (find (is_key key) records.old) key (page_packet zones.now start ∷ []))) }
+    ensures sent { OnOk result (out.new.items ≡ out.old.items ++ map posted (sent_by own atp_kind (spelled_all (asked_for (find (is_key key) records.old) key (page_packet zones.now start ∷ []))))) }
+    ensures nothing_sent { OnErr result (out.new.items ≡ out.old.items) }
+{
+    let answered = match page_answer(alloc, zones, start) {
+        Ok(packets) => answer(alloc, records, own, key, &packets, out),
+        Err(AllocError) => Err(AtpFault::NoMemory),
+    };
+    match answered {
+        Ok(count) => Ok(count),
+        Err(_) => {
+            let _ = records.undo(key);
+            Err(AllocError)
+        }
+    }
+}

@@ -1,0 +1,46 @@
+-- Each outcome leaves a node where it stands.
+use Rattle.std.proofs.Common.{◌≡◌, Bool, true, false, List, ℕ, inl, inr, refl, ap}
+use Rattle.std.specs.Prelude.{MatchBool, ◌==◌}
+use Rattle.at_ddp.specs.Datagram.{Content as Datagram}
+use Rattle.at_node.specs.declared.event.Call.{Call}
+use Rattle.at_node.specs.declared.event.Call.TheVariants.{Zones, Ask, Answer}
+use Rattle.at_node.specs.declared.event.Report.TheVariants as report
+use Rattle.at_node.specs.declared.event.Timer.{Timer}
+use Rattle.at_node.specs.declared.event.Timer.TheVariants as timer
+use Rattle.at_node.specs.declared.service.Reply.{Reply}
+use Rattle.at_node.specs.AtpHearing.{HearsAtp}
+use Rattle.at_node.specs.AtpParts.{atp_kind}
+use Rattle.at_node.specs.Hearing.{Hears, HearsIt, HearsMine}
+use Rattle.at_node.specs.Nodes.{NodeState, with_atp, called, timed}
+use Rattle.at_node.specs.Outcomes.{Outcome, Over, idle}
+use Rattle.at_node.specs.Seats.{is_mine}
+
+abbrev pub KeepsSeat : {A : Type 0} → NodeState → Outcome A NodeState → Type 0
+KeepsSeat n o = o.state.seat ≡ n.seat
+
+pub call_keeps_seat : (A : Type 0) (n : NodeState) (call : Call A) → KeepsSeat n (called n call)
+call_keeps_seat A n Zones = refl
+call_keeps_seat A n (Ask node socket user bytes wanted xo retries) = refl
+call_keeps_seat A n (Answer node socket tid packets) = refl
+
+pub timer_keeps_seat : (A : Type 0) (n : NodeState) (time : Timer) → KeepsSeat {A = A} n (timed n time)
+timer_keeps_seat A n (timer.Retry tid) = refl
+timer_keeps_seat A n (timer.Release own node socket tid) = refl
+
+mine_keeps_seat : (A : Type 0) (said : Reply A) (n : NodeState) (d : Datagram) (o : Outcome A NodeState) → HearsMine said n d o → KeepsSeat n o
+mine_keeps_seat A said n d o = go (d.kind == atp_kind)
+  where
+    go : (b : Bool) → MatchBool b (Over (with_atp n) (HearsAtp said n.seat n.atp d) o) (o ≡ idle n report.Ignored) → KeepsSeat n o
+    go true h = ap (λ (x : Outcome A NodeState). x.state.seat) h.2
+    go false h = ap (λ (x : Outcome A NodeState). x.state.seat) h
+
+it_keeps_seat : (A : Type 0) (said : Reply A) (n : NodeState) (d : Datagram) (o : Outcome A NodeState) → HearsIt said n d o → KeepsSeat n o
+it_keeps_seat A said n d o = go (is_mine n.seat d.to)
+  where
+    go : (b : Bool) → MatchBool b (HearsMine said n d o) (o ≡ idle n report.Ignored) → KeepsSeat n o
+    go true h = mine_keeps_seat A said n d o h
+    go false h = ap (λ (x : Outcome A NodeState). x.state.seat) h
+
+pub hearing_keeps_seat : (A : Type 0) (said : Reply A) (n : NodeState) (bytes : List ℕ) (o : Outcome A NodeState) → Hears said n bytes o → KeepsSeat n o
+hearing_keeps_seat A said n bytes o (inl h) = it_keeps_seat A said n h.datagram o h.outcome
+hearing_keeps_seat A said n bytes o (inr h) = ap (λ (x : Outcome A NodeState). x.state.seat) h.outcome

@@ -1,0 +1,58 @@
+use Rattle.std.proofs.Common.{◌≡◌, List, [], ◌∷◌, map, refl, ap, subst, ◌∙◌}
+use Rattle.at_atp.specs.Network.{Sent, after}
+use Rattle.at_world.specs.Machine.{opening_machine}
+use Rattle.at_world.specs.Plays.{opening_world}
+use Rattle.at_world.specs.Stories.{Tells, posted_packet}
+use Rattle.at_world.proofs.AtpTie.{Laws, wire_of}
+use Rattle.at_world.proofs.CableTie.{spelled_wire}
+use Rattle.at_world.proofs.Runs.{runs}
+use Rattle.at_world.proofs.TiedAtOpening.{tied_at_opening}
+use Rattle.at_world.proofs.history.steps_make_a_history.Goals as goal
+
+all_spelled : (sent : List Sent) → map spelled_wire (map wire_of sent) ≡ map posted_packet sent
+all_spelled [] = refl
+all_spelled (s ∷ sent) = ap (λ l. posted_packet s ∷ l) (all_spelled sent)
+
+pub returns : goal.returns
+returns g c s events reports w lawful =
+    let A = g.row.A.Denot in
+    let read = c.what_is_written_is_read.ensures in
+    let fit = c.a_page_fits_one_packet.ensures in
+    let open_numbers = c.numbers_stay_open.ensures in
+    let laws : Laws A = record {
+      hears = c.what_is_sent_is_heard.ensures;
+      carries = c.what_is_sent_carries_its_number.ensures;
+      answers = c.responses_are_answers.ensures;
+      lawful_sent = c.what_is_sent_is_lawful.ensures;
+      drawn = open_numbers.drawn;
+      heard_stays = open_numbers.heard;
+      retried_stays = open_numbers.retried;
+      new_waits = c.a_new_request_waits.ensures;
+      few = c.no_more_is_sent_than_answered.ensures;
+      joins = c.answers_join_what_was_asked.ensures;
+      told = c.a_page_written_is_told.ensures;
+      asks = read.request;
+      one_start = c.one_page_a_spelling.ensures.request;
+      lawful = read.lawful;
+      user = fit.user;
+      bytes = fit.bytes;
+      fits = fit.fits;
+      whole = c.a_small_table_is_one_page.ensures;
+    } in
+    λ follows.
+    let opened = tied_at_opening A s lawful in
+    let ran = runs A laws (opening_world s) (opening_machine s) events reports w opened.0 follows in
+    let now = ran.2 in
+    let cable = now.cable in
+    let atp = now.atp in (
+      (ran.0, ran.1),
+      (
+        atp.history,
+        record {
+          timely = atp.timely;
+          in_range = atp.in_range;
+          tells = subst (λ before. Tells s.net before events reports atp.history) opened.1 ran.3;
+          is_sent = cable.sent ∙ ap (map spelled_wire) atp.sent ∙ all_spelled (after A atp.history).sent;
+        },
+      ),
+    )

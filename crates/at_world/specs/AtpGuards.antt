@@ -1,0 +1,155 @@
+-- What the machine knows of transactions and of the zone list, and which reports of them it allows (Inside AppleTalk,
+-- ATP, "Transactions", and ZIP, "GetZoneList").
+use Rattle.std.specs.Prelude.{◌≡◌, ℕ, ◌<◌, ◌≤◌, ◌==◌, not, Bool, false, List, [], ◌∷◌, ◌++◌, length, filter, find, slice_index_or, option_map, Option, Some}
+use Rattle.at_ddp.specs.declared.address.Address.{Address}
+use Rattle.at_atp_frame.specs.Packets.{Packet}
+use Rattle.at_atp.specs.Transactions.{Transaction, Asked, transaction_of, answered, IsResponse}
+use Rattle.at_atp_responder.specs.declared.reception.Key.{Key}
+use Rattle.at_zip.specs.Page.{page_of, page_user, page_data}
+use Rattle.at_zip.specs.Request.{RequestSpells, request_user}
+use Rattle.at_node.specs.AtpParts.{asking, serving, zones_at}
+use Rattle.at_node.specs.Kinds.{Kind, Atp}
+use Rattle.at_node.specs.declared.event.Call.{Call}
+use Rattle.at_node.specs.declared.event.Call.TheVariants.{Zones, Ask, Answer}
+use Rattle.at_node.specs.declared.event.Report.{Report}
+use Rattle.at_node.specs.declared.event.Report.TheVariants as report
+use Rattle.at_world.specs.Cables.{Cable, at_net}
+use Rattle.at_world.specs.declared.event.Event.{Event}
+use Rattle.at_world.specs.declared.event.Event.TheVariants as event
+use Rattle.at_world.specs.declared.setup.Setup.{Setup}
+
+-- a node reads the zone list since this moment
+pub record Reading : Type 0 where
+  pub node : ℕ
+  pub since : ℕ
+
+-- A moment is the state after an event. The first moment is the opening state.
+pub record AtpMachine : Type 0 where
+  pub table : List (List ℕ)  -- the router's zone table
+  pub past : List (List (List ℕ))  -- the table at each moment so far, this one included
+  pub asked : List Transaction  -- newest first
+  pub readings : List Reading
+
+abbrev pub opening : {A : Type 0} → Setup A → AtpMachine
+opening s = record { table = s.zones; past = s.zones ∷ []; asked = []; readings = [] }
+
+-- the same one moment later
+abbrev pub next : AtpMachine → AtpMachine
+next m = record m { past = m.past ++ m.table ∷ [] }
+
+-- ---- readings of the zone list
+
+-- a node asks the router for the first page: one packet, at least once
+abbrev pub first_page : ℕ → ℕ → ℕ → ℕ → Transaction
+first_page net node router tid = record {
+  requester = asking net node;
+  tid = tid;
+  responder = zones_at net router;
+  user = request_user 1;
+  data_ = [];
+  wanted = 1;
+  xo = false;
+  answers = [];
+}
+
+-- the page of a table from a place on, as the one packet of an answer
+abbrev pub page_answer : List (List ℕ) → ℕ → List Packet
+page_answer table start = record { user = page_user (page_of table start); data_ = page_data (page_of table start) } ∷ []
+
+-- the moment since which a node reads the list
+abbrev pub since_of : List Reading → ℕ → Option ℕ
+since_of rs node = option_map (λ r. r.since) (find (λ r. r.node == node) rs)
+
+-- the readings of the other nodes
+abbrev pub without_reading : List Reading → ℕ → List Reading
+without_reading rs node = filter (λ r. not (r.node == node)) rs
+
+-- the table was this one at every moment from that one on
+abbrev pub StoodSince : List (List (List ℕ)) → ℕ → List (List ℕ) → Type 0
+StoodSince past since table = (moment : ℕ) → since ≤ moment → moment < length past → slice_index_or past moment [] ≡ table
+
+-- ---- the steps, one for each report
+
+-- a reading of the zone list begins with its first transaction
+pub record BeginsReading (c : Cable) (m : AtpMachine) (node tid : ℕ) (m' : AtpMachine) : Type 0 where
+  pub router : ℕ
+  pub is_router : c.router ≡ Some router
+  pub becomes : m' ≡ next (record m { asked = first_page c.net node router tid ∷ m.asked; readings = record { node = node; since = length m.past } ∷ m.readings })
+
+-- a transaction begins, without answers
+pub record BeginsAsking (c : Cable) (m : AtpMachine) (node : ℕ) (responder : Address) (user bytes : List ℕ) (wanted : ℕ) (xo : Bool) (tid : ℕ) (m' : AtpMachine) : Type 0 where
+  pub becomes : m' ≡ next (record m { asked = record { requester = asking c.net node; tid = tid; responder = responder; user = user; data_ = bytes; wanted = wanted; xo = xo; answers = [] } ∷ m.asked })
+
+-- a node's user answers the newest transaction of a requester under a number, which asked the node's service
+pub record GivesAnswer (c : Cable) (m : AtpMachine) (node : ℕ) (requester : Address) (tid : ℕ) (packets : List Packet) (count : ℕ) (m' : AtpMachine) : Type 0 where
+  pub asked : Asked m.asked requester tid (serving c.net node)
+  pub few : count ≤ length packets
+  pub becomes : m' ≡ next (record m { asked = answered m.asked requester tid packets })
+
+-- the service receives what such a transaction asks
+pub record IsAsked (c : Cable) (m : AtpMachine) (node : ℕ) (key : Key) (user bytes : List ℕ) : Type 0 where
+  pub asked : Asked m.asked key.from key.tid (serving c.net node)
+  pub is_user : (asked.transaction).user ≡ user
+  pub is_data : (asked.transaction).data_ ≡ bytes
+
+-- a node's transaction ends with a response to it
+pub record IsAnswered (c : Cable) (m : AtpMachine) (node tid : ℕ) (packets : List Packet) : Type 0 where
+  pub transaction : Transaction
+  pub newest : transaction_of m.asked (asking c.net node) tid ≡ Some transaction
+  pub response : IsResponse transaction packets
+
+-- the router answers a transaction that asked it for the page from a place on, with that page of the present table
+pub record Serves (c : Cable) (m : AtpMachine) (node count : ℕ) (m' : AtpMachine) : Type 0 where
+  pub is_router : c.router ≡ Some node
+  pub requester : Address
+  pub tid : ℕ
+  pub asked : Asked m.asked requester tid (zones_at c.net node)
+  pub start : ℕ
+  pub asks_from : RequestSpells (asked.transaction).user start
+  pub one : count ≤ 1
+  pub becomes : m' ≡ next (record m { asked = answered m.asked requester tid (page_answer m.table start) })
+
+-- a reading ends: the zones that are reported are the table, if it was the same at every moment since the reading began
+pub record EndsReading (m : AtpMachine) (node : ℕ) (names : List (List ℕ)) (m' : AtpMachine) : Type 0 where
+  pub since : ℕ
+  pub began : since_of m.readings node ≡ Some since
+  pub tells : StoodSince m.past since m.table → names ≡ m.table
+  pub becomes : m' ≡ next (record m { readings = without_reading m.readings node })
+
+-- a reading ends without a list
+pub record FailsReading (m : AtpMachine) (node : ℕ) (m' : AtpMachine) : Type 0 where
+  pub since : ℕ
+  pub began : since_of m.readings node ≡ Some since
+  pub becomes : m' ≡ next (record m { readings = without_reading m.readings node })
+
+-- a call begins this transaction, under this number
+abbrev pub Begins : {A : Type 0} → Cable → AtpMachine → ℕ → Call A → ℕ → AtpMachine → Type 0
+Begins c m node Zones tid m' = BeginsReading c m node tid m'
+Begins c m node (Ask k socket user bytes wanted xo retries) tid m' = BeginsAsking c m node (at_net c k socket) user bytes wanted xo tid m'
+Begins c m node (Answer k socket number packets) tid m' = ⊥
+
+-- a call gives this answer, and so many of its packets are sent
+abbrev pub Answers : {A : Type 0} → Cable → AtpMachine → ℕ → Call A → ℕ → AtpMachine → Type 0
+Answers c m node (Answer k socket tid packets) count m' = GivesAnswer c m node (at_net c k socket) tid packets count m'
+Answers c m node Zones count m' = ⊥
+Answers c m node (Ask k socket user bytes wanted xo retries) count m' = ⊥
+
+-- the reports of this protocol, row by row
+abbrev pub Says : {A : Type 0} → Cable → AtpMachine → Event A → Report A → AtpMachine → Type 0
+Says c m (event.Call node call) (report.Begun tid) m' = Begins c m node call tid m'
+Says c m (event.Call node call) (report.Answered count) m' = Answers c m node call count m'
+Says c m (event.Deliver which node) (report.Served count) m' = Serves c m node count m'
+Says c m (event.Deliver which node) (report.Asked key user bytes) m' = IsAsked c m node key user bytes × (m' ≡ next m)
+Says c m (event.Deliver which node) (report.Response tid packets) m' = IsAnswered c m node tid packets × (m' ≡ next m)
+Says c m (event.Deliver which node) (report.Zones names) m' = EndsReading m node names m'
+Says c m (event.Deliver which node) report.Kept m' = m' ≡ next m
+Says c m (event.Deliver which node) report.Released m' = m' ≡ next m
+Says c m (event.Timer node timer) report.Done m' = m' ≡ next m
+Says c m (event.Timer node timer) (report.Failed tid) m' = m' ≡ next m
+Says c m (event.Timer node timer) report.ZonesFailed m' = FailsReading m node m'
+Says c m e r m' = ⊥
+
+-- at a report of another protocol, or of nobody, a moment passes
+abbrev pub StepBy : {A : Type 0} → Cable → AtpMachine → Event A → Report A → AtpMachine → Kind → Type 0
+StepBy c m e r m' Atp = Says c m e r m'
+StepBy c m e r m' other = m' ≡ next m

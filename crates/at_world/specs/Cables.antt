@@ -1,0 +1,46 @@
+-- What the machine knows that is of no protocol: the cable, and which reports there are.
+use Rattle.std.specs.Prelude.{◌≡◌, ℕ, map, find, option_map, List, Option}
+use Rattle.at_ddp.specs.declared.address.Address.{Address}
+use Rattle.at_node.specs.Kinds.{Kind, Nobody, kind_of_call, kind_of_timer, reporter_of}
+use Rattle.at_node.specs.declared.event.Report.{Report}
+use Rattle.at_node.specs.declared.event.Report.TheVariants as report
+use Rattle.at_world.specs.Plays.{router_of}
+use Rattle.at_world.specs.declared.event.Event.{Event}
+use Rattle.at_world.specs.declared.event.Event.TheVariants as event
+use Rattle.at_world.specs.declared.setup.Setup.{Setup}
+
+-- its network, and the number of its router, if it has one
+pub record Cable : Type 0 where
+  pub net : ℕ
+  pub router : Option ℕ
+
+abbrev pub opening : {A : Type 0} → Setup A → Cable
+opening s = record { net = s.net; router = router_of s.nodes }
+
+-- a socket of the cable
+abbrev pub at_net : Cable → ℕ → ℕ → Address
+at_net c node socket = record { net = c.net; node = node; socket = socket }
+
+-- whose report it is: `done` is that of whose call or timer it was
+abbrev pub owner_of : {A : Type 0} → Event A → Report A → Kind
+owner_of (event.Call node call) report.Done = kind_of_call call
+owner_of (event.Timer node timer) report.Done = kind_of_timer timer
+owner_of e r = reporter_of r
+
+abbrev pub IsSomebodys : Kind → Type 0
+IsSomebodys Nobody = ⊥
+IsSomebodys other = Unit {0}
+
+-- which reports there are: those of a protocol, and those that tell of nothing new
+abbrev pub IsSaid : {A : Type 0} → Event A → Report A → Type 0
+IsSaid e (report.Refused number) = Unit {0}
+IsSaid e report.NoMemory = Unit {0}
+IsSaid (event.Deliver which node) report.Ignored = Unit {0}
+IsSaid (event.Deliver which node) report.Again = Unit {0}
+IsSaid (event.Timer node timer) report.Again = Unit {0}
+IsSaid e r = IsSomebodys (owner_of e r)
+
+-- an event has a report that there is, and leaves the cable as it was
+pub record Step {A : Type 0} (c : Cable) (e : Event A) (r : Report A) (c' : Cable) : Type 0 where
+  pub said : IsSaid e r
+  pub becomes : c' ≡ c

@@ -1,0 +1,34 @@
+//! How the proofs tell a run from a world: by the history of its network. The function does nothing.
+ghost use Rattle.std.specs.Prelude.{◌≡◌, List, true};
+ghost use Rattle.at_node.specs.declared.event.Report.{Report};
+ghost use Rattle.at_atp.specs.Network.{Happening};
+ghost use Rattle.at_world.specs.Machine.{Machine, Run, opening_machine};
+ghost use Rattle.at_world.specs.Plays.{Follows, opening_world};
+ghost use Rattle.at_world.specs.Setups.{is_lawful};
+ghost use Rattle.at_world.specs.Stories.{IsHistory};
+ghost use Rattle.at_world.specs.Worlds.{WorldState};
+ghost use Rattle.at_world.specs.declared.event.Event.{Event};
+ghost use Rattle.at_world.specs.declared.setup.Setup.{Setup};
+
+use std::alloc::Allocator;
+
+// The reports of a world that is stepped from its opening on are a run of the machine, and each event is one happening
+// in the network of requesters and responders.
+pub(crate) fn steps_make_a_history<A: Allocator>()
+    ensures { (s : Setup A) (events : List (Event A)) (reports : List (Report A)) (w : WorldState) → is_lawful s ≡ true → Follows (opening_world s) events reports w
+        → ((m : Machine) × Run (opening_machine s) events reports m) × ((history : List Happening) × IsHistory s.net events reports w.sent history) }
+{
+    at_atp::laws::responses_are_answers::<A>();
+    at_atp::laws::what_is_sent_is_lawful::<A>();
+    at_atp::laws::numbers_stay_open::<A>();
+    at_atp::laws::a_new_request_waits();
+    at_atp::laws::no_more_is_sent_than_answered();
+    at_atp::laws::answers_join_what_was_asked();
+    at_node::laws::what_is_sent_is_heard::<A>();
+    at_node::laws::what_is_sent_carries_its_number();
+    at_node::laws::a_page_written_is_told::<A>();
+    at_zip::laws::what_is_written_is_read();
+    at_zip::laws::one_page_a_spelling();
+    at_zip::laws::a_page_fits_one_packet();
+    at_zip::laws::a_small_table_is_one_page();
+}
