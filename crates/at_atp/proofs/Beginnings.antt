@@ -1,6 +1,6 @@
 -- What the beginning of a transaction leaves true of a network.
 use Rattle.std.proofs.Common.{◌≡◌, ℕ, ◌+◌, ◌<◌, Bool, true, false, List, [], ◌∷◌, ◌++◌, Option, Some, None, refl, sym, subst, ◌∙◌, arith}
-use Rattle.std.specs.Prelude.{nat_le, ◌==◌, ◌&&◌, ◌||◌, not}
+use Rattle.std.specs.Prelude.{nat_le, replicate, IfSome, ◌==◌, ◌&&◌, ◌||◌, not}
 use Rattle.std.specs.List.{AllByRecursion, list_all}
 use Rattle.std.proofs.lemmas.Bool.{true≢false, false≢true, and_parts, leb-true, eqb-true, eq-eqb}
 use Rattle.at_ddp.specs.Address.{same_address}
@@ -16,6 +16,7 @@ use Rattle.at_ddp.proofs.Alls.{all_implied, all_pairs, all_both, none_passes}
 use Rattle.at_atp.proofs.Carried.{tells_kept, Holds, holds_kept, no_parts, Waits, waits_kept}
 use Rattle.at_atp.proofs.NetworkLemmas.{Fresh, Sound, put_all, more_past, more_fresh}
 use Rattle.at_atp.proofs.Newest.{begun_keeps}
+use Rattle.at_atp.proofs.SentLemmas.{sent_implied, sent_pairs, none_sent}
 
 -- ---- other numbers
 
@@ -80,8 +81,8 @@ DrawsFree = (r : Requests) (tid : ℕ) → next_number r ≡ Some tid → has_nu
 begun_sound : (draws : DrawsFree) (n : Network) (who to : Address) (user bytes : List ℕ) (wanted : ℕ) (xo : Bool) (times tid : ℕ) → Sound n.event n → next_number (n.requesters who) ≡ Some tid → NoneHolds n.responders who tid →
     Sound (n.event + 1) (begun n who (beginning tid to user bytes wanted xo times))
 begun_sound draws n who to user bytes wanted xo times tid sound drawn free = record {
-  past = more_past n.event who n.sent ((to, requests.request_by t) ∷ []) (all_implied (λ s. s.event < n.event) (λ s. s.event < n.event + 1) n.sent (λ s lt. omega arith) sound.past);
-  sent = more_fresh (n.drawn ++ d ∷ []) (new ∷ n.asked) n.event who n.sent ((to, requests.request_by t) ∷ []) (all_implied (λ s. (s.event < n.event) × Fresh n.drawn n.asked s) (Fresh (n.drawn ++ d ∷ []) (new ∷ n.asked)) n.sent stays (all_pairs (λ s. s.event < n.event) (Fresh n.drawn n.asked) n.sent sound.past sound.sent)) ((it, refl, refl, refl), tt);
+  past = more_past n.event who n.sent ((to, requests.request_by t) ∷ []) (sent_implied (λ s. s.event < n.event) (λ s. s.event < n.event + 1) n.sent (λ s lt. omega arith) sound.past);
+  sent = more_fresh (n.drawn ++ d ∷ []) (new ∷ n.asked) n.event who n.sent ((to, requests.request_by t) ∷ []) (sent_implied (λ s. (s.event < n.event) × Fresh n.drawn n.asked s) (Fresh (n.drawn ++ d ∷ []) (new ∷ n.asked)) n.sent stays (sent_pairs (λ s. s.event < n.event) (Fresh n.drawn n.asked) n.sent sound.past sound.sent)) ((it, refl, refl, refl), tt);
   standing = put_all (λ a x. AllByRecursion (Holds (new ∷ n.asked) a) x.standing) n.requesters who (requests.begun (n.requesters who) t) standing (all_both (Holds (new ∷ n.asked) who) (n.requesters who).standing (t ∷ []) (standing who) (holds, tt));
   records = λ at. all_implied (λ r. Waits n.asked at r × (is_key (record { from = who; tid = tid }) r ≡ false)) (Waits (new ∷ n.asked) at) (n.responders at) (λ r h. waits_kept n.asked (new ∷ n.asked) at r (begun_keeps n.asked new r.key.from r.key.tid (turned r.key.from who r.key.tid tid h.1)) h.0) (none_passes (Waits n.asked at) (is_key (record { from = who; tid = tid })) (n.responders at) (free at) (sound.records at));
 }
@@ -125,7 +126,7 @@ begun_sound draws n who to user bytes wanted xo times tid sound drawn free = rec
         go false e = all_implied (Holds n.asked w) (Holds (new_transaction who (beginning tid to user bytes wanted xo times) ∷ n.asked) w) (n.requesters w).standing (λ x h. kept w x (λ i. e i && (tid == x.tid)) h) (sound.standing w)
 
 pub later : (n : Network) → Sound n.event n → Sound (n.event + 1) n
-later n s = record { past = all_implied (λ x. x.event < n.event) (λ x. x.event < n.event + 1) n.sent (λ x lt. omega arith) s.past; sent = s.sent; standing = s.standing; records = s.records }
+later n s = record { past = sent_implied (λ x. x.event < n.event) (λ x. x.event < n.event + 1) n.sent (λ x lt. omega arith) s.past; sent = s.sent; standing = s.standing; records = s.records }
 
 pub begins_sound : (draws : DrawsFree) (n : Network) (who to : Address) (user bytes : List ℕ) (wanted : ℕ) (xo : Bool) (times : ℕ) → Sound n.event n → ((tid : ℕ) → next_number (n.requesters who) ≡ Some tid → NoneHolds n.responders who tid) →
     Sound (n.event + 1) (begins n who to user bytes wanted xo times (next_number (n.requesters who)))
@@ -134,3 +135,12 @@ begins_sound draws n who to user bytes wanted xo times sound timely = go (next_n
     go : (o : Option ℕ) → next_number (n.requesters who) ≡ o → Sound (n.event + 1) (begins n who to user bytes wanted xo times o)
     go None e = later n sound
     go (Some tid) e = begun_sound draws n who to user bytes wanted xo times tid sound e (timely tid e)
+
+-- foreign datagrams change nothing
+pub foreign_sound : (n : Network) (count : ℕ) → Sound (n.event + 1) n → Sound (n.event + 1) (record n { sent = n.sent ++ replicate count None })
+foreign_sound n count s = record {
+  past = all_both (λ (x : Option Sent). IfSome x (λ y. y.event < n.event + 1)) n.sent (replicate count None) s.past (none_sent (λ y. y.event < n.event + 1) count);
+  sent = all_both (λ (x : Option Sent). IfSome x (Fresh n.drawn n.asked)) n.sent (replicate count None) s.sent (none_sent (Fresh n.drawn n.asked) count);
+  standing = s.standing;
+  records = s.records;
+}

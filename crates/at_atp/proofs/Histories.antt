@@ -1,9 +1,9 @@
 -- What every timely history leaves true of a network.
 use Rattle.std.proofs.Common.{◌≡◌, ℕ, ◌+◌, ◌<◌, true, List, [], ◌∷◌, Option, Some, None, refl, subst, arith}
-use Rattle.std.specs.Prelude.{find, slice_get}
+use Rattle.std.specs.Prelude.{find}
 use Rattle.std.proofs.lemmas.Bool.{eqb-true}
 use Rattle.at_ddp.specs.declared.address.Address.{Address}
-use Rattle.at_atp.specs.Network.{Network, Sent, Happening, Begins, Answers, Hears, Takes, Serves, Expires, Retries, Other, begins, answers, handed_up, hears, takes, takes_in, serves, expires, retries, is_fresh, done, tick, after, IsTimely, AllTimely, GivesAnswers}
+use Rattle.at_atp.specs.Network.{Network, Sent, packet_at, Happening, Begins, Answers, Hears, Takes, Serves, Expires, Retries, Other, begins, answers, handed_up, hears, takes, takes_in, serves, expires, retries, is_fresh, done, tick, after, IsTimely, AllTimely, GivesAnswers}
 use Rattle.at_atp_frame.specs.Packets.{Packet}
 use Rattle.at_atp_responder.specs.Records.{is_key, taken, answer_fault, expiry_fault}
 use Rattle.at_atp_requester.specs.Requests as requests
@@ -13,11 +13,12 @@ use Rattle.at_atp_frame.specs.declared.fault.AtpFault.{AtpFault}
 use Rattle.at_atp_responder.specs.declared.reception.Key.{Key}
 use Rattle.at_atp_responder.specs.declared.reception.Reception.{Reception}
 use Rattle.at_atp_responder.specs.declared.reception.Reception.TheVariants as reception
-use Rattle.at_ddp.proofs.Alls.{all_implied, all_at, all_found}
-use Rattle.at_atp.proofs.Beginnings.{DrawsFree, begins_sound, later}
+use Rattle.at_ddp.proofs.Alls.{all_found}
+use Rattle.at_atp.proofs.Beginnings.{DrawsFree, begins_sound, foreign_sound, later}
 use Rattle.at_atp.proofs.Carried.{Tells, Holds}
 use Rattle.at_atp.proofs.Hearings.{heard_sound}
 use Rattle.at_atp.proofs.NetworkLemmas.{Fresh, Sound, asked_by, hears_sound, takes_sound, serves_sound, expires_sound, retries_sound, gives_sound}
+use Rattle.at_atp.proofs.SentLemmas.{sent_at, sent_implied}
 
 done_sound : (A : Type 0) (draws : DrawsFree) (n : Network) (h : Happening) → Sound n.event n → IsTimely n h → Sound (n.event + 1) (done A n h)
 done_sound A draws n (Begins who to user bytes wanted xo times) sound timely = begins_sound draws n who to user bytes wanted xo times sound timely
@@ -27,7 +28,7 @@ done_sound A draws n (Takes which) sound timely = takes_sound n which (later n s
 done_sound A draws n (Serves which packets) sound timely = serves_sound n which packets (later n sound) timely
 done_sound A draws n (Expires at key) sound timely = expires_sound n at key (later n sound)
 done_sound A draws n (Retries who tid) sound timely = retries_sound n who tid (later n sound)
-done_sound A draws n Other sound timely = later n sound
+done_sound A draws n (Other count) sound timely = foreign_sound n count (later n sound)
 
 -- no happening counts events but the tick
 given : (n : Network) (at : Address) (key : Key) (packets : List Packet) (o : Option AtpFault) → (answers n at key packets o).event ≡ n.event
@@ -47,17 +48,17 @@ same_event A n (Begins who to user bytes wanted xo times) = go (next_number (n.r
     go None = refl
     go (Some tid) = refl
 same_event A n (Answers at key packets) = given n at key packets (answer_fault (n.responders at) key packets)
-same_event A n (Hears which) = go (slice_get n.sent which)
+same_event A n (Hears which) = go (packet_at n.sent which)
   where
     go : (o : Option Sent) → (hears A n o).event ≡ n.event
     go None = refl
     go (Some s) = refl
-same_event A n (Takes which) = go (slice_get n.sent which)
+same_event A n (Takes which) = go (packet_at n.sent which)
   where
     go : (o : Option Sent) → (takes_in n o).event ≡ n.event
     go None = refl
     go (Some s) = refl
-same_event A n (Serves which packets) = go (slice_get n.sent which)
+same_event A n (Serves which packets) = go (packet_at n.sent which)
   where
     go : (o : Option Sent) → (serves n packets o).event ≡ n.event
     go None = refl
@@ -72,10 +73,10 @@ same_event A n (Retries who tid) = go (retried (n.requesters who) tid)
     go : (o : Option requests.Retried) → (retries n who o).event ≡ n.event
     go None = refl
     go (Some r) = refl
-same_event A n Other = refl
+same_event A n (Other count) = refl
 
 ticked : (e : ℕ) (n : Network) → n.event ≡ e → Sound (e + 1) n → Sound (tick n).event (tick n)
-ticked e n same s = record { past = all_implied (λ x. x.event < e + 1) (λ x. x.event < n.event + 1) n.sent (λ x lt. omega (arith, same)) s.past; sent = s.sent; standing = s.standing; records = s.records }
+ticked e n same s = record { past = sent_implied (λ x. x.event < e + 1) (λ x. x.event < n.event + 1) n.sent (λ x lt. omega (arith, same)) s.past; sent = s.sent; standing = s.standing; records = s.records }
 
 pub history_sound : (A : Type 0) (draws : DrawsFree) (history : List Happening) → AllTimely A history → Sound (after A history).event (after A history)
 history_sound A draws [] timely = record { past = tt; sent = tt; standing = λ who. tt; records = λ at. tt }
@@ -95,8 +96,8 @@ sound_gives A events n sound = record {
       (record { transaction = a.transaction; newest = subst (λ k. transaction_of n.asked who k ≡ Some a.transaction) (eqb-true t.tid tid found.1) a.newest; asked_it = a.asked_it }, h.user, h.bytes, h.wanted, h.xo);
 }
   where
-    told : (which : ℕ) (s : Sent) → slice_get n.sent which ≡ Some s → is_fresh n.drawn s ≡ true → Tells n.asked s.from s.to s.packet
-    told which s is fresh = all_at (Fresh n.drawn n.asked) n.sent which s sound.sent is fresh
+    told : (which : ℕ) (s : Sent) → packet_at n.sent which ≡ Some s → is_fresh n.drawn s ≡ true → Tells n.asked s.from s.to s.packet
+    told which s is fresh = sent_at (Fresh n.drawn n.asked) n.sent which s sound.sent is fresh
 
 pub gives_answers : (A : Type 0) (draws : DrawsFree) (history : List Happening) → AllTimely A history → GivesAnswers A (after A history)
 gives_answers A draws history timely = sound_gives A (after A history).event (after A history) (history_sound A draws history timely)

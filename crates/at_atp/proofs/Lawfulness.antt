@@ -1,6 +1,6 @@
 -- All that a network sends can be spelled, if what is asked and answered is in range.
 use Rattle.std.proofs.Common.{◌≡◌, ℕ, zero, suc, ◌<◌, ◌≤◌, Bool, true, false, cond, List, [], ◌∷◌, length, Option, Some, None, refl, subst, arith, lit<}
-use Rattle.std.specs.Prelude.{find, slice_get, option_map, nat_le, ◌&&◌}
+use Rattle.std.specs.Prelude.{find, option_map, nat_le, replicate, IfSome, ◌&&◌}
 use Rattle.std.specs.List.{AllByRecursion}
 use Rattle.std.proofs.lemmas.Bool.{leb-true}
 use Rattle.std.proofs.lemmas.List.{length-set, length-replicate}
@@ -9,7 +9,7 @@ use Rattle.at_ddp.specs.declared.address.Address.{Address}
 use Rattle.at_atp_requester.specs.Answers.{Arrival, is_wanted, whole, with_part}
 use Rattle.at_atp_frame.specs.Frames.{Content, Request, Response, Release, IsLawful}
 use Rattle.at_atp.specs.Lawfully.{IsAsking, IsInRange, IsLawfullySent}
-use Rattle.at_atp.specs.Network.{Network, Sent, Happening, Begins, Answers, Hears, Takes, Serves, Expires, Retries, Other, begins, begun, answers, gives, hears, takes, takes_in, handed_up, serves, expires, retries, done, after}
+use Rattle.at_atp.specs.Network.{Network, Sent, AllSent, packet_at, Happening, Begins, Answers, Hears, Takes, Serves, Expires, Retries, Other, begins, begun, answers, gives, hears, takes, takes_in, handed_up, serves, expires, retries, done, after}
 use Rattle.at_atp_frame.specs.Packets.{Packet, IsPacket}
 use Rattle.at_atp_responder.specs.Records.{State, Waiting, Answered, Released, Record, Taken, is_key, is_kept, repeated, released, came_again, request_came, release_came, passed, is_passed_over, taken, answer_fault, asked_for, asked_mask, after_answer, expiry_fault, fit, record_fault}
 use Rattle.at_atp_requester.specs.Requests.{Transaction, Requests, Retried, next_number, beginning, request_by, came, came_for, was_kept, is_finished, is_of, response_came, Effect, Heard, heard, is_numbered, retried_with, retried}
@@ -19,9 +19,10 @@ use Rattle.at_atp_frame.specs.declared.fault.AtpFault.TheVariants.{AtpTooLong}
 use Rattle.at_atp_responder.specs.declared.reception.Key.{Key}
 use Rattle.at_atp_responder.specs.declared.reception.Reception.{Reception}
 use Rattle.at_atp_responder.specs.declared.reception.Reception.TheVariants as reception
-use Rattle.at_ddp.proofs.Alls.{all_both, all_replaced, all_without, all_at, all_found}
+use Rattle.at_ddp.proofs.Alls.{all_both, all_replaced, all_without, all_found}
 use Rattle.at_atp.proofs.NetworkLemmas.{put_all}
 use Rattle.at_atp.proofs.KeyedRecords.{one_key}
+use Rattle.at_atp.proofs.SentLemmas.{sent_at, none_sent}
 use Rattle.at_atp.proofs.Ranges.{FitsOpen, FitsRequests, FitsState, FitsRecord, FitSent, Fits, number_fits, asks_fit, responses_fit, more_fits, requester_fits, responder_fits}
 
 -- ---- a packet comes to a requester
@@ -184,9 +185,9 @@ gives_fits n at key packets fits f all = gave_fits n at key packets fits f all (
 
 -- ---- histories
 
-takes_fits : (n : Network) (which : ℕ) (s : Sent) → Fits n → slice_get n.sent which ≡ Some s → Fits (takes n s)
+takes_fits : (n : Network) (which : ℕ) (s : Sent) → Fits n → packet_at n.sent which ≡ Some s → Fits (takes n s)
 takes_fits n which s fits e =
-    let l = all_at IsLawfullySent n.sent which s fits.sent e in
+    let l = sent_at IsLawfullySent n.sent which s fits.sent e in
     let t = taken_fits (n.responders s.to) s.from s.packet (fits.responders s.to) l.from_fits l.lawful in
     responder_fits n s.to (taken (n.responders s.to) s.from s.packet).after (taken (n.responders s.to) s.from s.packet).sent fits l.to_fits t.after t.sent
 
@@ -215,24 +216,24 @@ done_fits A n (Begins who to user bytes wanted xo times) fits range = go (next_n
     go None e = fits
     go (Some tid) e = begun_fits n who to user bytes wanted xo times tid fits range (number_fits (n.requesters who) tid (fits.requesters who).next e)
 done_fits A n (Answers at key packets) fits range = gives_fits n at key packets fits range.0 range.1
-done_fits A n (Hears which) fits range = go (slice_get n.sent which) refl
+done_fits A n (Hears which) fits range = go (packet_at n.sent which) refl
   where
-    go : (o : Option Sent) → slice_get n.sent which ≡ o → Fits (hears A n o)
+    go : (o : Option Sent) → packet_at n.sent which ≡ o → Fits (hears A n o)
     go None e = fits
     go (Some s) e =
-        let l = all_at IsLawfullySent n.sent which s fits.sent e in
+        let l = sent_at IsLawfullySent n.sent which s fits.sent e in
         let h = heard_fits A (n.requesters s.to) s.from s.packet (fits.requesters s.to) in
         requester_fits n s.to (heard {A = A} (n.requesters s.to) s.from s.packet).after (heard {A = A} (n.requesters s.to) s.from s.packet).sent fits l.to_fits h.after h.sent
-done_fits A n (Takes which) fits range = go (slice_get n.sent which) refl
+done_fits A n (Takes which) fits range = go (packet_at n.sent which) refl
   where
-    go : (o : Option Sent) → slice_get n.sent which ≡ o → Fits (takes_in n o)
+    go : (o : Option Sent) → packet_at n.sent which ≡ o → Fits (takes_in n o)
     go None e = fits
     go (Some s) e = takes_fits n which s fits e
-done_fits A n (Serves which packets) fits range = go (slice_get n.sent which) refl
+done_fits A n (Serves which packets) fits range = go (packet_at n.sent which) refl
   where
-    go : (o : Option Sent) → slice_get n.sent which ≡ o → Fits (serves n packets o)
+    go : (o : Option Sent) → packet_at n.sent which ≡ o → Fits (serves n packets o)
     go None e = fits
-    go (Some s) e = handed_fits (takes n s) s.to packets (taken (n.responders s.to) s.from s.packet).reception (takes_fits n which s fits e) (all_at IsLawfullySent n.sent which s fits.sent e).to_fits range
+    go (Some s) e = handed_fits (takes n s) s.to packets (taken (n.responders s.to) s.from s.packet).reception (takes_fits n which s fits e) (sent_at IsLawfullySent n.sent which s fits.sent e).to_fits range
 done_fits A n (Expires at key) fits range = go (expiry_fault (find (is_key key) (n.responders at)))
   where
     go : (o : Option AtpFault) → Fits (expires n at key o)
@@ -243,7 +244,7 @@ done_fits A n (Retries who tid) fits range = go (retried (n.requesters who) tid)
     go : (o : Option Retried) → retried (n.requesters who) tid ≡ o → Fits (retries n who o)
     go None e = fits
     go (Some x) e = let r = retried_fits (n.requesters who) tid x (fits.requesters who) e in requester_fits n who x.after x.sent fits range r.after r.sent
-done_fits A n Other fits range = fits
+done_fits A n (Other count) fits range = record { requesters = fits.requesters; responders = fits.responders; sent = all_both (λ (x : Option Sent). IfSome x IsLawfullySent) n.sent (replicate count None) fits.sent (none_sent IsLawfullySent count) }
 
 history_fits : (A : Type 0) (history : List Happening) → AllByRecursion IsInRange history → Fits (after A history)
 history_fits A [] range = record { requesters = λ who. record { next = lit< tt; standing = tt }; responders = λ at. tt; sent = tt }
@@ -251,5 +252,5 @@ history_fits A (h ∷ hs) range =
     let f = done_fits A (after A hs) h (history_fits A hs range.1) range.0 in
     record { requesters = f.requesters; responders = f.responders; sent = f.sent }
 
-pub lawfully_sent : (A : Type 0) (history : List Happening) → AllByRecursion IsInRange history → AllByRecursion IsLawfullySent (after A history).sent
+pub lawfully_sent : (A : Type 0) (history : List Happening) → AllByRecursion IsInRange history → AllSent IsLawfullySent (after A history).sent
 lawfully_sent A history range = (history_fits A history range).sent

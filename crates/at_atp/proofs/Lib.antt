@@ -9,5 +9,6 @@ mod Newest
 mod OnceHistories
 mod OnceNetwork
 mod Ranges
+mod SentLemmas
 mod Stages
 mod Takings

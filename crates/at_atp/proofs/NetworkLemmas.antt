@@ -1,12 +1,12 @@
 -- What a timely history leaves true of a network.
 use Rattle.std.proofs.Common.{◌≡◌, ℕ, ◌+◌, ◌<◌, Bool, true, false, cond, List, [], ◌∷◌, ◌++◌, Option, Some, None, refl, subst, ◌∙◌, arith}
-use Rattle.std.specs.Prelude.{find, slice_get}
+use Rattle.std.specs.Prelude.{find, IfSome}
 use Rattle.std.specs.List.{AllByRecursion, Contains}
 use Rattle.at_ddp.specs.Address.{same_address}
 use Rattle.at_ddp.specs.declared.address.Address.{Address}
 use Rattle.at_ddp.proofs.Octets.{same_address-true}
 use Rattle.at_atp_frame.specs.Frames.{Content, owner, number_of}
-use Rattle.at_atp.specs.Network.{Network, Sent, Drawn, is_fresh, put, stamped, with_requester, with_responder, answers, gives, hears, takes, takes_in, handed_up, serves, expires, retries, ComesInTime}
+use Rattle.at_atp.specs.Network.{Network, Sent, Drawn, AllSent, packet_at, is_fresh, put, stamped, with_requester, with_responder, answers, gives, hears, takes, takes_in, handed_up, serves, expires, retries, ComesInTime}
 use Rattle.at_atp_frame.specs.Packets.{Packet}
 use Rattle.at_atp_responder.specs.Records.{Answered, Record, is_key, is_kept, taken, answer_fault, asked_for, asked_mask, after_answer, expiry_fault}
 use Rattle.at_atp_requester.specs.Requests.{Requests, Retried, heard, retried}
@@ -16,11 +16,12 @@ use Rattle.at_atp_frame.specs.declared.fault.AtpFault.{AtpFault}
 use Rattle.at_atp_responder.specs.declared.reception.Key.{Key}
 use Rattle.at_atp_responder.specs.declared.reception.Reception.{Reception}
 use Rattle.at_atp_responder.specs.declared.reception.Reception.TheVariants as reception
-use Rattle.at_ddp.proofs.Alls.{all_implied, all_both, all_replaced, all_without, all_at, all_found}
+use Rattle.at_ddp.proofs.Alls.{all_implied, all_both, all_replaced, all_without, all_found}
 use Rattle.at_atp.proofs.Carried.{Tells, tells_kept, Holds, holds_kept, Waits, waits_kept}
 use Rattle.at_atp.proofs.Hearings.{TellsAll, heard_sound, retried_sound}
 use Rattle.at_atp.proofs.Newest.{Keeps, answered_keeps, answered_joins}
 use Rattle.at_atp.proofs.KeyedRecords.{one_key}
+use Rattle.at_atp.proofs.SentLemmas.{sent_at, sent_implied}
 use Rattle.at_atp.proofs.Takings.{answer_tells, taken_sound}
 
 -- what is sent while no later event drew its number is of the newest transaction of that number
@@ -29,8 +30,8 @@ Fresh drawn asked s = is_fresh drawn s ≡ true → Tells asked s.from s.to s.pa
 
 -- a network after so many events
 pub record Sound (events : ℕ) (n : Network) : Type 0 where
-  pub past : AllByRecursion (λ s. s.event < events) n.sent
-  pub sent : AllByRecursion (Fresh n.drawn n.asked) n.sent
+  pub past : AllSent (λ s. s.event < events) n.sent
+  pub sent : AllSent (Fresh n.drawn n.asked) n.sent
   pub standing : (who : Address) → AllByRecursion (Holds n.asked who) (n.requesters who).standing
   pub records : (at : Address) → AllByRecursion (Waits n.asked at) (n.responders at)
 
@@ -52,19 +53,19 @@ put_all {X} P f at x all is a = go (same_address at a) refl
 
 -- ---- what is sent
 
-stamped_past : (event : ℕ) (from : Address) (xs : List (Address × Content)) → AllByRecursion (λ (s : Sent). s.event < event + 1) (stamped event from xs)
+stamped_past : (event : ℕ) (from : Address) (xs : List (Address × Content)) → AllSent (λ s. s.event < event + 1) (stamped event from xs)
 stamped_past event from [] = tt
 stamped_past event from (x ∷ xs) = (omega arith, stamped_past event from xs)
 
-stamped_fresh : (drawn : List Drawn) (asked : List Transaction) (event : ℕ) (from : Address) (xs : List (Address × Content)) → TellsAll asked from xs → AllByRecursion (Fresh drawn asked) (stamped event from xs)
+stamped_fresh : (drawn : List Drawn) (asked : List Transaction) (event : ℕ) (from : Address) (xs : List (Address × Content)) → TellsAll asked from xs → AllSent (Fresh drawn asked) (stamped event from xs)
 stamped_fresh drawn asked event from [] h = tt
 stamped_fresh drawn asked event from (x ∷ xs) h = ((λ _. h.0), stamped_fresh drawn asked event from xs h.1)
 
-pub more_past : (event : ℕ) (from : Address) (sent : List Sent) (xs : List (Address × Content)) → AllByRecursion (λ s. s.event < event + 1) sent → AllByRecursion (λ s. s.event < event + 1) (sent ++ stamped event from xs)
-more_past event from sent xs h = all_both (λ s. s.event < event + 1) sent (stamped event from xs) h (stamped_past event from xs)
+pub more_past : (event : ℕ) (from : Address) (sent : List (Option Sent)) (xs : List (Address × Content)) → AllSent (λ s. s.event < event + 1) sent → AllSent (λ s. s.event < event + 1) (sent ++ stamped event from xs)
+more_past event from sent xs h = all_both (λ (x : Option Sent). IfSome x (λ s. s.event < event + 1)) sent (stamped event from xs) h (stamped_past event from xs)
 
-pub more_fresh : (drawn : List Drawn) (asked : List Transaction) (event : ℕ) (from : Address) (sent : List Sent) (xs : List (Address × Content)) → AllByRecursion (Fresh drawn asked) sent → TellsAll asked from xs → AllByRecursion (Fresh drawn asked) (sent ++ stamped event from xs)
-more_fresh drawn asked event from sent xs h tells = all_both (Fresh drawn asked) sent (stamped event from xs) h (stamped_fresh drawn asked event from xs tells)
+pub more_fresh : (drawn : List Drawn) (asked : List Transaction) (event : ℕ) (from : Address) (sent : List (Option Sent)) (xs : List (Address × Content)) → AllSent (Fresh drawn asked) sent → TellsAll asked from xs → AllSent (Fresh drawn asked) (sent ++ stamped event from xs)
+more_fresh drawn asked event from sent xs h tells = all_both (λ (x : Option Sent). IfSome x (Fresh drawn asked)) sent (stamped event from xs) h (stamped_fresh drawn asked event from xs tells)
 
 -- ---- one party that changes, among the same transactions
 
@@ -86,27 +87,27 @@ responder_sound n at rs sent s records tells = record {
 
 -- ---- packets that come, and retries
 
-pub tells_at : (events : ℕ) (n : Network) (which : ℕ) (s : Sent) → Sound events n → slice_get n.sent which ≡ Some s → is_fresh n.drawn s ≡ true → Tells n.asked s.from s.to s.packet
-tells_at events n which s sound is fresh = all_at (Fresh n.drawn n.asked) n.sent which s sound.sent is fresh
+pub tells_at : (events : ℕ) (n : Network) (which : ℕ) (s : Sent) → Sound events n → packet_at n.sent which ≡ Some s → is_fresh n.drawn s ≡ true → Tells n.asked s.from s.to s.packet
+tells_at events n which s sound is fresh = sent_at (Fresh n.drawn n.asked) n.sent which s sound.sent is fresh
 
-pub hears_sound : (A : Type 0) (n : Network) (which : ℕ) → Sound (n.event + 1) n → ComesInTime n which → Sound (n.event + 1) (hears A n (slice_get n.sent which))
-hears_sound A n which sound timely = go (slice_get n.sent which) refl
+pub hears_sound : (A : Type 0) (n : Network) (which : ℕ) → Sound (n.event + 1) n → ComesInTime n which → Sound (n.event + 1) (hears A n (packet_at n.sent which))
+hears_sound A n which sound timely = go (packet_at n.sent which) refl
   where
-    go : (o : Option Sent) → slice_get n.sent which ≡ o → Sound (n.event + 1) (hears A n o)
+    go : (o : Option Sent) → packet_at n.sent which ≡ o → Sound (n.event + 1) (hears A n o)
     go None e = sound
     go (Some s) e =
         let h = heard_sound A n.asked s.to s.from (n.requesters s.to) s.packet (sound.standing s.to) (tells_at (n.event + 1) n which s sound e (timely s e)) in
         requester_sound n s.to (heard {A = A} (n.requesters s.to) s.from s.packet).after (heard {A = A} (n.requesters s.to) s.from s.packet).sent sound h.standing h.sent
 
-pub took_sound : (n : Network) (which : ℕ) (s : Sent) → Sound (n.event + 1) n → ComesInTime n which → slice_get n.sent which ≡ Some s → Sound (n.event + 1) (takes n s)
+pub took_sound : (n : Network) (which : ℕ) (s : Sent) → Sound (n.event + 1) n → ComesInTime n which → packet_at n.sent which ≡ Some s → Sound (n.event + 1) (takes n s)
 took_sound n which s sound timely e =
     let t = taken_sound n.asked s.to s.from (n.responders s.to) s.packet (sound.records s.to) (tells_at (n.event + 1) n which s sound e (timely s e)) in
     responder_sound n s.to (taken (n.responders s.to) s.from s.packet).after (taken (n.responders s.to) s.from s.packet).sent sound t.records t.sent
 
-pub takes_sound : (n : Network) (which : ℕ) → Sound (n.event + 1) n → ComesInTime n which → Sound (n.event + 1) (takes_in n (slice_get n.sent which))
-takes_sound n which sound timely = go (slice_get n.sent which) refl
+pub takes_sound : (n : Network) (which : ℕ) → Sound (n.event + 1) n → ComesInTime n which → Sound (n.event + 1) (takes_in n (packet_at n.sent which))
+takes_sound n which sound timely = go (packet_at n.sent which) refl
   where
-    go : (o : Option Sent) → slice_get n.sent which ≡ o → Sound (n.event + 1) (takes_in n o)
+    go : (o : Option Sent) → packet_at n.sent which ≡ o → Sound (n.event + 1) (takes_in n o)
     go None e = sound
     go (Some s) e = took_sound n which s sound timely e
 
@@ -123,7 +124,7 @@ retries_sound n who tid sound = go (retried (n.requesters who) tid) refl
 pub gave_sound : (n : Network) (at : Address) (key : Key) (packets : List Packet) → Sound (n.event + 1) n → answer_fault (n.responders at) key packets ≡ None → Sound (n.event + 1) (answers n at key packets None)
 gave_sound n at key packets sound free = record {
   past = more_past n.event at n.sent (asked_for (find (is_key key) (n.responders at)) key packets) sound.past;
-  sent = more_fresh n.drawn (answered n.asked key.from key.tid packets) n.event at n.sent (asked_for (find (is_key key) (n.responders at)) key packets) (all_implied (Fresh n.drawn n.asked) (Fresh n.drawn (answered n.asked key.from key.tid packets)) n.sent fresh_kept sound.sent) (tells (find (is_key key) (n.responders at)) refl);
+  sent = more_fresh n.drawn (answered n.asked key.from key.tid packets) n.event at n.sent (asked_for (find (is_key key) (n.responders at)) key packets) (sent_implied (Fresh n.drawn n.asked) (Fresh n.drawn (answered n.asked key.from key.tid packets)) n.sent fresh_kept sound.sent) (tells (find (is_key key) (n.responders at)) refl);
   standing = λ who. all_implied (Holds n.asked who) (Holds (answered n.asked key.from key.tid packets) who) (n.requesters who).standing (λ t h. holds_kept n.asked (answered n.asked key.from key.tid packets) who t (keeps who t.tid) h) (sound.standing who);
   records = put_all (λ a x. AllByRecursion (Waits (answered n.asked key.from key.tid packets) a) x) n.responders at (after_answer (n.responders at) key packets) (λ a. waiting a) (settled (find (is_key key) (n.responders at)) refl);
 }
@@ -176,10 +177,10 @@ handed_sound n at packets (reception.Again count) sound = sound
 handed_sound n at packets reception.Released sound = sound
 handed_sound n at packets reception.Ignored sound = sound
 
-pub serves_sound : (n : Network) (which : ℕ) (packets : List Packet) → Sound (n.event + 1) n → ComesInTime n which → Sound (n.event + 1) (serves n packets (slice_get n.sent which))
-serves_sound n which packets sound timely = go (slice_get n.sent which) refl
+pub serves_sound : (n : Network) (which : ℕ) (packets : List Packet) → Sound (n.event + 1) n → ComesInTime n which → Sound (n.event + 1) (serves n packets (packet_at n.sent which))
+serves_sound n which packets sound timely = go (packet_at n.sent which) refl
   where
-    go : (o : Option Sent) → slice_get n.sent which ≡ o → Sound (n.event + 1) (serves n packets o)
+    go : (o : Option Sent) → packet_at n.sent which ≡ o → Sound (n.event + 1) (serves n packets o)
     go None e = sound
     go (Some s) e = handed_sound (takes n s) s.to packets (taken (n.responders s.to) s.from s.packet).reception (took_sound n which s sound timely e)
 

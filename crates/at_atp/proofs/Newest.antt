@@ -115,7 +115,8 @@ pub one_newest : (ts : List Transaction) (who : Address) (tid : ℕ) (a b : Addr
 one_newest ts who tid a b x y = some_same x.transaction y.transaction (sym x.newest ∙ y.newest)
 
 pub still_asked : (ts : List Transaction) (from : Address) (tid : ℕ) (packets : List Packet) (who : Address) (k : ℕ) (responder : Address) (a : Asked ts who k responder) →
-    (b : Asked (answered ts from tid packets) who k responder) × ((b.transaction).user ≡ (a.transaction).user)
+    (b : Asked (answered ts from tid packets) who k responder) × ((b.transaction).user ≡ (a.transaction).user) × ((b.transaction).data_ ≡ (a.transaction).data_) × ((b.transaction).wanted ≡ (a.transaction).wanted) × ((b.transaction).xo ≡ (a.transaction).xo)
 still_asked ts from tid packets who k responder a =
     let more = asked_kept ts (answered ts from tid packets) who k responder (answered_keeps ts from tid packets who k) a in
-    (more.0, more.1.user)
+    let same = more.1 in
+    (more.0, same.user, same.bytes, same.wanted, same.xo)

@@ -9,7 +9,7 @@ use Rattle.at_ddp.specs.Address.{same_address}
 use Rattle.at_ddp.specs.declared.address.Address.{Address}
 use Rattle.at_atp_frame.specs.Frames.{Content, Request, Response, Release, number_of}
 use Rattle.at_atp.specs.HandUps.{is_drawn, brings, hand_ups_since, has_expired, ComesInLife, Lives, AllLived, AnswersOnce}
-use Rattle.at_atp.specs.Network.{Network, Sent, Happening, Begins, Answers, Hears, Takes, Serves, Expires, Retries, Other, begins, answers, gives, handed_up, hears, takes, takes_in, serves, expires, retries, new_transaction, after, IsTimely, AllTimely}
+use Rattle.at_atp.specs.Network.{Network, Sent, packet_at, Happening, Begins, Answers, Hears, Takes, Serves, Expires, Retries, Other, begins, answers, gives, handed_up, hears, takes, takes_in, serves, expires, retries, new_transaction, after, IsTimely, AllTimely}
 use Rattle.at_atp_responder.specs.Once.{same_key}
 use Rattle.at_atp_frame.specs.Packets.{Packet}
 use Rattle.at_atp_responder.specs.Records.{State, Waiting, Answered, Released, Record, is_key, taken, record_fault, answer_fault, expiry_fault}
@@ -62,7 +62,7 @@ handed_once waits events n hands expired at packets reception.Ignored sound each
 
 -- ---- one happening more
 
-alive : (A : Type 0) (hs : List Happening) (which : ℕ) (s : Sent) → ComesInLife A hs which → slice_get (after A hs).sent which ≡ Some s → (f : Content) → s.packet ≡ f → IsAlive (has_expired A hs) s.from s.to f
+alive : (A : Type 0) (hs : List Happening) (which : ℕ) (s : Sent) → ComesInLife A hs which → packet_at (after A hs).sent which ≡ Some s → (f : Content) → s.packet ≡ f → IsAlive (has_expired A hs) s.from s.to f
 alive A hs which s lives is (Request mask xo timer tid user bytes) e = lives s mask xo timer tid user bytes is e
 alive A hs which s lives is (Response place eom sts tid user bytes) e = tt
 alive A hs which s lives is (Release tid) e = tt
@@ -74,19 +74,19 @@ step A waits (Begins who to user bytes wanted xo times) hs sound timely lives ea
     go None e = each
     go (Some tid) e = begun_once (after A hs).asked (after A hs).responders (hand_ups_since A hs) (has_expired A hs) (new_transaction who (beginning tid to user bytes wanted xo times)) refl (timely tid e) each
 step A waits (Answers at key packets) hs sound timely lives each = gives_once waits (after A hs).event (after A hs) (hand_ups_since A hs) (has_expired A hs) at key packets sound each
-step A waits (Hears which) hs sound timely lives each = go (slice_get (after A hs).sent which)
+step A waits (Hears which) hs sound timely lives each = go (packet_at (after A hs).sent which)
   where
     go : (o : Option Sent) → IsOnce (hears A (after A hs) o) (hand_ups_since A hs) (has_expired A hs)
     go None = each
     go (Some s) = each
-step A waits (Takes which) hs sound timely lives each = go (slice_get (after A hs).sent which) refl
+step A waits (Takes which) hs sound timely lives each = go (packet_at (after A hs).sent which) refl
   where
-    go : (o : Option Sent) → slice_get (after A hs).sent which ≡ o → IsOnce (takes_in (after A hs) o) (λ key. cond (brings (after A hs) key o) (hand_ups_since A hs key + 1) (hand_ups_since A hs key)) (has_expired A hs)
+    go : (o : Option Sent) → packet_at (after A hs).sent which ≡ o → IsOnce (takes_in (after A hs) o) (λ key. cond (brings (after A hs) key o) (hand_ups_since A hs key + 1) (hand_ups_since A hs key)) (has_expired A hs)
     go None e = each
     go (Some s) e = comes_once (after A hs).asked (after A hs).responders (hand_ups_since A hs) (has_expired A hs) s.from s.to s.packet (tells_at (after A hs).event (after A hs) which s sound e (timely s e)) (alive A hs which s lives e s.packet refl) each
-step A waits (Serves which packets) hs sound timely lives each = go (slice_get (after A hs).sent which) refl
+step A waits (Serves which packets) hs sound timely lives each = go (packet_at (after A hs).sent which) refl
   where
-    go : (o : Option Sent) → slice_get (after A hs).sent which ≡ o → IsOnce (serves (after A hs) packets o) (λ key. cond (brings (after A hs) key o) (hand_ups_since A hs key + 1) (hand_ups_since A hs key)) (has_expired A hs)
+    go : (o : Option Sent) → packet_at (after A hs).sent which ≡ o → IsOnce (serves (after A hs) packets o) (λ key. cond (brings (after A hs) key o) (hand_ups_since A hs key + 1) (hand_ups_since A hs key)) (has_expired A hs)
     go None e = each
     go (Some s) e =
         handed_once waits ((after A hs).event + 1) (takes (after A hs) s) (λ key. cond (brings (after A hs) key (Some s)) (hand_ups_since A hs key + 1) (hand_ups_since A hs key)) (has_expired A hs) s.to packets (taken ((after A hs).responders s.to) s.from s.packet).reception
@@ -102,7 +102,7 @@ step A waits (Retries who tid) hs sound timely lives each = go (retried ((after 
     go : (o : Option requests.Retried) → IsOnce (retries (after A hs) who o) (hand_ups_since A hs) (has_expired A hs)
     go None = each
     go (Some r) = each
-step A waits Other hs sound timely lives each = each
+step A waits (Other count) hs sound timely lives each = each
 
 each_once : (A : Type 0) (draws : DrawsFree) (waits : AnswersWaiting) (history : List Happening) → AllTimely A history → AllLived A history → OnceAfter A history
 each_once A draws waits [] timely lived = λ key at a xo. let none = a.newest in absurd (cc)

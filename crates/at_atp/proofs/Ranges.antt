@@ -1,6 +1,6 @@
 -- Parties of a network whose state is in range, and what they send.
 use Rattle.std.proofs.Common.{◌≡◌, ℕ, zero, suc, ◌+◌, ◌*◌, ◌%◌, ◌/◌, ◌^◌, ◌<◌, ◌≤◌, Bool, true, false, cond, List, [], ◌∷◌, ◌++◌, length, Option, Some, None, refl, subst, arith, lit<, lit≤}
-use Rattle.std.specs.Prelude.{nat_lt, ◌==◌}
+use Rattle.std.specs.Prelude.{IfSome, nat_lt, ◌==◌}
 use Rattle.std.specs.List.{AllByRecursion}
 use Rattle.std.proofs.Math.Pow.{pow_mono}
 use Rattle.std.proofs.Math.Nat.{pow-suc}
@@ -10,7 +10,7 @@ use Rattle.at_atp_requester.specs.Answers.{Arrival, mask_of}
 use Rattle.at_atp_frame.specs.Frames.{Content, Request, Response, Release, IsTimer, IsLawful}
 use Rattle.at_atp_frame.specs.Frames as frames
 use Rattle.at_atp.specs.Lawfully.{IsLawfullySent}
-use Rattle.at_atp.specs.Network.{Network, Sent, stamped, with_requester, with_responder}
+use Rattle.at_atp.specs.Network.{Network, Sent, AllSent, stamped, with_requester, with_responder}
 use Rattle.at_atp_frame.specs.Packets.{Packet, IsPacket}
 use Rattle.at_atp_responder.specs.Records.{State, Waiting, Answered, Released, Record, responses}
 use Rattle.at_atp_requester.specs.Requests.{Transaction, Requests, has_number, draw_from, next_number, request_by}
@@ -78,7 +78,7 @@ FitSent sent = AllByRecursion (λ s. IsAddress s.0 × IsLawful s.1) sent
 pub record Fits (n : Network) : Type 0 where
   pub requesters : (who : Address) → FitsRequests (n.requesters who)
   pub responders : (at : Address) → AllByRecursion FitsRecord (n.responders at)
-  pub sent : AllByRecursion IsLawfullySent n.sent
+  pub sent : AllSent IsLawfullySent n.sent
 
 -- ---- what is sent
 
@@ -103,12 +103,12 @@ responses_fit key place mask (p ∷ ps) from tid few all =
     go true = ((from, (omega (arith, few), parts_of key.tid p tid all.0)), tt)
     go false = tt
 
-stamped_fits : (event : ℕ) (from : Address) (xs : List (Address × Content)) → IsAddress from → FitSent xs → AllByRecursion IsLawfullySent (stamped event from xs)
+stamped_fits : (event : ℕ) (from : Address) (xs : List (Address × Content)) → IsAddress from → FitSent xs → AllSent IsLawfullySent (stamped event from xs)
 stamped_fits event from [] f h = tt
 stamped_fits event from (x ∷ xs) f h = (record { from_fits = f; to_fits = h.0.0; lawful = h.0.1 }, stamped_fits event from xs f h.1)
 
-pub more_fits : (event : ℕ) (from : Address) (sent : List Sent) (xs : List (Address × Content)) → AllByRecursion IsLawfullySent sent → IsAddress from → FitSent xs → AllByRecursion IsLawfullySent (sent ++ stamped event from xs)
-more_fits event from sent xs all f h = all_both IsLawfullySent sent (stamped event from xs) all (stamped_fits event from xs f h)
+pub more_fits : (event : ℕ) (from : Address) (sent : List (Option Sent)) (xs : List (Address × Content)) → AllSent IsLawfullySent sent → IsAddress from → FitSent xs → AllSent IsLawfullySent (sent ++ stamped event from xs)
+more_fits event from sent xs all f h = all_both (λ (x : Option Sent). IfSome x IsLawfullySent) sent (stamped event from xs) all (stamped_fits event from xs f h)
 
 pub requester_fits : (n : Network) (who : Address) (r : Requests) (sent : List (Address × Content)) → Fits n → IsAddress who → FitsRequests r → FitSent sent → Fits (with_requester n who r sent)
 requester_fits n who r sent fits f all h = record { requesters = put_all (λ a x. FitsRequests x) n.requesters who r fits.requesters all; responders = fits.responders; sent = more_fits n.event who n.sent sent fits.sent f h }

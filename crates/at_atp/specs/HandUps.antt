@@ -1,10 +1,10 @@
 -- How often a network delivers a request to a service and answers it, if records live long enough (Inside AppleTalk,
 -- ATP, "At-least-once and exactly-once transactions").
-use Rattle.std.specs.Prelude.{◌≡◌, ℕ, ◌+◌, ◌≤◌, ◌&&◌, ◌||◌, if◌then◌else◌, is_none, Bool, true, false, List, [], ◌∷◌, length, take, find, slice_get, Option, Some, None}
+use Rattle.std.specs.Prelude.{◌≡◌, ℕ, ◌+◌, ◌≤◌, ◌&&◌, ◌||◌, if◌then◌else◌, is_none, Bool, true, false, List, [], ◌∷◌, length, take, find, Option, Some, None}
 use Rattle.at_ddp.specs.Address.{same_address}
 use Rattle.at_ddp.specs.declared.address.Address.{Address}
 use Rattle.at_atp_frame.specs.Frames.{Request, number_of}
-use Rattle.at_atp.specs.Network.{Network, Sent, Happening, Begins, Takes, Serves, Expires, is_fresh, after}
+use Rattle.at_atp.specs.Network.{Network, Sent, Happening, Begins, Takes, Serves, Expires, is_fresh, packet_at, after}
 use Rattle.at_atp_responder.specs.Once.{Comes, hands_up, same_key}
 use Rattle.at_atp_frame.specs.Packets.{Packet}
 use Rattle.at_atp_responder.specs.Records.{is_key, expiry_fault}
@@ -29,8 +29,8 @@ brings n key None = false
 brings n key (Some s) = hands_up key (n.responders s.to) (Comes s.from s.packet)
 
 abbrev pub is_handed_up : Network → Happening → Key → Bool
-is_handed_up n (Takes which) key = brings n key (slice_get n.sent which)
-is_handed_up n (Serves which packets) key = brings n key (slice_get n.sent which)
+is_handed_up n (Takes which) key = brings n key (packet_at n.sent which)
+is_handed_up n (Serves which packets) key = brings n key (packet_at n.sent which)
 is_handed_up n h key = false
 
 -- how often a request was delivered to a service, anywhere, since its number was last drawn
@@ -55,7 +55,7 @@ has_expired A (h ∷ hs) at key = if draws (after A hs) h key then false else ex
 
 -- if a request comes, no record of its key expired since its number was drawn
 abbrev pub ComesInLife : (A : Type 0) → List Happening → ℕ → Type 0
-ComesInLife A hs which = (s : Sent) (mask : ℕ) (xo : Bool) (timer tid : ℕ) (user bytes : List ℕ) → slice_get (after A hs).sent which ≡ Some s → s.packet ≡ Request mask xo timer tid user bytes → has_expired A hs s.to (record { from = s.from; tid = tid }) ≡ false
+ComesInLife A hs which = (s : Sent) (mask : ℕ) (xo : Bool) (timer tid : ℕ) (user bytes : List ℕ) → packet_at (after A hs).sent which ≡ Some s → s.packet ≡ Request mask xo timer tid user bytes → has_expired A hs s.to (record { from = s.from; tid = tid }) ≡ false
 
 abbrev pub Lives : (A : Type 0) → List Happening → Happening → Type 0
 Lives A hs (Takes which) = ComesInLife A hs which
@@ -76,6 +76,6 @@ pub record AnswersOnce (A : Type 0) (history : List Happening) : Type 0 where
       → (hand_ups_since A history (record { from = who; tid = tid }) ≤ 1) × (length t.answers ≤ hand_ups_since A history (record { from = who; tid = tid }))
   -- If a packet in time ends the transaction, it was delivered once and answered once. The response is that answer, or
   -- as many of its first packets as were asked for.
-  pub finished : (which : ℕ) (s : Sent) (packets : List Packet) → slice_get (after A history).sent which ≡ Some s → is_fresh (after A history).drawn s ≡ true
+  pub finished : (which : ℕ) (s : Sent) (packets : List Packet) → packet_at (after A history).sent which ≡ Some s → is_fresh (after A history).drawn s ≡ true
       → (heard {A = A} ((after A history).requesters s.to) s.from s.packet).step ≡ step.Finished packets → (a : Asked (after A history).asked s.to (number_of s.packet) s.from) → a.transaction.xo ≡ true
       → (hand_ups_since A history (record { from = s.to; tid = number_of s.packet }) ≡ 1) × (answer : List Packet) × (a.transaction.answers ≡ answer ∷ []) × (packets ≡ take a.transaction.wanted answer)

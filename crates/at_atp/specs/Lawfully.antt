@@ -4,7 +4,7 @@ use Rattle.std.specs.List.{AllByRecursion}
 use Rattle.at_ddp.specs.Datagram.{IsAddress}
 use Rattle.at_ddp.specs.declared.address.Address.{Address}
 use Rattle.at_atp_frame.specs.Frames.{IsLawful}
-use Rattle.at_atp.specs.Network.{Happening, Begins, Answers, Hears, Takes, Serves, Expires, Retries, Other, Sent}
+use Rattle.at_atp.specs.Network.{Happening, Begins, Answers, Serves, Retries, Sent}
 use Rattle.at_atp_frame.specs.Packets.{IsPacket}
 
 -- what a transaction is to ask, and whom
@@ -19,11 +19,8 @@ abbrev pub IsInRange : Happening → Type 0
 IsInRange (Begins who to user bytes wanted xo times) = IsAsking who to user bytes wanted
 IsInRange (Answers at key packets) = IsAddress at × AllByRecursion IsPacket packets
 IsInRange (Serves which packets) = AllByRecursion IsPacket packets
-IsInRange (Hears which) = Unit {0}
-IsInRange (Takes which) = Unit {0}
-IsInRange (Expires at key) = Unit {0}
 IsInRange (Retries who tid) = IsAddress who
-IsInRange Other = Unit {0}
+IsInRange other = Unit {0}
 
 -- a packet that was sent can be spelled, and so can its addresses
 pub record IsLawfullySent (s : Sent) : Type 0 where

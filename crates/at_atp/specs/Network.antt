@@ -1,7 +1,7 @@
 -- A network of requesters and responders at any addresses that ask and answer each other. Each packet may come late,
 -- again or never (Inside AppleTalk, ATP, "Transactions").
-use Rattle.std.specs.Prelude.{◌≡◌, ℕ, ◌+◌, ◌==◌, ◌&&◌, ◌||◌, not, nat_le, if◌then◌else◌, Bool, true, List, [], ◌∷◌, ◌++◌, length, map, find, slice_get, Option, Some, None}
-use Rattle.std.specs.List.{list_all}
+use Rattle.std.specs.Prelude.{◌≡◌, ℕ, ◌+◌, ◌==◌, ◌&&◌, ◌||◌, not, nat_le, if◌then◌else◌, Bool, true, List, [], ◌∷◌, ◌++◌, length, map, find, replicate, slice_get, IfSome, Option, Some, None}
+use Rattle.std.specs.List.{AllByRecursion, list_all}
 use Rattle.at_ddp.specs.Address.{same_address}
 use Rattle.at_ddp.specs.declared.address.Address.{Address}
 use Rattle.at_atp_frame.specs.Frames.{Content, Request, Response, Release, owner, number_of}
@@ -34,13 +34,25 @@ pub record Network : Type 0 where
   pub event : ℕ  -- how many events there were
   pub requesters : Address → Requests
   pub responders : Address → List Record
-  pub sent : List Sent  -- all that was ever sent
+  pub sent : List (Option Sent)  -- all that was ever sent on the cable; nothing stands for a foreign datagram
   pub drawn : List Drawn  -- all numbers that were ever drawn
   pub asked : List Transaction  -- newest first
 
 -- before anything happened
 abbrev pub opening : Network
 opening = record { event = 0; requesters = λ _. no_requests; responders = λ _. []; sent = []; drawn = []; asked = [] }
+
+-- what was sent at a place, if it is a packet
+abbrev pub packet_of : Option (Option Sent) → Option Sent
+packet_of None = None
+packet_of (Some x) = x
+
+abbrev pub packet_at : List (Option Sent) → ℕ → Option Sent
+packet_at sent which = packet_of (slice_get sent which)
+
+-- this holds of each packet that was sent
+abbrev pub AllSent : (Sent → Type 0) → List (Option Sent) → Type 0
+AllSent P sent = AllByRecursion (λ x. IfSome x P) sent
 
 -- ---- numbers that are not reused
 
@@ -73,15 +85,16 @@ pub data Happening : Type 0 where
   Expires : (at : Address) (key : Key) → Happening
   -- a transaction is retried
   Retries : (who : Address) (tid : ℕ) → Happening
-  -- an event outside this network
-  Other : Happening
+  -- an event outside this network, which sends so many foreign datagrams
+  Other : (count : ℕ) → Happening
 
 -- a new value at one address
 abbrev pub put : {X : Type 0} → (Address → X) → Address → X → Address → X
 put f at x a = if same_address at a then x else f a
 
-abbrev pub stamped : ℕ → Address → List (Address × Content) → List Sent
-stamped event from sent = map (λ (s : Address × Content). record { event = event; from = from; to = s.0; packet = s.1 }) sent
+abbrev pub stamped : ℕ → Address → List (Address × Content) → List (Option Sent)
+stamped event from sent =
+    map (λ (s : Address × Content). Some (record { event = event; from = from; to = s.0; packet = s.1 })) sent
 
 -- a requester becomes this one, and sends
 abbrev pub with_requester : Network → Address → Requests → List (Address × Content) → Network
@@ -150,12 +163,12 @@ retries n who (Some r) = with_requester n who r.after r.sent
 abbrev pub done : (A : Type 0) → Network → Happening → Network
 done A n (Begins who to user bytes wanted xo times) = begins n who to user bytes wanted xo times (next_number (n.requesters who))
 done A n (Answers at key packets) = gives n at key packets
-done A n (Hears which) = hears A n (slice_get n.sent which)
-done A n (Takes which) = takes_in n (slice_get n.sent which)
-done A n (Serves which packets) = serves n packets (slice_get n.sent which)
+done A n (Hears which) = hears A n (packet_at n.sent which)
+done A n (Takes which) = takes_in n (packet_at n.sent which)
+done A n (Serves which packets) = serves n packets (packet_at n.sent which)
 done A n (Expires at key) = expires n at key (expiry_fault (find (is_key key) (n.responders at)))
 done A n (Retries who tid) = retries n who (retried (n.requesters who) tid)
-done A n Other = n
+done A n (Other count) = record n { sent = n.sent ++ replicate count None }
 
 -- one event more
 abbrev pub tick : Network → Network
@@ -169,18 +182,15 @@ after A (h ∷ hs) = tick (done A (after A hs) h)
 -- ---- histories in which no packet outlives its number
 
 abbrev pub ComesInTime : Network → ℕ → Type 0
-ComesInTime n which = (s : Sent) → slice_get n.sent which ≡ Some s → is_fresh n.drawn s ≡ true
+ComesInTime n which = (s : Sent) → packet_at n.sent which ≡ Some s → is_fresh n.drawn s ≡ true
 
 -- each packet comes before its number is drawn again, and no number is drawn while a record is held under it
 abbrev pub IsTimely : Network → Happening → Type 0
 IsTimely n (Begins who to user bytes wanted xo times) = (tid : ℕ) → next_number (n.requesters who) ≡ Some tid → NoneHolds n.responders who tid
-IsTimely n (Answers at key packets) = Unit {0}
 IsTimely n (Hears which) = ComesInTime n which
 IsTimely n (Takes which) = ComesInTime n which
 IsTimely n (Serves which packets) = ComesInTime n which
-IsTimely n (Expires at key) = Unit {0}
-IsTimely n (Retries who tid) = Unit {0}
-IsTimely n Other = Unit {0}
+IsTimely n other = Unit {0}
 
 abbrev pub AllTimely : (A : Type 0) → List Happening → Type 0
 AllTimely A [] = Unit {0}
@@ -191,17 +201,17 @@ AllTimely A (h ∷ hs) = IsTimely (after A hs) h × AllTimely A hs
 pub record GivesAnswers (A : Type 0) (n : Network) : Type 0 where
   -- what a packet in time finishes is a response to the newest transaction of its number, of answers given at the
   -- address that it asked
-  pub finished : (which : ℕ) (s : Sent) (packets : List Packet) → slice_get n.sent which ≡ Some s → is_fresh n.drawn s ≡ true
+  pub finished : (which : ℕ) (s : Sent) (packets : List Packet) → packet_at n.sent which ≡ Some s → is_fresh n.drawn s ≡ true
       → (heard {A = A} (n.requesters s.to) s.from s.packet).step ≡ step.Finished packets → (a : Asked n.asked s.to (number_of s.packet) s.from) × IsResponse a.transaction packets
   -- a request in time belongs to the newest transaction of its number, and was sent to the responder that it asked
-  pub requested : (which : ℕ) (s : Sent) (mask : ℕ) (xo : Bool) (timer tid : ℕ) (user bytes : List ℕ) → slice_get n.sent which ≡ Some s → is_fresh n.drawn s ≡ true
+  pub requested : (which : ℕ) (s : Sent) (mask : ℕ) (xo : Bool) (timer tid : ℕ) (user bytes : List ℕ) → packet_at n.sent which ≡ Some s → is_fresh n.drawn s ≡ true
       → s.packet ≡ Request mask xo timer tid user bytes → (a : Asked n.asked s.from tid s.to) × (a.transaction.user ≡ user) × (a.transaction.data_ ≡ bytes) × (a.transaction.xo ≡ xo)
   -- a response in time is for the newest transaction of its number: a packet of an answer given at the address that it
   -- asked
-  pub responded : (which : ℕ) (s : Sent) (place : ℕ) (eom sts : Bool) (tid : ℕ) (user bytes : List ℕ) → slice_get n.sent which ≡ Some s → is_fresh n.drawn s ≡ true
+  pub responded : (which : ℕ) (s : Sent) (place : ℕ) (eom sts : Bool) (tid : ℕ) (user bytes : List ℕ) → packet_at n.sent which ≡ Some s → is_fresh n.drawn s ≡ true
       → s.packet ≡ Response place eom sts tid user bytes → (a : Asked n.asked s.to tid s.from) × IsPart a.transaction place eom (record { user = user; data_ = bytes })
   -- a release in time belongs to the newest transaction of its number, and was sent to the responder that it asked
-  pub released : (which : ℕ) (s : Sent) (tid : ℕ) → slice_get n.sent which ≡ Some s → is_fresh n.drawn s ≡ true → s.packet ≡ Release tid → Asked n.asked s.from tid s.to
+  pub released : (which : ℕ) (s : Sent) (tid : ℕ) → packet_at n.sent which ≡ Some s → is_fresh n.drawn s ≡ true → s.packet ≡ Release tid → Asked n.asked s.from tid s.to
   -- a record belongs to the newest transaction of its number
   pub recorded : (at : Address) (key : Key) (r : Record) → find (is_key key) (n.responders at) ≡ Some r → Asked n.asked key.from key.tid at
   -- and so does an open transaction

@@ -1,7 +1,7 @@
 -- What ties a world to what the machine knows of transactions and of the zone list, through a history of the network of
 -- its requesters and responders.
 use Rattle.std.proofs.Common.{◌≡◌, ℕ, ◌+◌, ◌^◌, ◌<◌, ◌≤◌, Bool, true, false, cond, List, [], ◌∷◌, ◌++◌, length, map, Option, Some, None, refl, sym, ap, subst, ◌∙◌}
-use Rattle.std.specs.Prelude.{find, ◌==◌}
+use Rattle.std.specs.Prelude.{find, replicate, ◌==◌}
 use Rattle.std.specs.List.{AllByRecursion, Contains}
 use Rattle.std.proofs.lemmas.Bool.{eqb-true}
 use Rattle.at_ddp.specs.Address.{same_address}
@@ -11,7 +11,7 @@ use Rattle.at_ddp.proofs.Octets.{same_address-true, same_address_itself}
 use Rattle.at_atp_frame.specs.Frames.{Content, IsLawful, spelled, spelled_all}
 use Rattle.at_atp.specs.Lawfully.{IsInRange, IsLawfullySent}
 use Rattle.at_atp_frame.specs.Frames.{owner, number_of}
-use Rattle.at_atp.specs.Network.{Network, Sent, Happening, after, done, put, stamped, IsTimely, AllTimely, GivesAnswers}
+use Rattle.at_atp.specs.Network.{Network, Sent, AllSent, Happening, after, done, put, stamped, IsTimely, AllTimely, GivesAnswers}
 use Rattle.at_atp_frame.specs.Packets.{Packet}
 use Rattle.at_atp_responder.specs.Records.{Record, is_key, taken, record_fault, asked_for}
 use Rattle.at_atp_requester.specs.Requests.{Requests, Retried, has_number, next_number, is_finished, heard, retried}
@@ -37,7 +37,7 @@ use Rattle.at_world.specs.Draws.{noted}
 use Rattle.at_world.specs.AtpGuards.{AtpMachine, Reading, since_of, next, page_answer}
 use Rattle.at_world.specs.Cables.{Cable}
 use Rattle.at_world.specs.Worlds.{WorldState, node_at, recorded}
-use Rattle.at_world.proofs.CableTie.{Wire, wire, CableTie, SeatTie, map_both, found_after}
+use Rattle.at_world.proofs.CableTie.{Wire, wire, CableTie, SeatTie, AreOwned, found_after}
 use Rattle.at_world.proofs.Places.{at_after, requester_at, requester_after, records_at, records_after}
 use Rattle.at_world.proofs.Times.{IsNoted}
 
@@ -46,7 +46,7 @@ pub record Laws (A : Type 0) : Type 0 where
   pub hears : (said : Reply A) (n : NodeState) (to from : Address) (f : Content) (o : Outcome A NodeState) → IsAddress to → IsAddress from → IsLawful f → Hears said n (canonical to from atp_kind (spelled f)) o → HearsSent said n to from f o
   pub carries : (to from : Address) (f : Content) → IsAddress to → IsAddress from → IsLawful f → Carries (canonical to from atp_kind (spelled f)) (owner from to f).node (Tid (number_of f))
   pub answers : (history : List Happening) → AllTimely A history → GivesAnswers A (after A history)
-  pub lawful_sent : (history : List Happening) → AllByRecursion IsInRange history → AllByRecursion IsLawfullySent (after A history).sent
+  pub lawful_sent : (history : List Happening) → AllByRecursion IsInRange history → AllSent IsLawfullySent (after A history).sent
   pub drawn : (r : Requests) (tid : ℕ) → next_number r ≡ Some tid → has_number r.standing tid ≡ false
   pub heard_stays : (r : Requests) (from : Address) (f : Content) (tid : ℕ) → has_number r.standing tid ≡ true → (is_finished (heard {A = A} r from f).step ≡ true → (number_of f == tid) ≡ false) → has_number (heard {A = A} r from f).after.standing tid ≡ true
   pub retried_stays : (r : Requests) (other tid : ℕ) (e : Retried) → retried r other ≡ Some e → has_number r.standing tid ≡ true → (e.step ≡ Failed → (other == tid) ≡ false) → has_number e.after.standing tid ≡ true
@@ -73,6 +73,23 @@ HasTable c m k n = (t : List (List ℕ)) → n.atp.table ≡ Some t → (t ≡ m
 -- a packet as it was sent
 abbrev pub wire_of : Sent → Wire
 wire_of s = record { event = s.event; from = s.from; to = s.to; kind = atp_kind; data_ = spelled s.packet }
+
+-- what was sent at a place: a packet of this protocol, or a datagram of another
+abbrev pub IsEntry : Wire → Option Sent → Type 0
+IsEntry x (Some s) = x ≡ wire_of s
+IsEntry x None = (x.kind == atp_kind) ≡ false
+
+abbrev pub Entries : List Wire → List (Option Sent) → Type 0
+Entries [] [] = Unit {0}
+Entries (x ∷ xs) (y ∷ ys) = IsEntry x y × Entries xs ys
+Entries [] (y ∷ ys) = ⊥
+Entries (x ∷ xs) [] = ⊥
+
+pub entries_both : (xs xs' : List Wire) (ys ys' : List (Option Sent)) → Entries xs ys → Entries xs' ys' → Entries (xs ++ xs') (ys ++ ys')
+entries_both [] xs' [] ys' a b = b
+entries_both (x ∷ xs) xs' (y ∷ ys) ys' a b = (a.0, entries_both xs xs' ys ys' a.1 b)
+entries_both [] xs' (y ∷ ys) ys' a b = absurd a
+entries_both (x ∷ xs) xs' [] ys' a b = absurd a
 
 -- a node that reads the list has a transaction open that asked the router for the first page
 pub record Reads (net : ℕ) (router : Option ℕ) (asked : List Transaction) (readings : List Reading) (k : ℕ) (standing : Requests) (tid : ℕ) : Type 0 where
@@ -104,7 +121,7 @@ pub record AtpTie (A : Type 0) (w : WorldState) (c : Cable) (wires : List Wire) 
   pub events : w.events ≡ (after A history).event
   pub requesters : (who : Address) → (after A history).requesters who ≡ requester_at c.net w.nodes who
   pub responders : (at : Address) → (after A history).responders at ≡ records_at c.net w.nodes at
-  pub sent : wires ≡ map wire_of (after A history).sent
+  pub sent : Entries wires (after A history).sent
   pub drawn : AllByRecursion (IsNoted w.last w.events) (after A history).drawn
   pub asked : (after A history).asked ≡ m.asked
   pub tables : (k : ℕ) (n : NodeState) → node_at w k ≡ Some n → HasTable c m k n
@@ -134,9 +151,21 @@ put_here f at x = ap (λ b. cond b x (f at)) (same_address_itself at)
 
 -- ---- what a node sends
 
-pub wires_as_sent : (event : ℕ) (own : Address) (xs : List (Address × Content)) → map (wire event) (sent_by own atp_kind (spelled_all xs)) ≡ map wire_of (stamped event own xs)
-wires_as_sent event own [] = refl
-wires_as_sent event own (x ∷ xs) = ap (λ l. wire_of (record { event = event; from = own; to = x.0; packet = x.1 }) ∷ l) (wires_as_sent event own xs)
+pub entries_of : (event event' : ℕ) (own own' : Address) (xs : List (Address × Content)) → event ≡ event' → own ≡ own' → Entries (map (wire event) (sent_by own atp_kind (spelled_all xs))) (stamped event' own' xs)
+entries_of event event' own own' [] same here = tt
+entries_of event event' own own' (x ∷ xs) same here = ((λ i. wire_of (record { event = same i; from = here i; to = x.0; packet = x.1 })), entries_of event event' own own' xs same here)
+
+pub sent_is_owned : (own : Address) (xs : List (Address × Content)) → AreOwned (sent_by own atp_kind (spelled_all xs))
+sent_is_owned own [] = tt
+sent_is_owned own (x ∷ xs) = (tt, sent_is_owned own xs)
+
+-- the datagrams of another protocol
+abbrev pub AreForeign : List Outgoing → Type 0
+AreForeign out = AllByRecursion (λ o. (o.kind == atp_kind) ≡ false) out
+
+pub entries_foreign : (event : ℕ) (out : List Outgoing) → AreForeign out → Entries (map (wire event) out) (replicate (length out) None)
+entries_foreign event [] all = tt
+entries_foreign event (o ∷ out) all = (all.0, entries_foreign event out all.1)
 
 -- ---- one step
 
@@ -147,9 +176,10 @@ pub record Next (A : Type 0) (w : WorldState) (c : Cable) (m : AtpMachine) (n : 
   pub same_event : (done A n happening).event ≡ n.event
   pub requesters : (who : Address) → (done A n happening).requesters who ≡ put n.requesters (asking c.net k) x.atp.requester who
   pub responders : (at : Address) → (done A n happening).responders at ≡ put (put n.responders (serving c.net k) x.atp.service_responder) (zones_at c.net k) x.atp.zone_responder at
-  pub more : List Sent
+  pub more : List (Option Sent)
   pub sent : (done A n happening).sent ≡ n.sent ++ more
-  pub posts : map (wire w.events) out ≡ map wire_of more
+  pub posts : Entries (map (wire w.events) out) more
+  pub owned : AreOwned out
   pub drawn : AllByRecursion (IsNoted (noted w.last k w.events (drawn_by r)) (w.events + 1)) (done A n happening).drawn
   pub is_asked : (done A n happening).asked ≡ asked
   pub mine : SeatTie c k x
@@ -180,7 +210,7 @@ module _ (A : Type 0) (w : WorldState) (c : Cable) (wires : List Wire) (m : AtpM
       responders = λ at. s.responders at
           ∙ put_same (put (after A t.history).responders (serving c.net k) x.atp.service_responder) (put (records_at c.net w.nodes) (serving c.net k) x.atp.service_responder) (zones_at c.net k) x.atp.zone_responder at (put_same (after A t.history).responders (records_at c.net w.nodes) (serving c.net k) x.atp.service_responder at (t.responders at))
           ∙ sym (records_after c.net w.nodes k old x (s.mine).number stands at);
-      sent = (λ i. t.sent i ++ s.posts i) ∙ sym (map_both wire_of (after A t.history).sent s.more) ∙ ap (map wire_of) (sym s.sent);
+      sent = subst (Entries (wires ++ map (wire w.events) out)) (sym s.sent) (entries_both wires (map (wire w.events) out) (after A t.history).sent s.more t.sent s.posts);
       drawn = s.drawn;
       asked = s.is_asked;
       tables = λ j n h. found_after k j x old n w.nodes (HasTable c (moved m asked readings) j) (s.mine).number stands h (λ e. subst (λ i. HasTable c (moved m asked readings) i x) e s.has_table) (λ e g. t.tables j n g);

@@ -44,8 +44,8 @@ use Rattle.at_world.specs.declared.event.Event.{Event}
 use Rattle.at_world.specs.declared.event.Event.TheVariants as event
 use Rattle.at_world.proofs.StoryLemmas.{is_quiet, other_matches, answers_match, begins_match}
 use Rattle.at_world.proofs.Moves.{asker_is, service_is, idle_next, begun_next, gave_next, with_service, pages_elsewhere}
-use Rattle.at_world.proofs.AtpTie.{Laws, IsReading, AtpTie, Next, moved, tied_next}
-use Rattle.at_world.proofs.CableTie.{CableTie, wire}
+use Rattle.at_world.proofs.AtpTie.{Laws, IsReading, AtpTie, AreForeign, Next, moved, tied_next}
+use Rattle.at_world.proofs.CableTie.{CableTie, AreOwned, wire}
 use Rattle.at_world.proofs.Times.{none_holds}
 
 -- the history grew by one happening, which is what the event and its report say
@@ -59,14 +59,20 @@ Allows cable m e r m' = IsSaid e r × StepBy cable m e r m' (owner_of e r)
 -- the machine follows this outcome of a node's step
 abbrev pub Good : (A : Type 0) (w : WorldState) (cable : Cable) (m : AtpMachine) (ct : CableTie w cable) → AtpTie A w cable ct.wires m → ℕ → Event A → Outcome A NodeState → Type 0
 Good A w cable m ct t k e o =
-    (m' : AtpMachine) × Allows cable m e o.report m' × (now : AtpTie A (recorded w k o.report o.state (map posted o.out)) cable (ct.wires ++ map (wire w.events) o.out) m') × Grown A cable t.history now.history e o.report
+    (m' : AtpMachine) × Allows cable m e o.report m' × AreOwned o.out × (now : AtpTie A (recorded w k o.report o.state (map posted o.out)) cable (ct.wires ++ map (wire w.events) o.out) m') × Grown A cable t.history now.history e o.report
 
 pub good_next : {h : Happening} (A : Type 0) (w : WorldState) (cable : Cable) (m : AtpMachine) (k : ℕ) (n : NodeState) (e : Event A) (o : Outcome A NodeState) (asked : List Transaction) (readings : List Reading) (ct : CableTie w cable) (t : AtpTie A w cable ct.wires m) → node_at w k ≡ Some n → (s : Next A w cable m (after A t.history) h k o.state o.report o.out asked readings) →
     Matches cable.net (after A t.history) h e o.report → Allows cable m e o.report (moved m asked readings) → Good A w cable m ct t k e o
-good_next {h} A w cable m k n e o asked readings ct t stands s matches step = let now = tied_next A w cable ct.wires m h k n o.state o.report o.out asked readings t stands s in (moved m asked readings, step, now.0, (h, now.1, matches, (s.more, s.sent)))
+good_next {h} A w cable m k n e o asked readings ct t stands s matches step = let now = tied_next A w cable ct.wires m h k n o.state o.report o.out asked readings t stands s in (moved m asked readings, step, s.owned, now.0, (h, now.1, matches, (s.more, s.sent)))
 
-pub good_idle : (A : Type 0) (w : WorldState) (cable : Cable) (m : AtpMachine) (k : ℕ) (n : NodeState) (e : Event A) (r : Report A) (ct : CableTie w cable) (t : AtpTie A w cable ct.wires m) → node_at w k ≡ Some n → is_quiet r ≡ true → Allows cable m e r (next m) → Good A w cable m ct t k e (idle n r)
-good_idle A w cable m k n e r ct t stands quiet step = good_next A w cable m k n e (idle n r) m.asked m.readings ct t stands (idle_next A w cable m k n ct t stands r) (other_matches A cable.net (after A t.history) e r quiet) step
+-- an event of another protocol, which leaves this part as it was and sends nothing of this protocol
+pub good_foreign : (A : Type 0) (w : WorldState) (cable : Cable) (m : AtpMachine) (k : ℕ) (n : NodeState) (e : Event A) (o : Outcome A NodeState) (ct : CableTie w cable) (t : AtpTie A w cable ct.wires m) → node_at w k ≡ Some n →
+    o.state.seat ≡ n.seat → o.state.atp ≡ n.atp → AreForeign o.out → AreOwned o.out → is_quiet o.report e ≡ true → Allows cable m e o.report (next m) → Good A w cable m ct t k e o
+good_foreign A w cable m k n e o ct t stands seat same foreign owned quiet step =
+    good_next A w cable m k n e o m.asked m.readings ct t stands (idle_next A w cable m k n ct t stands o.state o.report o.out seat same foreign owned) (other_matches A cable.net (after A t.history) (length o.out) e o.report quiet) step
+
+pub good_idle : (A : Type 0) (w : WorldState) (cable : Cable) (m : AtpMachine) (k : ℕ) (n : NodeState) (e : Event A) (r : Report A) (ct : CableTie w cable) (t : AtpTie A w cable ct.wires m) → node_at w k ≡ Some n → is_quiet r e ≡ true → Allows cable m e r (next m) → Good A w cable m ct t k e (idle n r)
+good_idle A w cable m k n e r ct t stands quiet step = good_foreign A w cable m k n e (idle n r) ct t stands refl refl tt tt quiet step
 
 -- ---- numbers that are open
 

@@ -1,6 +1,6 @@
 -- What is known of a datagram that comes in time.
-use Rattle.std.proofs.Common.{◌≡◌, ℕ, zero, suc, true, List, [], ◌∷◌, map, Some, refl, sym, ap, subst, ◌∙◌}
-use Rattle.std.specs.Prelude.{slice_get, ◌==◌}
+use Rattle.std.proofs.Common.{◌≡◌, ℕ, zero, suc, true, cond, List, [], ◌∷◌, map, Option, Some, None, refl, sym, ap, subst, ◌∙◌}
+use Rattle.std.specs.Prelude.{slice_get, IfSome, ◌==◌}
 use Rattle.std.specs.List.{AllByRecursion}
 use Rattle.std.proofs.lemmas.Bool.{and_parts}
 use Rattle.at_ddp.specs.Address.{same_address}
@@ -8,36 +8,40 @@ use Rattle.at_ddp.specs.declared.address.Address.{Address}
 use Rattle.at_ddp.proofs.Octets.{same_address-true}
 use Rattle.at_atp.specs.Lawfully.{IsLawfullySent}
 use Rattle.at_atp_frame.specs.Frames.{owner, number_of}
-use Rattle.at_atp.specs.Network.{Sent, is_fresh, ComesInTime, after}
+use Rattle.at_atp.specs.Network.{Sent, AllSent, packet_at, is_fresh, ComesInTime, after}
 use Rattle.at_atp.specs.Transactions.{Asked}
 use Rattle.at_node.specs.declared.drawing.Draw.TheVariants.{Tid}
+use Rattle.at_node.specs.Kinds.{Atp, Nobody}
 use Rattle.at_world.specs.AtpGuards.{AtpMachine}
-use Rattle.at_world.specs.Cables.{Cable}
-use Rattle.at_world.proofs.CableTie.{Wire, CableTie, spelled_wire}
+use Rattle.at_world.specs.Cables.{Cable, IsSomebodys}
+use Rattle.at_world.proofs.CableTie.{Wire, CableTie, IsOwned, spelled_wire}
 use Rattle.at_world.specs.Sents.{SentDatagram}
 use Rattle.at_world.specs.Worlds.{WorldState, IsFresh}
 use Rattle.at_world.proofs.Moves.{one_of}
 use Rattle.at_world.specs.Stories.{posted_packet}
-use Rattle.at_world.proofs.AtpTie.{Laws, OnNet, AtpTie, wire_of}
+use Rattle.at_world.proofs.AtpTie.{Laws, OnNet, AtpTie, Entries}
 use Rattle.at_world.proofs.Times.{in_time}
 
-sent_at : (P : Sent → Type 0) (sent : List Sent) (i : ℕ) (s : Sent) → AllByRecursion P sent → slice_get sent i ≡ Some s → P s
+sent_at : (P : Sent → Type 0) (sent : List (Option Sent)) (i : ℕ) (s : Sent) → AllSent P sent → packet_at sent i ≡ Some s → P s
 sent_at P [] i s h is = absurd (cc)
-sent_at P (x ∷ sent) zero s h is = let same : x ≡ s = cc in subst P same h.0
+sent_at P (x ∷ sent) zero s h is = subst (λ (o : Option Sent). IfSome o P) is h.0
 sent_at P (x ∷ sent) (suc i) s h is = sent_at P sent i s h.1 is
 
--- a packet of the network at the same place
-sent_in : (sent : List Sent) (i : ℕ) (d : SentDatagram) → slice_get (map spelled_wire (map wire_of sent)) i ≡ Some d → (s : Sent) × (slice_get sent i ≡ Some s) × (d ≡ posted_packet s)
-sent_in [] i d is = absurd (cc)
-sent_in (s ∷ sent) zero d is = let same : posted_packet s ≡ d = cc in (s, refl, sym same)
-sent_in (s ∷ sent) (suc i) d is = sent_in sent i d is
+-- what was sent at a place is a packet of the network: no other protocol is spoken
+sent_in : (wires : List Wire) (sent : List (Option Sent)) (i : ℕ) (d : SentDatagram) → AllByRecursion IsOwned wires → Entries wires sent → slice_get (map spelled_wire wires) i ≡ Some d → (s : Sent) × (packet_at sent i ≡ Some s) × (d ≡ posted_packet s)
+sent_in [] [] i d owned all is = absurd (cc)
+sent_in [] (y ∷ sent) i d owned all is = absurd all
+sent_in (x ∷ wires) [] i d owned all is = absurd all
+sent_in (x ∷ wires) (Some s ∷ sent) zero d owned all is = let same : spelled_wire x ≡ d = cc in (s, refl, sym same ∙ ap spelled_wire all.0)
+sent_in (x ∷ wires) (None ∷ sent) zero d owned all is = absurd (subst (λ b. IsSomebodys (cond b Atp Nobody)) all.0 owned.0)
+sent_in (x ∷ wires) (y ∷ sent) (suc i) d owned all is = sent_in wires sent i d owned.1 all.1 is
 
 some_sent : (a b : Sent) → Some a ≡ Some b → a ≡ b
 some_sent a b h = cc
 
 pub record Comes (A : Type 0) (w : WorldState) (cable : Cable) (m : AtpMachine) (ct : CableTie w cable) (t : AtpTie A w cable ct.wires m) (which : ℕ) (d : SentDatagram) : Type 0 where
   pub packet : Sent
-  pub was_sent : slice_get (after A t.history).sent which ≡ Some packet
+  pub was_sent : packet_at (after A t.history).sent which ≡ Some packet
   pub spells : d ≡ posted_packet packet
   pub lawful : IsLawfullySent packet
   pub fresh : is_fresh (after A t.history).drawn packet ≡ true
@@ -45,7 +49,7 @@ pub record Comes (A : Type 0) (w : WorldState) (cable : Cable) (m : AtpMachine) 
 
 pub comes : (A : Type 0) (laws : Laws A) (w : WorldState) (cable : Cable) (m : AtpMachine) (ct : CableTie w cable) (t : AtpTie A w cable ct.wires m) (which : ℕ) (d : SentDatagram) → slice_get w.sent which ≡ Some d → IsFresh w d → Comes A w cable m ct t which d
 comes A laws w cable m ct t which d is fresh =
-    let s = sent_in (after A t.history).sent which d (ap (λ l. slice_get l which) (sym (ct.sent ∙ ap (map spelled_wire) t.sent)) ∙ is) in
+    let s = sent_in ct.wires (after A t.history).sent which d ct.owned t.sent (ap (λ l. slice_get l which) (sym ct.sent) ∙ is) in
     let lawful = sent_at IsLawfullySent (after A t.history).sent which s.0 (laws.lawful_sent t.history t.in_range) s.1 in
     let carried = laws.carries (s.0).to (s.0).from (s.0).packet lawful.to_fits lawful.from_fits lawful.lawful in
     let late = subst (λ (x : SentDatagram). IsFresh w x) s.2 fresh in

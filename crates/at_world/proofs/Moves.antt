@@ -1,6 +1,6 @@
 -- The kinds of steps: nothing happens, a requester or a responder changes, an answer joins, a transaction begins.
-use Rattle.std.proofs.Common.{◌≡◌, ℕ, ◌+◌, Bool, true, false, cond, List, [], ◌∷◌, ◌++◌, map, Option, Some, None, refl, sym, ap, subst, ◌∙◌, arith}
-use Rattle.std.specs.Prelude.{◌==◌, ◌&&◌}
+use Rattle.std.proofs.Common.{◌≡◌, ℕ, ◌+◌, Bool, true, false, cond, List, [], ◌∷◌, ◌++◌, length, map, Option, Some, None, refl, sym, ap, subst, ◌∙◌, arith}
+use Rattle.std.specs.Prelude.{replicate, ◌==◌, ◌&&◌}
 use Rattle.std.specs.List.{AllByRecursion, Contains}
 use Rattle.std.proofs.lemmas.Bool.{eq-eqb}
 use Rattle.std.proofs.lemmas.List.{append-nil}
@@ -16,9 +16,9 @@ use Rattle.at_atp_requester.specs.Requests as requests
 use Rattle.at_atp_requester.specs.Requests.{Requests, next_number, beginning, request_by}
 use Rattle.at_atp.specs.Transactions.{Transaction, is_transaction, transaction_of, Asked, answered}
 use Rattle.at_node.specs.Drawing.{drawn_by}
-use Rattle.at_node.specs.AtpParts.{asking, serving, zones_at, atp_kind}
+use Rattle.at_node.specs.AtpParts.{AtpState, asking, serving, zones_at, atp_kind}
 use Rattle.at_node.specs.Nodes.{with_atp, NodeState}
-use Rattle.at_node.specs.Outcomes.{posted, sent_by}
+use Rattle.at_node.specs.Outcomes.{Outgoing, posted, sent_by}
 use Rattle.at_node.specs.declared.drawing.Draw.TheVariants.{Tid}
 use Rattle.at_node.specs.declared.event.Report.{Report}
 use Rattle.at_node.specs.declared.event.Report.TheVariants as report
@@ -27,8 +27,8 @@ use Rattle.at_world.specs.AtpGuards.{AtpMachine, Reading, since_of}
 use Rattle.at_world.specs.Worlds.{WorldState, node_at}
 use Rattle.at_world.proofs.Places.{requester_here, service_here, served_here}
 use Rattle.at_world.specs.Cables.{Cable}
-use Rattle.at_world.proofs.CableTie.{wire, CableTie, SeatTie}
-use Rattle.at_world.proofs.AtpTie.{Laws, IsReading, PagesOf, OnNet, AtpTie, Next, moved, put_same, put_itself, wire_of, wires_as_sent}
+use Rattle.at_world.proofs.CableTie.{wire, CableTie, SeatTie, AreOwned, seat_kept}
+use Rattle.at_world.proofs.AtpTie.{Laws, IsReading, PagesOf, OnNet, AtpTie, Next, moved, put_same, put_itself, Entries, AreForeign, entries_of, entries_foreign, sent_is_owned}
 use Rattle.at_world.proofs.Times.{IsNoted, all_noted, noted_now}
 
 -- ---- lists of transactions
@@ -92,30 +92,31 @@ module _ (A : Type 0) (w : WorldState) (cable : Cable) (m : AtpMachine) (k : ℕ
   reading_stays (Some tid) h = record { server = h.server; is_router = h.is_router; first = h.first; user = h.user; is_open = h.is_open; since = h.since; began = h.began }
 
   -- what a socket of this node posts
-  posts_from : (socket : ℕ → ℕ → Address) (sent : List (Address × Content)) → map (wire w.events) (sent_by (socket n.seat.net n.seat.number) atp_kind (spelled_all sent)) ≡ map wire_of (stamped (after A t.history).event (socket cable.net k) sent)
+  posts_from : (socket : ℕ → ℕ → Address) (sent : List (Address × Content)) → Entries (map (wire w.events) (sent_by (socket n.seat.net n.seat.number) atp_kind (spelled_all sent))) (stamped (after A t.history).event (socket cable.net k) sent)
   posts_from socket sent =
       let its = ct.seats k n stands in
-      wires_as_sent w.events (socket n.seat.net n.seat.number) sent ∙ (λ i. map wire_of (stamped (t.events i) (socket (its.net i) (its.number i)) sent))
+      entries_of w.events (after A t.history).event (socket n.seat.net n.seat.number) (socket cable.net k) sent t.events (λ i. socket (its.net i) (its.number i))
 
   same_node : (requester : Requests) (reading : Option ℕ) (served service : List Record) → SeatTie cable k (with_atp n (record n.atp { requester = requester; reading = reading; zone_responder = served; service_responder = service }))
   same_node requester reading served service = let its = ct.seats k n stands in record { net = its.net; number = its.number; small = its.small; router = its.router }
 
-  -- nothing happens
-  pub idle_next : (r : Report A) → Next A w cable m (after A t.history) Other k n r [] m.asked m.readings
-  idle_next r = record {
+  -- an event of nobody or of another protocol, which leaves this part as it was
+  pub idle_next : (x : NodeState) (r : Report A) (out : List Outgoing) → x.seat ≡ n.seat → x.atp ≡ n.atp → AreForeign out → AreOwned out → Next A w cable m (after A t.history) (Other (length out)) k x r out m.asked m.readings
+  idle_next x r out seat same foreign owned = record {
     timely = tt;
     in_range = tt;
     same_event = refl;
-    requesters = requesters_stay;
-    responders = responders_stay;
-    more = [];
-    sent = sym (append-nil (after A t.history).sent);
-    posts = refl;
+    requesters = λ who. requesters_stay who ∙ ap (λ (a : AtpState). put (after A t.history).requesters (asking cable.net k) a.requester who) (sym same);
+    responders = λ at. responders_stay at ∙ ap (λ (a : AtpState). put (put (after A t.history).responders (serving cable.net k) a.service_responder) (zones_at cable.net k) a.zone_responder at) (sym same);
+    more = replicate (length out) None;
+    sent = refl;
+    posts = entries_foreign w.events out foreign;
+    owned = owned;
     drawn = all_noted w.last w.events k (drawn_by r) (after A t.history).drawn t.drawn;
     is_asked = t.asked;
-    mine = ct.seats k n stands;
-    has_table = t.tables k n stands;
-    reading = reading_stays n.atp.reading (t.readings k n stands);
+    mine = seat_kept cable k n x seat (ct.seats k n stands);
+    has_table = λ l is. t.tables k n stands l (ap (λ (a : AtpState). a.table) (sym same) ∙ is);
+    reading = subst (λ (a : AtpState). IsReading cable (moved m m.asked m.readings) k a.requester a.reading) (sym same) (reading_stays n.atp.reading (t.readings k n stands));
     others = λ j apart. refl;
     still = λ j tid server apart a. (a, refl);
     pages = t.pages;
@@ -135,6 +136,7 @@ module _ (A : Type 0) (w : WorldState) (cable : Cable) (m : AtpMachine) (k : ℕ
     more = stamped (after A t.history).event (asking cable.net k) sent;
     sent = ap (λ (x : Network). x.sent) is;
     posts = posts_from asking sent;
+    owned = sent_is_owned (asking n.seat.net n.seat.number) sent;
     drawn = subst (AllByRecursion (IsNoted (noted w.last k w.events (drawn_by r)) (w.events + 1))) (ap (λ (x : Network). x.drawn) (sym is)) (all_noted w.last w.events k (drawn_by r) (after A t.history).drawn t.drawn);
     is_asked = ap (λ (x : Network). x.asked) is ∙ t.asked;
     mine = same_node after_it reading n.atp.zone_responder n.atp.service_responder;
@@ -158,6 +160,7 @@ module _ (A : Type 0) (w : WorldState) (cable : Cable) (m : AtpMachine) (k : ℕ
     more = stamped (after A t.history).event (serving cable.net k) sent;
     sent = ap (λ (x : Network). x.sent) is;
     posts = posts_from serving sent;
+    owned = sent_is_owned (serving n.seat.net n.seat.number) sent;
     drawn = subst (AllByRecursion (IsNoted (noted w.last k w.events (drawn_by r)) (w.events + 1))) (ap (λ (x : Network). x.drawn) (sym is)) (all_noted w.last w.events k (drawn_by r) (after A t.history).drawn t.drawn);
     is_asked = ap (λ (x : Network). x.asked) is ∙ t.asked;
     mine = same_node n.atp.requester n.atp.reading n.atp.zone_responder rs;
@@ -181,6 +184,7 @@ module _ (A : Type 0) (w : WorldState) (cable : Cable) (m : AtpMachine) (k : ℕ
     more = stamped (after A t.history).event (zones_at cable.net k) sent;
     sent = ap (λ (x : Network). x.sent) is;
     posts = posts_from zones_at sent;
+    owned = sent_is_owned (zones_at n.seat.net n.seat.number) sent;
     drawn = subst (AllByRecursion (IsNoted (noted w.last k w.events (drawn_by r)) (w.events + 1))) (ap (λ (x : Network). x.drawn) (sym is)) (all_noted w.last w.events k (drawn_by r) (after A t.history).drawn t.drawn);
     is_asked = ap (λ (x : Network). x.asked) is ∙ t.asked;
     mine = same_node n.atp.requester n.atp.reading rs n.atp.service_responder;
@@ -201,6 +205,10 @@ module _ (A : Type 0) (w : WorldState) (cable : Cable) (m : AtpMachine) (k : ℕ
         let more = laws.joins m.asked from tid packets (asking cable.net k) number (zones_at cable.net h.server) h.first in
         record { server = h.server; is_router = h.is_router; first = more.0; user = more.1 ∙ h.user; is_open = h.is_open; since = h.since; began = h.began }
 
+    still_asked : (from : Address) (tid : ℕ) (packets : List Packet) (j number server : ℕ) → (a : Asked m.asked (asking cable.net j) number (zones_at cable.net server)) →
+        (b : Asked (answered m.asked from tid packets) (asking cable.net j) number (zones_at cable.net server)) × ((b.transaction).user ≡ (a.transaction).user)
+    still_asked from tid packets j number server a = let more = laws.joins m.asked from tid packets (asking cable.net j) number (zones_at cable.net server) a in (more.0, more.1)
+
     nets_answered : (from : Address) (tid : ℕ) (packets : List Packet) (a : Transaction) → transaction_of m.asked from tid ≡ Some a → AllByRecursion (OnNet cable) (answered m.asked from tid packets)
     nets_answered from tid packets a is = answered_all (OnNet cable) m.asked from tid packets a is t.nets (λ h. h)
 
@@ -220,13 +228,14 @@ module _ (A : Type 0) (w : WorldState) (cable : Cable) (m : AtpMachine) (k : ℕ
       more = stamped (after A t.history).event (socket cable.net k) sent;
       sent = is;
       posts = posts_from socket sent;
+      owned = sent_is_owned (socket n.seat.net n.seat.number) sent;
       drawn = subst (AllByRecursion (IsNoted (noted w.last k w.events (drawn_by r)) (w.events + 1))) (sym drawn) (all_noted w.last w.events k (drawn_by r) (after A t.history).drawn t.drawn);
       is_asked = is_asked ∙ ap (λ ts. answered ts from tid packets) t.asked;
       mine = same_node n.atp.requester n.atp.reading served service;
       has_table = t.tables k n stands;
       reading = reading_answered from tid packets n.atp.reading (t.readings k n stands);
       others = λ j apart. refl;
-      still = λ j number server apart a. laws.joins m.asked from tid packets (asking cable.net j) number (zones_at cable.net server) a;
+      still = λ j number server apart a. still_asked from tid packets j number server a;
       pages = answered_all (PagesOf cable m) m.asked from tid packets asked.transaction asked.newest t.pages pages;
       nets = nets_answered from tid packets asked.transaction asked.newest;
     }
@@ -252,6 +261,7 @@ module _ (A : Type 0) (w : WorldState) (cable : Cable) (m : AtpMachine) (k : ℕ
     more = stamped (after A t.history).event (asking cable.net k) ((to, request_by (beginning tid to user bytes wanted xo retries)) ∷ []);
     sent = ap (λ (x : Network). x.sent) is;
     posts = posts_from asking ((to, request_by (beginning tid to user bytes wanted xo retries)) ∷ []);
+    owned = sent_is_owned (asking n.seat.net n.seat.number) ((to, request_by (beginning tid to user bytes wanted xo retries)) ∷ []);
     drawn = subst (AllByRecursion (IsNoted (noted w.last k w.events (Some (Tid tid))) (w.events + 1))) (ap (λ (x : Network). x.drawn) (sym is))
         (both_noted (after A t.history).drawn (all_noted w.last w.events k (Some (Tid tid)) (after A t.history).drawn t.drawn) (subst (λ e. IsNoted (noted w.last k w.events (Some (Tid tid))) (w.events + 1) (record { event = e; who = asking cable.net k; tid = tid })) t.events (noted_now w.last w.events cable.net k tid)));
     is_asked = ap (λ (x : Network). x.asked) is ∙ ap (λ ts. new_transaction (asking cable.net k) (beginning tid to user bytes wanted xo retries) ∷ ts) t.asked;

@@ -12,7 +12,7 @@ use Rattle.at_atp_requester.specs.Answers as arrivals
 use Rattle.at_atp.specs.HandUps.{brings, draws, is_drawn}
 use Rattle.at_atp.specs.Network as network
 use Rattle.at_atp_frame.specs.Frames.{number_of}
-use Rattle.at_atp.specs.Network.{Network, Sent, Happening, Begins, Answers, Hears, Takes, Serves, Expires, Retries, Other, AllTimely, GivesAnswers, after, done}
+use Rattle.at_atp.specs.Network.{Network, Sent, packet_at, Happening, Begins, Answers, Hears, Takes, Serves, Expires, Retries, Other, AllTimely, GivesAnswers, after, done}
 use Rattle.at_atp_responder.specs.Once.{is_new_of, same_key}
 use Rattle.at_atp_frame.specs.Packets.{Packet}
 use Rattle.at_atp_responder.specs.Records.{answer_fault, expiry_fault, is_key, taken}
@@ -69,17 +69,17 @@ kept_newest A n (Begins who to user bytes wanted once times) key xo apart newest
     go None e = newest
     go (Some tid) e = (newest.0, ap (λ x. cond x (Some (network.new_transaction who (beginning tid to user bytes wanted once times))) (transaction_of n.asked key.from key.tid)) e ∙ newest.1, newest.2, newest.3)
 kept_newest A n (Answers at k packets) key xo apart newest = answers_newest n at k packets (answer_fault (n.responders at) k packets) key xo newest
-kept_newest A n (Hears which) key xo apart newest = go (slice_get n.sent which)
+kept_newest A n (Hears which) key xo apart newest = go (packet_at n.sent which)
   where
     go : (o : Option Sent) → Newest (network.hears A n o).asked key xo
     go None = newest
     go (Some s) = newest
-kept_newest A n (Takes which) key xo apart newest = go (slice_get n.sent which)
+kept_newest A n (Takes which) key xo apart newest = go (packet_at n.sent which)
   where
     go : (o : Option Sent) → Newest (network.takes_in n o).asked key xo
     go None = newest
     go (Some s) = newest
-kept_newest A n (Serves which packets) key xo apart newest = go (slice_get n.sent which)
+kept_newest A n (Serves which packets) key xo apart newest = go (packet_at n.sent which)
   where
     go : (o : Option Sent) → Newest (network.serves n packets o).asked key xo
     go None = newest
@@ -94,7 +94,7 @@ kept_newest A n (Retries who tid) key xo apart newest = go (retried (n.requester
     go : (o : Option Retried) → Newest (network.retries n who o).asked key xo
     go None = newest
     go (Some r) = newest
-kept_newest A n Other key xo apart newest = newest
+kept_newest A n (Other count) key xo apart newest = newest
 
 -- what draws its number begins one
 pub drawn_newest : (A : Type 0) (net : ℕ) (n : Network) (h : Happening) (e : Event A) (r : Report A) (key : Key) → Matches net n h e r → draws n h key ≡ true → Newest (done A n h).asked key (asks_once e, asks_for e)
@@ -109,7 +109,7 @@ drawn_newest A net n (Takes which) e r key m drawn = absurd (false≢true drawn)
 drawn_newest A net n (Serves which packets) e r key m drawn = absurd (false≢true drawn)
 drawn_newest A net n (Expires at k) e r key m drawn = absurd (false≢true drawn)
 drawn_newest A net n (Retries who tid) e r key m drawn = absurd (false≢true drawn)
-drawn_newest A net n Other e r key m drawn = absurd (false≢true drawn)
+drawn_newest A net n (Other count) e r key m drawn = absurd (false≢true drawn)
 
 pub once_newest : (A : Type 0) (net : ℕ) (past : List (Played A)) (hs : List Happening) (key : Key) → Told A net past hs → is_once net past key ≡ true → Newest (after A hs).asked key (true, wanted_by net past key)
 once_newest A net [] hs key told once = absurd (false≢true once)
@@ -128,7 +128,7 @@ once_newest A net (x ∷ xs) (h ∷ hs) key told once = go (λ is. once_newest A
 -- what happens gives this answer to the request of a key
 abbrev pub Gave : Network → Happening → Key → List Packet → Type 0
 Gave n (Answers at k packets) key answer = (same_key k key ≡ true) × (packets ≡ answer)
-Gave n (Serves which packets) key answer = (brings n key (slice_get n.sent which) ≡ true) × (packets ≡ answer)
+Gave n (Serves which packets) key answer = (brings n key (packet_at n.sent which) ≡ true) × (packets ≡ answer)
 Gave n h key answer = ⊥
 
 -- an answer of the newest transaction of a key
@@ -193,17 +193,17 @@ had_or_gave A n (Begins who to user bytes wanted once times) key answer apart ha
     go None e g = inl g
     go (Some tid) e g = inl (g.0, sym (ap (λ x. cond x (Some (network.new_transaction who (beginning tid to user bytes wanted once times))) (transaction_of n.asked key.from key.tid)) e) ∙ g.1, g.2)
 had_or_gave A n (Answers at k packets) key answer apart has = given_back n at k packets (answer_fault (n.responders at) k packets) key answer has
-had_or_gave A n (Hears which) key answer apart has = go (slice_get n.sent which) has
+had_or_gave A n (Hears which) key answer apart has = go (packet_at n.sent which) has
   where
     go : (o : Option Sent) → Has (network.hears A n o).asked key answer → Has n.asked key answer ⊎ ⊥
     go None g = inl g
     go (Some s) g = inl g
-had_or_gave A n (Takes which) key answer apart has = go (slice_get n.sent which) has
+had_or_gave A n (Takes which) key answer apart has = go (packet_at n.sent which) has
   where
     go : (o : Option Sent) → Has (network.takes_in n o).asked key answer → Has n.asked key answer ⊎ ⊥
     go None g = inl g
     go (Some s) g = inl g
-had_or_gave A n (Serves which packets) key answer apart has = go (slice_get n.sent which) has
+had_or_gave A n (Serves which packets) key answer apart has = go (packet_at n.sent which) has
   where
     go : (o : Option Sent) → Has (network.serves n packets o).asked key answer → Has n.asked key answer ⊎ ((brings n key o ≡ true) × (packets ≡ answer))
     go None g = inl g
@@ -218,7 +218,7 @@ had_or_gave A n (Retries who tid) key answer apart has = go (retried (n.requeste
     go : (o : Option Retried) → Has (network.retries n who o).asked key answer → Has n.asked key answer ⊎ ⊥
     go None g = inl g
     go (Some r) g = inl g
-had_or_gave A n Other key answer apart has = inl has
+had_or_gave A n (Other count) key answer apart has = inl has
 
 -- a transaction that begins has no answer
 pub none_yet : (A : Type 0) (n : Network) (h : Happening) (key : Key) (answer : List Packet) → draws n h key ≡ true → Has (done A n h).asked key answer → ⊥
@@ -239,4 +239,4 @@ none_yet A n (Takes which) key answer drawn has = false≢true drawn
 none_yet A n (Serves which packets) key answer drawn has = false≢true drawn
 none_yet A n (Expires at k) key answer drawn has = false≢true drawn
 none_yet A n (Retries who tid) key answer drawn has = false≢true drawn
-none_yet A n Other key answer drawn has = false≢true drawn
+none_yet A n (Other count) key answer drawn has = false≢true drawn

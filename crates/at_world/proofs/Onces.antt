@@ -4,7 +4,7 @@ use Rattle.std.specs.Prelude.{slice_get}
 use Rattle.std.specs.List.{AllByRecursion, Contains}
 use Rattle.at_atp.specs.HandUps.{hand_ups_since}
 use Rattle.at_atp.specs.Lawfully.{IsInRange, IsLawfullySent}
-use Rattle.at_atp.specs.Network.{Network, Sent, Happening, Begins, Answers, Hears, Takes, Serves, Expires, Retries, Other, AllTimely, after}
+use Rattle.at_atp.specs.Network.{Network, Sent, AllSent, Happening, Begins, Answers, Hears, Takes, Serves, Expires, Retries, Other, AllTimely, after}
 use Rattle.at_atp_responder.specs.Once.{same_key}
 use Rattle.at_atp_frame.specs.Packets.{Packet}
 use Rattle.at_atp.specs.Transactions.{Transaction, transaction_of}
@@ -16,7 +16,7 @@ use Rattle.at_node.specs.declared.event.Report.TheVariants as report
 use Rattle.at_world.specs.ExactlyOnce.{Played, onto, since, is_once, HandsUpBy, GivesBy, SomeGives, wanted_by, AtMostOneHandsUp, SomeHandsUp, AllLive, EndsBy, RunsOnce, IsOnce}
 use Rattle.at_world.specs.Plays.{opening_world, Follows, IsPlay}
 use Rattle.at_world.specs.Sents.{SentDatagram}
-use Rattle.at_world.specs.Stories.{Ends, began_under, Matches, Finishes, posted_packet}
+use Rattle.at_world.specs.Stories.{Within, Ends, began_under, Matches, Finishes, posted_packet}
 use Rattle.at_world.specs.declared.event.Event.{Event}
 use Rattle.at_world.specs.declared.event.Event.TheVariants as event
 use Rattle.at_world.specs.declared.setup.Setup.{Setup}
@@ -24,7 +24,7 @@ use Rattle.at_world.specs.declared.transcript.Transcript.{Transcript}
 use Rattle.at_world.specs.declared.transcript.PlayFault.{PlayFault}
 use Rattle.at_world.specs.Worlds.{WorldState}
 use Rattle.at_world.proofs.NewestLemmas.{Gave, Has, had_or_gave, none_yet, once_newest}
-use Rattle.at_world.proofs.ToldLemmas.{OnceLaws, Told, Within, all_lived, hands_complete, lawful, most_of, some_of, within_before}
+use Rattle.at_world.proofs.ToldLemmas.{OnceLaws, Told, all_lived, hands_complete, lawful, most_of, some_of, within_before}
 
 -- ---- the promise
 
@@ -33,7 +33,7 @@ module _ (A : Type 0) (laws : OnceLaws A) (net : ℕ) (sent : List SentDatagram)
   some_one a b h = cc
 
   -- what gives an answer in the network is a step that gives it
-  step_gives : (e : Event A) (r : Report A) (n : Network) (h : Happening) (key : Key) (answer : List Packet) → Within sent n → AllByRecursion IsLawfullySent n.sent → Matches net n h e r → Gave n h key answer → GivesBy net sent e r key answer
+  step_gives : (e : Event A) (r : Report A) (n : Network) (h : Happening) (key : Key) (answer : List Packet) → Within sent n → AllSent IsLawfullySent n.sent → Matches net n h e r → Gave n h key answer → GivesBy net sent e r key answer
   step_gives e r n (Answers at k packets) key answer within ok m g =
       let gives = m.answers_as in
       subst (λ x. GivesBy net sent x r key answer) (sym gives.5) (subst (λ x. GivesBy net sent (event.Call gives.0 (Answer gives.1 gives.2 gives.3 packets)) x key answer) (sym gives.6) (ap (λ x. same_key x key) (sym gives.7) ∙ g.0, g.1))
@@ -47,7 +47,7 @@ module _ (A : Type 0) (laws : OnceLaws A) (net : ℕ) (sent : List SentDatagram)
   step_gives e r n (Takes which) key answer within ok m g = absurd g
   step_gives e r n (Expires at k) key answer within ok m g = absurd g
   step_gives e r n (Retries who tid) key answer within ok m g = absurd g
-  step_gives e r n Other key answer within ok m g = absurd g
+  step_gives e r n (Other count) key answer within ok m g = absurd g
 
   gives_of : (past : List (Played A)) (hs : List Happening) (key : Key) (answer : List Packet) → Told A net past hs → Within sent (after A hs) → AllByRecursion IsInRange hs → Has (after A hs).asked key answer → SomeGives net sent key answer (since net past key)
   gives_of [] [] key answer told within range has = let none = has.1 in absurd (cc)
@@ -110,15 +110,6 @@ module _ (A : Type 0) (laws : OnceLaws A) (net : ℕ) (sent : List SentDatagram)
         ends_by x.event x.report xs hs told.2 earlier timely.1 range.1 live.1 m.finishes,
         runs_once xs hs told.2 earlier timely.1 range.1 live.1,
       )
-
--- what a history sent is what the play sent
-pub all_within : (sent : List SentDatagram) (n : Network) → sent ≡ map posted_packet n.sent → Within sent n
-all_within sent n is i s there = ap (λ l. slice_get l i) is ∙ get_mapped n.sent i there
-  where
-    get_mapped : (xs : List Sent) (i : ℕ) → slice_get xs i ≡ Some s → slice_get (map posted_packet xs) i ≡ Some (posted_packet s)
-    get_mapped [] i h = absurd (cc)
-    get_mapped (x ∷ xs) zero h = let same : x ≡ s = cc in ap (λ y. Some (posted_packet y)) same
-    get_mapped (x ∷ xs) (suc i) h = get_mapped xs i h
 
 -- what steps from the opening give runs once
 abbrev pub StepsOnce : (A : Type 0) → Setup A → Type 0

@@ -1,6 +1,6 @@
 -- What a request that comes to a node's service, or to the router's zone socket, is in the machine.
 use Rattle.std.proofs.Common.{◌≡◌, ◌⊎◌, inl, inr, ℕ, zero, suc, Bool, true, false, cond, List, [], ◌∷◌, ◌++◌, length, Some, None, refl, sym, ap, subst, ◌∙◌, arith}
-use Rattle.std.specs.Prelude.{find, slice_get, nat_le, ◌&&◌}
+use Rattle.std.specs.Prelude.{find, nat_le, ◌&&◌}
 use Rattle.std.specs.List.{Contains}
 use Rattle.std.proofs.lemmas.Bool.{le-leb}
 use Rattle.std.proofs.lemmas.List.{append-nil}
@@ -10,7 +10,7 @@ use Rattle.at_ddp.specs.declared.address.Address.{Address}
 use Rattle.at_atp_frame.specs.Frames.{Request, number_of}
 use Rattle.at_atp_frame.specs.Packets.{IsPacket}
 use Rattle.at_atp.specs.Network as network
-use Rattle.at_atp.specs.Network.{Network, Sent, Takes, Serves, after, done, put, stamped, with_responder}
+use Rattle.at_atp.specs.Network.{Network, Sent, packet_at, Takes, Serves, after, done, put, stamped, with_responder}
 use Rattle.at_atp_frame.specs.Packets.{Packet}
 use Rattle.at_atp_responder.specs.Records.{Record, Taken, is_key, after_answer, taken, finds_no_place, record_fault, answer_fault, asked_for}
 use Rattle.at_atp.specs.Transactions.{Transaction, transaction_of, Asked, answered}
@@ -38,7 +38,7 @@ use Rattle.at_world.proofs.Moves.{service_is, served_is, service_next, zones_nex
 use Rattle.at_world.proofs.StoryLemmas.{takes_quietly, takes_new, serves_new}
 use Rattle.at_world.proofs.AtpTie.{Laws, PagesOf, AtpTie, put_here}
 
-module _ (A : Type 0) (laws : Laws A) (w : WorldState) (cable : Cable) (m : AtpMachine) (which k : ℕ) (n : NodeState) (ct : CableTie w cable) (t : AtpTie A w cable ct.wires m) (stands : node_at w k ≡ Some n) (s : Sent) (was_sent : slice_get (after A t.history).sent which ≡ Some s)
+module _ (A : Type 0) (laws : Laws A) (w : WorldState) (cable : Cable) (m : AtpMachine) (which k : ℕ) (n : NodeState) (ct : CableTie w cable) (t : AtpTie A w cable ct.wires m) (stands : node_at w k ≡ Some n) (s : Sent) (was_sent : packet_at (after A t.history).sent which ≡ Some s)
     (fresh : network.is_fresh (after A t.history).drawn s ≡ true) (timely : network.ComesInTime (after A t.history) which)
     (mask : ℕ) (xo : Bool) (timer tid : ℕ) (user bytes : List ℕ) (packet_is : s.packet ≡ Request mask xo timer tid user bytes) where
   -- the newest transaction of this number, which asked this

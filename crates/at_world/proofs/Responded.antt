@@ -6,7 +6,7 @@ use Rattle.std.proofs.lemmas.Bool.{true≢false, false≢true, eq-eqb, eqb-true}
 use Rattle.at_atp_frame.specs.Frames.{Response}
 use Rattle.at_atp.specs.Network as network
 use Rattle.at_atp_frame.specs.Frames.{number_of}
-use Rattle.at_atp.specs.Network.{Sent, Hears, after, done, with_requester}
+use Rattle.at_atp.specs.Network.{Sent, packet_at, Hears, after, done, with_requester}
 use Rattle.at_atp_frame.specs.Packets.{Packet}
 use Rattle.at_atp_requester.specs.Requests.{Heard, is_finished, heard}
 use Rattle.at_atp.specs.Transactions.{Transaction, transaction_of, Asked, IsPart, IsResponse}
@@ -42,14 +42,14 @@ only_packet p q zero h = cc
 only_packet p q (suc place) h = absurd (cc)
 
 -- a response in time is to the newest transaction of its number, whose requester it comes to
-pub part_of : (A : Type 0) (laws : Laws A) (w : WorldState) (cable : Cable) (m : AtpMachine) (which : ℕ) (ct : CableTie w cable) (t : AtpTie A w cable ct.wires m) (s : Sent) → slice_get (after A t.history).sent which ≡ Some s → network.is_fresh (after A t.history).drawn s ≡ true →
+pub part_of : (A : Type 0) (laws : Laws A) (w : WorldState) (cable : Cable) (m : AtpMachine) (which : ℕ) (ct : CableTie w cable) (t : AtpTie A w cable ct.wires m) (s : Sent) → packet_at (after A t.history).sent which ≡ Some s → network.is_fresh (after A t.history).drawn s ≡ true →
     (place : ℕ) (eom sts : Bool) (tid : ℕ) (user bytes : List ℕ) → s.packet ≡ Response place eom sts tid user bytes → Asked m.asked s.to tid s.from
 part_of A laws w cable m which ct t s was_sent fresh place eom sts tid user bytes is =
     let gives = laws.answers t.history t.timely in
     let p = gives.responded which s place eom sts tid user bytes was_sent fresh is in
     subst (λ ts. Asked ts s.to tid s.from) t.asked p.0
 
-module _ (A : Type 0) (laws : Laws A) (w : WorldState) (cable : Cable) (m : AtpMachine) (which k : ℕ) (n : NodeState) (ct : CableTie w cable) (t : AtpTie A w cable ct.wires m) (stands : node_at w k ≡ Some n) (s : Sent) (was_sent : slice_get (after A t.history).sent which ≡ Some s)
+module _ (A : Type 0) (laws : Laws A) (w : WorldState) (cable : Cable) (m : AtpMachine) (which k : ℕ) (n : NodeState) (ct : CableTie w cable) (t : AtpTie A w cable ct.wires m) (stands : node_at w k ≡ Some n) (s : Sent) (was_sent : packet_at (after A t.history).sent which ≡ Some s)
     (fresh : network.is_fresh (after A t.history).drawn s ≡ true) (timely : network.ComesInTime (after A t.history) which) (to_is : s.to ≡ asking cable.net k)
     (place : ℕ) (eom sts : Bool) (tid : ℕ) (user bytes : List ℕ) (packet_is : s.packet ≡ Response place eom sts tid user bytes) where
   h : Heard A

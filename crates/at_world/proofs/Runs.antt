@@ -53,8 +53,8 @@ module _ (A : Type 0) (w : WorldState) (m : Machine) (t : Tied A w m) (e : Event
   -- the parts and the cable follow an outcome together
   together : (o : Outcome A NodeState) → KeepsSeat n o → Good A w m.cable m.atp t.cable t.atp k e o → Follow A w m t e o.report (recorded w k o.report o.state (map posted o.out))
   together o seat good =
-      let cable = cable_next A w m.cable k n o t.cable stands seat in
-      let both = subst (λ l. (x : AtpTie A (recorded w k o.report o.state (map posted o.out)) m.cable l good.0) × Grown A m.cable (t.atp).history x.history e o.report) (sym cable.1) (good.2, good.3) in
+      let cable = cable_next A w m.cable k n o t.cable stands seat good.2 in
+      let both = subst (λ l. (x : AtpTie A (recorded w k o.report o.state (map posted o.out)) m.cable l good.0) × Grown A m.cable (t.atp).history x.history e o.report) (sym cable.1) (good.3, good.4) in
       let allows = good.1 in
       (record { cable = m.cable; atp = good.0 }, record { cable = record { said = allows.0; becomes = refl }; atp = allows.1 }, record { cable = cable.0; atp = both.0 }, both.1, refl)
 

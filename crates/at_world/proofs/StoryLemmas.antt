@@ -1,12 +1,12 @@
 -- What an event is in the network, by what was reported of it.
 use Rattle.std.proofs.Common.{◌≡◌, ℕ, Bool, true, false, List, Option, Some, None, refl, sym, ap, ◌∙◌}
-use Rattle.std.specs.Prelude.{find, slice_get, is_none, ◌&&◌}
+use Rattle.std.specs.Prelude.{find, is_none, ◌&&◌}
 use Rattle.std.proofs.lemmas.Bool.{false≢true}
 use Rattle.at_ddp.specs.Address.{same_address}
 use Rattle.at_ddp.specs.declared.address.Address.{Address}
 use Rattle.at_atp.specs.HandUps.{brings, is_drawn}
 use Rattle.at_atp_frame.specs.Frames.{number_of}
-use Rattle.at_atp.specs.Network.{Network, Sent, Begins, Answers, Hears, Takes, Serves, Expires, Retries, Other}
+use Rattle.at_atp.specs.Network.{Network, Sent, packet_at, Begins, Answers, Hears, Takes, Serves, Expires, Retries, Other}
 use Rattle.at_atp_responder.specs.Once.{is_new_of, same_key}
 use Rattle.at_atp_frame.specs.Packets.{Packet}
 use Rattle.at_atp_responder.specs.Records.{Record, State, Waiting, Answered, Released, is_key, came_again, released, release_came, taken, expiry_fault}
@@ -25,36 +25,36 @@ use Rattle.at_world.specs.declared.event.Event.{Event}
 use Rattle.at_world.specs.declared.event.Event.TheVariants as event
 use Rattle.at_world.specs.Stories.{Matches, Finishes, Ends, asks_once, asks_for, began_under, expired_at, handed_up_by, came_under}
 
--- a report that tells of no beginning, no request and no expiry
-abbrev pub is_quiet : {A : Type 0} → Report A → Bool
-is_quiet (report.Begun tid) = false
-is_quiet report.Done = false
-is_quiet (report.Served count) = false
-is_quiet (report.Asked k user bytes) = false
-is_quiet (report.Response tid packets) = false
-is_quiet other = true
+-- an event whose report tells of no beginning, no request, no response and no expiry
+abbrev pub is_quiet : {A : Type 0} → Report A → Event A → Bool
+is_quiet (report.Begun tid) (event.Call node call) = false
+is_quiet (report.Served count) (event.Deliver which node) = false
+is_quiet (report.Asked k user bytes) (event.Deliver which node) = false
+is_quiet (report.Response tid packets) (event.Deliver which node) = false
+is_quiet report.Done (event.Timer node time) = false
+is_quiet r e = true
 
-no_begin : (A : Type 0) (net : ℕ) (e : Event A) (r : Report A) (key : Key) → is_quiet r ≡ true → began_under net e r key ≡ false
+no_begin : (A : Type 0) (net : ℕ) (e : Event A) (r : Report A) (key : Key) → is_quiet r e ≡ true → began_under net e r key ≡ false
 no_begin A net (event.Call node call) (report.Begun tid) key q = absurd (false≢true q)
 no_begin A net (event.Call node call) r key q = refl
 no_begin A net (event.Deliver which node) r key q = refl
 no_begin A net (event.Timer node time) r key q = refl
 
-no_hand_up : (A : Type 0) (sent : List Sent) (e : Event A) (r : Report A) (key : Key) → is_quiet r ≡ true → handed_up_by sent e r key ≡ false
+no_hand_up : (A : Type 0) (sent : List (Option Sent)) (e : Event A) (r : Report A) (key : Key) → is_quiet r e ≡ true → handed_up_by sent e r key ≡ false
 no_hand_up A sent (event.Call node call) r key q = refl
 no_hand_up A sent (event.Deliver which node) (report.Served count) key q = absurd (false≢true q)
 no_hand_up A sent (event.Deliver which node) (report.Asked k user bytes) key q = absurd (false≢true q)
 no_hand_up A sent (event.Deliver which node) r key q = refl
 no_hand_up A sent (event.Timer node time) r key q = refl
 
-no_expiry : (A : Type 0) (net : ℕ) (e : Event A) (r : Report A) (at : Address) (key : Key) → is_quiet r ≡ true → expired_at net e r at key ≡ false
+no_expiry : (A : Type 0) (net : ℕ) (e : Event A) (r : Report A) (at : Address) (key : Key) → is_quiet r e ≡ true → expired_at net e r at key ≡ false
 no_expiry A net (event.Call node call) r at key q = refl
 no_expiry A net (event.Deliver which node) r at key q = refl
 no_expiry A net (event.Timer node (timer.Retry tid)) r at key q = refl
 no_expiry A net (event.Timer node (timer.Release own k' socket tid')) report.Done at key q = absurd (false≢true q)
 no_expiry A net (event.Timer node (timer.Release own k' socket tid')) r at key q = refl
 
-no_end : (A : Type 0) (net : ℕ) (n : Network) (e : Event A) (r : Report A) → is_quiet r ≡ true → Finishes net n e r
+no_end : (A : Type 0) (net : ℕ) (n : Network) (e : Event A) (r : Report A) → is_quiet r e ≡ true → Finishes net n e r
 no_end A net n (event.Call node call) r q = tt
 no_end A net n (event.Deliver which node) (report.Served count) q = absurd (false≢true q)
 no_end A net n (event.Deliver which node) (report.Response tid packets) q = absurd (false≢true q)
@@ -62,21 +62,21 @@ no_end A net n (event.Deliver which node) r q = tt
 no_end A net n (event.Timer node time) r q = tt
 
 module _ (A : Type 0) (net : ℕ) (n : Network) where
-  pub other_matches : (e : Event A) (r : Report A) → is_quiet r ≡ true → Matches net n Other e r
-  other_matches e r q = record { draws_it = λ key. sym (no_begin A net e r key q); expires_it = λ at key. sym (no_expiry A net e r at key q); hands_up = λ key. sym (no_hand_up A n.sent e r key q); takes_in = tt; begins_as = tt; answers_as = tt; finishes = no_end A net n e r q }
+  pub other_matches : (count : ℕ) (e : Event A) (r : Report A) → is_quiet r e ≡ true → Matches net n (Other count) e r
+  other_matches count e r q = record { draws_it = λ key. sym (no_begin A net e r key q); expires_it = λ at key. sym (no_expiry A net e r at key q); hands_up = λ key. sym (no_hand_up A n.sent e r key q); takes_in = tt; begins_as = tt; answers_as = tt; finishes = no_end A net n e r q }
 
   pub answers_match : (at : Address) (key : Key) (packets : List Packet) (node k socket tid count : ℕ) → key ≡ record { from = record { net = net; node = k; socket = socket }; tid = tid } →
       Matches {A = A} net n (Answers at key packets) (event.Call node (Answer k socket tid packets)) (report.Answered count)
   answers_match at key packets node k socket tid count its = record { draws_it = λ x. refl; expires_it = λ at x. refl; hands_up = λ x. refl; takes_in = tt; begins_as = tt; answers_as = (node, k, socket, tid, count, refl, refl, its); finishes = tt }
 
-  pub hears_matches : (which : ℕ) (e : Event A) (r : Report A) → is_quiet r ≡ true → Matches net n (Hears which) e r
+  pub hears_matches : (which : ℕ) (e : Event A) (r : Report A) → is_quiet r e ≡ true → Matches net n (Hears which) e r
   hears_matches which e r q = record { draws_it = λ key. sym (no_begin A net e r key q); expires_it = λ at key. sym (no_expiry A net e r at key q); hands_up = λ key. sym (no_hand_up A n.sent e r key q); takes_in = tt; begins_as = tt; answers_as = tt; finishes = no_end A net n e r q }
 
   -- a packet that ends a transaction
   pub ends_match : (which k tid : ℕ) (packets : List Packet) → Ends A net n which k tid packets → Matches {A = A} net n (Hears which) (event.Deliver which k) (report.Response tid packets)
   ends_match which k tid packets ends = record { draws_it = λ key. refl; expires_it = λ at key. refl; hands_up = λ key. refl; takes_in = tt; begins_as = tt; answers_as = tt; finishes = ends }
 
-  pub retries_match : (who : Address) (tid : ℕ) (e : Event A) (r : Report A) → is_quiet r ≡ true → Matches net n (Retries who tid) e r
+  pub retries_match : (who : Address) (tid : ℕ) (e : Event A) (r : Report A) → is_quiet r e ≡ true → Matches net n (Retries who tid) e r
   retries_match who tid e r q = record { draws_it = λ key. sym (no_begin A net e r key q); expires_it = λ at key. sym (no_expiry A net e r at key q); hands_up = λ key. sym (no_hand_up A n.sent e r key q); takes_in = tt; begins_as = tt; answers_as = tt; finishes = no_end A net n e r q }
 
   -- a transaction begins under the next number
@@ -84,9 +84,9 @@ module _ (A : Type 0) (net : ℕ) (n : Network) where
       Matches net n (Begins (asking net k) to user bytes wanted xo retries) (event.Call k call) (report.Begun tid)
   begins_match k tid to user bytes wanted xo retries call once many drawn = record { draws_it = λ key. ap (λ o. is_drawn (asking net k) o key) drawn; expires_it = λ at key. refl; hands_up = λ key. refl; takes_in = tt; begins_as = (once, many); answers_as = tt; finishes = tt }
 
-  module _ (which k : ℕ) (s : Sent) (was_sent : slice_get n.sent which ≡ Some s) where
+  module _ (which k : ℕ) (s : Sent) (was_sent : packet_at n.sent which ≡ Some s) where
     -- a packet that hands nothing up
-    pub takes_quietly : (r : Report A) (x : Reception) → (taken (n.responders s.to) s.from s.packet).reception ≡ x → ((key : Key) → is_new_of key x ≡ false) → is_quiet r ≡ true → Matches net n (Takes which) (event.Deliver which k) r
+    pub takes_quietly : (r : Report A) (x : Reception) → (taken (n.responders s.to) s.from s.packet).reception ≡ x → ((key : Key) → is_new_of key x ≡ false) → is_quiet r (event.Deliver which k) ≡ true → Matches net n (Takes which) (event.Deliver which k) r
     takes_quietly r x is old q = record {
       draws_it = λ key. sym (no_begin A net (event.Deliver which k) r key q);
       expires_it = λ at key. sym (no_expiry A net (event.Deliver which k) r at key q);
@@ -137,8 +137,8 @@ release_is_old rs k (Some r) key = go r.state
     go (Answered packets) = refl
     go Released = refl
 
-pub release_is_quiet : (A : Type 0) (r : Reception) → is_quiet (released_report {A = A} r) ≡ true
-release_is_quiet A reception.Ignored = refl
-release_is_quiet A (reception.New key) = refl
-release_is_quiet A (reception.Again count) = refl
-release_is_quiet A reception.Released = refl
+pub release_is_quiet : (A : Type 0) (which k : ℕ) (r : Reception) → is_quiet (released_report {A = A} r) (event.Deliver which k) ≡ true
+release_is_quiet A which k reception.Ignored = refl
+release_is_quiet A which k (reception.New key) = refl
+release_is_quiet A which k (reception.Again count) = refl
+release_is_quiet A which k reception.Released = refl

@@ -215,7 +215,7 @@ module _ (A : Type 0) (s : Setup A) where
   pub cable_at_opening : is_lawful s ≡ true → (t : CableTie (opening_world s) (cables.opening s)) × (t.wires ≡ [])
   cable_at_opening ok =
       let has = lawful_has ok in
-      (record { net = has.net; router = λ r is. router_fits s.nodes r has.each is; wires = []; sent = refl; seats = λ k n is. seats_open s.nodes has.each k n is }, refl)
+      (record { net = has.net; router = λ r is. router_fits s.nodes r has.each is; wires = []; sent = refl; owned = tt; seats = λ k n is. seats_open s.nodes has.each k n is }, refl)
 
   atp_at_opening : is_lawful s ≡ true → (t : AtpTie A (opening_world s) (cables.opening s) [] (atp.opening s)) × (t.history ≡ [])
   atp_at_opening ok =
@@ -230,7 +230,7 @@ module _ (A : Type 0) (s : Setup A) where
           events = refl;
           requesters = requester_opens;
           responders = responder_opens;
-          sent = refl;
+          sent = tt;
           drawn = tt;
           asked = refl;
           tables = λ k n is t has. (table_is s.nodes k n is t has, router_is s.nodes law.one k n is t has);

@@ -1,6 +1,6 @@
 -- A play and its history side by side, and how often each delivers a request.
-use Rattle.std.proofs.Common.{◌≡◌, inl, inr, ℕ, zero, suc, ◌+◌, ◌<◌, ◌≤◌, Bool, true, false, cond, List, [], ◌∷◌, ◌++◌, length, Some, refl, sym, ap, subst, ◌∙◌, arith, lit<}
-use Rattle.std.specs.Prelude.{slice_get, ◌||◌, ◌==◌, ◌&&◌}
+use Rattle.std.proofs.Common.{◌≡◌, inl, inr, ℕ, zero, suc, ◌+◌, ◌<◌, ◌≤◌, Bool, true, false, cond, List, [], ◌∷◌, ◌++◌, length, Option, Some, refl, sym, ap, subst, ◌∙◌, arith, lit<}
+use Rattle.std.specs.Prelude.{slice_get, IfSome, ◌||◌, ◌==◌, ◌&&◌}
 use Rattle.std.specs.List.{AllByRecursion}
 use Rattle.std.proofs.lemmas.Bool.{false≢true, eq-eqb, eqb-true, and_parts}
 use Rattle.std.proofs.lemmas.List.{append-nil}
@@ -13,7 +13,7 @@ use Rattle.at_atp.specs.HandUps as HandUps
 use Rattle.at_atp.specs.HandUps.{brings, draws, is_drawn, is_handed_up, expires_there, hand_ups_since, has_expired as record_expired, AllLived, AnswersOnce}
 use Rattle.at_atp.specs.Lawfully.{IsInRange, IsLawfullySent}
 use Rattle.at_atp_frame.specs.Frames.{number_of}
-use Rattle.at_atp.specs.Network.{Network, Sent, Happening, Begins, Answers, Hears, Takes, Serves, Expires, Retries, Other, AllTimely, GivesAnswers, after}
+use Rattle.at_atp.specs.Network.{Network, Sent, AllSent, packet_at, Happening, Begins, Answers, Hears, Takes, Serves, Expires, Retries, Other, AllTimely, GivesAnswers, after}
 use Rattle.at_atp_responder.specs.Once.{same_key}
 use Rattle.at_atp_responder.specs.declared.reception.Key.{Key}
 use Rattle.at_node.specs.AtpParts.{atp_kind}
@@ -21,7 +21,7 @@ use Rattle.at_node.specs.declared.event.Report.{Report}
 use Rattle.at_node.specs.declared.event.Report.TheVariants as report
 use Rattle.at_world.specs.ExactlyOnce.{Played, onto, since, CameFrom, HandsUpBy, HandsUp, NoneHandsUp, AtMostOneHandsUp, SomeHandsUp, has_expired, LivesBy, AllLive}
 use Rattle.at_world.specs.Sents.{SentDatagram}
-use Rattle.at_world.specs.Stories.{began_under, handed_up_by, came_under, Matches, Finishes, Grows, Tells, posted_packet}
+use Rattle.at_world.specs.Stories.{Within, began_under, handed_up_by, came_under, Matches, Finishes, Grows, Tells, posted_packet}
 use Rattle.at_world.specs.declared.event.Event.{Event}
 use Rattle.at_world.specs.declared.event.Event.TheVariants as event
 
@@ -29,7 +29,7 @@ use Rattle.at_world.specs.declared.event.Event.TheVariants as event
 pub record OnceLaws (A : Type 0) : Type 0 where
   pub answers : (history : List Happening) → AllTimely A history → GivesAnswers A (after A history)
   pub once : (history : List Happening) → AllTimely A history → AllLived A history → AnswersOnce A history
-  pub lawful_sent : (history : List Happening) → AllByRecursion IsInRange history → AllByRecursion IsLawfullySent (after A history).sent
+  pub lawful_sent : (history : List Happening) → AllByRecursion IsInRange history → AllSent IsLawfullySent (after A history).sent
   pub reads : (to from : Address) (kind : ℕ) (bytes rest : List ℕ) → IsAddress to → IsAddress from → kind < 256 → AreBytes bytes → length bytes ≤ 586
       → BeginsWith (canonical to from kind bytes ++ rest) (written to from kind bytes) rest
   pub alone : (input : List ℕ) (d e : Datagram) (x y : List ℕ) → BeginsWith input d x → BeginsWith input e y → (d ≡ e) × (x ≡ y)
@@ -38,10 +38,6 @@ pub record OnceLaws (A : Type 0) : Type 0 where
   pub packet_fits : (f : Content) → IsLawful f → AreBytes (spelled f) × (length (spelled f) ≤ 586)
 
 -- ---- the steps and the happenings, side by side
-
--- what a network sent is what the play sent
-abbrev pub Within : List SentDatagram → Network → Type 0
-Within sent n = (i : ℕ) (s : Sent) → slice_get n.sent i ≡ Some s → slice_get sent i ≡ Some (posted_packet s)
 
 abbrev pub Told : (A : Type 0) → ℕ → List (Played A) → List Happening → Type 0
 Told A net [] [] = Unit {0}
@@ -55,20 +51,20 @@ told_of A net past before (e ∷ es) (r ∷ rs) history told h = told_of A net (
 told_of A net past before [] (r ∷ rs) history told h = absurd h
 told_of A net past before (e ∷ es) [] history told h = absurd h
 
-pub get_more : {X : Type 0} (xs ys : List X) (i : ℕ) (x : X) → slice_get xs i ≡ Some x → slice_get (xs ++ ys) i ≡ Some x
+pub get_more : (xs ys : List (Option Sent)) (i : ℕ) (x : Sent) → packet_at xs i ≡ Some x → packet_at (xs ++ ys) i ≡ Some x
 get_more [] ys i x h = absurd (cc)
 get_more (y ∷ xs) ys zero x h = h
 get_more (y ∷ xs) ys (suc i) x h = get_more xs ys i x h
 
 pub within_before : (A : Type 0) (sent : List SentDatagram) (h : Happening) (hs : List Happening) → Grows A (after A hs) h → Within sent (after A (h ∷ hs)) → Within sent (after A hs)
-within_before A sent h hs g within i s is = within i s (ap (λ l. slice_get l i) g.1 ∙ get_more (after A hs).sent g.0 i s is)
+within_before A sent h hs g within i s is = within i s (ap (λ l. packet_at l i) g.1 ∙ get_more (after A hs).sent g.0 i s is)
 
 -- ---- what is delivered
 
 module _ (A : Type 0) (laws : OnceLaws A) (net : ℕ) (sent : List SentDatagram) where
-  pub all_in : (P : Sent → Type 0) (xs : List Sent) (i : ℕ) (s : Sent) → AllByRecursion P xs → slice_get xs i ≡ Some s → P s
+  pub all_in : (P : Sent → Type 0) (xs : List (Option Sent)) (i : ℕ) (s : Sent) → AllSent P xs → packet_at xs i ≡ Some s → P s
   all_in P [] i s all is = absurd (cc)
-  all_in P (x ∷ xs) zero s all is = let same : x ≡ s = cc in subst P same all.0
+  all_in P (x ∷ xs) zero s all is = subst (λ (o : Option Sent). IfSome o P) is all.0
   all_in P (x ∷ xs) (suc i) s all is = all_in P xs i s all.1 is
 
   pub begins : (s : Sent) → IsLawfullySent s → BeginsWith (posted_packet s).bytes (written s.to s.from atp_kind (spelled s.packet)) []
@@ -98,14 +94,14 @@ module _ (A : Type 0) (laws : OnceLaws A) (net : ℕ) (sent : List SentDatagram)
       some_one a b h = cc
 
   -- what the network delivers is what the reports say was delivered
-  pub hands_sound : (e : Event A) (r : Report A) (n : Network) (key : Key) → Within sent n → AllByRecursion IsLawfullySent n.sent → Finishes net n e r → HandsUpBy sent e r key → handed_up_by n.sent e r key ≡ true
+  pub hands_sound : (e : Event A) (r : Report A) (n : Network) (key : Key) → Within sent n → AllSent IsLawfullySent n.sent → Finishes net n e r → HandsUpBy sent e r key → handed_up_by n.sent e r key ≡ true
   hands_sound (event.Call node call) r n key within ok f h = absurd h
   hands_sound (event.Deliver which node) (report.Served count) n key within ok f h = let it = f.0 in ap (λ o. came_under o key) f.1 ∙ came_so which key it (within which it f.1) (all_in IsLawfullySent n.sent which it ok f.1) h
   hands_sound (event.Deliver which node) (report.Asked k user bytes) n key within ok f h = h
   hands_sound (event.Deliver which node) r n key within ok f h = absurd h
   hands_sound (event.Timer node time) r n key within ok f h = absurd h
 
-  pub hands_complete : (e : Event A) (r : Report A) (n : Network) (key : Key) → Within sent n → AllByRecursion IsLawfullySent n.sent → Finishes net n e r → handed_up_by n.sent e r key ≡ true → HandsUpBy sent e r key
+  pub hands_complete : (e : Event A) (r : Report A) (n : Network) (key : Key) → Within sent n → AllSent IsLawfullySent n.sent → Finishes net n e r → handed_up_by n.sent e r key ≡ true → HandsUpBy sent e r key
   hands_complete (event.Call node call) r n key within ok f h = absurd (false≢true h)
   hands_complete (event.Deliver which node) (report.Served count) n key within ok f h = let it = f.0 in came_there which key it (within which it f.1) (all_in IsLawfullySent n.sent which it ok f.1) (sym (ap (λ o. came_under o key) f.1) ∙ h)
   hands_complete (event.Deliver which node) (report.Asked k user bytes) n key within ok f h = h
@@ -114,7 +110,7 @@ module _ (A : Type 0) (laws : OnceLaws A) (net : ℕ) (sent : List SentDatagram)
 
   -- ---- how often
 
-  pub lawful : (hs : List Happening) → AllByRecursion IsInRange hs → AllByRecursion IsLawfullySent (after A hs).sent
+  pub lawful : (hs : List Happening) → AllByRecursion IsInRange hs → AllSent IsLawfullySent (after A hs).sent
   lawful hs range = laws.lawful_sent hs range
 
   pub none_go : (x : Played A) (xs : List (Played A)) (key : Key) (k : ℕ) (b u : Bool) → (HandsUp sent key x → u ≡ true) → cond b 0 (cond u (k + 1) k) ≡ 0 → (k ≡ 0 → NoneHandsUp sent key (since net xs key)) → NoneHandsUp sent key (cond b [] (x ∷ since net xs key))
@@ -181,7 +177,7 @@ module _ (A : Type 0) (laws : OnceLaws A) (net : ℕ) (sent : List SentDatagram)
       λ i. cond (m.draws_it key i) false (m.expires_it at key i || before i)
 
   pub lives_in : (e : Event A) (past : List (Played A)) (hs : List Happening) (which node : ℕ) → e ≡ event.Deliver which node → Told A net past hs → Within sent (after A hs) → LivesBy net sent e past →
-      (s : Sent) (mask : ℕ) (xo : Bool) (timer tid : ℕ) (user bytes : List ℕ) → slice_get (after A hs).sent which ≡ Some s → s.packet ≡ Request mask xo timer tid user bytes → record_expired A hs s.to (record { from = s.from; tid = tid }) ≡ false
+      (s : Sent) (mask : ℕ) (xo : Bool) (timer tid : ℕ) (user bytes : List ℕ) → packet_at (after A hs).sent which ≡ Some s → s.packet ≡ Request mask xo timer tid user bytes → record_expired A hs s.to (record { from = s.from; tid = tid }) ≡ false
   lives_in e past hs which node is told within lives s mask xo timer tid user bytes was_sent packet_is =
       same_expiry past hs s.to (record { from = s.from; tid = tid }) told
       ∙ subst (λ x. LivesBy net sent x past) is lives (posted_packet s) s.to s.from mask xo timer tid user bytes (within which s was_sent) (ap (λ f. canonical s.to s.from atp_kind (spelled f)) packet_is)
@@ -203,4 +199,4 @@ module _ (A : Type 0) (laws : OnceLaws A) (net : ℕ) (sent : List SentDatagram)
       lived (Hears which) m = tt
       lived (Expires at k) m = tt
       lived (Retries who tid) m = tt
-      lived Other m = tt
+      lived (Other count) m = tt

@@ -9,7 +9,7 @@ use Rattle.at_atp_frame.specs.Frames.{spelled}
 use Rattle.at_atp.specs.HandUps.{draws, is_handed_up, expires_there}
 use Rattle.at_atp.specs.Lawfully.{IsInRange}
 use Rattle.at_atp_frame.specs.Frames.{number_of}
-use Rattle.at_atp.specs.Network.{Network, Sent, Happening, Begins, Answers, Takes, Serves, AllTimely, is_fresh, after, done}
+use Rattle.at_atp.specs.Network.{Network, Sent, packet_at, Happening, Begins, Answers, Takes, Serves, AllTimely, is_fresh, after, done}
 use Rattle.at_atp_responder.specs.Once.{same_key}
 use Rattle.at_atp_frame.specs.Packets.{Packet}
 use Rattle.at_atp_requester.specs.Requests.{heard}
@@ -43,9 +43,9 @@ came_under None key = false
 came_under (Some s) key = same_key (record { from = s.from; tid = number_of s.packet }) key
 
 -- the request of this key was delivered, to a node's service or to the router
-abbrev pub handed_up_by : {A : Type 0} → List Sent → Event A → Report A → Key → Bool
+abbrev pub handed_up_by : {A : Type 0} → List (Option Sent) → Event A → Report A → Key → Bool
 handed_up_by sent (event.Deliver which node) (report.Asked k user bytes) key = same_key k key
-handed_up_by sent (event.Deliver which node) (report.Served count) key = came_under (slice_get sent which) key
+handed_up_by sent (event.Deliver which node) (report.Served count) key = came_under (packet_at sent which) key
 handed_up_by sent e r key = false
 
 -- ---- one happening for each event
@@ -81,7 +81,7 @@ AnswersAs net h e r = Unit {0}
 -- a packet in time came that ends the transaction of this number with these packets
 pub record Ends (A : Type 0) (net : ℕ) (n : Network) (which node tid : ℕ) (packets : List Packet) : Type 0 where
   pub packet : Sent
-  pub was_sent : slice_get n.sent which ≡ Some packet
+  pub was_sent : packet_at n.sent which ≡ Some packet
   pub fresh : is_fresh n.drawn packet ≡ true
   pub ends : (heard {A = A} (n.requesters packet.to) packet.from packet.packet).step ≡ step.Finished packets
   pub comes_to : packet.to ≡ asking net node
@@ -90,7 +90,7 @@ pub record Ends (A : Type 0) (net : ℕ) (n : Network) (which node tid : ℕ) (p
 -- what came, if a response is reported or the router served a request
 abbrev pub Finishes : {A : Type 0} → ℕ → Network → Event A → Report A → Type 0
 Finishes {A} net n (event.Deliver which node) (report.Response tid packets) = Ends A net n which node tid packets
-Finishes net n (event.Deliver which node) (report.Served count) = (s : Sent) × (slice_get n.sent which ≡ Some s)
+Finishes net n (event.Deliver which node) (report.Served count) = (s : Sent) × (packet_at n.sent which ≡ Some s)
 Finishes net n e r = Unit {0}
 
 -- the happening is what the event and its report say
@@ -105,7 +105,7 @@ pub record Matches {A : Type 0} (net : ℕ) (n : Network) (h : Happening) (e : E
 
 -- what is sent is added to what was sent
 abbrev pub Grows : (A : Type 0) → Network → Happening → Type 0
-Grows A n h = (more : List Sent) × ((done A n h).sent ≡ n.sent ++ more)
+Grows A n h = (more : List (Option Sent)) × ((done A n h).sent ≡ n.sent ++ more)
 
 -- these events and reports, after what happened before, make this history, whose newest happening comes first
 abbrev pub Tells : {A : Type 0} → ℕ → List Happening → List (Event A) → List (Report A) → List Happening → Type 0
@@ -118,9 +118,13 @@ Tells net before (e ∷ es) [] history = ⊥
 abbrev pub posted_packet : Sent → SentDatagram
 posted_packet s = record { event = s.event; to = (s.to).node; bytes = canonical s.to s.from atp_kind (spelled s.packet) }
 
+-- each packet of the network stands at its place among all datagrams of the world
+abbrev pub Within : List SentDatagram → Network → Type 0
+Within sent n = (which : ℕ) (s : Sent) → packet_at n.sent which ≡ Some s → slice_get sent which ≡ Some (posted_packet s)
+
 -- a history in which no packet outlives its number, that these events and reports make, and that sent this
 pub record IsHistory {A : Type 0} (net : ℕ) (es : List (Event A)) (rs : List (Report A)) (sent : List SentDatagram) (history : List Happening) : Type 0 where
   pub timely : AllTimely A history
   pub in_range : AllByRecursion IsInRange history
   pub tells : Tells net [] es rs history
-  pub is_sent : sent ≡ map posted_packet (after A history).sent
+  pub is_sent : Within sent (after A history)

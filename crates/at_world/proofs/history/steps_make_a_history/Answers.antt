@@ -1,17 +1,23 @@
-use Rattle.std.proofs.Common.{◌≡◌, List, [], ◌∷◌, map, refl, ap, subst, ◌∙◌}
-use Rattle.at_atp.specs.Network.{Sent, after}
+use Rattle.std.proofs.Common.{◌≡◌, ℕ, zero, suc, List, [], ◌∷◌, map, Option, Some, None, refl, ap, subst, ◌∙◌}
+use Rattle.std.specs.Prelude.{slice_get}
+use Rattle.at_atp.specs.Network.{Sent, packet_at, after}
 use Rattle.at_world.specs.Machine.{opening_machine}
 use Rattle.at_world.specs.Plays.{opening_world}
 use Rattle.at_world.specs.Stories.{Tells, posted_packet}
-use Rattle.at_world.proofs.AtpTie.{Laws, wire_of}
-use Rattle.at_world.proofs.CableTie.{spelled_wire}
+use Rattle.at_world.proofs.AtpTie.{Laws, Entries}
+use Rattle.at_world.proofs.CableTie.{Wire, spelled_wire}
 use Rattle.at_world.proofs.Runs.{runs}
 use Rattle.at_world.proofs.TiedAtOpening.{tied_at_opening}
 use Rattle.at_world.proofs.history.steps_make_a_history.Goals as goal
 
-all_spelled : (sent : List Sent) → map spelled_wire (map wire_of sent) ≡ map posted_packet sent
-all_spelled [] = refl
-all_spelled (s ∷ sent) = ap (λ l. posted_packet s ∷ l) (all_spelled sent)
+-- each packet of the network stands at its place
+stands_at : (wires : List Wire) (sent : List (Option Sent)) (which : ℕ) (s : Sent) → Entries wires sent → packet_at sent which ≡ Some s → slice_get (map spelled_wire wires) which ≡ Some (posted_packet s)
+stands_at [] [] which s all is = absurd (cc)
+stands_at [] (y ∷ sent) which s all is = absurd all
+stands_at (x ∷ wires) [] which s all is = absurd all
+stands_at (x ∷ wires) (Some y ∷ sent) zero s all is = let same : y ≡ s = cc in ap (λ z. Some (spelled_wire z)) all.0 ∙ ap (λ (z : Sent). Some (posted_packet z)) same
+stands_at (x ∷ wires) (None ∷ sent) zero s all is = absurd (cc)
+stands_at (x ∷ wires) (y ∷ sent) (suc i) s all is = stands_at wires sent i s all.1 is
 
 pub returns : goal.returns
 returns g c s events reports w lawful =
@@ -29,7 +35,7 @@ returns g c s events reports w lawful =
       retried_stays = open_numbers.retried;
       new_waits = c.a_new_request_waits.ensures;
       few = c.no_more_is_sent_than_answered.ensures;
-      joins = c.answers_join_what_was_asked.ensures;
+      joins = λ ts from tid packets who k responder a. let more = c.answers_join_what_was_asked.ensures ts from tid packets who k responder a in (more.0, more.1);
       told = c.a_page_written_is_told.ensures;
       asks = read.request;
       one_start = c.one_page_a_spelling.ensures.request;
@@ -52,7 +58,7 @@ returns g c s events reports w lawful =
           timely = atp.timely;
           in_range = atp.in_range;
           tells = subst (λ before. Tells s.net before events reports atp.history) opened.1 ran.3;
-          is_sent = cable.sent ∙ ap (map spelled_wire) atp.sent ∙ all_spelled (after A atp.history).sent;
+          is_sent = λ which s there. ap (λ l. slice_get l which) cable.sent ∙ stands_at cable.wires (after A atp.history).sent which s atp.sent there;
         },
       ),
     )

@@ -1,7 +1,6 @@
 use Rattle.std.proofs.Common.{[]}
-use Rattle.at_atp.specs.Network.{after}
 use Rattle.at_world.specs.ExactlyOnce.{onto}
-use Rattle.at_world.proofs.Onces.{all_within, runs_once}
+use Rattle.at_world.proofs.Onces.{runs_once}
 use Rattle.at_world.proofs.ToldLemmas.{OnceLaws, told_of}
 use Rattle.at_world.proofs.laws.exactly_once_requests_run_once.Goals as goal
 
@@ -20,4 +19,4 @@ returns g c s events reports w lawful follows live =
     } in
     let h = (c.steps_make_a_history.ensures s events reports w lawful follows).1 in
     let is = h.1 in
-    runs_once A laws s.net w.sent (onto [] events reports) h.0 (told_of A s.net [] [] events reports h.0 tt is.tells) (all_within w.sent (after A h.0) is.is_sent) is.timely is.in_range live
+    runs_once A laws s.net w.sent (onto [] events reports) h.0 (told_of A s.net [] [] events reports h.0 tt is.tells) is.is_sent is.timely is.in_range live
