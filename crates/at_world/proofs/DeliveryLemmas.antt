@@ -97,11 +97,12 @@ delivered A w which k s bytes w' (Ok r) runs is for fresh same played = (
   },
 )
 
-pub not_delivered : (A : Type 0) (w : WorldState) (which k : ℕ) (s : SentDatagram) (bytes : Bor (List ℕ)) (w' : WorldState) (answer : Result (Report A) Fault) → is_over w ≡ false → slice_get w.sent which ≡ Some s → is_for s k ≡ true →
+pub not_delivered : (A : Type 0) (w : WorldState) (which k : ℕ) (s : SentDatagram) (bytes : Bor (List ℕ)) (w' : WorldState) (answer : Result (Report A) Fault) → is_over w ≡ false → slice_get w.sent which ≡ Some s → is_for s k ≡ true → IsFresh w s →
     IfErr answer (λ f. IsNotTaken {A = A} w k (input.Received bytes) f w') → IfErr answer (λ f. IsFault {A = A} w (event.Deliver which k) f w')
-not_delivered A w which k s bytes w' (Ok r) runs is for h = tt
-not_delivered A w which k s bytes w' (Err fault.NoMemory) runs is for h = h
-not_delivered A w which k s bytes w' (Err (fault.Refused Limit)) runs is for h = (for_it A w which k s (Some Limit) runs is for h.0, h.1)
-not_delivered A w which k s bytes w' (Err (fault.Refused NoDatagram)) runs is for h = (for_it A w which k s (Some NoDatagram) runs is for h.0, h.1)
-not_delivered A w which k s bytes w' (Err (fault.Refused NotForNode)) runs is for h = (for_it A w which k s (Some NotForNode) runs is for h.0, h.1)
-not_delivered A w which k s bytes w' (Err (fault.Refused Untimely)) runs is for h = absurd (h.0.2 refl)
+not_delivered A w which k s bytes w' (Ok r) runs is for fresh h = tt
+not_delivered A w which k s bytes w' (Err fault.NoMemory) runs is for fresh h =
+    (h.0, h.1, λ whole. record { allowed = for_it A w which k s None runs is for h.2; timely = timely_at A w which k s is fresh })
+not_delivered A w which k s bytes w' (Err (fault.Refused Limit)) runs is for fresh h = (for_it A w which k s (Some Limit) runs is for h.0, h.1)
+not_delivered A w which k s bytes w' (Err (fault.Refused NoDatagram)) runs is for fresh h = (for_it A w which k s (Some NoDatagram) runs is for h.0, h.1)
+not_delivered A w which k s bytes w' (Err (fault.Refused NotForNode)) runs is for fresh h = (for_it A w which k s (Some NotForNode) runs is for h.0, h.1)
+not_delivered A w which k s bytes w' (Err (fault.Refused Untimely)) runs is for fresh h = absurd (h.0.2 refl)

@@ -1,8 +1,8 @@
 -- A play goes on by one event.
-use Rattle.std.proofs.Common.{◌≡◌, ℕ, ◌+◌, ◌<◌, List, [], ◌∷◌, ◌++◌, length, take, Some, refl, sym, ap, subst, ◌∙◌, get_or}
+use Rattle.std.proofs.Common.{◌≡◌, ℕ, ◌+◌, ◌<◌, List, [], ◌∷◌, ◌++◌, length, take, Option, Some, inl, refl, sym, ap, subst, ◌∙◌, get_or}
 use Rattle.std.proofs.lemmas.List.{take_more}
 use Rattle.std.proofs.lemmas.Option.{slice_get-get_or}
-use Rattle.std.specs.Prelude.{slice_get}
+use Rattle.std.specs.Prelude.{slice_get, IsSome}
 use Rattle.at_node.specs.declared.event.Report.{Report}
 use Rattle.at_world.specs.declared.event.Event.{Event}
 use Rattle.at_world.specs.declared.event.Fault.{Fault}
@@ -22,7 +22,7 @@ follows_more A w es i e rs mid r w' within is h fine plays =
     subst (λ l. Follows w l (rs ++ r ∷ []) w') (sym (take_more es i e within ∙ ap (λ x. take i es ++ x ∷ []) (sym is))) (one_more A w (take i es) rs mid e r w' h fine plays)
 
 -- if the world's step did not play an event, the play stops there
-pub stops : (A : Type 0) (w : WorldState) (es : List (Event A)) (i : ℕ) (e : Event A) (f : Fault) (w' : WorldState) → i < length es → e ≡ get_or es i e → IsFault w e f w' → StopsAt w (slice_get es i) f × (w'.sent ≡ w.sent)
+pub stops : (A : Type 0) (w : WorldState) (es : List (Event A)) (i : ℕ) (e : Event A) (f : Fault) (w' : WorldState) → i < length es → e ≡ get_or es i e → IsFault w e f w' → StopsAt w (slice_get es i) f i × (w'.sent ≡ w.sent)
 stops A w es i e (Refused r) w' within is h =
     (subst (λ o. IsRefused w o r) (sym (slice_get-get_or es i e within ∙ ap (λ x. Some x) (sym is))) h.0, ap (λ (x : WorldState). x.sent) h.1)
-stops A w es i e NoMemory w' within is h = (tt, h.1)
+stops A w es i e NoMemory w' within is h = (inl (subst (λ (o : Option (Event A)). IsSome o) (sym (slice_get-get_or es i e within)) refl), h.1)

@@ -22,7 +22,7 @@ use Rattle.at_world.specs.Sents.{SentDatagram, stamp, stamped}
 use Rattle.at_world.specs.declared.event.Refusal.TheVariants.{NotForNode}
 use Rattle.at_world.specs.declared.event.Fault.{Fault}
 use Rattle.at_world.specs.declared.event.Fault.TheVariants as fault
-use Rattle.at_world.specs.Worlds.{WorldState, is_over, is_numbered, node_at, node_refusal, holds_some, recorded, PlaysAt, Takes, IsNotTaken}
+use Rattle.at_world.specs.Worlds.{WorldState, is_over, is_numbered, node_at, node_refusal, holds_some, recorded, PlaysAt, Takes, IsFree, IsNotTaken}
 
 -- ---- what a node sends goes behind what was there
 
@@ -181,9 +181,9 @@ taken A w k S report w' booking (Err e) books ok = tt
 taken A w k S report w' booking (Ok r) books ok = subst (λ x. PlaysAt w k S x w') (sym ok.0) (books ok.1)
 
 pub not_taken : (A : Type 0) (w : WorldState) (k : ℕ) (i : Input A) (w' : WorldState) (booking : Result (Unit {0}) AllocError) (answer : Result (Report A) Fault) →
-    (IsErr booking → (w'.failed ≡ true) × (w'.sent ≡ w.sent)) → IfErr answer (λ f. (f ≡ fault.NoMemory) × IsErr booking) → IfErr answer (λ f. IsNotTaken w k i f w')
-not_taken A w k i w' booking (Ok r) kept err = tt
-not_taken A w k i w' booking (Err f) kept err = subst (λ x. IsNotTaken w k i x w') (sym err.0) (kept err.1)
+    (IsErr booking → (w'.failed ≡ true) × (w'.sent ≡ w.sent)) → node_refusal (node_at w k) ≡ None → ((n : NodeState) → node_at w k ≡ Some n → IsFree w k (draw_of_input n i)) → IfErr answer (λ f. (f ≡ fault.NoMemory) × IsErr booking) → IfErr answer (λ f. IsNotTaken w k i f w')
+not_taken A w k i w' booking (Ok r) kept there free err = tt
+not_taken A w k i w' booking (Err f) kept there free err = let k' = kept err.1 in subst (λ x. IsNotTaken w k i x w') (sym err.0) (k'.0, k'.1, there, free)
 
 pub if_ok : (A : Type 0) (P : Type 0) (answer : Result (Report A) Fault) → P → IfOk answer (λ r. P)
 if_ok A P (Ok r) p = p

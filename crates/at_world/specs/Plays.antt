@@ -1,5 +1,5 @@
 -- A whole play: each event by the world's step, with one report for each event.
-use Rattle.std.specs.Prelude.{◌≡◌, ℕ, false, if◌then◌else◌, List, [], ◌∷◌, map, take, find, slice_get, option_map, Option, Some, None, Result, Ok, Err}
+use Rattle.std.specs.Prelude.{◌≡◌, ℕ, false, if◌then◌else◌, List, [], ◌∷◌, map, take, find, slice_get, option_map, IsSome, ◌⊎◌, Option, Some, None, Result, Ok, Err}
 use Rattle.at_node.specs.declared.event.Report.{Report}
 use Rattle.at_node.specs.Nodes.{NodeState, opening}
 use Rattle.at_world.specs.declared.event.Event.{Event}
@@ -32,14 +32,15 @@ Follows w (e ∷ es) (r ∷ rs) w' = (mid : WorldState) × IsPlayable w e × Pla
 Follows w [] (r ∷ rs) w' = ⊥
 Follows w (e ∷ es) [] w' = ⊥
 
--- why a play stopped: the next event is refused so, or memory ran out
+-- why a play stopped: the next event is refused so
 abbrev pub IsRefused : {A : Type 0} → WorldState → Option (Event A) → Refusal → Type 0
 IsRefused w None r = ⊥
 IsRefused w (Some e) r = Refuses w e r
 
-abbrev pub StopsAt : {A : Type 0} → WorldState → Option (Event A) → Fault → Type 0
-StopsAt w e fault.NoMemory = Unit {0}
-StopsAt w e (fault.Refused r) = IsRefused w e r
+-- or memory ran out, at an event that there is or before the first
+abbrev pub StopsAt : {A : Type 0} → WorldState → Option (Event A) → Fault → ℕ → Type 0
+StopsAt w e fault.NoMemory at = IsSome e ⊎ (at ≡ 0)
+StopsAt w e (fault.Refused r) at = IsRefused w e r
 
 -- these events were played, with this transcript
 abbrev pub IsPlayed : {A : Type 0} → Setup A → List (Event A) → Transcript A → WorldState → Type 0
@@ -48,7 +49,7 @@ IsPlayed s events t w = Follows (opening_world s) events t.reports w × (t.sent 
 -- what a play returns: all of it, or the events before the first that was not played
 abbrev pub IsPlay : {A : Type 0} → Setup A → List (Event A) → Result (Transcript A) (PlayFault A) → Type 0
 IsPlay s events (Ok t) = (w : WorldState) × IsPlayed s events t w
-IsPlay s events (Err f) = (w : WorldState) × IsPlayed s (take f.at events) f.transcript w × StopsAt w (slice_get events f.at) f.fault
+IsPlay s events (Err f) = (w : WorldState) × IsPlayed s (take f.at events) f.transcript w × StopsAt w (slice_get events f.at) f.fault f.at
 
 -- all that was sent is spelled canonically
 abbrev pub SendsCanonically : {A : Type 0} → Result (Transcript A) (PlayFault A) → Type 0

@@ -143,13 +143,15 @@ Plays w (event.Call k call) r w' = PlaysAt w k (λ n before said after out. IsSt
 Plays w (event.Deliver which k) r w' = PlaysDelivery w which k r w'
 Plays w (event.Timer k timer) r w' = PlaysAt w k (λ n before said after out. IsStep (timed n timer) n before said after out) r w'
 
--- why an event was not played
+-- Why an event was not played. A world that had not failed is out of memory only if nothing else refuses the event.
 abbrev pub IsFault : {A : Type 0} → WorldState → Event A → Fault → WorldState → Type 0
 IsFault w e (fault.Refused r) w' = Refuses w e r × (w' ≡ w)
-IsFault w e fault.NoMemory w' = (w'.failed ≡ true) × (w'.sent ≡ w.sent)
+IsFault w e fault.NoMemory w' = (w'.failed ≡ true) × (w'.sent ≡ w.sent) × (w.failed ≡ false → IsPlayable w e)
 
 -- why a node did not take an input
 abbrev pub IsNotTaken : {A : Type 0} → WorldState → ℕ → Input A → Fault → WorldState → Type 0
 IsNotTaken w k i (fault.Refused refusals.Untimely) w' = ((n : NodeState) × (node_at w k ≡ Some n) × ¬ IsFree w k (draw_of_input n i)) × (w' ≡ w)
 IsNotTaken w k i (fault.Refused r) w' = (node_refusal (node_at w k) ≡ Some r) × (w' ≡ w)
-IsNotTaken w k i fault.NoMemory w' = (w'.failed ≡ true) × (w'.sent ≡ w.sent)
+IsNotTaken w k i fault.NoMemory w' =
+    (w'.failed ≡ true) × (w'.sent ≡ w.sent) × (node_refusal (node_at w k) ≡ None)
+    × ((n : NodeState) → node_at w k ≡ Some n → IsFree w k (draw_of_input n i))

@@ -1,4 +1,4 @@
-ghost use Rattle.std.specs.Prelude.{◌≡◌, ◌==◌, ◌||◌, IfOk, IfErr, IsOk, IsErr, OnOk, OnErr, None, false, true, ◌≤◌, ◌-◌, ◌++◌, length, replicate, ℕ};
+ghost use Rattle.std.specs.Prelude.{◌≡◌, Err, ◌==◌, ◌||◌, IfOk, IfErr, IsOk, IsErr, OnOk, OnErr, None, false, true, ◌≤◌, ◌-◌, ◌++◌, length, replicate, ℕ};
 ghost use Rattle.std.specs.List.{position_from, list_any};
 ghost use Rattle.at_node.specs.Drawing.{Carries, drawn_by, draw_of_input, holds};
 ghost use Rattle.at_node.specs.Nodes.{NodeState};
@@ -75,6 +75,7 @@ impl<A: Allocator + Copy> World<A> {
     pub fn step(&mut self, event: &Event<A>) -> Result<Report<A>, Fault>
         ensures played { IfOk result (λ report. IsPlayable self.old event.now × Plays self.old event.now report self.new) }
         ensures not_played { IfErr result (λ fault. IsFault self.old event.now fault self.new) }
+        ensures failed { self.old.failed ≡ true → (result ≡ Err Fault.NoMemory) × (self.new ≡ self.old) }
     {
         if self.failed {
             return Err(Fault::NoMemory);

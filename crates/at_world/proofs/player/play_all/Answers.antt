@@ -1,4 +1,6 @@
-use Rattle.std.proofs.Common.{◌∙◌, refl, subst}
+use Rattle.std.proofs.Common.{◌∙◌, inl, inr, refl, sym, subst}
+use Rattle.std.specs.Prelude.{IsSome}
+use Rattle.std.proofs.lemmas.Option.{slice_get-get_or}
 use Rattle.std.proofs.lemmas.List.{take_all}
 use Rattle.at_world.specs.Plays.{opening_world, Follows}
 use Rattle.at_world.proofs.Following.{follows_more, stops}
@@ -7,7 +9,7 @@ use Rattle.at_world.proofs.player.play_all.Goals as goal
 pub returns-in-Err-clause-follows : goal.returns-in-Err-clause-follows
 returns-in-Err-clause-follows g c =
     let says = c.unopened.ensures in
-    (opening_world c.args.setup.now, (rw (says.at, says.reports, c.new-reports.ensures.items) refl, says.sent), rw says.fault tt)
+    (opening_world c.args.setup.now, (rw (says.at, says.reports, c.new-reports.ensures.items) refl, says.sent), rw (says.fault, says.at) (inr refl))
 
 pub returns-in-Err-step-clause-follows : goal.returns-in-Err-step-clause-follows
 returns-in-Err-step-clause-follows g c =
@@ -25,3 +27,10 @@ returns-clause-follows g c =
     let says = c.transcript.ensures in
     let followed = subst (λ l. Follows (opening_world c.args.setup.now) l c.loop-at.reports.items c.loop-at.world) (take_all c.loop-at.at c.args.events.now c.loop-at-test.false) c.loop-at.invariant in
     (c.loop-at.world, (rw says.reports followed, says.sent))
+
+-- no memory for one report more, where an event is
+pub returns-in_default-clause-follows : goal.returns-in_default-clause-follows
+returns-in_default-clause-follows g c =
+    let says = c.stopped.ensures in
+    let there = subst (λ o. IsSome o) (sym (slice_get-get_or c.args.events.now c.loop-at.at c.index-events-at.result c.loop-at-test.true)) refl in
+    (c.loop-at.world, (rw (says.at, says.reports, c.reserve.ensures.items) c.loop-at.invariant, says.sent), rw (says.at, says.fault) (inl there))

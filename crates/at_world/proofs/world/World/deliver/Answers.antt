@@ -2,7 +2,7 @@ use Rattle.std.proofs.Common.{◌≡◌, ◌∙◌, ◌<◌, length, get_or, tru
 use Rattle.std.proofs.lemmas.Option.{slice_get-get_or}
 use Rattle.at_world.specs.Sents.{SentDatagram, stamped}
 use Rattle.at_world.specs.Worlds.{WorldState, is_for}
-use Rattle.at_world.proofs.DeliveryLemmas.{not_sent, not_for, for_it, for_same, misses, hits, one, fresh_there, stale_there, delivered, not_delivered}
+use Rattle.at_world.proofs.DeliveryLemmas.{timely_at, not_sent, not_for, for_it, for_same, misses, hits, one, fresh_there, stale_there, delivered, not_delivered}
 use Rattle.at_world.proofs.SentLemmas.{length_in, stamped_in}
 use Rattle.at_world.proofs.world.World.deliver.Goals as goal
 
@@ -63,7 +63,20 @@ returns-clause-not_played g c =
     let es = c.self.inside.stamps.items in
     let ps = c.self.inside.datagrams.items in
     let lt : c.args.which < length es = omega (arith, c.len.ensures, c.self.inside.stamps.ok.0, c.if-which-len.false) in
-    let here = slice_get-get_or es c.args.which 0 lt in
-    let s = stamped_in c.args.self.now.sent es ps c.args.which (get_or es c.args.which 0) c.node.result c.node.ensures.0.bytes (ap (λ (w : WorldState). w.sent) c.self.view_is) here c.node.ensures (c.node.ensures.0, c.node.ensures.1, refl) in
+    let here = slice_get-get_or es c.args.which c.index.result.now lt in
+    let s = stamped_in c.args.self.now.sent es ps c.args.which (get_or es c.args.which c.index.result.now) c.node.result c.get.result.now (ap (λ (w : WorldState). w.sent) c.self.view_is) here c.node.ensures c.get.ensures in
     let for : is_for s.0 c.args.node ≡ true = sym (c.if-not-is_for.ensures ∙ for_same s.0 c.node.result c.args.node s.3) in
-    not_delivered g.row.A.Denot c.args.self.now c.args.which c.args.node s.0 c.as_slice.result _ c.play.result c.requires.runs s.1 for c.play.ensures.not_played
+    let fresh = fresh_there c.args.self.now s.0 c.self.inside.last c.get.result.now c.index.result.now (ap (λ (w : WorldState). w.last) c.self.view_is) s.4 (c.index.ensures ∙ s.2) (c.is_fresh.ensures.fresh c.if-not-is_fresh.false) in
+    not_delivered g.row.A.Denot c.args.self.now c.args.which c.args.node s.0 c.as_slice.result _ c.play.result c.requires.runs s.1 for fresh c.play.ensures.not_played
+
+pub returns-in_default-clause-not_played : goal.returns-in_default-clause-not_played
+returns-in_default-clause-not_played g c =
+    let es = c.self.inside.stamps.items in
+    let ps = c.self.inside.datagrams.items in
+    let lt : c.args.which < length es = omega (arith, c.len.ensures, c.self.inside.stamps.ok.0, c.if-which-len.false) in
+    let here = slice_get-get_or es c.args.which c.index.result.now lt in
+    let s = stamped_in c.args.self.now.sent es ps c.args.which (get_or es c.args.which c.index.result.now) c.node.result c.get.result.now (ap (λ (w : WorldState). w.sent) c.self.view_is) here c.node.ensures c.get.ensures in
+    let for : is_for s.0 c.args.node ≡ true = sym (c.if-not-is_for.ensures ∙ for_same s.0 c.node.result c.args.node s.3) in
+    let some = hits c.args.self.now c.args.node c.self.inside.nodes.items c.deref.result.now c.place_of.result c.is_none.result (ap (λ (w : WorldState). w.nodes) c.self.view_is) c.deref.ensures.value c.place_of.ensures c.is_none.ensures c.if-is_none.false in
+    let fresh = fresh_there c.args.self.now s.0 c.self.inside.last c.get.result.now c.index.result.now (ap (λ (w : WorldState). w.last) c.self.view_is) s.4 (c.index.ensures ∙ s.2) (c.is_fresh.ensures.fresh c.if-not-is_fresh.false) in
+    (refl, ap (λ (w : WorldState). w.sent) c.self.view_is, λ whole. record { allowed = for_it g.row.A.Denot c.args.self.now c.args.which c.args.node s.0 _ c.requires.runs s.1 for some; timely = timely_at g.row.A.Denot c.args.self.now c.args.which c.args.node s.0 s.1 fresh })
