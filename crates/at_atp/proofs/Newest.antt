@@ -1,14 +1,18 @@
 -- The newest transaction of a number, as others begin and answers join.
-use Rattle.std.proofs.Common.{◌≡◌, ℕ, Bool, true, false, cond, List, [], ◌∷◌, ◌++◌, Some, refl, sym, ap, subst, ◌∙◌, lit<}
-use Rattle.std.specs.Prelude.{◌==◌, ◌&&◌}
+use Rattle.std.proofs.Common.{◌≡◌, ℕ, Bool, true, false, cond, List, [], ◌∷◌, ◌++◌, Option, Some, None, refl, sym, ap, subst, ◌∙◌, lit<}
+use Rattle.std.specs.Prelude.{find, ◌==◌, ◌&&◌}
 use Rattle.std.specs.List.{Contains}
-use Rattle.std.proofs.lemmas.Bool.{and_parts, eqb-true}
+use Rattle.std.proofs.lemmas.Bool.{true≢false, and_parts, eqb-true}
 use Rattle.std.proofs.lemmas.List.Elements.{Contains-append_left, Contains-append_right}
 use Rattle.at_ddp.specs.Address.{same_address}
 use Rattle.at_ddp.specs.declared.address.Address.{Address}
 use Rattle.at_ddp.proofs.Octets.{same_address-true}
 use Rattle.at_atp_frame.specs.Packets.{Packet}
 use Rattle.at_atp.specs.Transactions.{Transaction, is_transaction, transaction_of, Asked, answered, IsPart}
+use Rattle.at_atp.specs.Network.{Network, Sent, Happening, Begins, Answers, Hears, Takes, Serves, Expires, Retries, Other, packet_at, hears, takes_in, expires, retries, asks_or_answers, done}
+use Rattle.at_atp_frame.specs.declared.fault.AtpFault.{AtpFault}
+use Rattle.at_atp_requester.specs.Requests.{Retried, retried}
+use Rattle.at_atp_responder.specs.Records.{is_key, expiry_fault}
 
 -- the same transaction, perhaps with more answers
 pub record Extends (old new : Transaction) : Type 0 where
@@ -120,3 +124,30 @@ still_asked ts from tid packets who k responder a =
     let more = asked_kept ts (answered ts from tid packets) who k responder (answered_keeps ts from tid packets who k) a in
     let same = more.1 in
     (more.0, same.user, same.bytes, same.wanted, same.xo)
+
+-- what neither begins nor answers leaves all that was asked
+pub left_as_asked : (A : Type 0) (n : Network) (h : Happening) → asks_or_answers h ≡ false → (done A n h).asked ≡ n.asked
+left_as_asked A n (Begins who to user bytes wanted xo times) quiet = absurd (true≢false quiet)
+left_as_asked A n (Answers at key packets) quiet = absurd (true≢false quiet)
+left_as_asked A n (Serves which packets) quiet = absurd (true≢false quiet)
+left_as_asked A n (Hears which) quiet = go (packet_at n.sent which)
+  where
+    go : (o : Option Sent) → (hears A n o).asked ≡ n.asked
+    go None = refl
+    go (Some s) = refl
+left_as_asked A n (Takes which) quiet = go (packet_at n.sent which)
+  where
+    go : (o : Option Sent) → (takes_in n o).asked ≡ n.asked
+    go None = refl
+    go (Some s) = refl
+left_as_asked A n (Expires at key) quiet = go (expiry_fault (find (is_key key) (n.responders at)))
+  where
+    go : (f : Option AtpFault) → (expires n at key f).asked ≡ n.asked
+    go None = refl
+    go (Some fault) = refl
+left_as_asked A n (Retries who tid) quiet = go (retried (n.requesters who) tid)
+  where
+    go : (o : Option Retried) → (retries n who o).asked ≡ n.asked
+    go None = refl
+    go (Some r) = refl
+left_as_asked A n (Other count) quiet = refl

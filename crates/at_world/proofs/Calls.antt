@@ -241,7 +241,8 @@ module _ (A : Type 0) (laws : Laws A) (w : WorldState) (cable : Cable) (m : AtpM
         (ap (λ (x : Network). x.drawn) done_is)
         (ap (λ (x : Network). x.asked) done_is)
         (pages_elsewhere cable m asked.transaction packets k asked.asked_it))
-        (answers_match A cable.net (after A t.history) (serving cable.net k) (record { from = at_socket n.seat node socket; tid = tid }) packets k node socket tid (length (asked_for (find (is_key (record { from = at_socket n.seat node socket; tid = tid })) n.atp.service_responder) (record { from = at_socket n.seat node socket; tid = tid }) packets)) (λ i. record { from = record { net = its.net i; node = node; socket = socket }; tid = tid }))
+        (answers_match A cable.net (after A t.history) (serving cable.net k) (record { from = at_socket n.seat node socket; tid = tid }) packets k node socket tid (length (asked_for (find (is_key (record { from = at_socket n.seat node socket; tid = tid })) n.atp.service_responder) (record { from = at_socket n.seat node socket; tid = tid }) packets)) (λ i. record { from = record { net = its.net i; node = node; socket = socket }; tid = tid })
+        (ap (λ (x : Network). x.asked) done_is ∙ (λ i. answered (after A t.history).asked (there its.net i) tid packets)))
         (tt, record {
           asked = subst (λ (a : Address). Asked m.asked a tid (serving cable.net k)) (there its.net) asked;
           few = laws.few (find (is_key (record { from = at_socket n.seat node socket; tid = tid })) n.atp.service_responder) (record { from = at_socket n.seat node socket; tid = tid }) packets;

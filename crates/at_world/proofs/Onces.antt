@@ -1,30 +1,33 @@
 -- An exactly-once request runs at most once.
-use Rattle.std.proofs.Common.{◌≡◌, ◌⊎◌, inl, inr, ℕ, zero, suc, Bool, true, false, cond, List, [], ◌∷◌, map, take, Some, Result, Ok, Err, refl, sym, ap, subst, ◌∙◌, arith, lit<}
-use Rattle.std.specs.Prelude.{slice_get}
+use Rattle.std.proofs.Common.{◌≡◌, ◌⊎◌, inl, inr, ℕ, zero, suc, ◌+◌, ◌≤◌, Bool, true, false, cond, List, [], ◌∷◌, length, map, take, Some, Result, Ok, Err, refl, sym, ap, subst, ◌∙◌, arith, lit<}
+use Rattle.std.specs.Prelude.{slice_get, ◌==◌}
+use Rattle.std.proofs.lemmas.Bool.{and_parts, eqb-true}
+use Rattle.at_ddp.specs.Address.{same_address}
+use Rattle.at_ddp.proofs.Octets.{same_address-true}
 use Rattle.std.specs.List.{AllByRecursion, Contains}
-use Rattle.at_atp.specs.HandUps.{hand_ups_since}
+use Rattle.at_atp.specs.HandUps.{AnswersOnce, hand_ups_since}
 use Rattle.at_atp.specs.Lawfully.{IsInRange, IsLawfullySent}
-use Rattle.at_atp.specs.Network.{Network, Sent, AllSent, Happening, Begins, Answers, Hears, Takes, Serves, Expires, Retries, Other, AllTimely, after}
+use Rattle.at_atp.specs.Network.{Network, Sent, AllSent, Happening, Answers, Serves, AllTimely, after, done}
 use Rattle.at_atp_responder.specs.Once.{same_key}
 use Rattle.at_atp_frame.specs.Packets.{Packet}
-use Rattle.at_atp.specs.Transactions.{Transaction, transaction_of}
+use Rattle.at_atp.specs.Transactions.{Transaction, transaction_of, answered}
 use Rattle.at_atp_responder.specs.declared.reception.Key.{Key}
 use Rattle.at_node.specs.AtpParts.{asking}
 use Rattle.at_node.specs.declared.event.Call.TheVariants.{Answer}
 use Rattle.at_node.specs.declared.event.Report.{Report}
 use Rattle.at_node.specs.declared.event.Report.TheVariants as report
-use Rattle.at_world.specs.ExactlyOnce.{Played, onto, since, is_once, HandsUpBy, GivesBy, SomeGives, wanted_by, AtMostOneHandsUp, SomeHandsUp, AllLive, EndsBy, RunsOnce, IsOnce}
+use Rattle.at_world.specs.ExactlyOnce.{Played, onto, since, is_once, HandsUpBy, GivesBy, SomeGives, Gives, NoneGives, AtMostOneGives, RanOnce, wanted_by, AtMostOneHandsUp, SomeHandsUp, AllLive, EndsBy, RunsOnce, IsOnce}
 use Rattle.at_world.specs.Plays.{opening_world, Follows, IsPlay}
 use Rattle.at_world.specs.Sents.{SentDatagram}
-use Rattle.at_world.specs.Stories.{Within, Ends, began_under, Matches, Finishes, posted_packet}
+use Rattle.at_world.specs.Stories.{Within, Ends, asks_once, began_under, Matches, Joins, Finishes, posted_packet}
 use Rattle.at_world.specs.declared.event.Event.{Event}
 use Rattle.at_world.specs.declared.event.Event.TheVariants as event
 use Rattle.at_world.specs.declared.setup.Setup.{Setup}
 use Rattle.at_world.specs.declared.transcript.Transcript.{Transcript}
 use Rattle.at_world.specs.declared.transcript.PlayFault.{PlayFault}
 use Rattle.at_world.specs.Worlds.{WorldState}
-use Rattle.at_world.proofs.NewestLemmas.{Gave, Has, had_or_gave, none_yet, once_newest}
-use Rattle.at_world.proofs.ToldLemmas.{OnceLaws, Told, all_lived, hands_complete, lawful, most_of, some_of, within_before}
+use Rattle.at_world.proofs.NewestLemmas.{NewestIs, HasAnswers, has_kept, kept_newest, one_answer_more, Gave, Has, had_or_gave, none_yet, once_newest}
+use Rattle.at_world.proofs.ToldLemmas.{OnceLaws, Told, all_in, all_lived, came_so, key_parts, hands_complete, lawful, most_of, some_of, within_before}
 
 -- ---- the promise
 
@@ -42,12 +45,7 @@ module _ (A : Type 0) (laws : OnceLaws A) (net : ℕ) (sent : List SentDatagram)
       let up = hands_complete A laws net sent e r n key within ok m.finishes (sym (m.hands_up key) ∙ g.0) in
       subst (λ x. GivesBy net sent x r key answer) (sym gives.2) (subst (λ x. GivesBy net sent (event.Deliver which gives.0) x key answer) (sym gives.3)
       (subst (λ x. HandsUpBy sent (event.Deliver which gives.0) x key) gives.3 (subst (λ x. HandsUpBy sent x r key) gives.2 up)))
-  step_gives e r n (Begins who to user bytes wanted once times) key answer within ok m g = absurd g
-  step_gives e r n (Hears which) key answer within ok m g = absurd g
-  step_gives e r n (Takes which) key answer within ok m g = absurd g
-  step_gives e r n (Expires at k) key answer within ok m g = absurd g
-  step_gives e r n (Retries who tid) key answer within ok m g = absurd g
-  step_gives e r n (Other count) key answer within ok m g = absurd g
+  step_gives e r n h key answer within ok m g = absurd g
 
   gives_of : (past : List (Played A)) (hs : List Happening) (key : Key) (answer : List Packet) → Told A net past hs → Within sent (after A hs) → AllByRecursion IsInRange hs → Has (after A hs).asked key answer → SomeGives net sent key answer (since net past key)
   gives_of [] [] key answer told within range has = let none = has.1 in absurd (cc)
@@ -64,24 +62,115 @@ module _ (A : Type 0) (laws : OnceLaws A) (net : ℕ) (sent : List SentDatagram)
 
       go : (Has (after A hs).asked key answer → SomeGives net sent key answer (since net xs key)) → (b : Bool) → began_under net x.event x.report key ≡ b → SomeGives net sent key answer (cond b [] (x ∷ since net xs key))
       go before true e = none_yet A (after A hs) h key answer (m.draws_it key ∙ e) has
-      go before false e = either before (had_or_gave A (after A hs) h key answer (m.draws_it key ∙ e) has)
+      go before false e = either before (had_or_gave A laws.leaves (after A hs) h key answer (m.draws_it key ∙ e) has)
 
-  one_moment : (past : List (Played A)) (hs : List Happening) → Told A net past hs → Within sent (after A hs) → AllTimely A hs → AllByRecursion IsInRange hs → AllLive net sent past → (key : Key) → is_once net past key ≡ true → AtMostOneHandsUp sent key (since net past key)
+  -- an answer that a step gives joins the transaction of its key
+  joins_it : (e : Event A) (r : Report A) (n : Network) (h : Happening) (key : Key) (answer : List Packet) → Within sent n → AllSent IsLawfullySent n.sent → Joins net n h r e → GivesBy net sent e r key answer →
+      (packets : List Packet) × ((done A n h).asked ≡ answered n.asked key.from key.tid packets)
+  joins_it (event.Call node (Answer k socket tid packets)) (report.Answered count) n h key answer within ok j g =
+      let both = and_parts (same_address (record { net = net; node = k; socket = socket }) key.from) (tid == key.tid) g.0 in
+      let from = same_address-true (record { net = net; node = k; socket = socket }) key.from both.0 in
+      let number = eqb-true tid key.tid both.1 in
+      (packets, j ∙ (λ i. answered n.asked (from i) (number i) packets))
+  joins_it (event.Call node (Answer k socket tid packets)) r n h key answer within ok j g = absurd g
+  joins_it (event.Call node call) r n h key answer within ok j g = absurd g
+  joins_it (event.Deliver which node) (report.Served count) n h key answer within ok j g =
+      let s = j.0 in
+      let same = came_so A laws net sent which key s (within which s j.1) (all_in A laws net sent IsLawfullySent n.sent which s ok j.1) g in
+      let parts = key_parts A laws net sent s key same in
+      (j.2.0, j.2.1 ∙ (λ i. answered n.asked (parts.0 i) (parts.1 i) j.2.0))
+  joins_it (event.Deliver which node) r n h key answer within ok j g = absurd g
+  joins_it (event.Timer node time) r n h key answer within ok j g = absurd g
+
+  -- the newest transaction of a key after a step that answers it, one that had so many answers
+  more_answers : (x : Played A) (n : Network) (h : Happening) (key : Key) (count : ℕ) → Within sent n → AllSent IsLawfullySent n.sent → Matches net n h x.event x.report → NewestIs (HasAnswers count) n.asked key → Gives net sent key x → NewestIs (HasAnswers (count + 1)) (done A n h).asked key
+  more_answers x n h key count within ok m newest gives =
+      let joined = joins_it x.event x.report n h key gives.0 within ok m.joins gives.1 in
+      subst (λ ts. NewestIs (HasAnswers (count + 1)) ts key) (sym joined.1) (one_answer_more n.asked key joined.0 count newest)
+
+  -- a transaction without answers was given none since it began
+  none_given : (past : List (Played A)) (hs : List Happening) (key : Key) → Told A net past hs → Within sent (after A hs) → AllByRecursion IsInRange hs → is_once net past key ≡ true → NewestIs (λ t. length t.answers ≡ 0) (after A hs).asked key → NoneGives net sent key (since net past key)
+  none_given [] hs key told within range once none = tt
+  none_given (x ∷ xs) [] key told within range once none = absurd told
+  none_given (x ∷ xs) (h ∷ hs) key told within range once none = go (λ o z. none_given xs hs key told.2 earlier range.1 o z) (began_under net x.event x.report key) refl once
+    where
+      m : Matches net (after A hs) h x.event x.report
+      m = told.0
+
+      earlier : Within sent (after A hs)
+      earlier = within_before A sent h hs told.1 within
+
+      -- what is so many answers at least, and none, is none
+      few : (count : ℕ) → NewestIs (HasAnswers count) (done A (after A hs) h).asked key → count ≡ 0
+      few count has =
+          let same : has.0 ≡ none.0 = some_one has.0 none.0 (sym has.1 ∙ none.1) in
+          let least : count ≤ length (none.0).answers = subst (HasAnswers count) same has.2 in
+          omega (arith, least, none.2)
+
+      one : (count : ℕ) → count + 1 ≡ 0 → ⊥
+      one count e = absurd (omega (arith, e))
+
+      go : (is_once net xs key ≡ true → NewestIs (λ t. length t.answers ≡ 0) (after A hs).asked key → NoneGives net sent key (since net xs key)) → (b : Bool) → began_under net x.event x.report key ≡ b → cond b (asks_once x.event) (is_once net xs key) ≡ true → NoneGives net sent key (cond b [] (x ∷ since net xs key))
+      go before true e is = tt
+      go before false e is =
+          let t = once_newest A laws.leaves net xs hs key told.2 is in
+          let k = length (t.0).answers in
+          let kept = kept_newest A laws.leaves (HasAnswers (length (t.0).answers)) (has_kept (length (t.0).answers)) (after A hs) h key (m.draws_it key ∙ e) (t.0, t.1, omega arith) in (
+            (λ gives. one 0 (few (0 + 1) (more_answers x (after A hs) h key 0 earlier (lawful A laws net sent hs range.1) m (t.0, t.1, omega arith) gives))),
+            before is (t.0, t.1, few (length (t.0).answers) kept),
+          )
+
+  -- a transaction that must not run twice was given one answer at most
+  one_given : (past : List (Played A)) (hs : List Happening) (key : Key) → Told A net past hs → Within sent (after A hs) → AllTimely A hs → AllByRecursion IsInRange hs → AllLive net sent past → is_once net past key ≡ true → AtMostOneGives net sent key (since net past key)
+  one_given [] hs key told within timely range live once = tt
+  one_given (x ∷ xs) [] key told within timely range live once = absurd told
+  one_given (x ∷ xs) (h ∷ hs) key told within timely range live once = go (λ o. one_given xs hs key told.2 earlier timely.1 range.1 live.1 o) (began_under net x.event x.report key) refl once
+    where
+      m : Matches net (after A hs) h x.event x.report
+      m = told.0
+
+      earlier : Within sent (after A hs)
+      earlier = within_before A sent h hs told.1 within
+
+      law : AnswersOnce A (h ∷ hs)
+      law = laws.once (h ∷ hs) timely (all_lived A laws net sent (x ∷ xs) (h ∷ hs) told within live)
+
+      -- so many answers are one at most
+      few : (count : ℕ) → NewestIs (HasAnswers count) (done A (after A hs) h).asked key → count ≤ 1
+      few count has =
+          let t = once_newest A laws.leaves net (x ∷ xs) (h ∷ hs) key told once in
+          let same : has.0 ≡ t.0 = some_one has.0 t.0 (sym has.1 ∙ t.1) in
+          let least : count ≤ length (t.0).answers = subst (HasAnswers count) same has.2 in
+          let most = law.once key.from key.tid t.0 t.1 t.2.0 in
+          omega (arith, least, most.0, most.1)
+
+      none : (k : ℕ) → k + 1 ≤ 1 → k ≡ 0
+      none k e = omega (arith, e)
+
+      go : (is_once net xs key ≡ true → AtMostOneGives net sent key (since net xs key)) → (b : Bool) → began_under net x.event x.report key ≡ b → cond b (asks_once x.event) (is_once net xs key) ≡ true → AtMostOneGives net sent key (cond b [] (x ∷ since net xs key))
+      go before true e is = tt
+      go before false e is =
+          let t = once_newest A laws.leaves net xs hs key told.2 is in (
+            (λ gives. none_given xs hs key told.2 earlier range.1 is (t.0, t.1, none (length (t.0).answers) (few (length (t.0).answers + 1) (more_answers x (after A hs) h key (length (t.0).answers) earlier (lawful A laws net sent hs range.1) m (t.0, t.1, omega arith) gives)))),
+            before is,
+          )
+
+  one_moment : (past : List (Played A)) (hs : List Happening) → Told A net past hs → Within sent (after A hs) → AllTimely A hs → AllByRecursion IsInRange hs → AllLive net sent past → (key : Key) → is_once net past key ≡ true → RanOnce net sent past key
   one_moment past hs told within timely range live key once =
-      let t = once_newest A net past hs key told once in
+      let t = once_newest A laws.leaves net past hs key told once in
       let law = laws.once hs timely (all_lived A laws net sent past hs told within live) in
-      most_of A laws net sent past hs key told within range (law.once key.from key.tid t.0 t.1 t.2).0
+      (most_of A laws net sent past hs key told within range (law.once key.from key.tid t.0 t.1 t.2.0).0, one_given past hs key told within timely range live once)
 
   ended : (past : List (Played A)) (hs : List Happening) (which node tid : ℕ) (packets : List Packet) → Told A net past hs → Within sent (after A hs) → AllTimely A hs → AllByRecursion IsInRange hs → AllLive net sent past → Ends A net (after A hs) which node tid packets →
       is_once net past (record { from = asking net node; tid = tid }) ≡ true → SomeHandsUp sent (record { from = asking net node; tid = tid }) (since net past (record { from = asking net node; tid = tid }))
       × ((answer : List Packet) × SomeGives net sent (record { from = asking net node; tid = tid }) answer (since net past (record { from = asking net node; tid = tid })) × (packets ≡ take (wanted_by net past (record { from = asking net node; tid = tid })) answer))
   ended past hs which node tid packets told within timely range live ends once =
       let s = ends.packet in
-      let t = once_newest A net past hs (record { from = asking net node; tid = tid }) told once in
+      let t = once_newest A laws.leaves net past hs (record { from = asking net node; tid = tid }) told once in
       let law = laws.once hs timely (all_lived A laws net sent past hs told within live) in
       let a = ((laws.answers hs timely).finished which s packets ends.was_sent ends.fresh ends.ends).0 in
       let same : a.transaction ≡ t.0 = some_one a.transaction t.0 (sym a.newest ∙ (λ i. transaction_of (after A hs).asked (ends.comes_to i) (ends.numbered i)) ∙ t.1) in
-      let done_once = law.finished which s packets ends.was_sent ends.fresh ends.ends a (ap (λ (x : Transaction). x.xo) same ∙ t.2) in
+      let done_once = law.finished which s packets ends.was_sent ends.fresh ends.ends a (ap (λ (x : Transaction). x.xo) same ∙ t.2.0) in
       let here : hand_ups_since A hs (record { from = asking net node; tid = tid }) ≡ 1 = (λ i. hand_ups_since A hs (record { from = sym ends.comes_to i; tid = sym ends.numbered i })) ∙ done_once.0 in
       let answers : (t.0).answers ≡ done_once.1 ∷ [] = ap (λ (x : Transaction). x.answers) (sym same) ∙ done_once.2 in
       let among : Contains (t.0).answers done_once.1 = subst (λ (l : List (List Packet)). Contains l done_once.1) (sym answers) (0, lit< tt, refl) in (
@@ -89,7 +178,7 @@ module _ (A : Type 0) (laws : OnceLaws A) (net : ℕ) (sent : List SentDatagram)
         (
           done_once.1,
           gives_of past hs (record { from = asking net node; tid = tid }) done_once.1 told within range (t.0, t.1, among),
-          done_once.3 ∙ ap (λ k. take k done_once.1) (ap (λ (x : Transaction). x.wanted) same ∙ t.3),
+          done_once.3 ∙ ap (λ k. take k done_once.1) (ap (λ (x : Transaction). x.wanted) same ∙ t.2.1),
         ),
       )
 

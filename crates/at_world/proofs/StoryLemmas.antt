@@ -6,10 +6,11 @@ use Rattle.at_ddp.specs.Address.{same_address}
 use Rattle.at_ddp.specs.declared.address.Address.{Address}
 use Rattle.at_atp.specs.HandUps.{brings, is_drawn}
 use Rattle.at_atp_frame.specs.Frames.{number_of}
-use Rattle.at_atp.specs.Network.{Network, Sent, packet_at, Begins, Answers, Hears, Takes, Serves, Expires, Retries, Other}
+use Rattle.at_atp.specs.Network.{Network, Sent, packet_at, Begins, Answers, Hears, Takes, Serves, Expires, Retries, Other, Happening, done}
 use Rattle.at_atp_responder.specs.Once.{is_new_of, same_key}
 use Rattle.at_atp_frame.specs.Packets.{Packet}
 use Rattle.at_atp_responder.specs.Records.{Record, State, Waiting, Answered, Released, is_key, came_again, released, release_came, taken, expiry_fault}
+use Rattle.at_atp.specs.Transactions.{answered}
 use Rattle.at_atp_requester.specs.Requests.{next_number}
 use Rattle.at_atp_responder.specs.declared.reception.Key.{Key}
 use Rattle.at_atp_responder.specs.declared.reception.Reception.{Reception}
@@ -23,11 +24,12 @@ use Rattle.at_node.specs.declared.event.Report.TheVariants as report
 use Rattle.at_node.specs.declared.event.Timer.TheVariants as timer
 use Rattle.at_world.specs.declared.event.Event.{Event}
 use Rattle.at_world.specs.declared.event.Event.TheVariants as event
-use Rattle.at_world.specs.Stories.{Matches, Finishes, Ends, asks_once, asks_for, began_under, expired_at, handed_up_by, came_under}
+use Rattle.at_world.specs.Stories.{Matches, Joins, Finishes, Ends, asks_once, asks_for, began_under, expired_at, handed_up_by, came_under}
 
 -- an event whose report tells of no beginning, no request, no response and no expiry
 abbrev pub is_quiet : {A : Type 0} → Report A → Event A → Bool
 is_quiet (report.Begun tid) (event.Call node call) = false
+is_quiet (report.Answered count) (event.Call node call) = false
 is_quiet (report.Served count) (event.Deliver which node) = false
 is_quiet (report.Asked k user bytes) (event.Deliver which node) = false
 is_quiet (report.Response tid packets) (event.Deliver which node) = false
@@ -61,28 +63,34 @@ no_end A net n (event.Deliver which node) (report.Response tid packets) q = absu
 no_end A net n (event.Deliver which node) r q = tt
 no_end A net n (event.Timer node time) r q = tt
 
+no_answer : (A : Type 0) (net : ℕ) (n : Network) (h : Happening) (e : Event A) (r : Report A) → is_quiet r e ≡ true → Joins net n h r e
+no_answer A net n h (event.Call node call) (report.Answered count) q = absurd (false≢true q)
+no_answer A net n h (event.Deliver which node) (report.Served count) q = absurd (false≢true q)
+no_answer A net n h (event.Timer node time) (report.Answered count) q = tt
+no_answer A net n h e r q = tt
+
 module _ (A : Type 0) (net : ℕ) (n : Network) where
   pub other_matches : (count : ℕ) (e : Event A) (r : Report A) → is_quiet r e ≡ true → Matches net n (Other count) e r
-  other_matches count e r q = record { draws_it = λ key. sym (no_begin A net e r key q); expires_it = λ at key. sym (no_expiry A net e r at key q); hands_up = λ key. sym (no_hand_up A n.sent e r key q); takes_in = tt; begins_as = tt; answers_as = tt; finishes = no_end A net n e r q }
+  other_matches count e r q = record { draws_it = λ key. sym (no_begin A net e r key q); expires_it = λ at key. sym (no_expiry A net e r at key q); hands_up = λ key. sym (no_hand_up A n.sent e r key q); takes_in = tt; begins_as = tt; answers_as = tt; joins = no_answer A net n (Other count) e r q; finishes = no_end A net n e r q }
 
   pub answers_match : (at : Address) (key : Key) (packets : List Packet) (node k socket tid count : ℕ) → key ≡ record { from = record { net = net; node = k; socket = socket }; tid = tid } →
-      Matches {A = A} net n (Answers at key packets) (event.Call node (Answer k socket tid packets)) (report.Answered count)
-  answers_match at key packets node k socket tid count its = record { draws_it = λ x. refl; expires_it = λ at x. refl; hands_up = λ x. refl; takes_in = tt; begins_as = tt; answers_as = (node, k, socket, tid, count, refl, refl, its); finishes = tt }
+      (done A n (Answers at key packets)).asked ≡ answered n.asked (record { net = net; node = k; socket = socket }) tid packets → Matches {A = A} net n (Answers at key packets) (event.Call node (Answer k socket tid packets)) (report.Answered count)
+  answers_match at key packets node k socket tid count its joins = record { draws_it = λ x. refl; expires_it = λ at x. refl; hands_up = λ x. refl; takes_in = tt; begins_as = tt; answers_as = (node, k, socket, tid, count, refl, refl, its); joins = joins; finishes = tt }
 
   pub hears_matches : (which : ℕ) (e : Event A) (r : Report A) → is_quiet r e ≡ true → Matches net n (Hears which) e r
-  hears_matches which e r q = record { draws_it = λ key. sym (no_begin A net e r key q); expires_it = λ at key. sym (no_expiry A net e r at key q); hands_up = λ key. sym (no_hand_up A n.sent e r key q); takes_in = tt; begins_as = tt; answers_as = tt; finishes = no_end A net n e r q }
+  hears_matches which e r q = record { draws_it = λ key. sym (no_begin A net e r key q); expires_it = λ at key. sym (no_expiry A net e r at key q); hands_up = λ key. sym (no_hand_up A n.sent e r key q); takes_in = tt; begins_as = tt; answers_as = tt; joins = no_answer A net n (Hears which) e r q; finishes = no_end A net n e r q }
 
   -- a packet that ends a transaction
   pub ends_match : (which k tid : ℕ) (packets : List Packet) → Ends A net n which k tid packets → Matches {A = A} net n (Hears which) (event.Deliver which k) (report.Response tid packets)
-  ends_match which k tid packets ends = record { draws_it = λ key. refl; expires_it = λ at key. refl; hands_up = λ key. refl; takes_in = tt; begins_as = tt; answers_as = tt; finishes = ends }
+  ends_match which k tid packets ends = record { draws_it = λ key. refl; expires_it = λ at key. refl; hands_up = λ key. refl; takes_in = tt; begins_as = tt; answers_as = tt; joins = tt; finishes = ends }
 
   pub retries_match : (who : Address) (tid : ℕ) (e : Event A) (r : Report A) → is_quiet r e ≡ true → Matches net n (Retries who tid) e r
-  retries_match who tid e r q = record { draws_it = λ key. sym (no_begin A net e r key q); expires_it = λ at key. sym (no_expiry A net e r at key q); hands_up = λ key. sym (no_hand_up A n.sent e r key q); takes_in = tt; begins_as = tt; answers_as = tt; finishes = no_end A net n e r q }
+  retries_match who tid e r q = record { draws_it = λ key. sym (no_begin A net e r key q); expires_it = λ at key. sym (no_expiry A net e r at key q); hands_up = λ key. sym (no_hand_up A n.sent e r key q); takes_in = tt; begins_as = tt; answers_as = tt; joins = no_answer A net n (Retries who tid) e r q; finishes = no_end A net n e r q }
 
   -- a transaction begins under the next number
   pub begins_match : (k tid : ℕ) (to : Address) (user bytes : List ℕ) (wanted : ℕ) (xo : Bool) (retries : ℕ) (call : Call A) → asks_once (event.Call k call) ≡ xo → asks_for (event.Call k call) ≡ wanted → next_number (n.requesters (asking net k)) ≡ Some tid →
       Matches net n (Begins (asking net k) to user bytes wanted xo retries) (event.Call k call) (report.Begun tid)
-  begins_match k tid to user bytes wanted xo retries call once many drawn = record { draws_it = λ key. ap (λ o. is_drawn (asking net k) o key) drawn; expires_it = λ at key. refl; hands_up = λ key. refl; takes_in = tt; begins_as = (once, many); answers_as = tt; finishes = tt }
+  begins_match k tid to user bytes wanted xo retries call once many drawn = record { draws_it = λ key. ap (λ o. is_drawn (asking net k) o key) drawn; expires_it = λ at key. refl; hands_up = λ key. refl; takes_in = tt; begins_as = (once, many); answers_as = tt; joins = tt; finishes = tt }
 
   module _ (which k : ℕ) (s : Sent) (was_sent : packet_at n.sent which ≡ Some s) where
     -- a packet that hands nothing up
@@ -94,23 +102,25 @@ module _ (A : Type 0) (net : ℕ) (n : Network) where
       takes_in = (k, refl);
       begins_as = tt;
       answers_as = tt;
+      joins = no_answer A net n (Takes which) (event.Deliver which k) r q;
       finishes = no_end A net n (event.Deliver which k) r q;
     }
 
     -- a request that is delivered
     pub takes_new : (key : Key) (user bytes : List ℕ) → (taken (n.responders s.to) s.from s.packet).reception ≡ reception.New key → Matches {A = A} net n (Takes which) (event.Deliver which k) (report.Asked key user bytes)
-    takes_new new user bytes is = record { draws_it = λ key. refl; expires_it = λ at key. refl; hands_up = λ key. ap (brings n key) was_sent ∙ ap (is_new_of key) is; takes_in = (k, refl); begins_as = tt; answers_as = tt; finishes = tt }
+    takes_new new user bytes is = record { draws_it = λ key. refl; expires_it = λ at key. refl; hands_up = λ key. ap (brings n key) was_sent ∙ ap (is_new_of key) is; takes_in = (k, refl); begins_as = tt; answers_as = tt; joins = tt; finishes = tt }
 
     -- a request that is answered at once
     pub serves_new : (key : Key) (packets : List Packet) (count : ℕ) → (taken (n.responders s.to) s.from s.packet).reception ≡ reception.New key → key ≡ record { from = s.from; tid = number_of s.packet } →
-        Matches {A = A} net n (Serves which packets) (event.Deliver which k) (report.Served count)
-    serves_new new packets count is its = record {
+        (done A n (Serves which packets)).asked ≡ answered n.asked s.from (number_of s.packet) packets → Matches {A = A} net n (Serves which packets) (event.Deliver which k) (report.Served count)
+    serves_new new packets count is its joins = record {
       draws_it = λ key. refl;
       expires_it = λ at key. refl;
       hands_up = λ key. ap (brings n key) was_sent ∙ ap (is_new_of key) is ∙ ap (λ x. same_key x key) its ∙ ap (λ o. came_under o key) (sym was_sent);
       takes_in = (k, refl);
       begins_as = tt;
       answers_as = (k, count, refl, refl);
+      joins = (s, was_sent, (packets, joins));
       finishes = (s, was_sent);
     }
 
@@ -124,6 +134,7 @@ module _ (A : Type 0) (net : ℕ) (n : Network) where
     takes_in = tt;
     begins_as = tt;
     answers_as = tt;
+    joins = tt;
     finishes = tt;
   }
 

@@ -13,7 +13,7 @@ use Rattle.at_atp.specs.HandUps as HandUps
 use Rattle.at_atp.specs.HandUps.{brings, draws, is_drawn, is_handed_up, expires_there, hand_ups_since, has_expired as record_expired, AllLived, AnswersOnce}
 use Rattle.at_atp.specs.Lawfully.{IsInRange, IsLawfullySent}
 use Rattle.at_atp_frame.specs.Frames.{number_of}
-use Rattle.at_atp.specs.Network.{Network, Sent, AllSent, packet_at, Happening, Begins, Answers, Hears, Takes, Serves, Expires, Retries, Other, AllTimely, GivesAnswers, after}
+use Rattle.at_atp.specs.Network.{Network, Sent, AllSent, packet_at, Happening, Takes, Serves, AllTimely, GivesAnswers, after, asks_or_answers, done}
 use Rattle.at_atp_responder.specs.Once.{same_key}
 use Rattle.at_atp_responder.specs.declared.reception.Key.{Key}
 use Rattle.at_node.specs.AtpParts.{atp_kind}
@@ -35,6 +35,7 @@ pub record OnceLaws (A : Type 0) : Type 0 where
   pub alone : (input : List ℕ) (d e : Datagram) (x y : List ℕ) → BeginsWith input d x → BeginsWith input e y → (d ≡ e) × (x ≡ y)
   pub packet_reads : (f : Content) → IsLawful f → Spells (spelled f) f
   pub packet_alone : (input : List ℕ) (f g : Content) → Spells input f → Spells input g → f ≡ g
+  pub leaves : (n : Network) (h : Happening) → asks_or_answers h ≡ false → (done A n h).asked ≡ n.asked
   pub packet_fits : (f : Content) → IsLawful f → AreBytes (spelled f) × (length (spelled f) ≤ 586)
 
 -- ---- the steps and the happenings, side by side
@@ -194,9 +195,4 @@ module _ (A : Type 0) (laws : OnceLaws A) (net : ℕ) (sent : List SentDatagram)
       lived : (g : Happening) → Matches net (after A hs) g x.event x.report → HandUps.Lives A hs g
       lived (Takes which) m = lives_in x.event xs hs which m.takes_in.0 m.takes_in.1 told.2 earlier live.0
       lived (Serves which packets) m = lives_in x.event xs hs which m.takes_in.0 m.takes_in.1 told.2 earlier live.0
-      lived (Begins who to user bytes wanted xo times) m = tt
-      lived (Answers at k packets) m = tt
-      lived (Hears which) m = tt
-      lived (Expires at k) m = tt
-      lived (Retries who tid) m = tt
-      lived (Other count) m = tt
+      lived g m = tt

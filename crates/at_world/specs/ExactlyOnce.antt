@@ -91,6 +91,18 @@ abbrev pub SomeGives : {A : Type 0} → ℕ → List SentDatagram → Key → Li
 SomeGives net sent key answer [] = ⊥
 SomeGives net sent key answer (x ∷ xs) = GivesBy net sent x.event x.report key answer ⊎ SomeGives net sent key answer xs
 
+-- an answer was given to it by this step
+abbrev pub Gives : {A : Type 0} → ℕ → List SentDatagram → Key → Played A → Type 0
+Gives net sent key x = (answer : List Packet) × GivesBy net sent x.event x.report key answer
+
+abbrev pub NoneGives : {A : Type 0} → ℕ → List SentDatagram → Key → List (Played A) → Type 0
+NoneGives net sent key [] = Unit {0}
+NoneGives net sent key (x ∷ xs) = (Gives net sent key x → ⊥) × NoneGives net sent key xs
+
+abbrev pub AtMostOneGives : {A : Type 0} → ℕ → List SentDatagram → Key → List (Played A) → Type 0
+AtMostOneGives net sent key [] = Unit {0}
+AtMostOneGives net sent key (x ∷ xs) = (Gives net sent key x → NoneGives net sent key xs) × AtMostOneGives net sent key xs
+
 -- ---- plays in which no request outlives its record
 
 -- did its record at a responder expire since its transaction began?
@@ -118,11 +130,17 @@ EndsBy net sent (event.Deliver which node) (report.Response tid packets) past =
     × ((answer : List Packet) × SomeGives net sent (record { from = asking net node; tid = tid }) answer (since net past (record { from = asking net node; tid = tid })) × (packets ≡ take (wanted_by net past (record { from = asking net node; tid = tid })) answer))
 EndsBy net sent e r past = Unit {0}
 
--- At each moment, each exactly-once request was delivered at most once since its transaction began. If the transaction
--- ended with a response, it was delivered once, and the response is of the answer that was given to it.
+-- it was delivered at most once since its transaction began, and answered at most once
+abbrev pub RanOnce : {A : Type 0} → ℕ → List SentDatagram → List (Played A) → Key → Type 0
+RanOnce net sent past key = AtMostOneHandsUp sent key (since net past key) × AtMostOneGives net sent key (since net past key)
+
+-- At each moment, each exactly-once request was delivered and answered at most once since its transaction began. If the
+-- transaction ended with a response, it was delivered once, and the response is of the one answer that was given to it.
 abbrev pub RunsOnce : {A : Type 0} → ℕ → List SentDatagram → List (Played A) → Type 0
 RunsOnce net sent [] = Unit {0}
-RunsOnce net sent (x ∷ xs) = ((key : Key) → is_once net (x ∷ xs) key ≡ true → AtMostOneHandsUp sent key (since net (x ∷ xs) key)) × EndsBy net sent x.event x.report xs × RunsOnce net sent xs
+RunsOnce net sent (x ∷ xs) =
+    ((key : Key) → is_once net (x ∷ xs) key ≡ true → RanOnce net sent (x ∷ xs) key)
+    × EndsBy net sent x.event x.report xs × RunsOnce net sent xs
 
 -- the same for a play, whole or up to where it stopped, if no request outlives its record
 abbrev pub IsOnce : {A : Type 0} → Setup A → List (Event A) → Result (Transcript A) (PlayFault A) → Type 0

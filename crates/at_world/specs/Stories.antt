@@ -12,6 +12,7 @@ use Rattle.at_atp_frame.specs.Frames.{number_of}
 use Rattle.at_atp.specs.Network.{Network, Sent, packet_at, Happening, Begins, Answers, Takes, Serves, AllTimely, is_fresh, after, done}
 use Rattle.at_atp_responder.specs.Once.{same_key}
 use Rattle.at_atp_frame.specs.Packets.{Packet}
+use Rattle.at_atp.specs.Transactions.{answered}
 use Rattle.at_atp_requester.specs.Requests.{heard}
 use Rattle.at_atp_responder.specs.declared.reception.Key.{Key}
 use Rattle.at_atp_requester.specs.declared.step.Step.TheVariants as step
@@ -78,6 +79,14 @@ AnswersAs net (Answers at key packets) e r =
 AnswersAs net (Serves which packets) e r = (node : ℕ) × (count : ℕ) × (e ≡ event.Deliver which node) × (r ≡ report.Served count)
 AnswersAs net h e r = Unit {0}
 
+-- an answer that is reported joins its transaction: that of a call, or the router's to what came
+abbrev pub Joins : {A : Type 0} → ℕ → Network → Happening → Report A → Event A → Type 0
+Joins {A} net n h (report.Answered count) (event.Call node (Answer k socket tid packets)) =
+    (done A n h).asked ≡ answered n.asked (record { net = net; node = k; socket = socket }) tid packets
+Joins {A} net n h (report.Served count) (event.Deliver which node) =
+    (s : Sent) × (packet_at n.sent which ≡ Some s) × ((packets : List Packet) × ((done A n h).asked ≡ answered n.asked s.from (number_of s.packet) packets))
+Joins net n h r e = Unit {0}
+
 -- a packet in time came that ends the transaction of this number with these packets
 pub record Ends (A : Type 0) (net : ℕ) (n : Network) (which node tid : ℕ) (packets : List Packet) : Type 0 where
   pub packet : Sent
@@ -101,6 +110,7 @@ pub record Matches {A : Type 0} (net : ℕ) (n : Network) (h : Happening) (e : E
   pub takes_in : TakesIn h e
   pub begins_as : BeginsAs h e
   pub answers_as : AnswersAs net h e r
+  pub joins : Joins net n h r e
   pub finishes : Finishes net n e r
 
 -- what is sent is added to what was sent

@@ -9,6 +9,7 @@ returns g c s events reports w lawful follows live =
     let A = g.row.A.Denot in
     let laws : OnceLaws A = record {
       answers = c.responses_are_answers.ensures;
+      leaves = c.others_leave_what_was_asked.ensures;
       once = c.exactly_once_requests_are_answered_once.ensures;
       lawful_sent = c.what_is_sent_is_lawful.ensures;
       reads = c.what_is_written_is_read-2.ensures.read;
