@@ -11,7 +11,7 @@ use Rattle.at_atp_frame.specs.Frames.{Content, Request, Response, Release, IsLaw
 use Rattle.at_atp.specs.Lawfully.{IsAsking, IsInRange, IsLawfullySent}
 use Rattle.at_atp.specs.Network.{Network, Sent, AllSent, packet_at, Happening, Begins, Answers, Hears, Takes, Serves, Expires, Retries, Other, begins, begun, answers, gives, hears, takes, takes_in, handed_up, serves, expires, retries, done, after}
 use Rattle.at_atp_frame.specs.Packets.{Packet, IsPacket}
-use Rattle.at_atp_responder.specs.Records.{State, Waiting, Answered, Released, Record, Taken, is_key, is_kept, repeated, released, came_again, request_came, release_came, passed, is_passed_over, taken, answer_fault, asked_for, asked_mask, after_answer, expiry_fault, fit, record_fault}
+use Rattle.at_atp_responder.specs.Records.{State, Waiting, Answered, Released, Record, Taken, is_key, is_kept, repeated, released, came_again, request_came, release_came, passed, is_passed_over, taken, answer_fault, asked_for, asked_bitmap, after_answer, expiry_fault, fit, record_fault}
 use Rattle.at_atp_requester.specs.Requests.{Transaction, Requests, Retried, next_number, beginning, request_by, came, came_for, was_kept, is_finished, is_of, response_came, Effect, Heard, heard, is_numbered, retried_with, retried}
 use Rattle.at_ddp.specs.Tables.{replaced, without_first}
 use Rattle.at_atp_frame.specs.declared.fault.AtpFault.{AtpFault}
@@ -178,7 +178,7 @@ gave_fits n at key packets fits f all None e = record {
         let found = all_found FitsRecord (is_key key) (n.responders at) r (fits.responders at) g in
         let same = one_key r.key key found.1 in
         let few = few_packets (n.responders at) key packets e in
-        responses_fit key 0 (asked_mask r.state) packets (subst (λ (k : Key). IsAddress k.from) same (found.0).from) (subst (λ (k : Key). k.tid < 65536) same (found.0).tid) (omega (arith, few)) all
+        responses_fit key 0 (asked_bitmap r.state) packets (subst (λ (k : Key). IsAddress k.from) same (found.0).from) (subst (λ (k : Key). k.tid < 65536) same (found.0).tid) (omega (arith, few)) all
 
 gives_fits : (n : Network) (at : Address) (key : Key) (packets : List Packet) → Fits n → IsAddress at → AllByRecursion IsPacket packets → Fits (gives n at key packets)
 gives_fits n at key packets fits f all = gave_fits n at key packets fits f all (answer_fault (n.responders at) key packets) refl

@@ -8,7 +8,7 @@ use Rattle.at_ddp.proofs.Octets.{same_address-true}
 use Rattle.at_atp_frame.specs.Frames.{Content, owner, number_of}
 use Rattle.at_atp.specs.Network.{Network, Sent, Drawn, AllSent, packet_at, is_fresh, put, stamped, with_requester, with_responder, answers, gives, hears, takes, takes_in, handed_up, serves, expires, retries, ComesInTime}
 use Rattle.at_atp_frame.specs.Packets.{Packet}
-use Rattle.at_atp_responder.specs.Records.{Answered, Record, is_key, is_kept, taken, answer_fault, asked_for, asked_mask, after_answer, expiry_fault}
+use Rattle.at_atp_responder.specs.Records.{Answered, Record, is_key, is_kept, taken, answer_fault, asked_for, asked_bitmap, after_answer, expiry_fault}
 use Rattle.at_atp_requester.specs.Requests.{Requests, Retried, heard, retried}
 use Rattle.at_ddp.specs.Tables.{replaced, without_first}
 use Rattle.at_atp.specs.Transactions.{Transaction, transaction_of, Asked, answered}
@@ -149,7 +149,7 @@ gave_sound n at key packets sound free = record {
 
     tells : (o : Option Record) → find (is_key key) (n.responders at) ≡ o → TellsAll (answered n.asked key.from key.tid packets) at (asked_for o key packets)
     tells None e = tt
-    tells (Some r) e = let g = given r e in answer_tells (answered n.asked key.from key.tid packets) at key g.0 (asked_mask r.state) packets g.1
+    tells (Some r) e = let g = given r e in answer_tells (answered n.asked key.from key.tid packets) at key g.0 (asked_bitmap r.state) packets g.1
 
     gone : AllByRecursion (Waits (answered n.asked key.from key.tid packets) at) (without_first (is_key key) (n.responders at))
     gone = all_without (Waits (answered n.asked key.from key.tid packets) at) (is_key key) (n.responders at) (waiting at)

@@ -6,7 +6,7 @@ use Rattle.std.proofs.Math.Pow.{pow_mono}
 use Rattle.std.proofs.Math.Nat.{pow-suc}
 use Rattle.at_ddp.specs.Datagram.{IsAddress}
 use Rattle.at_ddp.specs.declared.address.Address.{Address}
-use Rattle.at_atp_requester.specs.Answers.{Arrival, mask_of}
+use Rattle.at_atp_requester.specs.Answers.{Arrival, bitmap_of}
 use Rattle.at_atp_frame.specs.Frames.{Content, Request, Response, Release, IsTimer, IsLawful}
 use Rattle.at_atp_frame.specs.Frames as frames
 use Rattle.at_atp.specs.Lawfully.{IsLawfullySent}
@@ -20,16 +20,16 @@ use Rattle.at_atp.proofs.NetworkLemmas.{put_all}
 
 -- ---- masks and numbers
 
-mask_fits : (parts : List (Option Arrival)) → mask_of parts < 2 ^ length parts
+mask_fits : (parts : List (Option Arrival)) → bitmap_of parts < 2 ^ length parts
 mask_fits [] = lit< tt
 mask_fits (None ∷ parts) = let rest = mask_fits parts in let twice = pow-suc 2 (length parts) in omega (arith, rest, twice)
 mask_fits (Some part ∷ parts) = go (mask_fits parts) part.eom
   where
-    go : mask_of parts < 2 ^ length parts → (b : Bool) → cond b 0 (2 * mask_of parts) < 2 ^ suc (length parts)
+    go : bitmap_of parts < 2 ^ length parts → (b : Bool) → cond b 0 (2 * bitmap_of parts) < 2 ^ suc (length parts)
     go rest true = let twice = pow-suc 2 (length parts) in omega (arith, rest, twice)
     go rest false = let twice = pow-suc 2 (length parts) in omega (arith, rest, twice)
 
-few_bits : (parts : List (Option Arrival)) → length parts ≤ 8 → mask_of parts < 256
+few_bits : (parts : List (Option Arrival)) → length parts ≤ 8 → bitmap_of parts < 256
 few_bits parts few =
     let m = mask_fits parts in
     let wide : 2 ^ length parts ≤ 2 ^ 8 = pow_mono few in

@@ -1,6 +1,7 @@
 -- How often a network delivers a request to a service and answers it, if records live long enough (Inside AppleTalk,
 -- ATP, "At-least-once and exactly-once transactions").
-use Rattle.std.specs.Prelude.{◌≡◌, ℕ, ◌+◌, ◌≤◌, ◌&&◌, ◌||◌, if◌then◌else◌, is_none, Bool, true, false, List, [], ◌∷◌, length, take, find, Option, Some, None}
+use Rattle.std.specs.Prelude.{◌≡◌, ℕ, ◌+◌, ◌≤◌, ◌&&◌, ◌||◌, if◌then◌else◌, is_none, Bool, true, false, List, [], ◌∷◌}
+use Rattle.std.specs.Prelude.{length, take, find, Option, Some, None}
 use Rattle.at_ddp.specs.Address.{same_address}
 use Rattle.at_ddp.specs.declared.address.Address.{Address}
 use Rattle.at_atp_frame.specs.Frames.{Request, number_of}
@@ -43,19 +44,23 @@ hand_ups_since A (h ∷ hs) key =
 
 -- does a record of this key at this responder expire?
 abbrev pub expires_there : Network → Happening → Address → Key → Bool
-expires_there n (Expires place k) at key = is_none (expiry_fault (find (is_key k) (n.responders place))) && same_address place at && same_key k key
+expires_there n (Expires place k) at key =
+    is_none (expiry_fault (find (is_key k) (n.responders place))) && same_address place at && same_key k key
 expires_there n h at key = false
 
 -- did such a record expire since the number was last drawn?
 abbrev pub has_expired : (A : Type 0) → List Happening → Address → Key → Bool
 has_expired A [] at key = false
-has_expired A (h ∷ hs) at key = if draws (after A hs) h key then false else expires_there (after A hs) h at key || has_expired A hs at key
+has_expired A (h ∷ hs) at key =
+    if draws (after A hs) h key then false else expires_there (after A hs) h at key || has_expired A hs at key
 
 -- ---- histories in which no request outlives its record
 
 -- if a request comes, no record of its key expired since its number was drawn
 abbrev pub ComesInLife : (A : Type 0) → List Happening → ℕ → Type 0
-ComesInLife A hs which = (s : Sent) (mask : ℕ) (xo : Bool) (timer tid : ℕ) (user bytes : List ℕ) → packet_at (after A hs).sent which ≡ Some s → s.packet ≡ Request mask xo timer tid user bytes → has_expired A hs s.to (record { from = s.from; tid = tid }) ≡ false
+ComesInLife A hs which = (s : Sent) (mask : ℕ) (xo : Bool) (timer tid : ℕ) (user bytes : List ℕ)
+    → packet_at (after A hs).sent which ≡ Some s → s.packet ≡ Request mask xo timer tid user bytes
+    → has_expired A hs s.to (record { from = s.from; tid = tid }) ≡ false
 
 abbrev pub Lives : (A : Type 0) → List Happening → Happening → Type 0
 Lives A hs (Takes which) = ComesInLife A hs which
@@ -72,10 +77,15 @@ AllLived A (h ∷ hs) = Lives A hs h × AllLived A hs
 pub record AnswersOnce (A : Type 0) (history : List Happening) : Type 0 where
   -- an exactly-once transaction that is the newest of its number was delivered at most once since it began, and
   -- answered no more often
-  pub once : (who : Address) (tid : ℕ) (t : Transaction) → transaction_of (after A history).asked who tid ≡ Some t → t.xo ≡ true
-      → (hand_ups_since A history (record { from = who; tid = tid }) ≤ 1) × (length t.answers ≤ hand_ups_since A history (record { from = who; tid = tid }))
+  pub once : (who : Address) (tid : ℕ) (t : Transaction) → transaction_of (after A history).asked who tid ≡ Some t
+      → t.xo ≡ true
+      → (hand_ups_since A history (record { from = who; tid = tid }) ≤ 1)
+      × (length t.answers ≤ hand_ups_since A history (record { from = who; tid = tid }))
   -- If a packet in time ends the transaction, it was delivered once and answered once. The response is that answer, or
   -- as many of its first packets as were asked for.
-  pub finished : (which : ℕ) (s : Sent) (packets : List Packet) → packet_at (after A history).sent which ≡ Some s → is_fresh (after A history).drawn s ≡ true
-      → (heard {A = A} ((after A history).requesters s.to) s.from s.packet).step ≡ step.Finished packets → (a : Asked (after A history).asked s.to (number_of s.packet) s.from) → a.transaction.xo ≡ true
-      → (hand_ups_since A history (record { from = s.to; tid = number_of s.packet }) ≡ 1) × (answer : List Packet) × (a.transaction.answers ≡ answer ∷ []) × (packets ≡ take a.transaction.wanted answer)
+  pub finished : (which : ℕ) (s : Sent) (packets : List Packet) → packet_at (after A history).sent which ≡ Some s
+      → is_fresh (after A history).drawn s ≡ true
+      → (heard {A = A} ((after A history).requesters s.to) s.from s.packet).step ≡ step.Finished packets
+      → (a : Asked (after A history).asked s.to (number_of s.packet) s.from) → a.transaction.xo ≡ true
+      → (hand_ups_since A history (record { from = s.to; tid = number_of s.packet }) ≡ 1) × (answer : List Packet)
+      × (a.transaction.answers ≡ answer ∷ []) × (packets ≡ take a.transaction.wanted answer)

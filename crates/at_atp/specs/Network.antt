@@ -1,6 +1,7 @@
 -- A network of requesters and responders at any addresses that ask and answer each other. Each packet may come late,
 -- again or never (Inside AppleTalk, ATP, "Transactions").
-use Rattle.std.specs.Prelude.{◌≡◌, ℕ, ◌+◌, ◌==◌, ◌&&◌, ◌||◌, not, nat_le, if◌then◌else◌, Bool, true, false, List, [], ◌∷◌, ◌++◌, length, map, find, replicate, slice_get, IfSome, Option, Some, None}
+use Rattle.std.specs.Prelude.{◌≡◌, ℕ, ◌+◌, ◌==◌, ◌&&◌, ◌||◌, not, nat_le, if◌then◌else◌, Bool, true, false, List, []}
+use Rattle.std.specs.Prelude.{◌∷◌, ◌++◌, length, map, find, replicate, slice_get, IfSome, Option, Some, None}
 use Rattle.std.specs.List.{AllByRecursion, list_all}
 use Rattle.at_ddp.specs.Address.{same_address}
 use Rattle.at_ddp.specs.declared.address.Address.{Address}
@@ -8,7 +9,8 @@ use Rattle.at_atp_frame.specs.Frames.{Content, Request, Response, Release, owner
 use Rattle.at_atp_frame.specs.Packets.{Packet}
 use Rattle.at_atp_responder.specs.Records.{Record, is_key, taken, answer_fault, asked_for, after_answer, expiry_fault}
 use Rattle.at_atp_requester.specs.Requests as requests
-use Rattle.at_atp_requester.specs.Requests.{Requests, Retried, no_requests, next_number, beginning, request_by, heard, is_numbered, retried}
+use Rattle.at_atp_requester.specs.Requests.{Requests, Retried, no_requests, next_number, beginning, request_by, heard}
+use Rattle.at_atp_requester.specs.Requests.{is_numbered, retried}
 use Rattle.at_ddp.specs.Tables.{without_first}
 use Rattle.at_atp.specs.Transactions.{Transaction, Asked, answered, IsPart, IsResponse}
 use Rattle.at_atp_frame.specs.declared.fault.AtpFault.{AtpFault}
@@ -98,14 +100,25 @@ stamped event from sent =
 
 -- a requester becomes this one, and sends
 abbrev pub with_requester : Network → Address → Requests → List (Address × Content) → Network
-with_requester n who after sent = record n { requesters = put n.requesters who after; sent = n.sent ++ stamped n.event who sent }
+with_requester n who after sent =
+    record n { requesters = put n.requesters who after; sent = n.sent ++ stamped n.event who sent }
 
 -- a responder becomes this one, and sends
 abbrev pub with_responder : Network → Address → List Record → List (Address × Content) → Network
-with_responder n at after sent = record n { responders = put n.responders at after; sent = n.sent ++ stamped n.event at sent }
+with_responder n at after sent =
+    record n { responders = put n.responders at after; sent = n.sent ++ stamped n.event at sent }
 
 abbrev pub new_transaction : Address → requests.Transaction → Transaction
-new_transaction who t = record { requester = who; tid = t.tid; responder = t.to; user = t.user; data_ = t.data_; wanted = length t.parts; xo = t.xo; answers = [] }
+new_transaction who t = record {
+  requester = who;
+  tid = t.tid;
+  responder = t.to;
+  user = t.user;
+  data_ = t.data_;
+  wanted = length t.parts;
+  xo = t.xo;
+  answers = [];
+}
 
 abbrev pub begun : Network → Address → requests.Transaction → Network
 begun n who t = record n {
@@ -133,10 +146,16 @@ gives n at key packets = answers n at key packets (answer_fault (n.responders at
 
 abbrev pub hears : (A : Type 0) → Network → Option Sent → Network
 hears A n None = n
-hears A n (Some s) = with_requester n s.to (heard {A = A} (n.requesters s.to) s.from s.packet).after (heard {A = A} (n.requesters s.to) s.from s.packet).sent
+hears A n (Some s) =
+    with_requester n s.to
+    (heard {A = A} (n.requesters s.to) s.from s.packet).after
+    (heard {A = A} (n.requesters s.to) s.from s.packet).sent
 
 abbrev pub takes : Network → Sent → Network
-takes n s = with_responder n s.to (taken (n.responders s.to) s.from s.packet).after (taken (n.responders s.to) s.from s.packet).sent
+takes n s =
+    with_responder n s.to
+    (taken (n.responders s.to) s.from s.packet).after
+    (taken (n.responders s.to) s.from s.packet).sent
 
 abbrev pub takes_in : Network → Option Sent → Network
 takes_in n None = n
@@ -161,7 +180,8 @@ retries n who None = n
 retries n who (Some r) = with_requester n who r.after r.sent
 
 abbrev pub done : (A : Type 0) → Network → Happening → Network
-done A n (Begins who to user bytes wanted xo times) = begins n who to user bytes wanted xo times (next_number (n.requesters who))
+done A n (Begins who to user bytes wanted xo times) =
+    begins n who to user bytes wanted xo times (next_number (n.requesters who))
 done A n (Answers at key packets) = gives n at key packets
 done A n (Hears which) = hears A n (packet_at n.sent which)
 done A n (Takes which) = takes_in n (packet_at n.sent which)
@@ -193,7 +213,8 @@ ComesInTime n which = (s : Sent) → packet_at n.sent which ≡ Some s → is_fr
 
 -- each packet comes before its number is drawn again, and no number is drawn while a record is held under it
 abbrev pub IsTimely : Network → Happening → Type 0
-IsTimely n (Begins who to user bytes wanted xo times) = (tid : ℕ) → next_number (n.requesters who) ≡ Some tid → NoneHolds n.responders who tid
+IsTimely n (Begins who to user bytes wanted xo times) =
+    (tid : ℕ) → next_number (n.requesters who) ≡ Some tid → NoneHolds n.responders who tid
 IsTimely n (Hears which) = ComesInTime n which
 IsTimely n (Takes which) = ComesInTime n which
 IsTimely n (Serves which packets) = ComesInTime n which
@@ -208,19 +229,29 @@ AllTimely A (h ∷ hs) = IsTimely (after A hs) h × AllTimely A hs
 pub record GivesAnswers (A : Type 0) (n : Network) : Type 0 where
   -- what a packet in time finishes is a response to the newest transaction of its number, of answers given at the
   -- address that it asked
-  pub finished : (which : ℕ) (s : Sent) (packets : List Packet) → packet_at n.sent which ≡ Some s → is_fresh n.drawn s ≡ true
-      → (heard {A = A} (n.requesters s.to) s.from s.packet).step ≡ step.Finished packets → (a : Asked n.asked s.to (number_of s.packet) s.from) × IsResponse a.transaction packets
+  pub finished : (which : ℕ) (s : Sent) (packets : List Packet) → packet_at n.sent which ≡ Some s
+      → is_fresh n.drawn s ≡ true
+      → (heard {A = A} (n.requesters s.to) s.from s.packet).step ≡ step.Finished packets
+      → (a : Asked n.asked s.to (number_of s.packet) s.from) × IsResponse a.transaction packets
   -- a request in time belongs to the newest transaction of its number, and was sent to the responder that it asked
-  pub requested : (which : ℕ) (s : Sent) (mask : ℕ) (xo : Bool) (timer tid : ℕ) (user bytes : List ℕ) → packet_at n.sent which ≡ Some s → is_fresh n.drawn s ≡ true
-      → s.packet ≡ Request mask xo timer tid user bytes → (a : Asked n.asked s.from tid s.to) × (a.transaction.user ≡ user) × (a.transaction.data_ ≡ bytes) × (a.transaction.xo ≡ xo)
+  pub requested : (which : ℕ) (s : Sent) (mask : ℕ) (xo : Bool) (timer tid : ℕ) (user bytes : List ℕ)
+      → packet_at n.sent which ≡ Some s → is_fresh n.drawn s ≡ true
+      → s.packet ≡ Request mask xo timer tid user bytes → (a : Asked n.asked s.from tid s.to)
+      × (a.transaction.user ≡ user) × (a.transaction.data_ ≡ bytes) × (a.transaction.xo ≡ xo)
   -- a response in time is for the newest transaction of its number: a packet of an answer given at the address that it
   -- asked
-  pub responded : (which : ℕ) (s : Sent) (place : ℕ) (eom sts : Bool) (tid : ℕ) (user bytes : List ℕ) → packet_at n.sent which ≡ Some s → is_fresh n.drawn s ≡ true
-      → s.packet ≡ Response place eom sts tid user bytes → (a : Asked n.asked s.to tid s.from) × IsPart a.transaction place eom (record { user = user; data_ = bytes })
+  pub responded : (which : ℕ) (s : Sent) (place : ℕ) (eom sts : Bool) (tid : ℕ) (user bytes : List ℕ)
+      → packet_at n.sent which ≡ Some s → is_fresh n.drawn s ≡ true
+      → s.packet ≡ Response place eom sts tid user bytes → (a : Asked n.asked s.to tid s.from)
+      × IsPart a.transaction place eom (record { user = user; data_ = bytes })
   -- a release in time belongs to the newest transaction of its number, and was sent to the responder that it asked
-  pub released : (which : ℕ) (s : Sent) (tid : ℕ) → packet_at n.sent which ≡ Some s → is_fresh n.drawn s ≡ true → s.packet ≡ Release tid → Asked n.asked s.from tid s.to
+  pub released : (which : ℕ) (s : Sent) (tid : ℕ) → packet_at n.sent which ≡ Some s → is_fresh n.drawn s ≡ true
+      → s.packet ≡ Release tid → Asked n.asked s.from tid s.to
   -- a record belongs to the newest transaction of its number
-  pub recorded : (at : Address) (key : Key) (r : Record) → find (is_key key) (n.responders at) ≡ Some r → Asked n.asked key.from key.tid at
+  pub recorded : (at : Address) (key : Key) (r : Record) → find (is_key key) (n.responders at) ≡ Some r
+      → Asked n.asked key.from key.tid at
   -- and so does an open transaction
-  pub standing : (who : Address) (tid : ℕ) (t : requests.Transaction) → find (is_numbered tid) (n.requesters who).standing ≡ Some t
-      → (a : Asked n.asked who tid t.to) × (a.transaction.user ≡ t.user) × (a.transaction.data_ ≡ t.data_) × (a.transaction.wanted ≡ length t.parts) × (a.transaction.xo ≡ t.xo)
+  pub standing : (who : Address) (tid : ℕ) (t : requests.Transaction)
+      → find (is_numbered tid) (n.requesters who).standing ≡ Some t
+      → (a : Asked n.asked who tid t.to) × (a.transaction.user ≡ t.user) × (a.transaction.data_ ≡ t.data_)
+      × (a.transaction.wanted ≡ length t.parts) × (a.transaction.xo ≡ t.xo)

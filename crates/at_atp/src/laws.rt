@@ -5,7 +5,8 @@ ghost use Rattle.at_ddp.specs.declared.address.Address.{Address};
 ghost use Rattle.std.specs.List.{AllByRecursion};
 ghost use Rattle.at_atp.specs.HandUps.{AllLived, AnswersOnce};
 ghost use Rattle.at_atp.specs.Lawfully.{IsInRange, IsLawfullySent};
-ghost use Rattle.at_atp.specs.Network.{Network, Happening, AllSent, AllTimely, GivesAnswers, after, asks_or_answers, done};
+ghost use Rattle.at_atp.specs.Network.{Network, Happening, AllSent, AllTimely, GivesAnswers, after, asks_or_answers};
+ghost use Rattle.at_atp.specs.Network.{done};
 ghost use Rattle.at_atp.specs.Transactions.{Transaction as Exchange, Asked, answered};
 ghost use Rattle.at_atp_frame.specs.Packets.{Packet};
 
@@ -42,13 +43,16 @@ pub fn exactly_once_requests_are_answered_once<A: Allocator>()
 
 /// All that is sent can be spelled, if what is asked and answered is in range.
 pub fn what_is_sent_is_lawful<A: Allocator>()
-    ensures { (history : List Happening) → AllByRecursion IsInRange history → AllSent IsLawfullySent (after A history).sent }
+    ensures { (history : List Happening) → AllByRecursion IsInRange history
+        → AllSent IsLawfullySent (after A history).sent }
 {}
 
 /// An answer leaves what was asked as it was.
 pub fn answers_join_what_was_asked()
-    ensures { (ts : List Exchange) (from : Address) (tid : ℕ) (packets : List Packet) (who : Address) (k : ℕ) (responder : Address) (a : Asked ts who k responder)
-        → (b : Asked (answered ts from tid packets) who k responder) × (b.transaction.user ≡ a.transaction.user) × (b.transaction.data_ ≡ a.transaction.data_)
+    ensures { (ts : List Exchange) (from : Address) (tid : ℕ) (packets : List Packet) (who : Address) (k : ℕ)
+        (responder : Address) (a : Asked ts who k responder)
+        → (b : Asked (answered ts from tid packets) who k responder) × (b.transaction.user ≡ a.transaction.user)
+        × (b.transaction.data_ ≡ a.transaction.data_)
             × (b.transaction.wanted ≡ a.transaction.wanted) × (b.transaction.xo ≡ a.transaction.xo) }
 {}
 

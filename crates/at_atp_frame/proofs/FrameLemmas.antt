@@ -1,9 +1,12 @@
 -- What is read is spelled so, what is spelled has no fault and is one packet, and what is written is spelled.
-use Rattle.std.proofs.Common.{lit<, lit≤, ◌≡◌, ℕ, ◌+◌, ◌*◌, ◌/◌, ◌%◌, ◌^◌, ◌<◌, ◌≤◌, Bool, true, false, List, [], ◌∷◌, ◌++◌, length, get_or, drop, refl, sym, ap, ◌∙◌, arith}
+use Rattle.std.proofs.Common.{lit<, lit≤, ◌≡◌, ℕ, zero, suc, ◌+◌, ◌*◌, ◌/◌, ◌%◌, ◌^◌, ◌<◌, ◌≤◌, Bool, true, false, List, [], ◌∷◌, ◌++◌, length, get_or, drop, refl, sym, ap, ◌∙◌, arith}
 use Rattle.std.proofs.lemmas.List.{length-append}
 use Rattle.std.proofs.lemmas.List.Elements.{All-take, All-drop, All-replicate, All-cons, All-append}
 use Rattle.std.proofs.lemmas.Bool.Decides.{nat_tests}
-use Rattle.std.specs.Prelude.{◌==◌}
+use Rattle.std.specs.Prelude.{◌==◌, not, bit_and}
+use Rattle.std.proofs.lemmas.Bool.{ne_eqb}
+use Rattle.std.proofs.lemmas.Nat.{pow_pos}
+use Rattle.std.proofs.lemmas.Nat.Bits.{and_pow, and_high_mask}
 use mir.Val.{bool_byte}
 use Rattle.at_ddp.specs.Datagram.{AreBytes}
 use Rattle.at_ddp.proofs.Octets.{InBytes, bytes_of, high_byte, low_byte, same_number, append_parts}
@@ -17,6 +20,21 @@ use Rattle.at_atp_frame.specs.declared.fault.AtpFault.TheVariants.{ShortAtp, Bad
 pub bool_bit : (b : Bool) → bool_byte b ≡ bit b
 bool_bit true = refl
 bool_bit false = refl
+
+-- ---- masks of the control byte
+
+one_bit : (b p : ℕ) → b < 2 → 0 < p → not (b * p == 0) ≡ (b == 1)
+one_bit zero p lt some = let none : 0 * p ≡ 0 = omega arith in rw none refl
+one_bit (suc zero) p lt some = let all : 1 * p ≡ p = omega arith in rw (all, ne_eqb p 0 (λ e. absurd (omega (arith, e)))) refl
+one_bit (suc (suc b)) p lt some = absurd (omega arith)
+
+-- a mask of one bit tests what the quotient of its place says
+pub bit_test : (n k : ℕ) → not (bit_and n (2 ^ k) == 0) ≡ (n / 2 ^ k % 2 == 1)
+bit_test n k = rw (and_pow n k) (one_bit (n / 2 ^ k % 2) (2 ^ k) (omega arith) (pow_pos k))
+
+-- the mask of the function, the two highest bits
+pub function_bits : (n : ℕ) → n < 256 → bit_and n 192 ≡ n / 64 * 64
+function_bits n h = and_high_mask 8 6 (omega arith) n h
 
 -- ---- what is read is spelled so
 

@@ -2,7 +2,8 @@
 use Rattle.std.specs.Prelude.{◌≡◌, ℕ, ◌+◌, ◌/◌, ◌<◌, List, [], ◌∷◌, length, slice_index, Option, Some, None}
 use Rattle.std.specs.List.{AllByRecursion}
 use Rattle.at_atp_frame.specs.declared.fault.AtpFault.{AtpFault}
-use Rattle.at_atp_frame.specs.declared.fault.AtpFault.TheVariants.{ShortAtp, BadFunction, BadSequence, AtpTooLong, Full, NoSuch, EmptyAnswer, StillPending, Gone, NoMemory}
+use Rattle.at_atp_frame.specs.declared.fault.AtpFault.TheVariants.{ShortAtp, BadFunction, BadSequence, AtpTooLong, Full}
+use Rattle.at_atp_frame.specs.declared.fault.AtpFault.TheVariants.{NoSuch, EmptyAnswer, StillPending, Gone, NoMemory}
 
 -- the number by which a refusal is reported
 abbrev pub number_of : AtpFault → Option ℕ

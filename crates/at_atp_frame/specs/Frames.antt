@@ -1,5 +1,6 @@
 -- ATP packets and their spellings (Inside AppleTalk, ATP, "Packet format").
-use Rattle.std.specs.Prelude.{◌≡◌, ℕ, ◌+◌, ◌*◌, ◌^◌, ◌<◌, ◌≤◌, Bool, true, false, nat_le, if◌then◌else◌, List, [], ◌∷◌, ◌++◌, length, map}
+use Rattle.std.specs.Prelude.{◌≡◌, ℕ, ◌+◌, ◌*◌, ◌^◌, ◌<◌, ◌≤◌, Bool, true, false, nat_le, if◌then◌else◌, List, [], ◌∷◌}
+use Rattle.std.specs.Prelude.{◌++◌, length, map}
 use Rattle.std.specs.Int.{to_be_bytes, w16}
 use Rattle.at_ddp.specs.Datagram.{AreBytes}
 use Rattle.at_ddp.specs.declared.address.Address.{Address}

@@ -1,6 +1,28 @@
-ghost use Rattle.std.specs.Prelude.{◌≡◌, ◌≢◌, ◌+◌, ◌<◌, ◌≤◌, ◌++◌, ◌↔◌, true, false, if◌then◌else◌, List, ℕ, length, IfOk, IfErr, OnOk, OnErr, IsOkAnd, IsErrOf, slice_range, vec_len, vec_capacity};
+//! Packets in bytes. A header has eight, numbers with the high byte first:
+//!
+//! | Byte | Request | Response | Release |
+//! |---|---|---|---|
+//! | 0 | control | control | control |
+//! | 1 | bitmap | sequence number, 0 to 7 | free |
+//! | 2, 3 | transaction number | transaction number | transaction number |
+//! | 4 to 7 | user bytes | user bytes | free |
+//!
+//! The bits of the control byte, the highest first:
+//!
+//! | Bits | Mask | Request | Response | Release |
+//! |---|---|---|---|---|
+//! | 7, 6 | `0xC0` | 01 | 10 | 11 |
+//! | 5 | `0x20` | exactly once (XO) | free | free |
+//! | 4 | `0x10` | free | end of message (EOM) | free |
+//! | 3 | `0x08` | free | send transaction status (STS) | free |
+//! | 2 to 0 | `0x07` | release timer | free | free |
+//!
+//! Free bits are written as 0, and read as anything. The data follows the header.
+ghost use Rattle.std.specs.Prelude.{◌≡◌, ◌≢◌, ◌+◌, ◌<◌, ◌≤◌, ◌++◌, ◌↔◌, true, false, if◌then◌else◌, List, ℕ, length};
+ghost use Rattle.std.specs.Prelude.{IfOk, IfErr, OnOk, OnErr, IsOkAnd, IsErrOf, slice_range, vec_len, vec_capacity};
 ghost use Rattle.at_atp_frame.specs.Fault.{IsFirstFault};
-ghost use Rattle.at_atp_frame.specs.Frames.{Content, content, Spells, CanBeWritten, data_of, spelled, read_timer, packet};
+ghost use Rattle.at_atp_frame.specs.Frames.{Content, content, Spells, CanBeWritten, data_of, spelled, read_timer};
+ghost use Rattle.at_atp_frame.specs.Frames.{packet};
 ghost use Rattle.at_atp_frame.specs.Reading.{request_of, response_of};
 
 use crate::fault::AtpFault;
@@ -15,6 +37,27 @@ pub const MAX_DATA: usize = 578;
 
 /// The greatest length of a packet in bytes.
 pub const PACKET_LEN: usize = HEADER_LEN + MAX_DATA;
+
+// The control byte of each kind of packet, with no other bit set.
+const REQUEST: u8 = 0x40;
+
+const RESPONSE: u8 = 0x80;
+
+const RELEASE: u8 = 0xC0;
+
+// What stands in the other bits of the control byte.
+const FUNCTION: u8 = 0xC0;
+
+const XO: u8 = 0x20;
+
+const EOM: u8 = 0x10;
+
+const STS: u8 = 0x08;
+
+const TIMER: u8 = 0x07;
+
+/// The greatest sequence number of a response.
+const LAST: u8 = 7;
 
 /// A decoded ATP packet. Its data stays in the bytes that it was decoded from.
 #[derive(Clone, Copy, Debug, PartialEq, Eq)]
@@ -68,19 +111,19 @@ fn parse(input: &[u8]) -> Result<Frame<'_>, AtpFault>
     if input.len() < HEADER_LEN {
         return Err(AtpFault::ShortAtp);
     }
-    let function = input[0] / 64;
+    let function = input[0] & FUNCTION;
     if function == 0 {
         return Err(AtpFault::BadFunction);
     }
-    if function == 2 && input[1] > 7 {
+    if function == RESPONSE && input[1] > LAST {
         return Err(AtpFault::BadSequence);
     }
     if input.len() > HEADER_LEN + MAX_DATA {
         return Err(AtpFault::AtpTooLong);
     }
     Ok(match function {
-        1 => request_in(input),
-        2 => response_in(input),
+        REQUEST => request_in(input),
+        RESPONSE => response_in(input),
         _ => Frame::Release {
             tid: BigEndian::read_u16(&input[2..]),
         },
@@ -92,11 +135,11 @@ fn request_in(input: &[u8]) -> Frame<'_>
     requires { 8 ≤ length input.now }
     ensures { content result ≡ request_of input.now }
 {
-    let xo = input[0] / 32 % 2 == 1;
+    let xo = input[0] & XO != 0;
     Frame::Request {
         mask: input[1],
         xo,
-        timer: timer_of(xo, input[0] % 8),
+        timer: timer_of(xo, input[0] & TIMER),
         tid: BigEndian::read_u16(&input[2..]),
         user: user_in(input),
         data_: &input[HEADER_LEN..],
@@ -110,8 +153,8 @@ fn response_in(input: &[u8]) -> Frame<'_>
 {
     Frame::Response {
         place: input[1],
-        eom: input[0] / 16 % 2 == 1,
-        sts: input[0] / 8 % 2 == 1,
+        eom: input[0] & EOM != 0,
+        sts: input[0] & STS != 0,
         tid: BigEndian::read_u16(&input[2..]),
         user: user_in(input),
         data_: &input[HEADER_LEN..],
@@ -140,7 +183,8 @@ pub fn encode<A: Allocator>(frame: &Frame<'_>, out: &mut Vec<u8, A>) -> Result<(
     ensures memory { IfErr result (λ fault. fault ≢ AtpFault.AtpTooLong → fault ≡ AtpFault.NoMemory) }
 
     // Out of memory only if the vector has no room left.
-    ensures room { IsErrOf result AtpFault.NoMemory → vec_capacity out.old < vec_len out.old + 8 + length (data_of (content frame.now)) }
+    ensures room { IsErrOf result AtpFault.NoMemory
+        → vec_capacity out.old < vec_len out.old + 8 + length (data_of (content frame.now)) }
 {
     let bytes = data_in(frame);
     if bytes.len() > MAX_DATA {
@@ -175,7 +219,7 @@ pub(crate) fn header_of(frame: &Frame<'_>) -> [u8; HEADER_LEN]
             tid,
             user,
             ..
-        } => header(64 + 32 * u8::from(*xo) + *timer, *mask, *tid, *user),
+        } => header(REQUEST + XO * u8::from(*xo) + *timer, *mask, *tid, *user),
         Frame::Response {
             place,
             eom,
@@ -184,12 +228,12 @@ pub(crate) fn header_of(frame: &Frame<'_>) -> [u8; HEADER_LEN]
             user,
             ..
         } => header(
-            128 + 16 * u8::from(*eom) + 8 * u8::from(*sts),
+            RESPONSE + EOM * u8::from(*eom) + STS * u8::from(*sts),
             *place,
             *tid,
             *user,
         ),
-        Frame::Release { tid } => header(192, 0, *tid, [0; 4]),
+        Frame::Release { tid } => header(RELEASE, 0, *tid, [0; 4]),
     }
 }
 

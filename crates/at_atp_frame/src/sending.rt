@@ -17,7 +17,8 @@ pub fn send<A: Allocator>(
     requires fits { length (data_of (content frame.now)) ≤ 578 }
     ensures ok { OnOk result (Sends out.old out.new ((to, spelled (content frame.now)) ∷ [])) }
     ensures err { OnErr result (Sends out.old out.new []) }
-    ensures room { (n size : ℕ) → HasRoomFor out.old (n + 1) size → 8 + length (data_of (content frame.now)) ≤ size → IsOk result × HasRoomFor out.new n size }
+    ensures room { (n size : ℕ) → HasRoomFor out.old (n + 1) size → 8 + length (data_of (content frame.now)) ≤ size
+        → IsOk result × HasRoomFor out.new n size }
 {
     let mut bytes: ArrayVec<u8, PACKET_LEN> = ArrayVec::new();
     bytes.try_extend_from_slice(&header_of(frame)).unwrap();

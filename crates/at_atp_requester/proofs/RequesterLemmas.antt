@@ -5,7 +5,7 @@ use Rattle.std.proofs.lemmas.Bool.{eq-eqb, eqb-true}
 use Rattle.std.proofs.lemmas.List.{append-nil, append_assoc}
 use Rattle.at_ddp.specs.Address.{same_address}
 use Rattle.at_ddp.specs.declared.address.Address.{Address}
-use Rattle.at_atp_requester.specs.Answers.{Arrival, is_wanted, mask_of, whole, with_part}
+use Rattle.at_atp_requester.specs.Answers.{Arrival, is_wanted, bitmap_of, whole, with_part}
 use Rattle.at_atp_frame.specs.Frames.{Request, Response, Release}
 use Rattle.at_atp_frame.specs.Packets.{Packet}
 use Rattle.at_atp_requester.specs.Requests.{Transaction, Requests, is_of, is_numbered, has_number, next_number, beginning, begun, came, came_for, was_kept, response_came, heard, retried}
@@ -13,7 +13,7 @@ use Rattle.at_atp_requester.specs.Wholes.{Came, firsts, Move, Begins, Hears, Ret
 use Rattle.at_atp_requester.specs.declared.step.Step.TheVariants.{Finished}
 use Rattle.at_atp_requester.proofs.MoveLemmas.{Open, with_came, with_all, begins, retry_of_other, retry_of_it, heard_of_other, heard_of_it, found_by_asked, found_by_number}
 use Rattle.at_atp_requester.proofs.OpenLemmas.{drawn_free}
-use Rattle.at_atp_requester.proofs.WholeLemmas.{Agree, none_came, step_wanted, step_unwanted, same_whole, same_mask}
+use Rattle.at_atp_requester.proofs.WholeLemmas.{Agree, none_came, step_wanted, step_unwanted, same_whole, same_bitmap}
 
 with_both : (parts : List (Option Arrival)) (xs ys : List Came) → with_all parts (xs ++ ys) ≡ with_all (with_all parts xs) ys
 with_both parts [] ys = refl
@@ -105,12 +105,12 @@ module _ (A : Type 0) where
       all_moves (begun r (beginning tid to user bytes wanted xo retry)) tid to (replicate wanted None) ms (opens r tid to user bytes wanted xo retry drawn) stays
 
   pub wants_what_is_missing : (r : Requests) (tid : ℕ) (to : Address) (user bytes : List ℕ) (wanted : ℕ) (xo : Bool) (retry : ℕ) (ms : List Move) (t : Transaction) → next_number r ≡ Some tid →
-      StaysOpen A (begun r (beginning tid to user bytes wanted xo retry)) tid ms → find (is_numbered tid) (moved_all A (begun r (beginning tid to user bytes wanted xo retry)) ms).standing ≡ Some t → mask_of t.parts ≡ mask_of (firsts wanted (arrived to tid ms))
+      StaysOpen A (begun r (beginning tid to user bytes wanted xo retry)) tid ms → find (is_numbered tid) (moved_all A (begun r (beginning tid to user bytes wanted xo retry)) ms).standing ≡ Some t → bitmap_of t.parts ≡ bitmap_of (firsts wanted (arrived to tid ms))
   wants_what_is_missing r tid to user bytes wanted xo retry ms t drawn stays found =
       let o = open_after r tid to user bytes wanted xo retry ms drawn stays in
       let both : Some o.transaction ≡ Some t = sym (found_by_number A (moved_all A (begun r (beginning tid to user bytes wanted xo retry)) ms) tid to (with_all (replicate wanted None) (arrived to tid ms)) o) ∙ found in
       let same : o.transaction ≡ t = cc in
-      ap (λ (x : Transaction). mask_of x.parts) (sym same) ∙ ap mask_of o.has ∙ same_mask (with_all (replicate wanted None) (arrived to tid ms)) (firsts wanted (arrived to tid ms)) (agree_all wanted (arrived to tid ms))
+      ap (λ (x : Transaction). bitmap_of x.parts) (sym same) ∙ ap bitmap_of o.has ∙ same_bitmap (with_all (replicate wanted None) (arrived to tid ms)) (firsts wanted (arrived to tid ms)) (agree_all wanted (arrived to tid ms))
 
   -- a packet that ends a transaction was wanted, and completes the response
   finishing : (t : Transaction) (c : Came) (packets : List Packet) → (came {A = A} t c.place c.part c.sts).step ≡ Finished packets → whole (with_came t.parts c) ≡ Some packets

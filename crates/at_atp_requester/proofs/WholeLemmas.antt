@@ -3,7 +3,7 @@ use Rattle.std.proofs.Common.{◌≡◌, ℕ, zero, suc, ◌+◌, ◌<◌, ◌�
 use Rattle.std.specs.Prelude.{find, option_map, ◌==◌}
 use Rattle.std.proofs.lemmas.Bool.{true≢false, false≢true, eq-eqb, ne_eqb}
 use Rattle.std.proofs.lemmas.List.{append-nil, append_assoc}
-use Rattle.at_atp_requester.specs.Answers.{Arrival, is_wanted, mask_of, whole, with_part}
+use Rattle.at_atp_requester.specs.Answers.{Arrival, is_wanted, bitmap_of, whole, with_part}
 use Rattle.at_atp_frame.specs.Packets.{Packet}
 use Rattle.at_atp_requester.specs.Requests.{Transaction, came, came_for, was_kept, is_finished}
 use Rattle.at_atp_requester.specs.Wholes.{Came, first_at, firsts_from, firsts, after_all, NoneFinishes}
@@ -146,16 +146,16 @@ same_whole (Some a ∷ ps) (Some f ∷ fs) h = go (λ g. same_whole ps fs g) a.e
     go ih true e g = rw (e, sym (ap (λ (x : Arrival). x.eom) h.0) ∙ e) (ap (λ (x : Arrival). Some (x.packet ∷ [])) h.0)
     go ih false e g = rw (e, sym (ap (λ (x : Arrival). x.eom) h.0) ∙ e) (λ i. option_map (λ l. (h.0 i).packet ∷ l) (ih g i))
 
-pub same_mask : (ps fs : List (Option Arrival)) → Agree ps fs → mask_of ps ≡ mask_of fs
-same_mask [] [] h = refl
-same_mask [] (f ∷ fs) h = absurd h
-same_mask (p ∷ ps) [] h = absurd h
-same_mask (None ∷ ps) (None ∷ fs) h = let ih = same_mask ps fs h in omega (arith, ih)
-same_mask (None ∷ ps) (Some f ∷ fs) h = absurd h
-same_mask (Some a ∷ ps) (None ∷ fs) h = absurd h
-same_mask (Some a ∷ ps) (Some f ∷ fs) h = go (λ g. same_mask ps fs g) a.eom refl h.1
+pub same_bitmap : (ps fs : List (Option Arrival)) → Agree ps fs → bitmap_of ps ≡ bitmap_of fs
+same_bitmap [] [] h = refl
+same_bitmap [] (f ∷ fs) h = absurd h
+same_bitmap (p ∷ ps) [] h = absurd h
+same_bitmap (None ∷ ps) (None ∷ fs) h = let ih = same_bitmap ps fs h in omega (arith, ih)
+same_bitmap (None ∷ ps) (Some f ∷ fs) h = absurd h
+same_bitmap (Some a ∷ ps) (None ∷ fs) h = absurd h
+same_bitmap (Some a ∷ ps) (Some f ∷ fs) h = go (λ g. same_bitmap ps fs g) a.eom refl h.1
   where
-    go : (Agree ps fs → mask_of ps ≡ mask_of fs) → (b : Bool) → a.eom ≡ b → Unless b (Agree ps fs) → mask_of (Some a ∷ ps) ≡ mask_of (Some f ∷ fs)
+    go : (Agree ps fs → bitmap_of ps ≡ bitmap_of fs) → (b : Bool) → a.eom ≡ b → Unless b (Agree ps fs) → bitmap_of (Some a ∷ ps) ≡ bitmap_of (Some f ∷ fs)
     go ih true e g = rw (e, sym (ap (λ (x : Arrival). x.eom) h.0) ∙ e) refl
     go ih false e g = let rest = ih g in rw (e, sym (ap (λ (x : Arrival). x.eom) h.0) ∙ e) (omega (arith, rest))
 
@@ -196,8 +196,8 @@ module _ (A : Type 0) where
   agrees_all : (t : Transaction) (wanted : ℕ) (all : List Came) → t.parts ≡ replicate wanted None → Agree (after_all A t all).parts (firsts wanted all)
   agrees_all t wanted all begins = agrees_after t wanted [] all (subst (λ ps. Agree ps (firsts wanted [])) (sym begins) (none_came wanted 0))
 
-  pub wants_alike : (t : Transaction) (wanted : ℕ) (all : List Came) → t.parts ≡ replicate wanted None → mask_of (after_all A t all).parts ≡ mask_of (firsts wanted all)
-  wants_alike t wanted all begins = same_mask (after_all A t all).parts (firsts wanted all) (agrees_all t wanted all begins)
+  pub wants_alike : (t : Transaction) (wanted : ℕ) (all : List Came) → t.parts ≡ replicate wanted None → bitmap_of (after_all A t all).parts ≡ bitmap_of (firsts wanted all)
+  wants_alike t wanted all begins = same_bitmap (after_all A t all).parts (firsts wanted all) (agrees_all t wanted all begins)
 
   -- ---- the end of a transaction
 

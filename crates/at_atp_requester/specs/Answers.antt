@@ -1,5 +1,6 @@
 -- The packets of an answer that came, and those that are still wanted (Inside AppleTalk, ATP, "Transaction bitmap").
-use Rattle.std.specs.Prelude.{ℕ, zero, suc, ◌+◌, ◌*◌, if◌then◌else◌, Bool, false, is_none, List, [], ◌∷◌, ◌++◌, slice_set, option_map, Option, Some, None}
+use Rattle.std.specs.Prelude.{ℕ, zero, suc, ◌+◌, ◌*◌, if◌then◌else◌, Bool, false, is_none, List, [], ◌∷◌, ◌++◌}
+use Rattle.std.specs.Prelude.{slice_set, option_map, Option, Some, None}
 use Rattle.at_atp_frame.specs.Packets.{Packet}
 
 -- a packet that came, and whether the answer ends with it
@@ -16,16 +17,17 @@ is_wanted (None ∷ parts) (suc place) = is_wanted parts place
 is_wanted (Some part ∷ parts) (suc place) = if part.eom then false else is_wanted parts place
 
 -- the places still wanted, as a mask: place i counts 2 to the i
-abbrev pub mask_of : List (Option Arrival) → ℕ
-mask_of [] = 0
-mask_of (None ∷ parts) = 1 + 2 * mask_of parts
-mask_of (Some part ∷ parts) = if part.eom then 0 else 2 * mask_of parts
+abbrev pub bitmap_of : List (Option Arrival) → ℕ
+bitmap_of [] = 0
+bitmap_of (None ∷ parts) = 1 + 2 * bitmap_of parts
+bitmap_of (Some part ∷ parts) = if part.eom then 0 else 2 * bitmap_of parts
 
 -- the packets up to the first that ends the answer, or all that were asked for; none if one of them is missing
 abbrev pub whole : List (Option Arrival) → Option (List Packet)
 whole [] = Some []
 whole (None ∷ parts) = None
-whole (Some part ∷ parts) = if part.eom then Some (part.packet ∷ []) else option_map (λ ps. part.packet ∷ ps) (whole parts)
+whole (Some part ∷ parts) =
+    if part.eom then Some (part.packet ∷ []) else option_map (λ ps. part.packet ∷ ps) (whole parts)
 
 -- a packet comes for a place
 abbrev pub with_part : List (Option Arrival) → ℕ → Arrival → List (Option Arrival)
@@ -35,4 +37,5 @@ with_part parts place part = slice_set parts place (Some part)
 abbrev pub gathered : List Packet → List (Option Arrival) → List Packet
 gathered done [] = done
 gathered done (None ∷ parts) = done
-gathered done (Some part ∷ parts) = if part.eom then done ++ part.packet ∷ [] else gathered (done ++ part.packet ∷ []) parts
+gathered done (Some part ∷ parts) =
+    if part.eom then done ++ part.packet ∷ [] else gathered (done ++ part.packet ∷ []) parts

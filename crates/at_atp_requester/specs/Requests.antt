@@ -1,11 +1,12 @@
 -- The requester, and what each call does to it (Inside AppleTalk, ATP, "Transactions").
-use Rattle.std.specs.Prelude.{◌≡◌, ℕ, zero, suc, ◌+◌, ◌%◌, ◌≤◌, ◌==◌, ◌&&◌, not, nat_lt, if◌then◌else◌, Bool, true, false, List, [], ◌∷◌, ◌++◌, length, find, option_map, replicate, Option, Some, None}
+use Rattle.std.specs.Prelude.{◌≡◌, ℕ, zero, suc, ◌+◌, ◌%◌, ◌≤◌, ◌==◌, ◌&&◌, not, nat_lt, if◌then◌else◌, Bool, true}
+use Rattle.std.specs.Prelude.{false, List, [], ◌∷◌, ◌++◌, length, find, option_map, replicate, Option, Some, None}
 use Rattle.std.specs.List.{list_any}
 use Rattle.at_ddp.specs.Address.{same_address}
 use Rattle.at_ddp.specs.Outbox.{Outbox, Sends}
 use Rattle.at_ddp.specs.declared.address.Address.{Address}
 use Rattle.at_atp_frame.specs.Packets.{Packet}
-use Rattle.at_atp_requester.specs.Answers.{Arrival, is_wanted, mask_of, whole, with_part}
+use Rattle.at_atp_requester.specs.Answers.{Arrival, is_wanted, bitmap_of, whole, with_part}
 use Rattle.at_atp_frame.specs.Frames.{Content, Request, Response, Release, spelled_all}
 use Rattle.at_ddp.specs.Tables.{replaced, without_first}
 use Rattle.at_atp_requester.specs.declared.step.Retry.{Retry}
@@ -46,7 +47,8 @@ has_number standing tid = list_any (λ t. t.tid == tid) standing
 -- the first number from this one on that is not open, if it takes at most so many tries
 abbrev pub draw_from : ℕ → ℕ → List Transaction → Option ℕ
 draw_from zero first standing = None
-draw_from (suc tries) first standing = if has_number standing first then draw_from tries ((first + 1) % 65536) standing else Some first
+draw_from (suc tries) first standing =
+    if has_number standing first then draw_from tries ((first + 1) % 65536) standing else Some first
 
 -- the requester after the transaction of a number is closed
 abbrev pub closing : Requests → Option ℕ → Requests
@@ -59,11 +61,12 @@ next_number r = if nat_lt (length r.standing) 32 then draw_from (length r.standi
 
 -- the request of a transaction for the places still wanted
 abbrev pub request_by : Transaction → Content
-request_by t = Request (mask_of t.parts) t.xo 0 t.tid t.user t.data_
+request_by t = Request (bitmap_of t.parts) t.xo 0 t.tid t.user t.data_
 
 -- a transaction as it begins: nothing came for any of its places
 abbrev pub beginning : ℕ → Address → List ℕ → List ℕ → ℕ → Bool → ℕ → Transaction
-beginning tid to user bytes wanted xo retries = record { tid = tid; to = to; user = user; data_ = bytes; xo = xo; retries = retries; parts = replicate wanted None }
+beginning tid to user bytes wanted xo retries =
+    record { tid = tid; to = to; user = user; data_ = bytes; xo = xo; retries = retries; parts = replicate wanted None }
 
 abbrev pub begun : Requests → Transaction → Requests
 begun r t = record { next = (t.tid + 1) % 65536; standing = r.standing ++ t ∷ [] }
@@ -92,7 +95,8 @@ was_kept t true None = asked_again t
 was_kept t false None = record { step = step.Kept; after = t; sent = [] }
 
 abbrev pub came_for : {A : Type 0} → Transaction → ℕ → Arrival → Bool → Bool → Effect A
-came_for t place part sts true = was_kept (record t { parts = with_part t.parts place part }) sts (whole (with_part t.parts place part))
+came_for t place part sts true =
+    was_kept (record t { parts = with_part t.parts place part }) sts (whole (with_part t.parts place part))
 came_for t place part true false = asked_again t
 came_for t place part false false = record { step = step.Ignored; after = t; sent = [] }
 
@@ -121,18 +125,26 @@ ignored r = record { step = step.Ignored; after = r; sent = [] }
 abbrev pub settled : {A : Type 0} → Requests → (Transaction → Bool) → Effect A → Heard A
 settled r this e = record {
   step = e.step;
-  after = record { next = r.next; standing = if is_finished e.step then without_first this r.standing else replaced this e.after r.standing };
+  after =
+      record {
+        next = r.next;
+        standing = if is_finished e.step then without_first this r.standing
+            else replaced this e.after r.standing;
+      };
   sent = e.sent;
 }
 
-abbrev pub response_came : {A : Type 0} → Requests → (Transaction → Bool) → ℕ → Arrival → Bool → Option Transaction → Heard A
+abbrev pub response_came : {A : Type 0} → Requests → (Transaction → Bool) → ℕ → Arrival → Bool → Option Transaction
+    → Heard A
 response_came r this place part sts None = ignored r
 response_came r this place part sts (Some t) = settled r this (came t place part sts)
 
 -- what comes of a packet from an address: only a response to an open transaction of that number that asked that address
 -- changes anything
 abbrev pub heard : {A : Type 0} → Requests → Address → Content → Heard A
-heard r from (Response place eom sts tid user bytes) = response_came r (is_of tid from) place (record { eom = eom; packet = record { user = user; data_ = bytes } }) sts (find (is_of tid from) r.standing)
+heard r from (Response place eom sts tid user bytes) =
+    response_came r (is_of tid from) place (record { eom = eom; packet = record { user = user; data_ = bytes } }) sts
+    (find (is_of tid from) r.standing)
 heard r from (Request mask xo timer tid user bytes) = ignored r
 heard r from (Release tid) = ignored r
 
@@ -148,7 +160,9 @@ is_at_least_once (Some t) = not t.xo
 
 -- would this packet end an at-least-once transaction?
 abbrev pub finishes : (A : Type 0) → Requests → Address → Content → Bool
-finishes A r from (Response place eom sts tid user bytes) = is_at_least_once (find (is_of tid from) r.standing) && is_finished (heard {A = A} r from (Response place eom sts tid user bytes)).step
+finishes A r from (Response place eom sts tid user bytes) =
+    is_at_least_once (find (is_of tid from) r.standing)
+    && is_finished (heard {A = A} r from (Response place eom sts tid user bytes)).step
 finishes A r from (Request mask xo timer tid user bytes) = false
 finishes A r from (Release tid) = false
 
@@ -160,7 +174,12 @@ pub record Retried : Type 0 where
 
 -- if a retry is left, it is used up and the request sent again; otherwise the transaction is closed
 abbrev pub retried_with : Requests → ℕ → Transaction → ℕ → Retried
-retried_with r tid t zero = record { step = retry.Failed; after = record r { standing = without_first (is_numbered tid) r.standing }; sent = [] }
+retried_with r tid t zero =
+    record {
+      step = retry.Failed;
+      after = record r { standing = without_first (is_numbered tid) r.standing };
+      sent = [];
+    }
 retried_with r tid t (suc left) = record {
   step = retry.AskedAgain;
   after = record r { standing = replaced (is_numbered tid) (record t { retries = left }) r.standing };

@@ -1,11 +1,13 @@
 -- The whole response of a transaction, from the packets that came for it. There is no bitmap, so no place is ever
 -- struck out (Inside AppleTalk, ATP, "Transaction bitmap and sequence number").
-use Rattle.std.specs.Prelude.{◌≡◌, ℕ, zero, suc, ◌+◌, ◌==◌, ◌&&◌, if◌then◌else◌, Bool, true, false, List, [], ◌∷◌, ◌++◌, find, option_map, Option, Some, None}
+use Rattle.std.specs.Prelude.{◌≡◌, ℕ, zero, suc, ◌+◌, ◌==◌, ◌&&◌, if◌then◌else◌, Bool, true, false, List, [], ◌∷◌, ◌++◌}
+use Rattle.std.specs.Prelude.{find, option_map, Option, Some, None}
 use Rattle.at_ddp.specs.Address.{same_address}
 use Rattle.at_ddp.specs.declared.address.Address.{Address}
 use Rattle.at_atp_requester.specs.Answers.{Arrival}
 use Rattle.at_atp_frame.specs.Frames.{Content, Response}
-use Rattle.at_atp_requester.specs.Requests.{Transaction, Requests, Retried, has_number, next_number, beginning, begun, came, heard, is_finished, retried}
+use Rattle.at_atp_requester.specs.Requests.{Transaction, Requests, Retried, has_number, next_number, beginning, begun}
+use Rattle.at_atp_requester.specs.Requests.{came, heard, is_finished, retried}
 
 -- a packet that came for a place, with the status flag or without
 pub record Came : Type 0 where
@@ -34,7 +36,9 @@ after_all A t (c ∷ all) = after_all A (came {A = A} t c.place c.part c.sts).af
 -- none of them completed the answer
 abbrev pub NoneFinishes : (A : Type 0) → Transaction → List Came → Type 0
 NoneFinishes A t [] = Unit {0}
-NoneFinishes A t (c ∷ all) = (is_finished (came {A = A} t c.place c.part c.sts).step ≡ false) × NoneFinishes A (came {A = A} t c.place c.part c.sts).after all
+NoneFinishes A t (c ∷ all) =
+    (is_finished (came {A = A} t c.place c.part c.sts).step ≡ false)
+    × NoneFinishes A (came {A = A} t c.place c.part c.sts).after all
 
 -- ---- one requester
 
@@ -45,7 +49,8 @@ pub data Move : Type 0 where
   Retries : (tid : ℕ) → Move
 
 abbrev pub begun_under : Requests → Move → Option ℕ → Requests
-begun_under r (Begins to user bytes wanted xo retries) (Some tid) = begun r (beginning tid to user bytes wanted xo retries)
+begun_under r (Begins to user bytes wanted xo retries) (Some tid) =
+    begun r (beginning tid to user bytes wanted xo retries)
 begun_under r m tid = r
 
 abbrev pub after_retry : Requests → Option Retried → Requests
@@ -54,7 +59,8 @@ after_retry r (Some e) = e.after
 
 -- the requester after a move; a transaction begins under the next number
 abbrev pub moved : (A : Type 0) → Requests → Move → Requests
-moved A r (Begins to user bytes wanted xo retries) = begun_under r (Begins to user bytes wanted xo retries) (next_number r)
+moved A r (Begins to user bytes wanted xo retries) =
+    begun_under r (Begins to user bytes wanted xo retries) (next_number r)
 moved A r (Hears from f) = (heard {A = A} r from f).after
 moved A r (Retries tid) = after_retry r (retried r tid)
 
@@ -70,7 +76,12 @@ StaysOpen A r tid (m ∷ ms) = (has_number (moved A r m).standing tid ≡ true) 
 -- the packet of an answer that a move brings, with this number and from this address
 abbrev pub brought : Address → ℕ → Move → List Came
 brought to tid (Hears from (Response place eom sts other user bytes)) =
-    if (tid == other) && same_address to from then record { place = place; part = record { eom = eom; packet = record { user = user; data_ = bytes } }; sts = sts } ∷ [] else []
+    if (tid == other) && same_address to from
+    then record {
+      place = place;
+      part = record { eom = eom; packet = record { user = user; data_ = bytes } };
+      sts = sts;
+    } ∷ [] else []
 brought to tid m = []
 
 -- the packets that the moves bring, in the order of their arrival

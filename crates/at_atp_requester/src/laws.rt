@@ -1,13 +1,16 @@
 //! The laws of a requester: the responses that it returns, and its numbers. The functions do nothing: each contract is
 //! a law.
-ghost use Rattle.std.specs.Prelude.{◌≡◌, ◌↔◌, ◌≤◌, ◌+◌, ◌==◌, ◌++◌, ◌∷◌, [], List, ℕ, Bool, true, false, find, replicate, Some, None};
+ghost use Rattle.std.specs.Prelude.{◌≡◌, ◌↔◌, ◌≤◌, ◌+◌, ◌==◌, ◌++◌, ◌∷◌, [], List, ℕ, Bool, true, false, find};
+ghost use Rattle.std.specs.Prelude.{replicate, Some, None};
 ghost use Rattle.at_ddp.specs.declared.address.Address.{Address};
-ghost use Rattle.at_atp_requester.specs.Answers.{mask_of, whole};
+ghost use Rattle.at_atp_requester.specs.Answers.{bitmap_of, whole};
 ghost use Rattle.at_atp_frame.specs.Frames.{Content, Response, number_of};
 ghost use Rattle.at_atp_requester.specs.declared.step.Retry.TheVariants.{Failed};
 ghost use Rattle.at_atp_frame.specs.Packets.{Packet};
-ghost use Rattle.at_atp_requester.specs.Requests.{Transaction, Requests, Retried, has_number, is_numbered, is_finished, next_number, beginning, begun, came, heard, retried};
-ghost use Rattle.at_atp_requester.specs.Wholes.{Came, firsts, after_all, NoneFinishes, Move, Hears, moved_all, StaysOpen, arrived};
+ghost use Rattle.at_atp_requester.specs.Requests.{Transaction, Requests, Retried, has_number, is_numbered, is_finished};
+ghost use Rattle.at_atp_requester.specs.Requests.{next_number, beginning, begun, came, heard, retried};
+ghost use Rattle.at_atp_requester.specs.Wholes.{Came, firsts, after_all, NoneFinishes, Move, Hears, moved_all};
+ghost use Rattle.at_atp_requester.specs.Wholes.{StaysOpen, arrived};
 ghost use Rattle.at_atp_requester.specs.declared.step.Step.TheVariants.{Finished};
 
 use std::alloc::Allocator;
@@ -16,28 +19,40 @@ use std::alloc::Allocator;
 /// These packets decide which places are still wanted. The transaction ends just when they are the whole response, and
 /// with that response.
 pub fn a_transaction_ends_by_its_whole_response<A: Allocator>()
-    ensures wants { (t : Transaction) (wanted : ℕ) (all : List Came) → t.parts ≡ replicate wanted None → mask_of (after_all A t all).parts ≡ mask_of (firsts wanted all) }
-    ensures ends { (t : Transaction) (wanted : ℕ) (all : List Came) (c : Came) (packets : List Packet) → t.parts ≡ replicate wanted None → 1 ≤ wanted → NoneFinishes A t all
-        → ((came {A = A} (after_all A t all) c.place c.part c.sts).step ≡ Finished packets) ↔ (whole (firsts wanted (all ++ c ∷ [])) ≡ Some packets) }
+    ensures wants { (t : Transaction) (wanted : ℕ) (all : List Came) → t.parts ≡ replicate wanted None
+        → bitmap_of (after_all A t all).parts ≡ bitmap_of (firsts wanted all) }
+    ensures ends { (t : Transaction) (wanted : ℕ) (all : List Came) (c : Came) (packets : List Packet)
+        → t.parts ≡ replicate wanted None → 1 ≤ wanted → NoneFinishes A t all
+        → ((came {A = A} (after_all A t all) c.place c.part c.sts).step ≡ Finished packets)
+        ↔ (whole (firsts wanted (all ++ c ∷ [])) ≡ Some packets) }
 {}
 
 /// The same for a requester while the transaction is open. Other transactions may begin, packets may come from
 /// anywhere, and any number may be retried. It asks again for the places still wanted, and returns the whole response.
 pub fn a_requester_hands_up_whole_responses<A: Allocator>()
-    ensures wants { (r : Requests) (tid : ℕ) (to : Address) (user bytes : List ℕ) (wanted : ℕ) (xo : Bool) (retries : ℕ) (ms : List Move) (t : Transaction) → next_number r ≡ Some tid
-        → StaysOpen A (begun r (beginning tid to user bytes wanted xo retries)) tid ms → find (is_numbered tid) (moved_all A (begun r (beginning tid to user bytes wanted xo retries)) ms).standing ≡ Some t
-        → mask_of t.parts ≡ mask_of (firsts wanted (arrived to tid ms)) }
-    ensures ends { (r : Requests) (tid : ℕ) (to : Address) (user bytes : List ℕ) (wanted : ℕ) (xo : Bool) (retries : ℕ) (ms : List Move) (from : Address) (place : ℕ) (eom sts : Bool) (words data_ : List ℕ) (packets : List Packet) → next_number r ≡ Some tid
+    ensures wants { (r : Requests) (tid : ℕ) (to : Address) (user bytes : List ℕ) (wanted : ℕ) (xo : Bool) (retries : ℕ)
+        (ms : List Move) (t : Transaction) → next_number r ≡ Some tid
         → StaysOpen A (begun r (beginning tid to user bytes wanted xo retries)) tid ms
-        → (heard {A = A} (moved_all A (begun r (beginning tid to user bytes wanted xo retries)) ms) from (Response place eom sts tid words data_)).step ≡ Finished packets
-        → whole (firsts wanted (arrived to tid (ms ++ Hears from (Response place eom sts tid words data_) ∷ []))) ≡ Some packets }
+        → find (is_numbered tid) (moved_all A (begun r (beginning tid to user bytes wanted xo retries)) ms).standing
+        ≡ Some t
+        → bitmap_of t.parts ≡ bitmap_of (firsts wanted (arrived to tid ms)) }
+    ensures ends { (r : Requests) (tid : ℕ) (to : Address) (user bytes : List ℕ) (wanted : ℕ) (xo : Bool) (retries : ℕ)
+        (ms : List Move) (from : Address) (place : ℕ) (eom sts : Bool) (words data_ : List ℕ) (packets : List Packet)
+        → next_number r ≡ Some tid
+        → StaysOpen A (begun r (beginning tid to user bytes wanted xo retries)) tid ms
+        → (heard {A = A} (moved_all A (begun r (beginning tid to user bytes wanted xo retries)) ms) from
+        (Response place eom sts tid words data_)).step ≡ Finished packets
+        → whole (firsts wanted (arrived to tid (ms ++ Hears from (Response place eom sts tid words data_) ∷ [])))
+        ≡ Some packets }
 {}
 
 /// A number that is drawn is not open. An open number stays open until its own transaction ends.
 pub fn numbers_stay_open<A: Allocator>()
     ensures drawn { (r : Requests) (tid : ℕ) → next_number r ≡ Some tid → has_number r.standing tid ≡ false }
-    ensures heard { (r : Requests) (from : Address) (f : Content) (tid : ℕ) → has_number r.standing tid ≡ true → (is_finished (heard {A = A} r from f).step ≡ true → (number_of f == tid) ≡ false)
+    ensures heard { (r : Requests) (from : Address) (f : Content) (tid : ℕ) → has_number r.standing tid ≡ true
+        → (is_finished (heard {A = A} r from f).step ≡ true → (number_of f == tid) ≡ false)
         → has_number (heard {A = A} r from f).after.standing tid ≡ true }
-    ensures retried { (r : Requests) (other tid : ℕ) (e : Retried) → retried r other ≡ Some e → has_number r.standing tid ≡ true → (e.step ≡ Failed → (other == tid) ≡ false)
+    ensures retried { (r : Requests) (other tid : ℕ) (e : Retried) → retried r other ≡ Some e
+        → has_number r.standing tid ≡ true → (e.step ≡ Failed → (other == tid) ≡ false)
         → has_number e.after.standing tid ≡ true }
 {}

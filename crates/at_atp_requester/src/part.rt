@@ -1,5 +1,6 @@
-ghost use Rattle.std.specs.Prelude.{◌≡◌, ◌+◌, ◌≤◌, ◌<◌, ◌^◌, ◌++◌, length, is_some, nat_lt, slice_set, Some, IfOk, vec_capacity, vec_len};
-ghost use Rattle.at_atp_requester.specs.Answers.{Arrival, is_wanted, mask_of, whole, with_part, gathered};
+ghost use Rattle.std.specs.Prelude.{◌≡◌, ◌+◌, ◌≤◌, ◌<◌, ◌^◌, ◌++◌, length, is_some, nat_lt, slice_set, Some, IfOk};
+ghost use Rattle.std.specs.Prelude.{vec_capacity, vec_len};
+ghost use Rattle.at_atp_requester.specs.Answers.{Arrival, is_wanted, bitmap_of, whole, with_part, gathered};
 ghost use Rattle.at_atp_frame.specs.Packets.{Packet};
 
 use at_atp_frame::Packet;
@@ -48,36 +49,36 @@ impl<A: Allocator> Part<A> {
     }
 }
 
-// Whether a place is still wanted.
-pub(crate) fn is_wanted<A: Allocator>(parts: &[Option<Part<A>>], place: u8) -> bool
-    ensures { result ≡ is_wanted parts.now place }
+// Whether the packet with this sequence number is still wanted.
+pub(crate) fn is_wanted<A: Allocator>(parts: &[Option<Part<A>>], sequence_number: u8) -> bool
+    ensures { result ≡ is_wanted parts.now sequence_number }
 {
     match parts {
         [] => false,
         [first, rest @ ..] => {
-            if place == 0 {
+            if sequence_number == 0 {
                 return first.is_none();
             }
             match first {
-                None => is_wanted(rest, place - 1),
-                Some(part) => !part.ends_answer() && is_wanted(rest, place - 1),
+                None => is_wanted(rest, sequence_number - 1),
+                Some(part) => !part.ends_answer() && is_wanted(rest, sequence_number - 1),
             }
         }
     }
 }
 
-// The places still wanted, as a mask.
-pub(crate) fn mask_of<A: Allocator>(parts: &[Option<Part<A>>]) -> u8
+// The packets still wanted, as a bitmap.
+pub(crate) fn bitmap_of<A: Allocator>(parts: &[Option<Part<A>>]) -> u8
     requires { length parts.now ≤ 8 }
-    ensures mask { result ≡ mask_of parts.now }
+    ensures bitmap { result ≡ bitmap_of parts.now }
     ensures fits { result < 2 ^ length parts.now }
 {
     match parts {
         [] => 0,
         [first, rest @ ..] => match first {
-            None => 1 + 2 * mask_of(rest),
+            None => 1 + 2 * bitmap_of(rest),
             Some(part) if part.ends_answer() => 0,
-            Some(_) => 2 * mask_of(rest),
+            Some(_) => 2 * bitmap_of(rest),
         },
     }
 }
@@ -95,20 +96,24 @@ fn are_whole<A: Allocator>(parts: &[Option<Part<A>>]) -> bool
     }
 }
 
-// Whether the answer is there once a packet has come for this place.
-pub(crate) fn completes<A: Allocator>(parts: &[Option<Part<A>>], place: u8, eom: bool) -> bool
-    requires { place < length parts.now }
-    ensures { (part : Arrival) → part.eom ≡ eom → result ≡ is_some (whole (with_part parts.now place part)) }
+// Whether the answer is there once the packet with this sequence number has come.
+pub(crate) fn completes<A: Allocator>(
+    parts: &[Option<Part<A>>],
+    sequence_number: u8,
+    eom: bool,
+) -> bool
+    requires { sequence_number < length parts.now }
+    ensures { (part : Arrival) → part.eom ≡ eom → result ≡ is_some (whole (with_part parts.now sequence_number part)) }
 {
     match parts {
         [] => false,
         [first, rest @ ..] => {
-            if place == 0 {
+            if sequence_number == 0 {
                 return eom || are_whole(rest);
             }
             match first {
                 None => false,
-                Some(part) => part.ends_answer() || completes(rest, place - 1, eom),
+                Some(part) => part.ends_answer() || completes(rest, sequence_number - 1, eom),
             }
         }
     }

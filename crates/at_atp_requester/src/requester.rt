@@ -1,12 +1,15 @@
-ghost use Rattle.std.specs.Prelude.{◌≡◌, ◌≢◌, ◌↔◌, ◌+◌, ◌≤◌, ◌<◌, ◌∷◌, [], length, remove, if◌then◌else◌, IfOk, IfErr, IfSome, OnErr, IsOk, IsErrOf, true, Some, None};
+ghost use Rattle.std.specs.Prelude.{◌≡◌, ◌≢◌, ◌↔◌, ◌+◌, ◌≤◌, ◌<◌, ◌∷◌, [], length, remove, if◌then◌else◌, IfOk, IfErr};
+ghost use Rattle.std.specs.Prelude.{IfSome, OnErr, IsOk, IsErrOf, true, Some, None};
 ghost use Rattle.std.specs.List.{position_from};
 ghost use Rattle.at_ddp.specs.Outbox.{Sends};
 ghost use Rattle.at_atp_frame.specs.Frames.{content, spelled};
-ghost use Rattle.at_atp_requester.specs.Requests.{no_requests, next_number, closing, beginning, begun, request_by, is_of, is_finished, is_ignored, is_numbered, heard, retried, IsHeard, IsRetried};
+ghost use Rattle.at_atp_requester.specs.Requests.{no_requests, next_number, closing, beginning, begun, request_by};
+ghost use Rattle.at_atp_requester.specs.Requests.{is_of, is_finished, is_ignored, is_numbered, heard, retried, IsHeard};
+ghost use Rattle.at_atp_requester.specs.Requests.{IsRetried};
 
 use crate::numbers::next_of;
 use crate::step::{Retry, Step};
-use crate::transaction::{Arriving, Asking, Transaction};
+use crate::transaction::{Arriving, Question, Transaction};
 use at_atp_frame::{AtpFault, Frame, MAX_DATA, send};
 use at_ddp::{Address, Outbox};
 use std::alloc::{AllocError, Allocator, Global};
@@ -52,7 +55,7 @@ impl<A: Allocator + Copy> Requester<A> {
         let Some(tid) = closed else {
             return next_of(standing, &standing[..0], self.next);
         };
-        match place_numbered(standing, tid) {
+        match index_numbered(standing, tid) {
             Some(index) => next_of(&standing[..index], &standing[index + 1..], self.next),
             None => next_of(standing, &standing[..0], self.next),
         }
@@ -73,13 +76,16 @@ impl<A: Allocator + Copy> Requester<A> {
         requires some { 1 ≤ wanted }
         requires few { wanted ≤ 8 }
         ensures drawn { IfOk result (λ tid. next_number self.old ≡ Some tid) }
-        ensures state { IfOk result (λ tid. self.new ≡ begun self.old (beginning tid to user bytes.now wanted xo retries)) }
-        ensures sent { IfOk result (λ tid. Sends out.old out.new ((to, spelled (request_by (beginning tid to user bytes.now wanted xo retries))) ∷ [])) }
+        ensures state { IfOk result (λ tid. self.new ≡ begun self.old
+            (beginning tid to user bytes.now wanted xo retries)) }
+        ensures sent { IfOk result (λ tid. Sends out.old out.new
+            ((to, spelled (request_by (beginning tid to user bytes.now wanted xo retries))) ∷ [])) }
 
         // The length of the data is tested first, and then whether a number is free.
         ensures too_long { IsErrOf result AtpFault.AtpTooLong ↔ (578 < length bytes.now) }
         ensures full { IsErrOf result AtpFault.Full ↔ ((length bytes.now ≤ 578) × (next_number self.old ≡ None)) }
-        ensures memory { IfErr result (λ fault. fault ≢ AtpFault.AtpTooLong → fault ≢ AtpFault.Full → fault ≡ AtpFault.NoMemory) }
+        ensures memory { IfErr result (λ fault. fault ≢ AtpFault.AtpTooLong → fault ≢ AtpFault.Full
+            → fault ≡ AtpFault.NoMemory) }
         ensures unchanged { OnErr result (self.new ≡ self.old) }
         ensures nothing_sent { OnErr result (Sends out.old out.new []) }
     {
@@ -89,7 +95,7 @@ impl<A: Allocator + Copy> Requester<A> {
         let Some(tid) = self.next_number(None) else {
             return Err(AtpFault::Full);
         };
-        let asking = Asking {
+        let question = Question {
             to,
             user,
             bytes,
@@ -97,7 +103,7 @@ impl<A: Allocator + Copy> Requester<A> {
             xo,
             retries,
         };
-        let transaction = Transaction::begin(self.alloc, tid, &asking)?;
+        let transaction = Transaction::begin(self.alloc, tid, &question)?;
         self.standing.reserve(1)?;
         send(out, to, &transaction.request())?;
         self.standing.push(transaction).unwrap();
@@ -112,7 +118,8 @@ impl<A: Allocator + Copy> Requester<A> {
         frame: &Frame<'_>,
         out: &mut Outbox<A>,
     ) -> Result<Step<A>, AllocError>
-        ensures ok { IfOk result (λ step. IsHeard (heard self.old from (content frame.now)) step self.new out.old out.new) }
+        ensures ok { IfOk result (λ step. IsHeard (heard self.old from (content frame.now)) step self.new out.old
+            out.new) }
         ensures unchanged { OnErr result (self.new ≡ self.old) }
         ensures nothing_sent { OnErr result (Sends out.old out.new []) }
 
@@ -130,11 +137,11 @@ impl<A: Allocator + Copy> Requester<A> {
         else {
             return Ok(Step::Ignored);
         };
-        let Some(index) = place_of(&self.standing, tid, from) else {
+        let Some(index) = index_of(&self.standing, tid, from) else {
             return Ok(Step::Ignored);
         };
         let arriving = Arriving {
-            place,
+            sequence_number: place,
             eom,
             sts,
             user,
@@ -156,7 +163,7 @@ impl<A: Allocator + Copy> Requester<A> {
         ensures nothing_sent { OnErr result (Sends out.old out.new []) }
         ensures closes { IfSome (retried self.old tid) (λ effect. effect.step ≡ Retry.Failed → IsOk result) }
     {
-        let Some(index) = place_numbered(&self.standing, tid) else {
+        let Some(index) = index_numbered(&self.standing, tid) else {
             return Err(AtpFault::NoSuch);
         };
         let transaction = &mut self.standing[index];
@@ -174,21 +181,22 @@ impl<A: Allocator + Copy> Requester<A> {
 // Closes the transaction at an index if the step finished it.
 fn settle<A: Allocator>(standing: &mut Vec<Transaction<A>, A>, index: usize, step: &Step<A>)
     requires { index < length standing.old.items }
-    ensures { standing.new.items ≡ (if is_finished step.now then remove standing.old.items index else standing.old.items) }
+    ensures { standing.new.items ≡ (if is_finished step.now then remove standing.old.items index
+        else standing.old.items) }
 {
     if let Step::Finished(_) = step {
         drop(standing.remove(index));
     }
 }
 
-fn place_numbered<A: Allocator>(standing: &[Transaction<A>], tid: u16) -> Option<usize>
+fn index_numbered<A: Allocator>(standing: &[Transaction<A>], tid: u16) -> Option<usize>
     ensures first { result ≡ position_from (is_numbered tid) 0 standing.now }
     ensures within { IfSome result (λ index. index < length standing.now) }
 {
     standing.iter().position(|t| t.tid() == tid)
 }
 
-pub(crate) fn place_of<A: Allocator>(
+pub(crate) fn index_of<A: Allocator>(
     standing: &[Transaction<A>],
     tid: u16,
     from: Address,

@@ -1,11 +1,12 @@
-ghost use Rattle.std.specs.Prelude.{◌≡◌, ◌+◌, ◌-◌, ◌≤◌, ◌<◌, ◌∷◌, ◌&&◌, Bool, not, nat_lt, if◌then◌else◌, ℕ, List, length, is_some, Some, None, IfOk, OnOk, OnErr, IsOk, true, false, [], replicate};
+ghost use Rattle.std.specs.Prelude.{◌≡◌, ◌+◌, ◌-◌, ◌≤◌, ◌<◌, ◌∷◌, ◌&&◌, Bool, not, nat_lt, if◌then◌else◌, ℕ, List};
+ghost use Rattle.std.specs.Prelude.{length, is_some, Some, None, IfOk, OnOk, OnErr, IsOk, true, false, [], replicate};
 ghost use Rattle.at_ddp.specs.Outbox.{Sends};
 ghost use Rattle.at_atp_frame.specs.Packets.{Packet as Arrived};
 ghost use Rattle.at_atp_requester.specs.Answers.{Arrival, is_wanted, whole, with_part};
 ghost use Rattle.at_atp_frame.specs.Frames.{content, CanBeWritten, data_of, spelled_all};
 ghost use Rattle.at_atp_requester.specs.Requests.{beginning, is_of, request_by, release_by, came, is_finished};
 
-use crate::part::{Part, completes, gather, is_wanted, mask_of};
+use crate::part::{Part, bitmap_of, completes, gather, is_wanted};
 use crate::step::Step;
 use at_atp_frame::{Frame, PACKET_LEN, send};
 use at_ddp::{Address, Bytes, Listed, Outbox};
@@ -31,14 +32,31 @@ impl<A: Allocator> Model for Transaction<A> {
 
     ghost Value = { Open };
 
-    ghost view = { λ t. record { tid = t.tid; to = t.to; user = t.user; data_ = t.data_; xo = t.xo; retries = t.retries; parts = t.parts.items } };
+    ghost view = { λ t. record {
+      tid = t.tid;
+      to = t.to;
+      user = t.user;
+      data_ = t.data_;
+      xo = t.xo;
+      retries = t.retries;
+      parts = t.parts.items;
+    } };
 
-    ghost invariant = { λ t. IsTransaction (record { tid = t.tid; to = t.to; user = t.user; data_ = t.data_; xo = t.xo; retries = t.retries; parts = t.parts.items }) };
+    ghost invariant = { λ t. IsTransaction
+        (record {
+          tid = t.tid;
+          to = t.to;
+          user = t.user;
+          data_ = t.data_;
+          xo = t.xo;
+          retries = t.retries;
+          parts = t.parts.items;
+        }) };
 }
 
 // What a transaction asks when it begins.
 #[derive(Clone, Copy)]
-pub(crate) struct Asking<'a> {
+pub(crate) struct Question<'a> {
     pub to: Address,
     pub user: [u8; 4],
     pub bytes: &'a [u8],
@@ -51,20 +69,21 @@ impl<A: Allocator + Copy> Transaction<A> {
     pub(crate) fn begin(
         alloc: A,
         tid: u16,
-        asking: &Asking<'_>,
+        question: &Question<'_>,
     ) -> Result<Transaction<A>, AllocError>
-        requires fits { length asking.now.bytes.now ≤ 578 }
-        requires few { asking.now.wanted ≤ 8 }
-        ensures { IfOk result (λ t. t ≡ beginning tid asking.now.to asking.now.user asking.now.bytes.now asking.now.wanted asking.now.xo asking.now.retries) }
+        requires fits { length question.now.bytes.now ≤ 578 }
+        requires few { question.now.wanted ≤ 8 }
+        ensures { IfOk result (λ t. t ≡ beginning tid question.now.to question.now.user question.now.bytes.now
+            question.now.wanted question.now.xo question.now.retries) }
     {
         Ok(Transaction {
             tid,
-            to: asking.to,
-            user: asking.user,
-            data_: Bytes::copy_of(alloc, asking.bytes)?,
-            xo: asking.xo,
-            retries: asking.retries,
-            parts: no_parts(alloc, asking.wanted)?,
+            to: question.to,
+            user: question.user,
+            data_: Bytes::copy_of(alloc, question.bytes)?,
+            xo: question.xo,
+            retries: question.retries,
+            parts: no_parts(alloc, question.wanted)?,
         })
     }
 }
@@ -89,7 +108,7 @@ impl<A: Allocator> Transaction<A> {
         ensures fits { length (data_of (content result)) ≤ 578 }
     {
         Frame::Request {
-            mask: mask_of(&self.parts),
+            mask: bitmap_of(&self.parts),
             xo: self.xo,
             timer: 0,
             tid: self.tid,
@@ -98,26 +117,28 @@ impl<A: Allocator> Transaction<A> {
         }
     }
 
-    // Whether a packet for this place would end this transaction, and the transaction is at-least-once.
-    pub(crate) fn would_end(&self, place: u8, eom: bool) -> bool
-        ensures { (part : Arrival) (sts : Bool) → part.eom ≡ eom → result ≡ (not self.now.xo && is_finished (came {A = A} self.now place part sts).step) }
+    // Whether the packet with this sequence number would end this transaction, and the transaction is at-least-once.
+    pub(crate) fn would_end(&self, sequence_number: u8, eom: bool) -> bool
+        ensures { (part : Arrival) (sts : Bool) → part.eom ≡ eom
+            → result ≡ (not self.now.xo && is_finished (came {A = A} self.now sequence_number part sts).step) }
     {
-        !self.xo && self.wants(place) && self.completes(place, eom)
+        !self.xo && self.wants(sequence_number) && self.completes(sequence_number, eom)
     }
 
-    fn wants(&self, place: u8) -> bool
-        ensures wanted { result ≡ is_wanted self.now.parts place }
-        ensures within { result ≡ true → place < length self.now.parts }
+    fn wants(&self, sequence_number: u8) -> bool
+        ensures wanted { result ≡ is_wanted self.now.parts sequence_number }
+        ensures within { result ≡ true → sequence_number < length self.now.parts }
     {
-        is_wanted(&self.parts, place)
+        is_wanted(&self.parts, sequence_number)
     }
 
-    // Whether a packet for this place would complete the answer.
-    fn completes(&self, place: u8, eom: bool) -> bool
-        requires { place < length self.now.parts }
-        ensures { (part : Arrival) → part.eom ≡ eom → result ≡ is_some (whole (with_part self.now.parts place part)) }
+    // Whether the packet with this sequence number would complete the answer.
+    fn completes(&self, sequence_number: u8, eom: bool) -> bool
+        requires { sequence_number < length self.now.parts }
+        ensures { (part : Arrival) → part.eom ≡ eom
+            → result ≡ is_some (whole (with_part self.now.parts sequence_number part)) }
     {
-        completes(&self.parts, place, eom)
+        completes(&self.parts, sequence_number, eom)
     }
 
     // If the transaction is exactly-once, sends the release: the answer is complete.
@@ -136,7 +157,8 @@ impl<A: Allocator> Transaction<A> {
     pub(crate) fn take_retry(&mut self, out: &mut Outbox<A>) -> Result<bool, AllocError>
         ensures taken { IfOk result (λ taken. taken ≡ nat_lt 0 self.old.retries) }
         ensures state { OnOk result (self.new ≡ record self.old { retries = self.old.retries - 1 }) }
-        ensures sent { OnOk result (Sends out.old out.new (spelled_all (if nat_lt 0 self.old.retries then (self.old.to, request_by self.old) ∷ [] else []))) }
+        ensures sent { OnOk result (Sends out.old out.new
+            (spelled_all (if nat_lt 0 self.old.retries then (self.old.to, request_by self.old) ∷ [] else []))) }
         ensures unchanged { OnErr result (self.new ≡ self.old) }
         ensures nothing_sent { OnErr result (Sends out.old out.new []) }
         ensures none { self.old.retries ≡ 0 → IsOk result }
@@ -149,18 +171,18 @@ impl<A: Allocator> Transaction<A> {
         Ok(true)
     }
 
-    fn keep_part(&mut self, place: u8, part: Part<A>)
-        requires { place < length self.old.parts }
-        ensures { self.new ≡ record self.old { parts = with_part self.old.parts place part } }
+    fn keep_part(&mut self, sequence_number: u8, part: Part<A>)
+        requires { sequence_number < length self.old.parts }
+        ensures { self.new ≡ record self.old { parts = with_part self.old.parts sequence_number part } }
     {
-        self.parts[place as usize] = Some(part);
+        self.parts[sequence_number as usize] = Some(part);
     }
 }
 
 // A packet of an answer, as it arrives.
 #[derive(Clone, Copy)]
 pub(crate) struct Arriving<'a> {
-    pub place: u8,
+    pub sequence_number: u8,
     pub eom: bool,
     pub sts: bool,
     pub user: [u8; 4],
@@ -178,24 +200,28 @@ impl<A: Allocator + Copy> Transaction<A> {
         arriving: &Arriving<'_>,
         out: &mut Outbox<A>,
     ) -> Result<Step<A>, AllocError>
-        ensures ok { IfOk result (λ step. IsEffect (came self.old arriving.now.place (arrival_of arriving.now) arriving.now.sts) step self.new out.old out.new) }
+        ensures ok { IfOk result (λ step. IsEffect
+            (came self.old arriving.now.sequence_number (arrival_of arriving.now) arriving.now.sts)
+            step self.new out.old out.new) }
         ensures unchanged { OnErr result (self.new ≡ self.old) }
         ensures nothing_sent { OnErr result (Sends out.old out.new []) }
-        ensures ignored { is_ignored (came {A = A} self.old arriving.now.place (arrival_of arriving.now) arriving.now.sts).step ≡ true → IsOk result }
+        ensures ignored { is_ignored (came {A = A} self.old arriving.now.sequence_number (arrival_of arriving.now)
+            arriving.now.sts).step ≡ true → IsOk result }
     {
-        if !self.wants(arriving.place) {
+        if !self.wants(arriving.sequence_number) {
             return self.not_wanted(arriving.sts, out);
         }
-        if self.completes(arriving.place, arriving.eom) {
+        if self.completes(arriving.sequence_number, arriving.eom) {
             self.finish(alloc, arriving, out)
         } else {
             self.keep(alloc, arriving, out)
         }
     }
 
-    // The place of the packet is not wanted. STS still makes the requester ask again.
+    // The packet with this sequence number is not wanted. STS still makes the requester ask again.
     fn not_wanted(&self, sts: bool, out: &mut Outbox<A>) -> Result<Step<A>, AllocError>
-        ensures ok { (place : ℕ) (part : Arrival) → is_wanted self.now.parts place ≡ false → IfOk result (λ step. IsEffect (came self.now place part sts) step self.now out.old out.new) }
+        ensures ok { (place : ℕ) (part : Arrival) → is_wanted self.now.parts place ≡ false
+            → IfOk result (λ step. IsEffect (came self.now place part sts) step self.now out.old out.new) }
         ensures nothing_sent { OnErr result (Sends out.old out.new []) }
         ensures ignored { sts ≡ false → IsOk result }
     {
@@ -213,19 +239,23 @@ impl<A: Allocator + Copy> Transaction<A> {
         arriving: &Arriving<'_>,
         out: &mut Outbox<A>,
     ) -> Result<Step<A>, AllocError>
-        requires within { arriving.now.place < length self.old.parts }
-        requires more { whole (with_part self.old.parts arriving.now.place (arrival_of arriving.now)) ≡ None }
-        ensures ok { IfOk result (λ step. IsEffect (was_kept (record self.old { parts = with_part self.old.parts arriving.now.place (arrival_of arriving.now) }) arriving.now.sts None) step self.new out.old out.new) }
+        requires within { arriving.now.sequence_number < length self.old.parts }
+        requires more { whole (with_part self.old.parts arriving.now.sequence_number (arrival_of arriving.now)) ≡ None }
+        ensures ok { IfOk result (λ step. IsEffect (was_kept
+            (record self.old {
+              parts = with_part self.old.parts arriving.now.sequence_number (arrival_of arriving.now);
+            })
+            arriving.now.sts None) step self.new out.old out.new) }
         ensures unchanged { OnErr result (self.new ≡ self.old) }
         ensures nothing_sent { OnErr result (Sends out.old out.new []) }
     {
         let part = Part::copy_of(alloc, arriving.eom, arriving.user, arriving.bytes)?;
         if !arriving.sts {
-            self.keep_part(arriving.place, part);
+            self.keep_part(arriving.sequence_number, part);
             return Ok(Step::Kept);
         }
         out.room(1, PACKET_LEN)?;
-        self.keep_part(arriving.place, part);
+        self.keep_part(arriving.sequence_number, part);
         send(out, self.to, &self.request()).unwrap();
         Ok(Step::AskAgain)
     }
@@ -237,9 +267,11 @@ impl<A: Allocator + Copy> Transaction<A> {
         arriving: &Arriving<'_>,
         out: &mut Outbox<A>,
     ) -> Result<Step<A>, AllocError>
-        requires within { arriving.now.place < length self.old.parts }
-        ensures ok { (packets : List Arrived) → whole (with_part self.old.parts arriving.now.place (arrival_of arriving.now)) ≡ Some packets →
-            IfOk result (λ step. (step ≡ Step.Finished packets) × Sends out.old out.new (spelled_all (release_by self.old))) }
+        requires within { arriving.now.sequence_number < length self.old.parts }
+        ensures ok { (packets : List Arrived)
+            → whole (with_part self.old.parts arriving.now.sequence_number (arrival_of arriving.now)) ≡ Some packets
+            → IfOk result (λ step. (step ≡ Step.Finished packets)
+            × Sends out.old out.new (spelled_all (release_by self.old))) }
         ensures unchanged { OnErr result (self.new ≡ self.old) }
         ensures nothing_sent { OnErr result (Sends out.old out.new []) }
         ensures untouched { self.old.xo ≡ false → out.new ≡ out.old }
@@ -248,7 +280,7 @@ impl<A: Allocator + Copy> Transaction<A> {
         let part = Part::copy_of(alloc, arriving.eom, arriving.user, arriving.bytes)?;
         let packets = Vec::with_capacity(alloc, self.parts.len())?;
         self.release(out)?;
-        self.keep_part(arriving.place, part);
+        self.keep_part(arriving.sequence_number, part);
         let parts = mem::replace(&mut self.parts, Vec::new(alloc));
         Ok(Step::Finished(Listed::from_vec(gather(parts, packets))))
     }

@@ -1,12 +1,13 @@
 ghost use Rattle.std.specs.Prelude.{◌≡◌, ◌<◌, ◌∷◌, [], true, false, length, remove, is_some, Some, IfSome, IfOk, OnErr};
 ghost use Rattle.at_ddp.specs.Outbox.{Sends};
 ghost use Rattle.at_atp_frame.specs.Frames.{Response, content, spelled};
-ghost use Rattle.at_atp_requester.specs.Requests.{Requests, next_number, beginning, begun, request_by, is_response, finishes, heard};
+ghost use Rattle.at_atp_requester.specs.Requests.{Requests, next_number, beginning, begun, request_by, is_response};
+ghost use Rattle.at_atp_requester.specs.Requests.{finishes, heard};
 
 use crate::numbers::next_of;
-use crate::requester::{Requester, place_of};
+use crate::requester::{Requester, index_of};
 use crate::step::Step;
-use crate::transaction::{Arriving, Asking, Transaction};
+use crate::transaction::{Arriving, Question, Transaction};
 use at_atp_frame::{Frame, PACKET_LEN, send};
 use at_ddp::{Address, Outbox};
 use std::alloc::{AllocError, Allocator};
@@ -19,9 +20,9 @@ impl<A: Allocator + Copy> Requester<A> {
         let Some((tid, arriving)) = answer_in(frame) else {
             return false;
         };
-        match place_of(&self.standing, tid, from) {
+        match index_of(&self.standing, tid, from) {
             None => false,
-            Some(index) => self.standing[index].would_end(arriving.place, arriving.eom),
+            Some(index) => self.standing[index].would_end(arriving.sequence_number, arriving.eom),
         }
     }
 
@@ -38,16 +39,19 @@ impl<A: Allocator + Copy> Requester<A> {
     ) -> Result<(Step<A>, u16), AllocError>
         requires { finishes A self.old from (content frame.now) ≡ true }
         ensures step { IfOk result (λ r. r.0 ≡ (heard self.old from (content frame.now)).step) }
-        ensures drawn { IfOk result (λ r. next_number (heard {A = A} self.old from (content frame.now)).after ≡ Some r.1) }
-        ensures state { IfOk result (λ r. self.new ≡ begun (heard {A = A} self.old from (content frame.now)).after (beginning r.1 from user [] 1 false retries)) }
+        ensures drawn { IfOk result (λ r. next_number (heard {A = A} self.old from (content frame.now)).after
+            ≡ Some r.1) }
+        ensures state { IfOk result (λ r. self.new ≡ begun (heard {A = A} self.old from (content frame.now)).after
+            (beginning r.1 from user [] 1 false retries)) }
 
         // An at-least-once transaction sends no release at its end.
-        ensures sent { IfOk result (λ r. Sends out.old out.new ((from, spelled (request_by (beginning r.1 from user [] 1 false retries))) ∷ [])) }
+        ensures sent { IfOk result (λ r. Sends out.old out.new
+            ((from, spelled (request_by (beginning r.1 from user [] 1 false retries))) ∷ [])) }
         ensures unchanged { OnErr result (self.new ≡ self.old) }
         ensures nothing_sent { OnErr result (Sends out.old out.new []) }
     {
         let (tid, arriving) = answer_in(frame).unwrap();
-        let index = place_of(&self.standing, tid, from).unwrap();
+        let index = index_of(&self.standing, tid, from).unwrap();
         let next = self.following(index, from, user, retries)?;
         out.room(1, PACKET_LEN)?;
         let ended = &mut self.standing[index];
@@ -65,12 +69,13 @@ impl<A: Allocator + Copy> Requester<A> {
         retries: u8,
     ) -> Result<Transaction<A>, AllocError>
         requires { index < length self.now.standing }
-        ensures drawn { IfOk result (λ t. next_number (record self.now { standing = remove self.now.standing index }) ≡ Some t.tid) }
+        ensures drawn { IfOk result (λ t. next_number
+            (record self.now { standing = remove self.now.standing index }) ≡ Some t.tid) }
         ensures asks { IfOk result (λ t. t ≡ beginning t.tid to user [] 1 false retries) }
     {
         let standing = self.standing.as_slice();
         let tid = next_of(&standing[..index], &standing[index + 1..], self.next).unwrap();
-        let asking = Asking {
+        let question = Question {
             to,
             user,
             bytes: &[],
@@ -78,7 +83,7 @@ impl<A: Allocator + Copy> Requester<A> {
             xo: false,
             retries,
         };
-        Transaction::begin(self.alloc, tid, &asking)
+        Transaction::begin(self.alloc, tid, &question)
     }
 
     // Closes the transaction at an index and opens another. Returns the new number.
@@ -97,7 +102,8 @@ impl<A: Allocator + Copy> Requester<A> {
 
 // The number and the contents of a packet of an answer.
 fn answer_in<'a>(frame: &Frame<'a>) -> Option<(u16, Arriving<'a>)>
-    ensures answer { IfSome result (λ r. content frame.now ≡ Response r.1.place r.1.eom r.1.sts r.0 r.1.user r.1.bytes.now) }
+    ensures answer { IfSome result (λ r. content frame.now ≡ Response r.1.sequence_number r.1.eom r.1.sts r.0 r.1.user
+        r.1.bytes.now) }
     ensures other { is_some result ≡ is_response (content frame.now) }
 {
     let Frame::Response {
@@ -112,7 +118,7 @@ fn answer_in<'a>(frame: &Frame<'a>) -> Option<(u16, Arriving<'a>)>
         return None;
     };
     let arriving = Arriving {
-        place,
+        sequence_number: place,
         eom,
         sts,
         user,

@@ -4,7 +4,7 @@ use Rattle.std.specs.Prelude.{find, nat_le, ◌&&◌, IfSome}
 use Rattle.at_ddp.specs.Outbox.{Outbox, Sends}
 use Rattle.at_atp_frame.specs.Frames.{spelled_all}
 use Rattle.at_atp_frame.specs.Packets.{Packet}
-use Rattle.at_atp_responder.specs.Records.{Record, is_key, fit, responses, record_fault, answer_fault, asked_mask, after_answer, IsAnswered}
+use Rattle.at_atp_responder.specs.Records.{Record, is_key, fit, responses, record_fault, answer_fault, asked_bitmap, after_answer, IsAnswered}
 use Rattle.at_atp_frame.specs.declared.fault.AtpFault.TheVariants.{AtpTooLong}
 use Rattle.at_atp_responder.specs.declared.reception.Key.{Key}
 use Rattle.at_ddp.proofs.OutboxLemmas.{sends_later}
@@ -19,14 +19,14 @@ answerable rs key (p ∷ ps) h = go (nat_le (length (p ∷ ps)) 8 && fit (p ∷ 
     go false g = absurd (cc)
 
 -- room was made, and the packets that the record asked for were sent
-pub answered_by : (old new : List Record) (key : Key) (packets : List Packet) (count mask : ℕ) (before between after : Outbox) → answer_fault old key packets ≡ None → IfSome (find (is_key key) old) (λ r. mask ≡ asked_mask r.state) →
-    Sends before between [] → Sends between after (spelled_all (responses key 0 mask packets)) → count ≡ length (responses key 0 mask packets) → new ≡ after_answer old key packets → IsAnswered old new key packets count before after
-answered_by old new key packets count mask before between after free masked none sends counts is = go (find (is_key key) old) refl masked
+pub answered_by : (old new : List Record) (key : Key) (packets : List Packet) (count bitmap : ℕ) (before between after : Outbox) → answer_fault old key packets ≡ None → IfSome (find (is_key key) old) (λ r. bitmap ≡ asked_bitmap r.state) →
+    Sends before between [] → Sends between after (spelled_all (responses key 0 bitmap packets)) → count ≡ length (responses key 0 bitmap packets) → new ≡ after_answer old key packets → IsAnswered old new key packets count before after
+answered_by old new key packets count bitmap before between after free masked none sends counts is = go (find (is_key key) old) refl masked
   where
-    go : (o : Option Record) → find (is_key key) old ≡ o → IfSome o (λ (r : Record). mask ≡ asked_mask r.state) → IsAnswered old new key packets count before after
+    go : (o : Option Record) → find (is_key key) old ≡ o → IfSome o (λ (r : Record). bitmap ≡ asked_bitmap r.state) → IsAnswered old new key packets count before after
     go None e m = let no : record_fault None ≡ None = ap record_fault (sym e) ∙ answerable old key packets free in absurd (cc)
     go (Some r) e m = record {
       is_new = is;
-      sends = rw (e, ← m) (sends_later before between after (spelled_all (responses key 0 mask packets)) none sends);
+      sends = rw (e, ← m) (sends_later before between after (spelled_all (responses key 0 bitmap packets)) none sends);
       counts = rw (e, ← m) counts;
     }

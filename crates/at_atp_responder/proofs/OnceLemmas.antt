@@ -90,11 +90,11 @@ stays key rs after same = (same_stand (stands key rs) (stands key after) same, �
 came_settled : (key k : Key) (rs : List Record) (r : Record) (s : State) → find (is_key k) rs ≡ Some r → stands key (replaced (is_key k) (record r { state = s }) rs) ≡ stands key rs
 came_settled key k rs r s is = stands_replaced key k (record r { state = s }) rs (own k r (found_passes (is_key k) rs r is))
 
-request_settled : (key k : Key) (rs : List Record) (xo : Bool) (mask : ℕ) (o : Option Record) → find (is_key k) rs ≡ o → Settled key rs (request_came rs k xo mask o)
-request_settled key k rs xo mask None none = go (same_key k key) refl
+request_settled : (key k : Key) (rs : List Record) (xo : Bool) (bitmap : ℕ) (o : Option Record) → find (is_key k) rs ≡ o → Settled key rs (request_came rs k xo bitmap o)
+request_settled key k rs xo bitmap None none = go (same_key k key) refl
   where
-    last : stands key (rs ++ record { key = k; state = Waiting xo mask } ∷ []) ≡ (stands key rs || same_key k key)
-    last = stands_last key (record { key = k; state = Waiting xo mask }) rs
+    last : stands key (rs ++ record { key = k; state = Waiting xo bitmap } ∷ []) ≡ (stands key rs || same_key k key)
+    last = stands_last key (record { key = k; state = Waiting xo bitmap }) rs
 
     more : (a b : Bool) → a ≡ true → (a || b) ≡ true
     more true b h = refl
@@ -109,15 +109,15 @@ request_settled key k rs xo mask None none = go (same_key k key) refl
     all true = refl
     all false = refl
 
-    go : (b : Bool) → same_key k key ≡ b → Balanced b (stands key rs) (stands key (rs ++ record { key = k; state = Waiting xo mask } ∷ [])) × (stands key rs ≡ true → stands key (rs ++ record { key = k; state = Waiting xo mask } ∷ []) ≡ true)
+    go : (b : Bool) → same_key k key ≡ b → Balanced b (stands key rs) (stands key (rs ++ record { key = k; state = Waiting xo bitmap } ∷ [])) × (stands key rs ≡ true → stands key (rs ++ record { key = k; state = Waiting xo bitmap } ∷ []) ≡ true)
     go true e =
         let before : stands key rs ≡ false = ap (λ x. stands x rs) (sym (own key (record { key = k; state = Released }) e)) ∙ ap is_some none in
-        (here (stands key rs) (stands key (rs ++ record { key = k; state = Waiting xo mask } ∷ [])) before (last ∙ rw (before, e) refl), λ h. last ∙ more (stands key rs) (same_key k key) h)
-    go false e = stays key rs (rs ++ record { key = k; state = Waiting xo mask } ∷ []) (last ∙ ap (λ b. stands key rs || b) e ∙ all (stands key rs))
-request_settled key k rs xo mask (Some r) is = go r.state
+        (here (stands key rs) (stands key (rs ++ record { key = k; state = Waiting xo bitmap } ∷ [])) before (last ∙ rw (before, e) refl), λ h. last ∙ more (stands key rs) (same_key k key) h)
+    go false e = stays key rs (rs ++ record { key = k; state = Waiting xo bitmap } ∷ []) (last ∙ ap (λ b. stands key rs || b) e ∙ all (stands key rs))
+request_settled key k rs xo bitmap (Some r) is = go r.state
   where
-    go : (s : State) → Settled key rs (came_again rs k r (repeated k mask s))
-    go (Waiting x old) = stays key rs (replaced (is_key k) (record r { state = Waiting x mask }) rs) (came_settled key k rs r (Waiting x mask) is)
+    go : (s : State) → Settled key rs (came_again rs k r (repeated k bitmap s))
+    go (Waiting x old) = stays key rs (replaced (is_key k) (record r { state = Waiting x bitmap }) rs) (came_settled key k rs r (Waiting x bitmap) is)
     go (Answered packets) = stays key rs (replaced (is_key k) (record r { state = Answered packets }) rs) (came_settled key k rs r (Answered packets) is)
     go Released = stays key rs (replaced (is_key k) (record r { state = Released }) rs) (came_settled key k rs r Released is)
 
@@ -126,18 +126,18 @@ release_settled key k rs None is = stays key rs rs refl
 release_settled key k rs (Some r) is = go r.state
   where
     go : (s : State) → Settled key rs (came_again rs k r (released s))
-    go (Waiting xo mask) = stays key rs (replaced (is_key k) (record r { state = Waiting xo mask }) rs) (came_settled key k rs r (Waiting xo mask) is)
+    go (Waiting xo bitmap) = stays key rs (replaced (is_key k) (record r { state = Waiting xo bitmap }) rs) (came_settled key k rs r (Waiting xo bitmap) is)
     go (Answered packets) = stays key rs (replaced (is_key k) (record r { state = Released }) rs) (came_settled key k rs r Released is)
     go Released = stays key rs (replaced (is_key k) (record r { state = Released }) rs) (came_settled key k rs r Released is)
 
 taken_settled : (key : Key) (rs : List Record) (from : Address) (f : Content) → Settled key rs (taken rs from f)
 taken_settled key rs from (Response place eom sts tid user bytes) = stays key rs rs refl
 taken_settled key rs from (Release tid) = release_settled key (record { from = from; tid = tid }) rs (find (is_key (record { from = from; tid = tid })) rs) refl
-taken_settled key rs from (Request mask xo timer tid user bytes) = go (is_passed_over mask)
+taken_settled key rs from (Request bitmap xo timer tid user bytes) = go (is_passed_over bitmap)
   where
-    go : (b : Bool) → Settled key rs (cond b (passed rs) (request_came rs (record { from = from; tid = tid }) xo mask (find (is_key (record { from = from; tid = tid })) rs)))
+    go : (b : Bool) → Settled key rs (cond b (passed rs) (request_came rs (record { from = from; tid = tid }) xo bitmap (find (is_key (record { from = from; tid = tid })) rs)))
     go true = stays key rs rs refl
-    go false = request_settled key (record { from = from; tid = tid }) rs xo mask (find (is_key (record { from = from; tid = tid })) rs) refl
+    go false = request_settled key (record { from = from; tid = tid }) rs xo bitmap (find (is_key (record { from = from; tid = tid })) rs) refl
 
 answer_adds_none : (key k : Key) (packets : List Packet) (rs : List Record) → stands key rs ≡ false → stands key (after_answer rs k packets) ≡ false
 answer_adds_none key k packets rs h = go (is_kept (find (is_key k) rs))
@@ -194,7 +194,7 @@ answer_keeps : (key k : Key) (packets : List Packet) (rs : List Record) (r : Rec
 answer_keeps key k packets rs r is once free = go (is_kept (find (is_key k) rs)) refl
   where
     kept : (s : State) → is_once s ≡ true → record_fault (Some (record { key = key; state = s })) ≡ None → is_kept (Some (record { key = key; state = s })) ≡ true
-    kept (Waiting xo mask) o f = o
+    kept (Waiting xo bitmap) o f = o
     kept (Answered packets) o f = absurd (cc)
     kept Released o f = absurd (cc)
 

@@ -17,23 +17,23 @@ use Rattle.at_ddp.proofs.TableLemmas.{Found}
 use Rattle.at_ddp.proofs.OutboxLemmas.{sends_nothing}
 
 -- a record for a new request
-pub taken_new : (rs new : List Record) (key : Key) (xo : Bool) (mask : ℕ) (r : Reception) (out : Outbox) → find (is_key key) rs ≡ None → r ≡ New key → new ≡ rs ++ record { key = key; state = Waiting xo mask } ∷ [] →
-    IsTaken (request_came rs key xo mask (find (is_key key) rs)) r new out out
-taken_new rs new key xo mask r out none is added = rw none (record { is_reception = is; is_new = added; sends = sends_nothing out })
+pub taken_new : (rs new : List Record) (key : Key) (xo : Bool) (bitmap : ℕ) (r : Reception) (out : Outbox) → find (is_key key) rs ≡ None → r ≡ New key → new ≡ rs ++ record { key = key; state = Waiting xo bitmap } ∷ [] →
+    IsTaken (request_came rs key xo bitmap (find (is_key key) rs)) r new out out
+taken_new rs new key xo bitmap r out none is added = rw none (record { is_reception = is; is_new = added; sends = sends_nothing out })
 
 -- what a record's key is
 pub own : (key : Key) (r : Record) → is_key key r ≡ true → r.key ≡ key
 own key r h = let both = same_both r.key.from key.from r.key.tid key.tid h in λ i. record { from = both.0 i; tid = both.1 i }
 
 -- the request of a record that stands came again
-pub taken_again : (rs new : List Record) (key : Key) (xo : Bool) (mask : ℕ) (r : Reception) (i : ℕ) (before after : Outbox) → (f : Found (is_key key) rs i) →
-    (old now : Record) × (slice_get rs i ≡ Some old) × IsRepeat (repeated old.key mask old.state) r old now before after × (new ≡ set rs i now) →
-    IsTaken (request_came rs key xo mask (find (is_key key) rs)) r new before after
-taken_again rs new key xo mask r i before after f h =
+pub taken_again : (rs new : List Record) (key : Key) (xo : Bool) (bitmap : ℕ) (r : Reception) (i : ℕ) (before after : Outbox) → (f : Found (is_key key) rs i) →
+    (old now : Record) × (slice_get rs i ≡ Some old) × IsRepeat (repeated old.key bitmap old.state) r old now before after × (new ≡ set rs i now) →
+    IsTaken (request_came rs key xo bitmap (find (is_key key) rs)) r new before after
+taken_again rs new key xo bitmap r i before after f h =
     let same : h.0 ≡ f.entry = sym (get_or_from_slice_get rs i h.0 h.0 h.2) ∙ f.at h.0 in
     let keyed : (f.entry).key ≡ key = own key f.entry f.passes in
-    let e : IsRepeat (repeated key mask (f.entry).state) r f.entry h.1 before after =
-    subst (λ k. IsRepeat (repeated k mask (f.entry).state) r f.entry h.1 before after) keyed (subst (λ (x : Record). IsRepeat (repeated x.key mask x.state) r x h.1 before after) same h.3) in
+    let e : IsRepeat (repeated key bitmap (f.entry).state) r f.entry h.1 before after =
+    subst (λ k. IsRepeat (repeated k bitmap (f.entry).state) r f.entry h.1 before after) keyed (subst (λ (x : Record). IsRepeat (repeated x.key bitmap x.state) r x h.1 before after) same h.3) in
     rw f.first (record { is_reception = e.is_reception; is_new = h.4 ∙ sym (f.set_is h.1) ∙ ap (λ x. replaced (is_key key) x rs) e.is_new; sends = e.sends })
 
 pub full_if : (rs : List Record) (key : Key) → find (is_key key) rs ≡ None → 64 ≤ length rs → is_new_and_full rs key ≡ true
@@ -45,20 +45,20 @@ full_then rs key h = leb-true 64 (length rs) (and_parts (is_none (find (is_key k
 pub not_new : (rs : List Record) (key : Key) (r : Record) → find (is_key key) rs ≡ Some r → is_new_and_full rs key ≡ true → ⊥
 not_new rs key r is h = true≢false (sym h ∙ (rw is refl))
 
-pub taken_new_in : (rs new : List Record) (key : Key) (xo : Bool) (mask : ℕ) (r : Result Reception AtpFault) (out : Outbox) → find (is_key key) rs ≡ None → IfOk r (λ x. (x ≡ New key) × (new ≡ rs ++ record { key = key; state = Waiting xo mask } ∷ [])) →
-    IfOk r (λ x. IsTaken (request_came rs key xo mask (find (is_key key) rs)) x new out out)
-taken_new_in rs new key xo mask (Ok x) out none h = taken_new rs new key xo mask x out none h.0 h.1
-taken_new_in rs new key xo mask (Err e) out none h = h
+pub taken_new_in : (rs new : List Record) (key : Key) (xo : Bool) (bitmap : ℕ) (r : Result Reception AtpFault) (out : Outbox) → find (is_key key) rs ≡ None → IfOk r (λ x. (x ≡ New key) × (new ≡ rs ++ record { key = key; state = Waiting xo bitmap } ∷ [])) →
+    IfOk r (λ x. IsTaken (request_came rs key xo bitmap (find (is_key key) rs)) x new out out)
+taken_new_in rs new key xo bitmap (Ok x) out none h = taken_new rs new key xo bitmap x out none h.0 h.1
+taken_new_in rs new key xo bitmap (Err e) out none h = h
 
 -- a new request is delivered to the service
-pub new_not_ignored : (rs : List Record) (key : Key) (xo : Bool) (mask : ℕ) → find (is_key key) rs ≡ None → (request_came rs key xo mask (find (is_key key) rs)).reception ≡ Ignored → ⊥
-new_not_ignored rs key xo mask none = rw none (λ h. cc)
+pub new_not_ignored : (rs : List Record) (key : Key) (xo : Bool) (bitmap : ℕ) → find (is_key key) rs ≡ None → (request_came rs key xo bitmap (find (is_key key) rs)).reception ≡ Ignored → ⊥
+new_not_ignored rs key xo bitmap none = rw none (λ h. cc)
 
 -- what has no effect on the requests has none on the record of its request
-pub again_ignored : (rs : List Record) (key : Key) (xo : Bool) (mask i : ℕ) → (f : Found (is_key key) rs i) → (request_came rs key xo mask (find (is_key key) rs)).reception ≡ Ignored →
-    (slice_get rs i ≡ Some f.entry) × ((repeated (f.entry).key mask (f.entry).state).reception ≡ Ignored)
-again_ignored rs key xo mask i f = rw f.first (λ h.
-    (slice_get-get_or rs i f.entry f.within ∙ ap Some (f.at f.entry), subst (λ k. (repeated k mask (f.entry).state).reception ≡ Ignored) (sym (own key f.entry f.passes)) h))
+pub again_ignored : (rs : List Record) (key : Key) (xo : Bool) (bitmap i : ℕ) → (f : Found (is_key key) rs i) → (request_came rs key xo bitmap (find (is_key key) rs)).reception ≡ Ignored →
+    (slice_get rs i ≡ Some f.entry) × ((repeated (f.entry).key bitmap (f.entry).state).reception ≡ Ignored)
+again_ignored rs key xo bitmap i f = rw f.first (λ h.
+    (slice_get-get_or rs i f.entry f.within ∙ ap Some (f.at f.entry), subst (λ k. (repeated k bitmap (f.entry).state).reception ≡ Ignored) (sym (own key f.entry f.passes)) h))
 
 -- ---- releases
 

@@ -6,7 +6,7 @@ use Rattle.at_ddp.specs.declared.address.Address.{Address}
 use Rattle.at_ddp.proofs.Octets.{same_address_itself}
 use Rattle.at_atp_frame.specs.Frames.{Content, Request, Response, Release, number_of}
 use Rattle.at_atp_frame.specs.Packets.{Packet}
-use Rattle.at_atp_responder.specs.Records.{State, Waiting, Answered, Released, Record, is_key, responses, repeated, released, came_again, request_came, release_came, passed, is_passed_over, taken, record_fault, asked_for, asked_mask}
+use Rattle.at_atp_responder.specs.Records.{State, Waiting, Answered, Released, Record, is_key, responses, repeated, released, came_again, request_came, release_came, passed, is_passed_over, taken, record_fault, asked_for, asked_bitmap}
 use Rattle.at_atp_responder.specs.declared.reception.Key.{Key}
 use Rattle.at_atp_responder.specs.declared.reception.Reception.TheVariants.{New}
 
@@ -15,8 +15,8 @@ use Rattle.at_atp_responder.specs.declared.reception.Reception.TheVariants.{New}
 same_new : (k key : Key) → New k ≡ New key → k ≡ key
 same_new k key h = cc
 
-its_own : (key : Key) (xo : Bool) (mask : ℕ) → is_key key (record { key = key; state = Waiting xo mask }) ≡ true
-its_own key xo mask = rw (same_address_itself key.from, eq-eqb key.tid key.tid refl) refl
+its_own : (key : Key) (xo : Bool) (bitmap : ℕ) → is_key key (record { key = key; state = Waiting xo bitmap }) ≡ true
+its_own key xo bitmap = rw (same_address_itself key.from, eq-eqb key.tid key.tid refl) refl
 
 find_last : (p : Record → Bool) (rs : List Record) (x : Record) → find p rs ≡ None → p x ≡ true → find p (rs ++ x ∷ []) ≡ Some x
 find_last p [] x none is = rw is refl
@@ -30,18 +30,18 @@ find_last p (r ∷ rs) x none is = go (λ g. find_last p rs x g is) (p r) refl n
 abbrev pub IsWaiting : Address → ℕ → Key → List Record → List (Address × Content) → Type 0
 IsWaiting from tid key after sent = (record_fault (find (is_key key) after) ≡ None) × (sent ≡ []) × (key ≡ record { from = from; tid = tid })
 
-came_new : (rs : List Record) (from : Address) (tid : ℕ) (xo : Bool) (mask : ℕ) (key : Key) (o : Option Record) → find (is_key (record { from = from; tid = tid })) rs ≡ o → (request_came rs (record { from = from; tid = tid }) xo mask o).reception ≡ New key →
-    IsWaiting from tid key (request_came rs (record { from = from; tid = tid }) xo mask o).after (request_came rs (record { from = from; tid = tid }) xo mask o).sent
-came_new rs from tid xo mask key None none h =
+came_new : (rs : List Record) (from : Address) (tid : ℕ) (xo : Bool) (bitmap : ℕ) (key : Key) (o : Option Record) → find (is_key (record { from = from; tid = tid })) rs ≡ o → (request_came rs (record { from = from; tid = tid }) xo bitmap o).reception ≡ New key →
+    IsWaiting from tid key (request_came rs (record { from = from; tid = tid }) xo bitmap o).after (request_came rs (record { from = from; tid = tid }) xo bitmap o).sent
+came_new rs from tid xo bitmap key None none h =
     let same = same_new (record { from = from; tid = tid }) key h in (
-      ap (λ k. record_fault (find (is_key k) (rs ++ record { key = record { from = from; tid = tid }; state = Waiting xo mask } ∷ []))) (sym same)
-          ∙ ap record_fault (find_last (is_key (record { from = from; tid = tid })) rs (record { key = record { from = from; tid = tid }; state = Waiting xo mask }) none (its_own (record { from = from; tid = tid }) xo mask)),
+      ap (λ k. record_fault (find (is_key k) (rs ++ record { key = record { from = from; tid = tid }; state = Waiting xo bitmap } ∷ []))) (sym same)
+          ∙ ap record_fault (find_last (is_key (record { from = from; tid = tid })) rs (record { key = record { from = from; tid = tid }; state = Waiting xo bitmap }) none (its_own (record { from = from; tid = tid }) xo bitmap)),
       refl,
       sym same,
     )
-came_new rs from tid xo mask key (Some r) some h = go r.state h
+came_new rs from tid xo bitmap key (Some r) some h = go r.state h
   where
-    go : (s : State) → (came_again rs (record { from = from; tid = tid }) r (repeated (record { from = from; tid = tid }) mask s)).reception ≡ New key → IsWaiting from tid key (came_again rs (record { from = from; tid = tid }) r (repeated (record { from = from; tid = tid }) mask s)).after (came_again rs (record { from = from; tid = tid }) r (repeated (record { from = from; tid = tid }) mask s)).sent
+    go : (s : State) → (came_again rs (record { from = from; tid = tid }) r (repeated (record { from = from; tid = tid }) bitmap s)).reception ≡ New key → IsWaiting from tid key (came_again rs (record { from = from; tid = tid }) r (repeated (record { from = from; tid = tid }) bitmap s)).after (came_again rs (record { from = from; tid = tid }) r (repeated (record { from = from; tid = tid }) bitmap s)).sent
     go (Waiting x old) g = absurd (cc)
     go (Answered packets) g = absurd (cc)
     go Released g = absurd (cc)
@@ -51,30 +51,30 @@ taken_new_waits rs from (Response place eom sts tid user bytes) key h = absurd (
 taken_new_waits rs from (Release tid) key h = go (find (is_key (record { from = from; tid = tid })) rs) h
   where
     of : (r : Record) (s : State) → (came_again rs (record { from = from; tid = tid }) r (released s)).reception ≡ New key → ⊥
-    of r (Waiting xo mask) g = cc
+    of r (Waiting xo bitmap) g = cc
     of r (Answered packets) g = cc
     of r Released g = cc
 
     go : (o : Option Record) → (release_came rs (record { from = from; tid = tid }) o).reception ≡ New key → IsWaiting from tid key (release_came rs (record { from = from; tid = tid }) o).after (release_came rs (record { from = from; tid = tid }) o).sent
     go None g = absurd (cc)
     go (Some r) g = absurd (of r r.state g)
-taken_new_waits rs from (Request mask xo timer tid user bytes) key h = go (is_passed_over mask) h
+taken_new_waits rs from (Request bitmap xo timer tid user bytes) key h = go (is_passed_over bitmap) h
   where
-    go : (b : Bool) → (cond b (passed rs) (request_came rs (record { from = from; tid = tid }) xo mask (find (is_key (record { from = from; tid = tid })) rs))).reception ≡ New key →
-        IsWaiting from tid key (cond b (passed rs) (request_came rs (record { from = from; tid = tid }) xo mask (find (is_key (record { from = from; tid = tid })) rs))).after (cond b (passed rs) (request_came rs (record { from = from; tid = tid }) xo mask (find (is_key (record { from = from; tid = tid })) rs))).sent
+    go : (b : Bool) → (cond b (passed rs) (request_came rs (record { from = from; tid = tid }) xo bitmap (find (is_key (record { from = from; tid = tid })) rs))).reception ≡ New key →
+        IsWaiting from tid key (cond b (passed rs) (request_came rs (record { from = from; tid = tid }) xo bitmap (find (is_key (record { from = from; tid = tid })) rs))).after (cond b (passed rs) (request_came rs (record { from = from; tid = tid }) xo bitmap (find (is_key (record { from = from; tid = tid })) rs))).sent
     go true g = absurd (cc)
-    go false g = came_new rs from tid xo mask key (find (is_key (record { from = from; tid = tid })) rs) refl g
+    go false g = came_new rs from tid xo bitmap key (find (is_key (record { from = from; tid = tid })) rs) refl g
 
 -- ---- answers
 
-responses_few : (key : Key) (place mask : ℕ) (packets : List Packet) → length (responses key place mask packets) ≤ length packets
-responses_few key place mask [] = lit≤ tt
-responses_few key place mask (p ∷ ps) = go (mask % 2 == 1) (responses_few key (place + 1) (mask / 2) ps)
+responses_few : (key : Key) (place bitmap : ℕ) (packets : List Packet) → length (responses key place bitmap packets) ≤ length packets
+responses_few key place bitmap [] = lit≤ tt
+responses_few key place bitmap (p ∷ ps) = go (bitmap % 2 == 1) (responses_few key (place + 1) (bitmap / 2) ps)
   where
-    go : (b : Bool) → length (responses key (place + 1) (mask / 2) ps) ≤ length ps → length (cond b ((key.from, Response place (length ps == 0) false key.tid p.user p.data_) ∷ []) [] ++ responses key (place + 1) (mask / 2) ps) ≤ length (p ∷ ps)
+    go : (b : Bool) → length (responses key (place + 1) (bitmap / 2) ps) ≤ length ps → length (cond b ((key.from, Response place (length ps == 0) false key.tid p.user p.data_) ∷ []) [] ++ responses key (place + 1) (bitmap / 2) ps) ≤ length (p ∷ ps)
     go true le = omega (arith, le)
     go false le = omega (arith, le)
 
 pub asked_few : (o : Option Record) (key : Key) (packets : List Packet) → length (asked_for o key packets) ≤ length packets
 asked_few None key packets = omega arith
-asked_few (Some r) key packets = responses_few key 0 (asked_mask r.state) packets
+asked_few (Some r) key packets = responses_few key 0 (asked_bitmap r.state) packets

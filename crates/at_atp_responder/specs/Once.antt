@@ -1,10 +1,12 @@
 -- How often a responder delivers a request (Inside AppleTalk, ATP, "At-least-once and exactly-once transactions").
-use Rattle.std.specs.Prelude.{ℕ, ◌+◌, ◌==◌, ◌&&◌, not, is_some, if◌then◌else◌, Bool, true, false, List, [], ◌∷◌, find, Option, Some, None}
+use Rattle.std.specs.Prelude.{ℕ, ◌+◌, ◌==◌, ◌&&◌, not, is_some, if◌then◌else◌, Bool, true, false, List, [], ◌∷◌, find}
+use Rattle.std.specs.Prelude.{Option, Some, None}
 use Rattle.at_ddp.specs.Address.{same_address}
 use Rattle.at_ddp.specs.declared.address.Address.{Address}
 use Rattle.at_atp_frame.specs.Frames.{Content}
 use Rattle.at_atp_frame.specs.Packets.{Packet}
-use Rattle.at_atp_responder.specs.Records.{State, Waiting, Answered, Released, Record, is_key, taken, record_fault, answer_fault, after_answer, expiry_fault}
+use Rattle.at_atp_responder.specs.Records.{State, Waiting, Answered, Released, Record, is_key, taken, record_fault}
+use Rattle.at_atp_responder.specs.Records.{answer_fault, after_answer, expiry_fault}
 use Rattle.at_ddp.specs.Tables.{without_first}
 use Rattle.at_atp_frame.specs.declared.fault.AtpFault.{AtpFault}
 use Rattle.at_atp_responder.specs.declared.reception.Key.{Key}
@@ -69,6 +71,6 @@ removals key rs (e ∷ es) = once_if (removes key rs e) + removals key (next rs 
 
 -- is the request exactly-once?
 abbrev pub is_once : State → Bool
-is_once (Waiting xo mask) = xo
+is_once (Waiting xo bitmap) = xo
 is_once (Answered packets) = true
 is_once Released = true

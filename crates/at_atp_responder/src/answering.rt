@@ -2,9 +2,9 @@ ghost use Rattle.std.specs.Prelude.{◌≡◌, ℕ, false, [], find, IfOk, IfErr
 ghost use Rattle.at_ddp.specs.Outbox.{Sends, HasRoomFor};
 ghost use Rattle.at_atp_responder.specs.Records.{fit, is_key, is_kept, record_fault, answer_fault, IsAnswered};
 
-use crate::entry::{Entry, send_answer};
 use crate::reception::Key;
-use crate::records::{forget, is_kept, mask_of, record_fault, settle};
+use crate::record::{Record, send_answer};
+use crate::records::{bitmap_of, forget, is_kept, record_fault, settle};
 use crate::responder::Responder;
 use at_atp_frame::{AtpFault, MAX_DATA, PACKET_LEN, Packet};
 use at_ddp::{Listed, Outbox};
@@ -24,22 +24,24 @@ impl<A: Allocator + Copy> Responder<A> {
     ) -> Result<u8, AtpFault>
         ensures ok { IfOk result (λ count. IsAnswered self.old self.new key packets.now count out.old out.new) }
         ensures refuses { IfSome (answer_fault self.old key packets.now) (λ fault. result ≡ Err fault) }
-        ensures memory { answer_fault self.old key packets.now ≡ None → IfErr result (λ fault. fault ≡ AtpFault.NoMemory) }
+        ensures memory { answer_fault self.old key packets.now ≡ None
+            → IfErr result (λ fault. fault ≡ AtpFault.NoMemory) }
         ensures unchanged { OnErr result (self.new ≡ self.old) }
         ensures nothing_sent { OnErr result (Sends out.old out.new []) }
 
         // Never out of memory if there is room for eight full packets and the answer is not kept.
-        ensures room { HasRoomFor out.old 8 586 → answer_fault self.old key packets.now ≡ None → is_kept (find (is_key key) self.old) ≡ false → IsOk result }
+        ensures room { HasRoomFor out.old 8 586 → answer_fault self.old key packets.now ≡ None
+            → is_kept (find (is_key key) self.old) ≡ false → IsOk result }
     {
-        if let Some(fault) = answer_fault(&self.entries, key, packets) {
+        if let Some(fault) = answer_fault(&self.records, key, packets) {
             return Err(fault);
         }
-        if is_kept(&self.entries, key) {
+        if is_kept(&self.records, key) {
             return self.hand_over(key, copy_of(self.alloc, packets)?, out);
         }
         out.room(packets.len() as u32, PACKET_LEN)?;
-        let mask = forget(&mut self.entries, key);
-        Ok(send_answer(out, key, 0, mask, packets))
+        let bitmap = forget(&mut self.records, key);
+        Ok(send_answer(out, key, 0, bitmap, packets))
     }
 
     /// The same as `respond`, with packets that it takes over. So it needs no memory to keep them.
@@ -59,13 +61,13 @@ impl<A: Allocator + Copy> Responder<A> {
         ensures room { HasRoomFor out.old 8 586 → answer_fault self.old key packets ≡ None → IsOk result }
     {
         let answer = packets.as_slice();
-        if let Some(fault) = answer_fault(&self.entries, key, answer) {
+        if let Some(fault) = answer_fault(&self.records, key, answer) {
             return Err(fault);
         }
         out.room(answer.len() as u32, PACKET_LEN)?;
-        let mask = mask_of(&self.entries, key);
-        let count = send_answer(out, key, 0, mask, answer);
-        settle(&mut self.entries, key, packets);
+        let bitmap = bitmap_of(&self.records, key);
+        let count = send_answer(out, key, 0, bitmap, answer);
+        settle(&mut self.records, key, packets);
         Ok(count)
     }
 
@@ -73,12 +75,13 @@ impl<A: Allocator + Copy> Responder<A> {
     pub fn room(&self, key: Key, out: &mut Outbox<A>) -> Result<(), AtpFault>
         ensures ok { OnOk result (HasRoomFor out.new 8 586) }
         ensures refuses { IfSome (record_fault (find (is_key key) self.now)) (λ fault. result ≡ Err fault) }
-        ensures memory { record_fault (find (is_key key) self.now) ≡ None → IfErr result (λ fault. fault ≡ AtpFault.NoMemory) }
+        ensures memory { record_fault (find (is_key key) self.now) ≡ None
+            → IfErr result (λ fault. fault ≡ AtpFault.NoMemory) }
         ensures succeeds { record_fault (find (is_key key) self.now) ≡ None → HasRoomFor out.old 8 586 → IsOk result }
         ensures nothing_sent { Sends out.old out.new [] }
         ensures kept { (n size : ℕ) → HasRoomFor out.old n size → HasRoomFor out.new n size }
     {
-        if let Some(fault) = record_fault(&self.entries, key) {
+        if let Some(fault) = record_fault(&self.records, key) {
             return Err(fault);
         }
         out.room(PACKETS as u32, PACKET_LEN)?;
@@ -88,17 +91,17 @@ impl<A: Allocator + Copy> Responder<A> {
 
 // Why an answer is refused: first for its packets, then for its request.
 fn answer_fault<A: Allocator>(
-    entries: &[Entry<A>],
+    records: &[Record<A>],
     key: Key,
     packets: &[Packet<A>],
 ) -> Option<AtpFault>
-    ensures { result ≡ answer_fault entries.now key packets.now }
+    ensures { result ≡ answer_fault records.now key packets.now }
 {
     match packets {
         [] => Some(AtpFault::EmptyAnswer),
         [_, ..] => {
             if packets.len() <= PACKETS && fit(packets) {
-                record_fault(entries, key)
+                record_fault(records, key)
             } else {
                 Some(AtpFault::AtpTooLong)
             }

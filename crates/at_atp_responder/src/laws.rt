@@ -12,23 +12,29 @@ ghost use Rattle.at_atp_frame.specs.Packets.{Packet};
 /// A new request waits under its own key from then on, and nothing is sent for it.
 pub fn a_new_request_waits()
     ensures { (rs : List Record) (from : Address) (f : Content) (key : Key) → (taken rs from f).reception ≡ New key
-        → (record_fault (find (is_key key) (taken rs from f).after) ≡ None) × ((taken rs from f).sent ≡ []) × (key ≡ record { from = from; tid = number_of f }) }
+        → (record_fault (find (is_key key) (taken rs from f).after) ≡ None) × ((taken rs from f).sent ≡ [])
+        × (key ≡ record { from = from; tid = number_of f }) }
 {}
 
 /// Between two removals of its record, a request is delivered to the service at most once, whatever comes. The record
 /// of an exactly-once request is removed only if it expires or is undone.
 pub fn a_request_is_handed_up_once()
-    ensures once { (key : Key) (rs : List Record) (events : List Event) → hand_ups key rs events ≤ removals key rs events + 1 }
-    ensures standing { (key : Key) (rs : List Record) (events : List Event) → stands key rs ≡ true → hand_ups key rs events ≤ removals key rs events }
-    ensures removed { (key : Key) (rs : List Record) (r : Record) (e : Event) → find (is_key key) rs ≡ Some r → is_once r.state ≡ true → removes key rs e ≡ true → (e ≡ Expires key) ⊎ (e ≡ Undoes key) }
+    ensures once { (key : Key) (rs : List Record) (events : List Event)
+        → hand_ups key rs events ≤ removals key rs events + 1 }
+    ensures standing { (key : Key) (rs : List Record) (events : List Event) → stands key rs ≡ true
+        → hand_ups key rs events ≤ removals key rs events }
+    ensures removed { (key : Key) (rs : List Record) (r : Record) (e : Event) → find (is_key key) rs ≡ Some r
+        → is_once r.state ≡ true → removes key rs e ≡ true → (e ≡ Expires key) ⊎ (e ≡ Undoes key) }
 {}
 
 /// No more packets are sent than the answer has.
 pub fn no_more_is_sent_than_answered()
-    ensures { (o : Option Record) (key : Key) (packets : List Packet) → length (asked_for o key packets) ≤ length packets }
+    ensures { (o : Option Record) (key : Key) (packets : List Packet)
+        → length (asked_for o key packets) ≤ length packets }
 {}
 
 /// Only a request that waits is answered.
 pub fn only_a_waiting_request_is_answered()
-    ensures { (rs : List Record) (key : Key) (packets : List Packet) → answer_fault rs key packets ≡ None → record_fault (find (is_key key) rs) ≡ None }
+    ensures { (rs : List Record) (key : Key) (packets : List Packet) → answer_fault rs key packets ≡ None
+        → record_fault (find (is_key key) rs) ≡ None }
 {}

@@ -2,9 +2,9 @@
 #![tactic(auto)]
 
 mod answering;
-mod entry;
 pub mod laws;
 mod reception;
+mod record;
 mod records;
 mod responder;
 

@@ -1,12 +1,15 @@
-ghost use Rattle.std.specs.Prelude.{◌≡◌, ◌≢◌, ◌↔◌, ◌<◌, ◌≤◌, ◌∷◌, slice_get, slice_set, [], ◌++◌, length, true, find, IfOk, IfErr, IfSome, OnErr, IsOk, IsErrOf, Some};
+ghost use Rattle.std.specs.Prelude.{◌≡◌, ◌≢◌, ◌↔◌, ◌<◌, ◌≤◌, ◌∷◌, slice_get, slice_set, [], ◌++◌, length, true, find};
+ghost use Rattle.std.specs.Prelude.{IfOk, IfErr, IfSome, OnErr, IsOk, IsErrOf, Some};
 ghost use Rattle.std.specs.List.{position_from};
 ghost use Rattle.std.specs.Option.{option_copied};
 ghost use Rattle.at_ddp.specs.Outbox.{Sends};
-ghost use Rattle.at_atp_responder.specs.Records.{Record, repeated, released, request_came, release_came, is_new_and_full, IsRepeat, Waiting, Answered, fit, is_key, is_kept, record_fault, expiry_fault, asked_mask, after_answer, IsTaken};
+ghost use Rattle.at_atp_responder.specs.Records.{Record as Kept, repeated, released, request_came, release_came};
+ghost use Rattle.at_atp_responder.specs.Records.{is_new_and_full, IsRepeat, Waiting, Answered, fit, is_key, is_kept};
+ghost use Rattle.at_atp_responder.specs.Records.{record_fault, expiry_fault, asked_bitmap, after_answer, IsTaken};
 ghost use Rattle.at_ddp.specs.Tables.{replaced, without_first};
 
-use crate::entry::Entry;
 use crate::reception::{Key, Reception};
+use crate::record::Record;
 use at_atp_frame::{AtpFault, Packet};
 use at_ddp::{Listed, Outbox};
 use std::alloc::{AllocError, Allocator};
@@ -15,75 +18,78 @@ use std::alloc::{AllocError, Allocator};
 const RECORDS: usize = 64;
 
 // Why a request cannot be answered.
-pub(crate) fn record_fault<A: Allocator>(entries: &[Entry<A>], key: Key) -> Option<AtpFault>
-    ensures { result ≡ record_fault (find (is_key key) entries.now) }
+pub(crate) fn record_fault<A: Allocator>(records: &[Record<A>], key: Key) -> Option<AtpFault>
+    ensures { result ≡ record_fault (find (is_key key) records.now) }
 {
-    match entry_of(entries, key) {
+    match record_of(records, key) {
         None => Some(AtpFault::NoSuch),
-        Some(entry) => entry.fault(),
+        Some(record) => record.fault(),
     }
 }
 
 // Why a record cannot expire.
-pub(crate) fn expiry_fault<A: Allocator>(entries: &[Entry<A>], key: Key) -> Option<AtpFault>
-    ensures { result ≡ expiry_fault (find (is_key key) entries.now) }
+pub(crate) fn expiry_fault<A: Allocator>(records: &[Record<A>], key: Key) -> Option<AtpFault>
+    ensures { result ≡ expiry_fault (find (is_key key) records.now) }
 {
-    match entry_of(entries, key) {
+    match record_of(records, key) {
         None => Some(AtpFault::NoSuch),
-        Some(entry) => entry.expiry_fault(),
+        Some(record) => record.expiry_fault(),
     }
 }
 
 // Whether the answer to a request will be kept.
-pub(crate) fn is_kept<A: Allocator>(entries: &[Entry<A>], key: Key) -> bool
-    ensures { result ≡ is_kept (find (is_key key) entries.now) }
+pub(crate) fn is_kept<A: Allocator>(records: &[Record<A>], key: Key) -> bool
+    ensures { result ≡ is_kept (find (is_key key) records.now) }
 {
-    match entry_of(entries, key) {
+    match record_of(records, key) {
         None => false,
-        Some(entry) => entry.keeps_answer(),
+        Some(record) => record.keeps_answer(),
     }
 }
 
 // Which packets a request asks for, if it waits.
-pub(crate) fn mask_of<A: Allocator>(entries: &[Entry<A>], key: Key) -> u8
-    ensures { IfSome (find (is_key key) entries.now) (λ r. result ≡ asked_mask r.state) }
+pub(crate) fn bitmap_of<A: Allocator>(records: &[Record<A>], key: Key) -> u8
+    ensures { IfSome (find (is_key key) records.now) (λ r. result ≡ asked_bitmap r.state) }
 {
-    match entry_of(entries, key) {
+    match record_of(records, key) {
         None => 0,
-        Some(entry) => entry.mask(),
+        Some(record) => record.bitmap(),
     }
 }
 
-pub(crate) fn entry_of<A: Allocator>(entries: &[Entry<A>], key: Key) -> Option<&Entry<A>>
-    ensures { option_copied result ≡ find (is_key key) entries.now }
+pub(crate) fn record_of<A: Allocator>(records: &[Record<A>], key: Key) -> Option<&Record<A>>
+    ensures { option_copied result ≡ find (is_key key) records.now }
 {
-    entries.iter().find(|e| e.is_of(key))
+    records.iter().find(|e| e.is_of(key))
 }
 
-fn place_of<A: Allocator>(entries: &[Entry<A>], key: Key) -> Option<usize>
-    ensures { result ≡ position_from (is_key key) 0 entries.now }
+fn index_of<A: Allocator>(records: &[Record<A>], key: Key) -> Option<usize>
+    ensures { result ≡ position_from (is_key key) 0 records.now }
 {
-    entries.iter().position(|e| e.is_of(key))
+    records.iter().position(|e| e.is_of(key))
 }
 
 // Takes a request that asks for at least one packet.
 pub(crate) fn take_in<A: Allocator>(
-    entries: &mut Vec<Entry<A>, A>,
+    records: &mut Vec<Record<A>, A>,
     key: Key,
     xo: bool,
-    mask: u8,
+    bitmap: u8,
     out: &mut Outbox<A>,
 ) -> Result<Reception, AtpFault>
-    ensures ok { IfOk result (λ r. IsTaken (request_came entries.old.items key xo mask (find (is_key key) entries.old.items)) r entries.new.items out.old out.new) }
-    ensures full { IsErrOf result AtpFault.Full ↔ (is_new_and_full entries.old.items key ≡ true) }
+    ensures ok { IfOk result (λ r. IsTaken
+        (request_came records.old.items key xo bitmap (find (is_key key) records.old.items)) r records.new.items
+        out.old out.new) }
+    ensures full { IsErrOf result AtpFault.Full ↔ (is_new_and_full records.old.items key ≡ true) }
     ensures memory { IfErr result (λ fault. fault ≢ AtpFault.Full → fault ≡ AtpFault.NoMemory) }
-    ensures unchanged { OnErr result (entries.new.items ≡ entries.old.items) }
+    ensures unchanged { OnErr result (records.new.items ≡ records.old.items) }
     ensures nothing_sent { OnErr result (Sends out.old out.new []) }
-    ensures ignored { (request_came entries.old.items key xo mask (find (is_key key) entries.old.items)).reception ≡ Reception.Ignored → IsOk result }
+    ensures ignored { (request_came records.old.items key xo bitmap (find (is_key key) records.old.items)).reception
+        ≡ Reception.Ignored → IsOk result }
 {
-    match place_of(entries, key) {
-        None => add(entries, key, xo, mask),
-        Some(index) => match repeat(entries, index, mask, out) {
+    match index_of(records, key) {
+        None => add(records, key, xo, bitmap),
+        Some(index) => match repeat(records, index, bitmap, out) {
             Ok(reception) => Ok(reception),
             Err(AllocError) => Err(AtpFault::NoMemory),
         },
@@ -92,91 +98,96 @@ pub(crate) fn take_in<A: Allocator>(
 
 // Adds a record for a new request.
 fn add<A: Allocator>(
-    entries: &mut Vec<Entry<A>, A>,
+    records: &mut Vec<Record<A>, A>,
     key: Key,
     xo: bool,
-    mask: u8,
+    bitmap: u8,
 ) -> Result<Reception, AtpFault>
-    ensures ok { IfOk result (λ r. (r ≡ Reception.New key) × (entries.new.items ≡ entries.old.items ++ record { key = key; state = Waiting xo mask } ∷ [])) }
-    ensures full { IsErrOf result AtpFault.Full ↔ (64 ≤ length entries.old.items) }
+    ensures ok { IfOk result (λ r. (r ≡ Reception.New key)
+        × (records.new.items ≡ records.old.items ++ record { key = key; state = Waiting xo bitmap } ∷ [])) }
+    ensures full { IsErrOf result AtpFault.Full ↔ (64 ≤ length records.old.items) }
     ensures memory { IfErr result (λ fault. fault ≢ AtpFault.Full → fault ≡ AtpFault.NoMemory) }
-    ensures unchanged { OnErr result (entries.new.items ≡ entries.old.items) }
+    ensures unchanged { OnErr result (records.new.items ≡ records.old.items) }
 {
-    if entries.len() >= RECORDS {
+    if records.len() >= RECORDS {
         return Err(AtpFault::Full);
     }
-    entries.reserve(1)?;
-    entries.push(Entry::waiting(key, xo, mask)).unwrap();
+    records.reserve(1)?;
+    records.push(Record::waiting(key, xo, bitmap)).unwrap();
     Ok(Reception::New(key))
 }
 
 // Takes a request again whose record is at this index.
 fn repeat<A: Allocator>(
-    entries: &mut Vec<Entry<A>, A>,
+    records: &mut Vec<Record<A>, A>,
     index: usize,
-    mask: u8,
+    bitmap: u8,
     out: &mut Outbox<A>,
 ) -> Result<Reception, AllocError>
-    requires { index < length entries.old.items }
-    ensures ok { IfOk result (λ r. (old new : Record) × (slice_get entries.old.items index ≡ Some old)
-        × IsRepeat (repeated old.key mask old.state) r old new out.old out.new × (entries.new.items ≡ slice_set entries.old.items index new)) }
-    ensures unchanged { OnErr result (entries.new.items ≡ entries.old.items) }
+    requires { index < length records.old.items }
+    ensures ok { IfOk result (λ r. (old new : Kept) × (slice_get records.old.items index ≡ Some old)
+        × IsRepeat (repeated old.key bitmap old.state) r old new out.old out.new
+        × (records.new.items ≡ slice_set records.old.items index new)) }
+    ensures unchanged { OnErr result (records.new.items ≡ records.old.items) }
     ensures nothing_sent { OnErr result (Sends out.old out.new []) }
-    ensures ignored { (old : Record) → slice_get entries.old.items index ≡ Some old → (repeated old.key mask old.state).reception ≡ Reception.Ignored → IsOk result }
+    ensures ignored { (old : Kept) → slice_get records.old.items index ≡ Some old
+        → (repeated old.key bitmap old.state).reception ≡ Reception.Ignored → IsOk result }
 {
-    let entry = &mut entries[index];
-    entry.come_again(mask, out)
+    let record = &mut records[index];
+    record.come_again(bitmap, out)
 }
 
 // Takes the release of an answer.
-pub(crate) fn take_release<A: Allocator>(entries: &mut Vec<Entry<A>, A>, key: Key) -> Reception
-    ensures reception { result ≡ (release_came entries.old.items key (find (is_key key) entries.old.items)).reception }
-    ensures after { entries.new.items ≡ (release_came entries.old.items key (find (is_key key) entries.old.items)).after }
+pub(crate) fn take_release<A: Allocator>(records: &mut Vec<Record<A>, A>, key: Key) -> Reception
+    ensures reception { result ≡ (release_came records.old.items key (find (is_key key) records.old.items)).reception }
+    ensures after { records.new.items
+        ≡ (release_came records.old.items key (find (is_key key) records.old.items)).after }
 {
-    match place_of(entries, key) {
+    match index_of(records, key) {
         None => Reception::Ignored,
         Some(index) => {
-            let entry = &mut entries[index];
-            entry.release()
+            let record = &mut records[index];
+            record.release()
         }
     }
 }
 
 // Keeps the answer if the request is exactly-once, and removes the record otherwise.
 pub(crate) fn settle<A: Allocator>(
-    entries: &mut Vec<Entry<A>, A>,
+    records: &mut Vec<Record<A>, A>,
     key: Key,
     packets: Listed<Packet<A>, A>,
 )
     requires few { length packets ≤ 8 }
     requires fits { fit packets ≡ true }
-    ensures { entries.new.items ≡ after_answer entries.old.items key packets }
+    ensures { records.new.items ≡ after_answer records.old.items key packets }
 {
-    if is_kept(entries, key) {
-        keep(entries, key, packets);
+    if is_kept(records, key) {
+        keep(records, key, packets);
     } else {
-        let _ = forget(entries, key);
+        let _ = forget(records, key);
     }
 }
 
-fn keep<A: Allocator>(entries: &mut Vec<Entry<A>, A>, key: Key, packets: Listed<Packet<A>, A>)
+fn keep<A: Allocator>(records: &mut Vec<Record<A>, A>, key: Key, packets: Listed<Packet<A>, A>)
     requires few { length packets ≤ 8 }
     requires fits { fit packets ≡ true }
-    ensures { entries.new.items ≡ replaced (is_key key) (record { key = key; state = Answered packets }) entries.old.items }
+    ensures { records.new.items ≡ replaced (is_key key) (record { key = key; state = Answered packets })
+        records.old.items }
 {
-    if let Some(index) = place_of(entries, key) {
-        let entry = &mut entries[index];
-        entry.keep(packets);
+    if let Some(index) = index_of(records, key) {
+        let record = &mut records[index];
+        record.keep(packets);
     }
 }
 
 // Removes a record. Returns which packets its request asked for.
-pub(crate) fn forget<A: Allocator>(entries: &mut Vec<Entry<A>, A>, key: Key) -> u8
-    ensures gone { entries.new.items ≡ without_first (is_key key) entries.old.items }
-    ensures mask { IfSome (find (is_key key) entries.old.items) (λ r. result ≡ asked_mask r.state) }
+pub(crate) fn forget<A: Allocator>(records: &mut Vec<Record<A>, A>, key: Key) -> u8
+    ensures gone { records.new.items ≡ without_first (is_key key) records.old.items }
+    ensures bitmap { IfSome (find (is_key key) records.old.items) (λ r. result ≡ asked_bitmap r.state) }
 {
-    match place_of(entries, key) {
+    match index_of(records, key) {
         None => 0,
-        Some(index) => entries.remove(index).mask(),
+        Some(index) => records.remove(index).bitmap(),
     }
 }

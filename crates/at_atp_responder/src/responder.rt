@@ -1,13 +1,15 @@
-ghost use Rattle.std.specs.Prelude.{◌≡◌, ◌≢◌, ◌↔◌, [], true, find, is_some, IfOk, IfErr, IfSome, OnOk, OnErr, IsOk, IsErrOf, None, Err};
+ghost use Rattle.std.specs.Prelude.{◌≡◌, ◌≢◌, ◌↔◌, [], true, find, is_some, IfOk, IfErr, IfSome, OnOk, OnErr, IsOk};
+ghost use Rattle.std.specs.Prelude.{IsErrOf, None, Err};
 ghost use Rattle.std.specs.List.{list_any};
 ghost use Rattle.at_ddp.specs.Outbox.{Sends};
 ghost use Rattle.at_atp_frame.specs.Frames.{content};
-ghost use Rattle.at_atp_responder.specs.Records.{is_from, is_key, taken, finds_no_place, record_fault, expiry_fault, IsTaken};
+ghost use Rattle.at_atp_responder.specs.Records.{is_from, is_key, taken, finds_no_place, record_fault, expiry_fault};
+ghost use Rattle.at_atp_responder.specs.Records.{IsTaken};
 ghost use Rattle.at_ddp.specs.Tables.{without_first};
 
-use crate::entry::Entry;
 use crate::reception::{Key, Reception};
-use crate::records::{entry_of, expiry_fault, forget, record_fault, take_in, take_release};
+use crate::record::Record;
+use crate::records::{expiry_fault, forget, record_fault, record_of, take_in, take_release};
 use at_atp_frame::{AtpFault, Frame};
 use at_ddp::{Address, Outbox};
 use std::alloc::{Allocator, Global};
@@ -17,16 +19,16 @@ use std::marker::Model;
 #[derive(Drop)]
 pub struct Responder<A: Allocator = Global> {
     pub(crate) alloc: A,
-    pub(crate) entries: Vec<Entry<A>, A>,
+    pub(crate) records: Vec<Record<A>, A>,
 }
 
 impl<A: Allocator> Model for Responder<A> {
     ghost use Rattle.std.specs.Prelude.{List};
-    ghost use Rattle.at_atp_responder.specs.Records.{Record};
+    ghost use Rattle.at_atp_responder.specs.Records.{Record as Kept};
 
-    ghost Value = { List Record };
+    ghost Value = { List Kept };
 
-    ghost view = { λ r. r.entries.items };
+    ghost view = { λ r. r.records.items };
 }
 
 impl<A: Allocator + Copy> Responder<A> {
@@ -35,7 +37,7 @@ impl<A: Allocator + Copy> Responder<A> {
     {
         Responder {
             alloc,
-            entries: Vec::new(alloc),
+            records: Vec::new(alloc),
         }
     }
 
@@ -57,13 +59,18 @@ impl<A: Allocator + Copy> Responder<A> {
         ensures released { (taken self.old from (content frame.now)).reception ≡ Reception.Released → IsOk result }
     {
         match *frame {
-            Frame::Request { mask, xo, tid, .. } => {
-                if mask == 0 {
+            Frame::Request {
+                mask: bitmap,
+                xo,
+                tid,
+                ..
+            } => {
+                if bitmap == 0 {
                     return Ok(Reception::Ignored);
                 }
-                take_in(&mut self.entries, Key { from, tid }, xo, mask, out)
+                take_in(&mut self.records, Key { from, tid }, xo, bitmap, out)
             }
-            Frame::Release { tid } => Ok(take_release(&mut self.entries, Key { from, tid })),
+            Frame::Release { tid } => Ok(take_release(&mut self.records, Key { from, tid })),
             Frame::Response { .. } => Ok(Reception::Ignored),
         }
     }
@@ -72,14 +79,14 @@ impl<A: Allocator + Copy> Responder<A> {
     pub fn holds(&self, key: Key) -> bool
         ensures { result ≡ is_some (find (is_key key) self.now) }
     {
-        entry_of(&self.entries, key).is_some()
+        record_of(&self.records, key).is_some()
     }
 
     /// Whether a request with this number from this node has a record.
     pub fn holds_number(&self, node: u8, tid: u16) -> bool
         ensures { result ≡ list_any (is_from node tid) self.now }
     {
-        self.entries.iter().any(|e| e.is_from(node, tid))
+        self.records.iter().any(|e| e.is_from(node, tid))
     }
 
     /// Removes the record of a request that waits, as if the request had not come. This needs no memory.
@@ -89,10 +96,10 @@ impl<A: Allocator + Copy> Responder<A> {
         ensures succeeds { record_fault (find (is_key key) self.old) ≡ None → IsOk result }
         ensures unchanged { OnErr result (self.new ≡ self.old) }
     {
-        if let Some(fault) = record_fault(&self.entries, key) {
+        if let Some(fault) = record_fault(&self.records, key) {
             return Err(fault);
         }
-        let _ = forget(&mut self.entries, key);
+        let _ = forget(&mut self.records, key);
         Ok(())
     }
 
@@ -103,10 +110,10 @@ impl<A: Allocator + Copy> Responder<A> {
         ensures succeeds { expiry_fault (find (is_key key) self.old) ≡ None → IsOk result }
         ensures unchanged { OnErr result (self.new ≡ self.old) }
     {
-        if let Some(fault) = expiry_fault(&self.entries, key) {
+        if let Some(fault) = expiry_fault(&self.records, key) {
             return Err(fault);
         }
-        let _ = forget(&mut self.entries, key);
+        let _ = forget(&mut self.records, key);
         Ok(())
     }
 }

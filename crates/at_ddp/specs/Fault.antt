@@ -1,5 +1,6 @@
 -- The faults of an input that does not begin with a datagram.
-use Rattle.std.specs.Prelude.{◌≢◌, ℕ, ◌+◌, ◌*◌, ◌%◌, ◌<◌, List, [], ◌∷◌, length, slice_index, slice_range, ◌⊎◌, Option, Some, None}
+use Rattle.std.specs.Prelude.{◌≢◌, ℕ, ◌+◌, ◌*◌, ◌%◌, ◌<◌, List, [], ◌∷◌, length, slice_index, slice_range, ◌⊎◌, Option}
+use Rattle.std.specs.Prelude.{Some, None}
 use Rattle.std.specs.List.{AllByRecursion}
 use Rattle.at_ddp.specs.Sum.{sum_of}
 use Rattle.at_ddp.specs.declared.fault.DdpFault.{DdpFault}

@@ -1,4 +1,5 @@
-ghost use Rattle.std.specs.Prelude.{◌≡◌, ◌≢◌, ◌+◌, ◌<◌, ◌≤◌, ◌++◌, ◌↔◌, List, ℕ, length, IfOk, IfErr, OnOk, OnErr, IsOkAnd, IsErrOf, vec_len, vec_capacity};
+ghost use Rattle.std.specs.Prelude.{◌≡◌, ◌≢◌, ◌+◌, ◌<◌, ◌≤◌, ◌++◌, ◌↔◌, List, ℕ, length, IfOk, IfErr, OnOk, OnErr};
+ghost use Rattle.std.specs.Prelude.{IsOkAnd, IsErrOf, vec_len, vec_capacity};
 ghost use Rattle.at_ddp.specs.Datagram.{Content, content, BeginsWith, canonical};
 ghost use Rattle.at_ddp.specs.Fault.{IsFirstFault};
 
@@ -33,7 +34,8 @@ pub fn decode(input: &[u8]) -> Result<(Datagram<'_>, &[u8]), DdpFault>
     // What is decoded is spelled there.
     ensures found { IfOk result (λ r. BeginsWith input.now (content r.0) r.1.now) }
     // What is spelled there is decoded.
-    ensures only { (d : Content) (rest : List ℕ) → BeginsWith input.now d rest → IsOkAnd result (λ r. (content r.0 ≡ d) × (r.1.now ≡ rest)) }
+    ensures only { (d : Content) (rest : List ℕ) → BeginsWith input.now d rest
+        → IsOkAnd result (λ r. (content r.0 ≡ d) × (r.1.now ≡ rest)) }
     ensures fault { IfErr result (λ fault. IsFirstFault fault input.now) }
 {
     parse(input)

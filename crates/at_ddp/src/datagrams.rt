@@ -1,4 +1,5 @@
-ghost use Rattle.std.specs.Prelude.{◌≡◌, ℕ, ◌+◌, ◌<◌, ◌≤◌, ◌∷◌, [], ◌++◌, ◌==◌, length, slice_get, slice_index_or, slice_range, OnOk, OnErr, IsOk, Some};
+ghost use Rattle.std.specs.Prelude.{◌≡◌, ℕ, ◌+◌, ◌<◌, ◌≤◌, ◌∷◌, [], ◌++◌, ◌==◌, length, slice_get, slice_index_or};
+ghost use Rattle.std.specs.Prelude.{slice_range, OnOk, OnErr, IsOk, Some};
 ghost use Rattle.at_ddp.specs.Datagrams.{Posted, HasRoom};
 ghost use Rattle.at_ddp.specs.Marks.{start_at};
 ghost use Rattle.at_ddp.specs.declared.datagrams.Mark.{Mark};
@@ -94,10 +95,12 @@ impl<A: Allocator> Datagrams<A> {
     /// Appends a datagram in two parts.
     pub(crate) fn push(&mut self, node: u8, front: &[u8], back: &[u8]) -> Result<(), AllocError>
         requires { length front.now + length back.now ≤ 599 }
-        ensures ok { OnOk result (self.new.items ≡ self.old.items ++ record { node = node; bytes = front.now ++ back.now } ∷ []) }
+        ensures ok { OnOk result
+            (self.new.items ≡ self.old.items ++ record { node = node; bytes = front.now ++ back.now } ∷ []) }
         ensures err { OnErr result (self.new.items ≡ self.old.items) }
         ensures kept { OnErr result ((n len : ℕ) → HasRoom self.old.room n len → HasRoom self.new.room n len) }
-        ensures room { (n len : ℕ) → HasRoom self.old.room (n + 1) len → length front.now + length back.now ≤ len → IsOk result × HasRoom self.new.room n len }
+        ensures room { (n len : ℕ) → HasRoom self.old.room (n + 1) len → length front.now + length back.now ≤ len
+            → IsOk result × HasRoom self.new.room n len }
     {
         self.reserve(1, front.len() + back.len())?;
         self.bytes.extend_from_slice(front).unwrap();

@@ -12,8 +12,11 @@ pub fn no_spelling_begins_another()
 
 /// An encoded datagram is decoded again, whatever follows it. Nothing else is read there, and no fault is found there.
 pub fn what_is_written_is_read()
-    ensures read { (to from : Address) (kind : ℕ) (bytes rest : List ℕ) → IsAddress to → IsAddress from → kind < 256 → AreBytes bytes → length bytes ≤ 586
+    ensures read { (to from : Address) (kind : ℕ) (bytes rest : List ℕ) → IsAddress to → IsAddress from → kind < 256
+        → AreBytes bytes → length bytes ≤ 586
         → BeginsWith (canonical to from kind bytes ++ rest) (written to from kind bytes) rest }
-    ensures alone { (input : List ℕ) (d e : Content) (x y : List ℕ) → BeginsWith input d x → BeginsWith input e y → (d ≡ e) × (x ≡ y) }
-    ensures faultless { (input : List ℕ) (d : Content) (rest : List ℕ) → BeginsWith input d rest → (fault : DdpFault) → ¬ Stands fault input }
+    ensures alone { (input : List ℕ) (d e : Content) (x y : List ℕ) → BeginsWith input d x → BeginsWith input e y
+        → (d ≡ e) × (x ≡ y) }
+    ensures faultless { (input : List ℕ) (d : Content) (rest : List ℕ) → BeginsWith input d rest → (fault : DdpFault)
+        → ¬ Stands fault input }
 {}

@@ -38,7 +38,8 @@ impl<A: Allocator> Outbox<A> {
         ensures ok { OnOk result (Sends self.old self.new ((to, bytes.now) ∷ [])) }
         ensures err { OnErr result (Sends self.old self.new []) }
         ensures kept { OnErr result ((n size : ℕ) → HasRoomFor self.old n size → HasRoomFor self.new n size) }
-        ensures room { (n size : ℕ) → HasRoomFor self.old (n + 1) size → length bytes.now ≤ size → IsOk result × HasRoomFor self.new n size }
+        ensures room { (n size : ℕ) → HasRoomFor self.old (n + 1) size → length bytes.now ≤ size → IsOk result
+            × HasRoomFor self.new n size }
     {
         let header = header_of(to, self.from, self.kind, bytes);
         self.list.push(to.node, &header, bytes)

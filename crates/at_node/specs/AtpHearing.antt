@@ -28,14 +28,16 @@ atp_socket a socket =
     else (if socket == 129 then Some Service else (if socket == 6 then option_map Zones a.table else None))
 
 -- what a packet does at a socket; at a socket of nobody it is ignored
-abbrev pub AtSocket : {A : Type 0} → Reply A → Seat → AtpState → Address → Option AtpSocket → Content → Outcome A AtpState → Type 0
+abbrev pub AtSocket : {A : Type 0} → Reply A → Seat → AtpState → Address → Option AtpSocket → Content
+    → Outcome A AtpState → Type 0
 AtSocket said s a from None f o = o ≡ idle a report.Ignored
 AtSocket {A} said s a from (Some Requester) f o =
     AtRequester s a (tid_of f) (packet_in f) (heard a.requester from f) (heard {A = A} a.requester from f).step o
 AtSocket said s a from (Some Service) f o = AtService said s a from f o
 AtSocket said s a from (Some (Zones table)) f o = AtZones s a from table f o
 
-pub record HearsPacket {A : Type 0} (said : Reply A) (s : Seat) (a : AtpState) (d : Datagram) (socket : AtpSocket) (o : Outcome A AtpState) : Type 0 where
+pub record HearsPacket {A : Type 0} (said : Reply A) (s : Seat) (a : AtpState) (d : Datagram) (socket : AtpSocket)
+    (o : Outcome A AtpState) : Type 0 where
   pub packet : Content
   pub spelled : Spells d.data_ packet
   pub outcome : AtSocket said s a d.from (Some socket) packet o
@@ -48,7 +50,8 @@ pub record HearsAtpFault {A : Type 0} (a : AtpState) (d : Datagram) (o : Outcome
   pub outcome : o ≡ idle a (report.Refused number)
 
 -- what a datagram does at a socket; at a socket of nobody it is ignored, whatever its data
-abbrev pub HearsAt : {A : Type 0} → Reply A → Seat → AtpState → Datagram → Option AtpSocket → Outcome A AtpState → Type 0
+abbrev pub HearsAt : {A : Type 0} → Reply A → Seat → AtpState → Datagram → Option AtpSocket → Outcome A AtpState
+    → Type 0
 HearsAt said s a d None o = o ≡ idle a report.Ignored
 HearsAt said s a d (Some socket) o = HearsPacket said s a d socket o ⊎ HearsAtpFault a d o
 

@@ -9,5 +9,7 @@ use Rattle.at_node.specs.declared.event.Call.TheVariants.{Zones, Ask, Answer}
 -- the parts of a call are in the range of their types
 abbrev pub IsCall : {A : Type 0} → Call A → Type 0
 IsCall Zones = Unit {0}
-IsCall (Ask node socket user bytes wanted xo retries) = (node < 256) × (socket < 256) × (length user ≡ 4) × AreBytes user × AreBytes bytes × (1 ≤ wanted) × (wanted ≤ 8)
-IsCall (Answer node socket tid packets) = (node < 256) × (socket < 256) × (tid < 65536) × AllByRecursion AreWords packets
+IsCall (Ask node socket user bytes wanted xo retries) =
+    (node < 256) × (socket < 256) × (length user ≡ 4) × AreBytes user × AreBytes bytes × (1 ≤ wanted) × (wanted ≤ 8)
+IsCall (Answer node socket tid packets) =
+    (node < 256) × (socket < 256) × (tid < 65536) × AllByRecursion AreWords packets

@@ -32,7 +32,8 @@ draw_of_input n (input.Received bytes) = None
 
 -- does the node hold a record of a request of that node with this number?
 abbrev pub holds : NodeState → ℕ → Draw → Bool
-holds n node (Tid tid) = list_any (is_from node tid) n.atp.zone_responder || list_any (is_from node tid) n.atp.service_responder
+holds n node (Tid tid) =
+    list_any (is_from node tid) n.atp.zone_responder || list_any (is_from node tid) n.atp.service_responder
 
 -- the bytes begin with a datagram that carries this number of the node
 pub record Carries (bytes : List ℕ) (node : ℕ) (draw : Draw) : Type 0 where

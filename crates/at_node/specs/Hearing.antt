@@ -22,7 +22,8 @@ HearsMine said n d o =
 abbrev pub HearsIt : {A : Type 0} → Reply A → NodeState → Datagram → Outcome A NodeState → Type 0
 HearsIt said n d o = MatchBool (is_mine n.seat d.to) (HearsMine said n d o) (o ≡ idle n report.Ignored)
 
-pub record HearsDatagram {A : Type 0} (said : Reply A) (n : NodeState) (bytes : List ℕ) (o : Outcome A NodeState) : Type 0 where
+pub record HearsDatagram {A : Type 0} (said : Reply A) (n : NodeState) (bytes : List ℕ)
+    (o : Outcome A NodeState) : Type 0 where
   pub datagram : Datagram
   pub rest : List ℕ
   pub begins : BeginsWith bytes datagram rest

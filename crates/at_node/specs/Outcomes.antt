@@ -60,7 +60,9 @@ wants_memory other = false
 -- the outcome; or, if the event can run out of memory, that report and no change
 abbrev pub IsStep : {A S : Type 0} → Outcome A S → S → List Posted → Report A → S → List Posted → Type 0
 IsStep o old before r new after =
-    MatchBool (wants_memory r) ((new ≡ old) × (after ≡ before) × (takes_memory o.report ≡ true)) (Exactly o before r new after)
+    MatchBool (wants_memory r)
+    ((new ≡ old) × (after ≡ before) × (takes_memory o.report ≡ true))
+    (Exactly o before r new after)
 
 -- an outcome that may come; or, if the event can run out of memory, that report and no change
 abbrev pub Comes : {A S : Type 0} → (Outcome A S → Type 0) → S → List Posted → Report A → S → List Posted → Type 0

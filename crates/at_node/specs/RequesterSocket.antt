@@ -1,5 +1,6 @@
 -- The socket that asks: what its calls, its timer and its packets do.
-use Rattle.std.specs.Prelude.{MatchBool, ◌≡◌, ℕ, nat_lt, if◌then◌else◌, Bool, true, false, List, length, Option, Some, None}
+use Rattle.std.specs.Prelude.{MatchBool, ◌≡◌, ℕ, nat_lt, if◌then◌else◌, Bool, true, false, List, length, Option, Some}
+use Rattle.std.specs.Prelude.{None}
 use Rattle.at_ddp.specs.declared.address.Address.{Address}
 use Rattle.at_atp_frame.specs.Fault as atp
 use Rattle.at_atp_frame.specs.Frames.{spelled_all}
@@ -20,9 +21,11 @@ use Rattle.at_node.specs.ZoneReading.{EndsReading, is_reading, after_failing}
 -- ---- the call
 
 -- the node's user asks a socket of this network for so many packets, exactly once or at least once
-abbrev pub asked_as : {A : Type 0} → Seat → AtpState → Address → List ℕ → List ℕ → ℕ → Bool → ℕ → Option ℕ → Outcome A AtpState
+abbrev pub asked_as : {A : Type 0} → Seat → AtpState → Address → List ℕ → List ℕ → ℕ → Bool → ℕ → Option ℕ
+    → Outcome A AtpState
 asked_as s a to user bytes wanted xo retries None = idle a (refused_as (atp.number_of Full))
-asked_as s a to user bytes wanted xo retries (Some tid) = asks s a a.reading (beginning tid to user bytes wanted xo retries)
+asked_as s a to user bytes wanted xo retries (Some tid) =
+    asks s a a.reading (beginning tid to user bytes wanted xo retries)
 
 abbrev pub ask_called : {A : Type 0} → Seat → AtpState → Address → List ℕ → List ℕ → ℕ → Bool → ℕ → Outcome A AtpState
 ask_called s a to user bytes wanted xo retries =
@@ -59,4 +62,6 @@ AtRequester s a tid p h step.Ignored o = o ≡ after_heard s a h report.Ignored 
 AtRequester s a tid p h step.Kept o = o ≡ after_heard s a h report.Kept a.reading
 AtRequester s a tid p h step.AskAgain o = o ≡ after_heard s a h report.Again a.reading
 AtRequester s a tid p h (step.Finished packets) o =
-    MatchBool (is_reading a.reading tid) (EndsReading s a h p o) (o ≡ after_heard s a h (report.Response tid packets) a.reading)
+    MatchBool (is_reading a.reading tid)
+    (EndsReading s a h p o)
+    (o ≡ after_heard s a h (report.Response tid packets) a.reading)

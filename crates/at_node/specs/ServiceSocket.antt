@@ -4,7 +4,8 @@ use Rattle.at_ddp.specs.declared.address.Address.{Address}
 use Rattle.at_atp_frame.specs.Fault.{number_of}
 use Rattle.at_atp_frame.specs.Frames.{Content, Request, Response, Release, spelled_all}
 use Rattle.at_atp_frame.specs.Packets.{Packet}
-use Rattle.at_atp_responder.specs.Records.{Record, Taken, is_key, taken, fit, finds_no_place, asked_for, answer_fault, after_answer}
+use Rattle.at_atp_responder.specs.Records.{Record, Taken, is_key, taken, fit, finds_no_place, asked_for, answer_fault}
+use Rattle.at_atp_responder.specs.Records.{after_answer}
 use Rattle.at_atp_frame.specs.declared.fault.AtpFault.{AtpFault}
 use Rattle.at_atp_frame.specs.declared.fault.AtpFault.TheVariants.{Full}
 use Rattle.at_atp_responder.specs.declared.reception.Key.{Key}
@@ -27,7 +28,8 @@ answered_with s a key packets (Some fault) = idle a (refused_as (number_of fault
 answered_with s a key packets None = record {
   report = report.Answered (length (asked_for (find (is_key key) a.service_responder) key packets));
   state = record a { service_responder = after_answer a.service_responder key packets };
-  out = sent_by (serving s.net s.number) atp_kind (spelled_all (asked_for (find (is_key key) a.service_responder) key packets));
+  out = sent_by (serving s.net s.number) atp_kind
+      (spelled_all (asked_for (find (is_key key) a.service_responder) key packets));
 }
 
 abbrev pub answer_called : {A : Type 0} → Seat → AtpState → Key → List Packet → Outcome A AtpState
@@ -41,7 +43,8 @@ is_asked (report.Asked key user bytes) = true
 is_asked other = false
 
 -- If a new request was delivered to the service, it was called once and replied this. Otherwise it stays as it was.
-abbrev pub Serves : {A S : Type 0} → (S → Key → List ℕ → List ℕ → Reply A → S → Type 0) → Report A → Reply A → S → S → Type 0
+abbrev pub Serves : {A S : Type 0} → (S → Key → List ℕ → List ℕ → Reply A → S → Type 0) → Report A → Reply A → S → S
+    → Type 0
 Serves serves (report.Asked key user bytes) said before after = serves before key user bytes said after
 Serves serves r said before after = after ≡ before
 
@@ -76,17 +79,20 @@ handed_up s a t key user bytes r = record {
   out = sent_by (serving s.net s.number) atp_kind (spelled_all (sent_by_reply t.after key r));
 }
 
-abbrev pub at_service : {A : Type 0} → Seat → AtpState → Taken → List ℕ → List ℕ → Reply A → Reception → Outcome A AtpState
+abbrev pub at_service : {A : Type 0} → Seat → AtpState → Taken → List ℕ → List ℕ → Reply A → Reception
+    → Outcome A AtpState
 at_service s a t user bytes said reception.Ignored = service_taken s a t report.Ignored
 at_service s a t user bytes said (reception.Again count) = service_taken s a t report.Again
 at_service s a t user bytes said reception.Released = service_taken s a t report.Released
 at_service s a t user bytes said (reception.New key) = handed_up s a t key user bytes said
 
 -- a request came for the service, which would reply this to a new one
-abbrev pub service_asked : {A : Type 0} → Seat → AtpState → Address → Content → List ℕ → List ℕ → Reply A → Outcome A AtpState
+abbrev pub service_asked : {A : Type 0} → Seat → AtpState → Address → Content → List ℕ → List ℕ → Reply A
+    → Outcome A AtpState
 service_asked s a from frame user bytes said =
     if finds_no_place a.service_responder from frame then idle a (refused_as (number_of Full))
-    else at_service s a (taken a.service_responder from frame) user bytes said (taken a.service_responder from frame).reception
+    else at_service s a (taken a.service_responder from frame) user bytes said
+    (taken a.service_responder from frame).reception
 
 -- a release came for the service's socket
 abbrev pub service_released : {A : Type 0} → Seat → AtpState → Taken → Outcome A AtpState

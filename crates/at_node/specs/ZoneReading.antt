@@ -89,7 +89,8 @@ pub record TellsFault {A : Type 0} (p : Packet) (r : Report A) : Type 0 where
 abbrev pub Tells : {A : Type 0} → Packet → Report A → Type 0
 Tells p r = TellsPage p r ⊎ TellsFault p r
 
-pub record EndsReading {A : Type 0} (s : Seat) (a : AtpState) (h : Heard A) (p : Packet) (o : Outcome A AtpState) : Type 0 where
+pub record EndsReading {A : Type 0} (s : Seat) (a : AtpState) (h : Heard A) (p : Packet)
+    (o : Outcome A AtpState) : Type 0 where
   pub told : Report A
   pub tells : Tells p told
   pub outcome : o ≡ after_heard s a h told None

@@ -27,7 +27,8 @@ abbrev pub zone_served : {A : Type 0} → Seat → AtpState → Taken → Key �
 zone_served s a t key packet = record {
   report = report.Served (length (asked_for (find (is_key key) t.after) key (packet ∷ [])));
   state = record a { zone_responder = after_answer t.after key (packet ∷ []) };
-  out = sent_by (zones_at s.net s.number) atp_kind (spelled_all (asked_for (find (is_key key) t.after) key (packet ∷ [])));
+  out = sent_by (zones_at s.net s.number) atp_kind
+      (spelled_all (asked_for (find (is_key key) t.after) key (packet ∷ [])));
 }
 
 abbrev pub zone_taken : {A : Type 0} → Seat → AtpState → Taken → Report A → Outcome A AtpState
@@ -47,13 +48,15 @@ at_zones s a t packet (reception.New key) = zone_served s a t key packet
 abbrev pub zone_asked : {A : Type 0} → Seat → AtpState → Address → Content → List (List ℕ) → ℕ → Outcome A AtpState
 zone_asked s a from frame table start =
     if finds_no_place a.zone_responder from frame then idle a (refused_as (number_of Full))
-    else at_zones s a (taken a.zone_responder from frame) (page_packet table start) (taken a.zone_responder from frame).reception
+    else at_zones s a (taken a.zone_responder from frame) (page_packet table start)
+    (taken a.zone_responder from frame).reception
 
 -- a release came for the router's zone socket
 abbrev pub zone_released : {A : Type 0} → Seat → AtpState → Taken → Outcome A AtpState
 zone_released s a t = zone_taken s a t (released_report t.reception)
 
-pub record AsksForPage {A : Type 0} (s : Seat) (a : AtpState) (from : Address) (f : Content) (user : List ℕ) (table : List (List ℕ)) (o : Outcome A AtpState) : Type 0 where
+pub record AsksForPage {A : Type 0} (s : Seat) (a : AtpState) (from : Address) (f : Content) (user : List ℕ)
+    (table : List (List ℕ)) (o : Outcome A AtpState) : Type 0 where
   pub start : ℕ
   pub asks : RequestSpells user start
   pub outcome : o ≡ zone_asked s a from f table start

@@ -41,7 +41,13 @@ impl<A: Allocator> Model for AtpPart<A> {
 
     ghost Value = { AtpState };
 
-    ghost view = { λ a. record { table = a.zones; reading = a.reading; requester = a.requester; zone_responder = a.zone_responder; service_responder = a.service_responder } };
+    ghost view = { λ a. record {
+      table = a.zones;
+      reading = a.reading;
+      requester = a.requester;
+      zone_responder = a.zone_responder;
+      service_responder = a.service_responder;
+    } };
 }
 
 impl<A: Allocator + Copy> AtpPart<A> {
@@ -66,7 +72,9 @@ impl<A: Allocator + Copy> AtpPart<A> {
         datagram: &Datagram<'_>,
         out: &mut Datagrams<A>,
     ) -> Report<A>
-        ensures { (said : Said A) × Comes (HearsAtp said seat self.old (content datagram.now)) self.old out.old.items result self.new out.new.items
+        ensures { (said : Said A)
+            × Comes (HearsAtp said seat self.old (content datagram.now)) self.old out.old.items result self.new
+            out.new.items
             × Serves S.serves result said service.old service.new }
     {
         if datagram.to.socket == REQUESTER_SOCKET {

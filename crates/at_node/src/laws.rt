@@ -23,7 +23,8 @@ use std::alloc::Allocator;
 
 /// What is sent is received: the bytes of a packet do what that packet does at the socket that it was sent to.
 pub fn what_is_sent_is_heard<A: Allocator>()
-    ensures { (said : Reply A) (n : NodeState) (to from : Address) (f : Content) (o : Outcome A NodeState) → IsAddress to → IsAddress from → IsLawful f
+    ensures { (said : Reply A) (n : NodeState) (to from : Address) (f : Content) (o : Outcome A NodeState)
+        → IsAddress to → IsAddress from → IsLawful f
         → Hears said n (canonical to from atp_kind (spelled f)) o → HearsSent said n to from f o }
 {
     at_ddp::laws::what_is_written_is_read();
@@ -33,8 +34,10 @@ pub fn what_is_sent_is_heard<A: Allocator>()
 
 /// A request for the page from a place on is answered with that page, and no other.
 pub fn a_page_asked_for_is_served<A: Allocator>()
-    ensures { (s : Seat) (a : AtpState) (from : Address) (table : List (List ℕ)) (mask : ℕ) (xo : Bool) (timer tid start : ℕ) (bytes : List ℕ) (o : Outcome A AtpState) → 1 ≤ start → start < 2 ^ 16
-        → AtZones s a from table (Request mask xo timer tid (request_user start) bytes) o → o ≡ zone_asked s a from (Request mask xo timer tid (request_user start) bytes) table start }
+    ensures { (s : Seat) (a : AtpState) (from : Address) (table : List (List ℕ)) (mask : ℕ) (xo : Bool)
+        (timer tid start : ℕ) (bytes : List ℕ) (o : Outcome A AtpState) → 1 ≤ start → start < 2 ^ 16
+        → AtZones s a from table (Request mask xo timer tid (request_user start) bytes) o
+        → o ≡ zone_asked s a from (Request mask xo timer tid (request_user start) bytes) table start }
 {
     at_zip::laws::what_is_written_is_read();
     at_zip::laws::one_page_a_spelling();
@@ -42,7 +45,8 @@ pub fn a_page_asked_for_is_served<A: Allocator>()
 
 /// The page that was written is the page that is reported.
 pub fn a_page_written_is_told<A: Allocator>()
-    ensures { (p : Page) (r : Report A) → IsLawfulPage p → Tells (record { user = page_user p; data_ = page_data p }) r → r ≡ told_by p }
+    ensures { (p : Page) (r : Report A) → IsLawfulPage p → Tells (record { user = page_user p; data_ = page_data p }) r
+        → r ≡ told_by p }
 {
     at_zip::laws::what_is_written_is_read();
     at_zip::laws::one_page_a_spelling();
@@ -50,7 +54,8 @@ pub fn a_page_written_is_told<A: Allocator>()
 
 /// The bytes of a packet carry the number of that packet.
 pub fn what_is_sent_carries_its_number()
-    ensures { (to from : Address) (f : Content) → IsAddress to → IsAddress from → IsLawful f → Carries (canonical to from atp_kind (spelled f)) (owner from to f).node (Tid (number_of f)) }
+    ensures { (to from : Address) (f : Content) → IsAddress to → IsAddress from → IsLawful f
+        → Carries (canonical to from atp_kind (spelled f)) (owner from to f).node (Tid (number_of f)) }
 {
     at_ddp::laws::what_is_written_is_read();
     at_atp::laws::what_is_written_is_read();

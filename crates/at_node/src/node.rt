@@ -125,7 +125,9 @@ impl<A: Allocator + Copy> Node<A> {
         bytes: &[u8],
         out: &mut Datagrams<A>,
     ) -> Report<A>
-        ensures { (said : Reply A) × Comes (Hears said self.old bytes.now) self.old out.old.items result self.new out.new.items × Serves S.serves result said service.old service.new }
+        ensures { (said : Reply A)
+            × Comes (Hears said self.old bytes.now) self.old out.old.items result self.new out.new.items
+            × Serves S.serves result said service.old service.new }
     {
         match decode(bytes) {
             Ok((datagram, _)) => self.take_in(service, &datagram, out),
@@ -140,7 +142,9 @@ impl<A: Allocator + Copy> Node<A> {
         datagram: &Datagram<'_>,
         out: &mut Datagrams<A>,
     ) -> Report<A>
-        ensures { (said : Reply A) × Comes (HearsIt said self.old (content datagram.now)) self.old out.old.items result self.new out.new.items × Serves S.serves result said service.old service.new }
+        ensures { (said : Reply A)
+            × Comes (HearsIt said self.old (content datagram.now)) self.old out.old.items result self.new out.new.items
+            × Serves S.serves result said service.old service.new }
     {
         if !self.seat.is_mine(datagram.to) {
             return Report::Ignored;

@@ -1,7 +1,9 @@
-ghost use Rattle.std.specs.Prelude.{◌≡◌, ◌≢◌, ◌↔◌, ℕ, ◌<◌, ◌≤◌, Bool, length, List, ◌++◌, ◌∷◌, [], map, None, Some, IfOk, IfErr, IfSome, IsOk, OnErr, IsErrOf, true, false};
+ghost use Rattle.std.specs.Prelude.{◌≡◌, ◌≢◌, ◌↔◌, ℕ, ◌<◌, ◌≤◌, Bool, length, List, ◌++◌, ◌∷◌, [], map, None, Some};
+ghost use Rattle.std.specs.Prelude.{IfOk, IfErr, IfSome, IsOk, OnErr, IsErrOf, true, false};
 ghost use Rattle.at_ddp.specs.Datagram.{content as written};
 ghost use Rattle.at_atp_frame.specs.Frames.{Response, content, spelled, spelled_all};
-ghost use Rattle.at_atp_requester.specs.Requests.{Heard, Retried, next_number, beginning, begun, request_by, is_ignored, heard, retried};
+ghost use Rattle.at_atp_requester.specs.Requests.{Heard, Retried, next_number, beginning, begun, request_by};
+ghost use Rattle.at_atp_requester.specs.Requests.{is_ignored, heard, retried};
 ghost use Rattle.at_node.specs.AtpHearing.{AtSocket, HearsAt, Requester as RequesterSocket};
 ghost use Rattle.at_node.specs.AtpParts.{atp_kind, tid_of};
 ghost use Rattle.at_node.specs.Outcomes.{Comes, IsStep, posted, sent_by};
@@ -34,10 +36,16 @@ pub(crate) struct Question<'a> {
 }
 
 impl<A: Allocator + Copy> AtpPart<A> {
-    pub(crate) fn ask(&mut self, seat: Seat, question: &Question<'_>, out: &mut Datagrams<A>) -> Report<A>
+    pub(crate) fn ask(
+        &mut self,
+        seat: Seat,
+        question: &Question<'_>,
+        out: &mut Datagrams<A>,
+    ) -> Report<A>
         requires some { 1 ≤ question.now.wanted }
         requires few { question.now.wanted ≤ 8 }
-        ensures { IsStep (ask_called seat self.old question.now.to question.now.user question.now.bytes.now question.now.wanted question.now.exactly_once question.now.retries)
+        ensures { IsStep (ask_called seat self.old question.now.to question.now.user question.now.bytes.now
+            question.now.wanted question.now.exactly_once question.now.retries)
             self.old out.old.items result self.new out.new.items }
     {
         let own = seat.at(REQUESTER_SOCKET);
@@ -49,7 +57,8 @@ impl<A: Allocator + Copy> AtpPart<A> {
 
     // Sends the request of this number again, or closes its transaction.
     pub(crate) fn retry(&mut self, seat: Seat, tid: u16, out: &mut Datagrams<A>) -> Report<A>
-        ensures { IsStep (retry_fired seat self.old tid (retried self.old.requester tid)) self.old out.old.items result self.new out.new.items }
+        ensures { IsStep (retry_fired seat self.old tid (retried self.old.requester tid)) self.old out.old.items result
+            self.new out.new.items }
     {
         let own = seat.at(REQUESTER_SOCKET);
         match retry(self.alloc, &mut self.requester, own, tid, out) {
@@ -60,8 +69,15 @@ impl<A: Allocator + Copy> AtpPart<A> {
     }
 
     // Takes a datagram for the socket that asks.
-    pub(crate) fn hear_response(&mut self, seat: Seat, datagram: &Datagram<'_>, out: &mut Datagrams<A>) -> Report<A>
-        ensures comes { (said : Said A) → Comes (HearsAt said seat self.old (written datagram.now) (Some RequesterSocket)) self.old out.old.items result self.new out.new.items }
+    pub(crate) fn hear_response(
+        &mut self,
+        seat: Seat,
+        datagram: &Datagram<'_>,
+        out: &mut Datagrams<A>,
+    ) -> Report<A>
+        ensures comes { (said : Said A)
+            → Comes (HearsAt said seat self.old (written datagram.now) (Some RequesterSocket)) self.old out.old.items
+            result self.new out.new.items }
         ensures not_asked { is_asked result ≡ false }
     {
         match at_atp::decode(datagram.data_) {
@@ -70,8 +86,16 @@ impl<A: Allocator + Copy> AtpPart<A> {
         }
     }
 
-    fn take_response(&mut self, seat: Seat, from: Address, frame: &Frame<'_>, out: &mut Datagrams<A>) -> Report<A>
-        ensures comes { (said : Said A) → Comes (AtSocket said seat self.old from (Some RequesterSocket) (content frame.now)) self.old out.old.items result self.new out.new.items }
+    fn take_response(
+        &mut self,
+        seat: Seat,
+        from: Address,
+        frame: &Frame<'_>,
+        out: &mut Datagrams<A>,
+    ) -> Report<A>
+        ensures comes { (said : Said A)
+            → Comes (AtSocket said seat self.old from (Some RequesterSocket) (content frame.now)) self.old out.old.items
+            result self.new out.new.items }
         ensures not_asked { is_asked result ≡ false }
     {
         match frame {
@@ -86,9 +110,18 @@ impl<A: Allocator + Copy> AtpPart<A> {
     }
 
     // Takes a packet that is not of the transaction that reads the zone list.
-    fn take_other(&mut self, seat: Seat, from: Address, frame: &Frame<'_>, out: &mut Datagrams<A>) -> Report<A>
-        requires { (place : ℕ) (eom sts : Bool) (tid : ℕ) (user data_ : List ℕ) → content frame.now ≡ Response place eom sts tid user data_ → is_reading self.old.reading tid ≡ false }
-        ensures comes { (said : Said A) → Comes (AtSocket said seat self.old from (Some RequesterSocket) (content frame.now)) self.old out.old.items result self.new out.new.items }
+    fn take_other(
+        &mut self,
+        seat: Seat,
+        from: Address,
+        frame: &Frame<'_>,
+        out: &mut Datagrams<A>,
+    ) -> Report<A>
+        requires { (place : ℕ) (eom sts : Bool) (tid : ℕ) (user data_ : List ℕ)
+            → content frame.now ≡ Response place eom sts tid user data_ → is_reading self.old.reading tid ≡ false }
+        ensures comes { (said : Said A)
+            → Comes (AtSocket said seat self.old from (Some RequesterSocket) (content frame.now)) self.old out.old.items
+            result self.new out.new.items }
         ensures not_asked { is_asked result ≡ false }
     {
         let own = seat.at(REQUESTER_SOCKET);
@@ -109,12 +142,25 @@ pub(crate) fn begin<A: Allocator + Copy>(
     requires some { 1 ≤ question.now.wanted }
     requires few { question.now.wanted ≤ 8 }
     ensures drawn { IfOk result (λ tid. next_number requester.old ≡ Some tid) }
-    ensures state { IfOk result (λ tid. requester.new ≡ begun requester.old (beginning tid question.now.to question.now.user question.now.bytes.now question.now.wanted question.now.exactly_once question.now.retries)) }
-    ensures sent { IfOk result (λ tid. out.new.items ≡ out.old.items ++ map posted (sent_by own atp_kind ((question.now.to, spelled (request_by (beginning tid question.now.to question.now.user question.now.bytes.now question.now.wanted question.now.exactly_once question.now.retries))) ∷ []))) }
+    ensures state { IfOk result
+        (λ tid. requester.new ≡ begun requester.old
+        (beginning tid question.now.to question.now.user question.now.bytes.now question.now.wanted
+        question.now.exactly_once question.now.retries)) }
+    ensures sent { IfOk result
+        (λ tid. out.new.items ≡ out.old.items ++ map posted
+        (sent_by own atp_kind
+        ((
+          question.now.to,
+          spelled
+              (request_by (beginning tid question.now.to question.now.user question.now.bytes.now question.now.wanted
+              question.now.exactly_once question.now.retries)),
+        ) ∷ []))) }
     ensures fits { IfOk result (λ tid. length question.now.bytes.now ≤ 578) }
     ensures too_long { IsErrOf result AtpFault.AtpTooLong ↔ (578 < length question.now.bytes.now) }
-    ensures full { IsErrOf result AtpFault.Full ↔ ((length question.now.bytes.now ≤ 578) × (next_number requester.old ≡ None)) }
-    ensures memory { IfErr result (λ fault. fault ≢ AtpFault.AtpTooLong → fault ≢ AtpFault.Full → fault ≡ AtpFault.NoMemory) }
+    ensures full { IsErrOf result AtpFault.Full ↔ ((length question.now.bytes.now ≤ 578)
+        × (next_number requester.old ≡ None)) }
+    ensures memory { IfErr result (λ fault. fault ≢ AtpFault.AtpTooLong → fault ≢ AtpFault.Full
+        → fault ≡ AtpFault.NoMemory) }
     ensures unchanged { OnErr result (requester.new ≡ requester.old) }
     ensures nothing_sent { OnErr result (out.new.items ≡ out.old.items) }
 {
@@ -139,7 +185,8 @@ fn retry<A: Allocator + Copy>(
     tid: u16,
     out: &mut Datagrams<A>,
 ) -> Result<Retry, AtpFault>
-    ensures ok { IfOk result (λ step. (effect : Retried) × (retried requester.old tid ≡ Some effect) × (step ≡ effect.step) × (requester.new ≡ effect.after)
+    ensures ok { IfOk result (λ step. (effect : Retried) × (retried requester.old tid ≡ Some effect)
+        × (step ≡ effect.step) × (requester.new ≡ effect.after)
         × (out.new.items ≡ out.old.items ++ map posted (sent_by own atp_kind (spelled_all effect.sent)))) }
     ensures missing { IsErrOf result AtpFault.NoSuch ↔ (retried requester.old tid ≡ None) }
     ensures memory { IfErr result (λ fault. fault ≢ AtpFault.NoSuch → fault ≡ AtpFault.NoMemory) }
@@ -164,7 +211,9 @@ pub(crate) fn hear<A: Allocator + Copy>(
 ) -> Result<Step<A>, AllocError>
     ensures step { IfOk result (λ step. step ≡ (heard requester.old from (content frame.now)).step) }
     ensures state { IfOk result (λ step. requester.new ≡ (heard {A = A} requester.old from (content frame.now)).after) }
-    ensures sent { IfOk result (λ step. out.new.items ≡ out.old.items ++ map posted (sent_by own atp_kind (spelled_all (heard {A = A} requester.old from (content frame.now)).sent))) }
+    ensures sent { IfOk result
+        (λ step. out.new.items ≡ out.old.items ++ map posted
+        (sent_by own atp_kind (spelled_all (heard {A = A} requester.old from (content frame.now)).sent))) }
     ensures unchanged { OnErr result (requester.new ≡ requester.old) }
     ensures nothing_sent { OnErr result (out.new.items ≡ out.old.items) }
     ensures ignored { is_ignored (heard {A = A} requester.old from (content frame.now)).step ≡ true → IsOk result }

@@ -1,4 +1,5 @@
-ghost use Rattle.std.specs.Prelude.{◌≡◌, ◌≢◌, ◌↔◌, ◌++◌, map, length, find, None, Err, true, IfOk, IfErr, IfSome, OnOk, OnErr, IsOk, IsErrOf, false};
+ghost use Rattle.std.specs.Prelude.{◌≡◌, ◌≢◌, ◌↔◌, ◌++◌, map, length, find, None, Err, true, IfOk, IfErr, IfSome, OnOk};
+ghost use Rattle.std.specs.Prelude.{OnErr, IsOk, IsErrOf, false};
 ghost use Rattle.at_atp_frame.specs.Frames.{content, spelled_all};
 ghost use Rattle.at_atp_responder.specs.Records.{taken, finds_no_place, after_answer, answer_fault, is_key, asked_for};
 ghost use Rattle.at_node.specs.AtpParts.{atp_kind};
@@ -45,7 +46,9 @@ pub(crate) fn take<A: Allocator + Copy>(
 ) -> Result<Reception, AtpFault>
     ensures reception { IfOk result (λ r. r ≡ (taken records.old from (content frame.now)).reception) }
     ensures state { OnOk result (records.new ≡ (taken records.old from (content frame.now)).after) }
-    ensures sent { OnOk result (out.new.items ≡ out.old.items ++ map posted (sent_by own atp_kind (spelled_all (taken records.old from (content frame.now)).sent))) }
+    ensures sent { OnOk result
+        (out.new.items ≡ out.old.items ++ map posted
+        (sent_by own atp_kind (spelled_all (taken records.old from (content frame.now)).sent))) }
     ensures full { IsErrOf result AtpFault.Full ↔ (finds_no_place records.old from (content frame.now) ≡ true) }
     ensures memory { IfErr result (λ fault. fault ≢ AtpFault.Full → fault ≡ AtpFault.NoMemory) }
     ensures ignored { (taken records.old from (content frame.now)).reception ≡ Reception.Ignored → IsOk result }
@@ -69,9 +72,12 @@ pub(crate) fn answer<A: Allocator + Copy>(
 ) -> Result<u8, AtpFault>
     ensures state { OnOk result (records.new ≡ after_answer records.old key packets.now) }
     ensures count { IfOk result (λ count. count ≡ length (asked_for (find (is_key key) records.old) key packets.now)) }
-    ensures sent { OnOk result (out.new.items ≡ out.old.items ++ map posted (sent_by own atp_kind (spelled_all (asked_for (find (is_key key) records.old) key packets.now)))) }
+    ensures sent { OnOk result
+        (out.new.items ≡ out.old.items ++ map posted
+        (sent_by own atp_kind (spelled_all (asked_for (find (is_key key) records.old) key packets.now)))) }
     ensures refuses { IfSome (answer_fault records.old key packets.now) (λ fault. result ≡ Err fault) }
-    ensures memory { answer_fault records.old key packets.now ≡ None → IfErr result (λ fault. fault ≡ AtpFault.NoMemory) }
+    ensures memory { answer_fault records.old key packets.now ≡ None
+        → IfErr result (λ fault. fault ≡ AtpFault.NoMemory) }
     ensures unchanged { OnErr result (records.new ≡ records.old) }
     ensures nothing_sent { OnErr result (out.new.items ≡ out.old.items) }
 {
@@ -93,7 +99,8 @@ pub(crate) fn release<A: Allocator + Copy>(
     requires { is_release (content frame.now) ≡ true }
     ensures report { result ≡ released_report (taken records.old from (content frame.now)).reception }
     ensures state { records.new ≡ (taken records.old from (content frame.now)).after }
-    ensures sent { out.new.items ≡ out.old.items ++ map posted (sent_by own atp_kind (spelled_all (taken records.old from (content frame.now)).sent)) }
+    ensures sent { out.new.items ≡ out.old.items ++ map posted
+        (sent_by own atp_kind (spelled_all (taken records.old from (content frame.now)).sent)) }
     ensures not_asked { is_asked result ≡ false }
 {
     match take(alloc, records, own, from, frame, out).unwrap() {

@@ -35,10 +35,18 @@ impl<A: Allocator + Copy> AtpPart<A> {
         packets: &[Packet<A>],
         out: &mut Datagrams<A>,
     ) -> Report<A>
-        ensures { IsStep (answer_called seat self.old key packets.now) self.old out.old.items result self.new out.new.items }
+        ensures { IsStep (answer_called seat self.old key packets.now) self.old out.old.items result self.new
+            out.new.items }
     {
-        let own = seat.at(SERVICE_SOCKET);
-        match answer(self.alloc, &mut self.service_responder, own, key, packets, out) {
+        let sender = seat.at(SERVICE_SOCKET);
+        match answer(
+            self.alloc,
+            &mut self.service_responder,
+            sender,
+            key,
+            packets,
+            out,
+        ) {
             Ok(count) => Report::Answered(count),
             Err(fault) => refused(fault.number()),
         }
@@ -52,7 +60,9 @@ impl<A: Allocator + Copy> AtpPart<A> {
         datagram: &Datagram<'_>,
         out: &mut Datagrams<A>,
     ) -> Report<A>
-        ensures { (said : Said A) × Comes (HearsAt said seat self.old (written datagram.now) (Some Heard.Service)) self.old out.old.items result self.new out.new.items
+        ensures { (said : Said A)
+            × Comes (HearsAt said seat self.old (written datagram.now) (Some Heard.Service)) self.old out.old.items
+            result self.new out.new.items
             × Serves S.serves result said service.old service.new }
     {
         match at_atp::decode(datagram.data_) {
@@ -69,12 +79,21 @@ impl<A: Allocator + Copy> AtpPart<A> {
         frame: &Frame<'_>,
         out: &mut Datagrams<A>,
     ) -> Report<A>
-        ensures { (said : Said A) × Comes (AtSocket said seat self.old from (Some Heard.Service) (content frame.now)) self.old out.old.items result self.new out.new.items
+        ensures { (said : Said A)
+            × Comes (AtSocket said seat self.old from (Some Heard.Service) (content frame.now)) self.old out.old.items
+            result self.new out.new.items
             × Serves S.serves result said service.old service.new }
     {
         let own = seat.at(SERVICE_SOCKET);
         if let Frame::Release { .. } = frame {
-            return release(self.alloc, &mut self.service_responder, own, from, frame, out);
+            return release(
+                self.alloc,
+                &mut self.service_responder,
+                own,
+                from,
+                frame,
+                out,
+            );
         }
         let Frame::Request { user, data_, .. } = frame else {
             return Report::Ignored;
@@ -105,8 +124,10 @@ fn take_request<A: Allocator + Copy, S: Service<A>>(
     bytes: &[u8],
     out: &mut Datagrams<A>,
 ) -> Report<A>
-    ensures { (said : Said A) × ((s : Place) (a : AtpState) → a.service_responder ≡ records.old → serving s.net s.number ≡ own →
-        IsStep (service_asked s a from (content frame.now) user bytes.now said) a out.old.items result (record a { service_responder = records.new }) out.new.items)
+    ensures { (said : Said A)
+        × ((s : Place) (a : AtpState) → a.service_responder ≡ records.old → serving s.net s.number ≡ own →
+        IsStep (service_asked s a from (content frame.now) user bytes.now said) a out.old.items result
+        (record a { service_responder = records.new }) out.new.items)
         × Serves S.serves result said service.old service.new }
 {
     match take(alloc, records, own, from, frame, out) {
@@ -140,8 +161,10 @@ fn hand_up<A: Allocator + Copy, S: Service<A>>(
 ) -> Result<Bytes<A>, AllocError>
     requires waits { record_fault (find (is_key key) records.old) ≡ None }
     ensures copy { IfOk result (λ copy. copy ≡ bytes.now) }
-    ensures replied { OnOk result ((reply : Said A) × S.serves service.old key user bytes.now reply service.new × (records.new ≡ after_reply records.old key reply)
-        × (out.new.items ≡ out.old.items ++ map posted (sent_by own atp_kind (spelled_all (sent_by_reply records.old key reply))))) }
+    ensures replied { OnOk result ((reply : Said A) × S.serves service.old key user bytes.now reply service.new
+        × (records.new ≡ after_reply records.old key reply)
+        × (out.new.items ≡ out.old.items ++ map posted
+        (sent_by own atp_kind (spelled_all (sent_by_reply records.old key reply))))) }
     ensures unchanged { OnErr result (records.new ≡ records.old) }
     ensures nothing_sent { OnErr result (out.new.items ≡ out.old.items) }
     ensures not_asked { OnErr result (service.new ≡ service.old) }
@@ -167,7 +190,8 @@ fn reply<A: Allocator + Copy, S: Service<A>>(
     out: &mut Outbox<A>,
 ) -> Result<(), AllocError>
     requires waits { record_fault (find (is_key key) records.old) ≡ None }
-    ensures replied { OnOk result ((reply : Said A) × S.serves service.old key user bytes.now reply service.new × (records.new ≡ after_reply records.old key reply)
+    ensures replied { OnOk result ((reply : Said A) × S.serves service.old key user bytes.now reply service.new
+        × (records.new ≡ after_reply records.old key reply)
         × Sends out.old out.new (spelled_all (sent_by_reply records.old key reply))) }
     ensures unchanged { OnErr result (records.new ≡ records.old) }
     ensures nothing_sent { OnErr result (Sends out.old out.new []) }

@@ -24,7 +24,8 @@ use std::alloc::{AllocError, Allocator};
 impl<A: Allocator + Copy> AtpPart<A> {
     // Asks the router for the zone list.
     pub(crate) fn read_zones(&mut self, seat: Seat, out: &mut Datagrams<A>) -> Report<A>
-        ensures { IsStep (zones_called seat self.old seat.router self.old.reading) self.old out.old.items result self.new out.new.items }
+        ensures { IsStep (zones_called seat self.old seat.router self.old.reading) self.old out.old.items result
+            self.new out.new.items }
     {
         let Some(router) = seat.router else {
             return Report::Refused(NodeFault::NoRouter.number());
@@ -55,7 +56,9 @@ impl<A: Allocator + Copy> AtpPart<A> {
     ) -> Report<A>
         requires reading { is_reading self.old.reading (tid_of (content frame.now)) ≡ true }
         requires packet { packet_in (content frame.now) ≡ record { user = user; data_ = bytes.now } }
-        ensures comes { (said : Said A) → Comes (AtSocket said seat self.old from (Some RequesterSocket) (content frame.now)) self.old out.old.items result self.new out.new.items }
+        ensures comes { (said : Said A)
+            → Comes (AtSocket said seat self.old from (Some RequesterSocket) (content frame.now)) self.old out.old.items
+            result self.new out.new.items }
         ensures not_asked { is_asked result ≡ false }
     {
         let Ok(told) = told(self.alloc, user, bytes) else {
@@ -72,7 +75,8 @@ impl<A: Allocator + Copy> AtpPart<A> {
     // The transaction of this number ended without an answer.
     pub(crate) fn fail(&mut self, tid: u16) -> Report<A>
         ensures { (result ≡ (after_failing self.old tid self.old.requester (is_reading self.old.reading tid)).report)
-            × (self.new ≡ (after_failing {A = A} self.old tid self.old.requester (is_reading self.old.reading tid)).state) }
+            × (self.new ≡ (after_failing {A = A} self.old tid self.old.requester
+            (is_reading self.old.reading tid)).state) }
     {
         if self.reading == Some(tid) {
             self.reading = None;
@@ -104,11 +108,7 @@ fn read_from(router: Address) -> Question<'static>
 
 // What a reading of the zone list reports of its page. A reading takes one page, so a page that is not the last is
 // refused.
-fn told<A: Allocator + Copy>(
-    alloc: A,
-    user: [u8; 4],
-    bytes: &[u8],
-) -> Result<Report<A>, AllocError>
+fn told<A: Allocator + Copy>(alloc: A, user: [u8; 4], bytes: &[u8]) -> Result<Report<A>, AllocError>
     ensures tells { IfOk result (λ r. Tells (record { user = user; data_ = bytes.now }) r) }
     ensures wants { OnErr result ((r : Report A) × Tells (record { user = user; data_ = bytes.now }) r) }
     ensures not_asked { IfOk result (λ r. is_asked r ≡ false) }

@@ -1,7 +1,9 @@
-ghost use Rattle.std.specs.Prelude.{◌≡◌, ◌≢◌, ◌↔◌, ◌≤◌, ◌++◌, ◌∷◌, [], map, length, find, option_map, None, Some, true, false, IfOk, IfErr, OnOk, OnErr, IsErrOf};
+ghost use Rattle.std.specs.Prelude.{◌≡◌, ◌≢◌, ◌↔◌, ◌≤◌, ◌++◌, ◌∷◌, [], map, length, find, option_map, None, Some, true};
+ghost use Rattle.std.specs.Prelude.{false, IfOk, IfErr, OnOk, OnErr, IsErrOf};
 ghost use Rattle.at_ddp.specs.Datagram.{content as written};
 ghost use Rattle.at_atp_frame.specs.Frames.{content, spelled_all};
-ghost use Rattle.at_atp_responder.specs.Records.{Taken, taken, finds_no_place, record_fault, is_key, after_answer, asked_for};
+ghost use Rattle.at_atp_responder.specs.Records.{Taken, taken, finds_no_place, record_fault, is_key, after_answer};
+ghost use Rattle.at_atp_responder.specs.Records.{asked_for};
 ghost use Rattle.at_ddp.specs.Tables.{without_first};
 ghost use Rattle.at_node.specs.AtpHearing.{AtSocket, HearsAt, Zones as ZoneSocket};
 ghost use Rattle.at_node.specs.AtpParts.{AtpState, atp_kind, zones_at};
@@ -26,8 +28,15 @@ pub(crate) const ZONE_SOCKET: u8 = 6;
 
 impl<A: Allocator + Copy> AtpPart<A> {
     // Takes a datagram for the zone socket, which only a router serves.
-    pub(crate) fn hear_zone_request(&mut self, seat: Seat, datagram: &Datagram<'_>, out: &mut Datagrams<A>) -> Report<A>
-        ensures comes { (said : Said A) → Comes (HearsAt said seat self.old (written datagram.now) (option_map ZoneSocket self.old.table)) self.old out.old.items result self.new out.new.items }
+    pub(crate) fn hear_zone_request(
+        &mut self,
+        seat: Seat,
+        datagram: &Datagram<'_>,
+        out: &mut Datagrams<A>,
+    ) -> Report<A>
+        ensures comes { (said : Said A)
+            → Comes (HearsAt said seat self.old (written datagram.now) (option_map ZoneSocket self.old.table)) self.old
+            out.old.items result self.new out.new.items }
         ensures not_asked { is_asked result ≡ false }
     {
         if self.zones.is_none() {
@@ -39,8 +48,16 @@ impl<A: Allocator + Copy> AtpPart<A> {
         }
     }
 
-    fn serve_packet(&mut self, seat: Seat, from: Address, frame: &Frame<'_>, out: &mut Datagrams<A>) -> Report<A>
-        ensures comes { (said : Said A) → Comes (AtSocket said seat self.old from (option_map ZoneSocket self.old.table) (content frame.now)) self.old out.old.items result self.new out.new.items }
+    fn serve_packet(
+        &mut self,
+        seat: Seat,
+        from: Address,
+        frame: &Frame<'_>,
+        out: &mut Datagrams<A>,
+    ) -> Report<A>
+        ensures comes { (said : Said A)
+            → Comes (AtSocket said seat self.old from (option_map ZoneSocket self.old.table) (content frame.now))
+            self.old out.old.items result self.new out.new.items }
         ensures not_asked { is_asked result ≡ false }
     {
         let own = seat.at(ZONE_SOCKET);
@@ -82,7 +99,8 @@ fn serve_request<A: Allocator + Copy>(
 ) -> Report<A>
     requires { 1 ≤ start }
     ensures step { (s : Place) (a : AtpState) → a.zone_responder ≡ records.old → zones_at s.net s.number ≡ own →
-        IsStep (zone_asked s a from (content frame.now) zones.now start) a out.old.items result (record a { zone_responder = records.new }) out.new.items }
+        IsStep (zone_asked s a from (content frame.now) zones.now start) a out.old.items result
+        (record a { zone_responder = records.new }) out.new.items }
     ensures not_asked { is_asked result ≡ false }
 {
     match take(alloc, records, own, from, frame, out) {
@@ -132,8 +150,12 @@ fn serve<A: Allocator + Copy>(
     requires waits { record_fault (find (is_key key) records.old) ≡ None }
     ensures state { OnOk result (records.new ≡ after_answer records.old key (page_packet zones.now start ∷ [])) }
     ensures undone { OnErr result (records.new ≡ without_first (is_key key) records.old) }
-    ensures count { IfOk result (λ count. count ≡ length (asked_for (find (is_key key) records.old) key (page_packet zones.now start ∷ []))) }
-    ensures sent { OnOk result (out.new.items ≡ out.old.items ++ map posted (sent_by own atp_kind (spelled_all (asked_for (find (is_key key) records.old) key (page_packet zones.now start ∷ []))))) }
+    ensures count { IfOk result
+        (λ count. count ≡ length (asked_for (find (is_key key) records.old) key (page_packet zones.now start ∷ []))) }
+    ensures sent { OnOk result
+        (out.new.items ≡ out.old.items ++ map posted
+        (sent_by own atp_kind
+        (spelled_all (asked_for (find (is_key key) records.old) key (page_packet zones.now start ∷ []))))) }
     ensures nothing_sent { OnErr result (out.new.items ≡ out.old.items) }
 {
     let answered = match page_answer(alloc, zones, start) {

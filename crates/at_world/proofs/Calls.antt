@@ -131,7 +131,7 @@ module _ (A : Type 0) (laws : Laws A) (w : WorldState) (cable : Cable) (m : AtpM
   good_begun router is None is_drawn free = good_idle A w cable m k n (event.Call k Zones) (report.Refused 14) ct t stands refl (tt, refl)
   good_begun router is (Some tid) is_drawn free =
       let its = ct.seats k n stands in
-            let is_router : cable.router ≡ Some router = sym its.router ∙ is in
+      let is_router : cable.router ≡ Some router = sym its.router ∙ is in
       let rs : List Reading = record { node = k; since = length m.past } ∷ m.readings in
       good_next A w cable m k n (event.Call k Zones) (over (with_atp n) (reading_begins n.seat n.atp router (Some tid))) (new_transaction (asking cable.net k) (zone_transaction n.seat router tid) ∷ m.asked) (record { node = k; since = length m.past } ∷ m.readings) ct t stands
       (begun_next A w cable m k n ct t stands (zones_at n.seat.net router) (request_user 1) [] 1 false 3 tid (Some tid) (record { node = k; since = length m.past } ∷ m.readings) is_drawn
@@ -242,12 +242,14 @@ module _ (A : Type 0) (laws : Laws A) (w : WorldState) (cable : Cable) (m : AtpM
         (ap (λ (x : Network). x.asked) done_is)
         (pages_elsewhere cable m asked.transaction packets k asked.asked_it))
         (answers_match A cable.net (after A t.history) (serving cable.net k) (record { from = at_socket n.seat node socket; tid = tid }) packets k node socket tid (length (asked_for (find (is_key (record { from = at_socket n.seat node socket; tid = tid })) n.atp.service_responder) (record { from = at_socket n.seat node socket; tid = tid }) packets)) (λ i. record { from = record { net = its.net i; node = node; socket = socket }; tid = tid })
-        (ap (λ (x : Network). x.asked) done_is ∙ (λ i. answered (after A t.history).asked (there its.net i) tid packets)))
-        (tt, record {
-          asked = subst (λ (a : Address). Asked m.asked a tid (serving cable.net k)) (there its.net) asked;
-          few = laws.few (find (is_key (record { from = at_socket n.seat node socket; tid = tid })) n.atp.service_responder) (record { from = at_socket n.seat node socket; tid = tid }) packets;
-          becomes = λ i. next (record m { asked = answered m.asked (there its.net i) tid packets });
-        })
+        (ap (λ (x : Network). x.asked) done_is ∙ (λ i. answered (after A t.history).asked (there its.net i) tid packets))) (
+          tt,
+          record {
+            asked = subst (λ (a : Address). Asked m.asked a tid (serving cable.net k)) (there its.net) asked;
+            few = laws.few (find (is_key (record { from = at_socket n.seat node socket; tid = tid })) n.atp.service_responder) (record { from = at_socket n.seat node socket; tid = tid }) packets;
+            becomes = λ i. next (record m { asked = answered m.asked (there its.net i) tid packets });
+          },
+        )
       where
         there : n.seat.net ≡ cable.net → at_socket n.seat node socket ≡ at_net cable node socket
         there same = λ i. record { net = same i; node = node; socket = socket }

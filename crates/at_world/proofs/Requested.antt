@@ -167,17 +167,19 @@ module _ (A : Type 0) (laws : Laws A) (w : WorldState) (cable : Cable) (m : AtpM
         (ap (λ (x : Network). x.asked) d ∙ (λ i. answered (after A t.history).asked (waits.2 i).from (waits.2 i).tid (page_answer m.table start)))
         (pages_more (a.0).transaction a.1))
         (serves_new A cable.net (after A t.history) which k s was_sent key (page_answer m.table start) (length (asked_for (find (is_key key) (taken n.atp.zone_responder s.from (Request mask xo timer tid user bytes)).after) key (page_answer m.table start))) ((λ i. (taken (its_served i) s.from (packet_is i)).reception) ∙ is) (waits.2 ∙ ap (λ f. record { from = s.from; tid = number_of f }) (sym packet_is))
-        (ap (λ (x : Network). x.asked) d ∙ (λ i. answered (after A t.history).asked (waits.2 i).from (waits.2 i).tid (page_answer m.table start)) ∙ (λ i. answered (after A t.history).asked s.from (number_of (sym packet_is i)) (page_answer m.table start))))
-        (tt, record {
-          is_router = is_router;
-          requester = s.from;
-          tid = tid;
-          asked = asked;
-          start = start;
-          asks_from = subst (λ u. RequestSpells u start) (sym a.1) asks_from;
-          one = laws.few (find (is_key key) (taken n.atp.zone_responder s.from (Request mask xo timer tid user bytes)).after) key (page_answer m.table start);
-          becomes = refl;
-        }))
+        (ap (λ (x : Network). x.asked) d ∙ (λ i. answered (after A t.history).asked (waits.2 i).from (waits.2 i).tid (page_answer m.table start)) ∙ (λ i. answered (after A t.history).asked s.from (number_of (sym packet_is i)) (page_answer m.table start)))) (
+          tt,
+          record {
+            is_router = is_router;
+            requester = s.from;
+            tid = tid;
+            asked = asked;
+            start = start;
+            asks_from = subst (λ u. RequestSpells u start) (sym a.1) asks_from;
+            one = laws.few (find (is_key key) (taken n.atp.zone_responder s.from (Request mask xo timer tid user bytes)).after) key (page_answer m.table start);
+            becomes = refl;
+          },
+        ))
 
     good_zones : (o : Outcome A AtpState) (r : Reception) → (taken n.atp.zone_responder s.from (Request mask xo timer tid user bytes)).reception ≡ r → o ≡ at_zones n.seat n.atp (taken n.atp.zone_responder s.from (Request mask xo timer tid user bytes)) (page_packet m.table start) r → Good A w cable m ct t k (event.Deliver which k) (over (with_atp n) o)
     good_zones o reception.Ignored is at = subst (λ p. Good A w cable m ct t k (event.Deliver which k) (over (with_atp n) p)) (sym at)

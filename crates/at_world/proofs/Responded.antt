@@ -116,7 +116,7 @@ module _ (A : Type 0) (laws : Laws A) (w : WorldState) (cable : Cable) (m : AtpM
 
   told_table : Reads cable.net cable.router m.asked m.readings k n.atp.requester tid → (r : Report A) → Tells (record { user = user; data_ = bytes }) r → r ≡ report.Zones m.table
   told_table reading r tells =
-            laws.told (page_of m.table 1) r (laws.lawful m.table 1 t.table) (subst (λ (p : Packet). Tells p r) (is_page reading) tells) ∙ ap (λ (p : Page). told_by {A = A} p) (laws.whole m.table t.small)
+      laws.told (page_of m.table 1) r (laws.lawful m.table 1 t.table) (subst (λ (p : Packet). Tells p r) (is_page reading) tells) ∙ ap (λ (p : Page). told_by {A = A} p) (laws.whole m.table t.small)
 
   good_end : (o : Outcome A AtpState) → is_reading n.atp.reading tid ≡ true → EndsReading n.seat n.atp (heard {A = A} n.atp.requester s.from (Response place eom sts tid user bytes)) (record { user = user; data_ = bytes }) o → Good A w cable m ct t k (event.Deliver which k) (over (with_atp n) o)
   good_end o mine e =

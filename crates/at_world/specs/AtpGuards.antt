@@ -1,6 +1,7 @@
 -- What the machine knows of transactions and of the zone list, and which reports of them it allows (Inside AppleTalk,
 -- ATP, "Transactions", and ZIP, "GetZoneList").
-use Rattle.std.specs.Prelude.{◌≡◌, ℕ, ◌<◌, ◌≤◌, ◌==◌, not, Bool, false, List, [], ◌∷◌, ◌++◌, length, filter, find, slice_index_or, option_map, Option, Some}
+use Rattle.std.specs.Prelude.{◌≡◌, ℕ, ◌<◌, ◌≤◌, ◌==◌, not, Bool, false, List, [], ◌∷◌, ◌++◌, length, filter, find}
+use Rattle.std.specs.Prelude.{slice_index_or, option_map, Option, Some}
 use Rattle.at_ddp.specs.declared.address.Address.{Address}
 use Rattle.at_atp_frame.specs.Packets.{Packet}
 use Rattle.at_atp.specs.Transactions.{Transaction, Asked, transaction_of, answered, IsResponse}
@@ -54,7 +55,8 @@ first_page net node router tid = record {
 
 -- the page of a table from a place on, as the one packet of an answer
 abbrev pub page_answer : List (List ℕ) → ℕ → List Packet
-page_answer table start = record { user = page_user (page_of table start); data_ = page_data (page_of table start) } ∷ []
+page_answer table start =
+    record { user = page_user (page_of table start); data_ = page_data (page_of table start) } ∷ []
 
 -- the moment since which a node reads the list
 abbrev pub since_of : List Reading → ℕ → Option ℕ
@@ -66,7 +68,8 @@ without_reading rs node = filter (λ r. not (r.node == node)) rs
 
 -- the table was this one at every moment from that one on
 abbrev pub StoodSince : List (List (List ℕ)) → ℕ → List (List ℕ) → Type 0
-StoodSince past since table = (moment : ℕ) → since ≤ moment → moment < length past → slice_index_or past moment [] ≡ table
+StoodSince past since table =
+    (moment : ℕ) → since ≤ moment → moment < length past → slice_index_or past moment [] ≡ table
 
 -- ---- the steps, one for each report
 
@@ -74,14 +77,32 @@ StoodSince past since table = (moment : ℕ) → since ≤ moment → moment < l
 pub record BeginsReading (c : Cable) (m : AtpMachine) (node tid : ℕ) (m' : AtpMachine) : Type 0 where
   pub router : ℕ
   pub is_router : c.router ≡ Some router
-  pub becomes : m' ≡ next (record m { asked = first_page c.net node router tid ∷ m.asked; readings = record { node = node; since = length m.past } ∷ m.readings })
+  pub becomes : m' ≡ next (record m {
+    asked = first_page c.net node router tid ∷ m.asked;
+    readings = record { node = node; since = length m.past } ∷ m.readings;
+  })
 
--- a transaction begins, without answers
-pub record BeginsAsking (c : Cable) (m : AtpMachine) (node : ℕ) (responder : Address) (user bytes : List ℕ) (wanted : ℕ) (xo : Bool) (tid : ℕ) (m' : AtpMachine) : Type 0 where
-  pub becomes : m' ≡ next (record m { asked = record { requester = asking c.net node; tid = tid; responder = responder; user = user; data_ = bytes; wanted = wanted; xo = xo; answers = [] } ∷ m.asked })
+-- a node's transaction, without answers
+abbrev pub new_transaction : ℕ → ℕ → Address → List ℕ → List ℕ → ℕ → Bool → ℕ → Transaction
+new_transaction net node responder user bytes wanted xo tid = record {
+  requester = asking net node;
+  tid = tid;
+  responder = responder;
+  user = user;
+  data_ = bytes;
+  wanted = wanted;
+  xo = xo;
+  answers = [];
+}
+
+-- a transaction begins
+pub record BeginsAsking (c : Cable) (m : AtpMachine) (node : ℕ) (responder : Address) (user bytes : List ℕ)
+    (wanted : ℕ) (xo : Bool) (tid : ℕ) (m' : AtpMachine) : Type 0 where
+  pub becomes : m' ≡ next (record m { asked = new_transaction c.net node responder user bytes wanted xo tid ∷ m.asked })
 
 -- a node's user answers the newest transaction of a requester under a number, which asked the node's service
-pub record GivesAnswer (c : Cable) (m : AtpMachine) (node : ℕ) (requester : Address) (tid : ℕ) (packets : List Packet) (count : ℕ) (m' : AtpMachine) : Type 0 where
+pub record GivesAnswer (c : Cable) (m : AtpMachine) (node : ℕ) (requester : Address) (tid : ℕ)
+    (packets : List Packet) (count : ℕ) (m' : AtpMachine) : Type 0 where
   pub asked : Asked m.asked requester tid (serving c.net node)
   pub few : count ≤ length packets
   pub becomes : m' ≡ next (record m { asked = answered m.asked requester tid packets })
@@ -125,7 +146,8 @@ pub record FailsReading (m : AtpMachine) (node : ℕ) (m' : AtpMachine) : Type 0
 -- a call begins this transaction, under this number
 abbrev pub Begins : {A : Type 0} → Cable → AtpMachine → ℕ → Call A → ℕ → AtpMachine → Type 0
 Begins c m node Zones tid m' = BeginsReading c m node tid m'
-Begins c m node (Ask k socket user bytes wanted xo retries) tid m' = BeginsAsking c m node (at_net c k socket) user bytes wanted xo tid m'
+Begins c m node (Ask k socket user bytes wanted xo retries) tid m' =
+    BeginsAsking c m node (at_net c k socket) user bytes wanted xo tid m'
 Begins c m node (Answer k socket number packets) tid m' = ⊥
 
 -- a call gives this answer, and so many of its packets are sent

@@ -21,7 +21,8 @@ last_of (d ∷ ds) node draw = if is_number node draw d.0 then Some d.1 else las
 -- the draws after an event drew this number of a node
 abbrev pub drawn_at : Draws → ℕ → Draw → ℕ → Draws
 drawn_at [] node draw event = ((node, draw), event) ∷ []
-drawn_at (d ∷ ds) node draw event = if is_number node draw d.0 then (d.0, event) ∷ ds else d ∷ drawn_at ds node draw event
+drawn_at (d ∷ ds) node draw event =
+    if is_number node draw d.0 then (d.0, event) ∷ ds else d ∷ drawn_at ds node draw event
 
 -- the same, if it drew one
 abbrev pub noted : Draws → ℕ → ℕ → Option Draw → Draws

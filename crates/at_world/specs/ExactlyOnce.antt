@@ -1,6 +1,7 @@
 -- How often a play delivers an exactly-once request to its service, by its events, its reports and what was sent
 -- (Inside AppleTalk, ATP, "At-least-once and exactly-once transactions").
-use Rattle.std.specs.Prelude.{◌≡◌, ℕ, ◌||◌, if◌then◌else◌, Bool, true, false, List, [], ◌∷◌, take, slice_get, Some, Result, Ok, Err, ◌⊎◌}
+use Rattle.std.specs.Prelude.{◌≡◌, ℕ, ◌||◌, if◌then◌else◌, Bool, true, false, List, [], ◌∷◌, take, slice_get, Some}
+use Rattle.std.specs.Prelude.{Result, Ok, Err, ◌⊎◌}
 use Rattle.at_ddp.specs.Datagram.{Content as Datagram, BeginsWith, canonical}
 use Rattle.at_ddp.specs.declared.address.Address.{Address}
 use Rattle.at_atp_frame.specs.Frames.{Content, Request, Spells, spelled}
@@ -83,7 +84,9 @@ wanted_by net (x ∷ xs) key = if began_under net x.event x.report key then asks
 
 -- this answer was given to it: by a node's user, or by the router, which answers what came
 abbrev pub GivesBy : {A : Type 0} → ℕ → List SentDatagram → Event A → Report A → Key → List Packet → Type 0
-GivesBy net sent (event.Call node (Answer k socket tid given)) (report.Answered count) key answer = (same_key (record { from = record { net = net; node = k; socket = socket }; tid = tid }) key ≡ true) × (given ≡ answer)
+GivesBy net sent (event.Call node (Answer k socket tid given)) (report.Answered count) key answer =
+    (same_key (record { from = record { net = net; node = k; socket = socket }; tid = tid }) key ≡ true)
+    × (given ≡ answer)
 GivesBy net sent (event.Deliver which node) (report.Served count) key answer = CameFrom sent which key
 GivesBy net sent e r key answer = ⊥
 
@@ -101,19 +104,24 @@ NoneGives net sent key (x ∷ xs) = (Gives net sent key x → ⊥) × NoneGives 
 
 abbrev pub AtMostOneGives : {A : Type 0} → ℕ → List SentDatagram → Key → List (Played A) → Type 0
 AtMostOneGives net sent key [] = Unit {0}
-AtMostOneGives net sent key (x ∷ xs) = (Gives net sent key x → NoneGives net sent key xs) × AtMostOneGives net sent key xs
+AtMostOneGives net sent key (x ∷ xs) =
+    (Gives net sent key x → NoneGives net sent key xs) × AtMostOneGives net sent key xs
 
 -- ---- plays in which no request outlives its record
 
 -- did its record at a responder expire since its transaction began?
 abbrev pub has_expired : {A : Type 0} → ℕ → List (Played A) → Address → Key → Bool
 has_expired net [] at key = false
-has_expired net (x ∷ xs) at key = if began_under net x.event x.report key then false else expired_at net x.event x.report at key || has_expired net xs at key
+has_expired net (x ∷ xs) at key =
+    if began_under net x.event x.report key then false
+    else expired_at net x.event x.report at key || has_expired net xs at key
 
 -- if a request is delivered, its record did not expire there
 abbrev pub LivesBy : {A : Type 0} → ℕ → List SentDatagram → Event A → List (Played A) → Type 0
-LivesBy net sent (event.Deliver which node) past = (d : SentDatagram) (to from : Address) (mask : ℕ) (xo : Bool) (timer tid : ℕ) (user bytes : List ℕ) → slice_get sent which ≡ Some d
-    → d.bytes ≡ canonical to from atp_kind (spelled (Request mask xo timer tid user bytes)) → has_expired net past to (record { from = from; tid = tid }) ≡ false
+LivesBy net sent (event.Deliver which node) past = (d : SentDatagram) (to from : Address) (mask : ℕ) (xo : Bool)
+    (timer tid : ℕ) (user bytes : List ℕ) → slice_get sent which ≡ Some d
+    → d.bytes ≡ canonical to from atp_kind (spelled (Request mask xo timer tid user bytes))
+    → has_expired net past to (record { from = from; tid = tid }) ≡ false
 LivesBy net sent e past = Unit {0}
 
 abbrev pub AllLive : {A : Type 0} → ℕ → List SentDatagram → List (Played A) → Type 0
@@ -126,13 +134,19 @@ AllLive net sent (x ∷ xs) = LivesBy net sent x.event xs × AllLive net sent xs
 -- of its first packets as were asked for.
 abbrev pub EndsBy : {A : Type 0} → ℕ → List SentDatagram → Event A → Report A → List (Played A) → Type 0
 EndsBy net sent (event.Deliver which node) (report.Response tid packets) past =
-    is_once net past (record { from = asking net node; tid = tid }) ≡ true → SomeHandsUp sent (record { from = asking net node; tid = tid }) (since net past (record { from = asking net node; tid = tid }))
-    × ((answer : List Packet) × SomeGives net sent (record { from = asking net node; tid = tid }) answer (since net past (record { from = asking net node; tid = tid })) × (packets ≡ take (wanted_by net past (record { from = asking net node; tid = tid })) answer))
+    is_once net past (record { from = asking net node; tid = tid }) ≡ true
+    → SomeHandsUp sent (record { from = asking net node; tid = tid })
+    (since net past (record { from = asking net node; tid = tid }))
+    × ((answer : List Packet)
+    × SomeGives net sent (record { from = asking net node; tid = tid }) answer
+    (since net past (record { from = asking net node; tid = tid }))
+    × (packets ≡ take (wanted_by net past (record { from = asking net node; tid = tid })) answer))
 EndsBy net sent e r past = Unit {0}
 
 -- it was delivered at most once since its transaction began, and answered at most once
 abbrev pub RanOnce : {A : Type 0} → ℕ → List SentDatagram → List (Played A) → Key → Type 0
-RanOnce net sent past key = AtMostOneHandsUp sent key (since net past key) × AtMostOneGives net sent key (since net past key)
+RanOnce net sent past key =
+    AtMostOneHandsUp sent key (since net past key) × AtMostOneGives net sent key (since net past key)
 
 -- At each moment, each exactly-once request was delivered and answered at most once since its transaction began. If the
 -- transaction ended with a response, it was delivered once, and the response is of the one answer that was given to it.
@@ -144,5 +158,7 @@ RunsOnce net sent (x ∷ xs) =
 
 -- the same for a play, whole or up to where it stopped, if no request outlives its record
 abbrev pub IsOnce : {A : Type 0} → Setup A → List (Event A) → Result (Transcript A) (PlayFault A) → Type 0
-IsOnce s events (Ok t) = AllLive s.net t.sent (onto [] events t.reports) → RunsOnce s.net t.sent (onto [] events t.reports)
-IsOnce s events (Err f) = AllLive s.net f.transcript.sent (onto [] (take f.at events) f.transcript.reports) → RunsOnce s.net f.transcript.sent (onto [] (take f.at events) f.transcript.reports)
+IsOnce s events (Ok t) =
+    AllLive s.net t.sent (onto [] events t.reports) → RunsOnce s.net t.sent (onto [] events t.reports)
+IsOnce s events (Err f) = AllLive s.net f.transcript.sent (onto [] (take f.at events) f.transcript.reports)
+    → RunsOnce s.net f.transcript.sent (onto [] (take f.at events) f.transcript.reports)

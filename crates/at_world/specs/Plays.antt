@@ -1,5 +1,6 @@
 -- A whole play: each event by the world's step, with one report for each event.
-use Rattle.std.specs.Prelude.{◌≡◌, ℕ, false, if◌then◌else◌, List, [], ◌∷◌, map, take, find, slice_get, option_map, IsSome, ◌⊎◌, Option, Some, None, Result, Ok, Err}
+use Rattle.std.specs.Prelude.{◌≡◌, ℕ, false, if◌then◌else◌, List, [], ◌∷◌, map, take, find, slice_get, option_map}
+use Rattle.std.specs.Prelude.{IsSome, ◌⊎◌, Option, Some, None, Result, Ok, Err}
 use Rattle.at_node.specs.declared.event.Report.{Report}
 use Rattle.at_node.specs.Nodes.{NodeState, opening}
 use Rattle.at_world.specs.declared.event.Event.{Event}
@@ -49,7 +50,8 @@ IsPlayed s events t w = Follows (opening_world s) events t.reports w × (t.sent 
 -- what a play returns: all of it, or the events before the first that was not played
 abbrev pub IsPlay : {A : Type 0} → Setup A → List (Event A) → Result (Transcript A) (PlayFault A) → Type 0
 IsPlay s events (Ok t) = (w : WorldState) × IsPlayed s events t w
-IsPlay s events (Err f) = (w : WorldState) × IsPlayed s (take f.at events) f.transcript w × StopsAt w (slice_get events f.at) f.fault f.at
+IsPlay s events (Err f) =
+    (w : WorldState) × IsPlayed s (take f.at events) f.transcript w × StopsAt w (slice_get events f.at) f.fault f.at
 
 -- all that was sent is spelled canonically
 abbrev pub SendsCanonically : {A : Type 0} → Result (Transcript A) (PlayFault A) → Type 0

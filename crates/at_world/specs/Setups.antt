@@ -1,5 +1,6 @@
 -- Which setups are lawful.
-use Rattle.std.specs.Prelude.{ℕ, ◌+◌, ◌==◌, ◌&&◌, ◌||◌, nat_le, nat_lt, if◌then◌else◌, Bool, false, List, length, count_by, sum_by, is_none, Option, Some, None}
+use Rattle.std.specs.Prelude.{ℕ, ◌+◌, ◌==◌, ◌&&◌, ◌||◌, nat_le, nat_lt, if◌then◌else◌, Bool, false, List, length}
+use Rattle.std.specs.Prelude.{count_by, sum_by, is_none, Option, Some, None}
 use Rattle.std.specs.List.{list_all, list_any}
 use Rattle.at_world.specs.declared.setup.NodeSetup.{NodeSetup}
 use Rattle.at_world.specs.declared.setup.Setup.{Setup}
@@ -41,7 +42,9 @@ spelled_len names = sum_by (λ name. length name + 1) names
 
 -- a table that fits one page, and that is empty without a router
 abbrev pub is_lawful_table : Bool → List (List ℕ) → Bool
-is_lawful_table router names = list_all is_name names && nat_le (spelled_len names) 578 && (router || (length names == 0))
+is_lawful_table router names =
+    list_all is_name names && nat_le (spelled_len names) 578 && (router || (length names == 0))
 
 abbrev pub is_lawful : {A : Type 0} → Setup A → Bool
-is_lawful s = nat_lt 0 s.net && nat_lt s.net 65536 && are_lawful_nodes s.nodes && is_lawful_table (has_router s.nodes) s.zones
+is_lawful s =
+    nat_lt 0 s.net && nat_lt s.net 65536 && are_lawful_nodes s.nodes && is_lawful_table (has_router s.nodes) s.zones

@@ -9,7 +9,8 @@ use Rattle.at_atp_frame.specs.Frames.{spelled}
 use Rattle.at_atp.specs.HandUps.{draws, is_handed_up, expires_there}
 use Rattle.at_atp.specs.Lawfully.{IsInRange}
 use Rattle.at_atp_frame.specs.Frames.{number_of}
-use Rattle.at_atp.specs.Network.{Network, Sent, packet_at, Happening, Begins, Answers, Takes, Serves, AllTimely, is_fresh, after, done}
+use Rattle.at_atp.specs.Network.{Network, Sent, packet_at, Happening, Begins, Answers, Takes, Serves, AllTimely}
+use Rattle.at_atp.specs.Network.{is_fresh, after, done}
 use Rattle.at_atp_responder.specs.Once.{same_key}
 use Rattle.at_atp_frame.specs.Packets.{Packet}
 use Rattle.at_atp.specs.Transactions.{answered}
@@ -29,13 +30,15 @@ use Rattle.at_world.specs.Sents.{SentDatagram}
 
 -- a transaction began under the number of this key
 abbrev pub began_under : {A : Type 0} → ℕ → Event A → Report A → Key → Bool
-began_under net (event.Call node call) (report.Begun tid) key = same_key (record { from = asking net node; tid = tid }) key
+began_under net (event.Call node call) (report.Begun tid) key =
+    same_key (record { from = asking net node; tid = tid }) key
 began_under net e r key = false
 
 -- the release timer removed the record of this key at a responder
 abbrev pub expired_at : {A : Type 0} → ℕ → Event A → Report A → Address → Key → Bool
 expired_at net (event.Timer node (timer.Release own k socket tid)) report.Done at key =
-    same_address (record { net = net; node = node; socket = own }) at && same_key (record { from = record { net = net; node = k; socket = socket }; tid = tid }) key
+    same_address (record { net = net; node = node; socket = own }) at && same_key
+    (record { from = record { net = net; node = k; socket = socket }; tid = tid }) key
 expired_at net e r at key = false
 
 -- the packet that came has this key
@@ -75,8 +78,11 @@ BeginsAs h e = Unit {0}
 -- a call gives an answer, or the router answers what came
 abbrev pub AnswersAs : {A : Type 0} → ℕ → Happening → Event A → Report A → Type 0
 AnswersAs net (Answers at key packets) e r =
-    (node : ℕ) × (k : ℕ) × (socket : ℕ) × (tid : ℕ) × (count : ℕ) × (e ≡ event.Call node (Answer k socket tid packets)) × (r ≡ report.Answered count) × (key ≡ record { from = record { net = net; node = k; socket = socket }; tid = tid })
-AnswersAs net (Serves which packets) e r = (node : ℕ) × (count : ℕ) × (e ≡ event.Deliver which node) × (r ≡ report.Served count)
+    (node : ℕ) × (k : ℕ) × (socket : ℕ) × (tid : ℕ) × (count : ℕ) × (e ≡ event.Call node (Answer k socket tid packets))
+    × (r ≡ report.Answered count)
+    × (key ≡ record { from = record { net = net; node = k; socket = socket }; tid = tid })
+AnswersAs net (Serves which packets) e r =
+    (node : ℕ) × (count : ℕ) × (e ≡ event.Deliver which node) × (r ≡ report.Served count)
 AnswersAs net h e r = Unit {0}
 
 -- an answer that is reported joins its transaction: that of a call, or the router's to what came
@@ -84,7 +90,8 @@ abbrev pub Joins : {A : Type 0} → ℕ → Network → Happening → Report A �
 Joins {A} net n h (report.Answered count) (event.Call node (Answer k socket tid packets)) =
     (done A n h).asked ≡ answered n.asked (record { net = net; node = k; socket = socket }) tid packets
 Joins {A} net n h (report.Served count) (event.Deliver which node) =
-    (s : Sent) × (packet_at n.sent which ≡ Some s) × ((packets : List Packet) × ((done A n h).asked ≡ answered n.asked s.from (number_of s.packet) packets))
+    (s : Sent) × (packet_at n.sent which ≡ Some s)
+    × ((packets : List Packet) × ((done A n h).asked ≡ answered n.asked s.from (number_of s.packet) packets))
 Joins net n h r e = Unit {0}
 
 -- a packet in time came that ends the transaction of this number with these packets
@@ -120,20 +127,23 @@ Grows A n h = (more : List (Option Sent)) × ((done A n h).sent ≡ n.sent ++ mo
 -- these events and reports, after what happened before, make this history, whose newest happening comes first
 abbrev pub Tells : {A : Type 0} → ℕ → List Happening → List (Event A) → List (Report A) → List Happening → Type 0
 Tells net before [] [] history = history ≡ before
-Tells {A} net before (e ∷ es) (r ∷ rs) history = (h : Happening) × Matches net (after A before) h e r × Grows A (after A before) h × Tells net (h ∷ before) es rs history
+Tells {A} net before (e ∷ es) (r ∷ rs) history = (h : Happening) × Matches net (after A before) h e r
+    × Grows A (after A before) h × Tells net (h ∷ before) es rs history
 Tells net before [] (r ∷ rs) history = ⊥
 Tells net before (e ∷ es) [] history = ⊥
 
 -- a packet as the world's list has it
 abbrev pub posted_packet : Sent → SentDatagram
-posted_packet s = record { event = s.event; to = (s.to).node; bytes = canonical s.to s.from atp_kind (spelled s.packet) }
+posted_packet s =
+    record { event = s.event; to = (s.to).node; bytes = canonical s.to s.from atp_kind (spelled s.packet) }
 
 -- each packet of the network stands at its place among all datagrams of the world
 abbrev pub Within : List SentDatagram → Network → Type 0
 Within sent n = (which : ℕ) (s : Sent) → packet_at n.sent which ≡ Some s → slice_get sent which ≡ Some (posted_packet s)
 
 -- a history in which no packet outlives its number, that these events and reports make, and that sent this
-pub record IsHistory {A : Type 0} (net : ℕ) (es : List (Event A)) (rs : List (Report A)) (sent : List SentDatagram) (history : List Happening) : Type 0 where
+pub record IsHistory {A : Type 0} (net : ℕ) (es : List (Event A)) (rs : List (Report A)) (sent : List SentDatagram)
+    (history : List Happening) : Type 0 where
   pub timely : AllTimely A history
   pub in_range : AllByRecursion IsInRange history
   pub tells : Tells net [] es rs history

@@ -1,5 +1,6 @@
 -- What a world is, which events it refuses, and what each event does to it.
-use Rattle.std.specs.Prelude.{◌≡◌, ℕ, ◌+◌, ◌==◌, ◌||◌, nat_le, nat_lt, if◌then◌else◌, Bool, true, false, List, [], ◌++◌, length, map, find, slice_get, Option, Some, None}
+use Rattle.std.specs.Prelude.{◌≡◌, ℕ, ◌+◌, ◌==◌, ◌||◌, nat_le, nat_lt, if◌then◌else◌, Bool, true, false, List, [], ◌++◌}
+use Rattle.std.specs.Prelude.{length, map, find, slice_get, Option, Some, None}
 use Rattle.std.specs.List.{list_any}
 use Rattle.at_ddp.specs.Datagrams.{Posted}
 use Rattle.at_ddp.specs.Tables.{replaced}
@@ -66,7 +67,8 @@ refusal w e = if is_over w then Some refusals.Limit else refusal_at w e
 
 -- no event after the one that sent a datagram drew a number that it carries
 abbrev pub IsFresh : WorldState → SentDatagram → Type 0
-IsFresh w s = (node : ℕ) (draw : Draw) → Carries s.bytes node draw → is_no_later (last_of w.last node draw) s.event ≡ true
+IsFresh w s =
+    (node : ℕ) (draw : Draw) → Carries s.bytes node draw → is_no_later (last_of w.last node draw) s.event ≡ true
 
 -- does some node hold a record under this number of a node? not if there is no number
 abbrev pub holds_some : List NodeState → ℕ → Option Draw → Bool
@@ -112,7 +114,8 @@ recorded w k r after out = record {
 }
 
 -- a node's step is one of these, and nothing else happens
-pub record PlaysAt {A : Type 0} (w : WorldState) (k : ℕ) (S : NodeState → List Posted → Report A → NodeState → List Posted → Type 0) (r : Report A) (w' : WorldState) : Type 0 where
+pub record PlaysAt {A : Type 0} (w : WorldState) (k : ℕ)
+    (S : NodeState → List Posted → Report A → NodeState → List Posted → Type 0) (r : Report A) (w' : WorldState) : Type 0 where
   pub node : NodeState
   pub stands : node_at w k ≡ Some node
   pub after : NodeState
@@ -122,7 +125,8 @@ pub record PlaysAt {A : Type 0} (w : WorldState) (k : ℕ) (S : NodeState → Li
 
 -- a node receives bytes, and its service leaves every answer for later
 abbrev pub Receives : {A : Type 0} → List ℕ → NodeState → List Posted → Report A → NodeState → List Posted → Type 0
-Receives {A} bytes n before r after out = (said : Reply A) × Comes (Hears said n bytes) n before r after out × (is_asked r ≡ true → said ≡ reply.Later)
+Receives {A} bytes n before r after out =
+    (said : Reply A) × Comes (Hears said n bytes) n before r after out × (is_asked r ≡ true → said ≡ reply.Later)
 
 -- a node takes an input
 abbrev pub Takes : {A : Type 0} → Input A → NodeState → List Posted → Report A → NodeState → List Posted → Type 0
@@ -139,9 +143,11 @@ pub record PlaysDelivery {A : Type 0} (w : WorldState) (which k : ℕ) (r : Repo
 -- The world after an event that gives a report: the node's own step, over the bytes that were sent. The parts of a call
 -- are in the ranges of their types.
 abbrev pub Plays : {A : Type 0} → WorldState → Event A → Report A → WorldState → Type 0
-Plays w (event.Call k call) r w' = PlaysAt w k (λ n before said after out. IsStep (called n call) n before said after out) r w' × IsCall call
+Plays w (event.Call k call) r w' =
+    PlaysAt w k (λ n before said after out. IsStep (called n call) n before said after out) r w' × IsCall call
 Plays w (event.Deliver which k) r w' = PlaysDelivery w which k r w'
-Plays w (event.Timer k timer) r w' = PlaysAt w k (λ n before said after out. IsStep (timed n timer) n before said after out) r w'
+Plays w (event.Timer k timer) r w' =
+    PlaysAt w k (λ n before said after out. IsStep (timed n timer) n before said after out) r w'
 
 -- Why an event was not played. A world that had not failed is out of memory only if nothing else refuses the event.
 abbrev pub IsFault : {A : Type 0} → WorldState → Event A → Fault → WorldState → Type 0
@@ -150,7 +156,8 @@ IsFault w e fault.NoMemory w' = (w'.failed ≡ true) × (w'.sent ≡ w.sent) × 
 
 -- why a node did not take an input
 abbrev pub IsNotTaken : {A : Type 0} → WorldState → ℕ → Input A → Fault → WorldState → Type 0
-IsNotTaken w k i (fault.Refused refusals.Untimely) w' = ((n : NodeState) × (node_at w k ≡ Some n) × ¬ IsFree w k (draw_of_input n i)) × (w' ≡ w)
+IsNotTaken w k i (fault.Refused refusals.Untimely) w' =
+    ((n : NodeState) × (node_at w k ≡ Some n) × ¬ IsFree w k (draw_of_input n i)) × (w' ≡ w)
 IsNotTaken w k i (fault.Refused r) w' = (node_refusal (node_at w k) ≡ Some r) × (w' ≡ w)
 IsNotTaken w k i fault.NoMemory w' =
     (w'.failed ≡ true) × (w'.sent ≡ w.sent) × (node_refusal (node_at w k) ≡ None)

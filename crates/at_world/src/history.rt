@@ -15,8 +15,10 @@ use std::alloc::Allocator;
 // The reports of a world that is stepped from its opening on are a run of the machine, and each event is one happening
 // in the network of requesters and responders.
 pub(crate) fn steps_make_a_history<A: Allocator>()
-    ensures { (s : Setup A) (events : List (Event A)) (reports : List (Report A)) (w : WorldState) → is_lawful s ≡ true → Follows (opening_world s) events reports w
-        → ((m : Machine) × Run (opening_machine s) events reports m) × ((history : List Happening) × IsHistory s.net events reports w.sent history) }
+    ensures { (s : Setup A) (events : List (Event A)) (reports : List (Report A)) (w : WorldState) → is_lawful s ≡ true
+        → Follows (opening_world s) events reports w
+        → ((m : Machine) × Run (opening_machine s) events reports m)
+        × ((history : List Happening) × IsHistory s.net events reports w.sent history) }
 {
     at_atp::laws::responses_are_answers::<A>();
     at_atp::laws::what_is_sent_is_lawful::<A>();

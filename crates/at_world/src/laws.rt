@@ -16,9 +16,11 @@ use std::alloc::Allocator;
 /// The reports of a world that is stepped from its opening on are a run of the machine. All that it sends is spelled
 /// canonically.
 pub fn steps_are_a_run<A: Allocator>()
-    ensures machine { (s : Setup A) (events : List (Event A)) (reports : List (Report A)) (w : WorldState) → is_lawful s ≡ true → Follows (opening_world s) events reports w
+    ensures machine { (s : Setup A) (events : List (Event A)) (reports : List (Report A)) (w : WorldState)
+        → is_lawful s ≡ true → Follows (opening_world s) events reports w
         → (m : Machine) × Run (opening_machine s) events reports m }
-    ensures sent { (s : Setup A) (events : List (Event A)) (reports : List (Report A)) (w : WorldState) → Follows (opening_world s) events reports w → AreCanonical w.sent }
+    ensures sent { (s : Setup A) (events : List (Event A)) (reports : List (Report A)) (w : WorldState)
+        → Follows (opening_world s) events reports w → AreCanonical w.sent }
 {
     steps_make_a_history::<A>();
 }
@@ -27,7 +29,8 @@ pub fn steps_are_a_run<A: Allocator>()
 /// at most once. At each moment of a stepped world, each was delivered to the service at most once since its
 /// transaction began. It was delivered exactly once if the transaction ended with a response.
 pub fn exactly_once_requests_run_once<A: Allocator>()
-    ensures { (s : Setup A) (events : List (Event A)) (reports : List (Report A)) (w : WorldState) → is_lawful s ≡ true → Follows (opening_world s) events reports w
+    ensures { (s : Setup A) (events : List (Event A)) (reports : List (Report A)) (w : WorldState) → is_lawful s ≡ true
+        → Follows (opening_world s) events reports w
         → AllLive s.net w.sent (onto [] events reports) → RunsOnce s.net w.sent (onto [] events reports) }
 {
     steps_make_a_history::<A>();

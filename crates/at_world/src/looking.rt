@@ -24,7 +24,8 @@ impl<A: Allocator + Copy> World<A> {
     /// The datagram of a number. Datagrams are numbered from 0 in the order of sending.
     pub fn sent(&self, number: usize) -> Sent<'_>
         requires { number < length self.now.sent }
-        ensures { (s : SentDatagram) × (slice_get self.now.sent number ≡ Some s) × (result.event ≡ s.event) × (result.to ≡ s.to) × (result.bytes.now ≡ s.bytes) }
+        ensures { (s : SentDatagram) × (slice_get self.now.sent number ≡ Some s) × (result.event ≡ s.event)
+            × (result.to ≡ s.to) × (result.bytes.now ≡ s.bytes) }
     {
         Sent {
             event: self.stamps[number],

@@ -1,4 +1,5 @@
-ghost use Rattle.std.specs.Prelude.{◌≡◌, ◌<◌, ◌≤◌, ◌-◌, ◌++◌, length, take, replicate, slice_get, Some, [], OnOk, OnErr};
+ghost use Rattle.std.specs.Prelude.{◌≡◌, ◌<◌, ◌≤◌, ◌-◌, ◌++◌, length, take, replicate, slice_get, Some, [], OnOk};
+ghost use Rattle.std.specs.Prelude.{OnErr};
 ghost use Rattle.at_world.specs.Sents.{SentDatagram, stamped};
 
 use at_ddp::Datagrams;
@@ -62,7 +63,8 @@ impl<A: Allocator> SentList<A> {
 
     pub fn get(&self, index: usize) -> Sent<'_>
         requires { index < length self.now }
-        ensures { (s : SentDatagram) × (slice_get self.now index ≡ Some s) × (result.event ≡ s.event) × (result.to ≡ s.to) × (result.bytes.now ≡ s.bytes) }
+        ensures { (s : SentDatagram) × (slice_get self.now index ≡ Some s) × (result.event ≡ s.event)
+            × (result.to ≡ s.to) × (result.bytes.now ≡ s.bytes) }
     {
         Sent {
             event: self.events[index],

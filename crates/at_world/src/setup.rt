@@ -1,6 +1,7 @@
 ghost use Rattle.std.specs.Prelude.{◌≡◌, ◌≤◌, length, nat_le, count_by, is_none};
 ghost use Rattle.std.specs.List.{list_all};
-ghost use Rattle.at_world.specs.Setups.{is_lawful_node, is_name, is_zone, stands_once, has_router, are_in_zones, are_lawful_nodes, spelled_len, is_lawful_table};
+ghost use Rattle.at_world.specs.Setups.{is_lawful_node, is_name, is_zone, stands_once, has_router, are_in_zones};
+ghost use Rattle.at_world.specs.Setups.{are_lawful_nodes, spelled_len, is_lawful_table};
 
 use at_ddp::{Listed, Pascal};
 use std::alloc::{Allocator, Global};

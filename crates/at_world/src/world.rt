@@ -1,11 +1,14 @@
-ghost use Rattle.std.specs.Prelude.{◌≡◌, Err, ◌==◌, ◌||◌, IfOk, IfErr, IsOk, IsErr, OnOk, OnErr, None, false, true, ◌≤◌, ◌-◌, ◌++◌, length, replicate, ℕ};
+ghost use Rattle.std.specs.Prelude.{◌≡◌, Err, ◌==◌, ◌||◌, IfOk, IfErr, IsOk, IsErr, OnOk, OnErr, None, false, true};
+ghost use Rattle.std.specs.Prelude.{◌≤◌, ◌-◌, ◌++◌, length, replicate, ℕ};
 ghost use Rattle.std.specs.List.{position_from, list_any};
 ghost use Rattle.at_node.specs.Drawing.{Carries, drawn_by, draw_of_input, holds};
 ghost use Rattle.at_node.specs.Nodes.{NodeState};
 ghost use Rattle.at_node.specs.declared.drawing.Draw.{Draw as Drawn};
 ghost use Rattle.at_world.specs.Draws.{last_of, noted, is_no_later};
 ghost use Rattle.at_world.specs.Plays.{opening_world};
-ghost use Rattle.at_world.specs.Worlds.{IsNotTaken, holds_some, is_in_time, IsPlayable, IsFree, Plays, PlaysAt, PlaysDelivery, Takes, IsFault, Refuses, refusal, refusal_at, node_refusal, node_at, is_over, is_numbered};
+ghost use Rattle.at_world.specs.Worlds.{IsNotTaken, holds_some, is_in_time, IsPlayable, IsFree, Plays, PlaysAt};
+ghost use Rattle.at_world.specs.Worlds.{PlaysDelivery, Takes, IsFault, Refuses, refusal, refusal_at, node_refusal};
+ghost use Rattle.at_world.specs.Worlds.{node_at, is_over, is_numbered};
 
 use crate::draws::LastDraws;
 use crate::event::{Event, Fault, Refusal};
@@ -43,9 +46,16 @@ impl<A: Allocator> Model for World<A> {
 
     ghost Value = { WorldState };
 
-    ghost view = { λ w. record { nodes = w.nodes.items; sent = stamped w.stamps.items w.datagrams.items; last = w.last; events = w.events; failed = w.failed } };
+    ghost view = { λ w. record {
+      nodes = w.nodes.items;
+      sent = stamped w.stamps.items w.datagrams.items;
+      last = w.last;
+      events = w.events;
+      failed = w.failed;
+    } };
 
-    ghost invariant = { λ w. (length w.stamps.items ≤ length w.datagrams.items) × (w.failed ≡ false → length w.stamps.items ≡ length w.datagrams.items) };
+    ghost invariant = { λ w. (length w.stamps.items ≤ length w.datagrams.items)
+        × (w.failed ≡ false → length w.stamps.items ≡ length w.datagrams.items) };
 }
 
 impl<A: Allocator + Copy> World<A> {
@@ -73,7 +83,8 @@ impl<A: Allocator + Copy> World<A> {
 
     /// Plays an event, or says why not. A world that ran out of memory has failed, and plays no more events.
     pub fn step(&mut self, event: &Event<A>) -> Result<Report<A>, Fault>
-        ensures played { IfOk result (λ report. IsPlayable self.old event.now × Plays self.old event.now report self.new) }
+        ensures played { IfOk result (λ report. IsPlayable self.old event.now
+            × Plays self.old event.now report self.new) }
         ensures not_played { IfErr result (λ fault. IsFault self.old event.now fault self.new) }
         ensures failed { self.old.failed ≡ true → (result ≡ Err Fault.NoMemory) × (self.new ≡ self.old) }
     {
@@ -104,7 +115,8 @@ impl<A: Allocator + Copy> World<A> {
         requires whole { self.old.failed ≡ false }
         requires runs { is_over self.old ≡ false }
         ensures played { IfOk result (λ report. PlaysAt self.old node (Takes input.now) report self.new) }
-        ensures free { IfOk result (λ report. (n : NodeState) → node_at self.old node ≡ Some n → IsFree self.old node (draw_of_input n input.now)) }
+        ensures free { IfOk result (λ report. (n : NodeState) → node_at self.old node ≡ Some n
+            → IsFree self.old node (draw_of_input n input.now)) }
         ensures not_played { IfErr result (λ fault. IsNotTaken self.old node input.now fault self.new) }
     {
         let Some(place) = place_of(&self.nodes, node) else {
@@ -133,7 +145,8 @@ impl<A: Allocator + Copy> World<A> {
     fn deliver(&mut self, which: u64, node: u8) -> Result<Report<A>, Fault>
         requires whole { self.old.failed ≡ false }
         requires runs { is_over self.old ≡ false }
-        ensures played { IfOk result (λ report. IsPlayable {A = A} self.old (Event.Deliver which node) × PlaysDelivery self.old which node report self.new) }
+        ensures played { IfOk result (λ report. IsPlayable {A = A} self.old (Event.Deliver which node)
+            × PlaysDelivery self.old which node report self.new) }
         ensures not_played { IfErr result (λ fault. IsFault {A = A} self.old (Event.Deliver which node) fault self.new) }
     {
         if which >= self.stamps.len() as u64 {
@@ -194,7 +207,8 @@ fn book<A: Allocator + Copy>(
 ) -> Result<(), AllocError>
     requires { length stamps.old.items ≤ count }
     ensures drawn { OnOk result (last.new ≡ noted last.old node event drawn) }
-    ensures stamped { OnOk result (stamps.new.items ≡ stamps.old.items ++ replicate (count - length stamps.old.items) event) }
+    ensures stamped { OnOk result
+        (stamps.new.items ≡ stamps.old.items ++ replicate (count - length stamps.old.items) event) }
     ensures kept { OnErr result (stamps.new.items ≡ stamps.old.items) }
 {
     if let Some(draw) = drawn {
@@ -239,8 +253,10 @@ fn is_held_by_some<A: Allocator + Copy>(nodes: &[Node<A>], node: u8, draw: Draw)
 
 // Whether no event after this one drew a number that these bytes carry.
 fn is_fresh<A: Allocator + Copy>(last: &LastDraws<A>, bytes: &[u8], event: u32) -> bool
-    ensures fresh { result ≡ true → (node : ℕ) (draw : Drawn) → Carries bytes.now node draw → is_no_later (last_of last.now node draw) event ≡ true }
-    ensures stale { result ≡ false → (node : ℕ) × (draw : Drawn) × Carries bytes.now node draw × (is_no_later (last_of last.now node draw) event ≡ false) }
+    ensures fresh { result ≡ true → (node : ℕ) (draw : Drawn) → Carries bytes.now node draw
+        → is_no_later (last_of last.now node draw) event ≡ true }
+    ensures stale { result ≡ false → (node : ℕ) × (draw : Drawn) × Carries bytes.now node draw
+        × (is_no_later (last_of last.now node draw) event ≡ false) }
 {
     let [first, second] = carried(bytes);
     is_no_later(last, first, event) && is_no_later(last, second, event)

@@ -3,7 +3,8 @@ use Rattle.std.specs.Prelude.{◌≡◌, ℕ, ◌<◌, ◌≤◌, List, [], ◌�
 use Rattle.at_ddp.specs.Fault.{number_at}
 use Rattle.at_zip.specs.Names.{BeginsWithNames}
 use Rattle.at_zip.specs.declared.fault.ZipFault.{ZipFault}
-use Rattle.at_zip.specs.declared.fault.ZipFault.TheVariants.{NotZip, CountMismatch, BadZone, EmptyPage, TooManyZones, NoMemory}
+use Rattle.at_zip.specs.declared.fault.ZipFault.TheVariants.{NotZip, CountMismatch, BadZone, EmptyPage, TooManyZones}
+use Rattle.at_zip.specs.declared.fault.ZipFault.TheVariants.{NoMemory}
 
 -- the number by which a refusal is reported
 abbrev pub number_of : ZipFault → Option ℕ

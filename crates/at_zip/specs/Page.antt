@@ -1,6 +1,7 @@
 -- Pages of a zone table (Inside AppleTalk, ZIP, "ZIP packet formats"). A page is the reply to GetZoneList. Its user
 -- bytes and data are those of one ATP response packet.
-use Rattle.std.specs.Prelude.{◌≡◌, ◌≢◌, ℕ, ◌+◌, ◌-◌, ◌^◌, ◌<◌, ◌≤◌, ◌↔◌, Bool, false, IsTrue, nat_le, if◌then◌else◌, List, [], ◌∷◌, ◌++◌, length, drop, All}
+use Rattle.std.specs.Prelude.{◌≡◌, ◌≢◌, ℕ, ◌+◌, ◌-◌, ◌^◌, ◌<◌, ◌≤◌, ◌↔◌, Bool, false, IsTrue, nat_le, if◌then◌else◌}
+use Rattle.std.specs.Prelude.{List, [], ◌∷◌, ◌++◌, length, drop, All}
 use Rattle.std.specs.Int.{to_be_bytes, w16}
 use Rattle.at_zip.specs.Names.{spelled}
 use Rattle.at_zip.specs.Zones.{IsName}
@@ -59,5 +60,6 @@ pub record IsPageFrom (table : List (List ℕ)) (start : ℕ) (p : Page) : Type 
   pub rest : List (List ℕ)
   pub begins : drop (start - 1) table ≡ p.names ++ rest
   pub fits : length (spelled p.names) ≤ 578
-  pub longest : (longer after : List (List ℕ)) → drop (start - 1) table ≡ longer ++ after → length p.names < length longer → 578 < length (spelled longer)
+  pub longest : (longer after : List (List ℕ)) → drop (start - 1) table ≡ longer ++ after
+      → length p.names < length longer → 578 < length (spelled longer)
   pub reaches : IsTrue p.last ↔ (length table ≤ start - 1 + length p.names)

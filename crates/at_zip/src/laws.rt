@@ -20,7 +20,8 @@ pub fn what_is_written_is_read()
 pub fn one_page_a_spelling()
     ensures request { (user : List ℕ) (m n : ℕ) → RequestSpells user m → RequestSpells user n → m ≡ n }
     ensures page { (user bytes : List ℕ) (p q : Page) → Spells user bytes p → Spells user bytes q → p ≡ q }
-    ensures faultless { (user bytes : List ℕ) (p : Page) → Spells user bytes p → (fault : ZipFault) → ¬ IsFirstFault fault user bytes }
+    ensures faultless { (user bytes : List ℕ) (p : Page) → Spells user bytes p → (fault : ZipFault)
+        → ¬ IsFirstFault fault user bytes }
 {}
 
 /// The page of a table fits one ATP packet: four user bytes, and at most 578 bytes of data.
@@ -38,5 +39,6 @@ pub fn a_page_is_the_longest_run()
 
 /// A table that fits one page is read whole.
 pub fn a_small_table_is_one_page()
-    ensures { (table : List (List ℕ)) → length (spelled table) ≤ 578 → page_of table 1 ≡ record { last = true; names = table } }
+    ensures { (table : List (List ℕ)) → length (spelled table) ≤ 578
+        → page_of table 1 ≡ record { last = true; names = table } }
 {}

@@ -4,14 +4,14 @@ use Rattle.at_atp_requester.proofs.RequestLemmas.{drawn_without, drawn_as_it_is}
 use Rattle.at_ddp.proofs.TableLemmas.{found_by, none_by}
 use Rattle.at_atp_requester.proofs.requester.Requester.next_number.Goals as goal
 
-pub returns-in-Some-place_numbered : goal.returns-in-Some-place_numbered
-returns-in-Some-place_numbered g c =
+pub returns-in-Some-index_numbered : goal.returns-in-Some-index_numbered
+returns-in-Some-index_numbered g c =
     let r : Requests = record { next = c.self.inside.next; standing = c.self.inside.standing.items } in
-    let f = found_by (is_numbered c.in-Some.tid) r.standing c.as_slice-standing.result.now c.place_numbered.result c.in-Some-place_numbered.index c.as_slice-standing.ensures.value c.place_numbered.ensures.first c.in-Some-place_numbered.is in
-    rw (← c.self.view_is, c.in-Some.is) (c.next_of-in-Some-place_numbered.ensures.number ∙ drawn_without r c.in-Some.tid c.in-Some-place_numbered.index _ c.as_slice-standing.result.now f (omega arith) c.as_slice-standing.ensures.value)
+    let f = found_by (is_numbered c.in-Some.tid) r.standing c.as_slice-standing.result.now c.index_numbered.result c.in-Some-index_numbered.index c.as_slice-standing.ensures.value c.index_numbered.ensures.first c.in-Some-index_numbered.is in
+    rw (← c.self.view_is, c.in-Some.is) (c.next_of-in-Some-index_numbered.ensures.number ∙ drawn_without r c.in-Some.tid c.in-Some-index_numbered.index _ c.as_slice-standing.result.now f (omega arith) c.as_slice-standing.ensures.value)
 
 pub returns-in-None : goal.returns-in-None
 returns-in-None g c =
     let r : Requests = record { next = c.self.inside.next; standing = c.self.inside.standing.items } in
-    let none = none_by (is_numbered c.in-Some.tid) r.standing c.as_slice-standing.result.now c.place_numbered.result c.as_slice-standing.ensures.value c.place_numbered.ensures.first c.in-None.is in
+    let none = none_by (is_numbered c.in-Some.tid) r.standing c.as_slice-standing.result.now c.index_numbered.result c.as_slice-standing.ensures.value c.index_numbered.ensures.first c.in-None.is in
     rw (← c.self.view_is, c.in-Some.is) (c.next_of-in-None.ensures.number ∙ drawn_as_it_is r c.in-Some.tid c.as_slice-standing.result.now none c.as_slice-standing.ensures.value)

@@ -1,7 +1,9 @@
 ghost use Rattle.std.specs.Prelude.{◌≡◌, ℕ, ◌+◌, ◌≤◌, ◌∷◌, [], length, true, false, if◌then◌else◌, IfOk, OnErr, IsOk};
 ghost use Rattle.at_ddp.specs.Outbox.{Sends, HasRoomFor};
 ghost use Rattle.at_atp_frame.specs.Frames.{Response, spelled_all};
-ghost use Rattle.at_atp_responder.specs.Records.{Waiting, Answered, fit, responses, is_key, is_from, state_fault, expiry_fault_of, asked_mask, keeps_answer, repeated, released, IsRepeat};
+ghost use Rattle.at_atp_responder.specs.Records.{Waiting, Answered, fit, responses, is_key, is_from, state_fault};
+ghost use Rattle.at_atp_responder.specs.Records.{expiry_fault_of, asked_bitmap, keeps_answer, repeated, released};
+ghost use Rattle.at_atp_responder.specs.Records.{IsRepeat};
 
 use crate::reception::{Key, Reception};
 use at_atp_frame::{AtpFault, Frame, PACKET_LEN, Packet, send};
@@ -11,38 +13,38 @@ use std::marker::Model;
 
 // What became of a request.
 #[derive(Drop)]
-pub(crate) enum Held<A: Allocator> {
-    Waiting { xo: bool, mask: u8 },
+pub(crate) enum RecordState<A: Allocator> {
+    Waiting { xo: bool, bitmap: u8 },
     Answered(Listed<Packet<A>, A>),
     Released,
 }
 
 /// A record: a request that came, and what became of it.
 #[derive(Drop)]
-pub(crate) struct Entry<A: Allocator> {
+pub(crate) struct Record<A: Allocator> {
     key: Key,
-    held: Held<A>,
+    state: RecordState<A>,
 }
 
-impl<A: Allocator> Model for Entry<A> {
-    ghost use Rattle.at_atp_responder.specs.Records.{Record};
+impl<A: Allocator> Model for Record<A> {
+    ghost use Rattle.at_atp_responder.specs.Records.{Record as Kept};
 
-    ghost Value = { Record };
+    ghost Value = { Kept };
 
     ghost use Rattle.at_atp_responder.specs.States.{state_of, CanBeSent};
 
-    ghost view = { λ e. record { key = e.key; state = state_of e.held } };
+    ghost view = { λ e. record { key = e.key; state = state_of e.state } };
 
-    ghost invariant = { λ e. CanBeSent (state_of e.held) };
+    ghost invariant = { λ e. CanBeSent (state_of e.state) };
 }
 
-impl<A: Allocator> Entry<A> {
-    pub(crate) fn waiting(key: Key, xo: bool, mask: u8) -> Entry<A>
-        ensures { result ≡ record { key = key; state = Waiting xo mask } }
+impl<A: Allocator> Record<A> {
+    pub(crate) fn waiting(key: Key, xo: bool, bitmap: u8) -> Record<A>
+        ensures { result ≡ record { key = key; state = Waiting xo bitmap } }
     {
-        Entry {
+        Record {
             key,
-            held: Held::Waiting { xo, mask },
+            state: RecordState::Waiting { xo, bitmap },
         }
     }
 
@@ -63,10 +65,10 @@ impl<A: Allocator> Entry<A> {
     pub(crate) fn fault(&self) -> Option<AtpFault>
         ensures { result ≡ state_fault self.now.state }
     {
-        match &self.held {
-            Held::Waiting { .. } => None,
-            Held::Answered(_) => Some(AtpFault::Gone),
-            Held::Released => Some(AtpFault::Gone),
+        match &self.state {
+            RecordState::Waiting { .. } => None,
+            RecordState::Answered(_) => Some(AtpFault::Gone),
+            RecordState::Released => Some(AtpFault::Gone),
         }
     }
 
@@ -74,20 +76,20 @@ impl<A: Allocator> Entry<A> {
     pub(crate) fn expiry_fault(&self) -> Option<AtpFault>
         ensures { result ≡ expiry_fault_of self.now.state }
     {
-        match &self.held {
-            Held::Waiting { .. } => Some(AtpFault::StillPending),
-            Held::Answered(_) => None,
-            Held::Released => None,
+        match &self.state {
+            RecordState::Waiting { .. } => Some(AtpFault::StillPending),
+            RecordState::Answered(_) => None,
+            RecordState::Released => None,
         }
     }
 
-    pub(crate) fn mask(&self) -> u8
-        ensures { result ≡ asked_mask self.now.state }
+    pub(crate) fn bitmap(&self) -> u8
+        ensures { result ≡ asked_bitmap self.now.state }
     {
-        match &self.held {
-            Held::Waiting { mask, .. } => *mask,
-            Held::Answered(_) => 0,
-            Held::Released => 0,
+        match &self.state {
+            RecordState::Waiting { bitmap, .. } => *bitmap,
+            RecordState::Answered(_) => 0,
+            RecordState::Released => 0,
         }
     }
 
@@ -95,10 +97,10 @@ impl<A: Allocator> Entry<A> {
     pub(crate) fn keeps_answer(&self) -> bool
         ensures { result ≡ keeps_answer self.now.state }
     {
-        match &self.held {
-            Held::Waiting { xo, .. } => *xo,
-            Held::Answered(_) => false,
-            Held::Released => false,
+        match &self.state {
+            RecordState::Waiting { xo, .. } => *xo,
+            RecordState::Answered(_) => false,
+            RecordState::Released => false,
         }
     }
 
@@ -107,30 +109,31 @@ impl<A: Allocator> Entry<A> {
         requires fits { fit packets ≡ true }
         ensures { self.new ≡ record self.old { state = Answered packets } }
     {
-        self.held = Held::Answered(packets);
+        self.state = RecordState::Answered(packets);
     }
 
-    // Sends what is kept of the answer again. A request that still waits takes the new mask.
+    // Sends what is kept of the answer again. A request that still waits takes the new bitmap.
     pub(crate) fn come_again(
         &mut self,
-        mask: u8,
+        bitmap: u8,
         out: &mut Outbox<A>,
     ) -> Result<Reception, AllocError>
-        ensures ok { IfOk result (λ r. IsRepeat (repeated self.old.key mask self.old.state) r self.old self.new out.old out.new) }
+        ensures ok { IfOk result (λ r. IsRepeat (repeated self.old.key bitmap self.old.state) r self.old self.new
+            out.old out.new) }
         ensures unchanged { OnErr result (self.new ≡ self.old) }
         ensures nothing_sent { OnErr result (Sends out.old out.new []) }
-        ensures ignored { (repeated self.old.key mask self.old.state).reception ≡ Reception.Ignored → IsOk result }
+        ensures ignored { (repeated self.old.key bitmap self.old.state).reception ≡ Reception.Ignored → IsOk result }
     {
         let key = self.key;
-        match &self.held {
-            Held::Released => Ok(Reception::Ignored),
-            Held::Answered(packets) => {
+        match &self.state {
+            RecordState::Released => Ok(Reception::Ignored),
+            RecordState::Answered(packets) => {
                 let packets = packets.as_slice();
                 out.room(packets.len() as u32, PACKET_LEN)?;
-                Ok(Reception::Again(send_answer(out, key, 0, mask, packets)))
+                Ok(Reception::Again(send_answer(out, key, 0, bitmap, packets)))
             }
-            Held::Waiting { xo, .. } => {
-                self.held = Held::Waiting { xo: *xo, mask };
+            RecordState::Waiting { xo, .. } => {
+                self.state = RecordState::Waiting { xo: *xo, bitmap };
                 Ok(Reception::Again(0))
             }
         }
@@ -141,38 +144,38 @@ impl<A: Allocator> Entry<A> {
         ensures reception { result ≡ (released self.old.state).reception }
         ensures state { self.new ≡ record self.old { state = (released self.old.state).state } }
     {
-        match &self.held {
-            Held::Waiting { .. } => Reception::Ignored,
-            Held::Released => Reception::Ignored,
-            Held::Answered(_) => {
-                self.held = Held::Released;
+        match &self.state {
+            RecordState::Waiting { .. } => Reception::Ignored,
+            RecordState::Released => Reception::Ignored,
+            RecordState::Answered(_) => {
+                self.state = RecordState::Released;
                 Reception::Released
             }
         }
     }
 }
 
-// Sends the packets whose bits are set in the mask, and counts them. Bit 0 is for the packet at `place`.
+// Sends the packets whose bits are set in the bitmap, and counts them. Bit 0 is for the packet at `sequence_number`.
 pub(crate) fn send_answer<A: Allocator>(
     out: &mut Outbox<A>,
     key: Key,
-    place: u8,
-    mask: u8,
+    sequence_number: u8,
+    bitmap: u8,
     packets: &[Packet<A>],
 ) -> u8
     requires fits { fit packets.now ≡ true }
-    requires few { place + length packets.now ≤ 8 }
+    requires few { sequence_number + length packets.now ≤ 8 }
     requires room { HasRoomFor out.old (length packets.now) 586 }
-    ensures sent { Sends out.old out.new (spelled_all (responses key place mask packets.now)) }
-    ensures count { result ≡ length (responses key place mask packets.now) }
+    ensures sent { Sends out.old out.new (spelled_all (responses key sequence_number bitmap packets.now)) }
+    ensures count { result ≡ length (responses key sequence_number bitmap packets.now) }
     ensures few { result ≤ length packets.now }
 {
     match packets {
         [] => 0,
         [packet, rest @ ..] => {
-            let asked = mask % 2 == 1;
-            send_if(asked, out, key, place, rest.is_empty(), packet);
-            u8::from(asked) + send_answer(out, key, place + 1, mask / 2, rest)
+            let asked = bitmap % 2 == 1;
+            send_if(asked, out, key, sequence_number, rest.is_empty(), packet);
+            u8::from(asked) + send_answer(out, key, sequence_number + 1, bitmap / 2, rest)
         }
     }
 }
@@ -181,21 +184,24 @@ fn send_if<A: Allocator>(
     asked: bool,
     out: &mut Outbox<A>,
     key: Key,
-    place: u8,
+    sequence_number: u8,
     eom: bool,
     packet: &Packet<A>,
 )
-    requires place { place ≤ 7 }
+    requires sequence_number { sequence_number ≤ 7 }
     requires fits { length packet.now.data_ ≤ 578 }
     requires room { HasRoomFor out.old 1 586 }
-    ensures sent { Sends out.old out.new (spelled_all (if asked then (key.from, Response place eom false key.tid packet.now.user packet.now.data_) ∷ [] else [])) }
+    ensures sent { Sends out.old out.new
+        (spelled_all (if asked
+        then (key.from, Response sequence_number eom false key.tid packet.now.user packet.now.data_) ∷ []
+        else [])) }
     ensures room { (n : ℕ) → HasRoomFor out.old (n + 1) 586 → HasRoomFor out.new n 586 }
 {
     if !asked {
         return;
     }
     let frame = Frame::Response {
-        place,
+        place: sequence_number,
         eom,
         sts: false,
         tid: key.tid,

@@ -1,7 +1,7 @@
 use Rattle.std.proofs.Common.{rules, ℕ, subst, arith}
 use Rattle.at_ddp.specs.Outbox.{HasRoomFor}
 use Rattle.at_atp_responder.proofs.RecordLemmas.{fit_rest, rest_is_less}
-use Rattle.at_atp_responder.proofs.entry.+send_answer.Goals as goal
+use Rattle.at_atp_responder.proofs.record.+send_answer.Goals as goal
 
 pub send_answer-requires : goal.send_answer-requires
 send_answer-requires g t c = λ κs h.
