@@ -1,5 +1,4 @@
 mod LineLemmas
-mod PrintLemmas
-mod ReportLemmas
+mod PrintedLemmas
 mod ShownLemmas
 mod ToldLemmas

@@ -1,8 +1,12 @@
 -- Words and bytes that are shown, if a reading of them is known.
-use Rattle.std.proofs.Common.{◌≡◌, ◌∷◌, [], List, ℕ, Ok, refl, sym, ◌∙◌, ap, subst, inl, inr}
+use Rattle.std.proofs.Common.{◌≡◌, ◌<◌, ◌/◌, ◌∷◌, [], List, ℕ, Ok, length, refl, sym, ◌∙◌, ap, subst, inl, inr}
 use Rattle.at_ddp.specs.Datagram.{Content, BeginsWith}
+use Rattle.at_play.specs.HexFaults.{fault_line}
 use Rattle.at_play.specs.Shown.{IsReadable, IsSound, Shows}
-use Rattle.at_schedule.specs.Hexes.{IsHex}
+use Rattle.at_play.specs.Texts.{WordText, NoHex, NoRoom}
+use Rattle.at_words.specs.Hexes.{IsHex}
+use Rattle.at_words.specs.declared.hex_word.HexFault.{HexFault}
+use Rattle.at_words.specs.declared.hex_word.HexFault.TheVariants as fault
 use Rattle.hex.proofs.HexLemmas.{decode_of-odd}
 use Rattle.hex.specs.Hex.{decode_of}
 
@@ -28,3 +32,9 @@ one_spelling word a b (inr p) (inr q) = cc (sym p.1 ∙ q.1)
 -- what a word spells is sound, if the word is shown
 pub sound_in : (word bytes : List ℕ) → Shows word → IsHex word bytes → IsSound bytes
 sound_in word bytes shows spelled = subst IsSound (one_spelling word shows.bytes bytes shows.written spelled) shows.sound
+
+-- what is printed of a word that spells no bytes, or for which there is no room
+pub fault_text : (word : List ℕ) (room : ℕ) (f : HexFault) → (f ≡ fault.NoHex → (bytes : List ℕ) → ¬ IsHex word bytes)
+    → (f ≡ fault.NoMemory → room < length word / 2) → WordText word room (fault_line f)
+fault_text word room fault.NoHex none lacks = NoHex (none refl)
+fault_text word room fault.NoMemory none lacks = NoRoom (lacks refl)

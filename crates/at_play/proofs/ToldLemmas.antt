@@ -1,17 +1,16 @@
 -- What is told of a play goes on by one event, and is told of the play that it follows.
-use Rattle.std.proofs.Common.{◌≡◌, ℕ, List, [], ◌∷◌, ◌++◌, length, Err, Result, Bool, true, false, ◌+◌, length-append, ◌<◌, None, Some, Ok, IfOk, IfSome, MatchResult, IfErr, OnOk, arith, refl, sym, ap, subst, ◌∙◌, append-nil, append_assoc}
+use Rattle.std.proofs.Common.{◌≡◌, ℕ, List, [], ◌∷◌, ◌++◌, length, Err, Result, Bool, true, false, ◌<◌, None, Some, Ok, IfOk, IfSome, MatchResult, IfErr, OnOk, refl, sym, ap, subst, ◌∙◌, append-nil, append_assoc}
 use Rattle.at_node.specs.declared.event.Report.{Report}
 use Rattle.at_world.specs.declared.event.Event.{Event}
 use Rattle.at_world.specs.declared.event.Fault.{Fault}
 use Rattle.at_world.specs.declared.event.Fault.TheVariants as fault
 use Rattle.at_world.specs.Worlds.{WorldState, IsFault, IsPlayable, Plays}
 use Rattle.at_world.specs.Plays.{Follows}
-use Rattle.at_play.specs.Reports.{event_text}
-use Rattle.at_play.specs.Printers.{Prints}
+use Rattle.at_print.specs.Reports.{event_text}
+use Rattle.at_print.specs.Printers.{Prints}
 use Rattle.at_play.specs.Told.{BeginsWith, IsStopped, IsUnread, IsWhole, Played, StopsIn, Tells, TellsLine, Told}
-use Rattle.at_play.specs.declared.printer.Printer.{Printer}
-use Rattle.at_play.proofs.PrintLemmas.{Prints-trans}
-use Rattle.at_play.proofs.ReportLemmas.{Prints-nothing}
+use Rattle.at_print.specs.declared.printer.Printer.{Printer}
+use Rattle.at_play.proofs.PrintedLemmas.{Prints-nothing, Prints-trans}
 use Rattle.at_world.specs.Plays.{opening_world}
 use Rattle.at_world.specs.declared.setup.Setup.{Setup}
 use Rattle.std.proofs.lemmas.Result.{on_ok_weaker}

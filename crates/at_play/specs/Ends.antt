@@ -9,14 +9,14 @@ use Rattle.at_world.specs.Refusals.{number_of}
 use Rattle.at_world.specs.Setups.{is_lawful}
 use Rattle.at_world.specs.declared.event.Fault.TheVariants as fault
 use Rattle.at_world.specs.declared.setup.Setup.{Setup}
-use Rattle.at_play.specs.Lines.{no_memory_line}
-use Rattle.at_play.specs.Printers.{Prints}
+use Rattle.at_play.specs.Texts.{no_memory_line}
+use Rattle.at_print.specs.Printers.{Prints}
 use Rattle.at_play.specs.Told.{IsWhole, Played}
-use Rattle.at_play.specs.declared.printer.Printer.{Printer}
-use Rattle.at_play.specs.declared.program.Status.{Status}
-use Rattle.at_play.specs.declared.program.Status.TheVariants.{Done}
-use Rattle.at_schedule.specs.declared.fault.Fault.{Fault}
-use Rattle.at_schedule.specs.declared.fault.Fault.TheVariants as text
+use Rattle.at_print.specs.declared.printer.Printer.{Printer}
+use Rattle.at_print.specs.declared.status.Status.{Status}
+use Rattle.at_print.specs.declared.status.Status.TheVariants.{Done}
+use Rattle.at_faults.specs.declared.fault.Fault.{Fault}
+use Rattle.at_faults.specs.declared.fault.Fault.TheVariants as text
 use Rattle.at_play.specs.declared.stop.Stop.{Stop}
 use Rattle.at_play.specs.declared.stop.Stop.TheVariants as stop
 

@@ -1,8 +1,8 @@
 -- What is printed of a word that spells no bytes.
 use Rattle.std.specs.Prelude.{ℕ, List, codes}
-use Rattle.at_play.specs.Lines.{no_memory_line}
-use Rattle.at_schedule.specs.declared.hex_word.HexFault.{HexFault}
-use Rattle.at_schedule.specs.declared.hex_word.HexFault.TheVariants.{NoHex, NoMemory}
+use Rattle.at_play.specs.Texts.{no_memory_line}
+use Rattle.at_words.specs.declared.hex_word.HexFault.{HexFault}
+use Rattle.at_words.specs.declared.hex_word.HexFault.TheVariants.{NoHex, NoMemory}
 
 abbrev pub fault_line : HexFault → List ℕ
 fault_line NoHex = codes "fault 1\n"

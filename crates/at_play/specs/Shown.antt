@@ -2,7 +2,7 @@
 use Rattle.std.specs.Prelude.{ℕ, ◌==◌, MatchBool, List}
 use Rattle.at_ddp.specs.Datagram.{Content as Datagram, BeginsWith}
 use Rattle.at_atp_frame.specs.Frames.{Content, Spells}
-use Rattle.at_schedule.specs.Hexes.{IsHex}
+use Rattle.at_words.specs.Hexes.{IsHex}
 
 -- the data is an ATP packet
 abbrev pub IsPacket : List ℕ → Type 0

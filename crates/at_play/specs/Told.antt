@@ -7,11 +7,11 @@ use Rattle.at_world.specs.declared.event.Fault.TheVariants as fault
 use Rattle.at_world.specs.declared.setup.Setup.{Setup}
 use Rattle.at_world.specs.Plays.{opening_world}
 use Rattle.at_world.specs.Worlds.{WorldState, IsPlayable, IsFault, Plays, Refuses}
-use Rattle.at_play.specs.Printers.{Prints}
-use Rattle.at_play.specs.Reports.{event_text}
+use Rattle.at_print.specs.Printers.{Prints}
+use Rattle.at_print.specs.Reports.{event_text}
 use Rattle.at_schedule.specs.Says.{SayAll, Says}
 use Rattle.at_schedule.specs.Schedules.{event_lines}
-use Rattle.at_play.specs.declared.printer.Printer.{Printer}
+use Rattle.at_print.specs.declared.printer.Printer.{Printer}
 use Rattle.at_play.specs.declared.stop.Stop.{Stop}
 use Rattle.at_play.specs.declared.stop.Stop.TheVariants as stop
 

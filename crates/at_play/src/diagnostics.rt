@@ -1,10 +1,11 @@
 //! What a person is told, a line for each reason, as on standard error.
 ghost use Rattle.std.specs.Prelude.{◌≡◌};
+ghost use Rattle.at_print.specs.Printers.{HasFailed};
 
 use crate::hex_reason::HexReason;
-use crate::printer::Printer;
 use crate::stop::Stop;
-use at_schedule::Fault;
+use at_faults::Fault;
+use at_print::Printer;
 use at_world::Refusal;
 use std::fmt::Display;
 use std::io::Write;
@@ -27,8 +28,12 @@ impl<'a, W: Write> Diagnostics<'a, W> {
         }
     }
 
-    /// Tells why a play ended, with the file's name, the number of the line and the rule.
-    pub(crate) fn tell_stop(&mut self, stop: Stop) {
+    /// Tells why a play ended, with the file's name, the number of the line and the rule. Nothing is told after a write
+    /// that failed.
+    pub fn tell_stop(&mut self, stop: Stop)
+        ensures file { self.new.file ≡ self.old.file }
+        ensures stopped { HasFailed self.old.printer → self.new ≡ self.old }
+    {
         let file = self.file;
         match stop {
             Stop::Text(Fault::Line { number, rule }) => {
@@ -54,7 +59,10 @@ impl<'a, W: Write> Diagnostics<'a, W> {
     }
 
     // Why an event was not played. Which number is untimely depends on whether it is a delivery.
-    fn tell_fault(&mut self, fault: at_world::Fault, which: Option<u64>) {
+    fn tell_fault(&mut self, fault: at_world::Fault, which: Option<u64>)
+        ensures file { self.new.file ≡ self.old.file }
+        ensures stopped { HasFailed self.old.printer → self.new ≡ self.old }
+    {
         match (fault, which) {
             (at_world::Fault::Refused(Refusal::Untimely), Some(which)) => writeln!(
                 self.printer,

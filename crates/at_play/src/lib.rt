@@ -2,20 +2,14 @@
 #![tactic(auto)]
 
 mod diagnostics;
-mod digits;
 mod hex_reason;
-mod packet_lines;
 mod playing;
-mod print;
-mod printer;
 mod program;
 mod show;
 mod stop;
 
+pub use at_print::{Printer, Status};
 pub use diagnostics::Diagnostics;
-pub use printer::Printer;
-pub use program::{Status, play_file, play_text};
+pub use program::{play_file, play_text};
 pub use show::show_text;
-
-#[cfg(test)]
-mod tests;
+pub use stop::Stop;

@@ -1,16 +1,16 @@
 //! The play of a schedule's events: each is read, played and printed before the next.
 ghost use Rattle.std.specs.Prelude.{◌≡◌, true, IfErr, IfOk, MatchResult, OnOk};
 ghost use Rattle.at_play.specs.Ends.{Obeys};
-ghost use Rattle.at_play.specs.Printers.{Prints};
+ghost use Rattle.at_print.specs.Printers.{Prints};
 ghost use Rattle.at_schedule.specs.Says.{Reads};
 ghost use Rattle.at_schedule.specs.Schedules.{is_event_line};
 ghost use Rattle.at_play.specs.Told.{IsStopped, IsUnread, IsWhole, Played, StopsIn, Tells, TellsLine};
 ghost use Rattle.at_world.specs.Setups.{is_lawful};
 
-use crate::print::{write_event, write_sent};
-use crate::printer::Printer;
 use crate::stop::Stop;
-use at_schedule::{Draft, Fault, LineFault, Unreadable, lines_of};
+use at_faults::{Fault, LineFault, Unreadable};
+use at_print::{Printer, write_event, write_sent};
+use at_schedule::{Draft, lines_of};
 use at_world::laws::{exactly_once_requests_run_once, steps_are_a_run};
 use at_world::{Event, Setup, World};
 use std::alloc::{AllocError, Allocator};
@@ -63,7 +63,8 @@ fn play_line<A: Allocator + Copy, W: Write>(
     printer: &mut Printer<W>,
 ) -> Result<(), Stop>
     ensures told { OnOk result (MatchResult line
-        (λ bytes. TellsLine A W.contents (is_event_line bytes.items) bytes.items world.old world.new printer.old printer.new)
+        (λ bytes. TellsLine A W.contents (is_event_line bytes.items) bytes.items
+        world.old world.new printer.old printer.new)
         (λ _. ⊥)) }
     ensures stopped { IfErr result (λ stop. (printer.new ≡ printer.old) × StopsIn A world.old stop) }
 {

@@ -1,38 +1,16 @@
 //! The play of a schedule, from its text to what is printed.
 ghost use Rattle.std.specs.Prelude.{◌≡◌, ◌<◌, List, ℕ, length, IfSome, IsErr, IsOk};
 ghost use Rattle.at_play.specs.Ends.{Ended, FileText, PlayText, end_text};
-ghost use Rattle.at_play.specs.Printers.{HasFailed, Prints};
+ghost use Rattle.at_print.specs.Printers.{HasFailed, Prints};
 
 use crate::diagnostics::Diagnostics;
 use crate::playing::play_lines;
-use crate::printer::Printer;
 use crate::stop::{Stop, write_stop};
-use at_schedule::{MAX_LEN, check_length, read_bytes, read_setup};
+use at_faults::{MAX_LEN, check_length, read_bytes};
+use at_print::{Printer, Status};
+use at_schedule::read_setup;
 use std::alloc::Allocator;
 use std::io::{Read, Seek, Write};
-
-/// How a play, or the showing of a datagram, ended.
-#[derive(Clone, Copy, Debug, PartialEq, Eq)]
-pub enum Status {
-    /// Each event was played and printed, or the datagram shown.
-    Done,
-    /// The schedule or the datagram has a fault, the play was stopped, or a write failed.
-    Failed,
-}
-
-impl Status {
-    ghost use Rattle.at_play.specs.Statuses.{code_of};
-
-    /// The status with which the program ends.
-    pub fn code(self) -> u8
-        ensures { result ≡ code_of self }
-    {
-        match self {
-            Status::Done => 0,
-            Status::Failed => 1,
-        }
-    }
-}
 
 /// Reads a schedule to its end, plays it, and prints what came of each event. Why a play ended before its last event is
 /// told to a person as well.
@@ -52,7 +30,8 @@ pub fn play_text<A: Allocator + Copy, R: Read, W: Write, E: Write>(
 }
 
 /// Plays a schedule that can be read again from its beginning, as a file can: nothing of it is kept but its setup. It
-/// is read for its length, then for its faults, and last to be played. One that changes meanwhile is told as unreadable.
+/// is read for its length, then for its faults, and last to be played. One that changes meanwhile is told as
+/// unreadable.
 pub fn play_file<A: Allocator + Copy, F: Read + Seek, W: Write, E: Write>(
     alloc: A,
     file: &mut F,

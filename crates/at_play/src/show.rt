@@ -1,18 +1,17 @@
 //! What `show` prints of a datagram that a word spells in hexadecimal digits.
 ghost use Rattle.std.specs.Prelude.{◌≡◌, ◌↔◌, ◌≤◌, ◌/◌, ◌++◌, List, ℕ, length, vec_capacity};
-ghost use Rattle.at_play.specs.Printers.{HasFailed, Prints};
+ghost use Rattle.at_print.specs.Printers.{HasFailed, Prints};
 ghost use Rattle.at_ddp.specs.Datagram.{content};
 ghost use Rattle.at_play.specs.HexFaults.{fault_line};
-ghost use Rattle.at_play.specs.Lines.{BytesText, DataText, PacketText, WordText, header_line, refusal_line};
+ghost use Rattle.at_play.specs.Texts.{BytesText, DataText, PacketText, WordText, refusal_line};
+ghost use Rattle.at_print.specs.Lines.{header_line};
 ghost use Rattle.at_play.specs.Shown.{IsPacket, IsReadable, IsSound, Shows};
 
 use crate::diagnostics::Diagnostics;
 use crate::hex_reason::HexReason;
-use crate::packet_lines::{write_frame, write_header, write_raw};
-use crate::printer::Printer;
-use crate::program::Status;
 use at_ddp::Datagram;
-use at_schedule::{HexFault, bytes_of};
+use at_print::{Printer, Status, write_frame, write_header, write_raw};
+use at_words::{HexFault, bytes_of};
 use std::alloc::Allocator;
 use std::fmt::Display;
 use std::io::Write;

@@ -1,21 +1,21 @@
 //! Why a play ends before its last event, and the line that says so.
 ghost use Rattle.std.specs.Prelude.{◌≡◌};
 ghost use Rattle.at_play.specs.Ends.{stop_line, text_fault_line};
-ghost use Rattle.at_play.specs.Printers.{Prints};
+ghost use Rattle.at_print.specs.Printers.{Prints};
 ghost use Rattle.at_play.specs.Told.{IsUnread};
 
-use crate::printer::Printer;
-use at_schedule::Fault;
+use at_faults::Fault;
+use at_print::Printer;
 use std::io;
 use std::io::Write;
 
 /// Why a play ends before its last event.
 #[derive(Clone, Copy)]
-pub(crate) enum Stop {
+pub enum Stop {
     /// There is no schedule.
     Text(Fault),
-    /// The event of this place, counted from 0, was not played. It stands in the line of this number, counted from 1; the
-    /// number is 0 before any line was read. `which` is the datagram that was to be delivered.
+    /// The event of this place, counted from 0, was not played. It stands in the line of this number, counted from 1;
+    /// the number is 0 before any line was read. `which` is the datagram that was to be delivered.
     Event {
         fault: at_world::Fault,
         at: u32,

@@ -1,3 +1,1 @@
-mod InputLemmas
-mod NumberLemmas
 mod WordLemmas

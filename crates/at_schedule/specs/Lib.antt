@@ -1,4 +1,2 @@
-pub mod Hexes
 pub mod Says
 pub mod Schedules
-pub mod Words

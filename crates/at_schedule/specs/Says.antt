@@ -1,6 +1,5 @@
 -- Which event a line of a schedule says.
-use Rattle.std.specs.Prelude.{◌≡◌, ℕ, Bool, true, false, List, [], ◌∷◌, ◌++◌, Ok, Option, Some, None, codes, min}
-use Rattle.std.specs.Str.Parse.{IsNumeral, digits_value}
+use Rattle.std.specs.Prelude.{◌≡◌, ℕ, Bool, true, false, List, [], ◌∷◌, ◌++◌, Ok, Option, Some, None, codes}
 use Rattle.hex.specs.Hex.{decode_of}
 use Rattle.at_atp_frame.specs.Packets.{Packet}
 use Rattle.at_node.specs.declared.event.Call.{Call}
@@ -9,17 +8,10 @@ use Rattle.at_node.specs.declared.event.Timer.{Timer}
 use Rattle.at_node.specs.declared.event.Timer.TheVariants as timer
 use Rattle.at_world.specs.declared.event.Event.{Event}
 use Rattle.at_world.specs.declared.event.Event.TheVariants as event
-use Rattle.at_schedule.specs.Hexes.{IsHex}
 use Rattle.at_schedule.specs.Schedules.{is_event_line}
-use Rattle.at_schedule.specs.Words.{HasWords}
-
--- the word is a decimal number
-abbrev pub IsNumber : List ℕ → ℕ → Type 0
-IsNumber word n = IsNumeral 10 word × (n ≡ digits_value 10 word)
-
--- the same of a datagram's number, which is the largest of 64 bits if it is larger
-abbrev pub IsCount : List ℕ → ℕ → Type 0
-IsCount word n = IsNumeral 10 word × (n ≡ min (digits_value 10 word) 18446744073709551615)
+use Rattle.at_words.specs.Hexes.{IsHex}
+use Rattle.at_words.specs.Numbers.{IsCount, IsNumber}
+use Rattle.at_words.specs.Words.{HasWords}
 
 -- `alo`, at least once, or `xo`, exactly once
 abbrev pub IsMode : List ℕ → Bool → Type 0

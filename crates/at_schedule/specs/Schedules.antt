@@ -1,7 +1,7 @@
 -- The lines of a schedule, and which of them are events.
 use Rattle.std.specs.Prelude.{ℕ, ◌==◌, ◌||◌, if◌then◌else◌, Bool, true, false, List, [], ◌∷◌, filter, codes}
 use Rattle.std.specs.Str.{bytes_eq}
-use Rattle.at_schedule.specs.Words.{first_word}
+use Rattle.at_words.specs.Words.{first_word}
 
 -- the lines of a text, each up to a line feed or the text's end
 abbrev pub add_first : ℕ → List (List ℕ) → List (List ℕ)

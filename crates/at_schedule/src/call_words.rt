@@ -2,11 +2,10 @@
 ghost use Rattle.std.specs.Prelude.{◌≡◌, ◌++◌, ◌∷◌, List, ℕ, codes, IfSome, Ok};
 ghost use Rattle.hex.specs.Hex.{decode_of};
 ghost use Rattle.at_schedule.specs.Says.{After, AnswerSays, AskSays, IsMode};
-ghost use Rattle.at_schedule.specs.Words.{HasWords};
+ghost use Rattle.at_words.specs.Words.{HasWords};
 
-use crate::hex_word::user_of;
-use crate::word::{Words, byte, node_number, two_bytes};
 use at_node::PacketCount;
+use at_words::{Words, byte, node_number, two_bytes, user_of};
 
 /// `NODE SOCKET USER DATA WANTED`, `alo` or `xo`, and `RETRIES`
 #[derive(Drop)]

@@ -2,16 +2,16 @@
 ghost use Rattle.std.specs.Prelude.{◌≡◌, List, [], ℕ, false, true, IfOk, MatchOption};
 ghost use Rattle.at_schedule.specs.Says.{After, Reads, Says, SaysEvent};
 ghost use Rattle.at_schedule.specs.Schedules.{is_event_word, is_passed_over};
-ghost use Rattle.at_schedule.specs.Words.{HasWords, first_word};
+ghost use Rattle.at_words.specs.Words.{HasWords, first_word};
 ghost use Rattle.at_world.specs.Setups.{is_lawful};
 
 use crate::event_line::{call_of, delivery_of, timer_of};
-use crate::fault::LineFault;
 use crate::node_line::{net_of, node_of};
 use crate::nodes::{has_router, lacks_router, rule_broken_by};
-use crate::rule::Rule;
-use crate::word::{Words, zone_name};
+use crate::zone_word::zone_name;
 use at_ddp::{Listed, Pascal};
+use at_faults::{LineFault, Rule};
+use at_words::Words;
 use at_world::{Event, NodeSetup, Setup};
 use std::alloc::{Allocator, Global};
 

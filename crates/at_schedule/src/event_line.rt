@@ -1,17 +1,15 @@
 //! The lines of a schedule's events, after their first word.
 ghost use Rattle.std.specs.Prelude.{◌≡◌, List, ℕ, true, codes, IfOk, IfSome, IsErrOf};
-ghost use Rattle.at_schedule.specs.Hexes.{IsHex};
+ghost use Rattle.at_words.specs.Hexes.{IsHex};
 ghost use Rattle.at_schedule.specs.Says.{After, ArePacketWords, IsPacketWord, SaysCall, SaysEvent, SaysTimer};
-ghost use Rattle.at_schedule.specs.Words.{HasWords};
+ghost use Rattle.at_words.specs.Words.{HasWords};
 
 use crate::call_words::{AnswerWords, AskWords, packet_words};
-use crate::fault::LineFault;
-use crate::hex_word::{HexFault, bytes_of};
-use crate::rule::Rule;
-use crate::word::{Words, byte, node_number, number, two_bytes};
 use at_atp::Packet;
 use at_ddp::{Bytes, Listed};
+use at_faults::{LineFault, Rule};
 use at_node::{Call, Timer};
+use at_words::{HexFault, Words, byte, bytes_of, node_number, number, two_bytes};
 use at_world::Event;
 use std::alloc::Allocator;
 

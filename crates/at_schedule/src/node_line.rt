@@ -1,7 +1,8 @@
 //! The lines of a schedule's setup, after their first word.
 ghost use Rattle.std.specs.Prelude.{◌≡◌, ◌<◌, IfSome};
 
-use crate::word::{Words, node_number, positive, zone_name};
+use crate::zone_word::zone_name;
+use at_words::{Words, node_number, positive};
 use at_world::NodeSetup;
 
 /// `net N`

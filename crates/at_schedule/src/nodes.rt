@@ -1,5 +1,5 @@
 //! Which nodes may stand beside each other in a schedule.
-use crate::rule::Rule;
+use at_faults::Rule;
 use at_world::NodeSetup;
 
 /// How many nodes a world has at most.

@@ -5,7 +5,7 @@ ghost use Rattle.std.specs.Io.Iter.{split_byte, split_known_bytes};
 ghost use Rattle.at_world.specs.Setups.{is_lawful};
 
 use crate::draft::Draft;
-use crate::fault::Fault;
+use at_faults::{Fault, LineFault, Rule};
 use at_world::Setup;
 use std::alloc::Allocator;
 use std::io;
@@ -21,10 +21,32 @@ pub fn read_setup<A: Allocator + Copy, R: Read>(alloc: A, reader: &mut R) -> Res
         let line = line?;
         match draft.take_line(&line) {
             Ok(_) => number = number.saturating_add(1),
-            Err(fault) => return Err(fault.at(number, &line)),
+            Err(fault) => return Err(fault_at(fault, number, &line)),
         }
     }
     draft.finish().map_err(|rule| Fault::Line { number, rule })
+}
+
+// What is wrong with a schedule that has this line, counted from 1.
+fn fault_at(fault: LineFault, number: usize, line: &[u8]) -> Fault {
+    match fault {
+        LineFault::Unlawful(rule) => Fault::Line {
+            number,
+            rule: rule_of(rule, line),
+        },
+        LineFault::NoMemory => Fault::NoMemory,
+    }
+}
+
+// A carriage return or a tab is part of a word, which is at fault then. It can't be seen, so it is told first.
+fn rule_of(rule: Rule, line: &[u8]) -> Rule {
+    if line.last() == Some(&b'\r') {
+        Rule::CarriageReturn
+    } else if line.contains(&b'\t') {
+        Rule::Tab
+    } else {
+        rule
+    }
 }
 
 /// The lines of a text, without their line feeds.

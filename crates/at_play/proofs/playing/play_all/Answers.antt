@@ -3,7 +3,7 @@ use Rattle.std.proofs.lemmas.Result.{err_from_is_err_and}
 use Rattle.std.specs.Vec.{vec_items}
 use Rattle.at_play.proofs.LineLemmas.{none_said, reads_all, reads_none, reads_so_far}
 use Rattle.at_play.proofs.ToldLemmas.{line_played, sofar_opened, sofar_stopped, stops_unread, opened}
-use Rattle.at_play.proofs.ReportLemmas.{Prints-nothing}
+use Rattle.at_play.proofs.PrintedLemmas.{Prints-nothing}
 use Rattle.at_world.specs.Plays.{opening_world}
 use Rattle.at_play.proofs.playing.play_all.Goals as goal
 

@@ -1,4 +1,4 @@
-use Rattle.at_play.proofs.PrintLemmas.{Prints-trans}
+use Rattle.at_play.proofs.PrintedLemmas.{Prints-trans}
 use Rattle.at_play.proofs.playing.play_event.Goals as goal
 
 pub returns-in-Ok : goal.returns-in-Ok

@@ -1,6 +1,6 @@
 use Rattle.std.proofs.Common.{inl, inr, refl, []}
 use Rattle.at_play.specs.Ends.{Rewound}
-use Rattle.at_play.proofs.ReportLemmas.{Prints-nothing}
+use Rattle.at_play.proofs.PrintedLemmas.{Prints-nothing}
 use Rattle.at_play.proofs.program.play_again.Goals as goal
 
 pub returns-in_err-rewind-2-clause-told : goal.returns-in_err-rewind-2-clause-told

@@ -1,4 +1,4 @@
-use Rattle.at_play.proofs.PrintLemmas.{Prints-trans}
+use Rattle.at_play.proofs.PrintedLemmas.{Prints-trans}
 use Rattle.at_play.proofs.program.play_text.Goals as goal
 
 pub returns-clause-ended : goal.returns-clause-ended

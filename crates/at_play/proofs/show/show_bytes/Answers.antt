@@ -1,6 +1,7 @@
 use Rattle.at_ddp.specs.Datagram.{content}
 use Rattle.at_ddp.specs.Fault.{number_of}
-use Rattle.at_play.specs.Lines.{Begin, Stop, header_line, refusal_line}
+use Rattle.at_print.specs.Lines.{header_line}
+use Rattle.at_play.specs.Texts.{Begin, Stop, refusal_line}
 use Rattle.std.proofs.Common.{◌++◌, length}
 use Rattle.at_play.proofs.ShownLemmas.{readable_in}
 use Rattle.at_play.proofs.show.show_bytes.Goals as goal

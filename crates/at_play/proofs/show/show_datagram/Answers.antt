@@ -1,8 +1,8 @@
 use Rattle.std.proofs.Common.{refl}
 use Rattle.std.proofs.lemmas.Bool.{ne_eqb}
 use Rattle.at_ddp.specs.Datagram.{content}
-use Rattle.at_play.specs.Lines.{raw_line, header_line}
-use Rattle.at_play.proofs.PrintLemmas.{Prints-trans}
+use Rattle.at_print.specs.Lines.{raw_line, header_line}
+use Rattle.at_play.proofs.PrintedLemmas.{Prints-trans}
 use Rattle.at_play.proofs.show.show_datagram.Goals as goal
 
 pub returns-else-datagram-eq-ATP-clause-printed : goal.returns-else-datagram-eq-ATP-clause-printed

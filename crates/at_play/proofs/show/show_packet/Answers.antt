@@ -1,6 +1,7 @@
 use Rattle.at_atp_frame.specs.Frames.{content}
 use Rattle.at_atp_frame.specs.Fault.{number_of}
-use Rattle.at_play.specs.Lines.{packet_line, refusal_line, Read, Refused}
+use Rattle.at_print.specs.Lines.{packet_line}
+use Rattle.at_play.specs.Texts.{refusal_line, Read, Refused}
 use Rattle.at_play.proofs.show.show_packet.Goals as goal
 
 pub returns-in-Ok-clause-printed : goal.returns-in-Ok-clause-printed

@@ -1,10 +1,11 @@
-use Rattle.std.proofs.Common.{arith, ap, ◌≡◌, ◌∙◌, Err, sym, subst, vec_capacity, length, ◌<◌, ◌/◌}
+use Rattle.std.proofs.Common.{arith, ap, ◌≡◌, ◌∙◌, Err, sym, subst, vec_capacity, append-nil, [], length, ◌<◌, ◌/◌}
+use Rattle.at_print.specs.Printers.{Prints}
 use Rattle.at_play.specs.Shown.{IsSound}
-use Rattle.at_schedule.specs.declared.hex_word.HexFault.TheVariants.{NoHex, NoMemory}
+use Rattle.at_words.specs.declared.hex_word.HexFault.TheVariants.{NoHex, NoMemory}
 use Rattle.at_play.specs.HexFaults.{fault_line}
-use Rattle.at_play.specs.Lines.{BytesText, Spelled}
-use Rattle.at_play.proofs.PrintLemmas.{Prints-last, fault_text}
-use Rattle.at_play.proofs.ShownLemmas.{sound_in}
+use Rattle.at_play.specs.Texts.{BytesText, Spelled}
+use Rattle.at_play.proofs.PrintedLemmas.{Prints-trans}
+use Rattle.at_play.proofs.ShownLemmas.{fault_text, sound_in}
 use Rattle.at_play.proofs.show.show_text.Goals as goal
 use Rattle.at_play.proofs.show.show_text.Goals.{in-Ok, in-Err}
 
@@ -30,7 +31,8 @@ returns-clause-printed g c = elim c.match-bytes_of.branch [
       let flushed = rw w.printer-is at c.finish.ensures.printed in (
         shown.0,
         Spelled c.bytes_of.new.room.items shown.0 w.in-Ok.ensures.found text,
-        Prints-last g.W.Write.contents c.args.printer.now w.show_bytes-status.new.printer c.finish.new.self shown.0 shown.2 flushed,
+        subst (Prints g.W.Write.contents c.args.printer.now c.finish.new.self) (append-nil shown.0)
+            (Prints-trans g.W.Write.contents c.args.printer.now w.show_bytes-status.new.printer c.finish.new.self shown.0 [] shown.2 flushed),
       )
   | in-Err w ↦
       let fault = w.in-Err.fault in
@@ -38,6 +40,7 @@ returns-clause-printed g c = elim c.match-bytes_of.branch [
         fault_line fault,
         fault_text c.args.word.now (vec_capacity c.args.room.now) fault
             (λ e. c.bytes_of.ensures.fault (w.in-Err.is ∙ ap Err e)) (λ e. c.bytes_of.ensures.memory (w.in-Err.is ∙ ap Err e)),
-        Prints-last g.W.Write.contents c.args.printer.now w.show_fault-status.new.printer c.finish.new.self (fault_line fault) w.show_fault-status.ensures.printed flushed,
+        subst (Prints g.W.Write.contents c.args.printer.now c.finish.new.self) (append-nil (fault_line fault))
+            (Prints-trans g.W.Write.contents c.args.printer.now w.show_fault-status.new.printer c.finish.new.self (fault_line fault) [] w.show_fault-status.ensures.printed flushed),
       )
 ]

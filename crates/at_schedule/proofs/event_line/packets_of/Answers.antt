@@ -1,6 +1,4 @@
-use Rattle.std.proofs.Common.{[], ap, sym, subst}
-use Rattle.at_schedule.specs.declared.word.Words.{Words}
-use Rattle.at_schedule.proofs.WordLemmas.{Packets, packets_all, packets_next, packets_none}
+use Rattle.at_schedule.proofs.WordLemmas.{packets_all, packets_next, packets_none}
 use Rattle.at_schedule.proofs.event_line.packets_of.Goals as goal
 
 pub loop-word-init : goal.loop-word-init

@@ -7,7 +7,7 @@ returns c =
     let n = c.in_ok-next-2.field-0.now in
     let s = c.in_ok-next-3.field-0.now in
     let t = c.in_ok-next-4.field-0.now in
-    let last = c.in_ok-next-4.ensures.steps.1 [] c.in_ok-end.ensures in
+    let last = c.in_ok-next-4.ensures.steps.1 [] c.in_ok-end.ensures.over in
     let three = c.in_ok-next-3.ensures.steps.1 (t ∷ []) last in
     let two = c.in_ok-next-2.ensures.steps.1 (s ∷ t ∷ []) three in (
       o ∷ n ∷ s ∷ t ∷ [],

@@ -1,4 +1,4 @@
-use Rattle.std.proofs.Common.{ap, sym, subst, ◌∙◌, ◌∷◌, ◌≡◌, true}
+use Rattle.std.proofs.Common.{ap, sym, subst, ◌∙◌, ◌∷◌}
 use Rattle.at_schedule.specs.Says.{SaysEvent}
 use Rattle.at_schedule.specs.Schedules.{is_event_word}
 use Rattle.at_schedule.proofs.draft.Draft.take_words.Goals as goal

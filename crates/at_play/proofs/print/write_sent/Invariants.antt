@@ -1,7 +1,0 @@
-use Rattle.std.proofs.Common.{take, drop}
-use Rattle.at_play.specs.Printers.{Prints}
-use Rattle.at_play.specs.Reports.{sent_lines}
-use Rattle.at_play.proofs.print.write_sent.Given as goal
-
-abbrev pub invariant-loop-number : goal.invariant-loop-number
-invariant-loop-number g l = Prints g.W.Write.contents l.initial.printer l.printer (sent_lines l.first (drop l.first (take l.number-counter l.world.sent)))

@@ -1,9 +1,0 @@
-use Rattle.std.proofs.Common.{take, ◌++◌}
-use Rattle.std.specs.List.{flat_map}
-use Rattle.std.specs.Prelude.{codes}
-use Rattle.at_play.specs.Printers.{Prints}
-use Rattle.at_play.specs.Reports.{zone_text}
-use Rattle.at_play.proofs.print.write_zones.Given as goal
-
-abbrev pub invariant-loop-zone : goal.invariant-loop-zone
-invariant-loop-zone g l = Prints g.W.Write.contents l.fn.printer l.printer (codes "zones" ++ flat_map zone_text (take l.zone-index l.zones))

@@ -1,8 +1,0 @@
--- The statuses with which the program ends.
-use Rattle.std.specs.Prelude.{ℕ}
-use Rattle.at_play.specs.declared.program.Status.{Status}
-use Rattle.at_play.specs.declared.program.Status.TheVariants.{Done, Failed}
-
-abbrev pub code_of : Status → ℕ
-code_of Done = 0
-code_of Failed = 1

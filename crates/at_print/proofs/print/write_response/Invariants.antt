@@ -1,0 +1,10 @@
+use Rattle.std.proofs.Common.{take, ◌++◌}
+use Rattle.std.specs.List.{flat_map}
+use Rattle.std.specs.Fmt.{decimal}
+use Rattle.std.specs.Prelude.{codes}
+use Rattle.at_print.specs.Printers.{Prints}
+use Rattle.at_print.specs.Reports.{packet_text}
+use Rattle.at_print.proofs.print.write_response.Given as goal
+
+abbrev pub invariant-loop-packet : goal.invariant-loop-packet
+invariant-loop-packet g l = Prints g.W.Write.contents l.fn.printer l.printer ((codes "response " ++ decimal l.fn.tid) ++ flat_map packet_text (take l.packet-index l.packets))

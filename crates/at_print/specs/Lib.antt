@@ -1,0 +1,4 @@
+pub mod Lines
+pub mod Printers
+pub mod Reports
+pub mod Statuses

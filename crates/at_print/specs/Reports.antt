@@ -1,0 +1,78 @@
+-- What is printed of an event that was played: its report, and the datagrams that it sent.
+use Rattle.std.specs.Prelude.{ℕ, ◌+◌, ◌==◌, ◌||◌, if◌then◌else◌, Bool, List, [], ◌∷◌, ◌++◌, drop, codes}
+use Rattle.std.specs.List.{flat_map}
+use Rattle.std.specs.Char.{is_ascii_alphanumeric}
+use Rattle.std.specs.Fmt.{decimal}
+use Rattle.at_atp_frame.specs.Packets.{Packet}
+use Rattle.at_atp_responder.specs.declared.reception.Key.{Key}
+use Rattle.at_node.specs.declared.event.Report.{Report}
+use Rattle.at_node.specs.declared.event.Report.TheVariants as report
+use Rattle.at_world.specs.Sents.{SentDatagram}
+use Rattle.at_print.specs.Lines.{hex_text, pairs}
+
+-- `-`, `_`, `.`, `=` and `*`
+abbrev pub is_sign : ℕ → Bool
+is_sign c = (c == 45) || ((c == 95) || ((c == 46) || ((c == 61) || (c == 42))))
+
+-- letters, digits and signs
+abbrev pub stands_for_itself : ℕ → Bool
+stands_for_itself c = is_ascii_alphanumeric c || is_sign c
+
+-- a byte as it is, or `%` and two digits
+abbrev pub glyph : ℕ → List ℕ
+glyph c = if stands_for_itself c then c ∷ [] else codes "%" ++ pairs (c ∷ [])
+
+-- a text as a word: `%` if it is empty
+abbrev pub text_word : List ℕ → List ℕ
+text_word [] = codes "%"
+text_word (c ∷ text) = flat_map glyph (c ∷ text)
+
+abbrev pub zone_text : List ℕ → List ℕ
+zone_text zone = codes " " ++ text_word zone
+
+abbrev pub packet_text : Packet → List ℕ
+packet_text p = codes " " ++ (hex_text p.user ++ (codes ":" ++ hex_text p.data_))
+
+-- who asked, under which number
+abbrev pub asked_text : Key → List ℕ
+asked_text key =
+    codes "asked " ++ (decimal (key.from).node ++ (codes " " ++ (decimal (key.from).socket
+    ++ (codes " " ++ (decimal key.tid ++ codes " ")))))
+
+-- a report in words
+abbrev pub report_text : {A : Type 0} → Report A → List ℕ
+report_text (report.Begun tid) = codes "begun " ++ decimal tid
+report_text (report.Answered count) = codes "answered " ++ decimal count
+report_text report.Done = codes "done"
+report_text (report.Served count) = codes "served " ++ decimal count
+report_text (report.Asked key user bytes) = asked_text key ++ (hex_text user ++ (codes " " ++ hex_text bytes))
+report_text (report.Zones zones) = codes "zones" ++ flat_map zone_text zones
+report_text (report.ZoneFault number) = codes "zonefault " ++ decimal number
+report_text report.ZonesFailed = codes "zonesfailed"
+report_text report.Kept = codes "kept"
+report_text (report.Response tid packets) = (codes "response " ++ decimal tid) ++ flat_map packet_text packets
+report_text (report.Failed tid) = codes "failed " ++ decimal tid
+report_text report.Again = codes "again"
+report_text report.Released = codes "released"
+report_text report.Ignored = codes "ignored"
+report_text (report.Refused number) = codes "refused " ++ decimal number
+report_text report.NoMemory = codes "nomemory"
+
+-- the line of an event by its number, and of what it reported
+abbrev pub event_line : {A : Type 0} → ℕ → Report A → List ℕ
+event_line at r = (decimal at ++ codes " ") ++ (report_text r ++ codes "\n")
+
+-- the line of a datagram: its number, the node that it goes to, and its bytes
+abbrev pub sent_line : ℕ → SentDatagram → List ℕ
+sent_line number d =
+    (codes "sent " ++ (decimal number ++ (codes " " ++ (decimal d.to ++ codes " "))))
+    ++ (hex_text d.bytes ++ codes "\n")
+
+-- a line for each of these datagrams, which are numbered from here on
+abbrev pub sent_lines : ℕ → List SentDatagram → List ℕ
+sent_lines number [] = []
+sent_lines number (d ∷ ds) = sent_line number d ++ sent_lines (number + 1) ds
+
+-- what is printed of an event: its line, and those of the datagrams that it sent, all from this number on
+abbrev pub event_text : {A : Type 0} → ℕ → Report A → List SentDatagram → ℕ → List ℕ
+event_text at r sent first = event_line at r ++ sent_lines first (drop first sent)

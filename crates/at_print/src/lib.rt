@@ -1,0 +1,13 @@
+//! What a play prints, by a printer that keeps in mind whether a write failed: reports, datagrams and packets.
+#![tactic(auto)]
+
+mod digits;
+mod packet_lines;
+mod print;
+mod printer;
+mod status;
+
+pub use packet_lines::{write_frame, write_header, write_raw};
+pub use print::{write_event, write_sent, write_text};
+pub use printer::Printer;
+pub use status::Status;

@@ -1,0 +1,66 @@
+//! A writer that keeps in mind whether a write to it failed.
+ghost use Rattle.std.specs.Prelude.{◌≡◌, ◌↔◌, true, [], IfSome};
+ghost use Rattle.at_print.specs.Printers.{HasFailed, Prints};
+
+use crate::status::Status;
+use std::fmt::Display;
+use std::io::Write;
+
+/// Prints to a writer up to the first write that fails, and nothing after that.
+#[derive(Drop)]
+pub struct Printer<W> {
+    writer: W,
+    has_failed: bool,
+}
+
+impl<W: Write> Printer<W> {
+    pub fn new(writer: W) -> Printer<W>
+        ensures fresh { ¬ HasFailed result }
+        ensures writer { result.writer ≡ writer }
+    {
+        Printer {
+            writer,
+            has_failed: false,
+        }
+    }
+
+    pub fn write_all(&mut self, bytes: &[u8])
+        ensures { Prints W.contents self.old self.new bytes.now }
+    {
+        if !self.has_failed {
+            self.has_failed = self.writer.write_all(bytes).is_err();
+        }
+    }
+
+    /// What `write!` and `writeln!` call.
+    pub fn write_fmt<D: Display + Drop>(&mut self, text: D)
+        ensures stopped { HasFailed self.old → self.new ≡ self.old }
+        ensures printed { IfSome (D.output text) (Prints W.contents self.old self.new) }
+    {
+        if !self.has_failed {
+            self.has_failed = self.writer.write_fmt(text).is_err();
+        }
+    }
+
+    /// Whether a write failed.
+    pub fn has_failed(&self) -> bool
+        ensures { (result ≡ true) ↔ HasFailed self.now }
+    {
+        self.has_failed
+    }
+
+    /// Flushes, and hands on the status, or `Failed` if a write or the flush failed.
+    pub fn finish(&mut self, status: Status) -> Status
+        ensures printed { Prints W.contents self.old self.new [] }
+        ensures done { (result ≡ Status.Done) ↔ ((status ≡ Status.Done) × ¬ HasFailed self.new) }
+    {
+        if !self.has_failed {
+            self.has_failed = self.writer.flush().is_err();
+        }
+        if self.has_failed {
+            Status::Failed
+        } else {
+            status
+        }
+    }
+}

@@ -1,0 +1,49 @@
+//! Words of hexadecimal digits.
+ghost use Rattle.std.specs.Prelude.{◌≡◌, ◌↔◌, ◌<◌, ◌/◌, List, ℕ, length, vec_capacity};
+ghost use Rattle.std.specs.Prelude.{Ok, OnOk, IfSome, IsSome, IsErrOf};
+ghost use Rattle.std.specs.List.{AllPass};
+ghost use Rattle.hex.specs.Hex.{decode_of, is_hex_digit};
+ghost use Rattle.at_words.specs.Hexes.{IsHex};
+
+use hex::FromHex;
+use std::alloc::Allocator;
+
+/// Why a word spells no bytes.
+#[derive(Clone, Copy)]
+pub enum HexFault {
+    /// It has no digits, an odd number of them, or something that is none.
+    NoHex,
+    /// There was no memory for the bytes.
+    NoMemory,
+}
+
+/// Puts the bytes that a word spells into the room, for pairs of digits in either case, or none for `-`.
+pub fn bytes_of<A: Allocator>(word: &[u8], room: &mut Vec<u8, A>) -> Result<(), HexFault>
+    ensures found { OnOk result (IsHex word.now room.new.items) }
+    ensures fault { IsErrOf result HexFault.NoHex → (bytes : List ℕ) → ¬ IsHex word.now bytes }
+    // The room that stands is used first.
+    ensures memory { IsErrOf result HexFault.NoMemory → vec_capacity room.old < length word.now / 2 }
+{
+    if word.is_empty() {
+        return Err(HexFault::NoHex);
+    }
+    room.clear();
+    if word == b"-".as_slice() {
+        return Ok(());
+    }
+    if room.resize(word.len() / 2, 0).is_err() {
+        return Err(HexFault::NoMemory);
+    }
+    match hex::decode_to_slice(word, room.as_mut_slice()) {
+        Ok(()) => Ok(()),
+        Err(_) => Err(HexFault::NoHex),
+    }
+}
+
+/// The four bytes that a word of eight digits spells.
+pub fn user_of(word: &[u8]) -> Option<[u8; 4]>
+    ensures found { IsSome result ↔ ((length word.now ≡ 8) × AllPass is_hex_digit word.now) }
+    ensures value { IfSome result (λ user. decode_of word.now ≡ Ok user) }
+{
+    <[u8; 4] as FromHex>::from_hex(word).ok()
+}

@@ -1,0 +1,163 @@
+//! The words of a line, and the number that a word says.
+ghost use Rattle.std.specs.Prelude.{◌≡◌, ◌<◌, ◌≤◌, ◌↔◌, ◌∷◌, [], List, ℕ, true, false, length, IsSome, IfSome};
+ghost use Rattle.std.specs.List.{position_from, prefix_len};
+ghost use Rattle.std.specs.Str.Parse.{IsNumeral, digits_value};
+ghost use Rattle.at_words.specs.Numbers.{IsCount, IsNumber};
+ghost use Rattle.at_words.specs.Words.{HasWords, first_word, is_no_space, is_space};
+
+/// The words of a line, parted by spaces.
+#[derive(Clone, Copy)]
+pub struct Words<'a> {
+    /// What is left of the line.
+    pub rest: &'a [u8],
+}
+
+impl<'a> Words<'a> {
+    /// All words of a line.
+    pub fn of(line: &'a [u8]) -> Words<'a>
+        ensures { result.rest.now ≡ line.now }
+    {
+        Words { rest: line }
+    }
+
+    /// Takes the next word if it is this one.
+    pub fn take_if(&mut self, word: &[u8]) -> bool
+        ensures taken { result ≡ true → (word.now ≡ first_word self.old.rest.now)
+            × ((ws : List (List ℕ)) → HasWords self.new.rest.now ws → HasWords self.old.rest.now (word.now ∷ ws)) }
+        ensures left { result ≡ false → self.new ≡ self.old }
+        ensures only { result ≡ false → 0 < length word.now → ¬ (word.now ≡ first_word self.old.rest.now) }
+    {
+        let mut ahead = *self;
+        let Some(next) = ahead.next() else {
+            return false;
+        };
+        if next == word {
+            *self = ahead;
+            true
+        } else {
+            false
+        }
+    }
+
+    /// None if a word is left.
+    pub fn end(mut self) -> Option<()>
+        ensures over { IfSome result (λ _. HasWords self.entry.rest.now []) }
+        ensures only { HasWords self.entry.rest.now [] → IsSome result }
+    {
+        match self.next() {
+            Some(_) => None,
+            None => Some(()),
+        }
+    }
+}
+
+impl<'a> Iterator for Words<'a> {
+    ghost use Rattle.std.specs.Prelude.{MatchOption};
+    ghost use Rattle.std.specs.Iterator.{at_most};
+
+    type Item = &'a [u8];
+
+    ghost next_gives = { λ s r s'. MatchOption r (HasWords s.rest.now []) (λ word. (word.now ≡ first_word s.rest.now)
+        × ((ws : List (List ℕ)) → HasWords s'.rest.now ws → HasWords s.rest.now (word.now ∷ ws))
+        × (0 < length word.now)) };
+
+    ghost remaining = { λ s. at_most (length s.rest.now) };
+
+    fn next(&mut self) -> Option<&'a [u8]> {
+        let rest = &self.rest[spaces(self.rest)..];
+        if rest.is_empty() {
+            return None;
+        }
+        let len = word_len(rest);
+        self.rest = &rest[len..];
+        Some(&rest[..len])
+    }
+}
+
+// How many spaces a text begins with.
+fn spaces(text: &[u8]) -> usize
+    ensures value { result ≡ prefix_len is_space text.now }
+    ensures within { result ≤ length text.now }
+{
+    first_of_word(text).unwrap_or(text.len())
+}
+
+fn first_of_word(text: &[u8]) -> Option<usize>
+    ensures { result ≡ position_from is_no_space 0 text.now }
+{
+    text.iter().position(|byte| *byte != b' ')
+}
+
+// How many bytes stand before the first space.
+fn word_len(text: &[u8]) -> usize
+    ensures value { result ≡ prefix_len is_no_space text.now }
+    ensures within { result ≤ length text.now }
+{
+    first_space(text).unwrap_or(text.len())
+}
+
+fn first_space(text: &[u8]) -> Option<usize>
+    ensures { result ≡ position_from is_space 0 text.now }
+{
+    text.iter().position(|byte| *byte == b' ')
+}
+
+/// The number that a word of digits writes, or the largest if it is larger.
+pub fn number(word: &[u8]) -> Option<u64>
+    ensures digits { IsSome result ↔ IsNumeral 10 word.now }
+    ensures value { IfSome result (λ number. IsCount word.now number) }
+{
+    if word.is_empty() {
+        return None;
+    }
+    let mut number = 0u64;
+    for byte in word {
+        if !byte.is_ascii_digit() {
+            return None;
+        }
+        number = number
+            .saturating_mul(10)
+            .saturating_add(u64::from(*byte - b'0'));
+    }
+    Some(number)
+}
+
+/// The number of a node or of a socket, 1 to 254.
+pub fn node_number(word: &[u8]) -> Option<u8>
+    ensures taken { IsSome result
+        ↔ (IsNumeral 10 word.now × (0 < digits_value 10 word.now) × (digits_value 10 word.now < 255)) }
+    ensures value { IfSome result (λ node. IsNumber word.now node) }
+{
+    let node = u8::try_from(number(word)?).ok()?;
+    if node > 0 && node < 255 {
+        Some(node)
+    } else {
+        None
+    }
+}
+
+/// A network's number or a room's size, 1 to 65,535.
+pub fn positive(word: &[u8]) -> Option<u16>
+    ensures taken { IsSome result
+        ↔ (IsNumeral 10 word.now × (0 < digits_value 10 word.now) × (digits_value 10 word.now < 65536)) }
+    ensures value { IfSome result (λ value. IsNumber word.now value) }
+{
+    let value = u16::try_from(number(word)?).ok()?;
+    if value > 0 { Some(value) } else { None }
+}
+
+/// A number of one byte.
+pub fn byte(word: &[u8]) -> Option<u8>
+    ensures taken { IsSome result ↔ (IsNumeral 10 word.now × (digits_value 10 word.now < 256)) }
+    ensures value { IfSome result (λ value. IsNumber word.now value) }
+{
+    u8::try_from(number(word)?).ok()
+}
+
+/// A number of two bytes.
+pub fn two_bytes(word: &[u8]) -> Option<u16>
+    ensures taken { IsSome result ↔ (IsNumeral 10 word.now × (digits_value 10 word.now < 65536)) }
+    ensures value { IfSome result (λ value. IsNumber word.now value) }
+{
+    u16::try_from(number(word)?).ok()
+}
