@@ -73,7 +73,7 @@ same_event A n (Retries who tid) = go (retried (n.requesters who) tid)
     go : (o : Option requests.Retried) → (retries n who o).event ≡ n.event
     go None = refl
     go (Some r) = refl
-same_event A n (Other count) = refl
+same_event A n other = refl
 
 ticked : (e : ℕ) (n : Network) → n.event ≡ e → Sound (e + 1) n → Sound (tick n).event (tick n)
 ticked e n same s = record { past = sent_implied (λ x. x.event < e + 1) (λ x. x.event < n.event + 1) n.sent (λ x lt. omega (arith, same)) s.past; sent = s.sent; standing = s.standing; records = s.records }

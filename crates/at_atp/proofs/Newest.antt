@@ -9,7 +9,7 @@ use Rattle.at_ddp.specs.declared.address.Address.{Address}
 use Rattle.at_ddp.proofs.Octets.{same_address-true}
 use Rattle.at_atp_frame.specs.Packets.{Packet}
 use Rattle.at_atp.specs.Transactions.{Transaction, is_transaction, transaction_of, Asked, answered, IsPart}
-use Rattle.at_atp.specs.Network.{Network, Sent, Happening, Begins, Answers, Hears, Takes, Serves, Expires, Retries, Other, packet_at, hears, takes_in, expires, retries, asks_or_answers, done}
+use Rattle.at_atp.specs.Network.{Network, Sent, Happening, Begins, Answers, Hears, Takes, Serves, Expires, Retries, packet_at, hears, takes_in, expires, retries, asks_or_answers, done}
 use Rattle.at_atp_frame.specs.declared.fault.AtpFault.{AtpFault}
 use Rattle.at_atp_requester.specs.Requests.{Retried, retried}
 use Rattle.at_atp_responder.specs.Records.{is_key, expiry_fault}
@@ -150,4 +150,4 @@ left_as_asked A n (Retries who tid) quiet = go (retried (n.requesters who) tid)
     go : (o : Option Retried) → (retries n who o).asked ≡ n.asked
     go None = refl
     go (Some r) = refl
-left_as_asked A n (Other count) quiet = refl
+left_as_asked A n other quiet = refl

@@ -1,5 +1,5 @@
 -- What holds of each packet that was sent, among foreign datagrams.
-use Rattle.std.proofs.Common.{◌≡◌, ℕ, zero, suc, List, [], ◌∷◌, Option, Some, None, refl, subst}
+use Rattle.std.proofs.Common.{◌≡◌, ℕ, zero, suc, List, [], ◌∷◌, Option, Some, None, subst}
 use Rattle.std.specs.Prelude.{IfSome, replicate}
 use Rattle.at_atp.specs.Network.{Sent, AllSent, packet_at}
 

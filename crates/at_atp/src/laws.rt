@@ -53,7 +53,7 @@ pub fn answers_join_what_was_asked()
         (responder : Address) (a : Asked ts who k responder)
         → (b : Asked (answered ts from tid packets) who k responder) × (b.transaction.user ≡ a.transaction.user)
         × (b.transaction.data_ ≡ a.transaction.data_)
-            × (b.transaction.wanted ≡ a.transaction.wanted) × (b.transaction.xo ≡ a.transaction.xo) }
+        × (b.transaction.wanted ≡ a.transaction.wanted) × (b.transaction.xo ≡ a.transaction.xo) }
 {}
 
 /// Any other happening leaves the transactions and their answers as they were.

@@ -1,5 +1,5 @@
 -- Outcomes of a part and of the whole, refusals, and what may come.
-use Rattle.std.proofs.Common.{◌≡◌, ℕ, Bool, true, false, List, ◌++◌, map, Option, Some, None, Result, Ok, Err, refl, sym, ap, subst, ◌∙◌}
+use Rattle.std.proofs.Common.{◌≡◌, ℕ, Bool, true, false, List, Option, Some, Result, Ok, Err, refl, sym, ap, subst, ◌∙◌}
 use Rattle.std.specs.Prelude.{MatchBool, IfSome, OnOk, IsOk}
 use Rattle.std.proofs.lemmas.List.{append-nil}
 use Rattle.at_ddp.specs.Datagrams.{Posted}
@@ -14,7 +14,7 @@ use Rattle.at_zip.specs.declared.fault.ZipFault.{ZipFault}
 use Rattle.at_zip.specs.declared.fault.ZipFault.TheVariants as zips
 use Rattle.at_node.specs.declared.event.Report.{Report}
 use Rattle.at_node.specs.declared.event.Report.TheVariants.{Ignored, Refused}
-use Rattle.at_node.specs.Outcomes.{wants_memory, takes_memory, refused_as, Outcome, Over, over, idle, posted, Exactly, IsStep, Comes}
+use Rattle.at_node.specs.Outcomes.{wants_memory, takes_memory, refused_as, Outcome, Over, over, idle, Exactly, IsStep, Comes}
 
 -- ---- each fault that stands has a number
 

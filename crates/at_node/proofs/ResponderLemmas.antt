@@ -1,5 +1,5 @@
 -- What comes of a packet for the service's socket, and for the router's zone socket.
-use Rattle.std.proofs.Common.{◌≡◌, ℕ, Bool, true, false, cond, List, ◌++◌, map, Option, Some, None, refl, sym, ap, subst, ◌∙◌, inl, inr, Bor}
+use Rattle.std.proofs.Common.{◌≡◌, ℕ, Bool, true, false, List, ◌++◌, map, Option, Some, None, refl, sym, ap, ◌∙◌, inl, inr, Bor}
 use Rattle.std.specs.Prelude.{is_none, option_map}
 use Rattle.std.proofs.lemmas.Bool.{false≢true, true≢false}
 use Rattle.std.proofs.lemmas.List.{append-nil}
@@ -19,7 +19,7 @@ use Rattle.at_node.specs.declared.event.Report.{Report}
 use Rattle.at_node.specs.declared.event.Report.TheVariants.{Asked, Ignored}
 use Rattle.at_node.specs.declared.seat.Seat.{Seat}
 use Rattle.at_node.specs.declared.service.Reply.{Reply}
-use Rattle.at_node.specs.AtpHearing.{AtpSocket, HearsAt, HearsAtpFault, AtSocket, Service, Zones}
+use Rattle.at_node.specs.AtpHearing.{HearsAt, HearsAtpFault, AtSocket, Service, Zones}
 use Rattle.at_node.specs.AtpParts.{AtpState, serving, zones_at, atp_kind}
 use Rattle.at_node.specs.Outcomes.{wants_memory, takes_memory, Outcome, idle, posted, sent_by, Comes}
 use Rattle.at_node.specs.Responders.{is_release, released_report}

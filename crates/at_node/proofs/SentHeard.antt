@@ -20,7 +20,7 @@ use Rattle.at_node.specs.declared.service.Reply.{Reply}
 use Rattle.at_node.specs.declared.event.Report.{Report}
 use Rattle.at_node.specs.declared.event.Report.TheVariants.{Ignored}
 use Rattle.at_node.specs.declared.seat.Seat.{Seat}
-use Rattle.at_node.specs.AtpHearing.{AtpSocket, AtSocket, HearsAt, HearsPacket, HearsAtpFault, HearsAtp, atp_socket}
+use Rattle.at_node.specs.AtpHearing.{AtpSocket, AtSocket, HearsAt, atp_socket}
 use Rattle.at_node.specs.AtpParts.{AtpState, atp_kind}
 use Rattle.at_node.specs.Hearing.{HearsIt, HearsMine, Hears, HearsSent}
 use Rattle.at_node.specs.Nodes.{NodeState, with_atp}

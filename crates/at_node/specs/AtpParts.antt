@@ -1,6 +1,6 @@
 -- The part of a node that speaks ATP and ZIP, which share the requester (Inside AppleTalk, ATP, and ZIP, "GetZoneList",
 -- over ATP).
-use Rattle.std.specs.Prelude.{ℕ, Bool, List, [], ◌∷◌, Option, None}
+use Rattle.std.specs.Prelude.{ℕ, List, [], ◌∷◌, Option, None}
 use Rattle.at_ddp.specs.declared.address.Address.{Address}
 use Rattle.at_atp_frame.specs.Frames.{Content, Request, Response, Release, spelled, spelled_all}
 use Rattle.at_atp_frame.specs.Packets.{Packet}

@@ -4,12 +4,12 @@ use Rattle.std.specs.List.{AllByRecursion}
 use Rattle.at_ddp.specs.Datagram.{AreBytes}
 use Rattle.at_atp_frame.specs.Packets.{AreWords}
 use Rattle.at_node.specs.declared.event.Call.{Call}
-use Rattle.at_node.specs.declared.event.Call.TheVariants.{Zones, Ask, Answer}
+use Rattle.at_node.specs.declared.event.Call.TheVariants.{Ask, Answer}
 
 -- the parts of a call are in the range of their types
 abbrev pub IsCall : {A : Type 0} → Call A → Type 0
-IsCall Zones = Unit {0}
 IsCall (Ask node socket user bytes wanted xo retries) =
     (node < 256) × (socket < 256) × (length user ≡ 4) × AreBytes user × AreBytes bytes × (1 ≤ wanted) × (wanted ≤ 8)
 IsCall (Answer node socket tid packets) =
     (node < 256) × (socket < 256) × (tid < 65536) × AllByRecursion AreWords packets
+IsCall call = Unit {0}

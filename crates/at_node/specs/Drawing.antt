@@ -1,5 +1,5 @@
 -- Numbers that are not to be reused while a packet or a record has them.
-use Rattle.std.specs.Prelude.{◌≡◌, ℕ, ◌==◌, ◌&&◌, ◌||◌, Bool, List, Option, Some, None}
+use Rattle.std.specs.Prelude.{◌≡◌, ℕ, ◌||◌, Bool, List, Option, Some, None}
 use Rattle.std.specs.List.{list_any}
 use Rattle.at_ddp.specs.Datagram.{Content as Datagram, BeginsWith}
 use Rattle.at_atp_frame.specs.Frames.{Content, Spells}
@@ -27,8 +27,7 @@ draw_of n call = drawn_by (called n call).report
 -- the same for any input: only calls draw a number
 abbrev pub draw_of_input : {A : Type 0} → NodeState → Input A → Option Draw
 draw_of_input n (input.Call call) = draw_of n call.now
-draw_of_input n (input.Timer timer) = None
-draw_of_input n (input.Received bytes) = None
+draw_of_input n other = None
 
 -- does the node hold a record of a request of that node with this number?
 abbrev pub holds : NodeState → ℕ → Draw → Bool

@@ -1,5 +1,5 @@
 -- The socket that asks: what its calls, its timer and its packets do.
-use Rattle.std.specs.Prelude.{MatchBool, ◌≡◌, ℕ, nat_lt, if◌then◌else◌, Bool, true, false, List, length, Option, Some}
+use Rattle.std.specs.Prelude.{MatchBool, ◌≡◌, ℕ, nat_lt, if◌then◌else◌, Bool, List, length, Option, Some}
 use Rattle.std.specs.Prelude.{None}
 use Rattle.at_ddp.specs.declared.address.Address.{Address}
 use Rattle.at_atp_frame.specs.Fault as atp

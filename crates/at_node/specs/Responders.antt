@@ -1,7 +1,7 @@
 -- What the two responders of a node have in common: releases, and the ends of their records.
 use Rattle.std.specs.Prelude.{ℕ, ◌==◌, if◌then◌else◌, Bool, true, false, List, [], find, Option, Some, None}
 use Rattle.at_atp_frame.specs.Fault.{number_of}
-use Rattle.at_atp_frame.specs.Frames.{Content, Request, Response, Release}
+use Rattle.at_atp_frame.specs.Frames.{Content, Release}
 use Rattle.at_atp_responder.specs.Records.{Record, is_key, expiry_fault}
 use Rattle.at_ddp.specs.Tables.{without_first}
 use Rattle.at_atp_frame.specs.declared.fault.AtpFault.{AtpFault}

@@ -1,5 +1,5 @@
 -- How a node reads the zone list (Inside AppleTalk, ZIP, "GetZoneList").
-use Rattle.std.specs.Prelude.{◌≡◌, ℕ, ◌==◌, if◌then◌else◌, Bool, true, false, List, [], Option, Some, None, ◌⊎◌}
+use Rattle.std.specs.Prelude.{◌≡◌, ℕ, ◌==◌, if◌then◌else◌, Bool, true, false, [], Option, Some, None, ◌⊎◌}
 use Rattle.at_atp_frame.specs.Fault as atp
 use Rattle.at_atp_frame.specs.Packets.{Packet}
 use Rattle.at_atp_requester.specs.Requests.{Transaction, Requests, Heard, next_number, beginning, is_finished}

@@ -37,8 +37,7 @@ impl<A: Allocator + Copy> Node<A> {
     {
         match input {
             Input::Call(call) => self.draw_of_call(call),
-            Input::Timer(_) => None,
-            Input::Received(_) => None,
+            _ => None,
         }
     }
 
@@ -70,7 +69,7 @@ impl<A: Allocator + Copy> Node<A> {
                 }
                 self.next_draw()
             }
-            Call::Answer { .. } => None,
+            _ => None,
         }
     }
 

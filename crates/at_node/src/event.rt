@@ -39,7 +39,6 @@ impl<A: Allocator> Call<A> {
         ensures { IsCall self.now }
     {
         match self {
-            Call::Zones => {}
             Call::Ask {
                 node,
                 socket,
@@ -62,6 +61,7 @@ impl<A: Allocator> Call<A> {
                 let _key = (*node, *socket, *tid);
                 ranges_of(packets.as_slice());
             }
+            _ => {}
         }
     }
 }

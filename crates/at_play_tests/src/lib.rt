@@ -1,6 +1,6 @@
-//! Tests of at_play through its public functions. They are of what no clause says: at which line a schedule is at fault,
-//! how reports and datagrams print, what a person is told, and what comes of a read, a write or a request for memory that
-//! fails.
+//! Tests of at_play through its public functions. They are of what no clause says: at which line a schedule is at
+//! fault, how reports and datagrams print, what a person is told, and what comes of a read, a write or a request for
+//! memory that fails.
 #![tactic(auto)]
 
 #[cfg(test)]

@@ -1,5 +1,5 @@
 -- What ties a world to the cable: where its nodes stand, and what was ever sent.
-use Rattle.std.proofs.Common.{◌≡◌, ℕ, ◌^◌, ◌<◌, Bool, true, false, cond, List, [], ◌∷◌, ◌++◌, map, Option, Some, refl, sym, ap, subst, ◌∙◌}
+use Rattle.std.proofs.Common.{◌≡◌, ℕ, ◌^◌, ◌<◌, Bool, true, false, cond, List, [], ◌∷◌, ◌++◌, map, Some, refl, sym, ap, subst, ◌∙◌}
 use Rattle.std.specs.Prelude.{find, ◌==◌}
 use Rattle.std.specs.List.{AllByRecursion}
 use Rattle.std.proofs.lemmas.Bool.{eqb-true}
@@ -12,7 +12,7 @@ use Rattle.at_world.specs.Cables.{Cable, IsSomebodys}
 use Rattle.at_world.specs.Sents.{SentDatagram, stamp}
 use Rattle.at_world.specs.Worlds.{WorldState, is_numbered, node_at, recorded}
 use Rattle.at_ddp.specs.Tables.{replaced}
-use Rattle.at_world.proofs.Places.{at_after}
+use Rattle.at_world.proofs.Nodes.{at_after}
 
 -- a datagram as it was sent, and the event that sent it
 pub record Wire : Type 0 where

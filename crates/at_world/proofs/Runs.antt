@@ -15,18 +15,17 @@ use Rattle.at_world.specs.declared.transcript.PlayFault.{PlayFault}
 use Rattle.at_world.specs.AtpGuards.{next}
 use Rattle.at_world.specs.Cables.{Cable}
 use Rattle.at_world.specs.Machine.{Machine, opening_machine, Step, Run, IsRun}
-use Rattle.at_atp.specs.Network as network
 use Rattle.at_world.specs.Plays.{opening_world, Follows, IsPlay}
 use Rattle.at_world.specs.Stories.{Tells}
 use Rattle.at_world.specs.Worlds.{WorldState, node_at, recorded, IsTimely, Plays}
-use Rattle.at_world.proofs.AtpTie.{Laws, AtpTie}
+use Rattle.at_world.proofs.Atp.Tie.{Laws, AtpTie}
 use Rattle.at_world.proofs.CableTie.{cable_next}
-use Rattle.at_world.proofs.Calls.{Allows, Good, Grown, good_called, good_idle}
+use Rattle.at_world.proofs.Atp.Calls.{Allows, Good, Grown, good_called, good_idle}
 use Rattle.at_world.proofs.Seats.{KeepsSeat, call_keeps_seat, timer_keeps_seat, hearing_keeps_seat}
-use Rattle.at_world.proofs.Coming.{comes}
-use Rattle.at_world.proofs.Deliveries.{good_delivered}
+use Rattle.at_world.proofs.Atp.Coming.{comes}
+use Rattle.at_world.proofs.Atp.Deliveries.{good_delivered}
 use Rattle.at_world.proofs.Tied.{Tied}
-use Rattle.at_world.proofs.Timers.{good_timed}
+use Rattle.at_world.proofs.Atp.Timers.{good_timed}
 
 -- the machine may answer an event so, and is tied to the world after it
 abbrev pub Follow : (A : Type 0) (w : WorldState) (m : Machine) → Tied A w m → Event A → Report A → WorldState → Type 0

@@ -1,7 +1,7 @@
 -- What ties a world to the machine: a tie of the cable, and one of each part.
 use Rattle.at_world.specs.Machine.{Machine}
 use Rattle.at_world.specs.Worlds.{WorldState}
-use Rattle.at_world.proofs.AtpTie.{AtpTie}
+use Rattle.at_world.proofs.Atp.Tie.{AtpTie}
 use Rattle.at_world.proofs.CableTie.{CableTie}
 
 pub record Tied (A : Type 0) (w : WorldState) (m : Machine) : Type 0 where

@@ -148,13 +148,12 @@ abbrev pub Begins : {A : Type 0} → Cable → AtpMachine → ℕ → Call A →
 Begins c m node Zones tid m' = BeginsReading c m node tid m'
 Begins c m node (Ask k socket user bytes wanted xo retries) tid m' =
     BeginsAsking c m node (at_net c k socket) user bytes wanted xo tid m'
-Begins c m node (Answer k socket number packets) tid m' = ⊥
+Begins c m node call tid m' = ⊥
 
 -- a call gives this answer, and so many of its packets are sent
 abbrev pub Answers : {A : Type 0} → Cable → AtpMachine → ℕ → Call A → ℕ → AtpMachine → Type 0
 Answers c m node (Answer k socket tid packets) count m' = GivesAnswer c m node (at_net c k socket) tid packets count m'
-Answers c m node Zones count m' = ⊥
-Answers c m node (Ask k socket user bytes wanted xo retries) count m' = ⊥
+Answers c m node call count m' = ⊥
 
 -- the reports of this protocol, row by row
 abbrev pub Says : {A : Type 0} → Cable → AtpMachine → Event A → Report A → AtpMachine → Type 0

@@ -1,5 +1,5 @@
 -- What the machine knows that is of no protocol: the cable, and which reports there are.
-use Rattle.std.specs.Prelude.{◌≡◌, ℕ, map, find, option_map, List, Option}
+use Rattle.std.specs.Prelude.{◌≡◌, ℕ, Option}
 use Rattle.at_ddp.specs.declared.address.Address.{Address}
 use Rattle.at_node.specs.Kinds.{Kind, Nobody, kind_of_call, kind_of_timer, reporter_of}
 use Rattle.at_node.specs.declared.event.Report.{Report}

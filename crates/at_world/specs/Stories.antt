@@ -1,6 +1,6 @@
 -- What a play is in the network of its requesters and responders: each event is one happening there (Inside AppleTalk,
 -- ATP, "At-least-once and exactly-once transactions").
-use Rattle.std.specs.Prelude.{◌≡◌, ℕ, ◌&&◌, Bool, true, false, List, [], ◌∷◌, ◌++◌, map, slice_get, Option, Some, None}
+use Rattle.std.specs.Prelude.{◌≡◌, ℕ, ◌&&◌, Bool, true, false, List, [], ◌∷◌, ◌++◌, slice_get, Option, Some, None}
 use Rattle.std.specs.List.{AllByRecursion}
 use Rattle.at_ddp.specs.Address.{same_address}
 use Rattle.at_ddp.specs.Datagram.{canonical}

@@ -115,7 +115,8 @@ recorded w k r after out = record {
 
 -- a node's step is one of these, and nothing else happens
 pub record PlaysAt {A : Type 0} (w : WorldState) (k : ℕ)
-    (S : NodeState → List Posted → Report A → NodeState → List Posted → Type 0) (r : Report A) (w' : WorldState) : Type 0 where
+    (S : NodeState → List Posted → Report A → NodeState → List Posted → Type 0) (r : Report A) (w' : WorldState)
+    : Type 0 where
   pub node : NodeState
   pub stands : node_at w k ≡ Some node
   pub after : NodeState

@@ -81,7 +81,8 @@ pub(crate) fn stamp_all<A: Allocator>(
     event: u32,
 ) -> Result<(), AllocError>
     requires { length stamps.old.items ≤ count }
-    ensures ok { OnOk result (stamps.new.items ≡ stamps.old.items ++ replicate (count - length stamps.old.items) event) }
+    ensures ok { OnOk result
+        (stamps.new.items ≡ stamps.old.items ++ replicate (count - length stamps.old.items) event) }
     ensures kept { OnErr result (stamps.new.items ≡ stamps.old.items) }
 {
     let before = stamps.len();

@@ -147,7 +147,8 @@ impl<A: Allocator + Copy> World<A> {
         requires runs { is_over self.old ≡ false }
         ensures played { IfOk result (λ report. IsPlayable {A = A} self.old (Event.Deliver which node)
             × PlaysDelivery self.old which node report self.new) }
-        ensures not_played { IfErr result (λ fault. IsFault {A = A} self.old (Event.Deliver which node) fault self.new) }
+        ensures not_played { IfErr result
+            (λ fault. IsFault {A = A} self.old (Event.Deliver which node) fault self.new) }
     {
         if which >= self.stamps.len() as u64 {
             return Err(Fault::Refused(Refusal::NoDatagram));

@@ -1,5 +1,4 @@
-use Rattle.std.proofs.Common.{◌≡◌, Some, subst, lit<}
-use Rattle.std.specs.Prelude.{IfSome}
+use Rattle.std.proofs.Common.{lit<}
 use Rattle.at_node.specs.Drawing.{Carries}
 use Rattle.at_node.proofs.DrawingLemmas.{is_first}
 use Rattle.at_node.proofs.OutcomeLemmas.{when_some}

@@ -1,7 +1,7 @@
-use Rattle.std.proofs.Common.{◌≡◌, ℕ, Some, refl, sym, ap, subst, ◌∙◌}
-use Rattle.at_ddp.specs.Datagram.{Content as Datagram, content}
-use Rattle.at_atp_frame.specs.Frames.{Content, Spells, content as packet}
-use Rattle.at_atp_frame.specs.Frames.{owner, number_of}
+use Rattle.std.proofs.Common.{◌≡◌, Some, sym, ap, subst, ◌∙◌}
+use Rattle.at_ddp.specs.Datagram.{Content as Datagram}
+use Rattle.at_atp_frame.specs.Frames.{Spells, content as packet}
+use Rattle.at_atp_frame.specs.Frames.{owner}
 use Rattle.at_node.specs.declared.drawing.Draw.TheVariants.{Tid}
 use Rattle.at_node.specs.AtpParts.{tid_of}
 use Rattle.at_node.proofs.DrawingLemmas.{numbers_alike}

@@ -1,10 +1,10 @@
-use Rattle.std.proofs.Common.{◌≡◌, ℕ, zero, suc, List, [], ◌∷◌, map, Option, Some, None, refl, ap, subst, ◌∙◌}
+use Rattle.std.proofs.Common.{◌≡◌, ℕ, zero, suc, List, [], ◌∷◌, map, Option, Some, None, ap, subst, ◌∙◌}
 use Rattle.std.specs.Prelude.{slice_get}
 use Rattle.at_atp.specs.Network.{Sent, packet_at, after}
 use Rattle.at_world.specs.Machine.{opening_machine}
 use Rattle.at_world.specs.Plays.{opening_world}
 use Rattle.at_world.specs.Stories.{Tells, posted_packet}
-use Rattle.at_world.proofs.AtpTie.{Laws, Entries}
+use Rattle.at_world.proofs.Atp.Tie.{Laws, Entries}
 use Rattle.at_world.proofs.CableTie.{Wire, spelled_wire}
 use Rattle.at_world.proofs.Runs.{runs}
 use Rattle.at_world.proofs.TiedAtOpening.{tied_at_opening}

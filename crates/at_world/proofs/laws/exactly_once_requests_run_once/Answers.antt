@@ -1,7 +1,7 @@
 use Rattle.std.proofs.Common.{[]}
 use Rattle.at_world.specs.ExactlyOnce.{onto}
-use Rattle.at_world.proofs.Onces.{runs_once}
-use Rattle.at_world.proofs.ToldLemmas.{OnceLaws, told_of}
+use Rattle.at_world.proofs.Atp.Onces.{runs_once}
+use Rattle.at_world.proofs.Atp.Told.{OnceLaws, told_of}
 use Rattle.at_world.proofs.laws.exactly_once_requests_run_once.Goals as goal
 
 pub returns : goal.returns

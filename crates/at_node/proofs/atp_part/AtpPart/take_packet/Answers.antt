@@ -1,4 +1,4 @@
-use Rattle.std.proofs.Common.{◌≡◌, Some, refl, sym, ap, subst}
+use Rattle.std.proofs.Common.{Some, refl, sym, ap, subst}
 use Rattle.at_atp_frame.specs.Frames.{content}
 use Rattle.at_node.specs.AtpHearing.{AtSocket, Service}
 use Rattle.at_node.specs.AtpParts.{AtpState}

@@ -3,9 +3,8 @@
 use Rattle.std.proofs.Common.{◌≡◌, ℕ, ◌+◌, ◌^◌, ◌<◌, ◌≤◌, Bool, true, false, cond, List, [], ◌∷◌, ◌++◌, length, map, Option, Some, None, refl, sym, ap, subst, ◌∙◌}
 use Rattle.std.specs.Prelude.{find, replicate, ◌==◌}
 use Rattle.std.specs.List.{AllByRecursion, Contains}
-use Rattle.std.proofs.lemmas.Bool.{eqb-true}
 use Rattle.at_ddp.specs.Address.{same_address}
-use Rattle.at_ddp.specs.Datagram.{canonical, written, IsAddress, AreBytes}
+use Rattle.at_ddp.specs.Datagram.{canonical, IsAddress, AreBytes}
 use Rattle.at_ddp.specs.declared.address.Address.{Address}
 use Rattle.at_ddp.proofs.Octets.{same_address-true, same_address_itself}
 use Rattle.at_atp_frame.specs.Frames.{Content, IsLawful, spelled, spelled_all}
@@ -15,7 +14,6 @@ use Rattle.at_atp.specs.Network.{Network, Sent, AllSent, Happening, after, done,
 use Rattle.at_atp_frame.specs.Packets.{Packet}
 use Rattle.at_atp_responder.specs.Records.{Record, is_key, taken, record_fault, asked_for}
 use Rattle.at_atp_requester.specs.Requests.{Requests, Retried, has_number, next_number, is_finished, heard, retried}
-use Rattle.at_ddp.specs.Tables.{replaced}
 use Rattle.at_atp.specs.Transactions.{Transaction, Asked, answered}
 use Rattle.at_atp_responder.specs.declared.reception.Key.{Key}
 use Rattle.at_atp_responder.specs.declared.reception.Reception.TheVariants.{New}
@@ -37,9 +35,9 @@ use Rattle.at_world.specs.Draws.{noted}
 use Rattle.at_world.specs.AtpGuards.{AtpMachine, Reading, since_of, next, page_answer}
 use Rattle.at_world.specs.Cables.{Cable}
 use Rattle.at_world.specs.Worlds.{WorldState, node_at, recorded}
-use Rattle.at_world.proofs.CableTie.{Wire, wire, CableTie, SeatTie, AreOwned, found_after}
-use Rattle.at_world.proofs.Places.{at_after, requester_at, requester_after, records_at, records_after}
-use Rattle.at_world.proofs.Times.{IsNoted}
+use Rattle.at_world.proofs.CableTie.{Wire, wire, SeatTie, AreOwned, found_after}
+use Rattle.at_world.proofs.Atp.Places.{requester_at, requester_after, records_at, records_after}
+use Rattle.at_world.proofs.Atp.Times.{IsNoted}
 
 -- what the layers below promise
 pub record Laws (A : Type 0) : Type 0 where

@@ -16,7 +16,7 @@ use Rattle.at_node.specs.declared.drawing.Draw.{Draw}
 use Rattle.at_node.specs.declared.drawing.Draw.TheVariants.{Tid}
 use Rattle.at_world.specs.Draws.{Draws, is_number, same_draw, last_of, drawn_at, noted, is_no_later}
 use Rattle.at_world.specs.Worlds.{is_numbered, holds_some}
-use Rattle.at_world.proofs.Places.{service_of, served_of, records_at}
+use Rattle.at_world.proofs.Atp.Places.{service_of, served_of, records_at}
 
 -- ---- deliveries
 

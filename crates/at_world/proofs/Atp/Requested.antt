@@ -33,10 +33,10 @@ use Rattle.at_world.specs.Cables.{Cable}
 use Rattle.at_world.proofs.CableTie.{CableTie}
 use Rattle.at_world.specs.Worlds.{WorldState, node_at}
 use Rattle.at_world.specs.declared.event.Event.TheVariants as event
-use Rattle.at_world.proofs.Calls.{Good, good_next, good_idle}
-use Rattle.at_world.proofs.Moves.{service_is, served_is, service_next, zones_next, gave_next, with_served}
-use Rattle.at_world.proofs.StoryLemmas.{takes_quietly, takes_new, serves_new}
-use Rattle.at_world.proofs.AtpTie.{Laws, PagesOf, AtpTie, put_here}
+use Rattle.at_world.proofs.Atp.Calls.{Good, good_next, good_idle}
+use Rattle.at_world.proofs.Atp.Moves.{service_is, served_is, service_next, zones_next, gave_next, with_served}
+use Rattle.at_world.proofs.Atp.Stories.{takes_quietly, takes_new, serves_new}
+use Rattle.at_world.proofs.Atp.Tie.{Laws, PagesOf, AtpTie, put_here}
 
 module _ (A : Type 0) (laws : Laws A) (w : WorldState) (cable : Cable) (m : AtpMachine) (which k : ℕ) (n : NodeState) (ct : CableTie w cable) (t : AtpTie A w cable ct.wires m) (stands : node_at w k ≡ Some n) (s : Sent) (was_sent : packet_at (after A t.history).sent which ≡ Some s)
     (fresh : network.is_fresh (after A t.history).drawn s ≡ true) (timely : network.ComesInTime (after A t.history) which)

@@ -1,6 +1,6 @@
 -- The newest transaction of a number along a history: whether it must not run twice, and which answers it was given.
 use Rattle.std.proofs.Common.{◌≡◌, ◌⊎◌, inl, inr, ℕ, zero, suc, ◌+◌, ◌≤◌, length, Bool, true, false, cond, List, [], ◌∷◌, ◌++◌, Option, Some, None, refl, sym, ap, subst, ◌∙◌, arith}
-use Rattle.std.specs.Prelude.{slice_get, find, ◌==◌, ◌&&◌}
+use Rattle.std.specs.Prelude.{◌==◌, ◌&&◌}
 use Rattle.std.specs.List.{Contains}
 use Rattle.std.proofs.lemmas.Bool.{false≢true, eq-eqb, eqb-true, and_parts}
 use Rattle.std.proofs.lemmas.List.{length-append, length-replicate}
@@ -11,12 +11,11 @@ use Rattle.at_ddp.proofs.Octets.{same_address-true, same_address_itself}
 use Rattle.at_atp_requester.specs.Answers as arrivals
 use Rattle.at_atp.specs.HandUps.{brings, draws, is_drawn}
 use Rattle.at_atp.specs.Network as network
-use Rattle.at_atp_frame.specs.Frames.{number_of}
 use Rattle.at_atp.specs.Network.{Network, Sent, packet_at, Happening, Begins, Answers, Serves, asks_or_answers, after, done}
 use Rattle.at_atp_responder.specs.Once.{is_new_of, same_key}
 use Rattle.at_atp_frame.specs.Packets.{Packet}
-use Rattle.at_atp_responder.specs.Records.{answer_fault, expiry_fault, is_key, taken}
-use Rattle.at_atp_requester.specs.Requests.{next_number, beginning, retried, Retried}
+use Rattle.at_atp_responder.specs.Records.{answer_fault, taken}
+use Rattle.at_atp_requester.specs.Requests.{next_number, beginning}
 use Rattle.at_atp.specs.Transactions.{Transaction, is_transaction, transaction_of, answered}
 use Rattle.at_atp_frame.specs.declared.fault.AtpFault.{AtpFault}
 use Rattle.at_atp_responder.specs.declared.reception.Key.{Key}
@@ -26,7 +25,7 @@ use Rattle.at_node.specs.declared.event.Report.{Report}
 use Rattle.at_world.specs.ExactlyOnce.{Played, is_once, wanted_by}
 use Rattle.at_world.specs.Stories.{asks_once, asks_for, began_under, Matches}
 use Rattle.at_world.specs.declared.event.Event.{Event}
-use Rattle.at_world.proofs.ToldLemmas.{Told}
+use Rattle.at_world.proofs.Atp.Told.{Told}
 
 -- ---- the newest transaction of a number
 

@@ -27,11 +27,11 @@ use Rattle.at_world.proofs.CableTie.{CableTie}
 use Rattle.at_world.specs.Stories.{Matches}
 use Rattle.at_world.specs.Worlds.{WorldState, node_at}
 use Rattle.at_world.specs.declared.event.Event.TheVariants as event
-use Rattle.at_world.proofs.Calls.{Allows, Good, good_next}
-use Rattle.at_world.proofs.StoryLemmas.{ends_match, hears_matches}
-use Rattle.at_world.proofs.Moves.{one_of, asker_is, asker_next}
-use Rattle.at_world.proofs.AtpTie.{Laws, IsReading, Reads, PagesOf, AtpTie, moved}
-use Rattle.at_world.proofs.Timers.{others_left}
+use Rattle.at_world.proofs.Atp.Calls.{Allows, Good, good_next}
+use Rattle.at_world.proofs.Atp.Stories.{ends_match, hears_matches}
+use Rattle.at_world.proofs.Atp.Moves.{one_of, asker_is, asker_next}
+use Rattle.at_world.proofs.Atp.Tie.{Laws, IsReading, Reads, PagesOf, AtpTie, moved}
+use Rattle.at_world.proofs.Atp.Timers.{others_left}
 
 some_transaction : (a b : Transaction) → Some a ≡ Some b → a ≡ b
 some_transaction a b h = cc

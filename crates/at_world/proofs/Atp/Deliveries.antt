@@ -1,13 +1,11 @@
 -- What a datagram that comes to a node is in the machine.
 use Rattle.std.proofs.Common.{◌≡◌, inl, inr, ℕ, Bool, true, false, cond, List, Option, Some, None, refl, sym, ap, subst, ◌∙◌}
-use Rattle.std.specs.Prelude.{MatchBool, option_map, ◌==◌, ◌&&◌, ◌||◌}
+use Rattle.std.specs.Prelude.{MatchBool, option_map, ◌==◌, ◌||◌}
 use Rattle.std.proofs.lemmas.Bool.{and_parts, eqb-true}
-use Rattle.at_ddp.specs.Datagram.{Content as Datagram, written}
-use Rattle.at_atp_frame.specs.Frames.{Content, Request, Response, Release, spelled}
-use Rattle.at_atp.specs.Network.{Sent}
+use Rattle.at_atp_frame.specs.Frames.{Content, Request, Response, Release}
 use Rattle.at_atp_requester.specs.Requests.{heard}
 use Rattle.at_node.specs.AtpHearing.{AtSocket, Requester, Service, Zones, atp_socket}
-use Rattle.at_node.specs.AtpParts.{AtpState, atp_kind, packet_in, tid_of}
+use Rattle.at_node.specs.AtpParts.{AtpState, packet_in, tid_of}
 use Rattle.at_node.specs.Hearing.{Hears, HearsSent}
 use Rattle.at_node.specs.Seats.{is_mine}
 use Rattle.at_node.specs.Nodes.{with_atp, NodeState}
@@ -24,12 +22,12 @@ use Rattle.at_world.proofs.CableTie.{CableTie}
 use Rattle.at_world.specs.Sents.{SentDatagram}
 use Rattle.at_world.specs.Worlds.{WorldState, node_at}
 use Rattle.at_world.specs.declared.event.Event.TheVariants as event
-use Rattle.at_world.proofs.Calls.{Good, good_idle}
-use Rattle.at_world.proofs.Coming.{Comes, requester_on_net, responder_on_net}
-use Rattle.at_world.proofs.Released.{released_where, good_service_release, good_zone_release}
-use Rattle.at_world.proofs.Requested.{asks, good_question, good_page}
-use Rattle.at_world.proofs.Responded.{part_of, good_heard}
-use Rattle.at_world.proofs.AtpTie.{Laws, AtpTie}
+use Rattle.at_world.proofs.Atp.Calls.{Good, good_idle}
+use Rattle.at_world.proofs.Atp.Coming.{Comes, requester_on_net, responder_on_net}
+use Rattle.at_world.proofs.Atp.Released.{released_where, good_service_release, good_zone_release}
+use Rattle.at_world.proofs.Atp.Requested.{asks, good_question, good_page}
+use Rattle.at_world.proofs.Atp.Responded.{part_of, good_heard}
+use Rattle.at_world.proofs.Atp.Tie.{Laws, AtpTie}
 
 module _ (A : Type 0) (laws : Laws A) (w : WorldState) (cable : Cable) (m : AtpMachine) (which k : ℕ) (n : NodeState) (ct : CableTie w cable) (t : AtpTie A w cable ct.wires m) (stands : node_at w k ≡ Some n) (d : SentDatagram) (c : Comes A w cable m ct t which d) where
   ignoring : (o : Outcome A AtpState) → o ≡ idle n.atp report.Ignored → Good A w cable m ct t k (event.Deliver which k) (over (with_atp n) o)

@@ -3,7 +3,6 @@ use Rattle.std.proofs.Common.{◌≡◌, ℕ, ◌+◌, Bool, true, false, cond, 
 use Rattle.std.specs.Prelude.{replicate, ◌==◌, ◌&&◌}
 use Rattle.std.specs.List.{AllByRecursion, Contains}
 use Rattle.std.proofs.lemmas.Bool.{eq-eqb}
-use Rattle.std.proofs.lemmas.List.{append-nil}
 use Rattle.at_ddp.specs.Address.{same_address}
 use Rattle.at_ddp.specs.declared.address.Address.{Address}
 use Rattle.at_atp_frame.specs.Frames.{Content, spelled_all}
@@ -18,18 +17,18 @@ use Rattle.at_atp.specs.Transactions.{Transaction, is_transaction, transaction_o
 use Rattle.at_node.specs.Drawing.{drawn_by}
 use Rattle.at_node.specs.AtpParts.{AtpState, asking, serving, zones_at, atp_kind}
 use Rattle.at_node.specs.Nodes.{with_atp, NodeState}
-use Rattle.at_node.specs.Outcomes.{Outgoing, posted, sent_by}
+use Rattle.at_node.specs.Outcomes.{Outgoing, sent_by}
 use Rattle.at_node.specs.declared.drawing.Draw.TheVariants.{Tid}
 use Rattle.at_node.specs.declared.event.Report.{Report}
 use Rattle.at_node.specs.declared.event.Report.TheVariants as report
 use Rattle.at_world.specs.Draws.{noted}
 use Rattle.at_world.specs.AtpGuards.{AtpMachine, Reading, since_of}
 use Rattle.at_world.specs.Worlds.{WorldState, node_at}
-use Rattle.at_world.proofs.Places.{requester_here, service_here, served_here}
+use Rattle.at_world.proofs.Atp.Places.{requester_here, service_here, served_here}
 use Rattle.at_world.specs.Cables.{Cable}
 use Rattle.at_world.proofs.CableTie.{wire, CableTie, SeatTie, AreOwned, seat_kept}
-use Rattle.at_world.proofs.AtpTie.{Laws, IsReading, PagesOf, OnNet, AtpTie, Next, moved, put_same, put_itself, Entries, AreForeign, entries_of, entries_foreign, sent_is_owned}
-use Rattle.at_world.proofs.Times.{IsNoted, all_noted, noted_now}
+use Rattle.at_world.proofs.Atp.Tie.{Laws, IsReading, PagesOf, OnNet, AtpTie, Next, moved, put_same, put_itself, Entries, AreForeign, entries_of, entries_foreign, sent_is_owned}
+use Rattle.at_world.proofs.Atp.Times.{IsNoted, all_noted, noted_now}
 
 -- ---- lists of transactions
 

@@ -17,10 +17,10 @@ use Rattle.at_world.specs.Cables.{Cable, IsSomebodys}
 use Rattle.at_world.proofs.CableTie.{Wire, CableTie, IsOwned, spelled_wire}
 use Rattle.at_world.specs.Sents.{SentDatagram}
 use Rattle.at_world.specs.Worlds.{WorldState, IsFresh}
-use Rattle.at_world.proofs.Moves.{one_of}
+use Rattle.at_world.proofs.Atp.Moves.{one_of}
 use Rattle.at_world.specs.Stories.{posted_packet}
-use Rattle.at_world.proofs.AtpTie.{Laws, OnNet, AtpTie, Entries}
-use Rattle.at_world.proofs.Times.{in_time}
+use Rattle.at_world.proofs.Atp.Tie.{Laws, OnNet, AtpTie, Entries}
+use Rattle.at_world.proofs.Atp.Times.{in_time}
 
 sent_at : (P : Sent → Type 0) (sent : List (Option Sent)) (i : ℕ) (s : Sent) → AllSent P sent → packet_at sent i ≡ Some s → P s
 sent_at P [] i s h is = absurd (cc)

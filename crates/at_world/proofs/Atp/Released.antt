@@ -1,6 +1,6 @@
 -- What a release that comes to a node's service, or to the router's zone socket, is in the machine.
 use Rattle.std.proofs.Common.{◌≡◌, ℕ, true, Some, refl, sym, ap, ◌∙◌}
-use Rattle.std.specs.Prelude.{find, slice_get}
+use Rattle.std.specs.Prelude.{find}
 use Rattle.at_atp_frame.specs.Frames.{Release}
 use Rattle.at_atp.specs.Network as network
 use Rattle.at_atp.specs.Network.{Sent, packet_at, Takes, after, done, with_responder}
@@ -19,10 +19,10 @@ use Rattle.at_world.specs.Cables.{Cable}
 use Rattle.at_world.proofs.CableTie.{CableTie}
 use Rattle.at_world.specs.Worlds.{WorldState, node_at}
 use Rattle.at_world.specs.declared.event.Event.TheVariants as event
-use Rattle.at_world.proofs.Calls.{Allows, Good, good_next}
-use Rattle.at_world.proofs.Moves.{service_is, served_is, service_next, zones_next}
-use Rattle.at_world.proofs.StoryLemmas.{takes_quietly, release_is_old, release_is_quiet}
-use Rattle.at_world.proofs.AtpTie.{Laws, AtpTie}
+use Rattle.at_world.proofs.Atp.Calls.{Allows, Good, good_next}
+use Rattle.at_world.proofs.Atp.Moves.{service_is, served_is, service_next, zones_next}
+use Rattle.at_world.proofs.Atp.Stories.{takes_quietly, release_is_old, release_is_quiet}
+use Rattle.at_world.proofs.Atp.Tie.{Laws, AtpTie}
 
 -- whatever is reported of a release, the machine stays
 stays : (A : Type 0) (cable : Cable) (m : AtpMachine) (which k : ℕ) (r : Reception) → Allows {A = A} cable m (event.Deliver which k) (released_report r) (next m)

@@ -1,13 +1,13 @@
 -- An exactly-once request runs at most once.
-use Rattle.std.proofs.Common.{◌≡◌, ◌⊎◌, inl, inr, ℕ, zero, suc, ◌+◌, ◌≤◌, Bool, true, false, cond, List, [], ◌∷◌, length, map, take, Some, Result, Ok, Err, refl, sym, ap, subst, ◌∙◌, arith, lit<}
-use Rattle.std.specs.Prelude.{slice_get, ◌==◌}
+use Rattle.std.proofs.Common.{◌≡◌, ◌⊎◌, inl, inr, ℕ, ◌+◌, ◌≤◌, Bool, true, false, cond, List, [], ◌∷◌, length, take, Some, Result, Ok, Err, refl, sym, ap, subst, ◌∙◌, arith, lit<}
+use Rattle.std.specs.Prelude.{◌==◌}
 use Rattle.std.proofs.lemmas.Bool.{and_parts, eqb-true}
 use Rattle.at_ddp.specs.Address.{same_address}
 use Rattle.at_ddp.proofs.Octets.{same_address-true}
 use Rattle.std.specs.List.{AllByRecursion, Contains}
 use Rattle.at_atp.specs.HandUps.{AnswersOnce, hand_ups_since}
 use Rattle.at_atp.specs.Lawfully.{IsInRange, IsLawfullySent}
-use Rattle.at_atp.specs.Network.{Network, Sent, AllSent, Happening, Answers, Serves, AllTimely, after, done}
+use Rattle.at_atp.specs.Network.{Network, AllSent, Happening, Answers, Serves, AllTimely, after, done}
 use Rattle.at_atp_responder.specs.Once.{same_key}
 use Rattle.at_atp_frame.specs.Packets.{Packet}
 use Rattle.at_atp.specs.Transactions.{Transaction, transaction_of, answered}
@@ -16,18 +16,18 @@ use Rattle.at_node.specs.AtpParts.{asking}
 use Rattle.at_node.specs.declared.event.Call.TheVariants.{Answer}
 use Rattle.at_node.specs.declared.event.Report.{Report}
 use Rattle.at_node.specs.declared.event.Report.TheVariants as report
-use Rattle.at_world.specs.ExactlyOnce.{Played, onto, since, is_once, HandsUpBy, GivesBy, SomeGives, Gives, NoneGives, AtMostOneGives, RanOnce, wanted_by, AtMostOneHandsUp, SomeHandsUp, AllLive, EndsBy, RunsOnce, IsOnce}
+use Rattle.at_world.specs.ExactlyOnce.{Played, onto, since, is_once, HandsUpBy, GivesBy, SomeGives, Gives, NoneGives, AtMostOneGives, RanOnce, wanted_by, SomeHandsUp, AllLive, EndsBy, RunsOnce, IsOnce}
 use Rattle.at_world.specs.Plays.{opening_world, Follows, IsPlay}
 use Rattle.at_world.specs.Sents.{SentDatagram}
-use Rattle.at_world.specs.Stories.{Within, Ends, asks_once, began_under, Matches, Joins, Finishes, posted_packet}
+use Rattle.at_world.specs.Stories.{Within, Ends, asks_once, began_under, Matches, Joins, Finishes}
 use Rattle.at_world.specs.declared.event.Event.{Event}
 use Rattle.at_world.specs.declared.event.Event.TheVariants as event
 use Rattle.at_world.specs.declared.setup.Setup.{Setup}
 use Rattle.at_world.specs.declared.transcript.Transcript.{Transcript}
 use Rattle.at_world.specs.declared.transcript.PlayFault.{PlayFault}
 use Rattle.at_world.specs.Worlds.{WorldState}
-use Rattle.at_world.proofs.NewestLemmas.{NewestIs, HasAnswers, has_kept, kept_newest, one_answer_more, Gave, Has, had_or_gave, none_yet, once_newest}
-use Rattle.at_world.proofs.ToldLemmas.{OnceLaws, Told, all_in, all_lived, came_so, key_parts, hands_complete, lawful, most_of, some_of, within_before}
+use Rattle.at_world.proofs.Atp.Newest.{NewestIs, HasAnswers, has_kept, kept_newest, one_answer_more, Gave, Has, had_or_gave, none_yet, once_newest}
+use Rattle.at_world.proofs.Atp.Told.{OnceLaws, Told, all_in, all_lived, came_so, key_parts, hands_complete, lawful, most_of, some_of, within_before}
 
 -- ---- the promise
 

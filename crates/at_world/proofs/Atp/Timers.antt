@@ -28,12 +28,12 @@ use Rattle.at_world.specs.AtpGuards.{AtpMachine, Reading, since_of, without_read
 use Rattle.at_world.specs.Stories.{Matches}
 use Rattle.at_world.specs.Worlds.{WorldState, node_at}
 use Rattle.at_world.specs.declared.event.Event.TheVariants as event
-use Rattle.at_world.proofs.Calls.{Good, good_next, good_idle, good_refused, asking_fits}
-use Rattle.at_world.proofs.Moves.{asker_is, asker_next, service_is, service_next, served_is, zones_next}
-use Rattle.at_world.proofs.StoryLemmas.{expires_match, retries_match}
+use Rattle.at_world.proofs.Atp.Calls.{Good, good_next, good_idle, good_refused, asking_fits}
+use Rattle.at_world.proofs.Atp.Moves.{asker_is, asker_next, service_is, service_next, served_is, zones_next}
+use Rattle.at_world.proofs.Atp.Stories.{expires_match, retries_match}
 use Rattle.at_world.specs.Cables.{Cable}
 use Rattle.at_world.proofs.CableTie.{CableTie}
-use Rattle.at_world.proofs.AtpTie.{Laws, IsReading, AtpTie, moved}
+use Rattle.at_world.proofs.Atp.Tie.{Laws, IsReading, AtpTie, moved}
 
 -- the end of a reading leaves the others
 pub others_left : (rs : List Reading) (k j : ℕ) → (k == j) ≡ false → since_of (without_reading rs k) j ≡ since_of rs j

@@ -42,11 +42,11 @@ use Rattle.at_world.specs.Stories.{Grows, Matches}
 use Rattle.at_world.specs.Worlds.{WorldState, node_at, recorded, holds_some}
 use Rattle.at_world.specs.declared.event.Event.{Event}
 use Rattle.at_world.specs.declared.event.Event.TheVariants as event
-use Rattle.at_world.proofs.StoryLemmas.{is_quiet, other_matches, answers_match, begins_match}
-use Rattle.at_world.proofs.Moves.{asker_is, service_is, idle_next, begun_next, gave_next, with_service, pages_elsewhere}
-use Rattle.at_world.proofs.AtpTie.{Laws, IsReading, AtpTie, AreForeign, Next, moved, tied_next}
+use Rattle.at_world.proofs.Atp.Stories.{is_quiet, other_matches, answers_match, begins_match}
+use Rattle.at_world.proofs.Atp.Moves.{asker_is, service_is, idle_next, begun_next, gave_next, with_service, pages_elsewhere}
+use Rattle.at_world.proofs.Atp.Tie.{Laws, IsReading, AtpTie, AreForeign, Next, moved, tied_next}
 use Rattle.at_world.proofs.CableTie.{CableTie, AreOwned, wire}
-use Rattle.at_world.proofs.Times.{none_holds}
+use Rattle.at_world.proofs.Atp.Times.{none_holds}
 
 -- the history grew by one happening, which is what the event and its report say
 abbrev pub Grown : (A : Type 0) (cable : Cable) (before now : List Happening) → Event A → Report A → Type 0

@@ -1,0 +1,165 @@
+-- The tie of the part of ATP and ZIP before anything happened.
+use Rattle.std.proofs.Common.{◌≡◌, ℕ, ◌+◌, ◌<◌, ◌≤◌, Bool, true, false, cond, List, [], ◌∷◌, length, map, nat_le, Some, None, refl, sym, ap, subst, ◌∙◌, arith}
+use Rattle.std.specs.Prelude.{find, option_map, count_by, ◌==◌, ◌&&◌, nat_lt}
+use Rattle.std.specs.List.{list_all, AllByRecursion}
+use Rattle.std.proofs.lemmas.Bool.{and_parts, leb-true, ltb-true, eqb-true}
+use Rattle.std.proofs.lemmas.List.{length-append}
+use Rattle.std.proofs.lemmas.List.Elements.{All-from_recursion}
+use Rattle.std.proofs.lemmas.List.Sums.{sum_by-cons}
+use Rattle.at_ddp.specs.declared.address.Address.{Address}
+use Rattle.at_atp_requester.specs.Requests.{no_requests}
+use Rattle.at_zip.specs.Names.{spelled}
+use Rattle.at_zip.specs.Zones.{IsName}
+use Rattle.at_node.specs.Nodes.{NodeState, opening}
+use Rattle.at_world.specs.declared.setup.NodeSetup.{NodeSetup}
+use Rattle.at_world.specs.declared.setup.Setup.{Setup}
+use Rattle.at_world.specs.AtpGuards as atp
+use Rattle.at_world.specs.Cables as cables
+use Rattle.at_world.specs.Plays.{router_of, opening_node, opening_world}
+use Rattle.at_world.specs.Setups.{is_byte, is_name, spelled_len, is_lawful}
+use Rattle.at_world.specs.Worlds.{is_numbered}
+use Rattle.at_world.proofs.Atp.Places.{requester_of, requester_at, service_of, served_of, records_at}
+use Rattle.at_world.proofs.Atp.Tie.{IsReading, AtpTie}
+use Rattle.at_world.proofs.LawfulSetups.{lawful_has}
+use Rattle.at_world.proofs.SetupLemmas.{spelled_len-cons}
+
+bytes_are : (name : List ℕ) → list_all is_byte name ≡ true → AllByRecursion (λ b. b < 256) name
+bytes_are [] h = tt
+bytes_are (b ∷ name) h = let parts = and_parts (is_byte b) (list_all is_byte name) h in (ltb-true b 256 parts.0, bytes_are name parts.1)
+
+is_a_name : (name : List ℕ) → is_name name ≡ true → IsName name
+is_a_name name h =
+    let outer = and_parts (nat_lt 0 (length name) && nat_le (length name) 32) (list_all is_byte name) h in
+    let inner = and_parts (nat_lt 0 (length name)) (nat_le (length name) 32) outer.0 in
+    record { some = ltb-true 0 (length name) inner.0; fits = leb-true (length name) 32 inner.1; bytes = All-from_recursion (λ b. b < 256) name (bytes_are name outer.1) }
+
+names_are : (names : List (List ℕ)) → list_all is_name names ≡ true → AllByRecursion IsName names
+names_are [] h = tt
+names_are (name ∷ names) h = let parts = and_parts (is_name name) (list_all is_name names) h in (is_a_name name parts.0, names_are names parts.1)
+
+-- each name takes a byte at least
+spelled_as_counted : (names : List (List ℕ)) → length (spelled names) ≡ spelled_len names
+spelled_as_counted [] = refl
+spelled_as_counted (name ∷ names) = let rest = spelled_as_counted names in omega (arith, rest, length-append name (spelled names), spelled_len-cons name names)
+
+few_names : (names : List (List ℕ)) → length names ≤ spelled_len names
+few_names [] = omega arith
+few_names (name ∷ names) = let rest = few_names names in omega (arith, rest, spelled_len-cons name names)
+
+routers-cons : (x : NodeSetup) (ns : List NodeSetup) → count_by (λ n. n.router) (x ∷ ns) ≡ cond x.router 1 0 + count_by (λ n. n.router) ns
+routers-cons x ns = sum_by-cons (λ (n : NodeSetup). cond n.router 1 0) x ns
+
+-- if a router is found, one is counted
+router_counts : (ns : List NodeSetup) (k : ℕ) → router_of ns ≡ Some k → 1 ≤ count_by (λ n. n.router) ns
+router_counts [] k is = absurd (cc)
+router_counts (x ∷ ns) k is = rw (routers-cons x ns) (go (router_counts ns k) x.router is)
+  where
+    go : (router_of ns ≡ Some k → 1 ≤ count_by (λ n. n.router) ns) → (b : Bool) → option_map (λ (n : NodeSetup). n.node) (cond b (Some x) (find (λ n. n.router) ns)) ≡ Some k → 1 ≤ cond b 1 0 + count_by (λ n. n.router) ns
+    go ih true g = omega arith
+    go ih false g = let rest = ih g in omega (arith, rest)
+
+-- ---- the nodes
+
+module _ (A : Type 0) (s : Setup A) where
+  -- of at most one router, a node that has a table is the first
+  router_is : (ns : List NodeSetup) → count_by (λ n. n.router) ns ≤ 1 → (k : ℕ) (n : NodeState) → find (is_numbered k) (map (opening_node s) ns) ≡ Some n → (t : List (List ℕ)) → n.atp.table ≡ Some t → router_of ns ≡ Some k
+  router_is [] few k n h t has = absurd (cc)
+  router_is (x ∷ ns) few k n h t has = go (λ less g. router_is ns less k n g t has) x.router (x.node == k) refl (subst (λ m. m ≤ 1) (routers-cons x ns) few) h
+    where
+      opened : Bool → NodeState
+      opened b = opening s.net x.node (router_of s.nodes) (cond b (Some s.zones) None)
+
+      go : (count_by (λ n. n.router) ns ≤ 1 → find (is_numbered k) (map (opening_node s) ns) ≡ Some n → router_of ns ≡ Some k) → (b c : Bool) → (x.node == k) ≡ c → cond b 1 0 + count_by (λ n. n.router) ns ≤ 1 → cond c (Some (opened b)) (find (is_numbered k) (map (opening_node s) ns)) ≡ Some n
+          → option_map (λ (n : NodeSetup). n.node) (cond b (Some x) (find (λ n. n.router) ns)) ≡ Some k
+      go ih true true e less g = ap Some (eqb-true x.node k e)
+      go ih true false e less g = let one = router_counts ns k (ih (omega (arith, less)) g) in absurd (omega (arith, one, less))
+      go ih false true e less g = let same : opened false ≡ n = cc in let none : None ≡ Some t = ap (λ (y : NodeState). y.atp.table) same ∙ has in absurd (cc)
+      go ih false false e less g = ih (omega (arith, less)) g
+
+  -- the table of a node that has one is that of the setup
+  table_is : (ns : List NodeSetup) (k : ℕ) (n : NodeState) → find (is_numbered k) (map (opening_node s) ns) ≡ Some n → (t : List (List ℕ)) → n.atp.table ≡ Some t → t ≡ s.zones
+  table_is [] k n h t has = absurd (cc)
+  table_is (x ∷ ns) k n h t has = go (λ g. table_is ns k n g t has) x.router (x.node == k) h
+    where
+      opened : Bool → NodeState
+      opened b = opening s.net x.node (router_of s.nodes) (cond b (Some s.zones) None)
+
+      of_one : (b : Bool) → opened b ≡ n → t ≡ s.zones
+      of_one true same = let some : Some s.zones ≡ Some t = ap (λ (y : NodeState). y.atp.table) same ∙ has in cc
+      of_one false same = let none : None ≡ Some t = ap (λ (y : NodeState). y.atp.table) same ∙ has in absurd (cc)
+
+      go : (find (is_numbered k) (map (opening_node s) ns) ≡ Some n → t ≡ s.zones) → (b c : Bool) → cond c (Some (opened b)) (find (is_numbered k) (map (opening_node s) ns)) ≡ Some n → t ≡ s.zones
+      go ih b true g = let same : opened b ≡ n = cc in of_one b same
+      go ih b false g = ih g
+
+  nothing_begun : (ns : List NodeSetup) (k : ℕ) → requester_of (find (is_numbered k) (map (opening_node s) ns)) ≡ no_requests
+  nothing_begun [] k = refl
+  nothing_begun (x ∷ ns) k = go (nothing_begun ns k) (x.node == k)
+    where
+      go : requester_of (find (is_numbered k) (map (opening_node s) ns)) ≡ no_requests → (b : Bool) → requester_of (cond b (Some (opening_node s x)) (find (is_numbered k) (map (opening_node s) ns))) ≡ no_requests
+      go ih true = refl
+      go ih false = ih
+
+  nothing_came : (ns : List NodeSetup) (k : ℕ) → service_of (find (is_numbered k) (map (opening_node s) ns)) ≡ []
+  nothing_came [] k = refl
+  nothing_came (x ∷ ns) k = go (nothing_came ns k) (x.node == k)
+    where
+      go : service_of (find (is_numbered k) (map (opening_node s) ns)) ≡ [] → (b : Bool) → service_of (cond b (Some (opening_node s x)) (find (is_numbered k) (map (opening_node s) ns))) ≡ []
+      go ih true = refl
+      go ih false = ih
+
+  nothing_served : (ns : List NodeSetup) (k : ℕ) → served_of (find (is_numbered k) (map (opening_node s) ns)) ≡ []
+  nothing_served [] k = refl
+  nothing_served (x ∷ ns) k = go (nothing_served ns k) (x.node == k)
+    where
+      go : served_of (find (is_numbered k) (map (opening_node s) ns)) ≡ [] → (b : Bool) → served_of (cond b (Some (opening_node s x)) (find (is_numbered k) (map (opening_node s) ns))) ≡ []
+      go ih true = refl
+      go ih false = ih
+
+  nothing_read : (ns : List NodeSetup) (k : ℕ) (n : NodeState) → find (is_numbered k) (map (opening_node s) ns) ≡ Some n → n.atp.reading ≡ None
+  nothing_read [] k n h = absurd (cc)
+  nothing_read (x ∷ ns) k n h = go (nothing_read ns k n) (x.node == k) h
+    where
+      go : (find (is_numbered k) (map (opening_node s) ns) ≡ Some n → n.atp.reading ≡ None) → (b : Bool) → cond b (Some (opening_node s x)) (find (is_numbered k) (map (opening_node s) ns)) ≡ Some n → n.atp.reading ≡ None
+      go ih true g = let same : opening_node s x ≡ n = cc in ap (λ (y : NodeState). y.atp.reading) (sym same)
+      go ih false g = ih g
+
+  requester_opens : (who : Address) → no_requests ≡ requester_at s.net (map (opening_node s) s.nodes) who
+  requester_opens who = go ((s.net == who.net) && (128 == who.socket))
+    where
+      go : (b : Bool) → no_requests ≡ cond b (requester_of (find (is_numbered who.node) (map (opening_node s) s.nodes))) no_requests
+      go true = sym (nothing_begun s.nodes who.node)
+      go false = refl
+
+  responder_opens : (at : Address) → [] ≡ records_at s.net (map (opening_node s) s.nodes) at
+  responder_opens at = go (s.net == at.net) (129 == at.socket) (6 == at.socket)
+    where
+      go : (a b c : Bool) → [] ≡ cond a (cond b (service_of (find (is_numbered at.node) (map (opening_node s) s.nodes))) (cond c (served_of (find (is_numbered at.node) (map (opening_node s) s.nodes))) [])) []
+      go false b c = refl
+      go true true c = sym (nothing_came s.nodes at.node)
+      go true false true = sym (nothing_served s.nodes at.node)
+      go true false false = refl
+
+  pub atp_at_opening : is_lawful s ≡ true → (t : AtpTie A (opening_world s) (cables.opening s) [] (atp.opening s)) × (t.history ≡ [])
+  atp_at_opening ok =
+      let law = lawful_has A s ok in
+      let small = law.small in (
+        record {
+          table = record { each = All-from_recursion IsName s.zones (names_are s.zones law.names); count = omega (arith, few_names s.zones, small) };
+          small = omega (arith, spelled_as_counted s.zones, small);
+          history = [];
+          timely = tt;
+          in_range = tt;
+          events = refl;
+          requesters = requester_opens;
+          responders = responder_opens;
+          sent = tt;
+          drawn = tt;
+          asked = refl;
+          tables = λ k n is t has. (table_is s.nodes k n is t has, router_is s.nodes law.one k n is t has);
+          readings = λ k n is. subst (IsReading (cables.opening s) (atp.opening s) k n.atp.requester) (sym (nothing_read s.nodes k n is)) tt;
+          pages = tt;
+          nets = tt;
+        },
+        refl,
+      )
