@@ -12,12 +12,14 @@ ghost use Rattle.at_atp_frame.specs.Packets.{Packet};
 
 pub use at_atp_frame::laws::{what_is_written_fits, what_is_written_is_read};
 pub use at_atp_requester::laws::{
-    a_requester_hands_up_whole_responses, a_transaction_ends_by_its_whole_response,
-    numbers_stay_open,
+    a_bitmap_asks_for_the_places_still_wanted, a_requester_hands_up_whole_responses,
+    a_transaction_ends_by_its_whole_response, a_whole_response_is_the_earliest_packets_to_its_end,
+    below_32_a_number_is_free, numbers_stay_open, open_numbers_differ,
 };
 pub use at_atp_responder::laws::{
-    a_new_request_waits, a_request_is_handed_up_once, no_more_is_sent_than_answered,
-    only_a_waiting_request_is_answered,
+    a_new_request_waits, a_request_is_handed_up_once, at_most_64_records_stand,
+    no_more_is_sent_than_answered, only_a_waiting_request_is_answered,
+    what_is_sent_is_of_the_answer,
 };
 use std::alloc::Allocator;
 

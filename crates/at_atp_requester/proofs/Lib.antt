@@ -1,8 +1,10 @@
 mod AnswerLemmas
+mod DifferLemmas
 mod MoveLemmas
 mod OpenLemmas
 mod RequestLemmas
 mod RequesterLemmas
+mod ResponseLemmas
 mod RetryLemmas
 mod StayLemmas
 mod StepLemmas

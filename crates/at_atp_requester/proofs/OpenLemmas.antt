@@ -19,10 +19,10 @@ or_parts : (a b : Bool) → (a || b) ≡ false → (a ≡ false) × (b ≡ false
 or_parts true b h = absurd (true≢false h)
 or_parts false b h = (refl, h)
 
-head_apart : (x : Transaction) (xs : List Transaction) (tid : ℕ) → has_number (x ∷ xs) tid ≡ false → (x.tid == tid) ≡ false
+pub head_apart : (x : Transaction) (xs : List Transaction) (tid : ℕ) → has_number (x ∷ xs) tid ≡ false → (x.tid == tid) ≡ false
 head_apart x xs tid h = let parts = or_parts (x.tid == tid) (has_number xs tid) h in parts.0
 
-tail_apart : (x : Transaction) (xs : List Transaction) (tid : ℕ) → has_number (x ∷ xs) tid ≡ false → has_number xs tid ≡ false
+pub tail_apart : (x : Transaction) (xs : List Transaction) (tid : ℕ) → has_number (x ∷ xs) tid ≡ false → has_number xs tid ≡ false
 tail_apart x xs tid h = let parts = or_parts (x.tid == tid) (has_number xs tid) h in parts.1
 
 pub cons_apart : (x : Transaction) (xs : List Transaction) (tid : ℕ) → (x.tid == tid) ≡ false → has_number xs tid ≡ false → has_number (x ∷ xs) tid ≡ false
@@ -40,7 +40,7 @@ replaced_apart p y (x ∷ xs) tid a h = go (replaced_apart p y xs tid a (tail_ap
     go ih true = cons_apart y xs tid a (tail_apart x xs tid h)
     go ih false = cons_apart x (replaced p y xs) tid (head_apart x xs tid h) ih
 
-without_apart : (p : Transaction → Bool) (xs : List Transaction) (tid : ℕ) → has_number xs tid ≡ false → has_number (without_first p xs) tid ≡ false
+pub without_apart : (p : Transaction → Bool) (xs : List Transaction) (tid : ℕ) → has_number xs tid ≡ false → has_number (without_first p xs) tid ≡ false
 without_apart p [] tid h = h
 without_apart p (x ∷ xs) tid h = go (without_apart p xs tid (tail_apart x xs tid h)) (p x)
   where

@@ -1,7 +1,8 @@
 -- The numbers that a requester draws.
 use Rattle.std.proofs.Common.{◌≡◌, ℕ, zero, suc, ◌+◌, ◌-◌, ◌%◌, ◌<◌, ◌≤◌, Bool, true, false, cond, List, [], ◌∷◌, ◌++◌, length, take, drop, Some, None, IsSome, refl, sym, ap, subst, ◌∙◌, arith}
-use Rattle.std.specs.Prelude.{find, remove, ◌==◌, ◌||◌}
+use Rattle.std.specs.Prelude.{find, remove, nat_lt, ◌==◌, ◌||◌}
 use Rattle.std.proofs.lemmas.Bool.{false≢true, eqb-true, ne_eqb}
+use Rattle.std.proofs.lemmas.Bool.Decides.{nat_tests}
 use Rattle.std.proofs.lemmas.List.{append-nil, take_rest}
 use Rattle.at_atp_requester.specs.Requests.{Requests, Transaction, is_numbered, has_number, draw_from, next_number, closing}
 use Rattle.at_ddp.specs.Tables.{without_first}
@@ -65,3 +66,31 @@ draws_one (suc tries) first l small few more = go (λ m k. draws_one tries ((fir
     go ih false is = refl
     go ih true is = subst (λ o. IsSome o) (draws_apart tries first ((first + 1) % 65536) 1 l small refl (omega arith) (omega (arith, few)))
         (ih (without_first (is_numbered first) l) (omega (arith, more, one_less l first is)))
+
+-- a number out of range is tried once at most: the numbers after it are in range
+draws_past : (tries gone first : ℕ) (l : List Transaction) → 65536 ≤ gone → first < 65536 → draw_from tries first (without_first (is_numbered gone) l) ≡ draw_from tries first l
+draws_past zero gone first l great small = refl
+draws_past (suc tries) gone first l great small =
+    let apart : gone ≡ first → ⊥ = λ same. omega (arith, same, great, small) in
+    let rest = draws_past tries gone ((first + 1) % 65536) l great (omega arith) in
+    λ i. cond (number_apart l gone first apart i) (rest i) (Some first)
+
+draws_any : (tries first : ℕ) (l : List Transaction) → tries ≤ 65536 → length l < tries → IsSome (draw_from tries first l)
+draws_any zero first l few more = absurd (omega (arith, more))
+draws_any (suc tries) first l few more = range (nat_lt first 65536) refl
+  where
+    high : 65536 ≤ first → (b : Bool) → has_number l first ≡ b → IsSome (cond b (draw_from tries ((first + 1) % 65536) l) (Some first))
+    high great false is = refl
+    high great true is = subst (λ o. IsSome o) (draws_past tries first ((first + 1) % 65536) l great (omega arith))
+        (draws_one tries ((first + 1) % 65536) (without_first (is_numbered first) l) (omega arith) (omega (arith, few)) (omega (arith, more, one_less l first is)))
+
+    range : (b : Bool) → nat_lt first 65536 ≡ b → IsSome (draw_from (suc tries) first l)
+    range true e = draws_one (suc tries) first l (grind (arith, nat_tests, e)) few more
+    range false e = high (grind (arith, nat_tests, e)) (has_number l first) refl
+
+pub number_left : (r : Requests) → length r.standing < 32 → IsSome (next_number r)
+number_left r few = go (nat_lt (length r.standing) 32) refl
+  where
+    go : (b : Bool) → nat_lt (length r.standing) 32 ≡ b → IsSome (cond b (draw_from (length r.standing + 1) r.next r.standing) None)
+    go true e = draws_any (length r.standing + 1) r.next r.standing (omega (arith, few)) (omega arith)
+    go false e = absurd (grind (arith, nat_tests, e, few))

@@ -1,16 +1,17 @@
 -- Numbers that stay open.
-use Rattle.std.proofs.Common.{◌≡◌, ℕ, zero, suc, Bool, true, false, cond, List, [], ◌∷◌, Option, Some, None, refl, sym, ap, subst, ◌∙◌}
+use Rattle.std.proofs.Common.{◌≡◌, ℕ, zero, suc, Bool, true, false, cond, List, [], ◌∷◌, ◌++◌, Option, Some, None, refl, sym, ap, subst, ◌∙◌}
 use Rattle.std.specs.Prelude.{find, option_map, ◌==◌, ◌||◌}
 use Rattle.std.specs.List.{AllByRecursion}
 use Rattle.std.proofs.lemmas.Bool.{true≢false, and_parts, eqb-true}
 use Rattle.at_ddp.specs.Address.{same_address}
 use Rattle.at_ddp.specs.declared.address.Address.{Address}
 use Rattle.at_atp_frame.specs.Frames.{Content, Request, Response, Release, number_of}
-use Rattle.at_atp_requester.specs.Requests.{Transaction, Requests, Effect, Retried, has_number, is_numbered, is_of, came, is_finished, response_came, heard, retried_with, retried}
+use Rattle.at_atp_requester.specs.Requests.{Transaction, Requests, Effect, Retried, has_number, is_numbered, is_of, begun, came, is_finished, response_came, heard, retried_with, retried}
 use Rattle.at_ddp.specs.Tables.{replaced, without_first}
 use Rattle.at_atp_requester.specs.declared.step.Retry.TheVariants.{Failed}
 use Rattle.at_ddp.proofs.Alls.{all_found}
 use Rattle.at_atp_requester.proofs.MoveLemmas.{kept_tid}
+use Rattle.at_atp_requester.proofs.OpenLemmas.{is_there}
 
 or_true : (a b : Bool) → a ≡ true → (a || b) ≡ true
 or_true a b h = rw h refl
@@ -48,11 +49,11 @@ stays_without p (t ∷ ts) tid other h = go (λ g. stays_without p ts tid other 
     go ih true e = or_cases (t.tid == tid) (has_number ts tid) h (other t e)
     go ih false e = later ih (t.tid == tid) h
 
-all_units : (ts : List Transaction) → AllByRecursion (λ (x : Transaction). Unit {0}) ts
+pub all_units : (ts : List Transaction) → AllByRecursion (λ (x : Transaction). Unit {0}) ts
 all_units [] = tt
 all_units (t ∷ ts) = (tt, all_units ts)
 
-of_number : (k : ℕ) (from : Address) (t : Transaction) → is_of k from t ≡ true → t.tid ≡ k
+pub of_number : (k : ℕ) (from : Address) (t : Transaction) → is_of k from t ≡ true → t.tid ≡ k
 of_number k from t h = eqb-true t.tid k (and_parts (t.tid == k) (same_address t.to from) h).0
 
 apart_from : (a b tid : ℕ) → a ≡ b → (b == tid) ≡ false → (a == tid) ≡ false
@@ -88,3 +89,18 @@ retried_stays r other tid e is h away = go (find (is_numbered other) r.standing)
         let same : retried_with r other t t.retries ≡ e = cc in
         let found = all_found (λ (x : Transaction). Unit {0}) (is_numbered other) r.standing t (all_units r.standing) p in
         subst (λ (x : Retried). has_number (x.after).standing tid ≡ true) same (retry t t.retries (eqb-true t.tid other found.1) (λ failed. away (ap (λ (x : Retried). x.step) (sym same) ∙ failed)))
+
+-- a transaction that begins comes after those that are open
+pub opens_number : (r : Requests) (t : Transaction) → has_number (begun r t).standing t.tid ≡ true
+opens_number r t = is_there r.standing [] t t.tid refl
+
+stays_before : (ts : List Transaction) (t : Transaction) (tid : ℕ) → has_number ts tid ≡ true → has_number (ts ++ t ∷ []) tid ≡ true
+stays_before [] t tid h = absurd (true≢false (sym h))
+stays_before (x ∷ ts) t tid h = go (λ g. stays_before ts t tid g) (x.tid == tid) h
+  where
+    go : (has_number ts tid ≡ true → has_number (ts ++ t ∷ []) tid ≡ true) → (b : Bool) → (b || has_number ts tid) ≡ true → (b || has_number (ts ++ t ∷ []) tid) ≡ true
+    go ih true g = refl
+    go ih false g = ih g
+
+pub begun_stays : (r : Requests) (t : Transaction) (tid : ℕ) → has_number r.standing tid ≡ true → has_number (begun r t).standing tid ≡ true
+begun_stays r t tid h = stays_before r.standing t tid h

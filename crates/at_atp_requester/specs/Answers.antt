@@ -1,6 +1,6 @@
 -- The packets of an answer that came, and those that are still wanted (Inside AppleTalk, ATP, "Transaction bitmap").
-use Rattle.std.specs.Prelude.{ℕ, zero, suc, ◌+◌, ◌*◌, if◌then◌else◌, Bool, false, is_none, List, [], ◌∷◌, ◌++◌}
-use Rattle.std.specs.Prelude.{slice_set, option_map, Option, Some, None}
+use Rattle.std.specs.Prelude.{ℕ, zero, suc, ◌+◌, ◌*◌, ◌/◌, ◌%◌, ◌==◌, if◌then◌else◌, Bool, false, is_none, List}
+use Rattle.std.specs.Prelude.{[], ◌∷◌, ◌++◌, slice_set, option_map, Option, Some, None}
 use Rattle.at_atp_frame.specs.Packets.{Packet}
 
 -- a packet that came, and whether the answer ends with it
@@ -21,6 +21,11 @@ abbrev pub bitmap_of : List (Option Arrival) → ℕ
 bitmap_of [] = 0
 bitmap_of (None ∷ parts) = 1 + 2 * bitmap_of parts
 bitmap_of (Some part ∷ parts) = if part.eom then 0 else 2 * bitmap_of parts
+
+-- bit i of a number: it is halved i times, and then it is odd
+abbrev pub bit_is_set : ℕ → ℕ → Bool
+bit_is_set n zero = n % 2 == 1
+bit_is_set n (suc i) = bit_is_set (n / 2) i
 
 -- the packets up to the first that ends the answer, or all that were asked for; none if one of them is missing
 abbrev pub whole : List (Option Arrival) → Option (List Packet)

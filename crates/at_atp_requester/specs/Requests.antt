@@ -1,6 +1,6 @@
 -- The requester, and what each call does to it (Inside AppleTalk, ATP, "Transactions").
-use Rattle.std.specs.Prelude.{◌≡◌, ℕ, zero, suc, ◌+◌, ◌%◌, ◌≤◌, ◌==◌, ◌&&◌, not, nat_lt, if◌then◌else◌, Bool, true}
-use Rattle.std.specs.Prelude.{false, List, [], ◌∷◌, ◌++◌, length, find, option_map, replicate, Option, Some, None}
+use Rattle.std.specs.Prelude.{◌≡◌, ℕ, zero, suc, ◌+◌, ◌%◌, ◌≤◌, ◌<◌, ◌==◌, ◌&&◌, not, nat_lt, if◌then◌else◌, Bool}
+use Rattle.std.specs.Prelude.{true, false, List, [], ◌∷◌, ◌++◌, length, find, option_map, replicate, Option, Some, None}
 use Rattle.std.specs.List.{list_any}
 use Rattle.at_ddp.specs.Address.{same_address}
 use Rattle.at_ddp.specs.Outbox.{Outbox, Sends}
@@ -43,6 +43,16 @@ is_numbered tid t = t.tid == tid
 -- is a transaction open under this number?
 abbrev pub has_number : List Transaction → ℕ → Bool
 has_number standing tid = list_any (λ t. t.tid == tid) standing
+
+abbrev pub NumbersDiffer : List Transaction → Type 0
+NumbersDiffer [] = Unit {0}
+NumbersDiffer (t ∷ ts) = (has_number ts t.tid ≡ false) × NumbersDiffer ts
+
+-- at most 32 transactions are open, under numbers that differ from each other, and the number to try next has two bytes
+pub record IsRequester (r : Requests) : Type 0 where
+  pub few : length r.standing ≤ 32
+  pub next_fits : r.next < 65536
+  pub differ : NumbersDiffer r.standing
 
 -- the first number from this one on that is not open, if it takes at most so many tries
 abbrev pub draw_from : ℕ → ℕ → List Transaction → Option ℕ

@@ -1,11 +1,13 @@
 -- The whole response of a transaction, from the packets that came for it. There is no bitmap, so no place is ever
 -- struck out (Inside AppleTalk, ATP, "Transaction bitmap and sequence number").
 use Rattle.std.specs.Prelude.{◌≡◌, ℕ, zero, suc, ◌+◌, ◌==◌, ◌&&◌, if◌then◌else◌, Bool, true, false, List, [], ◌∷◌, ◌++◌}
-use Rattle.std.specs.Prelude.{find, option_map, Option, Some, None}
+use Rattle.std.specs.Prelude.{find, map, length, option_map, Option, Some, None, ◌≢◌, ◌⊎◌, ◌≤◌, ◌<◌}
+use Rattle.std.specs.List.{AllByRecursion}
 use Rattle.at_ddp.specs.Address.{same_address}
 use Rattle.at_ddp.specs.declared.address.Address.{Address}
 use Rattle.at_atp_requester.specs.Answers.{Arrival}
 use Rattle.at_atp_frame.specs.Frames.{Content, Response}
+use Rattle.at_atp_frame.specs.Packets.{Packet}
 use Rattle.at_atp_requester.specs.Requests.{Transaction, Requests, Retried, has_number, next_number, beginning, begun}
 use Rattle.at_atp_requester.specs.Requests.{came, heard, is_finished, retried}
 
@@ -39,6 +41,48 @@ NoneFinishes A t [] = Unit {0}
 NoneFinishes A t (c ∷ all) =
     (is_finished (came {A = A} t c.place c.part c.sts).step ≡ false)
     × NoneFinishes A (came {A = A} t c.place c.part c.sts).after all
+
+-- ---- the response in the words of the standard
+
+-- no packet came for a place
+abbrev pub NoneFor : ℕ → List Came → Type 0
+NoneFor place all = AllByRecursion (λ (c : Came). c.place ≢ place) all
+
+-- the earliest packet that came for a place
+pub record IsEarliest (all : List Came) (place : ℕ) (part : Arrival) : Type 0 where
+  pub before : List Came
+  pub packet : Came
+  pub behind : List Came
+  pub is : all ≡ before ++ packet ∷ behind
+  pub none_before : NoneFor place before
+  pub for_place : packet.place ≡ place
+  pub brings : packet.part ≡ part
+
+-- the earliest packets of places that follow each other, from this place on
+abbrev pub AreEarliest : List Came → ℕ → List Arrival → Type 0
+AreEarliest all place [] = Unit {0}
+AreEarliest all place (part ∷ parts) = IsEarliest all place part × AreEarliest all (place + 1) parts
+
+-- The response to a request for so many places, from this one on: the earliest packet of each place up to the last. The
+-- last place is the least whose earliest packet ends the response, or the last that was asked for.
+pub record IsResponseFrom (place wanted : ℕ) (all : List Came) (packets : List Packet) : Type 0 where
+  pub before : List Arrival
+  pub last : Arrival
+  pub earliest : AreEarliest all place (before ++ last ∷ [])
+  pub least : AllByRecursion (λ (part : Arrival). part.eom ≡ false) before
+  pub ends : (last.eom ≡ true) ⊎ (length before + 1 ≡ wanted)
+  pub asked_for : length before + 1 ≤ wanted
+  pub are : packets ≡ map (λ (part : Arrival). part.packet) (before ++ last ∷ [])
+
+abbrev pub IsResponse : ℕ → List Came → List Packet → Type 0
+IsResponse wanted all packets = IsResponseFrom 0 wanted all packets
+
+-- A place that was asked for is still wanted if no packet came for it, and no earlier place's earliest packet ends the
+-- response.
+pub record IsStillWanted (wanted : ℕ) (all : List Came) (place : ℕ) : Type 0 where
+  pub asked_for : place < wanted
+  pub none_came : NoneFor place all
+  pub goes_on : (earlier : ℕ) (part : Arrival) → earlier < place → IsEarliest all earlier part → part.eom ≡ false
 
 -- ---- one requester
 

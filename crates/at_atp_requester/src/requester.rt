@@ -24,15 +24,13 @@ pub struct Requester<A: Allocator = Global> {
 }
 
 impl<A: Allocator> Model for Requester<A> {
-    ghost use Rattle.at_atp_requester.specs.Requests.{Requests};
+    ghost use Rattle.at_atp_requester.specs.Requests.{Requests, IsRequester};
 
     ghost Value = { Requests };
 
     ghost view = { λ r. record { next = r.next; standing = r.standing.items } };
 
-    ghost use Rattle.std.specs.Prelude.{◌≤◌, length};
-
-    ghost invariant = { λ r. length r.standing.items ≤ 32 };
+    ghost invariant = { λ r. IsRequester (record { next = r.next; standing = r.standing.items }) };
 }
 
 impl<A: Allocator + Copy> Requester<A> {

@@ -272,6 +272,7 @@ impl<A: Allocator + Copy> Transaction<A> {
             → whole (with_part self.old.parts arriving.now.sequence_number (arrival_of arriving.now)) ≡ Some packets
             → IfOk result (λ step. (step ≡ Step.Finished packets)
             × Sends out.old out.new (spelled_all (release_by self.old))) }
+        ensures number { self.new.tid ≡ self.old.tid }
         ensures unchanged { OnErr result (self.new ≡ self.old) }
         ensures nothing_sent { OnErr result (Sends out.old out.new []) }
         ensures untouched { self.old.xo ≡ false → out.new ≡ out.old }

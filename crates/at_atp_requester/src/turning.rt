@@ -2,7 +2,7 @@ ghost use Rattle.std.specs.Prelude.{◌≡◌, ◌<◌, ◌∷◌, [], true, fal
 ghost use Rattle.at_ddp.specs.Outbox.{Sends};
 ghost use Rattle.at_atp_frame.specs.Frames.{Response, content, spelled};
 ghost use Rattle.at_atp_requester.specs.Requests.{Requests, next_number, beginning, begun, request_by, is_response};
-ghost use Rattle.at_atp_requester.specs.Requests.{finishes, heard};
+ghost use Rattle.at_atp_requester.specs.Requests.{finishes, has_number, heard};
 
 use crate::numbers::next_of;
 use crate::requester::{Requester, index_of};
@@ -88,7 +88,8 @@ impl<A: Allocator + Copy> Requester<A> {
 
     // Closes the transaction at an index and opens another. Returns the new number.
     fn pass_on(&mut self, index: usize, next: Transaction<A>) -> u16
-        requires { index < length self.old.standing }
+        requires within { index < length self.old.standing }
+        requires fresh { has_number (remove self.old.standing index) next.tid ≡ false }
         ensures state { self.new ≡ begun (record self.old { standing = remove self.old.standing index }) next }
         ensures number { result ≡ next.tid }
     {

@@ -4,7 +4,8 @@ use Rattle.std.specs.Prelude.{find, nat_le, ◌&&◌, IfSome}
 use Rattle.at_ddp.specs.Outbox.{Outbox, Sends}
 use Rattle.at_atp_frame.specs.Frames.{spelled_all}
 use Rattle.at_atp_frame.specs.Packets.{Packet}
-use Rattle.at_atp_responder.specs.Records.{Record, is_key, fit, responses, record_fault, answer_fault, asked_bitmap, after_answer, IsAnswered}
+use Rattle.at_atp_responder.specs.Records.{Record, is_key, fit, responses, record_fault, answer_fault, asked_bitmap, is_kept, after_answer, IsAnswered}
+use Rattle.at_ddp.specs.Tables.{without_first}
 use Rattle.at_atp_frame.specs.declared.fault.AtpFault.TheVariants.{AtpTooLong}
 use Rattle.at_atp_responder.specs.declared.reception.Key.{Key}
 use Rattle.at_ddp.proofs.OutboxLemmas.{sends_later}
@@ -30,3 +31,7 @@ answered_by old new key packets count bitmap before between after free masked no
       sends = rw (e, ← m) (sends_later before between after (spelled_all (responses key 0 bitmap packets)) none sends);
       counts = rw (e, ← m) counts;
     }
+
+-- an answer that is not kept takes the record away
+pub not_kept_after : (rs : List Record) (key : Key) (packets : List Packet) → is_kept (find (is_key key) rs) ≡ false → without_first (is_key key) rs ≡ after_answer rs key packets
+not_kept_after rs key packets loose = rw loose refl

@@ -20,10 +20,10 @@ some_or : (b : Bool) (r : Record) (o : Option Record) → is_some (cond b (Some 
 some_or true r o = refl
 some_or false r o = refl
 
-stands_first : (key : Key) (r : Record) (rs : List Record) → stands key (r ∷ rs) ≡ (same_key r.key key || stands key rs)
+pub stands_first : (key : Key) (r : Record) (rs : List Record) → stands key (r ∷ rs) ≡ (same_key r.key key || stands key rs)
 stands_first key r rs = some_or (same_key r.key key) r (find (is_key key) rs)
 
-stands_last : (key : Key) (r : Record) (rs : List Record) → stands key (rs ++ r ∷ []) ≡ (stands key rs || same_key r.key key)
+pub stands_last : (key : Key) (r : Record) (rs : List Record) → stands key (rs ++ r ∷ []) ≡ (stands key rs || same_key r.key key)
 stands_last key r [] = go (same_key r.key key)
   where
     go : (b : Bool) → is_some (cond b (Some r) None) ≡ b
@@ -36,7 +36,7 @@ stands_last key r (x ∷ rs) = go (stands_last key r rs) (same_key x.key key)
     go ih false = ih
 
 -- a record changes, and its key does not
-stands_replaced : (key k : Key) (y : Record) (rs : List Record) → y.key ≡ k → stands key (replaced (is_key k) y rs) ≡ stands key rs
+pub stands_replaced : (key k : Key) (y : Record) (rs : List Record) → y.key ≡ k → stands key (replaced (is_key k) y rs) ≡ stands key rs
 stands_replaced key k y [] same = refl
 stands_replaced key k y (r ∷ rs) same = go (stands_replaced key k y rs same) (is_key k r) refl
   where
@@ -45,7 +45,7 @@ stands_replaced key k y (r ∷ rs) same = go (stands_replaced key k y rs same) (
     go ih false e = stands_first key r (replaced (is_key k) y rs) ∙ ap (λ b. same_key r.key key || b) ih ∙ sym (stands_first key r rs)
 
 -- what goes makes nothing stand
-stands_without : (key : Key) (q : Record → Bool) (rs : List Record) → stands key rs ≡ false → stands key (without_first q rs) ≡ false
+pub stands_without : (key : Key) (q : Record → Bool) (rs : List Record) → stands key rs ≡ false → stands key (without_first q rs) ≡ false
 stands_without key q [] h = h
 stands_without key q (r ∷ rs) h = go (stands_without key q rs parts.1) (q r)
   where

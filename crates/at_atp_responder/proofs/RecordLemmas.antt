@@ -9,7 +9,7 @@ use Rattle.at_ddp.specs.Outbox.{Outbox}
 use Rattle.at_atp_frame.specs.Packets.{Packet}
 use Rattle.at_ddp.specs.Tables.{replaced}
 use Rattle.at_atp_frame.specs.declared.fault.AtpFault.{AtpFault}
-use Rattle.at_atp_responder.specs.Records.{Waiting, Answered, Record, is_key, repeated, released, request_came, release_came, is_new_and_full, fit, IsTaken, IsRepeat}
+use Rattle.at_atp_responder.specs.Records.{Waiting, Answered, Record, is_key, repeated, released, request_came, release_came, is_new_and_full, state_fault, record_fault, fit, IsTaken, IsRepeat}
 use Rattle.at_atp_responder.specs.declared.reception.Key.{Key}
 use Rattle.at_atp_responder.specs.declared.reception.Reception.{Reception}
 use Rattle.at_atp_responder.specs.declared.reception.Reception.TheVariants.{Ignored, New}
@@ -59,6 +59,14 @@ pub again_ignored : (rs : List Record) (key : Key) (xo : Bool) (bitmap i : ℕ) 
     (slice_get rs i ≡ Some f.entry) × ((repeated (f.entry).key bitmap (f.entry).state).reception ≡ Ignored)
 again_ignored rs key xo bitmap i f = rw f.first (λ h.
     (slice_get-get_or rs i f.entry f.within ∙ ap Some (f.at f.entry), subst (λ k. (repeated k bitmap (f.entry).state).reception ≡ Ignored) (sym (own key f.entry f.passes)) h))
+
+-- a new request has no record that waits
+pub new_not_waiting : (rs : List Record) (key : Key) → find (is_key key) rs ≡ None → record_fault (find (is_key key) rs) ≡ None → ⊥
+new_not_waiting rs key none = rw none (λ h. cc)
+
+-- if a request waits, so does the record of its key
+pub again_waiting : (rs : List Record) (key : Key) (i : ℕ) → (f : Found (is_key key) rs i) → record_fault (find (is_key key) rs) ≡ None → (slice_get rs i ≡ Some f.entry) × (state_fault (f.entry).state ≡ None)
+again_waiting rs key i f = rw f.first (λ h. (slice_get-get_or rs i f.entry f.within ∙ ap Some (f.at f.entry), h))
 
 -- ---- releases
 

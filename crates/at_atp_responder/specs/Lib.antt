@@ -1,3 +1,4 @@
 pub mod Once
 pub mod Records
+pub mod Replies
 pub mod States

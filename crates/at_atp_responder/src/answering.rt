@@ -2,6 +2,7 @@ ghost use Rattle.std.specs.Prelude.{◌≡◌, ℕ, false, [], find, IfOk, IfErr
 ghost use Rattle.at_ddp.specs.Outbox.{Sends, HasRoomFor};
 ghost use Rattle.at_atp_responder.specs.Records.{fit, is_key, is_kept, record_fault, answer_fault, IsAnswered};
 
+use crate::answer_room::AnswerRoom;
 use crate::reception::Key;
 use crate::record::{Record, send_answer};
 use crate::records::{bitmap_of, forget, is_kept, record_fault, settle};
@@ -71,7 +72,32 @@ impl<A: Allocator + Copy> Responder<A> {
         Ok(count)
     }
 
-    /// Makes room for the largest answer to a request that waits. Then `hand_over` needs no memory to answer it.
+    /// The same as `respond`, with memory for the copy that was taken before. So it needs no memory to keep the answer.
+    pub fn respond_within(
+        &mut self,
+        key: Key,
+        packets: &[Packet<A>],
+        room: AnswerRoom<A>,
+        out: &mut Outbox<A>,
+    ) -> Result<u8, AtpFault>
+        ensures ok { IfOk result (λ count. IsAnswered self.old self.new key packets.now count out.old out.new) }
+        ensures refuses { IfSome (answer_fault self.old key packets.now) (λ fault. result ≡ Err fault) }
+        ensures memory { answer_fault self.old key packets.now ≡ None
+            → IfErr result (λ fault. fault ≡ AtpFault.NoMemory) }
+        ensures unchanged { OnErr result (self.new ≡ self.old) }
+        ensures nothing_sent { OnErr result (Sends out.old out.new []) }
+
+        // Never out of memory if there is room for eight full packets, also if the answer is kept.
+        ensures room { HasRoomFor out.old 8 586 → answer_fault self.old key packets.now ≡ None → IsOk result }
+    {
+        if let Some(fault) = answer_fault(&self.records, key, packets) {
+            return Err(fault);
+        }
+        self.hand_over(key, room.copy(packets), out)
+    }
+
+    /// Makes room for the largest answer to a request that waits. Then `hand_over` needs no memory to answer it,
+    /// and neither does `respond_within`.
     pub fn room(&self, key: Key, out: &mut Outbox<A>) -> Result<(), AtpFault>
         ensures ok { OnOk result (HasRoomFor out.new 8 586) }
         ensures refuses { IfSome (record_fault (find (is_key key) self.now)) (λ fault. result ≡ Err fault) }

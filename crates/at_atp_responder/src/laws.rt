@@ -5,9 +5,13 @@ ghost use Rattle.at_ddp.specs.declared.address.Address.{Address};
 ghost use Rattle.at_atp_frame.specs.Frames.{Content, number_of};
 ghost use Rattle.at_atp_responder.specs.Once.{Event, Expires, Undoes, stands, hand_ups, removes, removals, is_once};
 ghost use Rattle.at_atp_responder.specs.Records.{Record, is_key, taken, record_fault, answer_fault, asked_for};
+ghost use Rattle.at_atp_responder.specs.Replies.{AllOfAnswer};
 ghost use Rattle.at_atp_responder.specs.declared.reception.Key.{Key};
 ghost use Rattle.at_atp_responder.specs.declared.reception.Reception.TheVariants.{New};
 ghost use Rattle.at_atp_frame.specs.Packets.{Packet};
+
+use crate::responder::Responder;
+use std::alloc::Allocator;
 
 /// A new request waits under its own key from then on, and nothing is sent for it.
 pub fn a_new_request_waits()
@@ -27,6 +31,12 @@ pub fn a_request_is_handed_up_once()
         → is_once r.state ≡ true → removes key rs e ≡ true → (e ≡ Expires key) ⊎ (e ≡ Undoes key) }
 {}
 
+/// All that a responder sends to the key of a request is of one answer to it, which was given since the request was
+/// delivered. Each is the packet of its place, and exactly the last packet of the answer is marked as the end.
+pub fn what_is_sent_is_of_the_answer()
+    ensures { (key : Key) (events : List Event) → AllOfAnswer key [] None events }
+{}
+
 /// No more packets are sent than the answer has.
 pub fn no_more_is_sent_than_answered()
     ensures { (o : Option Record) (key : Key) (packets : List Packet)
@@ -38,3 +48,10 @@ pub fn only_a_waiting_request_is_answered()
     ensures { (rs : List Record) (key : Key) (packets : List Packet) → answer_fault rs key packets ≡ None
         → record_fault (find (is_key key) rs) ≡ None }
 {}
+
+/// A responder has at most 64 records. The body does nothing at run time.
+pub fn at_most_64_records_stand<A: Allocator>(responder: &Responder<A>)
+    ensures { length responder.now ≤ 64 }
+{
+    let _records = &responder.records;
+}

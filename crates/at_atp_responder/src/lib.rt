@@ -1,6 +1,7 @@
 //! The side that answers, of the AppleTalk Transaction Protocol (ATP): the requests that came to one socket.
 #![tactic(auto)]
 
+mod answer_room;
 mod answering;
 pub mod laws;
 mod reception;
@@ -8,5 +9,6 @@ mod record;
 mod records;
 mod responder;
 
+pub use answer_room::AnswerRoom;
 pub use reception::{Key, Reception};
 pub use responder::Responder;

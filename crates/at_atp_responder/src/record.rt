@@ -1,4 +1,5 @@
 ghost use Rattle.std.specs.Prelude.{◌≡◌, ℕ, ◌+◌, ◌≤◌, ◌∷◌, [], length, true, false, if◌then◌else◌, IfOk, OnErr, IsOk};
+ghost use Rattle.std.specs.Prelude.{None};
 ghost use Rattle.at_ddp.specs.Outbox.{Sends, HasRoomFor};
 ghost use Rattle.at_atp_frame.specs.Frames.{Response, spelled_all};
 ghost use Rattle.at_atp_responder.specs.Records.{Waiting, Answered, fit, responses, is_key, is_from, state_fault};
@@ -123,6 +124,7 @@ impl<A: Allocator> Record<A> {
         ensures unchanged { OnErr result (self.new ≡ self.old) }
         ensures nothing_sent { OnErr result (Sends out.old out.new []) }
         ensures ignored { (repeated self.old.key bitmap self.old.state).reception ≡ Reception.Ignored → IsOk result }
+        ensures waits { state_fault self.old.state ≡ None → IsOk result }
     {
         let key = self.key;
         match &self.state {

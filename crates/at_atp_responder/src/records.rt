@@ -1,11 +1,12 @@
 ghost use Rattle.std.specs.Prelude.{◌≡◌, ◌≢◌, ◌↔◌, ◌<◌, ◌≤◌, ◌∷◌, slice_get, slice_set, [], ◌++◌, length, true, find};
-ghost use Rattle.std.specs.Prelude.{IfOk, IfErr, IfSome, OnErr, IsOk, IsErrOf, Some};
+ghost use Rattle.std.specs.Prelude.{IfOk, IfErr, IfSome, OnErr, IsOk, IsErrOf, Some, None};
 ghost use Rattle.std.specs.List.{position_from};
 ghost use Rattle.std.specs.Option.{option_copied};
 ghost use Rattle.at_ddp.specs.Outbox.{Sends};
 ghost use Rattle.at_atp_responder.specs.Records.{Record as Kept, repeated, released, request_came, release_came};
 ghost use Rattle.at_atp_responder.specs.Records.{is_new_and_full, IsRepeat, Waiting, Answered, fit, is_key, is_kept};
-ghost use Rattle.at_atp_responder.specs.Records.{record_fault, expiry_fault, asked_bitmap, after_answer, IsTaken};
+ghost use Rattle.at_atp_responder.specs.Records.{state_fault, record_fault, expiry_fault, asked_bitmap, after_answer};
+ghost use Rattle.at_atp_responder.specs.Records.{IsTaken};
 ghost use Rattle.at_ddp.specs.Tables.{replaced, without_first};
 
 use crate::reception::{Key, Reception};
@@ -86,6 +87,8 @@ pub(crate) fn take_in<A: Allocator>(
     ensures nothing_sent { OnErr result (Sends out.old out.new []) }
     ensures ignored { (request_came records.old.items key xo bitmap (find (is_key key) records.old.items)).reception
         ≡ Reception.Ignored → IsOk result }
+    ensures waits { record_fault (find (is_key key) records.old.items) ≡ None → IsOk result }
+    ensures few { length records.old.items ≤ 64 → length records.new.items ≤ 64 }
 {
     match index_of(records, key) {
         None => add(records, key, xo, bitmap),
@@ -108,6 +111,7 @@ fn add<A: Allocator>(
     ensures full { IsErrOf result AtpFault.Full ↔ (64 ≤ length records.old.items) }
     ensures memory { IfErr result (λ fault. fault ≢ AtpFault.Full → fault ≡ AtpFault.NoMemory) }
     ensures unchanged { OnErr result (records.new.items ≡ records.old.items) }
+    ensures few { length records.old.items ≤ 64 → length records.new.items ≤ 64 }
 {
     if records.len() >= RECORDS {
         return Err(AtpFault::Full);
@@ -132,6 +136,9 @@ fn repeat<A: Allocator>(
     ensures nothing_sent { OnErr result (Sends out.old out.new []) }
     ensures ignored { (old : Kept) → slice_get records.old.items index ≡ Some old
         → (repeated old.key bitmap old.state).reception ≡ Reception.Ignored → IsOk result }
+    ensures waits { (old : Kept) → slice_get records.old.items index ≡ Some old → state_fault old.state ≡ None
+        → IsOk result }
+    ensures as_many { length records.new.items ≡ length records.old.items }
 {
     let record = &mut records[index];
     record.come_again(bitmap, out)
@@ -142,6 +149,7 @@ pub(crate) fn take_release<A: Allocator>(records: &mut Vec<Record<A>, A>, key: K
     ensures reception { result ≡ (release_came records.old.items key (find (is_key key) records.old.items)).reception }
     ensures after { records.new.items
         ≡ (release_came records.old.items key (find (is_key key) records.old.items)).after }
+    ensures as_many { length records.new.items ≡ length records.old.items }
 {
     match index_of(records, key) {
         None => Reception::Ignored,
@@ -160,7 +168,8 @@ pub(crate) fn settle<A: Allocator>(
 )
     requires few { length packets ≤ 8 }
     requires fits { fit packets ≡ true }
-    ensures { records.new.items ≡ after_answer records.old.items key packets }
+    ensures settled { records.new.items ≡ after_answer records.old.items key packets }
+    ensures no_more { length records.new.items ≤ length records.old.items }
 {
     if is_kept(records, key) {
         keep(records, key, packets);
@@ -172,8 +181,9 @@ pub(crate) fn settle<A: Allocator>(
 fn keep<A: Allocator>(records: &mut Vec<Record<A>, A>, key: Key, packets: Listed<Packet<A>, A>)
     requires few { length packets ≤ 8 }
     requires fits { fit packets ≡ true }
-    ensures { records.new.items ≡ replaced (is_key key) (record { key = key; state = Answered packets })
+    ensures kept { records.new.items ≡ replaced (is_key key) (record { key = key; state = Answered packets })
         records.old.items }
+    ensures as_many { length records.new.items ≡ length records.old.items }
 {
     if let Some(index) = index_of(records, key) {
         let record = &mut records[index];
@@ -185,6 +195,7 @@ fn keep<A: Allocator>(records: &mut Vec<Record<A>, A>, key: Key, packets: Listed
 pub(crate) fn forget<A: Allocator>(records: &mut Vec<Record<A>, A>, key: Key) -> u8
     ensures gone { records.new.items ≡ without_first (is_key key) records.old.items }
     ensures bitmap { IfSome (find (is_key key) records.old.items) (λ r. result ≡ asked_bitmap r.state) }
+    ensures no_more { length records.new.items ≤ length records.old.items }
 {
     match index_of(records, key) {
         None => 0,

@@ -2,7 +2,7 @@ ghost use Rattle.std.specs.Prelude.{◌≡◌, ◌≢◌, ◌↔◌, [], true, f
 ghost use Rattle.std.specs.Prelude.{IsErrOf, None, Err};
 ghost use Rattle.std.specs.List.{list_any};
 ghost use Rattle.at_ddp.specs.Outbox.{Sends};
-ghost use Rattle.at_atp_frame.specs.Frames.{content};
+ghost use Rattle.at_atp_frame.specs.Frames.{content, number_of};
 ghost use Rattle.at_atp_responder.specs.Records.{is_from, is_key, taken, finds_no_place, record_fault, expiry_fault};
 ghost use Rattle.at_atp_responder.specs.Records.{IsTaken};
 ghost use Rattle.at_ddp.specs.Tables.{without_first};
@@ -29,6 +29,10 @@ impl<A: Allocator> Model for Responder<A> {
     ghost Value = { List Kept };
 
     ghost view = { λ r. r.records.items };
+
+    ghost use Rattle.std.specs.Prelude.{◌≤◌, length};
+
+    ghost invariant = { λ r. length r.records.items ≤ 64 };
 }
 
 impl<A: Allocator + Copy> Responder<A> {
@@ -54,9 +58,11 @@ impl<A: Allocator + Copy> Responder<A> {
         ensures unchanged { OnErr result (self.new ≡ self.old) }
         ensures nothing_sent { OnErr result (Sends out.old out.new []) }
 
-        // A packet that has no effect needs no memory, and neither does a release.
+        // A packet that has no effect needs no memory. Neither does a release, nor a repeat of a request that waits.
         ensures ignored { (taken self.old from (content frame.now)).reception ≡ Reception.Ignored → IsOk result }
         ensures released { (taken self.old from (content frame.now)).reception ≡ Reception.Released → IsOk result }
+        ensures waits { record_fault (find (is_key (record { from = from; tid = number_of (content frame.now) }))
+            self.old) ≡ None → IsOk result }
     {
         match *frame {
             Frame::Request {

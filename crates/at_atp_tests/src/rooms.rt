@@ -1,6 +1,6 @@
 //! Tests of the room that is reserved for an answer before it is given.
 use crate::shared::{ATP, exactly_once, request};
-use at_atp::{AtpFault, Frame, Key, Packet, Reception, Responder};
+use at_atp::{AnswerRoom, AtpFault, Frame, Key, Packet, Reception, Responder};
 use at_ddp::{Bytes, Datagrams, Listed, Outbox};
 use at_samples::{ASKER, SERVER};
 use refusing::Refusing;
@@ -51,6 +51,18 @@ impl<A: Allocator + Copy> Answerer<A> {
     // Answers the request, which asks for all packets.
     fn compare_respond(&mut self, rt: &impl Abort, packets: &[Packet<A>]) {
         let count = self.responder.respond(KEY, packets, &mut self.out);
+        assert_eq!(rt; count.map(usize::from), Ok(packets.len()));
+    }
+
+    fn compare_respond_within(
+        &mut self,
+        rt: &impl Abort,
+        packets: &[Packet<A>],
+        room: AnswerRoom<A>,
+    ) {
+        let count = self
+            .responder
+            .respond_within(KEY, packets, room, &mut self.out);
         assert_eq!(rt; count.map(usize::from), Ok(packets.len()));
     }
 
@@ -147,6 +159,40 @@ fn an_answer_that_is_handed_over_is_kept_without_memory(rt: HostRuntime) {
     for granted in 0..30u64 {
         let heap = Refusing::new(rt.alloc(), granted);
         let refused = is_kept_without_memory(&rt, &heap);
+        assert_eq!(rt; refused, heap.has_refused(), "after {granted} requests");
+        refusals = refusals.saturating_add(u32::from(refused));
+    }
+    assert!(rt; 2 < refusals && refusals < 30, "{refusals} refusals");
+}
+
+// Takes memory for a copy and reserves room, then copies an answer that is kept, with one request for memory refused.
+// Returns whether memory ran out before the answer was given.
+fn is_copied_without_memory<A: Allocator + Copy>(
+    rt: &impl Abort,
+    packets: &[Packet<A>],
+    alloc: A,
+) -> bool {
+    let mut answerer = Answerer::new(alloc);
+    if answerer.receive(&exactly_once(0xFF, KEY.tid)).is_err() {
+        return true;
+    }
+    let Ok(room) = AnswerRoom::new(alloc) else {
+        return true;
+    };
+    let refused = make_room(rt, &mut answerer);
+    answerer.compare_respond_within(rt, packets, room);
+    refused
+}
+
+#[test]
+fn an_answer_that_is_copied_is_kept_without_memory_once_there_is_room(rt: HostRuntime) {
+    let mut refusals = 0u32;
+    for granted in 0..30u64 {
+        let heap = Refusing::new(rt.alloc(), granted);
+        let refused = match largest(rt.alloc(), &heap) {
+            Ok(packets) => is_copied_without_memory(&rt, &packets, &heap),
+            Err(AllocError) => true,
+        };
         assert_eq!(rt; refused, heap.has_refused(), "after {granted} requests");
         refusals = refusals.saturating_add(u32::from(refused));
     }

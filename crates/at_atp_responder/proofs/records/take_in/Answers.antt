@@ -1,6 +1,6 @@
 use Rattle.at_atp_responder.specs.Records.{is_key}
 use Rattle.at_ddp.proofs.TableLemmas.{found_by, none_by}
-use Rattle.at_atp_responder.proofs.RecordLemmas.{taken_new_in, taken_again, full_if, full_then, not_new, new_not_ignored, again_ignored}
+use Rattle.at_atp_responder.proofs.RecordLemmas.{taken_new_in, taken_again, full_if, full_then, not_new, new_not_ignored, again_ignored, new_not_waiting, again_waiting}
 use Rattle.at_atp_responder.proofs.records.take_in.Goals as goal
 
 pub repeat-requires : goal.repeat-requires
@@ -39,3 +39,13 @@ returns-in-Err-clause-ignored g c = λ h.
     let f = found_by (is_key c.args.key) c.args.records.now.items c.deref.result.now c.index_of.result c.in-Some.index c.deref.ensures.value c.index_of.ensures c.in-Some.is in
     let again = again_ignored c.args.records.now.items c.args.key c.args.xo c.args.bitmap c.in-Some.index f h in
     c.in-Err.ensures.ignored f.entry again.0 again.1
+
+pub returns-in-None-clause-waits : goal.returns-in-None-clause-waits
+returns-in-None-clause-waits g c = λ h. absurd (new_not_waiting c.args.records.now.items c.args.key
+    (none_by (is_key c.args.key) c.args.records.now.items c.deref.result.now c.index_of.result c.deref.ensures.value c.index_of.ensures c.in-None.is) h)
+
+pub returns-in-Err-clause-waits : goal.returns-in-Err-clause-waits
+returns-in-Err-clause-waits g c = λ h.
+    let f = found_by (is_key c.args.key) c.args.records.now.items c.deref.result.now c.index_of.result c.in-Some.index c.deref.ensures.value c.index_of.ensures c.in-Some.is in
+    let waits = again_waiting c.args.records.now.items c.args.key c.in-Some.index f h in
+    c.in-Err.ensures.waits f.entry waits.0 waits.1

@@ -1,8 +1,10 @@
-use Rattle.std.proofs.Common.{◌≡◌, sym, ap, ◌∙◌, arith}
+use Rattle.std.proofs.Common.{◌≡◌, sym, ap, subst, ◌∙◌, arith}
 use Rattle.std.specs.List.{position_from}
 use Rattle.std.proofs.lemmas.Bool.{true≢false}
 use Rattle.std.proofs.lemmas.List.{length-set}
-use Rattle.at_atp_requester.specs.Requests.{Requests, is_of}
+use Rattle.at_atp_frame.specs.Frames.{Response}
+use Rattle.at_atp_requester.specs.Requests.{Requests, IsRequester, is_of}
+use Rattle.at_atp_requester.proofs.DifferLemmas.{heard_lawful}
 use Rattle.at_ddp.proofs.TableLemmas.{found_by, not_found}
 use Rattle.at_atp_requester.proofs.StepLemmas.{heard_none, heard_some, no_effect_some}
 use Rattle.at_atp_requester.proofs.requester.Requester.receive.Goals as goal
@@ -32,3 +34,13 @@ returns-in_err-step-clause-ignored g c =
     let entry : c.index_mut-transaction.result.now ≡ f.entry = c.index_mut-transaction.ensures.value ∙ f.at c.index_mut-transaction.result.now in
     let refused = rw entry at c.in_err-step.ensures.ignored in
     rw (← c.self.view_is, c.in-Response.is) (λ h. absurd (true≢false (sym (refused (no_effect_some _ (record { next = c.self.inside.next; standing = c.self.inside.standing.items }) c.args.from _ _ _ _ _ _ c.in-Some.index f h)))))
+
+pub invariant_of-self-2 : goal.invariant_of-self-2
+invariant_of-self-2 g c =
+    let r : Requests = record { next = c.self.inside.next; standing = c.self.inside.standing.items } in
+    let f = found_by (is_of c.in-Response.tid c.args.from) c.self.inside.standing.items c.deref.result.now c.index_of.result c.in-Some.index c.deref.ensures.value c.index_of.ensures c.in-Some.is in
+    let entry : c.index_mut-transaction.result.now ≡ f.entry = c.index_mut-transaction.ensures.value ∙ f.at c.index_mut-transaction.result.now in
+    let e = rw entry at c.in_ok-step.ensures.ok in
+    let h = heard_some r c.args.from _ _ _ _ _ _ c.in-Some.index c.in_ok-step.step c.take_in.new.self c.settle.new.standing.items c.args.out.now c.take_in.new.out f e c.settle.ensures in
+    subst IsRequester (sym h.is_new) (heard_lawful g.row.A.Denot r c.args.from
+    (Response c.in-Response.place c.in-Response.eom c.in-Response.sts c.in-Response.tid c.in-Response.user c.in-Response.data_.now) c.self.invariant)

@@ -1,5 +1,9 @@
-use Rattle.std.proofs.Common.{◌≡◌, refl, sym, ◌∙◌, arith}
-use Rattle.at_atp_requester.specs.Requests.{Requests, is_numbered}
+use Rattle.std.proofs.Common.{◌≡◌, refl, sym, ap, subst, ◌∙◌, arith}
+use Rattle.std.proofs.lemmas.Bool.{eqb-true}
+use Rattle.at_ddp.specs.Tables.{without_first}
+use Rattle.at_atp_requester.specs.Requests.{Requests, Transaction, IsRequester, is_numbered}
+use Rattle.at_atp_requester.proofs.DifferLemmas.{set_lawful, without_lawful}
+use Rattle.at_atp_requester.proofs.StepLemmas.{remove-set}
 use Rattle.at_atp_requester.proofs.RetryLemmas.{not_open, is_open, asked_again, closed, not_closing, closes_nothing}
 use Rattle.at_ddp.proofs.TableLemmas.{found_by, none_by}
 use Rattle.at_atp_requester.proofs.requester.Requester.retry.Goals as goal
@@ -65,3 +69,18 @@ returns-in-Ok-false-clause-missing g c =
     let r : Requests = record { next = c.self.inside.next; standing = c.self.inside.standing.items } in
     let f = found_by (is_numbered c.args.tid) c.self.inside.standing.items c.deref.result.now c.index_numbered.result c.in-Some.index c.deref.ensures.value c.index_numbered.ensures.first c.in-Some.is in
     rw (← c.self.view_is) (λ wrong. absurd (cc), λ none. absurd (is_open r c.args.tid c.in-Some.index f none))
+
+pub invariant_of-self-in-Ok-true : goal.invariant_of-self-in-Ok-true
+invariant_of-self-in-Ok-true g c =
+    let r : Requests = record { next = c.self.inside.next; standing = c.self.inside.standing.items } in
+    let f = found_by (is_numbered c.args.tid) c.self.inside.standing.items c.deref.result.now c.index_numbered.result c.in-Some.index c.deref.ensures.value c.index_numbered.ensures.first c.in-Some.is in
+    let entry : c.index_mut-transaction.result.now ≡ f.entry = c.index_mut-transaction.ensures.value ∙ f.at c.index_mut-transaction.result.now in
+    let same : (c.take_retry.new.self).tid ≡ (f.entry).tid = ap (λ (t : Transaction). t.tid) c.in-Ok-true.ensures.state ∙ ap (λ (t : Transaction). t.tid) entry in
+    set_lawful r c.args.tid c.in-Some.index (is_numbered c.args.tid) c.take_retry.new.self (λ x p. eqb-true x.tid c.args.tid p) f same c.self.invariant
+
+pub invariant_of-self-in-Ok-false : goal.invariant_of-self-in-Ok-false
+invariant_of-self-in-Ok-false g c =
+    let r : Requests = record { next = c.self.inside.next; standing = c.self.inside.standing.items } in
+    let f = found_by (is_numbered c.args.tid) c.self.inside.standing.items c.deref.result.now c.index_numbered.result c.in-Some.index c.deref.ensures.value c.index_numbered.ensures.first c.in-Some.is in
+    let gone : c.remove.new.self.items ≡ without_first (is_numbered c.args.tid) c.self.inside.standing.items = c.remove.ensures.items ∙ remove-set c.self.inside.standing.items c.in-Some.index c.take_retry.new.self ∙ sym f.gone_is in
+    subst (λ l. IsRequester (record { next = c.self.inside.next; standing = l })) (sym gone) (without_lawful r (is_numbered c.args.tid) c.self.invariant)

@@ -1,10 +1,13 @@
 use Rattle.std.proofs.Common.{◌≡◌, false, [], ◌∷◌, Some, sym, ap, subst, ◌∙◌, arith, rules}
-use Rattle.std.specs.Prelude.{set}
+use Rattle.std.specs.Prelude.{set, remove}
 use Rattle.std.proofs.lemmas.List.{set-get_or, length-set}
 use Rattle.at_ddp.specs.Outbox.{Outbox, HasRoomFor, Sends}
 use Rattle.at_atp_frame.specs.Frames.{Content, content, spelled}
-use Rattle.at_atp_requester.specs.Requests.{Requests, Transaction, is_of, begun, beginning, request_by}
+use Rattle.at_atp_requester.specs.Requests.{Requests, Transaction, is_of, has_number, begun, beginning, request_by}
 use Rattle.at_ddp.proofs.OutboxLemmas.{sends_later}
+use Rattle.at_atp_requester.proofs.DifferLemmas.{set_lawful}
+use Rattle.at_atp_requester.proofs.OpenLemmas.{drawn_free}
+use Rattle.at_atp_requester.proofs.StayLemmas.{of_number}
 use Rattle.at_atp_requester.proofs.StepLemmas.{remove-set}
 use Rattle.at_ddp.proofs.TableLemmas.{found_by, some_by}
 use Rattle.at_atp_requester.proofs.TurnLemmas.{finishes_some, ended_at, heard_end}
@@ -60,11 +63,25 @@ unwrap-requires g c =
     let untouched : c.finish.new.out ≡ c.room.new.self = c.in_ok-step.ensures.untouched once in
     (c.send.ensures.room 0 586 (subst (λ (o : Outbox). HasRoomFor o 1 586) (sym untouched) c.in_ok-room.ensures.ok) (omega (arith, c.request.ensures.fits))).0
 
-pub pass_on-requires : goal.pass_on-requires
-pass_on-requires g c =
+pub pass_on-requires-clause-within : goal.pass_on-requires-clause-within
+pass_on-requires-clause-within g c =
     let r : Requests = record { next = c.self.inside.next; standing = c.self.inside.standing.items } in
     let f = found_by (is_of c.unwrap-tid.result.0 c.args.from) r.standing c.deref.result.now c.index_of.result c.unwrap-index.result c.deref.ensures.value c.index_of.ensures c.unwrap-index.ensures in
     omega (arith, f.within, length-set r.standing c.unwrap-index.result c.finish.new.self)
+
+pub pass_on-requires-clause-fresh : goal.pass_on-requires-clause-fresh
+pass_on-requires-clause-fresh g c =
+    let r : Requests = record { next = c.self.inside.next; standing = c.self.inside.standing.items } in
+    let free = drawn_free (record r { standing = remove r.standing c.unwrap-index.result }) c.in_ok-next.next.tid (rw (← c.self.view_is) at c.in_ok-next.ensures.drawn) in
+    ap (λ l. has_number l c.in_ok-next.next.tid) (remove-set r.standing c.unwrap-index.result c.finish.new.self) ∙ free
+
+pub invariant_of-self-2 : goal.invariant_of-self-2
+invariant_of-self-2 g c =
+    let r : Requests = record { next = c.self.inside.next; standing = c.self.inside.standing.items } in
+    let f = found_by (is_of c.unwrap-tid.result.0 c.args.from) r.standing c.deref.result.now c.index_of.result c.unwrap-index.result c.deref.ensures.value c.index_of.ensures c.unwrap-index.ensures in
+    let entry : c.index_mut-ended.result.now ≡ f.entry = c.index_mut-ended.ensures.value ∙ f.at c.index_mut-ended.result.now in
+    let same : (c.finish.new.self).tid ≡ (f.entry).tid = c.finish.ensures.number ∙ ap (λ (t : Transaction). t.tid) entry in
+    set_lawful r c.unwrap-tid.result.0 c.unwrap-index.result (is_of c.unwrap-tid.result.0 c.args.from) c.finish.new.self (λ x p. of_number c.unwrap-tid.result.0 c.args.from x p) f same c.self.invariant
 
 pub returns-clause-step : goal.returns-clause-step
 returns-clause-step g c =

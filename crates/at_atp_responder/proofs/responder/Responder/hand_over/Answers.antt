@@ -15,4 +15,4 @@ returns-clause-ok g c =
     answered_by c.args.self.now c.settle.new.records.items c.args.key c.args.packets c.send_answer-count.result c.bitmap_of-bitmap.result c.args.out.now c.room.new.self c.send_answer-count.new.out free masked c.room.ensures.stays
     (subst (λ (packets : List Packet). Sends c.room.new.self c.send_answer-count.new.out (spelled_all (responses c.args.key 0 c.bitmap_of-bitmap.result packets))) c.as_slice-answer.ensures c.send_answer-count.ensures.sent)
     (c.send_answer-count.ensures.count ∙ ap (λ packets. length (responses c.args.key 0 c.bitmap_of-bitmap.result packets)) c.as_slice-answer.ensures)
-    (c.settle.ensures ∙ ap (λ rs. after_answer rs c.args.key c.args.packets) c.self.view_is)
+    (c.settle.ensures.settled ∙ ap (λ rs. after_answer rs c.args.key c.args.packets) c.self.view_is)

@@ -1,0 +1,70 @@
+ghost use Rattle.std.specs.Prelude.{◌≡◌, ◌≤◌, length, true, IfOk, vec_len, vec_capacity};
+ghost use Rattle.at_atp_responder.specs.Records.{fit};
+
+use at_atp_frame::{MAX_DATA, Packet};
+use at_ddp::{Bytes, Listed};
+use std::alloc::{AllocError, Allocator, Global};
+
+// The most packets of an answer.
+const PACKETS: usize = 8;
+
+/// Memory for a copy of any answer.
+#[derive(Drop)]
+pub struct AnswerRoom<A: Allocator = Global> {
+    list: Vec<Packet<A>, A>,
+    places: Vec<Place<A>, A>,
+    ghost empty: { vec_len list ≡ 0 },
+    ghost holds: { 8 ≤ vec_capacity list },
+    ghost places_for: { 8 ≤ vec_len places },
+}
+
+// Memory for the data of one packet.
+#[derive(Drop)]
+struct Place<A: Allocator> {
+    bytes: Vec<u8, A>,
+    ghost empty: { vec_len bytes ≡ 0 },
+    ghost holds: { 578 ≤ vec_capacity bytes },
+}
+
+impl<A: Allocator> Place<A> {
+    // A copy of the packet, at this place.
+    fn copy(self, packet: &Packet<A>) -> Packet<A>
+        requires { length packet.now.data_ ≤ 578 }
+        ensures { result ≡ packet.now }
+    {
+        let mut bytes = self.bytes;
+        bytes.extend_from_slice(packet.data_()).unwrap();
+        Packet::new(packet.user(), Bytes::from_vec(bytes))
+    }
+}
+
+impl<A: Allocator + Copy> AnswerRoom<A> {
+    /// Takes the memory. The error is out of memory.
+    pub fn new(alloc: A) -> Result<AnswerRoom<A>, AllocError>
+        ensures packets { IfOk result (λ room. 8 ≤ vec_capacity room.list) }
+        ensures places { IfOk result (λ room. 8 ≤ vec_len room.places) }
+    {
+        let list = Vec::with_capacity(alloc, PACKETS)?;
+        let mut places = Vec::with_capacity(alloc, PACKETS)?;
+        for _ in 0..PACKETS {
+            let bytes = Vec::with_capacity(alloc, MAX_DATA)?;
+            places.push_reserved(Place { bytes });
+        }
+        Ok(AnswerRoom { list, places })
+    }
+
+    // A copy of the packets. This needs no memory.
+    pub(crate) fn copy(self, packets: &[Packet<A>]) -> Listed<Packet<A>, A>
+        requires few { length packets.now ≤ 8 }
+        requires fits { fit packets.now ≡ true }
+        ensures { result ≡ packets.now }
+    {
+        let mut list = self.list;
+        let mut places = self.places;
+        for packet in packets {
+            let place = places.pop().unwrap();
+            list.push_reserved(place.copy(packet));
+        }
+        Listed::from_vec(list)
+    }
+}
