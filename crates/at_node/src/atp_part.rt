@@ -1,7 +1,7 @@
 ghost use Rattle.std.specs.Prelude.{◌≡◌, Option, None};
 ghost use Rattle.at_ddp.specs.Datagram.{content};
 ghost use Rattle.at_node.specs.AtpHearing.{HearsAtp};
-ghost use Rattle.at_node.specs.AtpParts.{opening};
+ghost use Rattle.at_node.specs.AtpParts.{atp_kind, opening};
 ghost use Rattle.at_node.specs.Outcomes.{Comes};
 ghost use Rattle.at_node.specs.ServiceSocket.{Serves};
 ghost use Rattle.at_node.specs.declared.service.Reply.{Reply as Said};
@@ -13,10 +13,11 @@ use crate::service::Service;
 use crate::service_socket::SERVICE_SOCKET;
 use crate::zone_socket::ZONE_SOCKET;
 use at_atp::{Requester, Responder};
-use at_ddp::{Datagram, Datagrams};
+use at_ddp::{Address, Datagram, Datagrams, Outbox};
 use at_zip::Zones;
 use std::alloc::Allocator;
 use std::marker::Model;
+use std::mem;
 
 /// The protocol of ATP's datagrams.
 pub(crate) const ATP: u8 = 3;
@@ -88,4 +89,18 @@ impl<A: Allocator + Copy> AtpPart<A> {
         }
         Report::Ignored
     }
+}
+
+// An outbox of one of the part's sockets, over a list that is empty until the outbox gives it back.
+pub(crate) fn outbox_over<A: Allocator + Copy>(
+    alloc: A,
+    own: Address,
+    list: &mut Datagrams<A>,
+) -> Outbox<A>
+    ensures items { result.items ≡ list.old.items }
+    ensures from { result.from ≡ own }
+    ensures kind { result.kind ≡ atp_kind }
+    ensures room { result.room ≡ list.old.room }
+{
+    Outbox::over(mem::replace(list, Datagrams::new(alloc)), own, ATP)
 }

@@ -5,6 +5,7 @@ mod atp_part;
 mod drawing;
 mod event;
 mod fault;
+mod incoming;
 pub mod laws;
 mod node;
 mod packet_count;

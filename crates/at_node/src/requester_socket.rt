@@ -2,7 +2,7 @@ ghost use Rattle.std.specs.Prelude.{◌≡◌, ◌≢◌, ◌↔◌, ℕ, ◌<�
 ghost use Rattle.std.specs.Prelude.{IfOk, IfErr, IfSome, IsOk, OnErr, IsErrOf, true, false};
 ghost use Rattle.at_ddp.specs.Datagram.{content as written};
 ghost use Rattle.at_atp_frame.specs.Frames.{Response, content, spelled, spelled_all};
-ghost use Rattle.at_atp_requester.specs.Requests.{Heard, Retried, next_number, beginning, begun, request_by};
+ghost use Rattle.at_atp_requester.specs.Requests.{Retried, next_number, beginning, begun, request_by};
 ghost use Rattle.at_atp_requester.specs.Requests.{is_ignored, heard, retried};
 ghost use Rattle.at_node.specs.AtpHearing.{AtSocket, HearsAt, Requester as RequesterSocket};
 ghost use Rattle.at_node.specs.AtpParts.{atp_kind, tid_of};
@@ -12,14 +12,14 @@ ghost use Rattle.at_node.specs.ServiceSocket.{is_asked};
 ghost use Rattle.at_node.specs.ZoneReading.{is_reading};
 ghost use Rattle.at_node.specs.declared.service.Reply.{Reply as Said};
 
-use crate::atp_part::{ATP, AtpPart};
+use crate::atp_part::{AtpPart, outbox_over};
 use crate::event::Report;
+use crate::incoming::Incoming;
 use crate::node::refused;
 use crate::seat::Seat;
 use at_atp::{AtpFault, Frame, Requester, Retry, Step};
-use at_ddp::{Address, Datagram, Datagrams, Outbox};
+use at_ddp::{Address, Datagram, Datagrams};
 use std::alloc::{AllocError, Allocator};
-use std::mem;
 
 /// The socket that asks, for the node's own transactions.
 pub(crate) const REQUESTER_SOCKET: u8 = 128;
@@ -80,55 +80,44 @@ impl<A: Allocator + Copy> AtpPart<A> {
             result self.new out.new.items }
         ensures not_asked { is_asked result ≡ false }
     {
-        match at_atp::decode(datagram.data_) {
-            Ok(frame) => self.take_response(seat, datagram.from, &frame, out),
+        match Incoming::in_datagram(seat, datagram) {
+            Ok(packet) => self.take_response(&packet, out),
             Err(fault) => refused(fault.number()),
         }
     }
 
-    fn take_response(
-        &mut self,
-        seat: Seat,
-        from: Address,
-        frame: &Frame<'_>,
-        out: &mut Datagrams<A>,
-    ) -> Report<A>
+    fn take_response(&mut self, packet: &Incoming<'_>, out: &mut Datagrams<A>) -> Report<A>
         ensures comes { (said : Said A)
-            → Comes (AtSocket said seat self.old from (Some RequesterSocket) (content frame.now)) self.old out.old.items
-            result self.new out.new.items }
+            → Comes (AtSocket said packet.now.seat self.old packet.now.from (Some RequesterSocket)
+            (content packet.now.frame)) self.old out.old.items result self.new out.new.items }
         ensures not_asked { is_asked result ≡ false }
     {
-        match frame {
+        match packet.frame {
             Frame::Response {
                 tid,
                 user,
                 data_,
                 ..
-            } if self.reading == Some(*tid) => self.take_page(seat, from, frame, *user, data_, out),
-            _ => self.take_other(seat, from, frame, out),
+            } if self.reading == Some(tid) => self.take_page(packet, user, data_, out),
+            _ => self.take_other(packet, out),
         }
     }
 
     // Takes a packet that is not of the transaction that reads the zone list.
-    fn take_other(
-        &mut self,
-        seat: Seat,
-        from: Address,
-        frame: &Frame<'_>,
-        out: &mut Datagrams<A>,
-    ) -> Report<A>
+    fn take_other(&mut self, packet: &Incoming<'_>, out: &mut Datagrams<A>) -> Report<A>
         requires { (place : ℕ) (eom sts : Bool) (tid : ℕ) (user data_ : List ℕ)
-            → content frame.now ≡ Response place eom sts tid user data_ → is_reading self.old.reading tid ≡ false }
+            → content packet.now.frame ≡ Response place eom sts tid user data_
+            → is_reading self.old.reading tid ≡ false }
         ensures comes { (said : Said A)
-            → Comes (AtSocket said seat self.old from (Some RequesterSocket) (content frame.now)) self.old out.old.items
-            result self.new out.new.items }
+            → Comes (AtSocket said packet.now.seat self.old packet.now.from (Some RequesterSocket)
+            (content packet.now.frame)) self.old out.old.items result self.new out.new.items }
         ensures not_asked { is_asked result ≡ false }
     {
-        let own = seat.at(REQUESTER_SOCKET);
-        let Ok(step) = hear(self.alloc, &mut self.requester, own, from, frame, out) else {
+        let own = packet.seat.at(REQUESTER_SOCKET);
+        let Ok(step) = hear(self.alloc, &mut self.requester, own, packet, out) else {
             return Report::NoMemory;
         };
-        reported_other(tid_of(frame), step)
+        reported_other(tid_of(&packet.frame), step)
     }
 }
 
@@ -172,7 +161,7 @@ pub(crate) fn begin<A: Allocator + Copy>(
         exactly_once,
         retries,
     } = *question;
-    let mut outbox = Outbox::over(mem::replace(out, Datagrams::new(alloc)), own, ATP);
+    let mut outbox = outbox_over(alloc, own, out);
     let begun = requester.begin(to, user, bytes, wanted, exactly_once, retries, &mut outbox);
     *out = outbox.into_list();
     begun
@@ -194,7 +183,7 @@ fn retry<A: Allocator + Copy>(
     ensures unchanged { OnErr result (requester.new ≡ requester.old) }
     ensures nothing_sent { OnErr result (out.new.items ≡ out.old.items) }
 {
-    let mut outbox = Outbox::over(mem::replace(out, Datagrams::new(alloc)), own, ATP);
+    let mut outbox = outbox_over(alloc, own, out);
     let step = requester.retry(tid, &mut outbox);
     *out = outbox.into_list();
     step
@@ -205,21 +194,24 @@ pub(crate) fn hear<A: Allocator + Copy>(
     alloc: A,
     requester: &mut Requester<A>,
     own: Address,
-    from: Address,
-    frame: &Frame<'_>,
+    packet: &Incoming<'_>,
     out: &mut Datagrams<A>,
 ) -> Result<Step<A>, AllocError>
-    ensures step { IfOk result (λ step. step ≡ (heard requester.old from (content frame.now)).step) }
-    ensures state { IfOk result (λ step. requester.new ≡ (heard {A = A} requester.old from (content frame.now)).after) }
+    ensures step { IfOk result
+        (λ step. step ≡ (heard requester.old packet.now.from (content packet.now.frame)).step) }
+    ensures state { IfOk result
+        (λ step. requester.new ≡ (heard {A = A} requester.old packet.now.from (content packet.now.frame)).after) }
     ensures sent { IfOk result
         (λ step. out.new.items ≡ out.old.items ++ map posted
-        (sent_by own atp_kind (spelled_all (heard {A = A} requester.old from (content frame.now)).sent))) }
+        (sent_by own atp_kind
+        (spelled_all (heard {A = A} requester.old packet.now.from (content packet.now.frame)).sent))) }
     ensures unchanged { OnErr result (requester.new ≡ requester.old) }
     ensures nothing_sent { OnErr result (out.new.items ≡ out.old.items) }
-    ensures ignored { is_ignored (heard {A = A} requester.old from (content frame.now)).step ≡ true → IsOk result }
+    ensures ignored { is_ignored (heard {A = A} requester.old packet.now.from (content packet.now.frame)).step ≡ true
+        → IsOk result }
 {
-    let mut outbox = Outbox::over(mem::replace(out, Datagrams::new(alloc)), own, ATP);
-    let step = requester.receive(from, frame, &mut outbox);
+    let mut outbox = outbox_over(alloc, own, out);
+    let step = requester.receive(packet.from, &packet.frame, &mut outbox);
     *out = outbox.into_list();
     step
 }

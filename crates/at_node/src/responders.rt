@@ -7,15 +7,15 @@ ghost use Rattle.at_node.specs.Outcomes.{posted, sent_by};
 ghost use Rattle.at_node.specs.Responders.{is_release, release_fired, released_report};
 ghost use Rattle.at_node.specs.ServiceSocket.{is_asked};
 
-use crate::atp_part::{ATP, AtpPart};
+use crate::atp_part::{AtpPart, outbox_over};
 use crate::event::Report;
+use crate::incoming::Incoming;
 use crate::node::refused;
 use crate::service_socket::SERVICE_SOCKET;
 use crate::zone_socket::ZONE_SOCKET;
-use at_atp::{AtpFault, Frame, Key, Packet, Reception, Responder};
-use at_ddp::{Address, Datagrams, Outbox};
+use at_atp::{AtpFault, Key, Packet, Reception, Responder};
+use at_ddp::{Address, Datagrams};
 use std::alloc::Allocator;
-use std::mem;
 
 impl<A: Allocator + Copy> AtpPart<A> {
     // Removes the record of a request, at the service's socket or at the zone socket.
@@ -40,24 +40,26 @@ pub(crate) fn take<A: Allocator + Copy>(
     alloc: A,
     records: &mut Responder<A>,
     own: Address,
-    from: Address,
-    frame: &Frame<'_>,
+    packet: &Incoming<'_>,
     out: &mut Datagrams<A>,
 ) -> Result<Reception, AtpFault>
-    ensures reception { IfOk result (λ r. r ≡ (taken records.old from (content frame.now)).reception) }
-    ensures state { OnOk result (records.new ≡ (taken records.old from (content frame.now)).after) }
+    ensures reception { IfOk result
+        (λ r. r ≡ (taken records.old packet.now.from (content packet.now.frame)).reception) }
+    ensures state { OnOk result (records.new ≡ (taken records.old packet.now.from (content packet.now.frame)).after) }
     ensures sent { OnOk result
         (out.new.items ≡ out.old.items ++ map posted
-        (sent_by own atp_kind (spelled_all (taken records.old from (content frame.now)).sent))) }
-    ensures full { IsErrOf result AtpFault.Full ↔ (finds_no_place records.old from (content frame.now) ≡ true) }
+        (sent_by own atp_kind (spelled_all (taken records.old packet.now.from (content packet.now.frame)).sent))) }
+    ensures full { IsErrOf result AtpFault.Full
+        ↔ (finds_no_place records.old packet.now.from (content packet.now.frame) ≡ true) }
     ensures memory { IfErr result (λ fault. fault ≢ AtpFault.Full → fault ≡ AtpFault.NoMemory) }
-    ensures ignored { (taken records.old from (content frame.now)).reception ≡ Reception.Ignored → IsOk result }
+    ensures ignored { (taken records.old packet.now.from (content packet.now.frame)).reception ≡ Reception.Ignored
+        → IsOk result }
     ensures unchanged { OnErr result (records.new ≡ records.old) }
     ensures nothing_sent { OnErr result (out.new.items ≡ out.old.items) }
-    ensures release { is_release (content frame.now) ≡ true → IsOk result }
+    ensures release { is_release (content packet.now.frame) ≡ true → IsOk result }
 {
-    let mut outbox = Outbox::over(mem::replace(out, Datagrams::new(alloc)), own, ATP);
-    let reception = records.receive(from, frame, &mut outbox);
+    let mut outbox = outbox_over(alloc, own, out);
+    let reception = records.receive(packet.from, &packet.frame, &mut outbox);
     *out = outbox.into_list();
     reception
 }
@@ -81,7 +83,7 @@ pub(crate) fn answer<A: Allocator + Copy>(
     ensures unchanged { OnErr result (records.new ≡ records.old) }
     ensures nothing_sent { OnErr result (out.new.items ≡ out.old.items) }
 {
-    let mut outbox = Outbox::over(mem::replace(out, Datagrams::new(alloc)), own, ATP);
+    let mut outbox = outbox_over(alloc, own, out);
     let answered = records.respond(key, packets, &mut outbox);
     *out = outbox.into_list();
     answered
@@ -92,18 +94,17 @@ pub(crate) fn release<A: Allocator + Copy>(
     alloc: A,
     records: &mut Responder<A>,
     own: Address,
-    from: Address,
-    frame: &Frame<'_>,
+    packet: &Incoming<'_>,
     out: &mut Datagrams<A>,
 ) -> Report<A>
-    requires { is_release (content frame.now) ≡ true }
-    ensures report { result ≡ released_report (taken records.old from (content frame.now)).reception }
-    ensures state { records.new ≡ (taken records.old from (content frame.now)).after }
+    requires { is_release (content packet.now.frame) ≡ true }
+    ensures report { result ≡ released_report (taken records.old packet.now.from (content packet.now.frame)).reception }
+    ensures state { records.new ≡ (taken records.old packet.now.from (content packet.now.frame)).after }
     ensures sent { out.new.items ≡ out.old.items ++ map posted
-        (sent_by own atp_kind (spelled_all (taken records.old from (content frame.now)).sent)) }
+        (sent_by own atp_kind (spelled_all (taken records.old packet.now.from (content packet.now.frame)).sent)) }
     ensures not_asked { is_asked result ≡ false }
 {
-    match take(alloc, records, own, from, frame, out).unwrap() {
+    match take(alloc, records, own, packet, out).unwrap() {
         Reception::Released => Report::Released,
         _ => Report::Ignored,
     }

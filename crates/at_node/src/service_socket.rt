@@ -12,8 +12,9 @@ ghost use Rattle.at_node.specs.declared.seat.Seat.{Seat as Place};
 ghost use Rattle.at_node.specs.declared.service.Reply.{Reply as Said};
 ghost use Rattle.at_node.specs.AtpParts.{serving};
 
-use crate::atp_part::{ATP, AtpPart};
+use crate::atp_part::{AtpPart, outbox_over};
 use crate::event::Report;
+use crate::incoming::Incoming;
 use crate::node::refused;
 use crate::responders::{answer, release, take};
 use crate::seat::Seat;
@@ -21,7 +22,6 @@ use crate::service::{Reply, Service};
 use at_atp::{Frame, Key, Packet, Reception, Responder};
 use at_ddp::{Address, Bytes, Datagram, Datagrams, Outbox};
 use std::alloc::{AllocError, Allocator};
-use std::mem;
 
 /// The socket of the node's service.
 pub(crate) const SERVICE_SOCKET: u8 = 129;
@@ -65,37 +65,28 @@ impl<A: Allocator + Copy> AtpPart<A> {
             result self.new out.new.items
             × Serves S.serves result said service.old service.new }
     {
-        match at_atp::decode(datagram.data_) {
-            Ok(frame) => self.take_packet(seat, service, datagram.from, &frame, out),
+        match Incoming::in_datagram(seat, datagram) {
+            Ok(packet) => self.take_packet(service, &packet, out),
             Err(fault) => refused(fault.number()),
         }
     }
 
     fn take_packet<S: Service<A>>(
         &mut self,
-        seat: Seat,
         service: &mut S,
-        from: Address,
-        frame: &Frame<'_>,
+        packet: &Incoming<'_>,
         out: &mut Datagrams<A>,
     ) -> Report<A>
         ensures { (said : Said A)
-            × Comes (AtSocket said seat self.old from (Some Heard.Service) (content frame.now)) self.old out.old.items
-            result self.new out.new.items
+            × Comes (AtSocket said packet.now.seat self.old packet.now.from (Some Heard.Service)
+            (content packet.now.frame)) self.old out.old.items result self.new out.new.items
             × Serves S.serves result said service.old service.new }
     {
-        let own = seat.at(SERVICE_SOCKET);
-        if let Frame::Release { .. } = frame {
-            return release(
-                self.alloc,
-                &mut self.service_responder,
-                own,
-                from,
-                frame,
-                out,
-            );
+        let own = packet.seat.at(SERVICE_SOCKET);
+        if let Frame::Release { .. } = packet.frame {
+            return release(self.alloc, &mut self.service_responder, own, packet, out);
         }
-        let Frame::Request { user, data_, .. } = frame else {
+        let Frame::Request { user, data_, .. } = packet.frame else {
             return Report::Ignored;
         };
         take_request(
@@ -103,9 +94,8 @@ impl<A: Allocator + Copy> AtpPart<A> {
             &mut self.service_responder,
             service,
             own,
-            from,
-            frame,
-            *user,
+            packet,
+            user,
             data_,
             out,
         )
@@ -118,19 +108,18 @@ fn take_request<A: Allocator + Copy, S: Service<A>>(
     records: &mut Responder<A>,
     service: &mut S,
     own: Address,
-    from: Address,
-    frame: &Frame<'_>,
+    packet: &Incoming<'_>,
     user: [u8; 4],
     bytes: &[u8],
     out: &mut Datagrams<A>,
 ) -> Report<A>
     ensures { (said : Said A)
         × ((s : Place) (a : AtpState) → a.service_responder ≡ records.old → serving s.net s.number ≡ own →
-        IsStep (service_asked s a from (content frame.now) user bytes.now said) a out.old.items result
+        IsStep (service_asked s a packet.now.from (content packet.now.frame) user bytes.now said) a out.old.items result
         (record a { service_responder = records.new }) out.new.items)
         × Serves S.serves result said service.old service.new }
 {
-    match take(alloc, records, own, from, frame, out) {
+    match take(alloc, records, own, packet, out) {
         Err(fault) => refused(fault.number()),
         Ok(Reception::Ignored) => Report::Ignored,
         Ok(Reception::Again(_)) => Report::Again,
@@ -171,7 +160,7 @@ fn hand_up<A: Allocator + Copy, S: Service<A>>(
 {
     // The copy comes first: a delivery to the service cannot be taken back.
     let copy = Bytes::copy_of(alloc, bytes)?;
-    let mut outbox = Outbox::over(mem::replace(out, Datagrams::new(alloc)), own, ATP);
+    let mut outbox = outbox_over(alloc, own, out);
     let replied = reply(records, service, key, user, bytes, &mut outbox);
     *out = outbox.into_list();
     match replied {

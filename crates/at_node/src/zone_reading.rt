@@ -12,11 +12,12 @@ ghost use Rattle.at_zip.specs.Request.{request_user};
 use crate::atp_part::AtpPart;
 use crate::event::Report;
 use crate::fault::NodeFault;
+use crate::incoming::Incoming;
 use crate::node::refused;
 use crate::requester_socket::{Question, REQUESTER_SOCKET, begin, hear};
 use crate::seat::Seat;
 use crate::zone_socket::ZONE_SOCKET;
-use at_atp::{Frame, Step};
+use at_atp::Step;
 use at_ddp::{Address, Datagrams};
 use at_zip::{ZipFault, read_page, request_user};
 use std::alloc::{AllocError, Allocator};
@@ -47,25 +48,23 @@ impl<A: Allocator + Copy> AtpPart<A> {
     // Takes a packet of the transaction that reads the zone list.
     pub(crate) fn take_page(
         &mut self,
-        seat: Seat,
-        from: Address,
-        frame: &Frame<'_>,
+        packet: &Incoming<'_>,
         user: [u8; 4],
         bytes: &[u8],
         out: &mut Datagrams<A>,
     ) -> Report<A>
-        requires reading { is_reading self.old.reading (tid_of (content frame.now)) ≡ true }
-        requires packet { packet_in (content frame.now) ≡ record { user = user; data_ = bytes.now } }
+        requires reading { is_reading self.old.reading (tid_of (content packet.now.frame)) ≡ true }
+        requires packet { packet_in (content packet.now.frame) ≡ record { user = user; data_ = bytes.now } }
         ensures comes { (said : Said A)
-            → Comes (AtSocket said seat self.old from (Some RequesterSocket) (content frame.now)) self.old out.old.items
-            result self.new out.new.items }
+            → Comes (AtSocket said packet.now.seat self.old packet.now.from (Some RequesterSocket)
+            (content packet.now.frame)) self.old out.old.items result self.new out.new.items }
         ensures not_asked { is_asked result ≡ false }
     {
         let Ok(told) = told(self.alloc, user, bytes) else {
             return Report::NoMemory;
         };
-        let own = seat.at(REQUESTER_SOCKET);
-        let Ok(step) = hear(self.alloc, &mut self.requester, own, from, frame, out) else {
+        let own = packet.seat.at(REQUESTER_SOCKET);
+        let Ok(step) = hear(self.alloc, &mut self.requester, own, packet, out) else {
             return Report::NoMemory;
         };
         self.reading = reading_after(self.reading, &step);

@@ -1,9 +1,8 @@
-ghost use Rattle.std.specs.Prelude.{◌≡◌, ◌≢◌, ◌↔◌, ◌≤◌, ◌++◌, ◌∷◌, [], map, length, find, option_map, None, Some, true};
-ghost use Rattle.std.specs.Prelude.{false, IfOk, IfErr, OnOk, OnErr, IsErrOf};
+ghost use Rattle.std.specs.Prelude.{◌≡◌, ◌≤◌, ◌++◌, ◌∷◌, [], map, length, find, option_map, None, Some, false};
+ghost use Rattle.std.specs.Prelude.{IfOk, OnOk, OnErr};
 ghost use Rattle.at_ddp.specs.Datagram.{content as written};
 ghost use Rattle.at_atp_frame.specs.Frames.{content, spelled_all};
-ghost use Rattle.at_atp_responder.specs.Records.{Taken, taken, finds_no_place, record_fault, is_key, after_answer};
-ghost use Rattle.at_atp_responder.specs.Records.{asked_for};
+ghost use Rattle.at_atp_responder.specs.Records.{record_fault, is_key, after_answer, asked_for};
 ghost use Rattle.at_ddp.specs.Tables.{without_first};
 ghost use Rattle.at_node.specs.AtpHearing.{AtSocket, HearsAt, Zones as ZoneSocket};
 ghost use Rattle.at_node.specs.AtpParts.{AtpState, atp_kind, zones_at};
@@ -15,6 +14,7 @@ ghost use Rattle.at_node.specs.declared.service.Reply.{Reply as Said};
 
 use crate::atp_part::AtpPart;
 use crate::event::Report;
+use crate::incoming::Incoming;
 use crate::node::refused;
 use crate::responders::{answer, release, take};
 use crate::seat::Seat;
@@ -42,41 +42,34 @@ impl<A: Allocator + Copy> AtpPart<A> {
         if self.zones.is_none() {
             return Report::Ignored;
         }
-        match at_atp::decode(datagram.data_) {
-            Ok(frame) => self.serve_packet(seat, datagram.from, &frame, out),
+        match Incoming::in_datagram(seat, datagram) {
+            Ok(packet) => self.serve_packet(&packet, out),
             Err(fault) => refused(fault.number()),
         }
     }
 
-    fn serve_packet(
-        &mut self,
-        seat: Seat,
-        from: Address,
-        frame: &Frame<'_>,
-        out: &mut Datagrams<A>,
-    ) -> Report<A>
+    fn serve_packet(&mut self, packet: &Incoming<'_>, out: &mut Datagrams<A>) -> Report<A>
         ensures comes { (said : Said A)
-            → Comes (AtSocket said seat self.old from (option_map ZoneSocket self.old.table) (content frame.now))
-            self.old out.old.items result self.new out.new.items }
+            → Comes (AtSocket said packet.now.seat self.old packet.now.from (option_map ZoneSocket self.old.table)
+            (content packet.now.frame)) self.old out.old.items result self.new out.new.items }
         ensures not_asked { is_asked result ≡ false }
     {
-        let own = seat.at(ZONE_SOCKET);
+        let own = packet.seat.at(ZONE_SOCKET);
         let Some(zones) = &self.zones else {
             return Report::Ignored;
         };
-        if let Frame::Release { .. } = frame {
-            return release(self.alloc, &mut self.zone_responder, own, from, frame, out);
+        if let Frame::Release { .. } = packet.frame {
+            return release(self.alloc, &mut self.zone_responder, own, packet, out);
         }
-        let Frame::Request { user, .. } = frame else {
+        let Frame::Request { user, .. } = packet.frame else {
             return Report::Ignored;
         };
-        match read_request(*user) {
+        match read_request(user) {
             Ok(start) => serve_request(
                 self.alloc,
                 &mut self.zone_responder,
                 own,
-                from,
-                frame,
+                packet,
                 zones,
                 start,
                 out,
@@ -91,19 +84,18 @@ fn serve_request<A: Allocator + Copy>(
     alloc: A,
     records: &mut Responder<A>,
     own: Address,
-    from: Address,
-    frame: &Frame<'_>,
+    packet: &Incoming<'_>,
     zones: &Zones<A>,
     start: u16,
     out: &mut Datagrams<A>,
 ) -> Report<A>
     requires { 1 ≤ start }
     ensures step { (s : Place) (a : AtpState) → a.zone_responder ≡ records.old → zones_at s.net s.number ≡ own →
-        IsStep (zone_asked s a from (content frame.now) zones.now start) a out.old.items result
+        IsStep (zone_asked s a packet.now.from (content packet.now.frame) zones.now start) a out.old.items result
         (record a { zone_responder = records.new }) out.new.items }
     ensures not_asked { is_asked result ≡ false }
 {
-    match take(alloc, records, own, from, frame, out) {
+    match take(alloc, records, own, packet, out) {
         Err(fault) => refused(fault.number()),
         Ok(Reception::Ignored) => Report::Ignored,
         Ok(Reception::Again(_)) => Report::Again,

@@ -14,20 +14,20 @@ use Rattle.at_node.proofs.service_socket.take_request.Goals as goal
 
 pub hand_up-requires : goal.hand_up-requires
 hand_up-requires g c =
-    let new = is_new c.args.records.now c.args.from (content c.args.frame.now) c.in-Ok-New.key (sym c.in-Ok-New.ensures.reception ∙ c.in-Ok-New.field-0-is) in
-    record { waits = ap (λ (rs : List Record). record_fault (find (is_key c.in-Ok-New.key) rs)) c.in-Ok-New.ensures.state ∙ waits c.args.records.now (taken c.args.records.now c.args.from (content c.args.frame.now)) c.in-Ok-New.key new }
+    let new = is_new c.args.records.now c.args.packet.now.from (content c.args.packet.now.frame) c.in-Ok-New.key (sym c.in-Ok-New.ensures.reception ∙ c.in-Ok-New.field-0-is) in
+    record { waits = ap (λ (rs : List Record). record_fault (find (is_key c.in-Ok-New.key) rs)) c.in-Ok-New.ensures.state ∙ waits c.args.records.now (taken c.args.records.now c.args.packet.now.from (content c.args.packet.now.frame)) c.in-Ok-New.key new }
 
 pub returns-in-Err-hand_up : goal.returns-in-Err-hand_up
 returns-in-Err-hand_up g c =
-    let new = is_new c.args.records.now c.args.from (content c.args.frame.now) c.in-Ok-New.key (sym c.in-Ok-New.ensures.reception ∙ c.in-Ok-New.field-0-is) in
-    let still : record_fault (find (is_key c.in-Ok-New.key) c.hand_up.new.records) ≡ None = ap (λ (rs : List Record). record_fault (find (is_key c.in-Ok-New.key) rs)) (c.in-Err-hand_up.ensures.unchanged ∙ c.in-Ok-New.ensures.state) ∙ waits c.args.records.now (taken c.args.records.now c.args.from (content c.args.frame.now)) c.in-Ok-New.key new in
+    let new = is_new c.args.records.now c.args.packet.now.from (content c.args.packet.now.frame) c.in-Ok-New.key (sym c.in-Ok-New.ensures.reception ∙ c.in-Ok-New.field-0-is) in
+    let still : record_fault (find (is_key c.in-Ok-New.key) c.hand_up.new.records) ≡ None = ap (λ (rs : List Record). record_fault (find (is_key c.in-Ok-New.key) rs)) (c.in-Err-hand_up.ensures.unchanged ∙ c.in-Ok-New.ensures.state) ∙ waits c.args.records.now (taken c.args.records.now c.args.packet.now.from (content c.args.packet.now.frame)) c.in-Ok-New.key new in
     let gone = when_ok c.undo.result _ c.undo.ensures.ok (c.undo.ensures.succeeds still) in
     let quiet : c.take.new.out.items ≡ c.args.out.now.items =
     c.in-Ok-New.ensures.sent ∙ ap (λ pushes. c.args.out.now.items ++ map posted (sent_by c.args.own atp_kind (spelled_all pushes))) new.nothing ∙ append-nil c.args.out.now.items in (
       Later,
       (λ s a same at.
           let back : c.undo.new.self ≡ a.service_responder =
-          gone ∙ ap (without_first (is_key c.in-Ok-New.key)) (c.in-Err-hand_up.ensures.unchanged ∙ c.in-Ok-New.ensures.state) ∙ undone c.args.records.now (taken c.args.records.now c.args.from (content c.args.frame.now)) c.in-Ok-New.key new ∙ sym same in
-          ((λ i. record a { service_responder = back i }), c.in-Err-hand_up.ensures.nothing_sent ∙ quiet, service_takes g.row.A.Denot Later s a c.args.from (content c.args.frame.now) c.args.user c.args.bytes.now (λ full. absurd (cc (c.in-Ok-New.ensures.full.1 (ap (λ (rs : List Record). finds_no_place rs c.args.from (content c.args.frame.now)) (sym same) ∙ full)))))),
+          gone ∙ ap (without_first (is_key c.in-Ok-New.key)) (c.in-Err-hand_up.ensures.unchanged ∙ c.in-Ok-New.ensures.state) ∙ undone c.args.records.now (taken c.args.records.now c.args.packet.now.from (content c.args.packet.now.frame)) c.in-Ok-New.key new ∙ sym same in
+          ((λ i. record a { service_responder = back i }), c.in-Err-hand_up.ensures.nothing_sent ∙ quiet, service_takes g.row.A.Denot Later s a c.args.packet.now.from (content c.args.packet.now.frame) c.args.user c.args.bytes.now (λ full. absurd (cc (c.in-Ok-New.ensures.full.1 (ap (λ (rs : List Record). finds_no_place rs c.args.packet.now.from (content c.args.packet.now.frame)) (sym same) ∙ full)))))),
       c.in-Err-hand_up.ensures.not_asked,
     )

@@ -12,16 +12,16 @@ use Rattle.at_node.proofs.zone_socket.serve_request.Goals as goal
 
 pub serve-requires-clause-waits : goal.serve-requires-clause-waits
 serve-requires-clause-waits g c =
-    let new = is_new c.args.records.now c.args.from (content c.args.frame.now) c.in-Ok-New.key (sym c.in-Ok-New.ensures.reception ∙ c.in-Ok-New.field-0-is) in
-    ap (λ (rs : List Record). record_fault (find (is_key c.in-Ok-New.key) rs)) c.in-Ok-New.ensures.state ∙ waits c.args.records.now (taken c.args.records.now c.args.from (content c.args.frame.now)) c.in-Ok-New.key new
+    let new = is_new c.args.records.now c.args.packet.now.from (content c.args.packet.now.frame) c.in-Ok-New.key (sym c.in-Ok-New.ensures.reception ∙ c.in-Ok-New.field-0-is) in
+    ap (λ (rs : List Record). record_fault (find (is_key c.in-Ok-New.key) rs)) c.in-Ok-New.ensures.state ∙ waits c.args.records.now (taken c.args.records.now c.args.packet.now.from (content c.args.packet.now.frame)) c.in-Ok-New.key new
 
 pub returns-in-Err-serve-clause-step : goal.returns-in-Err-serve-clause-step
 returns-in-Err-serve-clause-step g c = λ s a same at.
-    let t = taken c.args.records.now c.args.from (content c.args.frame.now) in
-    let new = is_new c.args.records.now c.args.from (content c.args.frame.now) c.in-Ok-New.key (sym c.in-Ok-New.ensures.reception ∙ c.in-Ok-New.field-0-is) in
+    let t = taken c.args.records.now c.args.packet.now.from (content c.args.packet.now.frame) in
+    let new = is_new c.args.records.now c.args.packet.now.from (content c.args.packet.now.frame) c.in-Ok-New.key (sym c.in-Ok-New.ensures.reception ∙ c.in-Ok-New.field-0-is) in
     let back : c.serve.new.records ≡ a.zone_responder =
-    c.in-Err-serve.ensures.undone ∙ ap (without_first (is_key c.in-Ok-New.key)) c.in-Ok-New.ensures.state ∙ undone c.args.records.now (taken c.args.records.now c.args.from (content c.args.frame.now)) c.in-Ok-New.key new ∙ sym same in
+    c.in-Err-serve.ensures.undone ∙ ap (without_first (is_key c.in-Ok-New.key)) c.in-Ok-New.ensures.state ∙ undone c.args.records.now (taken c.args.records.now c.args.packet.now.from (content c.args.packet.now.frame)) c.in-Ok-New.key new ∙ sym same in
     let quiet : c.take.new.out.items ≡ c.args.out.now.items =
     c.in-Ok-New.ensures.sent ∙ ap (λ pushes. c.args.out.now.items ++ map posted (sent_by c.args.own atp_kind (spelled_all pushes))) new.nothing ∙ append-nil c.args.out.now.items in
-    let some = zone_takes g.row.A.Denot s a c.args.from (content c.args.frame.now) c.args.zones.now c.args.start (λ full. absurd (cc (c.in-Ok-New.ensures.full.1 (ap (λ (rs : List Record). finds_no_place rs c.args.from (content c.args.frame.now)) (sym same) ∙ full)))) in
+    let some = zone_takes g.row.A.Denot s a c.args.packet.now.from (content c.args.packet.now.frame) c.args.zones.now c.args.start (λ full. absurd (cc (c.in-Ok-New.ensures.full.1 (ap (λ (rs : List Record). finds_no_place rs c.args.packet.now.from (content c.args.packet.now.frame)) (sym same) ∙ full)))) in
     ((λ i. record a { zone_responder = back i }), c.in-Err-serve.ensures.nothing_sent ∙ quiet, some)

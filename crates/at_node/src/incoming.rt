@@ -1,0 +1,36 @@
+ghost use Rattle.std.specs.Prelude.{◌≡◌, IfOk, IfErr};
+ghost use Rattle.at_ddp.specs.Datagram.{content as written};
+ghost use Rattle.at_atp_frame.specs.Fault.{IsFirstFault};
+ghost use Rattle.at_atp_frame.specs.Frames.{Spells, content};
+
+use crate::seat::Seat;
+use at_atp::{AtpFault, Frame};
+use at_ddp::{Address, Datagram};
+
+// A packet that came to a socket of a node.
+#[derive(Clone, Copy)]
+pub(crate) struct Incoming<'a> {
+    // Where the node stands.
+    pub(crate) seat: Seat,
+    // Who sent the packet.
+    pub(crate) from: Address,
+    pub(crate) frame: Frame<'a>,
+}
+
+impl<'a> Incoming<'a> {
+    // The packet in a datagram that came to a node.
+    pub(crate) fn in_datagram(seat: Seat, datagram: &Datagram<'a>) -> Result<Incoming<'a>, AtpFault>
+        ensures seat { IfOk result (λ packet. packet.seat ≡ seat) }
+        ensures from { IfOk result (λ packet. packet.from ≡ (written datagram.now).from) }
+        ensures found { IfOk result (λ packet. Spells (written datagram.now).data_ (content packet.frame)) }
+        ensures fault { IfErr result (λ fault. IsFirstFault fault (written datagram.now).data_) }
+    {
+        match at_atp::decode(datagram.data_) {
+            Ok(frame) => {
+                let from = datagram.from;
+                Ok(Incoming { seat, from, frame })
+            }
+            Err(fault) => Err(fault),
+        }
+    }
+}
