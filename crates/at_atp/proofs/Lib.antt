@@ -1,3 +1,4 @@
+mod Askings
 mod Beginnings
 mod Carried
 mod Hearings

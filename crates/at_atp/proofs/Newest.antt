@@ -9,7 +9,7 @@ use Rattle.at_ddp.specs.declared.address.Address.{Address}
 use Rattle.at_ddp.proofs.Octets.{same_address-true}
 use Rattle.at_atp_frame.specs.Packets.{Packet}
 use Rattle.at_atp.specs.Transactions.{Transaction, is_transaction, transaction_of, Asked, answered, IsPart}
-use Rattle.at_atp.specs.Network.{Network, Sent, Happening, Begins, Answers, Hears, Takes, Serves, Expires, Retries, packet_at, hears, takes_in, expires, retries, asks_or_answers, done}
+use Rattle.at_atp.specs.Network.{Network, Sent, Happening, Begins, Answers, Hears, Takes, Serves, Expires, Retries, packet_at, hears, takes_in, expires, retries, done}
 use Rattle.at_atp_frame.specs.declared.fault.AtpFault.{AtpFault}
 use Rattle.at_atp_requester.specs.Requests.{Retried, retried}
 use Rattle.at_atp_responder.specs.Records.{is_key, expiry_fault}
@@ -124,6 +124,13 @@ still_asked ts from tid packets who k responder a =
     let more = asked_kept ts (answered ts from tid packets) who k responder (answered_keeps ts from tid packets who k) a in
     let same = more.1 in
     (more.0, same.user, same.bytes, same.wanted, same.xo)
+
+-- may it begin a transaction, or answer one?
+abbrev pub asks_or_answers : Happening → Bool
+asks_or_answers (Begins who to user bytes wanted xo times) = true
+asks_or_answers (Answers at key packets) = true
+asks_or_answers (Serves which packets) = true
+asks_or_answers other = false
 
 -- what neither begins nor answers leaves all that was asked
 pub left_as_asked : (A : Type 0) (n : Network) (h : Happening) → asks_or_answers h ≡ false → (done A n h).asked ≡ n.asked

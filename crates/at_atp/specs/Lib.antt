@@ -1,3 +1,4 @@
+pub mod Askings
 pub mod HandUps
 pub mod Lawfully
 pub mod Network

@@ -1,6 +1,6 @@
 -- A network of requesters and responders at any addresses that ask and answer each other. Each packet may come late,
 -- again or never (Inside AppleTalk, ATP, "Transactions").
-use Rattle.std.specs.Prelude.{◌≡◌, ℕ, ◌+◌, ◌==◌, ◌&&◌, ◌||◌, not, nat_le, if◌then◌else◌, Bool, true, false, List, []}
+use Rattle.std.specs.Prelude.{◌≡◌, ℕ, ◌+◌, ◌==◌, ◌&&◌, ◌||◌, not, nat_le, if◌then◌else◌, Bool, true, List, []}
 use Rattle.std.specs.Prelude.{◌∷◌, ◌++◌, length, map, find, replicate, slice_get, IfSome, Option, Some, None}
 use Rattle.std.specs.List.{AllByRecursion, list_all}
 use Rattle.at_ddp.specs.Address.{same_address}
@@ -189,13 +189,6 @@ done A n (Serves which packets) = serves n packets (packet_at n.sent which)
 done A n (Expires at key) = expires n at key (expiry_fault (find (is_key key) (n.responders at)))
 done A n (Retries who tid) = retries n who (retried (n.requesters who) tid)
 done A n (Other count) = record n { sent = n.sent ++ replicate count None }
-
--- may it begin a transaction, or answer one?
-abbrev pub asks_or_answers : Happening → Bool
-asks_or_answers (Begins who to user bytes wanted xo times) = true
-asks_or_answers (Answers at key packets) = true
-asks_or_answers (Serves which packets) = true
-asks_or_answers other = false
 
 -- one event more
 abbrev pub tick : Network → Network

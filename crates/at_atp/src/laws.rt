@@ -1,12 +1,12 @@
 //! The laws of ATP: spellings, transactions, requests that are delivered once, and answers. The functions do nothing at
 //! run time: each contract is a law.
-ghost use Rattle.std.specs.Prelude.{◌≡◌, List, ℕ, false};
+ghost use Rattle.std.specs.Prelude.{◌≡◌, List, ℕ};
 ghost use Rattle.at_ddp.specs.declared.address.Address.{Address};
 ghost use Rattle.std.specs.List.{AllByRecursion};
+ghost use Rattle.at_atp.specs.Askings.{ChangesAsked};
 ghost use Rattle.at_atp.specs.HandUps.{AllLived, AnswersOnce};
 ghost use Rattle.at_atp.specs.Lawfully.{IsInRange, IsLawfullySent};
-ghost use Rattle.at_atp.specs.Network.{Network, Happening, AllSent, AllTimely, GivesAnswers, after, asks_or_answers};
-ghost use Rattle.at_atp.specs.Network.{done};
+ghost use Rattle.at_atp.specs.Network.{Network, Happening, AllSent, AllTimely, GivesAnswers, after};
 ghost use Rattle.at_atp.specs.Transactions.{Transaction as Exchange, Asked, answered};
 ghost use Rattle.at_atp_frame.specs.Packets.{Packet};
 
@@ -58,7 +58,7 @@ pub fn answers_join_what_was_asked()
         × (b.transaction.wanted ≡ a.transaction.wanted) × (b.transaction.xo ≡ a.transaction.xo) }
 {}
 
-/// Any other happening leaves the transactions and their answers as they were.
-pub fn others_leave_what_was_asked<A: Allocator>()
-    ensures { (n : Network) (h : Happening) → asks_or_answers h ≡ false → (done A n h).asked ≡ n.asked }
+/// Each happening leaves what was asked as it was, or begins one transaction, or gives an answer to one.
+pub fn what_was_asked_changes_by_one<A: Allocator>()
+    ensures { (n : Network) (h : Happening) → ChangesAsked A n h }
 {}

@@ -1,3 +1,4 @@
+mod Acts
 mod Atp
 mod CableTie
 mod Canonical

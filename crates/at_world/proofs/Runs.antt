@@ -1,5 +1,5 @@
 -- Every play is a run of the machine.
-use Rattle.std.proofs.Common.{◌≡◌, ◌⊎◌, inl, inr, ⊎_elim, ℕ, List, [], ◌∷◌, map, take, Some, Result, Ok, Err, refl, sym, ap, subst, ◌∙◌}
+use Rattle.std.proofs.Common.{◌≡◌, ◌⊎◌, inl, inr, ⊎_elim, false, List, [], ◌∷◌, map, take, Some, Result, Ok, Err, refl, sym, ap, subst, ◌∙◌}
 use Rattle.at_ddp.specs.Datagrams.{Posted}
 use Rattle.at_node.specs.declared.event.Report.{Report}
 use Rattle.at_node.specs.declared.event.Report.TheVariants.{NoMemory}
@@ -12,20 +12,19 @@ use Rattle.at_world.specs.declared.event.Event.TheVariants as event
 use Rattle.at_world.specs.declared.setup.Setup.{Setup}
 use Rattle.at_world.specs.declared.transcript.Transcript.{Transcript}
 use Rattle.at_world.specs.declared.transcript.PlayFault.{PlayFault}
-use Rattle.at_world.specs.AtpGuards.{next}
-use Rattle.at_world.specs.Cables.{Cable}
+use Rattle.at_steps.specs.Acts.{is_atp}
+use Rattle.at_world.specs.Cables.{Cable, owner_of}
+use Rattle.at_world.specs.Events.{node_of}
 use Rattle.at_world.specs.Machine.{Machine, opening_machine, Step, Run, IsRun}
 use Rattle.at_world.specs.Plays.{opening_world, Follows, IsPlay}
 use Rattle.at_world.specs.Stories.{Tells}
 use Rattle.at_world.specs.Worlds.{WorldState, node_at, recorded, IsTimely, Plays}
-use Rattle.at_world.proofs.Atp.Tie.{Laws, AtpTie}
+use Rattle.at_world.proofs.Atp.Happenings.{Follows as FollowsAtp, call_follows, datagram_follows, passed, timer_follows}
+use Rattle.at_world.proofs.Atp.Tie.{Laws, AtpTie, Grown}
 use Rattle.at_world.proofs.CableTie.{cable_next}
-use Rattle.at_world.proofs.Atp.Calls.{Allows, Good, Grown, good_called, good_idle}
 use Rattle.at_world.proofs.Seats.{KeepsSeat, call_keeps_seat, timer_keeps_seat, hearing_keeps_seat}
 use Rattle.at_world.proofs.Atp.Coming.{comes}
-use Rattle.at_world.proofs.Atp.Deliveries.{good_delivered}
 use Rattle.at_world.proofs.Tied.{Tied}
-use Rattle.at_world.proofs.Atp.Timers.{good_timed}
 
 -- the machine may answer an event so, and is tied to the world after it
 abbrev pub Follow : (A : Type 0) (w : WorldState) (m : Machine) → Tied A w m → Event A → Report A → WorldState → Type 0
@@ -48,23 +47,22 @@ either_coming : (A : Type 0) (P : Outcome A NodeState → Type 0) (n : NodeState
 either_coming A P n NoMemory after out h = inl (refl, h.0, h.1)
 either_coming A P n r after out h = inr h
 
-module _ (A : Type 0) (w : WorldState) (m : Machine) (t : Tied A w m) (e : Event A) (k : ℕ) (n : NodeState) (stands : node_at w k ≡ Some n) where
+module _ (A : Type 0) (w : WorldState) (m : Machine) (t : Tied A w m) (e : Event A) (n : NodeState) (stands : node_at w (node_of e) ≡ Some n) where
   -- the parts and the cable follow an outcome together
-  together : (o : Outcome A NodeState) → KeepsSeat n o → Good A w m.cable m.atp t.cable t.atp k e o → Follow A w m t e o.report (recorded w k o.report o.state (map posted o.out))
-  together o seat good =
-      let cable = cable_next A w m.cable k n o t.cable stands seat good.2 in
-      let both = subst (λ l. (x : AtpTie A (recorded w k o.report o.state (map posted o.out)) m.cable l good.0) × Grown A m.cable (t.atp).history x.history e o.report) (sym cable.1) (good.3, good.4) in
-      let allows = good.1 in
-      (record { cable = m.cable; atp = good.0 }, record { cable = record { said = allows.0; becomes = refl }; atp = allows.1 }, record { cable = cable.0; atp = both.0 }, both.1, refl)
+  together : (o : Outcome A NodeState) → KeepsSeat n o → FollowsAtp A w m.cable m.atp t.cable t.atp e o → Follow A w m t e o.report (recorded w (node_of e) o.report o.state (map posted o.out))
+  together o seat (said, owned, good) =
+      let cable = cable_next A w m.cable (node_of e) n o t.cable stands seat owned in
+      let both = subst (λ l. (x : AtpTie A (recorded w (node_of e) o.report o.state (map posted o.out)) m.cable l good.0) × Grown A m.cable (t.atp).history x.history e o.report) (sym cable.1) (good.2, good.3) in
+      (record { cable = m.cable; atp = good.0 }, record { cable = record { said = said; becomes = refl }; atp = good.1 }, record { cable = cable.0; atp = both.0 }, both.1, refl)
 
-  module _ (r : Report A) (after : NodeState) (out : List Posted) (w' : WorldState) (is : w' ≡ recorded w k r after out) where
-    of_good : (o : Outcome A NodeState) → KeepsSeat n o → Good A w m.cable m.atp t.cable t.atp k e o → Its o r after out → Follow A w m t e r w'
+  module _ (r : Report A) (after : NodeState) (out : List Posted) (w' : WorldState) (is : w' ≡ recorded w (node_of e) r after out) where
+    of_good : (o : Outcome A NodeState) → KeepsSeat n o → FollowsAtp A w m.cable m.atp t.cable t.atp e o → Its o r after out → Follow A w m t e r w'
     of_good o seat good l =
-        subst (Follow A w m t e r) (sym (is ∙ (λ i. recorded w k (l.0 i) (l.1 i) (l.2 i))))
-        (subst (λ x. Follow A w m t e x (recorded w k o.report o.state (map posted o.out))) (sym l.0) (together o seat good))
+        subst (Follow A w m t e r) (sym (is ∙ (λ i. recorded w (node_of e) (l.0 i) (l.1 i) (l.2 i))))
+        (subst (λ x. Follow A w m t e x (recorded w (node_of e) o.report o.state (map posted o.out))) (sym l.0) (together o seat good))
 
-    of_nothing : Allows {A = A} m.cable m.atp e NoMemory (next m.atp) → Nothing r n after out → Follow A w m t e r w'
-    of_nothing allows l = of_good (idle n NoMemory) refl (good_idle A w m.cable m.atp k n e NoMemory t.cable t.atp stands refl allows) l
+    of_nothing : Laws A → is_atp (owner_of {A = A} e NoMemory) ≡ false → Nothing r n after out → Follow A w m t e r w'
+    of_nothing laws nobodys l = of_good (idle n NoMemory) refl (tt, tt, passed A laws w m.cable m.atp t.cable t.atp e n stands (idle n NoMemory) refl (record { same = refl; sends = tt; reports = nobodys })) l
 
 -- ---- one event
 
@@ -73,14 +71,15 @@ followed A laws w m (event.Call k call) r w' t timely both =
     let p = both.0 in
     let n = p.node in
     ⊎_elim
-    (of_nothing A w m t (event.Call k call) k n p.stands r p.after p.out w' p.booked (tt, refl))
-    (of_good A w m t (event.Call k call) k n p.stands r p.after p.out w' p.booked (called n call) (call_keeps_seat A n call) (good_called A laws w m.cable m.atp k n t.cable t.atp p.stands call both.1 (timely n p.stands)))
+    (of_nothing A w m t (event.Call k call) n p.stands r p.after p.out w' p.booked laws refl)
+    (of_good A w m t (event.Call k call) n p.stands r p.after p.out w' p.booked (called n call) (call_keeps_seat A n call)
+    (call_follows A laws w m.cable m.atp t.cable t.atp k n p.stands call both.1 (timely n p.stands) (call_keeps_seat A n call)))
     (either A (called n call) n r p.after p.out p.steps)
 followed A laws w m (event.Timer k time) r w' t timely p =
     let n = p.node in
     ⊎_elim
-    (of_nothing A w m t (event.Timer k time) k n p.stands r p.after p.out w' p.booked (tt, refl))
-    (of_good A w m t (event.Timer k time) k n p.stands r p.after p.out w' p.booked (timed n time) (timer_keeps_seat A n time) (good_timed A laws w m.cable m.atp k n t.cable t.atp p.stands time))
+    (of_nothing A w m t (event.Timer k time) n p.stands r p.after p.out w' p.booked laws refl)
+    (of_good A w m t (event.Timer k time) n p.stands r p.after p.out w' p.booked (timed n time) (timer_keeps_seat A n time) (timer_follows A laws w m.cable m.atp t.cable t.atp k n p.stands time (timer_keeps_seat A n time)))
     (either A (timed n time) n r p.after p.out p.steps)
 followed A laws w m (event.Deliver which k) r w' t timely d =
     let p = d.plays in
@@ -89,10 +88,10 @@ followed A laws w m (event.Deliver which k) r w' t timely d =
     let said = p.steps.0 in
     let later = p.steps.2 in
     ⊎_elim
-    (of_nothing A w m t (event.Deliver which k) k n p.stands r p.after p.out w' p.booked (tt, refl))
-    (λ (x : (o : Outcome A NodeState) × Hears said n (d.datagram).bytes o × Its o r p.after p.out). of_good A w m t (event.Deliver which k) k n p.stands r p.after p.out w' p.booked x.0
+    (of_nothing A w m t (event.Deliver which k) n p.stands r p.after p.out w' p.booked laws refl)
+    (λ (x : (o : Outcome A NodeState) × Hears said n (d.datagram).bytes o × Its o r p.after p.out). of_good A w m t (event.Deliver which k) n p.stands r p.after p.out w' p.booked x.0
     (hearing_keeps_seat A said n (d.datagram).bytes x.0 x.1)
-    (good_delivered A laws w m.cable m.atp which k n t.cable t.atp p.stands d.datagram c said x.0 (λ asked. later (ap is_asked (x.2).0 ∙ asked)) x.1) x.2)
+    (datagram_follows A laws w m.cable m.atp t.cable t.atp k n p.stands which d.datagram c said x.0 (λ asked. later (ap is_asked (x.2).0 ∙ asked)) x.1 (hearing_keeps_seat A said n (d.datagram).bytes x.0 x.1)) x.2)
     (either_coming A (Hears said n (d.datagram).bytes) n r p.after p.out p.steps.1)
 
 -- ---- all of them

@@ -1,9 +1,11 @@
 -- What the machine knows that is of no protocol: the cable, and which reports there are.
 use Rattle.std.specs.Prelude.{◌≡◌, ℕ, Option}
 use Rattle.at_ddp.specs.declared.address.Address.{Address}
-use Rattle.at_node.specs.Kinds.{Kind, Nobody, kind_of_call, kind_of_timer, reporter_of}
+use Rattle.at_node.specs.Kinds.{Kind, Nobody}
 use Rattle.at_node.specs.declared.event.Report.{Report}
 use Rattle.at_node.specs.declared.event.Report.TheVariants as report
+use Rattle.at_steps.specs.Acts as acts
+use Rattle.at_world.specs.Events.{act_of}
 use Rattle.at_world.specs.Plays.{router_of}
 use Rattle.at_world.specs.declared.event.Event.{Event}
 use Rattle.at_world.specs.declared.event.Event.TheVariants as event
@@ -21,11 +23,9 @@ opening s = record { net = s.net; router = router_of s.nodes }
 abbrev pub at_net : Cable → ℕ → ℕ → Address
 at_net c node socket = record { net = c.net; node = node; socket = socket }
 
--- whose report it is: `done` is that of whose call or timer it was
+-- which part's report it is
 abbrev pub owner_of : {A : Type 0} → Event A → Report A → Kind
-owner_of (event.Call node call) report.Done = kind_of_call call
-owner_of (event.Timer node timer) report.Done = kind_of_timer timer
-owner_of e r = reporter_of r
+owner_of e r = acts.owner_of (act_of e) r
 
 abbrev pub IsSomebodys : Kind → Type 0
 IsSomebodys Nobody = ⊥

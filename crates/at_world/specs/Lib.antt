@@ -1,6 +1,7 @@
 pub mod AtpGuards
 pub mod Cables
 pub mod Draws
+pub mod Events
 pub mod ExactlyOnce
 pub mod Machine
 pub mod Plays

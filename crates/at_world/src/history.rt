@@ -20,17 +20,16 @@ pub(crate) fn steps_make_a_history<A: Allocator>()
         → ((m : Machine) × Run (opening_machine s) events reports m)
         × ((history : List Happening) × IsHistory s.net events reports w.sent history) }
 {
-    at_atp::laws::responses_are_answers::<A>();
+    at_steps::laws::a_call_is_a_happening_of_atp::<A>();
+    at_steps::laws::a_timer_is_a_happening_of_atp::<A>();
+    at_steps::laws::a_packet_is_a_happening_of_atp::<A>();
+    at_steps::laws::another_protocols_step_passes_atp::<A>();
+    at_steps::laws::a_number_that_is_not_held_has_no_record();
     at_atp::laws::what_is_sent_is_lawful::<A>();
-    at_atp::laws::numbers_stay_open::<A>();
-    at_atp::laws::a_new_request_waits();
-    at_atp::laws::no_more_is_sent_than_answered();
     at_atp::laws::answers_join_what_was_asked();
-    at_node::laws::what_is_sent_is_heard::<A>();
     at_node::laws::what_is_sent_carries_its_number();
     at_node::laws::a_page_written_is_told::<A>();
     at_zip::laws::what_is_written_is_read();
     at_zip::laws::one_page_a_spelling();
-    at_zip::laws::a_page_fits_one_packet();
     at_zip::laws::a_small_table_is_one_page();
 }

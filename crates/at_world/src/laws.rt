@@ -36,7 +36,7 @@ pub fn exactly_once_requests_run_once<A: Allocator>()
     steps_make_a_history::<A>();
     at_atp::laws::responses_are_answers::<A>();
     at_atp::laws::exactly_once_requests_are_answered_once::<A>();
-    at_atp::laws::others_leave_what_was_asked::<A>();
+    at_atp::laws::what_was_asked_changes_by_one::<A>();
     at_atp::laws::what_is_sent_is_lawful::<A>();
     at_atp::laws::what_is_written_fits();
     at_atp::laws::what_is_written_is_read();

@@ -1,15 +1,10 @@
 -- What is known of a datagram that comes in time.
 use Rattle.std.proofs.Common.{◌≡◌, ℕ, zero, suc, true, cond, List, [], ◌∷◌, map, Option, Some, None, refl, sym, ap, subst, ◌∙◌}
-use Rattle.std.specs.Prelude.{slice_get, IfSome, ◌==◌}
+use Rattle.std.specs.Prelude.{slice_get, IfSome}
 use Rattle.std.specs.List.{AllByRecursion}
-use Rattle.std.proofs.lemmas.Bool.{and_parts}
-use Rattle.at_ddp.specs.Address.{same_address}
-use Rattle.at_ddp.specs.declared.address.Address.{Address}
-use Rattle.at_ddp.proofs.Octets.{same_address-true}
 use Rattle.at_atp.specs.Lawfully.{IsLawfullySent}
 use Rattle.at_atp_frame.specs.Frames.{owner, number_of}
-use Rattle.at_atp.specs.Network.{Sent, AllSent, packet_at, is_fresh, ComesInTime, after}
-use Rattle.at_atp.specs.Transactions.{Asked}
+use Rattle.at_atp.specs.Network.{Sent, AllSent, packet_at, is_fresh, after}
 use Rattle.at_node.specs.declared.drawing.Draw.TheVariants.{Tid}
 use Rattle.at_node.specs.Kinds.{Atp, Nobody}
 use Rattle.at_world.specs.AtpGuards.{AtpMachine}
@@ -17,9 +12,8 @@ use Rattle.at_world.specs.Cables.{Cable, IsSomebodys}
 use Rattle.at_world.proofs.CableTie.{Wire, CableTie, IsOwned, spelled_wire}
 use Rattle.at_world.specs.Sents.{SentDatagram}
 use Rattle.at_world.specs.Worlds.{WorldState, IsFresh}
-use Rattle.at_world.proofs.Atp.Moves.{one_of}
 use Rattle.at_world.specs.Stories.{posted_packet}
-use Rattle.at_world.proofs.Atp.Tie.{Laws, OnNet, AtpTie, Entries}
+use Rattle.at_world.proofs.Atp.Tie.{Laws, AtpTie, Entries}
 use Rattle.at_world.proofs.Atp.Times.{in_time}
 
 sent_at : (P : Sent → Type 0) (sent : List (Option Sent)) (i : ℕ) (s : Sent) → AllSent P sent → packet_at sent i ≡ Some s → P s
@@ -36,16 +30,11 @@ sent_in (x ∷ wires) (Some s ∷ sent) zero d owned all is = let same : spelled
 sent_in (x ∷ wires) (None ∷ sent) zero d owned all is = absurd (subst (λ b. IsSomebodys (cond b Atp Nobody)) all.0 owned.0)
 sent_in (x ∷ wires) (y ∷ sent) (suc i) d owned all is = sent_in wires sent i d owned.1 all.1 is
 
-some_sent : (a b : Sent) → Some a ≡ Some b → a ≡ b
-some_sent a b h = cc
-
 pub record Comes (A : Type 0) (w : WorldState) (cable : Cable) (m : AtpMachine) (ct : CableTie w cable) (t : AtpTie A w cable ct.wires m) (which : ℕ) (d : SentDatagram) : Type 0 where
   pub packet : Sent
   pub was_sent : packet_at (after A t.history).sent which ≡ Some packet
   pub spells : d ≡ posted_packet packet
-  pub lawful : IsLawfullySent packet
   pub fresh : is_fresh (after A t.history).drawn packet ≡ true
-  pub timely : ComesInTime (after A t.history) which
 
 pub comes : (A : Type 0) (laws : Laws A) (w : WorldState) (cable : Cable) (m : AtpMachine) (ct : CableTie w cable) (t : AtpTie A w cable ct.wires m) (which : ℕ) (d : SentDatagram) → slice_get w.sent which ≡ Some d → IsFresh w d → Comes A w cable m ct t which d
 comes A laws w cable m ct t which d is fresh =
@@ -59,19 +48,5 @@ comes A laws w cable m ct t which d is fresh =
       packet = s.0;
       was_sent = s.1;
       spells = s.2;
-      lawful = lawful;
       fresh = in_the_network;
-      timely = λ x at. subst (λ (y : Sent). is_fresh (after A t.history).drawn y ≡ true) (some_sent s.0 x (sym s.1 ∙ at)) in_the_network;
     }
-
--- who asked, and whom, is on the cable
-pub requester_on_net : (cable : Cable) (m : AtpMachine) (who : Address) (tid : ℕ) (responder : Address) → AllByRecursion (OnNet cable) m.asked → Asked m.asked who tid responder → who.net ≡ cable.net
-requester_on_net cable m who tid responder nets a =
-    let one = one_of (OnNet cable) m.asked who tid a.transaction a.newest nets in
-    let both = and_parts (same_address (a.transaction).requester who) ((a.transaction).tid == tid) one.1 in
-    ap (λ (x : Address). x.net) (sym (same_address-true (a.transaction).requester who both.0)) ∙ (one.0).0
-
-pub responder_on_net : (cable : Cable) (m : AtpMachine) (who : Address) (tid : ℕ) (responder : Address) → AllByRecursion (OnNet cable) m.asked → Asked m.asked who tid responder → responder.net ≡ cable.net
-responder_on_net cable m who tid responder nets a =
-    let one = one_of (OnNet cable) m.asked who tid a.transaction a.newest nets in
-    ap (λ (x : Address). x.net) (sym a.asked_it) ∙ (one.0).1

@@ -5,6 +5,7 @@ use Rattle.std.proofs.lemmas.Bool.{and_parts, eqb-true}
 use Rattle.at_ddp.specs.Address.{same_address}
 use Rattle.at_ddp.proofs.Octets.{same_address-true}
 use Rattle.std.specs.List.{AllByRecursion, Contains}
+use Rattle.at_atp.specs.Askings as asking
 use Rattle.at_atp.specs.HandUps.{AnswersOnce, hand_ups_since}
 use Rattle.at_atp.specs.Lawfully.{IsInRange, IsLawfullySent}
 use Rattle.at_atp.specs.Network.{Network, AllSent, Happening, Answers, Serves, AllTimely, after, done}
@@ -19,14 +20,17 @@ use Rattle.at_node.specs.declared.event.Report.TheVariants as report
 use Rattle.at_world.specs.ExactlyOnce.{Played, onto, since, is_once, HandsUpBy, GivesBy, SomeGives, Gives, NoneGives, AtMostOneGives, RanOnce, wanted_by, SomeHandsUp, AllLive, EndsBy, RunsOnce, IsOnce}
 use Rattle.at_world.specs.Plays.{opening_world, Follows, IsPlay}
 use Rattle.at_world.specs.Sents.{SentDatagram}
-use Rattle.at_world.specs.Stories.{Within, Ends, asks_once, began_under, Matches, Joins, Finishes}
+use Rattle.at_steps.specs.AtpReports as reports
+use Rattle.at_world.specs.Events.{act_of, node_of}
+use Rattle.at_world.specs.Stories.{Within, asks_once, began_under, Matches}
+use Rattle.at_world.proofs.Acts.{called_at, delivered_at}
 use Rattle.at_world.specs.declared.event.Event.{Event}
 use Rattle.at_world.specs.declared.event.Event.TheVariants as event
 use Rattle.at_world.specs.declared.setup.Setup.{Setup}
 use Rattle.at_world.specs.declared.transcript.Transcript.{Transcript}
 use Rattle.at_world.specs.declared.transcript.PlayFault.{PlayFault}
 use Rattle.at_world.specs.Worlds.{WorldState}
-use Rattle.at_world.proofs.Atp.Newest.{NewestIs, HasAnswers, has_kept, kept_newest, one_answer_more, Gave, Has, had_or_gave, none_yet, once_newest}
+use Rattle.at_world.proofs.Atp.Newest.{NewestIs, HasAnswers, has_kept, kept_newest, one_answer_more, Has, had_or_gave, none_yet, once_newest}
 use Rattle.at_world.proofs.Atp.Told.{OnceLaws, Told, all_in, all_lived, came_so, key_parts, hands_complete, lawful, most_of, some_of, within_before}
 
 -- ---- the promise
@@ -36,15 +40,17 @@ module _ (A : Type 0) (laws : OnceLaws A) (net : ℕ) (sent : List SentDatagram)
   some_one a b h = cc
 
   -- what gives an answer in the network is a step that gives it
-  step_gives : (e : Event A) (r : Report A) (n : Network) (h : Happening) (key : Key) (answer : List Packet) → Within sent n → AllSent IsLawfullySent n.sent → Matches net n h e r → Gave n h key answer → GivesBy net sent e r key answer
+  step_gives : (e : Event A) (r : Report A) (n : Network) (h : Happening) (key : Key) (answer : List Packet) → Within sent n → AllSent IsLawfullySent n.sent → Matches net n h e r → asking.Gives n h key answer → GivesBy net sent e r key answer
   step_gives e r n (Answers at k packets) key answer within ok m g =
       let gives = m.answers_as in
-      subst (λ x. GivesBy net sent x r key answer) (sym gives.5) (subst (λ x. GivesBy net sent (event.Call gives.0 (Answer gives.1 gives.2 gives.3 packets)) x key answer) (sym gives.6) (ap (λ x. same_key x key) (sym gives.7) ∙ g.0, g.1))
+      subst (λ x. GivesBy net sent x r key answer) (sym (called_at e (Answer gives.0 gives.1 gives.2 packets) gives.4))
+      (subst (λ x. GivesBy net sent (event.Call (node_of e) (Answer gives.0 gives.1 gives.2 packets)) x key answer) (sym gives.5) (ap (λ x. same_key x key) (sym gives.6) ∙ g.0, g.1))
   step_gives e r n (Serves which packets) key answer within ok m g =
       let gives = m.answers_as in
+      let is = delivered_at e which gives.1 in
       let up = hands_complete A laws net sent e r n key within ok m.finishes (sym (m.hands_up key) ∙ g.0) in
-      subst (λ x. GivesBy net sent x r key answer) (sym gives.2) (subst (λ x. GivesBy net sent (event.Deliver which gives.0) x key answer) (sym gives.3)
-      (subst (λ x. HandsUpBy sent (event.Deliver which gives.0) x key) gives.3 (subst (λ x. HandsUpBy sent x r key) gives.2 up)))
+      subst (λ x. GivesBy net sent x r key answer) (sym is) (subst (λ x. GivesBy net sent (event.Deliver which (node_of e)) x key answer) (sym gives.2)
+      (subst (λ x. HandsUpBy sent (event.Deliver which (node_of e)) x key) gives.2 (subst (λ x. HandsUpBy sent x r key) is up)))
   step_gives e r n h key answer within ok m g = absurd g
 
   gives_of : (past : List (Played A)) (hs : List Happening) (key : Key) (answer : List Packet) → Told A net past hs → Within sent (after A hs) → AllByRecursion IsInRange hs → Has (after A hs).asked key answer → SomeGives net sent key answer (since net past key)
@@ -56,16 +62,16 @@ module _ (A : Type 0) (laws : OnceLaws A) (net : ℕ) (sent : List SentDatagram)
       m : Matches net (after A hs) h x.event x.report
       m = told.0
 
-      either : (Has (after A hs).asked key answer → SomeGives net sent key answer (since net xs key)) → Has (after A hs).asked key answer ⊎ Gave (after A hs) h key answer → SomeGives net sent key answer (x ∷ since net xs key)
+      either : (Has (after A hs).asked key answer → SomeGives net sent key answer (since net xs key)) → Has (after A hs).asked key answer ⊎ asking.Gives (after A hs) h key answer → SomeGives net sent key answer (x ∷ since net xs key)
       either before (inl old) = inr (before old)
       either before (inr gave) = inl (step_gives x.event x.report (after A hs) h key answer (within_before A sent h hs told.1 within) (lawful A laws net sent hs range.1) m gave)
 
       go : (Has (after A hs).asked key answer → SomeGives net sent key answer (since net xs key)) → (b : Bool) → began_under net x.event x.report key ≡ b → SomeGives net sent key answer (cond b [] (x ∷ since net xs key))
-      go before true e = none_yet A (after A hs) h key answer (m.draws_it key ∙ e) has
-      go before false e = either before (had_or_gave A laws.leaves (after A hs) h key answer (m.draws_it key ∙ e) has)
+      go before true e = none_yet A laws.changes (after A hs) h key answer (m.draws_it key ∙ e) has
+      go before false e = either before (had_or_gave A laws.changes (after A hs) h key answer (m.draws_it key ∙ e) has)
 
   -- an answer that a step gives joins the transaction of its key
-  joins_it : (e : Event A) (r : Report A) (n : Network) (h : Happening) (key : Key) (answer : List Packet) → Within sent n → AllSent IsLawfullySent n.sent → Joins net n h r e → GivesBy net sent e r key answer →
+  joins_it : (e : Event A) (r : Report A) (n : Network) (h : Happening) (key : Key) (answer : List Packet) → Within sent n → AllSent IsLawfullySent n.sent → reports.Joins net n h r (act_of e) → GivesBy net sent e r key answer →
       (packets : List Packet) × ((done A n h).asked ≡ answered n.asked key.from key.tid packets)
   joins_it (event.Call node (Answer k socket tid packets)) (report.Answered count) n h key answer within ok j g =
       let both = and_parts (same_address (record { net = net; node = k; socket = socket }) key.from) (tid == key.tid) g.0 in
@@ -113,9 +119,9 @@ module _ (A : Type 0) (laws : OnceLaws A) (net : ℕ) (sent : List SentDatagram)
       go : (is_once net xs key ≡ true → NewestIs (λ t. length t.answers ≡ 0) (after A hs).asked key → NoneGives net sent key (since net xs key)) → (b : Bool) → began_under net x.event x.report key ≡ b → cond b (asks_once x.event) (is_once net xs key) ≡ true → NoneGives net sent key (cond b [] (x ∷ since net xs key))
       go before true e is = tt
       go before false e is =
-          let t = once_newest A laws.leaves net xs hs key told.2 is in
+          let t = once_newest A laws.changes net xs hs key told.2 is in
           let k = length (t.0).answers in
-          let kept = kept_newest A laws.leaves (HasAnswers (length (t.0).answers)) (has_kept (length (t.0).answers)) (after A hs) h key (m.draws_it key ∙ e) (t.0, t.1, omega arith) in (
+          let kept = kept_newest A laws.changes (HasAnswers (length (t.0).answers)) (has_kept (length (t.0).answers)) (after A hs) h key (m.draws_it key ∙ e) (t.0, t.1, omega arith) in (
             (λ gives. one 0 (few (0 + 1) (more_answers x (after A hs) h key 0 earlier (lawful A laws net sent hs range.1) m (t.0, t.1, omega arith) gives))),
             before is (t.0, t.1, few (length (t.0).answers) kept),
           )
@@ -138,7 +144,7 @@ module _ (A : Type 0) (laws : OnceLaws A) (net : ℕ) (sent : List SentDatagram)
       -- so many answers are one at most
       few : (count : ℕ) → NewestIs (HasAnswers count) (done A (after A hs) h).asked key → count ≤ 1
       few count has =
-          let t = once_newest A laws.leaves net (x ∷ xs) (h ∷ hs) key told once in
+          let t = once_newest A laws.changes net (x ∷ xs) (h ∷ hs) key told once in
           let same : has.0 ≡ t.0 = some_one has.0 t.0 (sym has.1 ∙ t.1) in
           let least : count ≤ length (t.0).answers = subst (HasAnswers count) same has.2 in
           let most = law.once key.from key.tid t.0 t.1 t.2.0 in
@@ -150,23 +156,23 @@ module _ (A : Type 0) (laws : OnceLaws A) (net : ℕ) (sent : List SentDatagram)
       go : (is_once net xs key ≡ true → AtMostOneGives net sent key (since net xs key)) → (b : Bool) → began_under net x.event x.report key ≡ b → cond b (asks_once x.event) (is_once net xs key) ≡ true → AtMostOneGives net sent key (cond b [] (x ∷ since net xs key))
       go before true e is = tt
       go before false e is =
-          let t = once_newest A laws.leaves net xs hs key told.2 is in (
+          let t = once_newest A laws.changes net xs hs key told.2 is in (
             (λ gives. none_given xs hs key told.2 earlier range.1 is (t.0, t.1, none (length (t.0).answers) (few (length (t.0).answers + 1) (more_answers x (after A hs) h key (length (t.0).answers) earlier (lawful A laws net sent hs range.1) m (t.0, t.1, omega arith) gives)))),
             before is,
           )
 
   one_moment : (past : List (Played A)) (hs : List Happening) → Told A net past hs → Within sent (after A hs) → AllTimely A hs → AllByRecursion IsInRange hs → AllLive net sent past → (key : Key) → is_once net past key ≡ true → RanOnce net sent past key
   one_moment past hs told within timely range live key once =
-      let t = once_newest A laws.leaves net past hs key told once in
+      let t = once_newest A laws.changes net past hs key told once in
       let law = laws.once hs timely (all_lived A laws net sent past hs told within live) in
       (most_of A laws net sent past hs key told within range (law.once key.from key.tid t.0 t.1 t.2.0).0, one_given past hs key told within timely range live once)
 
-  ended : (past : List (Played A)) (hs : List Happening) (which node tid : ℕ) (packets : List Packet) → Told A net past hs → Within sent (after A hs) → AllTimely A hs → AllByRecursion IsInRange hs → AllLive net sent past → Ends A net (after A hs) which node tid packets →
+  ended : (past : List (Played A)) (hs : List Happening) (which node tid : ℕ) (packets : List Packet) → Told A net past hs → Within sent (after A hs) → AllTimely A hs → AllByRecursion IsInRange hs → AllLive net sent past → reports.Ends A net node (after A hs) which tid packets →
       is_once net past (record { from = asking net node; tid = tid }) ≡ true → SomeHandsUp sent (record { from = asking net node; tid = tid }) (since net past (record { from = asking net node; tid = tid }))
       × ((answer : List Packet) × SomeGives net sent (record { from = asking net node; tid = tid }) answer (since net past (record { from = asking net node; tid = tid })) × (packets ≡ take (wanted_by net past (record { from = asking net node; tid = tid })) answer))
   ended past hs which node tid packets told within timely range live ends once =
       let s = ends.packet in
-      let t = once_newest A laws.leaves net past hs (record { from = asking net node; tid = tid }) told once in
+      let t = once_newest A laws.changes net past hs (record { from = asking net node; tid = tid }) told once in
       let law = laws.once hs timely (all_lived A laws net sent past hs told within live) in
       let a = ((laws.answers hs timely).finished which s packets ends.was_sent ends.fresh ends.ends).0 in
       let same : a.transaction ≡ t.0 = some_one a.transaction t.0 (sym a.newest ∙ (λ i. transaction_of (after A hs).asked (ends.comes_to i) (ends.numbered i)) ∙ t.1) in
@@ -182,7 +188,7 @@ module _ (A : Type 0) (laws : OnceLaws A) (net : ℕ) (sent : List SentDatagram)
         ),
       )
 
-  ends_by : (e : Event A) (r : Report A) (past : List (Played A)) (hs : List Happening) → Told A net past hs → Within sent (after A hs) → AllTimely A hs → AllByRecursion IsInRange hs → AllLive net sent past → Finishes net (after A hs) e r → EndsBy net sent e r past
+  ends_by : (e : Event A) (r : Report A) (past : List (Played A)) (hs : List Happening) → Told A net past hs → Within sent (after A hs) → AllTimely A hs → AllByRecursion IsInRange hs → AllLive net sent past → reports.Finishes net (node_of e) (after A hs) (act_of e) r → EndsBy net sent e r past
   ends_by (event.Call node call) r past hs told within timely range live f = tt
   ends_by (event.Deliver which node) (report.Response tid packets) past hs told within timely range live f = ended past hs which node tid packets told within timely range live f
   ends_by (event.Deliver which node) r past hs told within timely range live f = tt

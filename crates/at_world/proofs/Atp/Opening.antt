@@ -140,6 +140,9 @@ module _ (A : Type 0) (s : Setup A) where
       go true false true = sym (nothing_served s.nodes at.node)
       go true false false = refl
 
+  none_read : {P : Type 0} (tid : ℕ) → None ≡ Some tid → P
+  none_read tid h = absurd (cc)
+
   pub atp_at_opening : is_lawful s ≡ true → (t : AtpTie A (opening_world s) (cables.opening s) [] (atp.opening s)) × (t.history ≡ [])
   atp_at_opening ok =
       let law = lawful_has A s ok in
@@ -157,9 +160,10 @@ module _ (A : Type 0) (s : Setup A) where
           drawn = tt;
           asked = refl;
           tables = λ k n is t has. (table_is s.nodes k n is t has, router_is s.nodes law.one k n is t has);
-          readings = λ k n is. subst (IsReading (cables.opening s) (atp.opening s) k n.atp.requester) (sym (nothing_read s.nodes k n is)) tt;
+          opened = λ k n is tid reads. none_read tid (sym (nothing_read s.nodes k n is) ∙ reads);
+          readings = λ k n is. subst (IsReading (cables.opening s) (atp.opening s) k) (sym (nothing_read s.nodes k n is)) tt;
           pages = tt;
-          nets = tt;
+          on_net = tt;
         },
         refl,
       )

@@ -1,5 +1,5 @@
 -- What is timely in a world is timely in the network of its requesters and responders.
-use Rattle.std.proofs.Common.{◌≡◌, ℕ, ◌+◌, ◌<◌, ◌≤◌, Bool, true, false, cond, List, [], ◌∷◌, Option, Some, None, refl, sym, ap, subst, ◌∙◌, arith}
+use Rattle.std.proofs.Common.{◌≡◌, ℕ, ◌+◌, ◌<◌, ◌≤◌, Bool, true, false, cond, List, [], ◌∷◌, ◌++◌, Option, Some, None, refl, sym, ap, subst, ◌∙◌, arith}
 use Rattle.std.specs.Prelude.{find, nat_le, ◌==◌, ◌&&◌, ◌||◌, not}
 use Rattle.std.specs.List.{AllByRecursion, list_all, list_any}
 use Rattle.std.proofs.lemmas.Bool.{true≢false, false≢true, and_parts, eq-eqb, eqb-true, le-leb, leb-true}
@@ -8,12 +8,13 @@ use Rattle.at_ddp.specs.declared.address.Address.{Address}
 use Rattle.at_ddp.proofs.Octets.{same_address-true}
 use Rattle.at_atp.specs.Network as network
 use Rattle.at_atp.specs.Network.{Drawn, NoneHolds}
-use Rattle.at_atp_responder.specs.Records.{Record, is_key, is_from}
+use Rattle.at_atp_responder.specs.Records.{Record}
 use Rattle.at_node.specs.Drawing.{holds}
 use Rattle.at_node.specs.AtpParts.{asking}
 use Rattle.at_node.specs.Nodes.{NodeState}
 use Rattle.at_node.specs.declared.drawing.Draw.{Draw}
 use Rattle.at_node.specs.declared.drawing.Draw.TheVariants.{Tid}
+use Rattle.at_steps.specs.AtpHappenings.{HoldsNo, numbers_drawn}
 use Rattle.at_world.specs.Draws.{Draws, is_number, same_draw, last_of, drawn_at, noted, is_no_later}
 use Rattle.at_world.specs.Worlds.{is_numbered, holds_some}
 use Rattle.at_world.proofs.Atp.Places.{service_of, served_of, records_at}
@@ -134,26 +135,17 @@ noted_now last events net k tid = record {
   past = omega arith;
 }
 
+-- and so is each number that an event drew now, if it drew one
+pub drawn_too : (last : Draws) (events event net k : ℕ) (d : Option Draw) (drawn : List Drawn) → events ≡ event → AllByRecursion (IsNoted (noted last k events d) (events + 1)) drawn → AllByRecursion (IsNoted (noted last k events d) (events + 1)) (drawn ++ numbers_drawn event (asking net k) d)
+drawn_too last events event net k None [] same all = tt
+drawn_too last events event net k (Some (Tid tid)) [] same all = (subst (λ i. IsNoted (noted last k events (Some (Tid tid))) (events + 1) (record { event = i; who = asking net k; tid = tid })) same (noted_now last events net k tid), tt)
+drawn_too last events event net k d (x ∷ drawn) same all = (all.0, drawn_too last events event net k d drawn same all.1)
+
 -- ---- records that are held
 
 or_parts : (a b : Bool) → (a || b) ≡ false → (a ≡ false) × (b ≡ false)
 or_parts true b h = absurd (true≢false h)
 or_parts false b h = (refl, h)
-
--- no record of a node's number, none under the key of a requester there
-none_of_key : (net k tid : ℕ) (rs : List Record) → list_any (is_from k tid) rs ≡ false → find (is_key (record { from = asking net k; tid = tid })) rs ≡ None
-none_of_key net k tid [] h = refl
-none_of_key net k tid (r ∷ rs) h =
-    let both = or_parts (is_from k tid r) (list_any (is_from k tid) rs) h in
-    go (is_key (record { from = asking net k; tid = tid }) r) refl both.0 (none_of_key net k tid rs both.1)
-  where
-    go : (b : Bool) → is_key (record { from = asking net k; tid = tid }) r ≡ b → is_from k tid r ≡ false → find (is_key (record { from = asking net k; tid = tid })) rs ≡ None → cond b (Some r) (find (is_key (record { from = asking net k; tid = tid })) rs) ≡ None
-    go false e apart ih = ih
-    go true e apart ih =
-        let both = and_parts (same_address r.key.from (asking net k)) (r.key.tid == tid) e in
-        let from : r.key.from ≡ asking net k = same_address-true r.key.from (asking net k) both.0 in
-        let mine : is_from k tid r ≡ true = λ i. eq-eqb (r.key.from).node k (ap (λ (a : Address). a.node) from) i && both.1 i in
-        absurd (true≢false (sym mine ∙ apart))
 
 -- no node of the list holds a record, nor does the one that is found
 not_held : (k : ℕ) (draw : Draw) (j : ℕ) (n : NodeState) (nodes : List NodeState) → list_any (λ x. holds x k draw) nodes ≡ false → find (is_numbered j) nodes ≡ Some n → holds n k draw ≡ false
@@ -166,21 +158,22 @@ not_held k draw j n (y ∷ ys) h is =
     go true g apart ih = let same : y ≡ n = cc in subst (λ x. holds x k draw ≡ false) same apart
     go false g apart ih = ih g
 
-none_held_by : (net k tid : ℕ) (o : Option NodeState) (nodes : List NodeState) (j : ℕ) → list_any (λ x. holds x k (Tid tid)) nodes ≡ false → find (is_numbered j) nodes ≡ o →
-    (find (is_key (record { from = asking net k; tid = tid })) (service_of o) ≡ None) × (find (is_key (record { from = asking net k; tid = tid })) (served_of o) ≡ None)
-none_held_by net k tid None nodes j h is = (refl, refl)
-none_held_by net k tid (Some n) nodes j h is =
-    let both = or_parts (list_any (is_from k tid) n.atp.zone_responder) (list_any (is_from k tid) n.atp.service_responder) (not_held k (Tid tid) j n nodes h is) in
-    (none_of_key net k tid n.atp.service_responder both.1, none_of_key net k tid n.atp.zone_responder both.0)
+-- what is promised of a number that a node does not hold
+abbrev pub Unheld : Type 0
+Unheld = (net k tid : ℕ) (n : NodeState) → holds n k (Tid tid) ≡ false → HoldsNo (asking net k) tid n.atp.service_responder × HoldsNo (asking net k) tid n.atp.zone_responder
+
+none_held_by : (unheld : Unheld) (net k tid : ℕ) (o : Option NodeState) (nodes : List NodeState) (j : ℕ) → list_any (λ x. holds x k (Tid tid)) nodes ≡ false → find (is_numbered j) nodes ≡ o → HoldsNo (asking net k) tid (service_of o) × HoldsNo (asking net k) tid (served_of o)
+none_held_by unheld net k tid None nodes j h is = (refl, refl)
+none_held_by unheld net k tid (Some n) nodes j h is = unheld net k tid n (not_held k (Tid tid) j n nodes h is)
 
 -- a number that no node holds, no responder holds
-pub none_holds : (net k tid : ℕ) (nodes : List NodeState) (responders : Address → List Record) → ((at : Address) → responders at ≡ records_at net nodes at) → holds_some nodes k (Some (Tid tid)) ≡ false → NoneHolds responders (asking net k) tid
-none_holds net k tid nodes responders same free at =
-    let both = none_held_by net k tid (find (is_numbered at.node) nodes) nodes at.node free refl in
-    ap (find (is_key (record { from = asking net k; tid = tid }))) (same at) ∙ go (net == at.net) (129 == at.socket) (6 == at.socket) both.0 both.1
+pub none_holds : (unheld : Unheld) (net k tid : ℕ) (nodes : List NodeState) (responders : Address → List Record) → ((at : Address) → responders at ≡ records_at net nodes at) → holds_some nodes k (Some (Tid tid)) ≡ false → NoneHolds responders (asking net k) tid
+none_holds unheld net k tid nodes responders same free at =
+    let both = none_held_by unheld net k tid (find (is_numbered at.node) nodes) nodes at.node free refl in
+    subst (HoldsNo (asking net k) tid) (sym (same at)) (go (net == at.net) (129 == at.socket) (6 == at.socket) both.0 both.1)
   where
-    go : (a b c : Bool) → find (is_key (record { from = asking net k; tid = tid })) (service_of (find (is_numbered at.node) nodes)) ≡ None → find (is_key (record { from = asking net k; tid = tid })) (served_of (find (is_numbered at.node) nodes)) ≡ None →
-        find (is_key (record { from = asking net k; tid = tid })) (cond a (cond b (service_of (find (is_numbered at.node) nodes)) (cond c (served_of (find (is_numbered at.node) nodes)) [])) []) ≡ None
+    go : (a b c : Bool) → HoldsNo (asking net k) tid (service_of (find (is_numbered at.node) nodes)) → HoldsNo (asking net k) tid (served_of (find (is_numbered at.node) nodes)) →
+        HoldsNo (asking net k) tid (cond a (cond b (service_of (find (is_numbered at.node) nodes)) (cond c (served_of (find (is_numbered at.node) nodes)) [])) [])
     go true true c x y = x
     go true false true x y = y
     go true false false x y = refl

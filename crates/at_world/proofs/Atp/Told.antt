@@ -9,11 +9,12 @@ use Rattle.at_ddp.specs.Datagram.{Content as Datagram, IsAddress, AreBytes, Begi
 use Rattle.at_ddp.specs.declared.address.Address.{Address}
 use Rattle.at_ddp.proofs.Octets.{same_address-true, same_address_itself}
 use Rattle.at_atp_frame.specs.Frames.{Content, Request, IsLawful, Spells, spelled}
+use Rattle.at_atp.specs.Askings.{ChangesAsked}
 use Rattle.at_atp.specs.HandUps as HandUps
 use Rattle.at_atp.specs.HandUps.{brings, draws, is_drawn, is_handed_up, expires_there, hand_ups_since, has_expired as record_expired, AllLived, AnswersOnce}
 use Rattle.at_atp.specs.Lawfully.{IsInRange, IsLawfullySent}
 use Rattle.at_atp_frame.specs.Frames.{number_of}
-use Rattle.at_atp.specs.Network.{Network, Sent, AllSent, packet_at, Happening, Takes, Serves, AllTimely, GivesAnswers, after, asks_or_answers, done}
+use Rattle.at_atp.specs.Network.{Network, Sent, AllSent, packet_at, Happening, Takes, Serves, AllTimely, GivesAnswers, after}
 use Rattle.at_atp_responder.specs.Once.{same_key}
 use Rattle.at_atp_responder.specs.declared.reception.Key.{Key}
 use Rattle.at_node.specs.AtpParts.{atp_kind}
@@ -21,8 +22,12 @@ use Rattle.at_node.specs.declared.event.Report.{Report}
 use Rattle.at_node.specs.declared.event.Report.TheVariants as report
 use Rattle.at_world.specs.ExactlyOnce.{Played, onto, since, CameFrom, HandsUpBy, HandsUp, NoneHandsUp, AtMostOneHandsUp, SomeHandsUp, has_expired, LivesBy, AllLive}
 use Rattle.at_world.specs.Sents.{SentDatagram}
-use Rattle.at_world.specs.Stories.{Within, began_under, handed_up_by, came_under, Matches, Finishes, Grows, Tells, posted_packet}
+use Rattle.at_steps.specs.AtpReports.{came_under}
+use Rattle.at_steps.specs.AtpReports as reports
+use Rattle.at_world.specs.Events.{act_of, node_of}
+use Rattle.at_world.specs.Stories.{Within, began_under, Matches, Grows, Tells, posted_packet}
 use Rattle.at_world.specs.declared.event.Event.{Event}
+use Rattle.at_world.proofs.Acts.{delivered_at}
 use Rattle.at_world.specs.declared.event.Event.TheVariants as event
 
 -- what the layers below promise
@@ -35,7 +40,7 @@ pub record OnceLaws (A : Type 0) : Type 0 where
   pub alone : (input : List ℕ) (d e : Datagram) (x y : List ℕ) → BeginsWith input d x → BeginsWith input e y → (d ≡ e) × (x ≡ y)
   pub packet_reads : (f : Content) → IsLawful f → Spells (spelled f) f
   pub packet_alone : (input : List ℕ) (f g : Content) → Spells input f → Spells input g → f ≡ g
-  pub leaves : (n : Network) (h : Happening) → asks_or_answers h ≡ false → (done A n h).asked ≡ n.asked
+  pub changes : (n : Network) (h : Happening) → ChangesAsked A n h
   pub packet_fits : (f : Content) → IsLawful f → AreBytes (spelled f) × (length (spelled f) ≤ 586)
 
 -- ---- the steps and the happenings, side by side
@@ -95,14 +100,14 @@ module _ (A : Type 0) (laws : OnceLaws A) (net : ℕ) (sent : List SentDatagram)
       some_one a b h = cc
 
   -- what the network delivers is what the reports say was delivered
-  pub hands_sound : (e : Event A) (r : Report A) (n : Network) (key : Key) → Within sent n → AllSent IsLawfullySent n.sent → Finishes net n e r → HandsUpBy sent e r key → handed_up_by n.sent e r key ≡ true
+  pub hands_sound : (e : Event A) (r : Report A) (n : Network) (key : Key) → Within sent n → AllSent IsLawfullySent n.sent → reports.Finishes net (node_of e) n (act_of e) r → HandsUpBy sent e r key → reports.handed_up_by n.sent (act_of e) r key ≡ true
   hands_sound (event.Call node call) r n key within ok f h = absurd h
   hands_sound (event.Deliver which node) (report.Served count) n key within ok f h = let it = f.0 in ap (λ o. came_under o key) f.1 ∙ came_so which key it (within which it f.1) (all_in IsLawfullySent n.sent which it ok f.1) h
   hands_sound (event.Deliver which node) (report.Asked k user bytes) n key within ok f h = h
   hands_sound (event.Deliver which node) r n key within ok f h = absurd h
   hands_sound (event.Timer node time) r n key within ok f h = absurd h
 
-  pub hands_complete : (e : Event A) (r : Report A) (n : Network) (key : Key) → Within sent n → AllSent IsLawfullySent n.sent → Finishes net n e r → handed_up_by n.sent e r key ≡ true → HandsUpBy sent e r key
+  pub hands_complete : (e : Event A) (r : Report A) (n : Network) (key : Key) → Within sent n → AllSent IsLawfullySent n.sent → reports.Finishes net (node_of e) n (act_of e) r → reports.handed_up_by n.sent (act_of e) r key ≡ true → HandsUpBy sent e r key
   hands_complete (event.Call node call) r n key within ok f h = absurd (false≢true h)
   hands_complete (event.Deliver which node) (report.Served count) n key within ok f h = let it = f.0 in came_there which key it (within which it f.1) (all_in IsLawfullySent n.sent which it ok f.1) (sym (ap (λ o. came_under o key) f.1) ∙ h)
   hands_complete (event.Deliver which node) (report.Asked k user bytes) n key within ok f h = h
@@ -193,6 +198,6 @@ module _ (A : Type 0) (laws : OnceLaws A) (net : ℕ) (sent : List SentDatagram)
       earlier = within_before A sent h hs told.1 within
 
       lived : (g : Happening) → Matches net (after A hs) g x.event x.report → HandUps.Lives A hs g
-      lived (Takes which) m = lives_in x.event xs hs which m.takes_in.0 m.takes_in.1 told.2 earlier live.0
-      lived (Serves which packets) m = lives_in x.event xs hs which m.takes_in.0 m.takes_in.1 told.2 earlier live.0
+      lived (Takes which) m = lives_in x.event xs hs which (node_of x.event) (delivered_at x.event which m.takes_in) told.2 earlier live.0
+      lived (Serves which packets) m = lives_in x.event xs hs which (node_of x.event) (delivered_at x.event which m.takes_in) told.2 earlier live.0
       lived g m = tt

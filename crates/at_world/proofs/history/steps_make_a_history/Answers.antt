@@ -23,26 +23,19 @@ pub returns : goal.returns
 returns g c s events reports w lawful =
     let A = g.row.A.Denot in
     let read = c.what_is_written_is_read.ensures in
-    let fit = c.a_page_fits_one_packet.ensures in
-    let open_numbers = c.numbers_stay_open.ensures in
     let laws : Laws A = record {
-      hears = c.what_is_sent_is_heard.ensures;
+      called = c.a_call_is_a_happening_of_atp.ensures;
+      timed = c.a_timer_is_a_happening_of_atp.ensures;
+      heard = c.a_packet_is_a_happening_of_atp.ensures;
+      passes = c.another_protocols_step_passes_atp.ensures;
+      unheld = c.a_number_that_is_not_held_has_no_record.ensures;
       carries = c.what_is_sent_carries_its_number.ensures;
-      answers = c.responses_are_answers.ensures;
       lawful_sent = c.what_is_sent_is_lawful.ensures;
-      drawn = open_numbers.drawn;
-      heard_stays = open_numbers.heard;
-      retried_stays = open_numbers.retried;
-      new_waits = c.a_new_request_waits.ensures;
-      few = c.no_more_is_sent_than_answered.ensures;
       joins = λ ts from tid packets who k responder a. let more = c.answers_join_what_was_asked.ensures ts from tid packets who k responder a in (more.0, more.1);
       told = c.a_page_written_is_told.ensures;
       asks = read.request;
       one_start = c.one_page_a_spelling.ensures.request;
       lawful = read.lawful;
-      user = fit.user;
-      bytes = fit.bytes;
-      fits = fit.fits;
       whole = c.a_small_table_is_one_page.ensures;
     } in
     λ follows.

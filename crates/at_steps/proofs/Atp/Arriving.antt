@@ -1,0 +1,99 @@
+-- What a datagram of the network that comes to a node is there, by the socket that it was sent to.
+use Rattle.std.proofs.Common.{◌≡◌, inl, inr, ℕ, Bool, true, false, cond, List, Option, Some, None, refl, sym, ap, subst, ◌∙◌}
+use Rattle.std.specs.Prelude.{MatchBool, option_map, ◌==◌, ◌||◌}
+use Rattle.std.proofs.lemmas.Bool.{and_parts, eqb-true}
+use Rattle.at_ddp.specs.Datagram.{canonical}
+use Rattle.at_atp_frame.specs.Frames.{Content, Request, Response, Release, spelled}
+use Rattle.at_atp_requester.specs.Requests.{heard}
+use Rattle.at_atp.specs.Lawfully.{IsLawfullySent}
+use Rattle.at_atp.specs.Network.{Sent, Happening, packet_at, is_fresh, after}
+use Rattle.at_node.specs.AtpHearing.{AtSocket, Requester, Service, Zones, atp_socket}
+use Rattle.at_node.specs.AtpParts.{AtpState, atp_kind, packet_in, tid_of}
+use Rattle.at_node.specs.Hearing.{Hears, HearsSent}
+use Rattle.at_node.specs.Seats.{at_socket, is_mine}
+use Rattle.at_node.specs.Nodes.{with_atp, NodeState}
+use Rattle.at_node.specs.Outcomes.{Over, over, Outcome, idle}
+use Rattle.at_node.specs.RequesterSocket.{AtRequester}
+use Rattle.at_node.specs.ServiceSocket.{AtService, is_asked}
+use Rattle.at_node.specs.ZoneSocket.{AtZones}
+use Rattle.at_node.specs.declared.event.Report.TheVariants as report
+use Rattle.at_node.specs.declared.service.Reply.{Reply}
+use Rattle.at_node.specs.declared.service.Reply.TheVariants as reply
+use Rattle.at_steps.specs.Acts.{Gets}
+use Rattle.at_steps.specs.AtpHappenings.{Stands}
+use Rattle.at_steps.proofs.Atp.Below.{HearingLaws}
+use Rattle.at_steps.proofs.Atp.Coming.{sent_at, requester_on_net, responder_on_net}
+use Rattle.at_steps.proofs.Atp.Heard.{response_happens}
+use Rattle.at_steps.proofs.Atp.Moves.{IsIts, idle_happens}
+use Rattle.at_steps.proofs.Atp.Requested.{asks, released_where, service_release, service_request}
+use Rattle.at_steps.proofs.Atp.Served.{zone_release, zone_request}
+
+module _ (A : Type 0) (laws : HearingLaws A) (history : List Happening) (n : NodeState) (st : Stands A history n.seat.net n.seat.number n) (which : ℕ) (s : Sent) (was_sent : packet_at (after A history).sent which ≡ Some s) (fresh : is_fresh (after A history).drawn s ≡ true) where
+  ignoring : (o : Outcome A AtpState) → o ≡ idle n.atp report.Ignored → IsIts A history n (Gets which) (over (with_atp n) o)
+  ignoring o is = subst (λ p. IsIts A history n (Gets which) (over (with_atp n) p)) (sym is) (idle_happens A history n (Gets which) st report.Ignored refl refl refl)
+
+  -- an address of this node
+  its_address : (socket : ℕ) → s.to.net ≡ n.seat.net → s.to.node ≡ n.seat.number → s.to.socket ≡ socket → s.to ≡ at_socket n.seat n.seat.number socket
+  its_address socket a b e = λ i. record { net = a i; node = b i; socket = e i }
+
+  at_asker : (f : Content) (o : Outcome A AtpState) → s.packet ≡ f → s.to.node ≡ n.seat.number → s.to.socket ≡ 128 →
+      AtRequester n.seat n.atp (tid_of f) (packet_in f) (heard n.atp.requester s.from f) (heard {A = A} n.atp.requester s.from f).step o → IsIts A history n (Gets which) (over (with_atp n) o)
+  at_asker (Request mask xo timer tid user bytes) o is here socket at = ignoring o at
+  at_asker (Release tid) o is here socket at = ignoring o at
+  at_asker (Response place eom sts tid user bytes) o is here socket at =
+      let gives = laws.answers history st.timely in
+      let p = gives.responded which s place eom sts tid user bytes was_sent fresh is in
+      let on_net = requester_on_net n.seat.net (after A history).asked s.to tid s.from st.on_net p.0 in
+      response_happens A laws history n st which s was_sent fresh (its_address 128 on_net here socket) place eom sts tid user bytes is (heard {A = A} n.atp.requester s.from (Response place eom sts tid user bytes)).step o refl at
+
+  at_service : (said : Reply A) (f : Content) (o : Outcome A AtpState) → (is_asked o.report ≡ true → said ≡ reply.Later) → s.packet ≡ f → s.to.node ≡ n.seat.number → s.to.socket ≡ 129 → AtService said n.seat n.atp s.from f o → IsIts A history n (Gets which) (over (with_atp n) o)
+  at_service said (Response place eom sts tid user bytes) o later is here socket at = ignoring o at
+  at_service said (Release tid) o later is here socket at =
+      let a = released_where A laws history n st which s was_sent fresh tid is in
+      let on_net = responder_on_net n.seat.net (after A history).asked s.from tid s.to st.on_net a in
+      subst (λ p. IsIts A history n (Gets which) (over (with_atp n) p)) (sym at) (service_release A laws history n st which s was_sent fresh tid is (its_address 129 on_net here socket))
+  at_service said (Request mask xo timer tid user bytes) o later is here socket at =
+      let a = asks A laws history n st which s was_sent fresh mask xo timer tid user bytes is in
+      let on_net = responder_on_net n.seat.net (after A history).asked s.from tid s.to st.on_net a.0 in
+      service_request A laws history n st which s was_sent fresh (its_address 129 on_net here socket) mask xo timer tid user bytes is said o later at
+
+  at_zone_socket : (f : Content) (o : Outcome A AtpState) (table : List (List ℕ)) → n.atp.table ≡ Some table → s.packet ≡ f → s.to.node ≡ n.seat.number → s.to.socket ≡ 6 → AtZones n.seat n.atp s.from table f o → IsIts A history n (Gets which) (over (with_atp n) o)
+  at_zone_socket (Response place eom sts tid user bytes) o table has is here socket at = ignoring o at
+  at_zone_socket (Release tid) o table has is here socket at =
+      let a = released_where A laws history n st which s was_sent fresh tid is in
+      let on_net = responder_on_net n.seat.net (after A history).asked s.from tid s.to st.on_net a in
+      subst (λ p. IsIts A history n (Gets which) (over (with_atp n) p)) (sym at) (zone_release A laws history n st which s was_sent fresh (its_address 6 on_net here socket) tid is)
+  at_zone_socket (Request mask xo timer tid user bytes) o table has is here socket (inr at) = ignoring o at.1
+  at_zone_socket (Request mask xo timer tid user bytes) o table has is here socket (inl at) =
+      let a = asks A laws history n st which s was_sent fresh mask xo timer tid user bytes is in
+      let on_net = responder_on_net n.seat.net (after A history).asked s.from tid s.to st.on_net a.0 in
+      zone_request A laws history n st which s was_sent fresh (its_address 6 on_net here socket) mask xo timer tid user bytes is table has at.start at.asks o at.outcome
+
+  -- which socket it comes to
+  at_router : (o : Outcome A AtpState) (table : Option (List (List ℕ))) (said : Reply A) → n.atp.table ≡ table → s.to.node ≡ n.seat.number → s.to.socket ≡ 6 →
+      AtSocket said n.seat n.atp s.from (option_map Zones table) s.packet o → IsIts A history n (Gets which) (over (with_atp n) o)
+  at_router o None said has here socket at = ignoring o at
+  at_router o (Some table) said has here socket at = at_zone_socket s.packet o table has refl here socket at
+
+  at_mine : (said : Reply A) (o : Outcome A AtpState) → (is_asked o.report ≡ true → said ≡ reply.Later) → s.to.node ≡ n.seat.number → (x y z : Bool) → (s.to.socket == 128) ≡ x → (s.to.socket == 129) ≡ y → (s.to.socket == 6) ≡ z →
+      AtSocket said n.seat n.atp s.from (cond x (Some Requester) (cond y (Some Service) (cond z (option_map Zones n.atp.table) None))) s.packet o → IsIts A history n (Gets which) (over (with_atp n) o)
+  at_mine said o later here true y z e f g at = at_asker s.packet o refl here (eqb-true s.to.socket 128 e) at
+  at_mine said o later here false true z e f g at = at_service said s.packet o later refl here (eqb-true s.to.socket 129 f) at
+  at_mine said o later here false false true e f g at = at_router o n.atp.table said refl here (eqb-true s.to.socket 6 g) at
+  at_mine said o later here false false false e f g at = ignoring o at
+
+  pub datagram_happens : (said : Reply A) (o : Outcome A NodeState) → (is_asked o.report ≡ true → said ≡ reply.Later) → Hears said n (canonical s.to s.from atp_kind (spelled s.packet)) o → IsIts A history n (Gets which) o
+  datagram_happens said o later h = go (is_mine n.seat s.to) refl heard_so
+    where
+      heard_so : HearsSent said n s.to s.from s.packet o
+      heard_so =
+          let l = sent_at IsLawfullySent (after A history).sent which s (laws.lawful_sent history st.in_range) was_sent in
+          laws.hears said n s.to s.from s.packet o l.to_fits l.from_fits l.lawful h
+
+      here : is_mine n.seat s.to ≡ true → s.to.node ≡ n.seat.number
+      here e = let both = and_parts ((s.to.net == n.seat.net) || (s.to.net == 0)) (s.to.node == n.seat.number) e in eqb-true s.to.node n.seat.number both.1
+
+      go : (b : Bool) → is_mine n.seat s.to ≡ b → MatchBool b (Over (with_atp n) (AtSocket said n.seat n.atp s.from (atp_socket n.atp s.to.socket) s.packet) o) (o ≡ idle n report.Ignored) → IsIts A history n (Gets which) o
+      go false e g = subst (IsIts A history n (Gets which)) (sym g) (idle_happens A history n (Gets which) st report.Ignored refl refl refl)
+      go true e g = subst (IsIts A history n (Gets which)) (sym g.2)
+          (at_mine said g.0 (λ asked. later (ap (λ (x : Outcome A NodeState). is_asked x.report) g.2 ∙ asked)) (here e) (s.to.socket == 128) (s.to.socket == 129) (s.to.socket == 6) refl refl refl g.1)

@@ -1,0 +1,126 @@
+-- What the calls that begin a transaction are in the network.
+use Rattle.std.proofs.Common.{◌≡◌, ℕ, ◌<◌, ◌≤◌, Bool, true, false, cond, List, [], ◌∷◌, ◌++◌, length, Option, Some, None, refl, sym, ap, subst, ◌∙◌, arith, lit<, lit≤}
+use Rattle.std.specs.Prelude.{◌==◌, ◌||◌, nat_lt}
+use Rattle.std.proofs.lemmas.Bool.{true≢false, false≢true, eq-eqb, eqb-true}
+use Rattle.std.proofs.lemmas.Bool.Decides.{nat_tests}
+use Rattle.std.proofs.lemmas.List.{length-replicate}
+use Rattle.std.proofs.lemmas.List.Elements.{All-from_recursion, All-nil}
+use Rattle.at_ddp.specs.Datagram.{IsAddress}
+use Rattle.at_atp_frame.specs.Packets.{IsPacket}
+use Rattle.at_atp_requester.specs.Answers as arrivals
+use Rattle.at_atp_requester.specs.Requests as requests
+use Rattle.at_atp_requester.specs.Requests.{has_number, next_number, beginning}
+use Rattle.at_atp.specs.Network.{Happening, NoneHolds, after}
+use Rattle.at_zip.specs.Request.{request_user}
+use Rattle.at_node.specs.Calls.{IsCall}
+use Rattle.at_node.specs.Drawing.{drawn_by}
+use Rattle.at_node.specs.AtpParts.{asking, zones_at}
+use Rattle.at_node.specs.Nodes.{with_atp, NodeState}
+use Rattle.at_node.specs.Outcomes.{over, idle}
+use Rattle.at_node.specs.RequesterSocket.{asked_as}
+use Rattle.at_node.specs.Seats.{at_socket}
+use Rattle.at_node.specs.ZoneReading.{reading_begins, zones_called, zone_transaction}
+use Rattle.at_node.specs.declared.drawing.Draw.TheVariants.{Tid}
+use Rattle.at_node.specs.declared.event.Call.TheVariants.{Zones, Ask}
+use Rattle.at_node.specs.declared.event.Report.{Report}
+use Rattle.at_node.specs.declared.event.Report.TheVariants as report
+use Rattle.at_steps.specs.Acts.{Calls}
+use Rattle.at_steps.specs.AtpHappenings.{Stands, IsOpen}
+use Rattle.at_steps.specs.AtpSteps.{Begins, Reads}
+use Rattle.at_steps.proofs.Atp.Below.{CallLaws}
+use Rattle.at_steps.proofs.Atp.Moves.{IsIts, idle_happens, begun_happens}
+use Rattle.at_steps.proofs.Atp.Stories.{begins_match}
+
+-- ---- numbers that are open
+
+open_more : (ts us : List requests.Transaction) (tid : ℕ) → has_number ts tid ≡ true → has_number (ts ++ us) tid ≡ true
+open_more [] us tid h = absurd (false≢true h)
+open_more (t ∷ ts) us tid h = go (t.tid == tid) h (open_more ts us tid)
+  where
+    go : (b : Bool) → (b || has_number ts tid) ≡ true → (has_number ts tid ≡ true → has_number (ts ++ us) tid ≡ true) → (b || has_number (ts ++ us) tid) ≡ true
+    go true g ih = refl
+    go false g ih = ih g
+
+open_last : (ts : List requests.Transaction) (t : requests.Transaction) → has_number (ts ++ t ∷ []) t.tid ≡ true
+open_last [] t = rw (eq-eqb t.tid t.tid refl) refl
+open_last (u ∷ ts) t = go (u.tid == t.tid) (open_last ts t)
+  where
+    go : (b : Bool) → has_number (ts ++ t ∷ []) t.tid ≡ true → (b || has_number (ts ++ t ∷ []) t.tid) ≡ true
+    go true h = refl
+    go false h = h
+
+-- no responder holds a number that a step with this report draws
+abbrev pub DrawsFree : (A : Type 0) (history : List Happening) (n : NodeState) → Report A → Type 0
+DrawsFree A history n r = (tid : ℕ) → drawn_by r ≡ Some (Tid tid) → NoneHolds (after A history).responders (asking n.seat.net n.seat.number) tid
+
+module _ (A : Type 0) (laws : CallLaws A) (history : List Happening) (n : NodeState) (st : Stands A history n.seat.net n.seat.number n) where
+  asking_fits : IsAddress (asking n.seat.net n.seat.number)
+  asking_fits = record { net = st.small_net; node = st.small_number; socket = lit< tt }
+
+  there_fits : (node socket : ℕ) → node < 256 → socket < 256 → IsAddress (at_socket n.seat node socket)
+  there_fits node socket a b = record { net = st.small_net; node = a; socket = b }
+
+  -- ---- the zone list
+
+  first_asks : IsPacket (record { user = request_user 1; data_ = [] })
+  first_asks = record { four = refl; user = All-from_recursion (λ b. b < 256) (request_user 1) (lit< tt, (lit< tt, (lit< tt, (lit< tt, tt)))); bytes = All-nil (λ b. b < 256); fits = lit≤ tt }
+
+  reading_is_open : (router tid : ℕ) → IsOpen (record n.atp { requester = requests.begun n.atp.requester (zone_transaction n.seat router tid); reading = Some tid })
+  reading_is_open router tid number is = let same : tid ≡ number = cc in subst (λ i. has_number (n.atp.requester.standing ++ zone_transaction n.seat router tid ∷ []) i ≡ true) same (open_last n.atp.requester.standing (zone_transaction n.seat router tid))
+
+  reading_begun : (router : ℕ) → n.seat.router ≡ Some router → (drawn : Option ℕ) → next_number n.atp.requester ≡ drawn → DrawsFree A history n (over (with_atp n) (reading_begins {A = A} n.seat n.atp router drawn)).report → IsIts A history n (Calls Zones) (over (with_atp n) (reading_begins n.seat n.atp router drawn))
+  reading_begun router is None is_drawn free = idle_happens A history n (Calls Zones) st (report.Refused 14) refl refl refl
+  reading_begun router is (Some tid) is_drawn free =
+      begun_happens A history n (Calls Zones) st (zones_at n.seat.net router) (request_user 1) [] 1 false 3 tid (Some tid) is_drawn (free tid refl)
+      (record { who_fits = asking_fits; to_fits = there_fits router 6 (st.small_router router is) (lit< tt); asks = first_asks; few = lit≤ tt })
+      refl (reading_is_open router tid)
+      (begins_match A n.seat.net n.seat.number (after A history) tid (zones_at n.seat.net router) (request_user 1) [] 1 false 3 Zones refl refl (ap next_number st.requester ∙ is_drawn))
+      (Reads (record { tid = tid; server = router; is_router = is; act = refl; report = refl; asked = refl; reading = refl }))
+
+  pub zones_call : (router reading : Option ℕ) → n.seat.router ≡ router → DrawsFree A history n (over (with_atp n) (zones_called {A = A} n.seat n.atp router reading)).report → IsIts A history n (Calls Zones) (over (with_atp n) (zones_called n.seat n.atp router reading))
+  zones_call None reading is free = idle_happens A history n (Calls Zones) st (report.Refused 60) refl refl refl
+  zones_call (Some router) (Some tid) is free = idle_happens A history n (Calls Zones) st (report.Refused 63) refl refl refl
+  zones_call (Some router) None is free = reading_begun router is (next_number n.atp.requester) refl free
+
+  -- ---- asking
+
+  -- a transaction that begins is not the one that reads the list
+  apart_from_reading : (tid : ℕ) → next_number n.atp.requester ≡ Some tid → (reading : ℕ) → n.atp.reading ≡ Some reading → (tid == reading) ≡ false
+  apart_from_reading tid drawn reading is = go (tid == reading) refl
+    where
+      go : (b : Bool) → (tid == reading) ≡ b → b ≡ false
+      go false e = refl
+      go true e = absurd (true≢false (sym (st.is_open reading is) ∙ ap (has_number n.atp.requester.standing) (sym (eqb-true tid reading e)) ∙ laws.drawn n.atp.requester tid drawn))
+
+  module _ (node socket : ℕ) (user bytes : List ℕ) (wanted : ℕ) (xo : Bool) (retries : ℕ) (range : IsCall {A = A} (Ask node socket user bytes wanted xo retries)) where
+    asked_for : length bytes ≤ 578 → (drawn : Option ℕ) → next_number n.atp.requester ≡ drawn → DrawsFree A history n (over (with_atp n) (asked_as {A = A} n.seat n.atp (at_socket n.seat node socket) user bytes wanted xo retries drawn)).report →
+        IsIts A history n (Calls (Ask node socket user bytes wanted xo retries)) (over (with_atp n) (asked_as n.seat n.atp (at_socket n.seat node socket) user bytes wanted xo retries drawn))
+    asked_for few None is_drawn free = idle_happens A history n (Calls (Ask node socket user bytes wanted xo retries)) st (report.Refused 14) refl refl refl
+    asked_for few (Some tid) is_drawn free =
+        begun_happens A history n (Calls (Ask node socket user bytes wanted xo retries)) st (at_socket n.seat node socket) user bytes wanted xo retries tid n.atp.reading is_drawn (free tid refl)
+        (record { who_fits = asking_fits; to_fits = there_fits node socket range.0 range.1; asks = record { four = range.2; user = range.3; bytes = range.4; fits = few }; few = range.6 })
+        refl (λ number is. open_more n.atp.requester.standing (beginning tid (at_socket n.seat node socket) user bytes wanted xo retries ∷ []) number (st.is_open number is))
+        (begins_match A n.seat.net n.seat.number (after A history) tid (at_socket n.seat node socket) user bytes wanted xo retries (Ask node socket user bytes wanted xo retries) refl refl (ap next_number st.requester ∙ is_drawn))
+        (Begins (record {
+          tid = tid;
+          node = node;
+          socket = socket;
+          user = user;
+          bytes = bytes;
+          wanted = wanted;
+          xo = xo;
+          retries = retries;
+          act = refl;
+          report = refl;
+          asked = λ i. record { requester = asking n.seat.net n.seat.number; tid = tid; responder = at_socket n.seat node socket; user = user; data_ = bytes; wanted = length-replicate {A = Option arrivals.Arrival} wanted None i; xo = xo; answers = [] } ∷ (after A history).asked;
+          reading = refl;
+          apart = apart_from_reading tid is_drawn;
+        }))
+
+    pub ask_call : (b : Bool) → nat_lt 578 (length bytes) ≡ b → DrawsFree A history n (over (with_atp n) (cond b (idle {A = A} n.atp (report.Refused 13)) (asked_as n.seat n.atp (at_socket n.seat node socket) user bytes wanted xo retries (next_number n.atp.requester)))).report →
+        IsIts A history n (Calls (Ask node socket user bytes wanted xo retries)) (over (with_atp n) (cond b (idle n.atp (report.Refused 13)) (asked_as n.seat n.atp (at_socket n.seat node socket) user bytes wanted xo retries (next_number n.atp.requester))))
+    ask_call true e free = idle_happens A history n (Calls (Ask node socket user bytes wanted xo retries)) st (report.Refused 13) refl refl refl
+    ask_call false e free = asked_for (few_bytes (length bytes) e) (next_number n.atp.requester) refl free
+      where
+        few_bytes : (len : ℕ) → nat_lt 578 len ≡ false → len ≤ 578
+        few_bytes len h = grind (arith, nat_tests)

@@ -1,0 +1,154 @@
+-- What an event is in the network, by what was reported of it.
+use Rattle.std.proofs.Common.{◌≡◌, ℕ, Bool, true, false, List, Option, Some, None, refl, sym, ap, ◌∙◌}
+use Rattle.std.specs.Prelude.{find, is_none, ◌&&◌}
+use Rattle.std.proofs.lemmas.Bool.{false≢true}
+use Rattle.at_ddp.specs.Address.{same_address}
+use Rattle.at_ddp.specs.declared.address.Address.{Address}
+use Rattle.at_atp.specs.HandUps.{brings, is_drawn}
+use Rattle.at_atp_frame.specs.Frames.{number_of}
+use Rattle.at_atp.specs.Network.{Network, Sent, packet_at, Begins, Answers, Hears, Takes, Serves, Expires, Retries, Other, Happening, done}
+use Rattle.at_atp_responder.specs.Once.{is_new_of, same_key}
+use Rattle.at_atp_frame.specs.Packets.{Packet}
+use Rattle.at_atp_responder.specs.Records.{Record, State, Waiting, Answered, Released, is_key, came_again, released, release_came, taken, expiry_fault}
+use Rattle.at_atp.specs.Transactions.{answered}
+use Rattle.at_atp_requester.specs.Requests.{next_number}
+use Rattle.at_atp_responder.specs.declared.reception.Key.{Key}
+use Rattle.at_atp_responder.specs.declared.reception.Reception.{Reception}
+use Rattle.at_atp_responder.specs.declared.reception.Reception.TheVariants as reception
+use Rattle.at_node.specs.AtpParts.{asking}
+use Rattle.at_node.specs.Responders.{released_report}
+use Rattle.at_node.specs.declared.event.Call.{Call}
+use Rattle.at_node.specs.declared.event.Call.TheVariants.{Answer}
+use Rattle.at_node.specs.declared.event.Report.{Report}
+use Rattle.at_node.specs.declared.event.Report.TheVariants as report
+use Rattle.at_node.specs.declared.event.Timer.TheVariants as timer
+use Rattle.at_steps.specs.Acts.{Act, Calls, Fires, Gets}
+use Rattle.at_steps.specs.AtpReports.{Matches, Joins, Finishes, Ends, asks_once, asks_for, began_under, expired_at, handed_up_by, came_under}
+
+-- an event whose report tells of no beginning, no request, no response and no expiry
+abbrev pub is_quiet : {A : Type 0} → Report A → Act A → Bool
+is_quiet (report.Begun tid) (Calls call) = false
+is_quiet (report.Answered count) (Calls call) = false
+is_quiet (report.Served count) (Gets which) = false
+is_quiet (report.Asked k user bytes) (Gets which) = false
+is_quiet (report.Response tid packets) (Gets which) = false
+is_quiet report.Done (Fires time) = false
+is_quiet r act = true
+
+no_begin : (A : Type 0) (net number : ℕ) (act : Act A) (r : Report A) (key : Key) → is_quiet r act ≡ true → began_under net number act r key ≡ false
+no_begin A net number (Calls call) (report.Begun tid) key q = absurd (false≢true q)
+no_begin A net number (Calls call) r key q = refl
+no_begin A net number (Gets which) r key q = refl
+no_begin A net number (Fires time) r key q = refl
+
+no_hand_up : (A : Type 0) (sent : List (Option Sent)) (act : Act A) (r : Report A) (key : Key) → is_quiet r act ≡ true → handed_up_by sent act r key ≡ false
+no_hand_up A sent (Calls call) r key q = refl
+no_hand_up A sent (Gets which) (report.Served count) key q = absurd (false≢true q)
+no_hand_up A sent (Gets which) (report.Asked k user bytes) key q = absurd (false≢true q)
+no_hand_up A sent (Gets which) r key q = refl
+no_hand_up A sent (Fires time) r key q = refl
+
+no_expiry : (A : Type 0) (net number : ℕ) (act : Act A) (r : Report A) (at : Address) (key : Key) → is_quiet r act ≡ true → expired_at net number act r at key ≡ false
+no_expiry A net number (Calls call) r at key q = refl
+no_expiry A net number (Gets which) r at key q = refl
+no_expiry A net number (Fires (timer.Retry tid)) r at key q = refl
+no_expiry A net number (Fires (timer.Release own k' socket tid')) report.Done at key q = absurd (false≢true q)
+no_expiry A net number (Fires (timer.Release own k' socket tid')) r at key q = refl
+
+no_end : (A : Type 0) (net number : ℕ) (n : Network) (act : Act A) (r : Report A) → is_quiet r act ≡ true → Finishes net number n act r
+no_end A net number n (Calls call) r q = tt
+no_end A net number n (Gets which) (report.Served count) q = absurd (false≢true q)
+no_end A net number n (Gets which) (report.Response tid packets) q = absurd (false≢true q)
+no_end A net number n (Gets which) r q = tt
+no_end A net number n (Fires time) r q = tt
+
+no_answer : (A : Type 0) (net : ℕ) (n : Network) (h : Happening) (act : Act A) (r : Report A) → is_quiet r act ≡ true → Joins net n h r act
+no_answer A net n h (Calls call) (report.Answered count) q = absurd (false≢true q)
+no_answer A net n h (Gets which) (report.Served count) q = absurd (false≢true q)
+no_answer A net n h (Fires time) (report.Answered count) q = tt
+no_answer A net n h act r q = tt
+
+module _ (A : Type 0) (net number : ℕ) (n : Network) where
+  pub other_matches : (count : ℕ) (act : Act A) (r : Report A) → is_quiet r act ≡ true → Matches net number n (Other count) act r
+  other_matches count act r q = record { draws_it = λ key. sym (no_begin A net number act r key q); expires_it = λ at key. sym (no_expiry A net number act r at key q); hands_up = λ key. sym (no_hand_up A n.sent act r key q); takes_in = tt; begins_as = tt; answers_as = tt; joins = no_answer A net n (Other count) act r q; finishes = no_end A net number n act r q }
+
+  pub answers_match : (at : Address) (key : Key) (packets : List Packet) (k socket tid count : ℕ) → key ≡ record { from = record { net = net; node = k; socket = socket }; tid = tid } →
+      (done A n (Answers at key packets)).asked ≡ answered n.asked (record { net = net; node = k; socket = socket }) tid packets → Matches {A = A} net number n (Answers at key packets) (Calls (Answer k socket tid packets)) (report.Answered count)
+  answers_match at key packets k socket tid count its joins = record { draws_it = λ x. refl; expires_it = λ at x. refl; hands_up = λ x. refl; takes_in = tt; begins_as = tt; answers_as = (k, socket, tid, count, refl, refl, its); joins = joins; finishes = tt }
+
+  pub hears_matches : (which : ℕ) (act : Act A) (r : Report A) → is_quiet r act ≡ true → Matches net number n (Hears which) act r
+  hears_matches which act r q = record { draws_it = λ key. sym (no_begin A net number act r key q); expires_it = λ at key. sym (no_expiry A net number act r at key q); hands_up = λ key. sym (no_hand_up A n.sent act r key q); takes_in = tt; begins_as = tt; answers_as = tt; joins = no_answer A net n (Hears which) act r q; finishes = no_end A net number n act r q }
+
+  -- a packet that ends a transaction
+  pub ends_match : (which tid : ℕ) (packets : List Packet) → Ends A net number n which tid packets → Matches {A = A} net number n (Hears which) (Gets which) (report.Response tid packets)
+  ends_match which tid packets ends = record { draws_it = λ key. refl; expires_it = λ at key. refl; hands_up = λ key. refl; takes_in = tt; begins_as = tt; answers_as = tt; joins = tt; finishes = ends }
+
+  pub retries_match : (who : Address) (tid : ℕ) (act : Act A) (r : Report A) → is_quiet r act ≡ true → Matches net number n (Retries who tid) act r
+  retries_match who tid act r q = record { draws_it = λ key. sym (no_begin A net number act r key q); expires_it = λ at key. sym (no_expiry A net number act r at key q); hands_up = λ key. sym (no_hand_up A n.sent act r key q); takes_in = tt; begins_as = tt; answers_as = tt; joins = no_answer A net n (Retries who tid) act r q; finishes = no_end A net number n act r q }
+
+  -- a transaction begins under the next number
+  pub begins_match : (tid : ℕ) (to : Address) (user bytes : List ℕ) (wanted : ℕ) (xo : Bool) (retries : ℕ) (call : Call A) → asks_once (Calls call) ≡ xo → asks_for (Calls call) ≡ wanted → next_number (n.requesters (asking net number)) ≡ Some tid →
+      Matches net number n (Begins (asking net number) to user bytes wanted xo retries) (Calls call) (report.Begun tid)
+  begins_match tid to user bytes wanted xo retries call once many drawn = record { draws_it = λ key. ap (λ o. is_drawn (asking net number) o key) drawn; expires_it = λ at key. refl; hands_up = λ key. refl; takes_in = tt; begins_as = (once, many); answers_as = tt; joins = tt; finishes = tt }
+
+  module _ (which : ℕ) (s : Sent) (was_sent : packet_at n.sent which ≡ Some s) where
+    -- a packet that hands nothing up
+    pub takes_quietly : (r : Report A) (x : Reception) → (taken (n.responders s.to) s.from s.packet).reception ≡ x → ((key : Key) → is_new_of key x ≡ false) → is_quiet r (Gets which) ≡ true → Matches net number n (Takes which) (Gets which) r
+    takes_quietly r x is old q = record {
+      draws_it = λ key. sym (no_begin A net number (Gets which) r key q);
+      expires_it = λ at key. sym (no_expiry A net number (Gets which) r at key q);
+      hands_up = λ key. ap (brings n key) was_sent ∙ ap (is_new_of key) is ∙ old key ∙ sym (no_hand_up A n.sent (Gets which) r key q);
+      takes_in = refl;
+      begins_as = tt;
+      answers_as = tt;
+      joins = no_answer A net n (Takes which) (Gets which) r q;
+      finishes = no_end A net number n (Gets which) r q;
+    }
+
+    -- a request that is delivered
+    pub takes_new : (key : Key) (user bytes : List ℕ) → (taken (n.responders s.to) s.from s.packet).reception ≡ reception.New key → Matches {A = A} net number n (Takes which) (Gets which) (report.Asked key user bytes)
+    takes_new new user bytes is = record { draws_it = λ key. refl; expires_it = λ at key. refl; hands_up = λ key. ap (brings n key) was_sent ∙ ap (is_new_of key) is; takes_in = refl; begins_as = tt; answers_as = tt; joins = tt; finishes = tt }
+
+    -- a request that is answered at once
+    pub serves_new : (key : Key) (packets : List Packet) (count : ℕ) → (taken (n.responders s.to) s.from s.packet).reception ≡ reception.New key → key ≡ record { from = s.from; tid = number_of s.packet } →
+        (done A n (Serves which packets)).asked ≡ answered n.asked s.from (number_of s.packet) packets → Matches {A = A} net number n (Serves which packets) (Gets which) (report.Served count)
+    serves_new new packets count is its joins = record {
+      draws_it = λ key. refl;
+      expires_it = λ at key. refl;
+      hands_up = λ key. ap (brings n key) was_sent ∙ ap (is_new_of key) is ∙ ap (λ x. same_key x key) its ∙ ap (λ o. came_under o key) (sym was_sent);
+      takes_in = refl;
+      begins_as = tt;
+      answers_as = (count, refl, refl);
+      joins = (s, was_sent, (packets, joins));
+      finishes = (s, was_sent);
+    }
+
+  -- a record that expires
+  pub expires_match : (own node socket tid : ℕ) (place : Address) (key : Key) → place ≡ record { net = net; node = number; socket = own } → key ≡ record { from = record { net = net; node = node; socket = socket }; tid = tid } →
+      expiry_fault (find (is_key key) (n.responders place)) ≡ None → Matches {A = A} net number n (Expires place key) (Fires (timer.Release own node socket tid)) report.Done
+  expires_match own node socket tid place key here its free = record {
+    draws_it = λ x. refl;
+    expires_it = λ at x. λ i. is_none (free i) && same_address (here i) at && same_key (its i) x;
+    hands_up = λ x. refl;
+    takes_in = tt;
+    begins_as = tt;
+    answers_as = tt;
+    joins = tt;
+    finishes = tt;
+  }
+
+-- a release is not delivered
+pub release_is_old : (rs : List Record) (k : Key) (o : Option Record) (key : Key) → is_new_of key (release_came rs k o).reception ≡ false
+release_is_old rs k None key = refl
+release_is_old rs k (Some r) key = go r.state
+  where
+    go : (s : State) → is_new_of key (came_again rs k r (released s)).reception ≡ false
+    go (Waiting xo mask) = refl
+    go (Answered packets) = refl
+    go Released = refl
+
+pub release_is_quiet : (A : Type 0) (which : ℕ) (r : Reception) → is_quiet (released_report {A = A} r) (Gets which) ≡ true
+release_is_quiet A which reception.Ignored = refl
+release_is_quiet A which (reception.New key) = refl
+release_is_quiet A which (reception.Again count) = refl
+release_is_quiet A which reception.Released = refl

@@ -1,0 +1,21 @@
+use Rattle.at_steps.proofs.Atp.Arriving.{datagram_happens}
+use Rattle.at_steps.proofs.Atp.Below.{HearingLaws}
+use Rattle.at_steps.proofs.laws.a_packet_is_a_happening_of_atp.Goals as goal
+
+pub returns : goal.returns
+returns g c =
+    let A = g.row.A.Denot in
+    let open_numbers = c.numbers_stay_open.ensures in
+    let fit = c.a_page_fits_one_packet.ensures in
+    let laws : HearingLaws A = record {
+      answers = c.responses_are_answers.ensures;
+      hears = c.what_is_sent_is_heard.ensures;
+      lawful_sent = c.what_is_sent_is_lawful.ensures;
+      heard_stays = open_numbers.heard;
+      new_waits = c.a_new_request_waits.ensures;
+      few = c.no_more_is_sent_than_answered.ensures;
+      user = fit.user;
+      bytes = fit.bytes;
+      fits = fit.fits;
+    } in
+    λ history n which s said o st was_sent fresh later heard. datagram_happens A laws history n st which s was_sent fresh said o later heard

@@ -1,0 +1,23 @@
+-- What happens at a node, and whose report it is.
+use Rattle.std.specs.Prelude.{ℕ, Bool, true, false}
+use Rattle.at_node.specs.Kinds.{Kind, Atp, kind_of_call, kind_of_timer, reporter_of}
+use Rattle.at_node.specs.declared.event.Call.{Call}
+use Rattle.at_node.specs.declared.event.Report.{Report}
+use Rattle.at_node.specs.declared.event.Report.TheVariants as report
+use Rattle.at_node.specs.declared.event.Timer.{Timer}
+
+-- a call, a timer, or the datagram at a place of all that were sent
+pub data Act (A : Type 0) : Type 0 where
+  Calls : Call A → Act A
+  Fires : Timer → Act A
+  Gets : (which : ℕ) → Act A
+
+-- which part's report it is: `done` is that of whose call or timer it was
+abbrev pub owner_of : {A : Type 0} → Act A → Report A → Kind
+owner_of (Calls call) report.Done = kind_of_call call
+owner_of (Fires timer) report.Done = kind_of_timer timer
+owner_of act r = reporter_of r
+
+abbrev pub is_atp : Kind → Bool
+is_atp Atp = true
+is_atp other = false

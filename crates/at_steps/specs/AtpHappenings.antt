@@ -1,0 +1,127 @@
+-- Which happening of the network of requesters and responders a step of a node is (Inside AppleTalk, ATP,
+-- "Transactions").
+use Rattle.std.specs.Prelude.{◌≡◌, ℕ, ◌^◌, ◌<◌, ◌==◌, ◌++◌, true, false, List, [], ◌∷◌, find, Option, Some, None}
+use Rattle.std.specs.List.{AllByRecursion}
+use Rattle.at_ddp.specs.declared.address.Address.{Address}
+use Rattle.at_atp_frame.specs.Frames.{spelled}
+use Rattle.at_atp_requester.specs.Requests.{has_number}
+use Rattle.at_atp_responder.specs.Records.{Record, is_key}
+use Rattle.at_atp.specs.Lawfully.{IsInRange}
+use Rattle.at_atp.specs.Network.{Sent, Drawn, Happening, AllTimely, IsTimely, after, done, put}
+use Rattle.at_atp.specs.Transactions.{Transaction}
+use Rattle.at_zip.specs.Zones.{IsTable}
+use Rattle.at_node.specs.AtpParts.{AtpState, asking, serving, zones_at, atp_kind}
+use Rattle.at_node.specs.Drawing.{drawn_by}
+use Rattle.at_node.specs.Nodes.{NodeState}
+use Rattle.at_node.specs.Outcomes.{Outcome, Outgoing}
+use Rattle.at_node.specs.declared.drawing.Draw.{Draw}
+use Rattle.at_node.specs.declared.drawing.Draw.TheVariants.{Tid}
+use Rattle.at_steps.specs.Acts.{Act, owner_of, is_atp}
+use Rattle.at_steps.specs.AtpReports.{Matches}
+use Rattle.at_steps.specs.AtpSteps.{Change, IsStep}
+
+-- ---- a node in a network
+
+-- both ends of a transaction are on this AppleTalk network
+abbrev pub IsOn : ℕ → Transaction → Type 0
+IsOn net t = (t.requester.net ≡ net) × (t.responder.net ≡ net)
+
+-- the transaction that reads the zone list is open
+abbrev pub IsOpen : AtpState → Type 0
+IsOpen a = (tid : ℕ) → a.reading ≡ Some tid → has_number a.requester.standing tid ≡ true
+
+-- After this history the node's sockets are those of its part. No packet outlived its number, and all that was asked
+-- and answered is in range.
+pub record Stands (A : Type 0) (history : List Happening) (net number : ℕ) (n : NodeState) : Type 0 where
+  pub timely : AllTimely A history
+  pub in_range : AllByRecursion IsInRange history
+  pub small_net : net < 2 ^ 16
+  pub small_number : number < 256
+  pub small_router : (router : ℕ) → n.seat.router ≡ Some router → router < 256
+  pub on_net : AllByRecursion (IsOn net) (after A history).asked
+  pub requester : (after A history).requesters (asking net number) ≡ n.atp.requester
+  pub zones : (after A history).responders (zones_at net number) ≡ n.atp.zone_responder
+  pub service : (after A history).responders (serving net number) ≡ n.atp.service_responder
+  pub is_open : IsOpen n.atp
+  pub has_table : (table : List (List ℕ)) → n.atp.table ≡ Some table → IsTable table
+
+-- no record of these is of this requester and number
+abbrev pub HoldsNo : Address → ℕ → List Record → Type 0
+HoldsNo who tid rs = find (is_key (record { from = who; tid = tid })) rs ≡ None
+
+-- ---- what is sent
+
+-- a datagram is this packet, which this event sent; or it is of another protocol
+abbrev pub IsEntry : ℕ → Outgoing → Option Sent → Type 0
+IsEntry event o (Some s) =
+    (o ≡ record { from = s.from; to = s.to; kind = atp_kind; data_ = spelled s.packet }) × (s.event ≡ event)
+IsEntry event o None = (o.kind == atp_kind) ≡ false
+
+abbrev pub AreEntries : ℕ → List Outgoing → List (Option Sent) → Type 0
+AreEntries event [] [] = Unit {0}
+AreEntries event (o ∷ out) (x ∷ sent) = IsEntry event o x × AreEntries event out sent
+AreEntries event [] (x ∷ sent) = ⊥
+AreEntries event (o ∷ out) [] = ⊥
+
+-- the transaction number that an event drew, if it drew one
+abbrev pub numbers_drawn : ℕ → Address → Option Draw → List Drawn
+numbers_drawn event who None = []
+numbers_drawn event who (Some (Tid tid)) = record { event = event; who = who; tid = tid } ∷ []
+
+-- ---- a step of this protocol
+
+-- A node's step with this outcome is one happening of the network: one that its report tells of. The node's sockets
+-- become what its part becomes, and all others stay.
+pub record Happens (A : Type 0) (history : List Happening) (net number : ℕ) (n : NodeState) (act : Act A)
+    (o : Outcome A NodeState) : Type 0 where
+  pub happening : Happening
+  pub timely : IsTimely (after A history) happening
+  pub in_range : IsInRange happening
+  pub same_event : (done A (after A history) happening).event ≡ (after A history).event
+  pub requesters : (who : Address) → (done A (after A history) happening).requesters who
+      ≡ put (after A history).requesters (asking net number) o.state.atp.requester who
+  pub responders : (at : Address) → (done A (after A history) happening).responders at
+      ≡ put (put (after A history).responders (serving net number) o.state.atp.service_responder)
+      (zones_at net number) o.state.atp.zone_responder at
+  pub more : List (Option Sent)
+  pub sent : (done A (after A history) happening).sent ≡ (after A history).sent ++ more
+  pub posts : AreEntries (after A history).event o.out more
+  pub drawn : (done A (after A history) happening).drawn ≡ (after A history).drawn
+      ++ numbers_drawn (after A history).event (asking net number) (drawn_by o.report)
+  pub on_net : AllByRecursion (IsOn net) (done A (after A history) happening).asked
+  pub is_open : IsOpen o.state.atp
+  pub same_table : o.state.atp.table ≡ n.atp.table
+  pub matches : Matches net number (after A history) happening act o.report
+
+abbrev pub change : {A : Type 0} {history : List Happening} {net number : ℕ} {n : NodeState} {act : Act A}
+    {o : Outcome A NodeState} → Happens A history net number n act o → Change A
+change {A} {history} {net} {number} {n} {act} {o} h = record {
+  asked = (after A history).asked;
+  now_asked = (done A (after A history) h.happening).asked;
+  part = n.atp;
+  now = o.state.atp;
+  act = act;
+  report = o.report;
+}
+
+-- all that is sent is of this protocol
+abbrev pub SendsAtp : List Outgoing → Type 0
+SendsAtp out = AllByRecursion (λ o. o.kind ≡ atp_kind) out
+
+-- such a happening, which is a step in words of transactions
+abbrev pub IsHappening : (A : Type 0) → List Happening → ℕ → ℕ → NodeState → Act A → Outcome A NodeState → Type 0
+IsHappening A history net number n act o = (h : Happens A history net number n act o)
+    × IsStep net number n.seat.router (change h) × SendsAtp o.out
+
+-- ---- steps of other protocols
+
+-- such a happening, which leaves all transactions and the reading as they were
+abbrev pub Passes : (A : Type 0) → List Happening → ℕ → ℕ → NodeState → Act A → Outcome A NodeState → Type 0
+Passes A history net number n act o = (h : Happens A history net number n act o)
+    × ((done A (after A history) h.happening).asked ≡ (after A history).asked)
+
+-- The step leaves this part as it was, sends no packet of it, and has a report that is not its own.
+pub record IsForeign {A : Type 0} (n : NodeState) (act : Act A) (o : Outcome A NodeState) : Type 0 where
+  pub same : o.state.atp ≡ n.atp
+  pub sends : AllByRecursion (λ p. (p.kind == atp_kind) ≡ false) o.out
+  pub reports : is_atp (owner_of act o.report) ≡ false

@@ -1,0 +1,114 @@
+-- What an event at a node and its report say of requests: which happening of the network of requesters and responders
+-- they tell of (Inside AppleTalk, ATP, "At-least-once and exactly-once transactions").
+use Rattle.std.specs.Prelude.{◌≡◌, ℕ, ◌&&◌, Bool, true, false, List, Option, Some, None}
+use Rattle.at_ddp.specs.Address.{same_address}
+use Rattle.at_ddp.specs.declared.address.Address.{Address}
+use Rattle.at_atp_frame.specs.Frames.{number_of}
+use Rattle.at_atp_frame.specs.Packets.{Packet}
+use Rattle.at_atp_requester.specs.Requests.{heard}
+use Rattle.at_atp_requester.specs.declared.step.Step.TheVariants as step
+use Rattle.at_atp_responder.specs.Once.{same_key}
+use Rattle.at_atp_responder.specs.declared.reception.Key.{Key}
+use Rattle.at_atp.specs.HandUps.{draws, is_handed_up, expires_there}
+use Rattle.at_atp.specs.Network.{Network, Sent, packet_at, Happening, Begins, Answers, Takes, Serves, is_fresh, done}
+use Rattle.at_atp.specs.Transactions.{answered}
+use Rattle.at_node.specs.AtpParts.{asking}
+use Rattle.at_node.specs.declared.event.Call.TheVariants.{Zones, Ask, Answer}
+use Rattle.at_node.specs.declared.event.Report.{Report}
+use Rattle.at_node.specs.declared.event.Report.TheVariants as report
+use Rattle.at_node.specs.declared.event.Timer.TheVariants as timer
+use Rattle.at_steps.specs.Acts.{Act, Calls, Fires, Gets}
+
+-- ---- what an event at a node and its report say of a request
+
+-- a transaction of the node began under the number of this key
+abbrev pub began_under : {A : Type 0} → ℕ → ℕ → Act A → Report A → Key → Bool
+began_under net number (Calls call) (report.Begun tid) key =
+    same_key (record { from = asking net number; tid = tid }) key
+began_under net number act r key = false
+
+-- the release timer removed the record of this key at one of the node's responders
+abbrev pub expired_at : {A : Type 0} → ℕ → ℕ → Act A → Report A → Address → Key → Bool
+expired_at net number (Fires (timer.Release own k socket tid)) report.Done at key =
+    same_address (record { net = net; node = number; socket = own }) at
+    && same_key (record { from = record { net = net; node = k; socket = socket }; tid = tid }) key
+expired_at net number act r at key = false
+
+-- the packet that came has this key
+abbrev pub came_under : Option Sent → Key → Bool
+came_under None key = false
+came_under (Some s) key = same_key (record { from = s.from; tid = number_of s.packet }) key
+
+-- the request of this key was delivered, to the node's service or to the router
+abbrev pub handed_up_by : {A : Type 0} → List (Option Sent) → Act A → Report A → Key → Bool
+handed_up_by sent (Gets which) (report.Asked k user bytes) key = same_key k key
+handed_up_by sent (Gets which) (report.Served count) key = came_under (packet_at sent which) key
+handed_up_by sent act r key = false
+
+-- is this an exactly-once request?
+abbrev pub asks_once : {A : Type 0} → Act A → Bool
+asks_once (Calls (Ask k socket user bytes wanted xo retries)) = xo
+asks_once act = false
+
+-- how many packets does it ask for? one, if it reads the zone list
+abbrev pub asks_for : {A : Type 0} → Act A → ℕ
+asks_for (Calls (Ask k socket user bytes wanted xo retries)) = wanted
+asks_for (Calls Zones) = 1
+asks_for act = 0
+
+-- ---- the happening that they tell of
+
+-- the happening takes the datagram that comes
+abbrev pub TakesIn : {A : Type 0} → Happening → Act A → Type 0
+TakesIn (Takes which) act = act ≡ Gets which
+TakesIn (Serves which packets) act = act ≡ Gets which
+TakesIn h act = Unit {0}
+
+abbrev pub BeginsAs : {A : Type 0} → Happening → Act A → Type 0
+BeginsAs (Begins who to user bytes wanted xo retries) act = (asks_once act ≡ xo) × (asks_for act ≡ wanted)
+BeginsAs h act = Unit {0}
+
+-- a call gives an answer, or the router answers what came
+abbrev pub AnswersAs : {A : Type 0} → ℕ → Happening → Act A → Report A → Type 0
+AnswersAs net (Answers at key packets) act r =
+    (k : ℕ) × (socket : ℕ) × (tid : ℕ) × (count : ℕ) × (act ≡ Calls (Answer k socket tid packets))
+    × (r ≡ report.Answered count)
+    × (key ≡ record { from = record { net = net; node = k; socket = socket }; tid = tid })
+AnswersAs net (Serves which packets) act r = (count : ℕ) × (act ≡ Gets which) × (r ≡ report.Served count)
+AnswersAs net h act r = Unit {0}
+
+-- an answer that is reported joins its transaction: that of a call, or the router's to what came
+abbrev pub Joins : {A : Type 0} → ℕ → Network → Happening → Report A → Act A → Type 0
+Joins {A} net n h (report.Answered count) (Calls (Answer k socket tid packets)) =
+    (done A n h).asked ≡ answered n.asked (record { net = net; node = k; socket = socket }) tid packets
+Joins {A} net n h (report.Served count) (Gets which) =
+    (s : Sent) × (packet_at n.sent which ≡ Some s)
+    × ((packets : List Packet) × ((done A n h).asked ≡ answered n.asked s.from (number_of s.packet) packets))
+Joins net n h r act = Unit {0}
+
+-- a packet in time came that ends the node's transaction of this number with these packets
+pub record Ends (A : Type 0) (net number : ℕ) (n : Network) (which tid : ℕ) (packets : List Packet) : Type 0 where
+  pub packet : Sent
+  pub was_sent : packet_at n.sent which ≡ Some packet
+  pub fresh : is_fresh n.drawn packet ≡ true
+  pub ends : (heard {A = A} (n.requesters packet.to) packet.from packet.packet).step ≡ step.Finished packets
+  pub comes_to : packet.to ≡ asking net number
+  pub numbered : number_of packet.packet ≡ tid
+
+-- what came, if a response is reported or the router served a request
+abbrev pub Finishes : {A : Type 0} → ℕ → ℕ → Network → Act A → Report A → Type 0
+Finishes {A} net number n (Gets which) (report.Response tid packets) = Ends A net number n which tid packets
+Finishes net number n (Gets which) (report.Served count) = (s : Sent) × (packet_at n.sent which ≡ Some s)
+Finishes net number n act r = Unit {0}
+
+-- the happening is what the event at the node and its report say
+pub record Matches {A : Type 0} (net number : ℕ) (n : Network) (h : Happening) (act : Act A)
+    (r : Report A) : Type 0 where
+  pub draws_it : (key : Key) → draws n h key ≡ began_under net number act r key
+  pub expires_it : (at : Address) (key : Key) → expires_there n h at key ≡ expired_at net number act r at key
+  pub hands_up : (key : Key) → is_handed_up n h key ≡ handed_up_by n.sent act r key
+  pub takes_in : TakesIn h act
+  pub begins_as : BeginsAs h act
+  pub answers_as : AnswersAs net h act r
+  pub joins : Joins net n h r act
+  pub finishes : Finishes net number n act r

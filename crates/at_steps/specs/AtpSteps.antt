@@ -1,0 +1,185 @@
+-- What a step of a node is in words of transactions (Inside AppleTalk, ATP, "Transactions", and ZIP, "GetZoneList").
+-- Packets, records, bitmaps and retries play no part.
+use Rattle.std.specs.Prelude.{◌≡◌, ℕ, ◌≤◌, ◌==◌, Bool, true, false, List, [], ◌∷◌, length, Option, Some, None}
+use Rattle.at_ddp.specs.declared.address.Address.{Address}
+use Rattle.at_atp_frame.specs.Packets.{Packet}
+use Rattle.at_atp_responder.specs.declared.reception.Key.{Key}
+use Rattle.at_atp.specs.Transactions.{Transaction, Asked, transaction_of, answered, IsPart, IsResponse}
+use Rattle.at_zip.specs.Request.{RequestSpells, request_user}
+use Rattle.at_node.specs.AtpParts.{AtpState, asking, serving, zones_at}
+use Rattle.at_node.specs.ZoneReading.{Tells}
+use Rattle.at_node.specs.ZoneSocket.{page_packet}
+use Rattle.at_node.specs.declared.event.Call.TheVariants.{Zones, Ask, Answer}
+use Rattle.at_node.specs.declared.event.Report.{Report}
+use Rattle.at_node.specs.declared.event.Report.TheVariants as report
+use Rattle.at_node.specs.declared.event.Timer.{Timer}
+use Rattle.at_node.specs.declared.event.Timer.TheVariants as timer
+use Rattle.at_steps.specs.Acts.{Act, Calls, Fires, Gets}
+
+-- a report that says nothing of transactions and of the zone list
+abbrev pub is_plain : {A : Type 0} → Act A → Report A → Bool
+is_plain act (report.Refused number) = true
+is_plain act report.NoMemory = true
+is_plain (Gets which) report.Ignored = true
+is_plain (Gets which) report.Again = true
+is_plain (Gets which) report.Kept = true
+is_plain (Gets which) report.Released = true
+is_plain (Fires time) report.Again = true
+is_plain (Fires time) (report.Failed tid) = true
+is_plain (Fires (timer.Release own node socket tid)) report.Done = true
+is_plain act r = false
+
+-- the transactions before and after, the part before and after, what happened, and its report
+pub record Change (A : Type 0) : Type 0 where
+  pub asked : List Transaction
+  pub now_asked : List Transaction
+  pub part : AtpState
+  pub now : AtpState
+  pub act : Act A
+  pub report : Report A
+
+-- nothing but what the report says
+pub record IsPlain {A : Type 0} (c : Change A) : Type 0 where
+  pub plain : is_plain c.act c.report ≡ true
+  pub asked : c.now_asked ≡ c.asked
+  pub reading : c.now.reading ≡ c.part.reading
+
+-- the node's user begins a transaction, which is not the one that reads the zone list
+pub record BeginsAsking {A : Type 0} (net number : ℕ) (c : Change A) : Type 0 where
+  pub tid : ℕ
+  pub node : ℕ
+  pub socket : ℕ
+  pub user : List ℕ
+  pub bytes : List ℕ
+  pub wanted : ℕ
+  pub xo : Bool
+  pub retries : ℕ
+  pub act : c.act ≡ Calls (Ask node socket user bytes wanted xo retries)
+  pub report : c.report ≡ report.Begun tid
+  pub asked : c.now_asked ≡ record {
+    requester = asking net number;
+    tid = tid;
+    responder = record { net = net; node = node; socket = socket };
+    user = user;
+    data_ = bytes;
+    wanted = wanted;
+    xo = xo;
+    answers = [];
+  } ∷ c.asked
+  pub reading : c.now.reading ≡ c.part.reading
+  pub apart : (reading : ℕ) → c.part.reading ≡ Some reading → (tid == reading) ≡ false
+
+-- a reading of the zone list begins: the node asks its router for the first page, one packet, at least once
+pub record BeginsReading {A : Type 0} (net number : ℕ) (router : Option ℕ) (c : Change A) : Type 0 where
+  pub tid : ℕ
+  pub server : ℕ
+  pub is_router : router ≡ Some server
+  pub act : c.act ≡ Calls Zones
+  pub report : c.report ≡ report.Begun tid
+  pub asked : c.now_asked ≡ record {
+    requester = asking net number;
+    tid = tid;
+    responder = zones_at net server;
+    user = request_user 1;
+    data_ = [];
+    wanted = 1;
+    xo = false;
+    answers = [];
+  } ∷ c.asked
+  pub reading : c.now.reading ≡ Some tid
+
+-- the node's user answers the newest transaction of a requester under a number, which asked the node's service
+pub record GivesAnswer {A : Type 0} (net number : ℕ) (c : Change A) : Type 0 where
+  pub node : ℕ
+  pub socket : ℕ
+  pub tid : ℕ
+  pub packets : List Packet
+  pub count : ℕ
+  pub act : c.act ≡ Calls (Answer node socket tid packets)
+  pub report : c.report ≡ report.Answered count
+  pub newest : Asked c.asked (record { net = net; node = node; socket = socket }) tid (serving net number)
+  pub few : count ≤ length packets
+  pub asked : c.now_asked ≡ answered c.asked (record { net = net; node = node; socket = socket }) tid packets
+  pub reading : c.now.reading ≡ c.part.reading
+
+-- the router answers the newest transaction of a requester under a number, which asked it for the page from a place on
+pub record ServesPage {A : Type 0} (net number : ℕ) (c : Change A) : Type 0 where
+  pub which : ℕ
+  pub count : ℕ
+  pub act : c.act ≡ Gets which
+  pub report : c.report ≡ report.Served count
+  pub table : List (List ℕ)
+  pub is_table : c.part.table ≡ Some table
+  pub requester : Address
+  pub tid : ℕ
+  pub newest : Asked c.asked requester tid (zones_at net number)
+  pub start : ℕ
+  pub asks_from : RequestSpells (newest.transaction).user start
+  pub one : count ≤ 1
+  pub asked : c.now_asked ≡ answered c.asked requester tid (page_packet table start ∷ [])
+  pub reading : c.now.reading ≡ c.part.reading
+
+-- the service receives what the newest transaction of a requester under a number asks of it
+pub record HandsUp {A : Type 0} (net number : ℕ) (c : Change A) : Type 0 where
+  pub which : ℕ
+  pub key : Key
+  pub user : List ℕ
+  pub bytes : List ℕ
+  pub act : c.act ≡ Gets which
+  pub report : c.report ≡ report.Asked key user bytes
+  pub newest : Asked c.asked key.from key.tid (serving net number)
+  pub is_user : (newest.transaction).user ≡ user
+  pub is_data : (newest.transaction).data_ ≡ bytes
+  pub asked : c.now_asked ≡ c.asked
+  pub reading : c.now.reading ≡ c.part.reading
+
+-- the newest transaction of the node under a number ends with a response to it
+pub record Finishes {A : Type 0} (net number : ℕ) (c : Change A) : Type 0 where
+  pub which : ℕ
+  pub tid : ℕ
+  pub packets : List Packet
+  pub act : c.act ≡ Gets which
+  pub report : c.report ≡ report.Response tid packets
+  pub transaction : Transaction
+  pub newest : transaction_of c.asked (asking net number) tid ≡ Some transaction
+  pub response : IsResponse transaction packets
+  pub asked : c.now_asked ≡ c.asked
+  pub reading : c.now.reading ≡ c.part.reading
+
+-- the reading ends by a packet of an answer to its transaction, and the report tells what that packet has
+pub record EndsReading {A : Type 0} (net number : ℕ) (c : Change A) : Type 0 where
+  pub which : ℕ
+  pub act : c.act ≡ Gets which
+  pub tid : ℕ
+  pub reads : c.part.reading ≡ Some tid
+  pub from : Address
+  pub newest : Asked c.asked (asking net number) tid from
+  pub place : ℕ
+  pub ends : Bool
+  pub packet : Packet
+  pub part : IsPart newest.transaction place ends packet
+  pub tells : Tells packet c.report
+  pub asked : c.now_asked ≡ c.asked
+  pub reading : c.now.reading ≡ None
+
+-- the reading ends without an answer
+pub record FailsReading {A : Type 0} (c : Change A) : Type 0 where
+  pub time : Timer
+  pub act : c.act ≡ Fires time
+  pub report : c.report ≡ report.ZonesFailed
+  pub tid : ℕ
+  pub reads : c.part.reading ≡ Some tid
+  pub asked : c.now_asked ≡ c.asked
+  pub reading : c.now.reading ≡ None
+
+-- the kinds of steps of a node with this router
+pub data IsStep {A : Type 0} (net number : ℕ) (router : Option ℕ) (c : Change A) : Type 0 where
+  Plain : IsPlain c → IsStep net number router c
+  Begins : BeginsAsking net number c → IsStep net number router c
+  Reads : BeginsReading net number router c → IsStep net number router c
+  Answers : GivesAnswer net number c → IsStep net number router c
+  Serves : ServesPage net number c → IsStep net number router c
+  Delivers : HandsUp net number c → IsStep net number router c
+  Ends : Finishes net number c → IsStep net number router c
+  HasRead : EndsReading net number c → IsStep net number router c
+  Fails : FailsReading c → IsStep net number router c

@@ -1,0 +1,4 @@
+pub mod Acts
+pub mod AtpHappenings
+pub mod AtpReports
+pub mod AtpSteps

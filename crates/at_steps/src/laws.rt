@@ -1,0 +1,74 @@
+//! The laws of a node's steps, a law for each kind of event and each protocol. The functions do nothing at run time.
+ghost use Rattle.std.specs.Prelude.{◌≡◌, ℕ, List, Some, true, false};
+ghost use Rattle.at_ddp.specs.Datagram.{canonical};
+ghost use Rattle.at_atp_frame.specs.Frames.{spelled};
+ghost use Rattle.at_atp.specs.Network.{Happening, NoneHolds, Sent, packet_at, is_fresh, after};
+ghost use Rattle.at_node.specs.AtpParts.{asking, atp_kind};
+ghost use Rattle.at_node.specs.Calls.{IsCall};
+ghost use Rattle.at_node.specs.Drawing.{drawn_by, holds};
+ghost use Rattle.at_node.specs.Hearing.{Hears};
+ghost use Rattle.at_node.specs.Nodes.{NodeState, called, timed};
+ghost use Rattle.at_node.specs.Outcomes.{Outcome};
+ghost use Rattle.at_node.specs.ServiceSocket.{is_asked};
+ghost use Rattle.at_node.specs.declared.drawing.Draw.TheVariants.{Tid};
+ghost use Rattle.at_node.specs.declared.event.Call.{Call};
+ghost use Rattle.at_node.specs.declared.event.Timer.{Timer};
+ghost use Rattle.at_node.specs.declared.service.Reply.{Reply};
+ghost use Rattle.at_node.specs.declared.service.Reply.TheVariants.{Later};
+ghost use Rattle.at_steps.specs.Acts.{Act, Calls, Fires, Gets};
+ghost use Rattle.at_steps.specs.AtpHappenings.{HoldsNo, IsForeign, IsHappening, Passes, Stands};
+
+use std::alloc::Allocator;
+
+/// A call is one happening among requesters and responders, if no responder holds the number that it draws.
+pub fn a_call_is_a_happening_of_atp<A: Allocator>()
+    ensures { (history : List Happening) (n : NodeState) (call : Call A) → Stands A history n.seat.net n.seat.number n
+        → IsCall call
+        → ((tid : ℕ) → drawn_by (called n call).report ≡ Some (Tid tid)
+        → NoneHolds (after A history).responders (asking n.seat.net n.seat.number) tid)
+        → IsHappening A history n.seat.net n.seat.number n (Calls call) (called n call) }
+{
+    at_atp::laws::responses_are_answers::<A>();
+    at_atp::laws::numbers_stay_open::<A>();
+    at_atp::laws::no_more_is_sent_than_answered();
+}
+
+/// A timer that fires is one happening among requesters and responders.
+pub fn a_timer_is_a_happening_of_atp<A: Allocator>()
+    ensures { (history : List Happening) (n : NodeState) (time : Timer) → Stands A history n.seat.net n.seat.number n
+        → IsHappening A history n.seat.net n.seat.number n (Fires time) (timed n time) }
+{
+    at_atp::laws::numbers_stay_open::<A>();
+}
+
+/// A packet in time that comes to a node is one happening among requesters and responders, if the service answers
+/// later.
+pub fn a_packet_is_a_happening_of_atp<A: Allocator>()
+    ensures { (history : List Happening) (n : NodeState) (which : ℕ) (s : Sent) (said : Reply A)
+        (o : Outcome A NodeState) → Stands A history n.seat.net n.seat.number n
+        → packet_at (after A history).sent which ≡ Some s → is_fresh (after A history).drawn s ≡ true
+        → (is_asked o.report ≡ true → said ≡ Later)
+        → Hears said n (canonical s.to s.from atp_kind (spelled s.packet)) o
+        → IsHappening A history n.seat.net n.seat.number n (Gets which) o }
+{
+    at_atp::laws::responses_are_answers::<A>();
+    at_atp::laws::what_is_sent_is_lawful::<A>();
+    at_atp::laws::numbers_stay_open::<A>();
+    at_atp::laws::a_new_request_waits();
+    at_atp::laws::no_more_is_sent_than_answered();
+    at_node::laws::what_is_sent_is_heard::<A>();
+    at_zip::laws::a_page_fits_one_packet();
+}
+
+/// A step of another protocol is one happening among requesters and responders, which leaves transactions as they were.
+pub fn another_protocols_step_passes_atp<A: Allocator>()
+    ensures { (history : List Happening) (n : NodeState) (act : Act A) (o : Outcome A NodeState)
+        → Stands A history n.seat.net n.seat.number n → IsForeign n act o
+        → Passes A history n.seat.net n.seat.number n act o }
+{}
+
+/// A transaction number that a node does not hold has no record at the node's responders.
+pub fn a_number_that_is_not_held_has_no_record()
+    ensures { (net k tid : ℕ) (n : NodeState) → holds n k (Tid tid) ≡ false
+        → HoldsNo (asking net k) tid n.atp.service_responder × HoldsNo (asking net k) tid n.atp.zone_responder }
+{}

@@ -1,0 +1,111 @@
+-- How the machine follows each event of a node, by the laws of its steps.
+use Rattle.std.proofs.Common.{◌≡◌, ℕ, true, false, Option, Some, refl, sym, subst, ◌∙◌}
+use Rattle.std.specs.List.{AllByRecursion}
+use Rattle.at_atp.specs.Network.{NoneHolds, after, done}
+use Rattle.at_zip.specs.Zones.{IsTable}
+use Rattle.at_node.specs.AtpParts.{asking, serving, zones_at}
+use Rattle.at_node.specs.Calls.{IsCall}
+use Rattle.at_node.specs.Drawing.{draw_of}
+use Rattle.at_node.specs.Hearing.{Hears}
+use Rattle.at_node.specs.Kinds.{Kind, Nobody, Atp}
+use Rattle.at_node.specs.Nodes.{NodeState, called, timed}
+use Rattle.at_node.specs.Outcomes.{Outcome}
+use Rattle.at_node.specs.ServiceSocket.{is_asked}
+use Rattle.at_node.specs.declared.drawing.Draw.{Draw}
+use Rattle.at_node.specs.declared.drawing.Draw.TheVariants.{Tid}
+use Rattle.at_node.specs.declared.event.Call.{Call}
+use Rattle.at_node.specs.declared.event.Report.{Report}
+use Rattle.at_node.specs.declared.event.Timer.{Timer}
+use Rattle.at_node.specs.declared.service.Reply.{Reply}
+use Rattle.at_node.specs.declared.service.Reply.TheVariants.{Later}
+use Rattle.at_steps.specs.Acts.{is_atp}
+use Rattle.at_steps.specs.AtpHappenings.{IsForeign, IsHappening, IsOn, Passes, Stands}
+use Rattle.at_steps.specs.AtpSteps.{IsStep}
+use Rattle.at_world.specs.AtpGuards.{AtpMachine, StepBy, next}
+use Rattle.at_world.specs.Cables.{Cable, IsSaid, owner_of}
+use Rattle.at_world.specs.Events.{act_of, node_of}
+use Rattle.at_world.specs.Sents.{SentDatagram}
+use Rattle.at_world.specs.Worlds.{WorldState, node_at, holds_some}
+use Rattle.at_world.specs.declared.event.Event.{Event}
+use Rattle.at_world.specs.declared.event.Event.TheVariants as event
+use Rattle.at_world.proofs.CableTie.{CableTie, SeatTie, AreOwned, seat_kept}
+use Rattle.at_world.proofs.Atp.Coming.{Comes}
+use Rattle.at_world.proofs.Atp.Places.{requester_here, service_here, served_here}
+use Rattle.at_world.proofs.Atp.Steps.{step_becomes, pass_becomes}
+use Rattle.at_world.proofs.Atp.Tie.{Laws, AtpTie, Good, atp_is_owned, good_next}
+use Rattle.at_world.proofs.Atp.Times.{none_holds}
+
+-- at a report of another protocol a moment passes
+moment_passes : (A : Type 0) (c : Cable) (m : AtpMachine) (e : Event A) (r : Report A) (k : Kind) → is_atp k ≡ false → StepBy c m e r (next m) k
+moment_passes A c m e r Atp h = absurd (cc)
+moment_passes A c m e r Nobody h = refl
+
+-- the report is one that there is, a part speaks all that is sent, and the machine follows
+abbrev pub Follows : (A : Type 0) (w : WorldState) (c : Cable) (m : AtpMachine) (ct : CableTie w c) → AtpTie A w c ct.wires m → Event A → Outcome A NodeState → Type 0
+Follows A w c m ct t e o = IsSaid e o.report × AreOwned o.out × Good A w c m ct.wires t e o
+
+module _ (A : Type 0) (laws : Laws A) (w : WorldState) (c : Cable) (m : AtpMachine) (ct : CableTie w c) (t : AtpTie A w c ct.wires m) (e : Event A) (n : NodeState) (stands : node_at w (node_of e) ≡ Some n) where
+  its : SeatTie c (node_of e) n
+  its = ct.seats (node_of e) n stands
+
+  -- what holds of the node's place on the cable holds of its seat, and the other way
+  at_seat : (P : ℕ → ℕ → Type 0) → P c.net (node_of e) → P n.seat.net n.seat.number
+  at_seat P p = subst (λ i. P i n.seat.number) (sym its.net) (subst (P c.net) (sym its.number) p)
+
+  at_place : (P : ℕ → ℕ → Type 0) → P n.seat.net n.seat.number → P c.net (node_of e)
+  at_place P p = subst (λ i. P i (node_of e)) its.net (subst (P n.seat.net) its.number p)
+
+  stands_there : Stands A t.history n.seat.net n.seat.number n
+  stands_there = at_seat (λ net k. Stands A t.history net k n) (record {
+    timely = t.timely;
+    in_range = t.in_range;
+    small_net = ct.net;
+    small_number = its.small;
+    small_router = λ router is. ct.router router (sym its.router ∙ is);
+    on_net = subst (AllByRecursion (IsOn c.net)) (sym t.asked) t.on_net;
+    requester = t.requesters (asking c.net (node_of e)) ∙ requester_here c.net w.nodes (node_of e) n stands;
+    zones = t.responders (zones_at c.net (node_of e)) ∙ served_here c.net w.nodes (node_of e) n stands;
+    service = t.responders (serving c.net (node_of e)) ∙ service_here c.net w.nodes (node_of e) n stands;
+    is_open = t.opened (node_of e) n stands;
+    has_table = λ table is. subst IsTable (sym (t.tables (node_of e) n stands table is).0) t.table;
+  })
+
+  module _ (o : Outcome A NodeState) (seat : o.state.seat ≡ n.seat) where
+    mine : SeatTie c (node_of e) o.state
+    mine = seat_kept c (node_of e) n o.state seat its
+
+    pub happened : IsHappening A t.history n.seat.net n.seat.number n (act_of e) o → Follows A w c m ct t e o
+    happened h = go (at_place (λ net k. IsHappening A t.history net k n (act_of e) o) h)
+      where
+        go : IsHappening A t.history c.net (node_of e) n (act_of e) o → Follows A w c m ct t e o
+        go (x, step, sends) =
+            let b = step_becomes A laws w c m ct.wires e n o.state o.report t stands its.router (done A (after A t.history) x.happening).asked
+            (subst (λ ts. IsStep c.net (node_of e) n.seat.router (record { asked = ts; now_asked = (done A (after A t.history) x.happening).asked; part = n.atp; now = o.state.atp; act = act_of e; report = o.report })) t.asked step) in
+            (b.0, atp_is_owned o.out sends, good_next A w c ct.wires m e n o t stands x mine (done A (after A t.history) x.happening).asked refl b.1)
+
+    -- a step of another protocol
+    pub passed : IsForeign n (act_of e) o → Good A w c m ct.wires t e o
+    passed foreign = go (at_place (λ net k. Passes A t.history net k n (act_of e) o) (laws.passes t.history n (act_of e) o stands_there foreign))
+      where
+        go : Passes A t.history c.net (node_of e) n (act_of e) o → Good A w c m ct.wires t e o
+        go (x, same) = good_next A w c ct.wires m e n o t stands x mine (done A (after A t.history) x.happening).asked refl
+            (pass_becomes A laws w c m ct.wires e n o.state o.report t stands (done A (after A t.history) x.happening).asked (same ∙ t.asked) foreign.same (moment_passes A c m e o.report (owner_of e o.report) foreign.reports))
+
+  -- a number that is drawn is free in the network
+  draws_free : (d : Option Draw) → holds_some w.nodes (node_of e) d ≡ false → (tid : ℕ) → d ≡ Some (Tid tid) → NoneHolds (after A t.history).responders (asking n.seat.net n.seat.number) tid
+  draws_free d free tid is = at_seat (λ net k. NoneHolds (after A t.history).responders (asking net k) tid)
+      (none_holds laws.unheld c.net (node_of e) tid w.nodes (after A t.history).responders t.responders (subst (λ o. holds_some w.nodes (node_of e) o ≡ false) is free))
+
+-- ---- each event
+
+module _ (A : Type 0) (laws : Laws A) (w : WorldState) (c : Cable) (m : AtpMachine) (ct : CableTie w c) (t : AtpTie A w c ct.wires m) (k : ℕ) (n : NodeState) (stands : node_at w k ≡ Some n) where
+  pub call_follows : (call : Call A) → IsCall call → holds_some w.nodes k (draw_of n call) ≡ false → (called n call).state.seat ≡ n.seat → Follows A w c m ct t (event.Call k call) (called n call)
+  call_follows call range free seat = happened A laws w c m ct t (event.Call k call) n stands (called n call) seat
+      (laws.called t.history n call (stands_there A laws w c m ct t (event.Call k call) n stands) range (draws_free A laws w c m ct t (event.Call k call) n stands (draw_of n call) free))
+
+  pub timer_follows : (time : Timer) → (timed {A = A} n time).state.seat ≡ n.seat → Follows A w c m ct t (event.Timer k time) (timed n time)
+  timer_follows time seat = happened A laws w c m ct t (event.Timer k time) n stands (timed n time) seat (laws.timed t.history n time (stands_there A laws w c m ct t (event.Timer k time) n stands))
+
+  pub datagram_follows : (which : ℕ) (d : SentDatagram) → Comes A w c m ct t which d → (said : Reply A) (o : Outcome A NodeState) → (is_asked o.report ≡ true → said ≡ Later) → Hears said n d.bytes o → o.state.seat ≡ n.seat → Follows A w c m ct t (event.Deliver which k) o
+  datagram_follows which d comes said o later hears seat = happened A laws w c m ct t (event.Deliver which k) n stands o seat
+      (laws.heard t.history n which comes.packet said o (stands_there A laws w c m ct t (event.Deliver which k) n stands) comes.was_sent comes.fresh later (subst (λ (x : SentDatagram). Hears said n x.bytes o) comes.spells hears))
