@@ -1,3 +1,4 @@
+use Rattle.std.proofs.lemmas.Grind.{common_steps}
 use Rattle.std.proofs.Common.{◌≡◌, ◌≤◌, get_or, sym, ap, ◌∙◌, subst, arith}
 use Rattle.at_ddp.proofs.Octets.{InBytes, number_in}
 use Rattle.at_atp_frame.specs.Frames.{Release, content, Spells}
@@ -23,3 +24,6 @@ returns-clause-found c =
           let tid : w.read_u16.result ≡ tid_in c.args.input.now = number_in 2 c.args.input.now w.read_u16.result w.read_u16.ensures in
           subst (Spells c.args.input.now) (sym (ap content w.result-is ∙ ap Release tid)) (release_is_spelled c.args.input.now are_bytes (omega arith) (omega arith) (omega (arith, function)))
     ]
+
+pub returns-then-input-clause-fault : goal.returns-then-input-clause-fault
+returns-then-input-clause-fault c = grind (arith, common_steps)

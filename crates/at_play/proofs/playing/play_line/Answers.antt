@@ -1,3 +1,4 @@
+use Rattle.std.proofs.Common.{rules}
 use Rattle.std.specs.Vec.{vec_items}
 use Rattle.at_play.proofs.ToldLemmas.{tells_event, tells_nothing, stops_event}
 use Rattle.at_play.proofs.playing.play_line.Goals as goal
@@ -14,3 +15,6 @@ pub returns-in-Ok-None-clause-told : goal.returns-in-Ok-None-clause-told
 returns-in-Ok-None-clause-told g c =
     let none = rw c.in-Ok-None.field-0-is at c.in-Ok-None.ensures.read in
     tells_nothing g.row.A.Denot g.W.Write.contents c.args.world.now c.args.printer.now vec_items c.args.line none
+
+pub returns-in-Err-clause-told : goal.returns-in-Err-clause-told
+returns-in-Err-clause-told g c = search rules

@@ -1,4 +1,4 @@
-use Rattle.std.proofs.Common.{inl, inr, refl, []}
+use Rattle.std.proofs.Common.{inl, inr, refl, [], rules}
 use Rattle.at_play.specs.Ends.{Rewound}
 use Rattle.at_play.proofs.PrintedLemmas.{Prints-nothing}
 use Rattle.at_play.proofs.program.play_again.Goals as goal
@@ -12,3 +12,6 @@ returns-clause-told g c =
     let setup = c.in_ok-setup.setup in
     let again : Rewound g.F.Seek.stream_position g.F.Seek.stream_bytes = record { before = c.read_setup.new.reader; file = c.rewind-2.new.self; moved = c.in_ok-rewind-2.ensures.moves; kept = c.rewind-2.ensures.bytes } in
     (told.0.text, inr (again, inr (setup, told.0, told.1, refl, told.3)), told.2)
+
+pub returns-clause-too_long : goal.returns-clause-too_long
+returns-clause-too_long g c = search rules

@@ -11,3 +11,6 @@ loop-string-preserved c =
 
 pub returns-clause-each : goal.returns-clause-each
 returns-clause-each c = rw (take_all c.loop-string.string-index c.args.strings.now (omega arith)) at c.loop-string.invariant
+
+pub returns-then-not-is_name-clause-each : goal.returns-then-not-is_name-clause-each
+returns-then-not-is_name-clause-each c = omega arith

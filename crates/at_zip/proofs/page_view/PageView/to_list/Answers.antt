@@ -1,4 +1,4 @@
-use Rattle.std.proofs.Common.{vec_len, vec_capacity, ◌∙◌}
+use Rattle.std.proofs.Common.{vec_len, vec_capacity, ◌∙◌, rules}
 use Rattle.at_zip.proofs.ListLemmas.{next_is_read, is_ok_if_and, at_ok, copied_more}
 use Rattle.at_zip.proofs.page_view.PageView.to_list.Goals as goal
 
@@ -18,3 +18,6 @@ loop-preserved g c =
     let longer = rw c.unwrap-in-loop-2.ensures at c.push.ensures.len in
     copied_more c.args.self.now c.loop.counter c.self.inside.count c.loop.rest.now c.unwrap.result.1.now c.loop.list.items c.push.new.self.items (vec_len c.loop.list) (vec_len c.push.new.self)
     (vec_capacity c.loop.list) (vec_capacity c.push.new.self) c.unwrap-in-loop.result next.0 c.loop.invariant c.loop-test.true (name ∙ read.0) read.1 pushed longer c.push.ensures.capacity
+
+pub loop-init : goal.loop-init
+loop-init g c = search rules
