@@ -1,6 +1,7 @@
 -- What a request does to a responder.
-use Rattle.std.proofs.Common.{◌≡◌, ℕ, ◌+◌, ◌-◌, ◌<◌, ◌≤◌, Bool, true, List, [], ◌∷◌, ◌++◌, length, set, take, drop, Some, None, Result, Ok, Err, refl, sym, ap, subst, ◌∙◌, arith}
-use Rattle.std.specs.Prelude.{find, slice_get, IfOk, is_none, nat_le}
+use Rattle.std.proofs.Common.{◌≡◌, ℕ, ◌+◌, ◌-◌, ◌<◌, ◌≤◌, Bool, true, Bor, List, [], ◌∷◌, ◌++◌, length, set, take, drop, Option, Some, None, Result, Ok, Err, refl, sym, ap, subst, ◌∙◌, arith}
+use Rattle.std.specs.Prelude.{find, slice_get, IfOk, is_none, is_some, nat_le}
+use Rattle.std.specs.Option.{option_copied}
 use Rattle.std.proofs.lemmas.Bool.{true≢false, leb-true, le-leb, and_parts}
 use Rattle.std.proofs.lemmas.Option.{get_or_from_slice_get, slice_get-get_or}
 use Rattle.at_ddp.proofs.Octets.{same_both}
@@ -9,7 +10,7 @@ use Rattle.at_ddp.specs.Outbox.{Outbox}
 use Rattle.at_atp_frame.specs.Packets.{Packet}
 use Rattle.at_ddp.specs.Tables.{replaced}
 use Rattle.at_atp_frame.specs.declared.fault.AtpFault.{AtpFault}
-use Rattle.at_atp_responder.specs.Records.{Waiting, Answered, Record, is_key, repeated, released, request_came, release_came, is_new_and_full, state_fault, record_fault, fit, IsTaken, IsRepeat}
+use Rattle.at_atp_responder.specs.Records.{State, Waiting, Answered, Released, Record, is_key, repeated, released, came_again, request_came, release_came, is_new_and_full, state_fault, record_fault, fit, IsTaken, IsRepeat}
 use Rattle.at_atp_responder.specs.declared.reception.Key.{Key}
 use Rattle.at_atp_responder.specs.declared.reception.Reception.{Reception}
 use Rattle.at_atp_responder.specs.declared.reception.Reception.TheVariants.{Ignored, New}
@@ -95,3 +96,24 @@ fit_rest (p ∷ ps) h = rw take_rest (and_parts (nat_le (length p.data_) 578) (f
 pub rest_is_less : (packets : List Packet) → 0 < length packets → length packets ≡ length (take (length packets - 1) (drop 1 packets)) + 1
 rest_is_less [] h = absurd (omega arith)
 rest_is_less (p ∷ ps) h = rw take_rest (omega arith)
+
+-- ---- releases and searches
+
+-- a reference is there exactly if its value is
+pub is_some_copied : {X : Type 0} (o : Option (Bor X)) → is_some o ≡ is_some (option_copied o)
+is_some_copied None = refl
+is_some_copied (Some b) = refl
+
+-- a release sends nothing
+pub taken_release : (rs new : List Record) (key : Key) (r : Reception) (out : Outbox) → r ≡ (release_came rs key (find (is_key key) rs)).reception → new ≡ (release_came rs key (find (is_key key) rs)).after →
+    IsTaken (release_came rs key (find (is_key key) rs)) r new out out
+taken_release rs new key r out is after = go (find (is_key key) rs) is after
+  where
+    in_state : (x : Record) (s : State) → r ≡ (came_again rs key x (released s)).reception → new ≡ (came_again rs key x (released s)).after → IsTaken (came_again rs key x (released s)) r new out out
+    in_state x (Waiting xo bitmap) a b = record { is_reception = a; is_new = b; sends = sends_nothing out }
+    in_state x (Answered packets) a b = record { is_reception = a; is_new = b; sends = sends_nothing out }
+    in_state x Released a b = record { is_reception = a; is_new = b; sends = sends_nothing out }
+
+    go : (o : Option Record) → r ≡ (release_came rs key o).reception → new ≡ (release_came rs key o).after → IsTaken (release_came rs key o) r new out out
+    go None a b = record { is_reception = a; is_new = b; sends = sends_nothing out }
+    go (Some x) a b = in_state x x.state a b

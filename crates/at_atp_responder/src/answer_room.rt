@@ -1,21 +1,27 @@
-ghost use Rattle.std.specs.Prelude.{◌≡◌, ◌≤◌, length, true, IfOk, vec_len, vec_capacity};
+ghost use Rattle.std.specs.Prelude.{◌≡◌, ◌≤◌, length, true, vec_len, vec_capacity};
 ghost use Rattle.at_atp_responder.specs.Records.{fit};
 
+use crate::answering::PACKETS;
 use at_atp_frame::{MAX_DATA, Packet};
 use at_ddp::{Bytes, Listed};
-use std::alloc::{AllocError, Allocator, Global};
-
-// The most packets of an answer.
-const PACKETS: usize = 8;
+use std::alloc::{AllocError, Allocator};
+use std::marker::Model;
 
 /// Memory for a copy of any answer.
 #[derive(Drop)]
-pub struct AnswerRoom<A: Allocator = Global> {
+pub(crate) struct AnswerRoom<A: Allocator> {
     list: Vec<Packet<A>, A>,
     places: Vec<Place<A>, A>,
-    ghost empty: { vec_len list ≡ 0 },
-    ghost holds: { 8 ≤ vec_capacity list },
-    ghost places_for: { 8 ≤ vec_len places },
+}
+
+impl<A: Allocator> Model for AnswerRoom<A> {
+    ghost use Rattle.std.specs.Prelude.{◌≡◌, ◌≤◌, vec_len, vec_capacity};
+
+    ghost Value = { Unit {0} };
+
+    ghost view = { λ r. tt };
+
+    ghost invariant = { λ r. (vec_len r.list ≡ 0) × (8 ≤ vec_capacity r.list) × (8 ≤ vec_len r.places) };
 }
 
 // Memory for the data of one packet.
@@ -39,11 +45,8 @@ impl<A: Allocator> Place<A> {
 }
 
 impl<A: Allocator + Copy> AnswerRoom<A> {
-    /// Takes the memory. The error is out of memory.
-    pub fn new(alloc: A) -> Result<AnswerRoom<A>, AllocError>
-        ensures packets { IfOk result (λ room. 8 ≤ vec_capacity room.list) }
-        ensures places { IfOk result (λ room. 8 ≤ vec_len room.places) }
-    {
+    // Takes the memory.
+    pub(crate) fn new(alloc: A) -> Result<AnswerRoom<A>, AllocError> {
         let list = Vec::with_capacity(alloc, PACKETS)?;
         let mut places = Vec::with_capacity(alloc, PACKETS)?;
         for _ in 0..PACKETS {

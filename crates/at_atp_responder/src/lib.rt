@@ -9,6 +9,5 @@ mod record;
 mod records;
 mod responder;
 
-pub use answer_room::AnswerRoom;
 pub use reception::{Key, Reception};
 pub use responder::Responder;

@@ -6,16 +6,20 @@ ghost use Rattle.at_atp_responder.specs.Records.{Waiting, Answered, fit, respons
 ghost use Rattle.at_atp_responder.specs.Records.{expiry_fault_of, asked_bitmap, keeps_answer, repeated, released};
 ghost use Rattle.at_atp_responder.specs.Records.{IsRepeat};
 
+use crate::answer_room::AnswerRoom;
 use crate::reception::{Key, Reception};
 use at_atp_frame::{AtpFault, Frame, PACKET_LEN, Packet, send};
 use at_ddp::{Listed, Outbox};
 use std::alloc::{AllocError, Allocator};
 use std::marker::Model;
 
-// What became of a request.
+// What became of a request. If it is exactly-once, its record has memory for the answer that will be kept.
 #[derive(Drop)]
 pub(crate) enum RecordState<A: Allocator> {
-    Waiting { xo: bool, bitmap: u8 },
+    Waiting {
+        bitmap: u8,
+        room: Option<AnswerRoom<A>>,
+    },
     Answered(Listed<Packet<A>, A>),
     Released,
 }
@@ -39,16 +43,36 @@ impl<A: Allocator> Model for Record<A> {
     ghost invariant = { λ e. CanBeSent (state_of e.state) };
 }
 
-impl<A: Allocator> Record<A> {
-    pub(crate) fn waiting(key: Key, xo: bool, bitmap: u8) -> Record<A>
-        ensures { result ≡ record { key = key; state = Waiting xo bitmap } }
+impl<A: Allocator + Copy> Record<A> {
+    // A new request. One that is exactly-once takes the memory for its answer at once.
+    pub(crate) fn waiting(alloc: A, key: Key, xo: bool, bitmap: u8) -> Result<Record<A>, AllocError>
+        ensures { IfOk result (λ e. e ≡ record { key = key; state = Waiting xo bitmap }) }
     {
-        Record {
-            key,
-            state: RecordState::Waiting { xo, bitmap },
-        }
+        let room = if xo {
+            Some(AnswerRoom::new(alloc)?)
+        } else {
+            None
+        };
+        let state = RecordState::Waiting { bitmap, room };
+        Ok(Record { key, state })
     }
 
+    // Keeps a copy of the answer to an exactly-once request that waits. This needs no memory.
+    pub(crate) fn keep_copy(&mut self, packets: &[Packet<A>])
+        requires few { length packets.now ≤ 8 }
+        requires fits { fit packets.now ≡ true }
+        requires kept { keeps_answer self.old.state ≡ true }
+        ensures { self.new ≡ record self.old { state = Answered packets.now } }
+    {
+        if let RecordState::Waiting { room, .. } = &mut self.state {
+            if let Some(room) = room.take() {
+                self.state = RecordState::Answered(room.copy(packets));
+            }
+        }
+    }
+}
+
+impl<A: Allocator> Record<A> {
     pub(crate) fn is_of(&self, key: Key) -> bool
         ensures { result ≡ is_key key self.now }
     {
@@ -99,7 +123,7 @@ impl<A: Allocator> Record<A> {
         ensures { result ≡ keeps_answer self.now.state }
     {
         match &self.state {
-            RecordState::Waiting { xo, .. } => *xo,
+            RecordState::Waiting { room, .. } => room.is_some(),
             RecordState::Answered(_) => false,
             RecordState::Released => false,
         }
@@ -111,6 +135,16 @@ impl<A: Allocator> Record<A> {
         ensures { self.new ≡ record self.old { state = Answered packets } }
     {
         self.state = RecordState::Answered(packets);
+    }
+
+    // A request that still waits takes the new bitmap.
+    fn ask(&mut self, bitmap: u8)
+        requires { state_fault self.old.state ≡ None }
+        ensures { self.new ≡ record self.old { state = (repeated self.old.key bitmap self.old.state).state } }
+    {
+        if let RecordState::Waiting { bitmap: asked, .. } = &mut self.state {
+            *asked = bitmap;
+        }
     }
 
     // Sends what is kept of the answer again. A request that still waits takes the new bitmap.
@@ -134,8 +168,8 @@ impl<A: Allocator> Record<A> {
                 out.room(packets.len() as u32, PACKET_LEN)?;
                 Ok(Reception::Again(send_answer(out, key, 0, bitmap, packets)))
             }
-            RecordState::Waiting { xo, .. } => {
-                self.state = RecordState::Waiting { xo: *xo, bitmap };
+            RecordState::Waiting { .. } => {
+                self.ask(bitmap);
                 Ok(Reception::Again(0))
             }
         }

@@ -39,7 +39,7 @@ pub(crate) fn expiry_fault<A: Allocator>(records: &[Record<A>], key: Key) -> Opt
 }
 
 // Whether the answer to a request will be kept.
-pub(crate) fn is_kept<A: Allocator>(records: &[Record<A>], key: Key) -> bool
+fn is_kept<A: Allocator>(records: &[Record<A>], key: Key) -> bool
     ensures { result ≡ is_kept (find (is_key key) records.now) }
 {
     match record_of(records, key) {
@@ -71,7 +71,8 @@ fn index_of<A: Allocator>(records: &[Record<A>], key: Key) -> Option<usize>
 }
 
 // Takes a request that asks for at least one packet.
-pub(crate) fn take_in<A: Allocator>(
+pub(crate) fn take_in<A: Allocator + Copy>(
+    alloc: A,
     records: &mut Vec<Record<A>, A>,
     key: Key,
     xo: bool,
@@ -91,7 +92,7 @@ pub(crate) fn take_in<A: Allocator>(
     ensures few { length records.old.items ≤ 64 → length records.new.items ≤ 64 }
 {
     match index_of(records, key) {
-        None => add(records, key, xo, bitmap),
+        None => add(alloc, records, key, xo, bitmap),
         Some(index) => match repeat(records, index, bitmap, out) {
             Ok(reception) => Ok(reception),
             Err(AllocError) => Err(AtpFault::NoMemory),
@@ -100,7 +101,8 @@ pub(crate) fn take_in<A: Allocator>(
 }
 
 // Adds a record for a new request.
-fn add<A: Allocator>(
+fn add<A: Allocator + Copy>(
+    alloc: A,
     records: &mut Vec<Record<A>, A>,
     key: Key,
     xo: bool,
@@ -117,7 +119,7 @@ fn add<A: Allocator>(
         return Err(AtpFault::Full);
     }
     records.reserve(1)?;
-    records.push(Record::waiting(key, xo, bitmap)).unwrap();
+    records.push_reserved(Record::waiting(alloc, key, xo, bitmap)?);
     Ok(Reception::New(key))
 }
 
@@ -188,6 +190,38 @@ fn keep<A: Allocator>(records: &mut Vec<Record<A>, A>, key: Key, packets: Listed
     if let Some(index) = index_of(records, key) {
         let record = &mut records[index];
         record.keep(packets);
+    }
+}
+
+// The same, with a copy of the answer. This needs no memory.
+pub(crate) fn settle_copy<A: Allocator + Copy>(
+    records: &mut Vec<Record<A>, A>,
+    key: Key,
+    packets: &[Packet<A>],
+)
+    requires few { length packets.now ≤ 8 }
+    requires fits { fit packets.now ≡ true }
+    ensures settled { records.new.items ≡ after_answer records.old.items key packets.now }
+    ensures no_more { length records.new.items ≤ length records.old.items }
+{
+    if is_kept(records, key) {
+        keep_copy(records, key, packets);
+    } else {
+        let _ = forget(records, key);
+    }
+}
+
+fn keep_copy<A: Allocator + Copy>(records: &mut Vec<Record<A>, A>, key: Key, packets: &[Packet<A>])
+    requires few { length packets.now ≤ 8 }
+    requires fits { fit packets.now ≡ true }
+    requires kept { is_kept (find (is_key key) records.old.items) ≡ true }
+    ensures kept { records.new.items ≡ replaced (is_key key) (record { key = key; state = Answered packets.now })
+        records.old.items }
+    ensures as_many { length records.new.items ≡ length records.old.items }
+{
+    if let Some(index) = index_of(records, key) {
+        let record = &mut records[index];
+        record.keep_copy(packets);
     }
 }
 

@@ -74,7 +74,14 @@ impl<A: Allocator + Copy> Responder<A> {
                 if bitmap == 0 {
                     return Ok(Reception::Ignored);
                 }
-                take_in(&mut self.records, Key { from, tid }, xo, bitmap, out)
+                take_in(
+                    self.alloc,
+                    &mut self.records,
+                    Key { from, tid },
+                    xo,
+                    bitmap,
+                    out,
+                )
             }
             Frame::Release { tid } => Ok(take_release(&mut self.records, Key { from, tid })),
             Frame::Response { .. } => Ok(Reception::Ignored),

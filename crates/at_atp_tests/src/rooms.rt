@@ -1,6 +1,6 @@
 //! Tests of the room that is reserved for an answer before it is given.
 use crate::shared::{ATP, exactly_once, request};
-use at_atp::{AnswerRoom, AtpFault, Frame, Key, Packet, Reception, Responder};
+use at_atp::{AtpFault, Frame, Key, Packet, Reception, Responder};
 use at_ddp::{Bytes, Datagrams, Listed, Outbox};
 use at_samples::{ASKER, SERVER};
 use refusing::Refusing;
@@ -54,18 +54,6 @@ impl<A: Allocator + Copy> Answerer<A> {
         assert_eq!(rt; count.map(usize::from), Ok(packets.len()));
     }
 
-    fn compare_respond_within(
-        &mut self,
-        rt: &impl Abort,
-        packets: &[Packet<A>],
-        room: AnswerRoom<A>,
-    ) {
-        let count = self
-            .responder
-            .respond_within(KEY, packets, room, &mut self.out);
-        assert_eq!(rt; count.map(usize::from), Ok(packets.len()));
-    }
-
     fn compare_hand_over(&mut self, rt: &impl Abort, packets: Vec<Packet<A>, A>) {
         let length = packets.len();
         let packets = Listed::from_vec(packets);
@@ -111,30 +99,49 @@ fn make_room<A: Allocator + Copy>(rt: &impl Abort, answerer: &mut Answerer<A>) -
     first.is_err()
 }
 
-// Reserves room and answers, with one request for memory refused. Returns whether the room ran out of memory.
-fn is_room_refused<A: Allocator + Copy>(rt: &impl Abort, global: Global, alloc: A) -> bool {
+// Reserves room and answers, with one request for memory refused. Returns whether memory ran out before the answer was
+// given.
+fn is_answered_without_memory<A: Allocator + Copy>(
+    rt: &impl Abort,
+    packets: &[Packet<A>],
+    frame: &Frame<'_>,
+    alloc: A,
+) -> bool {
     let mut answerer = Answerer::new(alloc);
-    let Ok(packets) = largest(global, alloc) else {
-        return false;
-    };
-    if answerer.receive(&request(0xFF, KEY.tid)).is_err() {
-        return false;
+    if answerer.receive(frame).is_err() {
+        return true;
     }
     let refused = make_room(rt, &mut answerer);
-    answerer.compare_respond(rt, &packets);
+    answerer.compare_respond(rt, packets);
     refused
+}
+
+// Answers this request again and again, each time with a later request for memory refused. Returns how often memory ran
+// out, which is before the answer is given.
+fn refusals_before_an_answer(rt: &impl Abort, global: Global, frame: &Frame<'_>) -> u32 {
+    let mut refusals = 0u32;
+    for granted in 0..30u64 {
+        let heap = Refusing::new(global, granted);
+        let refused = match largest(global, &heap) {
+            Ok(packets) => is_answered_without_memory(rt, &packets, frame, &heap),
+            Err(AllocError) => true,
+        };
+        assert_eq!(rt; refused, heap.has_refused(), "after {granted} requests");
+        refusals = refusals.saturating_add(u32::from(refused));
+    }
+    refusals
 }
 
 #[test]
 fn an_answer_takes_no_memory_once_there_is_room(rt: HostRuntime) {
-    let mut refusals = 0u32;
-    for granted in 0..20u64 {
-        let heap = Refusing::new(rt.alloc(), granted);
-        if is_room_refused(&rt, rt.alloc(), &heap) {
-            refusals = refusals.saturating_add(1);
-        }
-    }
-    assert!(rt; refusals > 0);
+    let refusals = refusals_before_an_answer(&rt, rt.alloc(), &request(0xFF, KEY.tid));
+    assert!(rt; 2 < refusals && refusals < 20, "{refusals} refusals");
+}
+
+#[test]
+fn an_answer_that_is_kept_takes_no_memory_once_there_is_room(rt: HostRuntime) {
+    let refusals = refusals_before_an_answer(&rt, rt.alloc(), &exactly_once(0xFF, KEY.tid));
+    assert!(rt; 10 < refusals && refusals < 30, "{refusals} refusals");
 }
 
 // Reserves room and hands over an answer that is kept, with one request for memory refused. Returns whether memory ran
@@ -159,40 +166,6 @@ fn an_answer_that_is_handed_over_is_kept_without_memory(rt: HostRuntime) {
     for granted in 0..30u64 {
         let heap = Refusing::new(rt.alloc(), granted);
         let refused = is_kept_without_memory(&rt, &heap);
-        assert_eq!(rt; refused, heap.has_refused(), "after {granted} requests");
-        refusals = refusals.saturating_add(u32::from(refused));
-    }
-    assert!(rt; 2 < refusals && refusals < 30, "{refusals} refusals");
-}
-
-// Takes memory for a copy and reserves room, then copies an answer that is kept, with one request for memory refused.
-// Returns whether memory ran out before the answer was given.
-fn is_copied_without_memory<A: Allocator + Copy>(
-    rt: &impl Abort,
-    packets: &[Packet<A>],
-    alloc: A,
-) -> bool {
-    let mut answerer = Answerer::new(alloc);
-    if answerer.receive(&exactly_once(0xFF, KEY.tid)).is_err() {
-        return true;
-    }
-    let Ok(room) = AnswerRoom::new(alloc) else {
-        return true;
-    };
-    let refused = make_room(rt, &mut answerer);
-    answerer.compare_respond_within(rt, packets, room);
-    refused
-}
-
-#[test]
-fn an_answer_that_is_copied_is_kept_without_memory_once_there_is_room(rt: HostRuntime) {
-    let mut refusals = 0u32;
-    for granted in 0..30u64 {
-        let heap = Refusing::new(rt.alloc(), granted);
-        let refused = match largest(rt.alloc(), &heap) {
-            Ok(packets) => is_copied_without_memory(&rt, &packets, &heap),
-            Err(AllocError) => true,
-        };
         assert_eq!(rt; refused, heap.has_refused(), "after {granted} requests");
         refusals = refusals.saturating_add(u32::from(refused));
     }

@@ -1,16 +1,22 @@
-use Rattle.std.proofs.Common.{◌≡◌, List, None, subst, ap, ◌∙◌}
-use Rattle.std.specs.Prelude.{find, IfSome, false}
-use Rattle.at_ddp.specs.Tables.{without_first}
-use Rattle.at_atp_responder.specs.Records.{is_key, Record, is_kept, asked_bitmap, answer_fault}
-use Rattle.at_atp_responder.proofs.AnsweringLemmas.{answered_by, not_kept_after}
+use Rattle.std.proofs.lemmas.Grind.{common_steps}
+use Rattle.std.proofs.Common.{arith, ◌≡◌, List, length, Ok, Err, subst, ap, ◌∙◌}
+use Rattle.std.specs.Prelude.{find, IfSome}
+use Rattle.at_ddp.specs.Outbox.{Sends}
+use Rattle.at_atp_frame.specs.Frames.{spelled_all}
+use Rattle.at_atp_responder.specs.Records.{is_key, Record, answer_fault, asked_for, after_answer}
 use Rattle.at_atp_responder.proofs.responder.Responder.respond.Goals as goal
 
 pub returns-clause-ok : goal.returns-clause-ok
 returns-clause-ok g c =
-    let free : answer_fault c.args.self.now c.args.key c.args.packets.now ≡ None = cc in
-    let loose : is_kept (find (is_key c.args.key) c.args.self.now) ≡ false = cc in
-    let masked : IfSome (find (is_key c.args.key) c.args.self.now) (λ (r : Record). c.forget-bitmap.result ≡ asked_bitmap r.state) =
-    subst (λ (rs : List Record). IfSome (find (is_key c.args.key) rs) (λ (r : Record). c.forget-bitmap.result ≡ asked_bitmap r.state)) c.self.view_is c.forget-bitmap.ensures.bitmap in
-    answered_by c.args.self.now c.forget-bitmap.new.records.items c.args.key c.args.packets.now c.send_answer.result c.forget-bitmap.result c.args.out.now c.room.new.self c.send_answer.new.out free masked c.room.ensures.stays
-    c.send_answer.ensures.sent c.send_answer.ensures.count
-    (c.forget-bitmap.ensures.gone ∙ ap (without_first (is_key c.args.key)) c.self.view_is ∙ not_kept_after c.args.self.now c.args.key c.args.packets.now loose)
+    let same = c.deref.ensures.value ∙ c.self.view_is in record {
+      is_new = c.settle_copy.ensures.settled ∙ ap (λ rs. after_answer rs c.args.key c.args.packets.now) c.self.view_is;
+      sends = subst (λ (rs : List Record). Sends c.args.out.now c.send_asked.new.out (spelled_all (asked_for (find (is_key c.args.key) rs) c.args.key c.args.packets.now))) same c.in_ok-count.ensures.sent;
+      counts = c.in_ok-count.ensures.counts ∙ ap (λ (rs : List Record). length (asked_for (find (is_key c.args.key) rs) c.args.key c.args.packets.now)) same;
+    }
+
+pub returns-clause-refuses : goal.returns-clause-refuses
+returns-clause-refuses g c = subst (λ (rs : List Record). IfSome (answer_fault rs c.args.key c.args.packets.now) (λ fault. Ok c.in_ok-count.count ≡ Err fault)) (c.deref.ensures.value ∙ c.self.view_is) c.in_ok-count.ensures.refuses
+
+pub returns-in_err-count-clause-memory : goal.returns-in_err-count-clause-memory
+returns-in_err-count-clause-memory g c = λ h.
+    let told = c.in_err-count.ensures.memory (ap (λ (rs : List Record). answer_fault rs c.args.key c.args.packets.now) (c.deref.ensures.value ∙ c.self.view_is) ∙ h) in grind (told, arith, common_steps)
