@@ -16,6 +16,27 @@ use Rattle.at_node.specs.declared.event.Timer.{Timer}
 use Rattle.at_node.specs.declared.event.Timer.TheVariants as timer
 use Rattle.at_steps.specs.Acts.{Act, Calls, Fires, Gets}
 
+-- a node's transaction, without answers
+abbrev pub new_transaction : ℕ → ℕ → Address → List ℕ → List ℕ → ℕ → Bool → ℕ → Transaction
+new_transaction net node responder user bytes wanted xo tid = record {
+  requester = asking net node;
+  tid = tid;
+  responder = responder;
+  user = user;
+  data_ = bytes;
+  wanted = wanted;
+  xo = xo;
+  answers = [];
+}
+
+-- a node asks the router for the first page: one packet, at least once
+abbrev pub first_page : ℕ → ℕ → ℕ → ℕ → Transaction
+first_page net node router tid = new_transaction net node (zones_at net router) (request_user 1) [] 1 false tid
+
+-- the page of a table from a place on, as the one packet of an answer
+abbrev pub page_answer : List (List ℕ) → ℕ → List Packet
+page_answer table start = page_packet table start ∷ []
+
 -- a report that says nothing of transactions and of the zone list
 abbrev pub is_plain : {A : Type 0} → Act A → Report A → Bool
 is_plain act (report.Refused number) = true
@@ -56,16 +77,9 @@ pub record BeginsAsking {A : Type 0} (net number : ℕ) (c : Change A) : Type 0 
   pub retries : ℕ
   pub act : c.act ≡ Calls (Ask node socket user bytes wanted xo retries)
   pub report : c.report ≡ report.Begun tid
-  pub asked : c.now_asked ≡ record {
-    requester = asking net number;
-    tid = tid;
-    responder = record { net = net; node = node; socket = socket };
-    user = user;
-    data_ = bytes;
-    wanted = wanted;
-    xo = xo;
-    answers = [];
-  } ∷ c.asked
+  pub asked : c.now_asked
+      ≡ new_transaction net number (record { net = net; node = node; socket = socket }) user bytes wanted xo tid
+      ∷ c.asked
   pub reading : c.now.reading ≡ c.part.reading
   pub apart : (reading : ℕ) → c.part.reading ≡ Some reading → (tid == reading) ≡ false
 
@@ -76,16 +90,7 @@ pub record BeginsReading {A : Type 0} (net number : ℕ) (router : Option ℕ) (
   pub is_router : router ≡ Some server
   pub act : c.act ≡ Calls Zones
   pub report : c.report ≡ report.Begun tid
-  pub asked : c.now_asked ≡ record {
-    requester = asking net number;
-    tid = tid;
-    responder = zones_at net server;
-    user = request_user 1;
-    data_ = [];
-    wanted = 1;
-    xo = false;
-    answers = [];
-  } ∷ c.asked
+  pub asked : c.now_asked ≡ first_page net number server tid ∷ c.asked
   pub reading : c.now.reading ≡ Some tid
 
 -- the node's user answers the newest transaction of a requester under a number, which asked the node's service
@@ -116,7 +121,7 @@ pub record ServesPage {A : Type 0} (net number : ℕ) (c : Change A) : Type 0 wh
   pub start : ℕ
   pub asks_from : RequestSpells (newest.transaction).user start
   pub one : count ≤ 1
-  pub asked : c.now_asked ≡ answered c.asked requester tid (page_packet table start ∷ [])
+  pub asked : c.now_asked ≡ answered c.asked requester tid (page_answer table start)
   pub reading : c.now.reading ≡ c.part.reading
 
 -- the service receives what the newest transaction of a requester under a number asks of it

@@ -1,19 +1,19 @@
 -- What the machine knows of transactions and of the zone list, and which reports of them it allows (Inside AppleTalk,
 -- ATP, "Transactions", and ZIP, "GetZoneList").
-use Rattle.std.specs.Prelude.{◌≡◌, ℕ, ◌<◌, ◌≤◌, ◌==◌, not, Bool, false, List, [], ◌∷◌, ◌++◌, length, filter, find}
+use Rattle.std.specs.Prelude.{◌≡◌, ℕ, ◌<◌, ◌≤◌, ◌==◌, not, Bool, List, [], ◌∷◌, ◌++◌, length, filter, find}
 use Rattle.std.specs.Prelude.{slice_index_or, option_map, Option, Some}
 use Rattle.at_ddp.specs.declared.address.Address.{Address}
 use Rattle.at_atp_frame.specs.Packets.{Packet}
 use Rattle.at_atp.specs.Transactions.{Transaction, Asked, transaction_of, answered, IsResponse}
 use Rattle.at_atp_responder.specs.declared.reception.Key.{Key}
-use Rattle.at_zip.specs.Page.{page_of, page_user, page_data}
-use Rattle.at_zip.specs.Request.{RequestSpells, request_user}
+use Rattle.at_zip.specs.Request.{RequestSpells}
 use Rattle.at_node.specs.AtpParts.{asking, serving, zones_at}
 use Rattle.at_node.specs.Kinds.{Kind, Atp}
 use Rattle.at_node.specs.declared.event.Call.{Call}
 use Rattle.at_node.specs.declared.event.Call.TheVariants.{Zones, Ask, Answer}
 use Rattle.at_node.specs.declared.event.Report.{Report}
 use Rattle.at_node.specs.declared.event.Report.TheVariants as report
+use Rattle.at_steps.specs.AtpSteps.{first_page, new_transaction, page_answer}
 use Rattle.at_world.specs.Cables.{Cable, at_net}
 use Rattle.at_world.specs.declared.event.Event.{Event}
 use Rattle.at_world.specs.declared.event.Event.TheVariants as event
@@ -40,24 +40,6 @@ next m = record m { past = m.past ++ m.table ∷ [] }
 
 -- ---- readings of the zone list
 
--- a node asks the router for the first page: one packet, at least once
-abbrev pub first_page : ℕ → ℕ → ℕ → ℕ → Transaction
-first_page net node router tid = record {
-  requester = asking net node;
-  tid = tid;
-  responder = zones_at net router;
-  user = request_user 1;
-  data_ = [];
-  wanted = 1;
-  xo = false;
-  answers = [];
-}
-
--- the page of a table from a place on, as the one packet of an answer
-abbrev pub page_answer : List (List ℕ) → ℕ → List Packet
-page_answer table start =
-    record { user = page_user (page_of table start); data_ = page_data (page_of table start) } ∷ []
-
 -- the moment since which a node reads the list
 abbrev pub since_of : List Reading → ℕ → Option ℕ
 since_of rs node = option_map (λ r. r.since) (find (λ r. r.node == node) rs)
@@ -81,19 +63,6 @@ pub record BeginsReading (c : Cable) (m : AtpMachine) (node tid : ℕ) (m' : Atp
     asked = first_page c.net node router tid ∷ m.asked;
     readings = record { node = node; since = length m.past } ∷ m.readings;
   })
-
--- a node's transaction, without answers
-abbrev pub new_transaction : ℕ → ℕ → Address → List ℕ → List ℕ → ℕ → Bool → ℕ → Transaction
-new_transaction net node responder user bytes wanted xo tid = record {
-  requester = asking net node;
-  tid = tid;
-  responder = responder;
-  user = user;
-  data_ = bytes;
-  wanted = wanted;
-  xo = xo;
-  answers = [];
-}
 
 -- a transaction begins
 pub record BeginsAsking (c : Cable) (m : AtpMachine) (node : ℕ) (responder : Address) (user bytes : List ℕ)

@@ -19,9 +19,8 @@ use Rattle.at_node.specs.declared.event.Report.{Report}
 use Rattle.at_node.specs.declared.event.Report.TheVariants as report
 use Rattle.at_node.specs.declared.event.Timer.TheVariants as timer
 use Rattle.at_steps.specs.AtpSteps as steps
-use Rattle.at_steps.specs.AtpSteps.{Change, IsPlain, BeginsAsking, BeginsReading, GivesAnswer, ServesPage, HandsUp, Finishes, EndsReading, FailsReading, IsStep, is_plain}
-use Rattle.at_world.specs.AtpGuards as guards
-use Rattle.at_world.specs.AtpGuards.{AtpMachine, Reading, StepBy, since_of, without_reading, next, page_answer}
+use Rattle.at_steps.specs.AtpSteps.{Change, IsPlain, BeginsAsking, BeginsReading, GivesAnswer, ServesPage, HandsUp, Finishes, EndsReading, FailsReading, IsStep, is_plain, page_answer}
+use Rattle.at_world.specs.AtpGuards.{AtpMachine, Reading, StepBy, since_of, without_reading, next}
 use Rattle.at_world.specs.Cables.{Cable, IsSaid, owner_of}
 use Rattle.at_world.specs.Events.{act_of, node_of}
 use Rattle.at_world.specs.Worlds.{WorldState, node_at}
@@ -233,22 +232,22 @@ module _ (A : Type 0) (laws : Laws A) (w : WorldState) (cable : Cable) (m : AtpM
 
   begins_step : (ts : List Transaction) → BeginsAsking cable.net (node_of e) (record { asked = m.asked; now_asked = ts; part = n.atp; now = x.atp; act = act_of e; report = r }) → IsSaid e r × Becomes A cable m e x r ts
   begins_step ts s =
-      begins ts (guards.new_transaction cable.net (node_of e) (record { net = cable.net; node = s.node; socket = s.socket }) s.user s.bytes s.wanted s.xo s.tid) m.readings s.asked refl refl
-      (same_reading (guards.new_transaction cable.net (node_of e) (record { net = cable.net; node = s.node; socket = s.socket }) s.user s.bytes s.wanted s.xo s.tid ∷ m.asked) m.readings s.reading
-      (reading_beside (guards.new_transaction cable.net (node_of e) (record { net = cable.net; node = s.node; socket = s.socket }) s.user s.bytes s.wanted s.xo s.tid) refl n.atp.reading s.apart (t.readings (node_of e) n stands)))
+      begins ts (steps.new_transaction cable.net (node_of e) (record { net = cable.net; node = s.node; socket = s.socket }) s.user s.bytes s.wanted s.xo s.tid) m.readings s.asked refl refl
+      (same_reading (steps.new_transaction cable.net (node_of e) (record { net = cable.net; node = s.node; socket = s.socket }) s.user s.bytes s.wanted s.xo s.tid ∷ m.asked) m.readings s.reading
+      (reading_beside (steps.new_transaction cable.net (node_of e) (record { net = cable.net; node = s.node; socket = s.socket }) s.user s.bytes s.wanted s.xo s.tid) refl n.atp.reading s.apart (t.readings (node_of e) n stands)))
       (λ j apart. refl)
-      (so_at A cable m (moved m (guards.new_transaction cable.net (node_of e) (record { net = cable.net; node = s.node; socket = s.socket }) s.user s.bytes s.wanted s.xo s.tid ∷ m.asked) m.readings) e (event.Call (node_of e) (Ask s.node s.socket s.user s.bytes s.wanted s.xo s.retries)) r (report.Begun s.tid)
+      (so_at A cable m (moved m (steps.new_transaction cable.net (node_of e) (record { net = cable.net; node = s.node; socket = s.socket }) s.user s.bytes s.wanted s.xo s.tid ∷ m.asked) m.readings) e (event.Call (node_of e) (Ask s.node s.socket s.user s.bytes s.wanted s.xo s.retries)) r (report.Begun s.tid)
       (called_at e (Ask s.node s.socket s.user s.bytes s.wanted s.xo s.retries) s.act) s.report
       (tt, record { becomes = refl }))
 
   -- the node reads the list from now on
-  reads_now : (tid server : ℕ) → cable.router ≡ Some server → Reads cable.net cable.router (guards.first_page cable.net (node_of e) server tid ∷ m.asked) (record { node = node_of e; since = length m.past } ∷ m.readings) (node_of e) tid
+  reads_now : (tid server : ℕ) → cable.router ≡ Some server → Reads cable.net cable.router (steps.first_page cable.net (node_of e) server tid ∷ m.asked) (record { node = node_of e; since = length m.past } ∷ m.readings) (node_of e) tid
   reads_now tid server is = record {
     server = server;
     is_router = is;
     first = record {
-      transaction = guards.first_page cable.net (node_of e) server tid;
-      newest = λ i. cond (same_address_itself (asking cable.net (node_of e)) i && eq-eqb tid tid refl i) (Some (guards.first_page cable.net (node_of e) server tid)) (transaction_of m.asked (asking cable.net (node_of e)) tid);
+      transaction = steps.first_page cable.net (node_of e) server tid;
+      newest = λ i. cond (same_address_itself (asking cable.net (node_of e)) i && eq-eqb tid tid refl i) (Some (steps.first_page cable.net (node_of e) server tid)) (transaction_of m.asked (asking cable.net (node_of e)) tid);
       asked_it = refl;
     };
     user = refl;
@@ -259,10 +258,10 @@ module _ (A : Type 0) (laws : Laws A) (w : WorldState) (cable : Cable) (m : AtpM
   reads_step : n.seat.router ≡ cable.router → (ts : List Transaction) → BeginsReading cable.net (node_of e) n.seat.router (record { asked = m.asked; now_asked = ts; part = n.atp; now = x.atp; act = act_of e; report = r }) → IsSaid e r × Becomes A cable m e x r ts
   reads_step routed ts s =
       let is_router : cable.router ≡ Some s.server = sym routed ∙ s.is_router in
-      begins ts (guards.first_page cable.net (node_of e) s.server s.tid) (record { node = node_of e; since = length m.past } ∷ m.readings) s.asked refl refl
-      (subst (IsReading cable (moved m (guards.first_page cable.net (node_of e) s.server s.tid ∷ m.asked) (record { node = node_of e; since = length m.past } ∷ m.readings)) (node_of e)) (sym s.reading) (reads_now s.tid s.server is_router))
+      begins ts (steps.first_page cable.net (node_of e) s.server s.tid) (record { node = node_of e; since = length m.past } ∷ m.readings) s.asked refl refl
+      (subst (IsReading cable (moved m (steps.first_page cable.net (node_of e) s.server s.tid ∷ m.asked) (record { node = node_of e; since = length m.past } ∷ m.readings)) (node_of e)) (sym s.reading) (reads_now s.tid s.server is_router))
       (λ j apart. ap (λ b. option_map (λ (y : Reading). y.since) (cond b (Some (record { node = node_of e; since = length m.past })) (find (λ (y : Reading). y.node == j) m.readings))) apart)
-      (so_at A cable m (moved m (guards.first_page cable.net (node_of e) s.server s.tid ∷ m.asked) (record { node = node_of e; since = length m.past } ∷ m.readings)) e (event.Call (node_of e) Zones) r (report.Begun s.tid) (called_at e Zones s.act) s.report
+      (so_at A cable m (moved m (steps.first_page cable.net (node_of e) s.server s.tid ∷ m.asked) (record { node = node_of e; since = length m.past } ∷ m.readings)) e (event.Call (node_of e) Zones) r (report.Begun s.tid) (called_at e Zones s.act) s.report
       (tt, record { router = s.server; is_router = is_router; becomes = refl }))
 
   -- ---- each of them

@@ -34,7 +34,8 @@ use Rattle.at_node.specs.declared.service.Reply.TheVariants.{Later}
 use Rattle.at_steps.specs.Acts.{Act, Calls, Fires, Gets}
 use Rattle.at_steps.specs.AtpHappenings.{AreEntries, Happens, HoldsNo, IsForeign, IsHappening, IsOn, IsOpen, Passes, SendsAtp, Stands, numbers_drawn}
 use Rattle.at_world.specs.Draws.{noted as noted_in}
-use Rattle.at_world.specs.AtpGuards.{AtpMachine, Reading, StepBy, since_of, next, page_answer}
+use Rattle.at_steps.specs.AtpSteps.{page_answer}
+use Rattle.at_world.specs.AtpGuards.{AtpMachine, Reading, StepBy, since_of, next}
 use Rattle.at_world.specs.Cables.{Cable, IsSomebodys, owner_of}
 use Rattle.at_world.specs.Events.{act_of, node_of}
 use Rattle.at_world.specs.Stories.{Grows, Matches}
