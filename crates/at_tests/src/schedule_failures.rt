@@ -1,10 +1,8 @@
 //! Plays that run out of memory, and plays whose writes fail.
-use crate::shared::{ZONE_LIST, ZONE_LIST_PLAYED, played};
+use crate::shared::{Scarce, ZONE_LIST, ZONE_LIST_PLAYED, played};
 use at_play::{Diagnostics, Printer, Status, play_text};
 use refusing::Refusing;
 use std::alloc::Global;
-use std::io;
-use std::io::ErrorKind;
 use std::process::Abort;
 
 // What is printed of the zone list if one request for memory is refused. The play stops before an event, or a node
@@ -102,30 +100,6 @@ fn each_request_for_memory_that_is_refused_is_told_in_its_place(rt: HostRuntime)
         refusals = refusals.saturating_add(u64::from(play_refused(&rt, rt.alloc(), granted)));
     }
     assert!(rt; 6 < refusals && refusals < 100, "{refusals} refusals");
-}
-
-// A writer that refuses the write after the first `left`, and takes every other one.
-#[derive(Drop)]
-struct Scarce {
-    left: u32,
-    has_refused: bool,
-    bytes: Vec<u8>,
-}
-
-impl io::Write for Scarce {
-    fn write(&mut self, buf: &[u8]) -> io::Result<usize> {
-        if self.left == 0 && !self.has_refused {
-            self.has_refused = true;
-            return Err(io::Error::from(ErrorKind::StorageFull));
-        }
-        self.left = self.left.saturating_sub(1);
-        self.bytes.extend_from_slice(buf)?;
-        Ok(buf.len())
-    }
-
-    fn flush(&mut self) -> io::Result<()> {
-        Ok(())
-    }
 }
 
 // What is printed before the refused write is the beginning of the whole.

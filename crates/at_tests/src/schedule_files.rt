@@ -41,7 +41,7 @@ impl Seek for Changing {
     }
 }
 
-fn played<A: Allocator + Copy, F: Read + Seek>(
+fn played_file<A: Allocator + Copy, F: Read + Seek>(
     alloc: A,
     global: Global,
     file: &mut F,
@@ -71,7 +71,7 @@ fn compare(
         turns,
         at: 0,
     };
-    let (printed, status) = played(alloc, alloc, &mut file);
+    let (printed, status) = played_file(alloc, alloc, &mut file);
     assert_eq!(rt; printed.as_slice(), want.as_bytes(), "in {turns} turns");
     assert_eq!(rt; status, want_status, "in {turns} turns");
 }
@@ -80,19 +80,6 @@ fn compare(
 fn a_file_is_read_three_times_from_its_beginning(rt: HostRuntime) {
     let texts = [ZONE_LIST; 3];
     compare(&rt, rt.alloc(), texts, 3, ZONE_LIST_PLAYED, Status::Done);
-    let (printed, status) = played(
-        rt.alloc(),
-        rt.alloc(),
-        &mut Cursor::new(ZONE_LIST.as_bytes()),
-    );
-    assert_eq!(rt; printed.as_slice(), ZONE_LIST_PLAYED.as_bytes());
-    assert_eq!(rt; status, Status::Done);
-}
-
-#[test]
-fn a_file_with_a_fault_plays_nothing(rt: HostRuntime) {
-    let texts = ["net 10\nnode 5\ncall 5 zones\nfault\ncall 5 zones\n"; 3];
-    compare(&rt, rt.alloc(), texts, 3, "fault 4\n", Status::Failed);
 }
 
 #[test]
@@ -118,44 +105,11 @@ fn a_file_that_changes_while_it_is_played_is_told_as_unreadable(rt: HostRuntime)
     );
 }
 
-// A file of number signs without a line feed. `left` of its `len` bytes are still to be read.
-#[derive(Drop)]
-struct Signs {
-    len: usize,
-    left: usize,
-}
-
-impl Read for Signs {
-    fn read(&mut self, buf: &mut [u8]) -> io::Result<usize> {
-        let count = buf.len().min(self.left);
-        buf[..count].fill(b'#');
-        self.left = self.left.saturating_sub(count);
-        Ok(count)
-    }
-}
-
-impl Seek for Signs {
-    fn seek(&mut self, _to: SeekFrom) -> io::Result<u64> {
-        self.left = self.len;
-        Ok(0)
-    }
-}
-
-#[test]
-fn a_file_has_at_most_67_108_864_bytes(rt: HostRuntime) {
-    for (len, want) in [(67_108_864, "fault 2\n"), (67_108_865, "fault 0\n")] {
-        let mut file = Signs { len, left: len };
-        let (printed, status) = played(rt.alloc(), rt.alloc(), &mut file);
-        assert_eq!(rt; printed.as_slice(), want.as_bytes(), "of {len} bytes");
-        assert_eq!(rt; status, Status::Failed);
-    }
-}
-
 // The allocator grants `granted` requests and refuses the next one. Returns whether it did. The events before the
 // refusal were printed.
 fn play_refused(rt: &impl Abort, alloc: Global, granted: u64) -> bool {
     let heap = Refusing::new(alloc, granted);
-    let (printed, _) = played(&heap, alloc, &mut Cursor::new(ZONE_LIST.as_bytes()));
+    let (printed, _) = played_file(&heap, alloc, &mut Cursor::new(ZONE_LIST.as_bytes()));
     let printed = printed.as_slice();
     if heap.has_refused() {
         let stops = printed

@@ -1,6 +1,8 @@
-//! What the files of schedules share: a schedule of the zone list, and comparisons of what a play prints.
+//! What the tests of plays share: a schedule of the zone list, what comes of a play, and writers that fail.
 use at_play::{Diagnostics, Printer, Status, play_text};
-use std::alloc::{AllocError, Allocator, Global};
+use std::alloc::{Allocator, Global};
+use std::io;
+use std::io::{ErrorKind, Read, Write};
 use std::process::Abort;
 
 // A reading of the zone list, whose answer comes twice.
@@ -22,22 +24,31 @@ sent 1 5 0020CA71000A000A05018006039000000001000002034C6162064F6666696365
 3 ignored
 ";
 
-// What a play of this schedule prints, and its status.
+/// What a play of this schedule prints, and its status.
 pub(crate) fn played<A: Allocator + Copy>(
     alloc: A,
     global: Global,
     text: &str,
 ) -> (Vec<u8>, Status) {
-    let mut writer = Vec::new(global);
-    let mut printer = Printer::new(&mut writer);
+    let (printed, _told, status) = played_from(alloc, global, &mut text.as_bytes());
+    (printed, status)
+}
+
+/// What a play of what this reader gives prints, what a person is told of it, and its status.
+pub(crate) fn played_from<A: Allocator + Copy, R: Read>(
+    alloc: A,
+    global: Global,
+    reader: &mut R,
+) -> (Vec<u8>, Vec<u8>, Status) {
+    let mut printed = Vec::new(global);
     let mut told = Vec::new(global);
     let status = play_text(
         alloc,
-        &mut text.as_bytes(),
-        &mut printer,
-        &mut Diagnostics::new("a.txt", &mut told),
+        reader,
+        &mut Printer::new(&mut printed),
+        &mut Diagnostics::new("zones.txt", &mut told),
     );
-    (writer, status)
+    (printed, told, status)
 }
 
 pub(crate) fn compare(rt: &impl Abort, alloc: Global, text: &str, want: &str, want_status: Status) {
@@ -46,40 +57,46 @@ pub(crate) fn compare(rt: &impl Abort, alloc: Global, text: &str, want: &str, wa
     assert_eq!(rt; status, want_status, "of {text:?}");
 }
 
-// Compares the end of what is printed of a schedule that is too long for a failure message, and the status of its play.
-pub(crate) fn compare_end(
-    rt: &impl Abort,
-    alloc: Global,
-    text: &str,
-    want: &str,
-    want_status: Status,
-) {
-    let (printed, status) = played(alloc, alloc, text);
-    let start = printed.len().saturating_sub(200);
-    assert!(rt;
-        printed.ends_with(want.as_bytes()),
-        "{want:?} of {:?}",
-        &printed[start..]
-    );
-    assert_eq!(rt; status, want_status, "with {want:?}");
+/// Takes no writes, or no flush.
+#[derive(Drop)]
+pub(crate) struct Full {
+    pub(crate) takes_writes: bool,
 }
 
-pub(crate) fn push_times(text: &mut String, part: &str, count: u32) -> Result<(), AllocError> {
-    for _ in 0..count {
-        text.push_str(part)?;
+impl Write for Full {
+    fn write(&mut self, buf: &[u8]) -> io::Result<usize> {
+        if self.takes_writes {
+            Ok(buf.len())
+        } else {
+            Err(io::Error::from(ErrorKind::StorageFull))
+        }
     }
-    Ok(())
+
+    fn flush(&mut self) -> io::Result<()> {
+        Err(io::Error::from(ErrorKind::StorageFull))
+    }
 }
 
-// What a person is told of the play of a schedule, whose file is named so.
-pub(crate) fn told(alloc: Global, file: &str, text: &str) -> Vec<u8> {
-    let mut printed = Vec::new(alloc);
-    let mut told = Vec::new(alloc);
-    let _status = play_text(
-        alloc,
-        &mut text.as_bytes(),
-        &mut Printer::new(&mut printed),
-        &mut Diagnostics::new(file, &mut told),
-    );
-    told
+/// Refuses the write after the first `left`, and takes every other one.
+#[derive(Drop)]
+pub(crate) struct Scarce {
+    pub(crate) left: u32,
+    pub(crate) has_refused: bool,
+    pub(crate) bytes: Vec<u8>,
+}
+
+impl Write for Scarce {
+    fn write(&mut self, buf: &[u8]) -> io::Result<usize> {
+        if self.left == 0 && !self.has_refused {
+            self.has_refused = true;
+            return Err(io::Error::from(ErrorKind::StorageFull));
+        }
+        self.left = self.left.saturating_sub(1);
+        self.bytes.extend_from_slice(buf)?;
+        Ok(buf.len())
+    }
+
+    fn flush(&mut self) -> io::Result<()> {
+        Ok(())
+    }
 }

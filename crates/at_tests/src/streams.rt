@@ -1,10 +1,11 @@
 //! What comes of a read, a write or a request for memory that fails.
+use crate::shared::{Full, played, played_from};
 use at_play::{Diagnostics, Printer, Status, play_text};
 use at_schedule::{Fault, read_setup};
 use refusing::Refusing;
-use std::alloc::{AllocError, Global};
+use std::alloc::Global;
 use std::io;
-use std::io::{ErrorKind, Read, Write};
+use std::io::{ErrorKind, Read};
 use std::test::Fail;
 
 // Gives a text byte by byte, each after an interruption, and then ends or fails.
@@ -39,16 +40,9 @@ impl Read for Slow<'_> {
 
 // What is printed, if the play fails.
 fn printed<R: Read>(alloc: Global, reader: &mut R) -> Option<Vec<u8>> {
-    let mut writer = Vec::new(alloc);
-    let mut told = Vec::new(alloc);
-    let status = play_text(
-        alloc,
-        reader,
-        &mut Printer::new(&mut writer),
-        &mut Diagnostics::new("a.txt", &mut told),
-    );
+    let (printed, _told, status) = played_from(alloc, alloc, reader);
     match status {
-        Status::Failed => Some(writer),
+        Status::Failed => Some(printed),
         Status::Done => None,
     }
 }
@@ -94,26 +88,6 @@ fn a_schedule_has_at_most_67_108_864_bytes(rt: HostRuntime) -> Result<(), Fail> 
     Ok(())
 }
 
-/// Takes no writes, or no flush.
-#[derive(Drop)]
-pub(crate) struct Full {
-    pub(crate) takes_writes: bool,
-}
-
-impl Write for Full {
-    fn write(&mut self, buf: &[u8]) -> io::Result<usize> {
-        if self.takes_writes {
-            Ok(buf.len())
-        } else {
-            Err(io::Error::from(ErrorKind::StorageFull))
-        }
-    }
-
-    fn flush(&mut self) -> io::Result<()> {
-        Err(io::Error::from(ErrorKind::StorageFull))
-    }
-}
-
 #[test]
 fn a_write_or_a_flush_that_fails_ends_the_play(rt: HostRuntime) {
     for takes_writes in [false, true] {
@@ -135,7 +109,8 @@ fn a_write_or_a_flush_that_fails_ends_the_play(rt: HostRuntime) {
 fn read_short_of_memory(alloc: Global, granted: u64) -> (Option<Fault>, bool) {
     let heap = Refusing::new(alloc, granted);
     let text =
-        b"net 1\nnode 1 router zone A\nnode 2 zone B\nzones A B\ncall 1 zones\ndeliver 0 1\ncall 1 ask 2 129 00000000 AA 1 alo 1\ncall 2 answer 1 128 1 00000000:BB 00000000:CC\ntimer 1 retry 1\n";
+        b"net 1\nnode 1 router zone A\nnode 2 zone B\nzones A B\ncall 1 zones\ndeliver 0 1\n\
+        call 1 ask 2 129 00000000 AA 1 alo 1\ncall 2 answer 1 128 1 00000000:BB 00000000:CC\ntimer 1 retry 1\n";
     let fault = read_setup(&heap, &mut text.as_slice()).err();
     (fault, heap.has_refused())
 }
@@ -156,18 +131,9 @@ fn each_request_for_memory_that_is_refused_is_told(rt: HostRuntime) {
 }
 
 #[test]
-fn no_memory_for_the_bytes_stops_before_the_first_event(rt: HostRuntime) -> Result<(), Fail> {
+fn no_memory_for_the_bytes_stops_before_the_first_event(rt: HostRuntime) {
     let heap = Refusing::new(rt.alloc(), 0);
-    let mut writer = Vec::new(rt.alloc());
-    let mut printer = Printer::new(&mut writer);
-    let mut told = Vec::new(rt.alloc());
-    let status = play_text(
-        &heap,
-        &mut b"fault".as_slice(),
-        &mut printer,
-        &mut Diagnostics::new("a.txt", &mut told),
-    );
+    let (printed, status) = played(&heap, rt.alloc(), "fault");
     assert_eq!(rt; status, Status::Failed);
-    assert_eq!(rt; writer.as_slice(), b"stopped nomemory at 0\n".as_slice());
-    Ok(())
+    assert_eq!(rt; printed.as_slice(), b"stopped nomemory at 0\n".as_slice());
 }

@@ -1,4 +1,5 @@
 //! How reports print.
+use crate::shared::Scarce;
 use at_atp::{Key, Packet};
 use at_ddp::{Address, Bytes, Listed, Pascal};
 use at_node::Report;
@@ -6,8 +7,7 @@ use at_play::{Printer, Status};
 use at_print::{write_event, write_text};
 use at_schedule::read_setup;
 use std::alloc::{AllocError, Global};
-use std::io;
-use std::io::{ErrorKind, Write};
+use std::io::Write;
 use std::test::Fail;
 
 // One report of each kind, and lists of no, one and more items.
@@ -136,36 +136,12 @@ fn each_report_prints_as_its_line(rt: HostRuntime) -> Result<(), Fail> {
     Ok(())
 }
 
-// Takes so many writes, and refuses the one after them; what follows it would be taken again.
-#[derive(Drop)]
-struct Refusing {
-    left: u32,
-    has_refused: bool,
-    bytes: Vec<u8>,
-}
-
-impl Write for Refusing {
-    fn write(&mut self, buf: &[u8]) -> io::Result<usize> {
-        if self.left == 0 && !self.has_refused {
-            self.has_refused = true;
-            return Err(io::Error::from(ErrorKind::StorageFull));
-        }
-        self.left = self.left.saturating_sub(1);
-        self.bytes.extend_from_slice(buf)?;
-        Ok(buf.len())
-    }
-
-    fn flush(&mut self) -> io::Result<()> {
-        Ok(())
-    }
-}
-
 #[test]
 fn a_write_that_fails_is_told_and_none_follows_it(rt: HostRuntime) -> Result<(), Fail> {
     let reports = reports(rt.alloc())?;
     let mut refused = 0u32;
     for left in 0..1000u32 {
-        let mut writer = Refusing {
+        let mut writer = Scarce {
             left,
             has_refused: false,
             bytes: Vec::new(rt.alloc()),
