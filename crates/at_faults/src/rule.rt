@@ -20,7 +20,8 @@ pub enum Rule {
     #[error("`net` wants a network's number, 1 to 65535, as in \"net 10\"")]
     Net,
     /// `node N [router] [zone TEXT] [rooms R S]`
-    #[error("`node` wants a number, 1 to 254, then `router`, `zone` and `rooms` if needed, as in \"node 1 router zone Lab\"")]
+    #[error("`node` wants a number, 1 to 254, then `router`, `zone` and `rooms` if needed, \
+        as in \"node 1 router zone Lab\"")]
     Node,
     /// `zones TEXT ..`
     #[error("`zones` wants names of 1 to 32 bytes, as in \"zones Lab Office\"")]
@@ -32,10 +33,12 @@ pub enum Rule {
     #[error("`zones` wants nothing after it in a call, as in \"call 5 zones\"")]
     CallZones,
     /// `call N ask NODE SOCKET USER DATA WANTED alo|xo RETRIES`
-    #[error("`ask` wants a node, a socket, user bytes, data, 1 to 8 packets, `alo` or `xo`, and retries, as in \"call 5 ask 7 129 00000000 AA 1 alo 3\"")]
+    #[error("`ask` wants a node, a socket, user bytes, data, 1 to 8 packets, `alo` or `xo`, and retries, \
+        as in \"call 5 ask 7 129 00000000 AA 1 alo 3\"")]
     Ask,
     /// `call N answer NODE SOCKET T USER:DATA ..`
-    #[error("`answer` wants a node, a socket, a transaction's number and packets, as in \"call 7 answer 5 128 0 00000000:BB\"")]
+    #[error("`answer` wants a node, a socket, a transaction's number and packets, \
+        as in \"call 7 answer 5 128 0 00000000:BB\"")]
     Answer,
     /// Pairs of hexadecimal digits, or `-`.
     #[error("data is pairs of hexadecimal digits, or `-` for no bytes")]
@@ -50,7 +53,8 @@ pub enum Rule {
     #[error("`retry` wants a transaction's number, 0 to 65535, as in \"timer 5 retry 0\"")]
     Retry,
     /// `timer N release OWN NODE SOCKET T`
-    #[error("`release` wants socket 6 or 129, and a request's node, socket and number, as in \"timer 7 release 129 5 128 0\"")]
+    #[error("`release` wants socket 6 or 129, and a request's node, socket and number, \
+        as in \"timer 7 release 129 5 128 0\"")]
     Release,
     /// `net` comes before all other lines.
     #[error("`net` comes first, as in \"net 10\"")]

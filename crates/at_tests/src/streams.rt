@@ -108,8 +108,7 @@ fn a_write_or_a_flush_that_fails_ends_the_play(rt: HostRuntime) {
 // The reading of a schedule whose request for memory of this number is refused, and whether it was.
 fn read_short_of_memory(alloc: Global, granted: u64) -> (Option<Fault>, bool) {
     let heap = Refusing::new(alloc, granted);
-    let text =
-        b"net 1\nnode 1 router zone A\nnode 2 zone B\nzones A B\ncall 1 zones\ndeliver 0 1\n\
+    let text = b"net 1\nnode 1 router zone A\nnode 2 zone B\nzones A B\ncall 1 zones\ndeliver 0 1\n\
         call 1 ask 2 129 00000000 AA 1 alo 1\ncall 2 answer 1 128 1 00000000:BB 00000000:CC\ntimer 1 retry 1\n";
     let fault = read_setup(&heap, &mut text.as_slice()).err();
     (fault, heap.has_refused())

@@ -29,7 +29,8 @@ pub enum Refusal {
     NotForNode,
     /// A number that the datagram carries was drawn again since it was sent. Or a node still holds a record under the
     /// number to be drawn.
-    #[error("a number was drawn again since the datagram was sent, or a node still holds a record under the number to be drawn")]
+    #[error("a number was drawn again since the datagram was sent, \
+        or a node still holds a record under the number to be drawn")]
     Untimely,
 }
 
