@@ -1,30 +1,20 @@
 //! Tests of nodes, worlds and plays through the public functions of their crates. They are of what no clause says and
-//! no case shows: a read, a write or a request for memory that fails, and reports that no schedule gets.
+//! no case shows: a read, a write or a request for memory that fails, and bytes that no schedule delivers.
 #![tactic(auto)]
 
 #[cfg(test)]
-mod node_played;
+mod allocator;
 #[cfg(test)]
-mod node_readings;
+mod failing;
 #[cfg(test)]
-mod node_refusals;
+mod nodes;
 #[cfg(test)]
-mod once_failures;
+mod reads;
 #[cfg(test)]
-mod report_forms;
+mod refusals;
 #[cfg(test)]
-mod schedule_failures;
+mod transcripts;
 #[cfg(test)]
-mod schedule_files;
+mod writes;
 #[cfg(test)]
-mod shared;
-#[cfg(test)]
-mod show_failures;
-#[cfg(test)]
-mod streams;
-#[cfg(test)]
-mod told;
-#[cfg(test)]
-mod transaction_failures;
-#[cfg(test)]
-mod world_steps;
+mod zone_list;

@@ -7,9 +7,6 @@ ghost use Rattle.refusing.specs.Inner.{inner_of};
 use std::alloc::{AllocError, Allocator};
 use std::cell::Cell;
 
-#[cfg(test)]
-mod tests;
-
 /// An allocator for tests: it grants a given number of requests, refuses the next one, and grants all after it.
 ///
 /// Allocating, growing and shrinking a block is one request each, and giving a block back is none. A granted request

@@ -1,0 +1,18 @@
+//! Tests of datagrams, transactions and zone lists: each public call once over ample memory, against written values.
+//! A body that always told that memory is out would meet its contract, and so would one under a wrong definition.
+#![tactic(auto)]
+
+#[cfg(test)]
+mod datagrams;
+#[cfg(test)]
+mod frames;
+#[cfg(test)]
+mod pages;
+#[cfg(test)]
+mod requester;
+#[cfg(test)]
+mod responder;
+#[cfg(test)]
+mod sent;
+#[cfg(test)]
+mod texts;

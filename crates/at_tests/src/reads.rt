@@ -1,0 +1,63 @@
+//! What is printed and told of schedules that can't be read, or that change while they are read.
+use crate::failing::Changing;
+use at_play::{Diagnostics, Printer, play_file, play_text};
+
+// Whether a file or a stream is played, what is read of it each time from the beginning, and what is printed and told.
+// A file is read first for its length, then for its faults and last to be played, and a stream is read once.
+static READ: [(bool, &[&[u8]], &str, &str); 10] = [
+    (true, &[FIRST; 3], PRINTED, ""),
+    (true, &[BROKEN], "fault 0\n", DIRECTORY),
+    (true, &[FIRST, BROKEN], "fault 0\n", DIRECTORY),
+    (
+        true,
+        &[FIRST, FIRST, BROKEN],
+        "0 refused 60\nfault 0\n",
+        DIRECTORY,
+    ),
+    (
+        true,
+        &[FIRST, FIRST, OTHER],
+        "0 refused 60\nfault 0\n",
+        CHANGED,
+    ),
+    // The file can't be sent back to its beginning.
+    (true, &[FIRST], "fault 0\n", UNREAD),
+    (true, &[FIRST; 2], "fault 0\n", UNREAD),
+    (false, &[FIRST], PRINTED, ""),
+    // That it can't be read to its end is told, whatever the lines hold.
+    (false, &[BROKEN], "fault 0\n", DIRECTORY),
+    (false, &[b"net 1\nfault\n\xFF"], "fault 0\n", DIRECTORY),
+];
+
+const FIRST: &[u8] = b"net 10\nnode 5\ncall 5 zones\ncall 5 zones\n";
+
+const OTHER: &[u8] = b"net 10\nnode 5\ncall 5 zones\nfault\n";
+
+const BROKEN: &[u8] = b"net 10\nnode 5\ncall 5 zones\n\xFF";
+
+const PRINTED: &str = "0 refused 60\n1 refused 60\n";
+
+const CHANGED: &str = "atnode: a.txt: changed while it was read\n";
+
+const DIRECTORY: &str = "atnode: a.txt: can't be read to its end: Is a directory (os error 21)\n";
+
+const UNREAD: &str = "atnode: a.txt: can't be read to its end\n";
+
+#[test]
+fn a_schedule_that_fails_or_changes_while_it_is_read_is_told_as_unreadable(rt: HostRuntime) {
+    for (is_file, texts, printed, told) in READ.iter() {
+        let mut text = Changing::new(texts);
+        let mut lines = Vec::new(rt.alloc());
+        let mut printer = Printer::new(&mut lines);
+        let mut reasons = Vec::new(rt.alloc());
+        let mut diagnostics = Diagnostics::new("a.txt", &mut reasons);
+        let status = if *is_file {
+            play_file(rt.alloc(), &mut text, &mut printer, &mut diagnostics)
+        } else {
+            play_text(rt.alloc(), &mut text, &mut printer, &mut diagnostics)
+        };
+        assert!(rt; lines.as_slice() == printed.as_bytes());
+        assert!(rt; reasons.as_slice() == told.as_bytes());
+        assert!(rt; (status.code() == 0) == told.is_empty());
+    }
+}

@@ -1,0 +1,137 @@
+//! What is printed and told if one request for memory is refused.
+use crate::zone_list::{ZONE_LIST, ZONE_LIST_PLAYED};
+use at_play::{Diagnostics, Printer, Status, play_file, play_text, show_text};
+use refusing::Refusing;
+use std::io::Cursor;
+
+// What is printed and told of the zone list, in the order of the requests that are refused. The play stops before an
+// event, or a node reports that it ran out of memory. In the latter case the datagram is missing, or the list comes
+// with the second answer. In the last row no request is refused.
+static ENDS: [(&str, &str); 13] = [
+    ("stopped nomemory at 0\n", "atnode: a.txt: out of memory\n"),
+    // The lines before the first event are read a second time.
+    (
+        "stopped nomemory at 0\n",
+        "atnode: a.txt:1: event 0 was not played: out of memory\n",
+    ),
+    (
+        "stopped nomemory at 0\n",
+        "atnode: a.txt:2: event 0 was not played: out of memory\n",
+    ),
+    (
+        "stopped nomemory at 0\n",
+        "atnode: a.txt:3: event 0 was not played: out of memory\n",
+    ),
+    (
+        "stopped nomemory at 0\n",
+        "atnode: a.txt:4: event 0 was not played: out of memory\n",
+    ),
+    (
+        "stopped nomemory at 0\n",
+        "atnode: a.txt:5: event 0 was not played: out of memory\n",
+    ),
+    (
+        "0 nomemory
+stopped 70 at 1
+",
+        "atnode: a.txt:6: event 1 was not played: no datagram of this number was sent (refusal 70)\n",
+    ),
+    (
+        "0 begun 0
+sent 0 1 00156711000A000A01050680034001000008000001
+stopped nomemory at 1
+",
+        "atnode: a.txt:6: event 1 was not played: out of memory\n",
+    ),
+    (
+        "0 begun 0
+sent 0 1 00156711000A000A01050680034001000008000001
+1 nomemory
+stopped 70 at 2
+",
+        "atnode: a.txt:7: event 2 was not played: no datagram of this number was sent (refusal 70)\n",
+    ),
+    (
+        "0 begun 0
+sent 0 1 00156711000A000A01050680034001000008000001
+1 served 1
+sent 1 5 0020CA71000A000A05018006039000000001000002034C6162064F6666696365
+stopped nomemory at 2
+",
+        "atnode: a.txt:7: event 2 was not played: out of memory\n",
+    ),
+    (
+        "0 begun 0
+sent 0 1 00156711000A000A01050680034001000008000001
+1 served 1
+sent 1 5 0020CA71000A000A05018006039000000001000002034C6162064F6666696365
+2 nomemory
+3 zones Lab Office
+",
+        "",
+    ),
+    (
+        "0 begun 0
+sent 0 1 00156711000A000A01050680034001000008000001
+1 served 1
+sent 1 5 0020CA71000A000A05018006039000000001000002034C6162064F6666696365
+2 zones Lab Office
+stopped nomemory at 3
+",
+        "atnode: a.txt:8: event 3 was not played: out of memory\n",
+    ),
+    (ZONE_LIST_PLAYED, ""),
+];
+
+// The place of an end in the table above; one past the last if it is not there.
+fn place_of(printed: &[u8], told: &[u8]) -> usize {
+    let mut place = 0;
+    for (lines, reason) in ENDS.iter() {
+        if printed == lines.as_bytes() && told == reason.as_bytes() {
+            return place;
+        }
+        place = place.saturating_add(1);
+    }
+    place
+}
+
+#[test]
+fn each_request_for_memory_that_is_refused_is_told_in_its_place(rt: HostRuntime) {
+    let mut places = [false; 14];
+    for granted in 0..200u64 {
+        // Each number of granted requests is tried on a stream and on a file.
+        let heap = Refusing::new(rt.alloc(), granted / 2);
+        let mut printed = Vec::new(rt.alloc());
+        let mut printer = Printer::new(&mut printed);
+        let mut told = Vec::new(rt.alloc());
+        let mut diagnostics = Diagnostics::new("a.txt", &mut told);
+        let mut text = Cursor::new(ZONE_LIST.as_bytes());
+        let status = if granted % 2 == 0 {
+            play_text(&heap, &mut text, &mut printer, &mut diagnostics)
+        } else {
+            play_file(&heap, &mut text, &mut printer, &mut diagnostics)
+        };
+        let place = place_of(&printed, &told);
+        assert!(rt; (place < 12) == heap.has_refused());
+        assert!(rt; (status == Status::Done) == told.is_empty());
+        places[place.min(13)] = true;
+    }
+    let (last, others) = places.split_last().expect(&rt, "no place");
+    assert!(rt; (others, *last) == ([true; 13].as_slice(), false));
+}
+
+#[test]
+fn no_memory_for_the_bytes_of_a_datagram_is_told(rt: HostRuntime) {
+    let heap = Refusing::new(rt.alloc(), 0);
+    let mut printed = Vec::new(rt.alloc());
+    let mut told = Vec::new(rt.alloc());
+    let status = show_text(
+        b"00",
+        &mut Vec::new(&heap),
+        &mut Printer::new(&mut printed),
+        &mut Diagnostics::new("", &mut told),
+    );
+    assert!(rt; printed.as_slice() == b"stopped nomemory at 0\n".as_slice());
+    assert!(rt; told.as_slice() == b"atnode: out of memory\n".as_slice());
+    assert!(rt; status.code() == 1);
+}

@@ -1,0 +1,50 @@
+//! A play of a list of events, whose transcript is whole, or goes up to the first event that is refused.
+use at_node::Call;
+use at_print::{Printer, write_event};
+use at_schedule::read_setup;
+use at_world::{Event, Fault, Refusal, Transcript, play};
+use std::alloc::Global;
+use std::process::Abort;
+
+// What the node asks, and what the router answers.
+static ASKED: &[u8] =
+    b"\x00\x15\x67\x11\x00\x0A\x00\x0A\x01\x05\x06\x80\x03\x40\x01\x00\x00\x08\x00\x00\x01";
+
+static ANSWERED: &[u8] =
+    b"\x00\x20\xCA\x71\x00\x0A\x00\x0A\x05\x01\x80\x06\x03\x90\x00\x00\x00\x01\x00\x00\x02\x03Lab\x06Office";
+
+fn compare(rt: &impl Abort, alloc: Global, transcript: &Transcript) {
+    let mut text = Vec::new(alloc);
+    let mut printer = Printer::new(&mut text);
+    for (event, report) in (0u32..).zip(transcript.reports.as_slice()) {
+        write_event(&mut printer, event, report);
+    }
+    let want = b"0 begun 0\n1 served 1\n2 zones Lab Office\n";
+    assert!(rt; text.as_slice() == want.as_slice());
+    assert!(rt; transcript.sent.len() == 2);
+    assert!(rt; transcript.sent.get(0).bytes == ASKED);
+    assert!(rt; transcript.sent.get(1).bytes == ANSWERED);
+}
+
+#[test]
+fn a_play_of_events_goes_up_to_the_first_that_is_refused(rt: HostRuntime) {
+    let text = b"net 10\nnode 1 router zone Lab\nnode 5 zone Lab\nzones Lab Office\n";
+    let setup = read_setup(rt.alloc(), &mut text.as_slice()).expect(&rt, "a fault");
+    assert!(rt; setup.is_lawful());
+    let call = Call::Zones;
+    let events = [
+        Event::Call { node: 5, call },
+        Event::Deliver { which: 0, node: 1 },
+        Event::Deliver { which: 1, node: 5 },
+        // This datagram was not sent.
+        Event::Deliver { which: 2, node: 5 },
+    ];
+    let stopped = play(rt.alloc(), &setup, &events);
+    let stopped = stopped.err().expect(&rt, "played to the end");
+    let no_datagram = Fault::Refused(Refusal::NoDatagram);
+    assert!(rt; (stopped.fault, stopped.at) == (no_datagram, 3));
+    compare(&rt, rt.alloc(), &stopped.transcript);
+    let played = play(rt.alloc(), &setup, &events[..3]);
+    let played = played.ok().expect(&rt, "stopped");
+    compare(&rt, rt.alloc(), &played);
+}
