@@ -1,0 +1,4 @@
+mod CodeLemmas
+mod ListLemmas
+mod PacketLemmas
+mod TupleLemmas

@@ -1,0 +1,5 @@
+use Rattle.at_nbp.proofs.PacketLemmas.{is_written}
+use Rattle.at_nbp.proofs.laws.what_is_written_is_read.Goals as goal
+
+pub returns : goal.returns
+returns c = is_written

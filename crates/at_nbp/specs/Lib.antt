@@ -1,0 +1,4 @@
+pub mod Fault
+pub mod Names
+pub mod Packets
+pub mod Tuples

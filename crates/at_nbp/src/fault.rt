@@ -1,0 +1,50 @@
+ghost use Rattle.std.specs.Prelude.{◌≡◌};
+ghost use Rattle.at_nbp.specs.declared.fault.NbpFault.TheVariants.{NoMemory};
+
+use std::alloc::AllocError;
+use thiserror::Error;
+
+/// Why an NBP packet is refused.
+#[derive(Clone, Copy, Debug, PartialEq, Eq, Error)]
+pub enum NbpFault {
+    /// The header is cut, or a tuple's address and enumerator are.
+    #[error("the NBP packet is shorter than its header, or ends in the address of a tuple")]
+    ShortNbp,
+    /// The function is none of 1 to 4.
+    #[error("the NBP function is not 1, 2, 3 or 4")]
+    BadNbpFunction,
+    /// A packet other than a reply has not exactly one tuple, or a packet to write has more than 15.
+    #[error("an NBP packet has more than 15 tuples, or asks with other than one")]
+    BadCount,
+    /// A string is cut, or has over 32 bytes.
+    #[error("an object, type or zone is cut short or over 32 bytes")]
+    BadString,
+    /// No rule was broken, but memory ran out.
+    #[error("out of memory")]
+    NoMemory,
+}
+
+impl NbpFault {
+    ghost use Rattle.at_nbp.specs.Fault.{number_of};
+
+    /// The number by which this refusal is reported: none for out of memory, which breaks no rule.
+    pub fn number(self) -> Option<u8>
+        ensures { result ≡ number_of self }
+    {
+        match self {
+            NbpFault::ShortNbp => Some(20),
+            NbpFault::BadNbpFunction => Some(21),
+            NbpFault::BadCount => Some(22),
+            NbpFault::BadString => Some(23),
+            NbpFault::NoMemory => None,
+        }
+    }
+}
+
+impl From<AllocError> for NbpFault {
+    ghost from_gives = { λ _ e. e ≡ NoMemory };
+
+    fn from(_error: AllocError) -> NbpFault {
+        NbpFault::NoMemory
+    }
+}

@@ -1,0 +1,20 @@
+//! Laws of packets. The functions do nothing: each contract is a law.
+ghost use Rattle.std.specs.Prelude.{◌≡◌, ℕ, ◌++◌, List, []};
+ghost use Rattle.at_nbp.specs.Packets.{Content, IsLawful, BeginsWith, spelling};
+ghost use Rattle.at_nbp.specs.Fault.{IsFirstFault};
+ghost use Rattle.at_nbp.specs.declared.fault.NbpFault.{NbpFault};
+
+/// What is written is read, whatever follows.
+pub fn what_is_written_is_read()
+    ensures { (p : Content) (rest : List ℕ) → IsLawful p → BeginsWith (spelling p ++ rest) p rest }
+{}
+
+/// Bytes begin with one packet at most: no spelling begins another, and no fault stands in a packet.
+pub fn one_packet_a_spelling()
+    ensures packet { (input : List ℕ) (p q : Content) (rest other : List ℕ) → BeginsWith input p rest
+        → BeginsWith input q other → (p ≡ q) × (rest ≡ other) }
+    ensures begins { (p q : Content) (rest : List ℕ) → IsLawful p → IsLawful q → spelling p ≡ spelling q ++ rest
+        → (p ≡ q) × (rest ≡ []) }
+    ensures faultless { (input : List ℕ) (p : Content) (rest : List ℕ) → BeginsWith input p rest → (fault : NbpFault)
+        → ¬ IsFirstFault fault input }
+{}

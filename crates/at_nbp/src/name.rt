@@ -1,0 +1,40 @@
+ghost use Rattle.std.specs.Prelude.{◌≡◌, ◌⊎◌, ◌↔◌, IsTrue, ◌∷◌, []};
+ghost use Rattle.at_nbp.specs.Names.{Matches, MatchesText, MatchesZone, IsAnyZone};
+
+use at_ddp::{Pascal, same_text};
+
+/// The name of an entity, or a pattern of names: `=` stands for any object or type, and `*` for any zone.
+#[derive(Clone, Debug, Drop, PartialEq, Eq, Hash)]
+pub struct Name {
+    pub object: Pascal,
+    /// The type of the object.
+    pub kind: Pascal,
+    pub zone: Pascal,
+}
+
+/// Whether a name matches a pattern. An empty zone of the pattern matches any zone, as `*` does.
+pub fn matches(pattern: &Name, name: &Name) -> bool
+    ensures { IsTrue result ↔ Matches pattern.now name.now }
+{
+    matches_text(&pattern.object, &name.object)
+        && matches_text(&pattern.kind, &name.kind)
+        && matches_zone(&pattern.zone, &name.zone)
+}
+
+fn matches_text(pattern: &Pascal, text: &Pascal) -> bool
+    ensures { IsTrue result ↔ MatchesText pattern.now text.now }
+{
+    pattern.bytes() == b"=".as_slice() || same_text(pattern.bytes(), text.bytes())
+}
+
+fn matches_zone(pattern: &Pascal, zone: &Pascal) -> bool
+    ensures { IsTrue result ↔ MatchesZone pattern.now zone.now }
+{
+    is_any_zone(pattern.bytes()) || same_text(pattern.bytes(), zone.bytes())
+}
+
+fn is_any_zone(pattern: &[u8]) -> bool
+    ensures { IsTrue result ↔ IsAnyZone pattern.now }
+{
+    matches!(pattern, [] | [b'*'])
+}
