@@ -8,16 +8,16 @@ use thiserror::Error;
 #[derive(Clone, Copy, Debug, PartialEq, Eq, Error)]
 pub enum NbpFault {
     /// The header is cut, or a tuple's address and enumerator are.
-    #[error("the NBP packet is shorter than its header, or ends in the address of a tuple")]
+    #[error("the NBP packet is under 2 bytes, or ends in the address of a tuple")]
     ShortNbp,
     /// The function is none of 1 to 4.
     #[error("the NBP function is not 1, 2, 3 or 4")]
     BadNbpFunction,
     /// A packet other than a reply has not exactly one tuple, or a packet to write has more than 15.
-    #[error("an NBP packet has more than 15 tuples, or asks with other than one")]
+    #[error("a BrRq, LkUp or FwdReq has not exactly one tuple, or a reply has more than 15")]
     BadCount,
     /// A string is cut, or has over 32 bytes.
-    #[error("an object, type or zone is cut short or over 32 bytes")]
+    #[error("an object, a type or a zone is cut short or over 32 bytes")]
     BadString,
     /// No rule was broken, but memory ran out.
     #[error("out of memory")]

@@ -27,6 +27,10 @@ pub struct Tuple<'a> {
 
 // What an array of tuples holds in places that are free.
 impl<'a> Default for Tuple<'a> {
+    ghost use Rattle.at_nbp.specs.Tuples.{blank, content};
+
+    ghost is_default = { λ t. content t ≡ blank };
+
     fn default() -> Tuple<'a> {
         Tuple {
             address: Address {

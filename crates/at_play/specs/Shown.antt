@@ -2,15 +2,21 @@
 use Rattle.std.specs.Prelude.{ℕ, ◌==◌, MatchBool, List}
 use Rattle.at_ddp.specs.Datagram.{Content as Datagram, BeginsWith}
 use Rattle.at_atp_frame.specs.Frames.{Content, Spells}
+use Rattle.at_nbp.specs.Packets as names
+use Rattle.at_nbp.specs.Packets.{Content as Names}
 use Rattle.at_words.specs.Hexes.{IsHex}
 
 -- the data is an ATP packet
 abbrev pub IsPacket : List ℕ → Type 0
 IsPacket bytes = (f : Content) × Spells bytes f
 
--- of the protocols that are read, ATP is number 3; the data of any other is shown as it is
+-- the data begins with an NBP packet
+abbrev pub IsNames : List ℕ → Type 0
+IsNames bytes = (p : Names) × ((rest : List ℕ) × names.BeginsWith bytes p rest)
+
+-- of the protocols that are read, NBP is number 2 and ATP 3; the data of any other is shown as it is
 abbrev pub IsReadable : ℕ → List ℕ → Type 0
-IsReadable kind bytes = MatchBool (kind == 3) (IsPacket bytes) (Unit {0})
+IsReadable kind bytes = MatchBool (kind == 2) (IsNames bytes) (MatchBool (kind == 3) (IsPacket bytes) (Unit {0}))
 
 -- the bytes begin with a datagram whose data can be read
 pub record IsSound (bytes : List ℕ) : Type 0 where

@@ -7,7 +7,12 @@ use Rattle.at_ddp.specs.declared.fault.DdpFault.{DdpFault}
 use Rattle.at_atp_frame.specs.Frames.{Content as Packet, Spells}
 use Rattle.at_atp_frame.specs.Fault.{IsFirstFault, number_of}
 use Rattle.at_atp_frame.specs.declared.fault.AtpFault.{AtpFault}
+use Rattle.at_nbp.specs.Fault as nbp
+use Rattle.at_nbp.specs.Packets as names
+use Rattle.at_nbp.specs.Packets.{Content as Names}
+use Rattle.at_nbp.specs.declared.fault.NbpFault.{NbpFault}
 use Rattle.at_print.specs.Lines.{header_line, packet_line, raw_line}
+use Rattle.at_print.specs.NameLines.{names_lines}
 use Rattle.at_words.specs.Hexes.{IsHex}
 
 -- there was no memory for the first event, or for the bytes of a word
@@ -24,9 +29,15 @@ pub data PacketText (bytes : List ℕ) : List ℕ → Type 0 where
   Read : (packet : Packet) → Spells bytes packet → PacketText bytes (packet_line packet)
   Refused : (fault : AtpFault) → IsFirstFault fault bytes → PacketText bytes (refusal_line (number_of fault))
 
+-- what is printed of the data of NBP's datagrams: the packet with which they begin, or the first fault by its number
+pub data NamesText (bytes : List ℕ) : List ℕ → Type 0 where
+  Named : (packet : Names) (rest : List ℕ) → names.BeginsWith bytes packet rest → NamesText bytes (names_lines packet)
+  Misnamed : (fault : NbpFault) → nbp.IsFirstFault fault bytes → NamesText bytes (refusal_line (nbp.number_of fault))
+
 -- what is printed of the data of any datagram
 abbrev pub DataText : ℕ → List ℕ → List ℕ → Type 0
-DataText kind bytes text = MatchBool (kind == 3) (PacketText bytes text) (text ≡ raw_line bytes)
+DataText kind bytes text =
+    MatchBool (kind == 2) (NamesText bytes text) (MatchBool (kind == 3) (PacketText bytes text) (text ≡ raw_line bytes))
 
 -- what is printed of bytes: the header and the data of the datagram with which they begin, or the first fault by its
 -- number

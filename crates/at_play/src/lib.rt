@@ -6,6 +6,7 @@ mod hex_reason;
 mod playing;
 mod program;
 mod show;
+mod show_names;
 mod stop;
 
 pub use at_print::{Printer, Status};

@@ -9,12 +9,16 @@ ghost use Rattle.at_play.specs.Shown.{IsPacket, IsReadable, IsSound, Shows};
 
 use crate::diagnostics::Diagnostics;
 use crate::hex_reason::HexReason;
+use crate::show_names::show_names;
 use at_ddp::Datagram;
 use at_print::{Printer, Status, write_frame, write_header, write_raw};
 use at_words::{HexFault, bytes_of};
 use std::alloc::Allocator;
 use std::fmt::Display;
 use std::io::Write;
+
+/// The protocol of NBP's datagrams.
+const NBP: u8 = 2;
 
 /// The protocol of ATP's datagrams.
 const ATP: u8 = 3;
@@ -78,7 +82,7 @@ fn show_bytes<W: Write, E: Write>(
     }
 }
 
-// The header's line, and the line of what the datagram carries.
+// The header's line, and the lines of what the datagram carries.
 fn show_datagram<W: Write, E: Write>(
     datagram: &Datagram<'_>,
     rest: usize,
@@ -90,10 +94,25 @@ fn show_datagram<W: Write, E: Write>(
         × Prints W.contents printer.old printer.new (header_line (content datagram.now) rest ++ text) }
 {
     write_header(printer, datagram, rest);
-    if datagram.kind == ATP {
-        show_packet(datagram.data_, printer, diagnostics)
+    show_data(datagram.kind, datagram.data_, printer, diagnostics)
+}
+
+fn show_data<W: Write, E: Write>(
+    kind: u8,
+    bytes: &[u8],
+    printer: &mut Printer<W>,
+    diagnostics: &mut Diagnostics<'_, E>,
+) -> Status
+    ensures done { (result ≡ Status.Done) ↔ IsReadable kind bytes.now }
+    ensures printed { (text : List ℕ) × DataText kind bytes.now text
+        × Prints W.contents printer.old printer.new text }
+{
+    if kind == NBP {
+        show_names(bytes, printer, diagnostics)
+    } else if kind == ATP {
+        show_packet(bytes, printer, diagnostics)
     } else {
-        write_raw(printer, datagram.data_);
+        write_raw(printer, bytes);
         Status::Done
     }
 }
@@ -116,7 +135,7 @@ fn show_packet<W: Write, E: Write>(
 }
 
 // The refusal's number, in the place of the line of what was refused.
-fn show_refusal<F: Display + Drop, W: Write, E: Write>(
+pub(crate) fn show_refusal<F: Display + Drop, W: Write, E: Write>(
     fault: F,
     number: Option<u8>,
     printer: &mut Printer<W>,

@@ -1,2 +1,3 @@
+mod NameLineLemmas
 mod PrintLemmas
 mod ReportLemmas

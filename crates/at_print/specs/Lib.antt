@@ -1,4 +1,5 @@
 pub mod Lines
+pub mod NameLines
 pub mod Printers
 pub mod Reports
 pub mod Statuses

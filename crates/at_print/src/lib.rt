@@ -2,11 +2,13 @@
 #![tactic(auto)]
 
 mod digits;
+mod name_lines;
 mod packet_lines;
 mod print;
 mod printer;
 mod status;
 
+pub use name_lines::write_names;
 pub use packet_lines::{write_frame, write_header, write_raw};
 pub use print::{write_event, write_sent, write_text};
 pub use printer::Printer;

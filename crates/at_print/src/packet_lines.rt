@@ -36,7 +36,7 @@ fn write_sum<W: Write>(printer: &mut Printer<W>, sum: u16)
     }
 }
 
-fn write_address<W: Write>(printer: &mut Printer<W>, address: Address)
+pub(crate) fn write_address<W: Write>(printer: &mut Printer<W>, address: Address)
     ensures { Prints W.contents printer.old printer.new (address_text address) }
 {
     write!(

@@ -7,7 +7,7 @@ use Rattle.at_nbp.proofs.packet.encode.Goals as goal
 pub returns-in_err-reserve-clause-room : goal.returns-in_err-reserve-clause-room
 returns-in_err-reserve-clause-room g c =
     λ none.
-      omega (arith, length_spelling (record { function = c.args.function; id = c.args.id; tuples = map content c.args.tuples.now }), c.in_err-reserve.ensures.full, c.in-Some.ensures.len)
+    omega (arith, length_spelling (record { function = c.args.function; id = c.args.id; tuples = map content c.args.tuples.now }), c.in_err-reserve.ensures.full, c.in-Some.ensures.len)
 
 pub returns-clause-ok : goal.returns-clause-ok
 returns-clause-ok g c =

@@ -1,0 +1,57 @@
+//! How NBP packets print: a line for the packet, and one for each of its tuples.
+ghost use Rattle.std.specs.Prelude.{◌++◌, map};
+ghost use Rattle.std.specs.List.{flat_map};
+ghost use Rattle.at_nbp.specs.Packets.{packet_content};
+ghost use Rattle.at_nbp.specs.Tuples.{content};
+ghost use Rattle.at_print.specs.NameLines.{function_word, names_lines, tuple_line};
+ghost use Rattle.at_print.specs.Printers.{Prints};
+
+use crate::packet_lines::write_address;
+use crate::print::write_text;
+use crate::printer::Printer;
+use at_nbp::{Function, Packet, Tuple};
+use std::io::Write;
+
+/// The line of an NBP packet, and a line for each tuple.
+pub fn write_names<W: Write>(printer: &mut Printer<W>, packet: &Packet<'_>)
+    ensures { Prints W.contents printer.old printer.new (names_lines (packet_content packet.now)) }
+{
+    let tuples = packet.tuples.as_slice();
+    printer.write_all(b"nbp ");
+    write_function(printer, packet.function);
+    writeln!(printer, " id {} count {}", packet.id, tuples.len());
+    write_tuples(printer, tuples);
+}
+
+fn write_function<W: Write>(printer: &mut Printer<W>, function: Function)
+    ensures { Prints W.contents printer.old printer.new (function_word function) }
+{
+    match function {
+        Function::BroadcastRequest => printer.write_all(b"brrq"),
+        Function::LookUp => printer.write_all(b"lkup"),
+        Function::Reply => printer.write_all(b"reply"),
+        Function::ForwardRequest => printer.write_all(b"fwdreq"),
+    }
+}
+
+fn write_tuples<W: Write>(printer: &mut Printer<W>, tuples: &[Tuple<'_>])
+    ensures { Prints W.contents printer.old printer.new (flat_map tuple_line (map content tuples.now)) }
+{
+    for tuple in tuples {
+        write_tuple(printer, tuple);
+    }
+}
+
+fn write_tuple<W: Write>(printer: &mut Printer<W>, tuple: &Tuple<'_>)
+    ensures { Prints W.contents printer.old printer.new (tuple_line (content tuple.now)) }
+{
+    printer.write_all(b"tuple ");
+    write_text(printer, tuple.object);
+    printer.write_all(b":");
+    write_text(printer, tuple.kind);
+    printer.write_all(b"@");
+    write_text(printer, tuple.zone);
+    printer.write_all(b" ");
+    write_address(printer, tuple.address);
+    writeln!(printer, " enumerator {}", tuple.enumerator);
+}
