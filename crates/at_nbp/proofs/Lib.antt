@@ -1,4 +1,6 @@
 mod CodeLemmas
 mod ListLemmas
+mod NameTableLemmas
+mod NumberLemmas
 mod PacketLemmas
 mod TupleLemmas

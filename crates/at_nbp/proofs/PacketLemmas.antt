@@ -6,7 +6,7 @@ use Rattle.at_nbp.specs.Fault.{IsTupleFault, IsFirstFault, StandsAfterTuples, St
 use Rattle.at_nbp.specs.Packets.{Content, IsLawful, HasCount, BeginsWith, code, spelling}
 use Rattle.at_nbp.specs.Tuples.{Entry, IsTuple, tuple_spelling}
 use Rattle.at_nbp.specs.declared.fault.NbpFault.{NbpFault}
-use Rattle.at_nbp.specs.declared.fault.NbpFault.TheVariants.{ShortNbp, BadNbpFunction, BadCount, BadString, NoMemory}
+use Rattle.at_nbp.specs.declared.fault.NbpFault.TheVariants.{ShortNbp, BadNbpFunction, BadCount, BadString}
 use Rattle.at_nbp.specs.declared.function.Function.{Function}
 use Rattle.at_nbp.specs.declared.function.Function.TheVariants.{BroadcastRequest, LookUp, Reply, ForwardRequest}
 use Rattle.at_nbp.proofs.CodeLemmas.{same_fronts, no_bad_before, same_bad}
@@ -90,7 +90,7 @@ no_fault input p rest b BadCount h =
     let heads = same_header input h.function p.function h.count (length p.tuples) h.id p.id h.bytes _ h.named (header_of input p rest b) in
     h.bad (subst (λ f. HasCount f h.count) (sym heads.0) (subst (HasCount p.function) (sym heads.1.0) b.lawful.count))
 no_fault input p rest b BadString h = no_fault_in_tuples BadString input p rest b h
-no_fault input p rest b NoMemory h = h
+no_fault input p rest b _ h = h
 
 -- ---- one fault
 
@@ -126,7 +126,7 @@ short_alone ShortNbp input short k = refl
 short_alone BadNbpFunction input short k = absurd (not_short input short k.whole)
 short_alone BadCount input short k = absurd (not_short input short (counted_long input k))
 short_alone BadString input short k = absurd (not_short input short (named_long BadString input k))
-short_alone NoMemory input short k = absurd k
+short_alone _ input short k = absurd k
 
 -- a fault beside one in a tuple
 in_tuples_alone : (fault other : NbpFault) (input : List ℕ) → StandsInTuples fault input → IsFirstFault other input → fault ≡ other
@@ -137,7 +137,7 @@ in_tuples_alone fault ShortNbp input h k = elim k [
 in_tuples_alone fault BadNbpFunction input h k = absurd (named_or_none input h.function h.count h.id h.bytes h.named k)
 in_tuples_alone fault BadCount input h k = absurd (one_count fault input h k)
 in_tuples_alone fault BadString input h k = one_in_tuples fault BadString input h k
-in_tuples_alone fault NoMemory input h k = absurd k
+in_tuples_alone fault _ input h k = absurd k
 
 pub one_fault : (fault other : NbpFault) (input : List ℕ) → IsFirstFault fault input → IsFirstFault other input → fault ≡ other
 one_fault ShortNbp other input h k = elim h [ inl short ↦ short_alone other input short k | inr stands ↦ in_tuples_alone ShortNbp other input stands k ]
@@ -149,7 +149,7 @@ one_fault BadNbpFunction ShortNbp input h k = elim k [
 one_fault BadNbpFunction BadNbpFunction input h k = refl
 one_fault BadNbpFunction BadCount input h k = absurd (named_or_none input k.function k.count k.id k.bytes k.named h)
 one_fault BadNbpFunction BadString input h k = absurd (named_or_none input k.function k.count k.id k.bytes k.named h)
-one_fault BadNbpFunction NoMemory input h k = absurd k
+one_fault BadNbpFunction _ input h k = absurd k
 one_fault BadCount ShortNbp input h k = elim k [
   | inl short ↦ absurd (not_short input short (counted_long input h))
   | inr stands ↦ absurd (one_count ShortNbp input stands h)
@@ -157,8 +157,8 @@ one_fault BadCount ShortNbp input h k = elim k [
 one_fault BadCount BadNbpFunction input h k = absurd (named_or_none input h.function h.count h.id h.bytes h.named k)
 one_fault BadCount BadCount input h k = refl
 one_fault BadCount BadString input h k = absurd (one_count BadString input k h)
-one_fault BadCount NoMemory input h k = absurd k
-one_fault NoMemory other input h k = absurd h
+one_fault BadCount _ input h k = absurd k
+one_fault _ other input h k = absurd h
 
 -- ---- what a header says
 
@@ -191,9 +191,7 @@ pub first_in_tuples : (fault : NbpFault) (input bytes : List ℕ) (f : Function)
     IsFirstFault fault input
 first_in_tuples ShortNbp input bytes f count id h counted s = inr (record { function = f; count = count; id = id; bytes = bytes; named = h; counted = counted; stands = s })
 first_in_tuples BadString input bytes f count id h counted s = record { function = f; count = count; id = id; bytes = bytes; named = h; counted = counted; stands = s }
-first_in_tuples BadNbpFunction input bytes f count id h counted s = absurd s.stands
-first_in_tuples BadCount input bytes f count id h counted s = absurd s.stands
-first_in_tuples NoMemory input bytes f count id h counted s = absurd s.stands
+first_in_tuples _ input bytes f count id h counted s = absurd s.stands
 
 -- ---- what a call answers
 

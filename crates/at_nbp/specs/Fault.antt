@@ -5,6 +5,7 @@ use Rattle.at_nbp.specs.Packets.{HasCount, code}
 use Rattle.at_nbp.specs.Tuples.{Entry, IsString, IsTuple, string_spelling, tuple_spelling}
 use Rattle.at_nbp.specs.declared.fault.NbpFault.{NbpFault}
 use Rattle.at_nbp.specs.declared.fault.NbpFault.TheVariants.{ShortNbp, BadNbpFunction, BadCount, BadString, NoMemory}
+use Rattle.at_nbp.specs.declared.fault.NbpFault.TheVariants.{NameInUse, NoSuchName, EmptyName, NamesFull}
 use Rattle.at_nbp.specs.declared.function.Function.{Function}
 
 -- the number by which a refusal is reported
@@ -13,6 +14,10 @@ number_of ShortNbp = Some 20
 number_of BadNbpFunction = Some 21
 number_of BadCount = Some 22
 number_of BadString = Some 23
+number_of NameInUse = Some 24
+number_of NoSuchName = Some 25
+number_of EmptyName = Some 26
+number_of NamesFull = Some 27
 number_of NoMemory = None
 
 -- no whole string stands at the front: its length byte is missing or over 32, or its bytes are cut
@@ -79,4 +84,4 @@ IsFirstFault ShortNbp input = (length input < 2) ⊎ StandsInTuples ShortNbp inp
 IsFirstFault BadNbpFunction input = HasNoFunction input
 IsFirstFault BadCount input = HasBadCount input
 IsFirstFault BadString input = StandsInTuples BadString input
-IsFirstFault NoMemory input = ⊥
+IsFirstFault _ input = ⊥

@@ -1,4 +1,5 @@
 pub mod Fault
+pub mod NameTables
 pub mod Names
 pub mod Packets
 pub mod Tuples

@@ -1,22 +1,25 @@
 -- Names of entities, and patterns (Inside AppleTalk, NBP, "Entity names").
-use Rattle.std.specs.Prelude.{◌≡◌, List, ℕ, [], ◌∷◌, ◌⊎◌}
+use Rattle.std.specs.Prelude.{◌&&◌, ◌||◌, Bool, List, ℕ, [], ◌∷◌}
+use Rattle.std.specs.Str.{bytes_eq}
 use Rattle.at_ddp.specs.Text.{folded}
 use Rattle.at_nbp.specs.declared.name.Name.{Name}
 
--- the pattern is `=`, or both are the same text
-abbrev pub MatchesText : List ℕ → List ℕ → Type 0
-MatchesText pattern text = (pattern ≡ 0x3D ∷ []) ⊎ (folded pattern ≡ folded text)
+-- equal but for the case of the letters a to z
+abbrev pub same_text : List ℕ → List ℕ → Bool
+same_text a b = bytes_eq (folded a) (folded b)
 
--- `*` and the empty zone stand for any zone
-abbrev pub IsAnyZone : List ℕ → Type 0
-IsAnyZone pattern = (pattern ≡ []) ⊎ (pattern ≡ 0x2A ∷ [])
+-- `=` alone
+abbrev pub is_any_text : List ℕ → Bool
+is_any_text pattern = bytes_eq pattern (0x3D ∷ [])
 
--- the pattern stands for any zone, or both are the same text
-abbrev pub MatchesZone : List ℕ → List ℕ → Type 0
-MatchesZone pattern zone = IsAnyZone pattern ⊎ (folded pattern ≡ folded zone)
+-- `*` or nothing
+abbrev pub is_any_zone : List ℕ → Bool
+is_any_zone pattern = bytes_eq pattern [] || bytes_eq pattern (0x2A ∷ [])
 
--- a name matches a pattern if object, type and zone do
-pub record Matches (pattern name : Name) : Type 0 where
-  pub object : MatchesText pattern.object name.object
-  pub kind : MatchesText pattern.kind name.kind
-  pub zone : MatchesZone pattern.zone name.zone
+-- A name matches a pattern if object and type are `=` there or the same text, and the zone is `*`, empty or the same
+-- text.
+abbrev pub is_match : Name → Name → Bool
+is_match pattern name =
+    (is_any_text pattern.object || same_text pattern.object name.object)
+    && (is_any_text pattern.kind || same_text pattern.kind name.kind)
+    && (is_any_zone pattern.zone || same_text pattern.zone name.zone)

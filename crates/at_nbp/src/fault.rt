@@ -4,7 +4,7 @@ ghost use Rattle.at_nbp.specs.declared.fault.NbpFault.TheVariants.{NoMemory};
 use std::alloc::AllocError;
 use thiserror::Error;
 
-/// Why an NBP packet is refused.
+/// Why an NBP packet, or a call of a table of names, is refused.
 #[derive(Clone, Copy, Debug, PartialEq, Eq, Error)]
 pub enum NbpFault {
     /// The header is cut, or a tuple's address and enumerator are.
@@ -19,6 +19,18 @@ pub enum NbpFault {
     /// A string is cut, or has over 32 bytes.
     #[error("an object, a type or a zone is cut short or over 32 bytes")]
     BadString,
+    /// The object and the type are registered here already.
+    #[error("the node has a name with this object and type already")]
+    NameInUse,
+    /// No name with this object and type is registered here.
+    #[error("the node has no name with this object and type")]
+    NoSuchName,
+    /// The object or the type is empty, or just `=`.
+    #[error("the object or the type of a name is empty or just `=`")]
+    EmptyName,
+    /// The node has 64 names.
+    #[error("the node has 64 names already")]
+    NamesFull,
     /// No rule was broken, but memory ran out.
     #[error("out of memory")]
     NoMemory,
@@ -36,6 +48,10 @@ impl NbpFault {
             NbpFault::BadNbpFunction => Some(21),
             NbpFault::BadCount => Some(22),
             NbpFault::BadString => Some(23),
+            NbpFault::NameInUse => Some(24),
+            NbpFault::NoSuchName => Some(25),
+            NbpFault::EmptyName => Some(26),
+            NbpFault::NamesFull => Some(27),
             NbpFault::NoMemory => None,
         }
     }

@@ -1,5 +1,5 @@
-ghost use Rattle.std.specs.Prelude.{◌≡◌, ◌⊎◌, ◌↔◌, IsTrue, ◌∷◌, []};
-ghost use Rattle.at_nbp.specs.Names.{Matches, MatchesText, MatchesZone, IsAnyZone};
+ghost use Rattle.std.specs.Prelude.{◌≡◌, ◌||◌};
+ghost use Rattle.at_nbp.specs.Names.{is_any_text, is_any_zone, is_match, same_text};
 
 use at_ddp::{Pascal, same_text};
 
@@ -14,7 +14,7 @@ pub struct Name {
 
 /// Whether a name matches a pattern. An empty zone of the pattern matches any zone, as `*` does.
 pub fn matches(pattern: &Name, name: &Name) -> bool
-    ensures { IsTrue result ↔ Matches pattern.now name.now }
+    ensures { result ≡ is_match pattern.now name.now }
 {
     matches_text(&pattern.object, &name.object)
         && matches_text(&pattern.kind, &name.kind)
@@ -22,19 +22,25 @@ pub fn matches(pattern: &Name, name: &Name) -> bool
 }
 
 fn matches_text(pattern: &Pascal, text: &Pascal) -> bool
-    ensures { IsTrue result ↔ MatchesText pattern.now text.now }
+    ensures { result ≡ (is_any_text pattern.now || same_text pattern.now text.now) }
 {
-    pattern.bytes() == b"=".as_slice() || same_text(pattern.bytes(), text.bytes())
+    is_any_text(pattern.bytes()) || same_text(pattern.bytes(), text.bytes())
 }
 
 fn matches_zone(pattern: &Pascal, zone: &Pascal) -> bool
-    ensures { IsTrue result ↔ MatchesZone pattern.now zone.now }
+    ensures { result ≡ (is_any_zone pattern.now || same_text pattern.now zone.now) }
 {
     is_any_zone(pattern.bytes()) || same_text(pattern.bytes(), zone.bytes())
 }
 
+pub(crate) fn is_any_text(pattern: &[u8]) -> bool
+    ensures { result ≡ is_any_text pattern.now }
+{
+    matches!(pattern, [b'='])
+}
+
 fn is_any_zone(pattern: &[u8]) -> bool
-    ensures { IsTrue result ↔ IsAnyZone pattern.now }
+    ensures { result ≡ is_any_zone pattern.now }
 {
     matches!(pattern, [] | [b'*'])
 }

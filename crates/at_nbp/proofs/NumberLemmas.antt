@@ -1,0 +1,43 @@
+-- Names with numbers of one socket: there are at least as many names as numbers in use.
+use Rattle.std.proofs.Common.{◌≡◌, ℕ, zero, suc, ◌+◌, ◌<◌, ◌≤◌, Bool, true, false, List, [], ◌∷◌, length, refl, arith}
+use Rattle.std.specs.Prelude.{◌==◌, ◌||◌}
+use Rattle.std.specs.List.{list_any}
+use Rattle.std.proofs.lemmas.Bool.{and_parts, eqb-true, ne_eqb}
+use Rattle.at_ddp.specs.Tables.{without_first}
+use Rattle.at_nbp.specs.NameTables.{has_number}
+use Rattle.at_nbp.specs.declared.names.Registered.{Registered}
+
+-- a list without an entry that passes is shorter by one
+shorter : {X : Type 0} (p : X → Bool) (xs : List X) → list_any p xs ≡ true → length (without_first p xs) + 1 ≡ length xs
+shorter p [] h = absurd cc
+shorter {X} p (x ∷ xs) h = go (λ g. shorter p xs g) (p x) refl h
+  where
+    go : (list_any p xs ≡ true → length (without_first p xs) + 1 ≡ length xs) → (b : Bool) → p x ≡ b → (b || list_any p xs) ≡ true → length (without_first p (x ∷ xs)) + 1 ≡ length (x ∷ xs)
+    go ih true is g = rw is (omega arith)
+    go ih false is g = rw is (omega (arith, ih g))
+
+-- what passes another test stays
+stays : {X : Type 0} (p q : X → Bool) (xs : List X) → ((x : X) → p x ≡ true → q x ≡ false) → list_any q xs ≡ true → list_any q (without_first p xs) ≡ true
+stays p q [] apart h = h
+stays {X} p q (x ∷ xs) apart h = go (λ g. stays p q xs apart g) (p x) refl (q x) refl h
+  where
+    go : (list_any q xs ≡ true → list_any q (without_first p xs) ≡ true) → (b : Bool) → p x ≡ b → (d : Bool) → q x ≡ d → (d || list_any q xs) ≡ true → list_any q (without_first p (x ∷ xs)) ≡ true
+    go ih true is true also g = absurd (cc (apart x is))
+    go ih true is false also g = rw is g
+    go ih false is true also g = rw (is, also) refl
+    go ih false is false also g = rw (is, also) (ih g)
+
+apart : (socket m n : ℕ) (name : Registered) → m < n → has_number socket n name ≡ true → has_number socket m name ≡ false
+apart socket m n name lt h =
+    let parts = and_parts (name.socket == socket) (name.enumerator == n) h in
+    let is : name.enumerator ≡ n = eqb-true name.enumerator n parts.1 in
+    rw (parts.0, ne_eqb name.enumerator m (λ e. absurd (omega (arith, e, is, lt)))) refl
+
+pub numbers_in_use : (socket count : ℕ) (names : List Registered) → ((n : ℕ) → n < count → list_any (has_number socket n) names ≡ true) → count ≤ length names
+numbers_in_use socket zero names used = omega arith
+numbers_in_use socket (suc count) names used =
+    let here = used count (omega arith) in
+    let fewer = shorter (has_number socket count) names here in
+    let rest = numbers_in_use socket count (without_first (has_number socket count) names)
+    (λ n lt. stays (has_number socket count) (has_number socket n) names (λ name h. apart socket n count name lt h) (used n (omega (arith, lt)))) in
+    omega (arith, fewer, rest)

@@ -1,0 +1,174 @@
+ghost use Rattle.std.specs.Prelude.{◌≡◌, ◌||◌, ◌<◌, ◌≤◌, ◌↔◌, [], ◌∷◌, true, false, length, find, is_some, option_map, IsTrue};
+ghost use Rattle.std.specs.Prelude.{IfSome, IfErr, OnOk, OnErr, IsOk, IsSome, Some, None, Err};
+ghost use Rattle.std.specs.List.{list_any, position_from};
+ghost use Rattle.std.specs.Option.{option_copied};
+ghost use Rattle.at_ddp.specs.Tables.{without_first};
+ghost use Rattle.at_nbp.specs.NameTables.{IsLeastFree, IsRegistered, has_number, is_called, is_no_text, register_fault};
+
+use crate::fault::NbpFault;
+use crate::name::is_any_text;
+use at_ddp::{Address, Pascal, same_text};
+use std::alloc::{Allocator, Global};
+use std::marker::Model;
+
+/// The most names of a node.
+pub const MAX_NAMES: usize = 64;
+
+/// A name of a node's own.
+#[derive(Clone, Debug, Drop, PartialEq, Eq)]
+pub struct Registered {
+    pub object: Pascal,
+    /// The type of the object.
+    pub kind: Pascal,
+    pub socket: u8,
+    /// Which of several names of one socket this is, from 0.
+    pub enumerator: u8,
+}
+
+/// A node's own names, in the order in which they were registered. At most 64 stand.
+#[derive(Drop)]
+pub struct Names<A: Allocator = Global> {
+    own: Address,
+    zone: Pascal,
+    list: Vec<Registered, A>,
+}
+
+impl<A: Allocator> Model for Names<A> {
+    ghost use Rattle.at_nbp.specs.NameTables.{Table};
+
+    ghost Value = { Table };
+
+    ghost view = { λ n. record { own = n.own; zone = n.zone; names = n.list.items } };
+
+    ghost use Rattle.std.specs.Prelude.{◌≤◌, length};
+
+    ghost invariant = { λ n. length n.list.items ≤ 64 };
+}
+
+impl<A: Allocator> Names<A> {
+    /// The table of a node without names. Its names carry the node's zone, or `*` if it has none.
+    pub fn new(alloc: A, own: Address, zone: Option<Pascal>) -> Names<A>
+        ensures zone { IfSome zone (λ z. result.zone ≡ z) }
+        ensures no_zone { zone ≡ None → result.zone ≡ 0x2A ∷ [] }
+        ensures rest { (result.own ≡ own) × (result.names ≡ []) }
+    {
+        let zone = match zone {
+            Some(zone) => zone,
+            None => Pascal::new(b"*").unwrap(),
+        };
+        Names {
+            own,
+            zone,
+            list: Vec::new(alloc),
+        }
+    }
+
+    /// Registers a name of a socket, with the least enumerator that is free there.
+    pub fn register(&mut self, object: Pascal, kind: Pascal, socket: u8) -> Result<(), NbpFault>
+        ensures ok { OnOk result (IsRegistered object kind socket self.old self.new) }
+        ensures unchanged { OnErr result (self.new ≡ self.old) }
+        ensures refuses { IfSome (register_fault self.old.names object kind) (λ fault. result ≡ Err fault) }
+        ensures memory { IfErr result (λ fault. register_fault self.old.names object kind ≡ None
+            → fault ≡ NbpFault.NoMemory) }
+    {
+        if let Some(fault) = register_fault(&self.list, &object, &kind) {
+            return Err(fault);
+        }
+        self.list.reserve(1)?;
+        let enumerator = least_free(&self.list, socket);
+        self.list.push_reserved(Registered {
+            object,
+            kind,
+            socket,
+            enumerator,
+        });
+        Ok(())
+    }
+
+    /// Takes a name away. This needs no memory.
+    pub fn unregister(&mut self, object: &Pascal, kind: &Pascal) -> Result<(), NbpFault>
+        ensures ok { OnOk result (self.new ≡ record self.old {
+          names = without_first (is_called object.now kind.now) self.old.names;
+        }) }
+        ensures unchanged { OnErr result (self.new ≡ self.old) }
+        ensures found { IsOk result ↔ IsSome (find (is_called object.now kind.now) self.old.names) }
+        ensures refuses { IfErr result (λ fault. fault ≡ NbpFault.NoSuchName) }
+    {
+        let Some(index) = index_of(&self.list, object, kind) else {
+            return Err(NbpFault::NoSuchName);
+        };
+        let _ = self.list.remove(index);
+        Ok(())
+    }
+}
+
+/// Why a name cannot be registered beside these.
+fn register_fault(names: &[Registered], object: &Pascal, kind: &Pascal) -> Option<NbpFault>
+    ensures { result ≡ register_fault names.now object.now kind.now }
+{
+    if is_no_name(object, kind) {
+        Some(NbpFault::EmptyName)
+    } else if is_registered(names, object, kind) {
+        Some(NbpFault::NameInUse)
+    } else if names.len() >= MAX_NAMES {
+        Some(NbpFault::NamesFull)
+    } else {
+        None
+    }
+}
+
+fn is_no_name(object: &Pascal, kind: &Pascal) -> bool
+    ensures { result ≡ (is_no_text object.now || is_no_text kind.now) }
+{
+    is_no_text(object.bytes()) || is_no_text(kind.bytes())
+}
+
+fn is_no_text(text: &[u8]) -> bool
+    ensures { result ≡ is_no_text text.now }
+{
+    text.is_empty() || is_any_text(text)
+}
+
+fn is_registered(names: &[Registered], object: &Pascal, kind: &Pascal) -> bool
+    ensures { result ≡ is_some (find (is_called object.now kind.now) names.now) }
+{
+    named(names, object, kind).is_some()
+}
+
+fn named<'a>(names: &'a [Registered], object: &Pascal, kind: &Pascal) -> Option<&'a Registered>
+    ensures { option_copied result ≡ find (is_called object.now kind.now) names.now }
+{
+    names.iter().find(|name| is_called(name, object, kind))
+}
+
+fn index_of(names: &[Registered], object: &Pascal, kind: &Pascal) -> Option<usize>
+    ensures { result ≡ position_from (is_called object.now kind.now) 0 names.now }
+{
+    names.iter().position(|name| is_called(name, object, kind))
+}
+
+fn is_called(name: &Registered, object: &Pascal, kind: &Pascal) -> bool
+    ensures { result ≡ is_called object.now kind.now name.now }
+{
+    same_text(name.object.bytes(), object.bytes()) && same_text(name.kind.bytes(), kind.bytes())
+}
+
+/// The least number that no name of the socket has.
+fn least_free(names: &[Registered], socket: u8) -> u8
+    requires { length names.now < 64 }
+    ensures { IsLeastFree names.now socket result }
+{
+    let mut number = 0;
+    while has_number(names, socket, number) {
+        number += 1;
+    }
+    number
+}
+
+fn has_number(names: &[Registered], socket: u8, number: u8) -> bool
+    ensures { result ≡ list_any (has_number socket number) names.now }
+{
+    names
+        .iter()
+        .any(|name| name.socket == socket && name.enumerator == number)
+}
