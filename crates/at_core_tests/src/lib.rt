@@ -1,4 +1,4 @@
-//! Tests of datagrams, transactions and zone lists: each public call once over ample memory, against written values.
+//! Tests of datagrams, transactions, names and zone lists: each public call once over ample memory, against written values.
 //! A body that always told that memory is out would meet its contract, and so would one under a wrong definition.
 #![tactic(auto)]
 
@@ -6,6 +6,8 @@
 mod datagrams;
 #[cfg(test)]
 mod frames;
+#[cfg(test)]
+mod names;
 #[cfg(test)]
 mod pages;
 #[cfg(test)]
