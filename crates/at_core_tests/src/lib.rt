@@ -1,5 +1,6 @@
-//! Tests of datagrams, transactions, names and zone lists: each public call once over ample memory, against written values.
-//! A body that always told that memory is out would meet its contract, and so would one under a wrong definition.
+//! Tests of datagrams, transactions, names and zone lists: each public call once over ample memory, against written
+//! values. A body that always told that memory is out would meet its contract, and so would one under a wrong
+//! definition.
 #![tactic(auto)]
 
 #[cfg(test)]

@@ -1,5 +1,6 @@
-//! NBP packets as bytes, patterns, and a node's table of its own names.
-use at_ddp::{Address, Pascal};
+//! NBP packets as bytes, patterns, and a node's own names with its answers to lookups.
+use crate::sent::compare_sent;
+use at_ddp::{Address, Datagrams, Outbox, Pascal};
 use at_nbp::{Function, Name, Names, NbpFault, Tuple, decode, encode, matches};
 use std::process::Abort;
 
@@ -26,6 +27,9 @@ const PRINTER: Tuple<'static> = Tuple {
     kind: b"LaserWriter",
     zone: b"Lab",
 };
+
+/// The protocol of NBP's datagrams.
+const NBP: u8 = 2;
 
 static REQUEST: &[u8] =
     b"\x11\x00\x00\x0A\x05\x02\x00\x01\x3D\x0B\x6C\x61\x73\x65\x72\x77\x72\x69\x74\x65\x72\x01\x2A";
@@ -107,6 +111,19 @@ fn a_name_is_compared_with_a_pattern(rt: HostRuntime) {
     for (pattern, found, is_match) in PATTERNS.iter() {
         assert!(rt; matches(&name(&rt, pattern), &name(&rt, found)) == *is_match);
     }
+}
+
+#[test]
+fn a_lookup_is_answered_by_the_names_that_match(rt: HostRuntime) {
+    let mut names = Names::new(rt.alloc(), PRINTER.address, Some(text(&rt, b"Lab")));
+    let kinds: [&[u8]; 2] = [b"ImageWriter", b"LaserWriter"];
+    for kind in kinds.iter() {
+        assert!(rt; names.register(text(&rt, b"Printer"), text(&rt, kind), 130) == Ok(()));
+    }
+    let pattern = name(&rt, &[b"=", b"laserwriter", b"*"]);
+    let mut out = Outbox::over(Datagrams::new(rt.alloc()), PRINTER.address, NBP);
+    assert!(rt; names.answer(255, ASKER.address, &pattern, &mut out) == Ok(1));
+    compare_sent(&rt, &out.into_list(), &[REPLY]);
 }
 
 #[test]

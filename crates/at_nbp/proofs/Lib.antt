@@ -3,4 +3,5 @@ mod ListLemmas
 mod NameTableLemmas
 mod NumberLemmas
 mod PacketLemmas
+mod ReplyLemmas
 mod TupleLemmas

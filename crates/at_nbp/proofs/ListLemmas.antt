@@ -68,7 +68,7 @@ tuple_length e =
       length-append (string_spelling e.zone) [],
     )
 
-short_tuple : (e : Entry) → FitsStrings e → length (tuple_spelling e) ≤ 104
+pub short_tuple : (e : Entry) → FitsStrings e → length (tuple_spelling e) ≤ 104
 short_tuple e fits = omega (arith, tuple_length e, fits 0 [] (omega arith), fits 1 [] (omega arith), fits 2 [] (omega arith))
 
 pub measured_more : (tuples : List Tuple) (i len size : ℕ) (d t : Tuple) → AreMeasured tuples i len → i < length tuples → t ≡ get_or tuples i d → FitsStrings (content t) →

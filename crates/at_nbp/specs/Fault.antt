@@ -1,5 +1,6 @@
 -- The faults of an input that does not begin with a packet (Inside AppleTalk, NBP, "NBP packet formats").
-use Rattle.std.specs.Prelude.{◌≡◌, ℕ, ◌+◌, ◌*◌, ◌<◌, ◌≤◌, List, [], ◌∷◌, ◌++◌, length, drop, All, ◌⊎◌, Option, Some, None}
+use Rattle.std.specs.Prelude.{◌≡◌, ℕ, ◌+◌, ◌*◌, ◌<◌, ◌≤◌, List, [], ◌∷◌, ◌++◌, length, drop, All, ◌⊎◌, Option}
+use Rattle.std.specs.Prelude.{Some, None}
 use Rattle.std.specs.List.{flat_map}
 use Rattle.at_nbp.specs.Packets.{HasCount, code}
 use Rattle.at_nbp.specs.Tuples.{Entry, IsString, IsTuple, string_spelling, tuple_spelling}

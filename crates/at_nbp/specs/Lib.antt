@@ -2,4 +2,5 @@ pub mod Fault
 pub mod NameTables
 pub mod Names
 pub mod Packets
+pub mod Replies
 pub mod Tuples

@@ -7,6 +7,7 @@ pub mod laws;
 mod name;
 mod names;
 mod packet;
+mod replies;
 mod strings;
 mod tuple;
 

@@ -16,21 +16,33 @@ pub struct Name {
 pub fn matches(pattern: &Name, name: &Name) -> bool
     ensures { result ≡ is_match pattern.now name.now }
 {
-    matches_text(&pattern.object, &name.object)
-        && matches_text(&pattern.kind, &name.kind)
-        && matches_zone(&pattern.zone, &name.zone)
+    matches_texts(
+        pattern,
+        name.object.bytes(),
+        name.kind.bytes(),
+        name.zone.bytes(),
+    )
 }
 
-fn matches_text(pattern: &Pascal, text: &Pascal) -> bool
+/// Whether an object, a type and a zone match a pattern.
+pub(crate) fn matches_texts(pattern: &Name, object: &[u8], kind: &[u8], zone: &[u8]) -> bool
+    ensures { result ≡ is_match pattern.now (record { object = object.now; kind = kind.now; zone = zone.now }) }
+{
+    matches_text(pattern.object.bytes(), object)
+        && matches_text(pattern.kind.bytes(), kind)
+        && matches_zone(pattern.zone.bytes(), zone)
+}
+
+fn matches_text(pattern: &[u8], text: &[u8]) -> bool
     ensures { result ≡ (is_any_text pattern.now || same_text pattern.now text.now) }
 {
-    is_any_text(pattern.bytes()) || same_text(pattern.bytes(), text.bytes())
+    is_any_text(pattern) || same_text(pattern, text)
 }
 
-fn matches_zone(pattern: &Pascal, zone: &Pascal) -> bool
+fn matches_zone(pattern: &[u8], zone: &[u8]) -> bool
     ensures { result ≡ (is_any_zone pattern.now || same_text pattern.now zone.now) }
 {
-    is_any_zone(pattern.bytes()) || same_text(pattern.bytes(), zone.bytes())
+    is_any_zone(pattern) || same_text(pattern, zone)
 }
 
 pub(crate) fn is_any_text(pattern: &[u8]) -> bool

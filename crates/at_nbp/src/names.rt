@@ -1,4 +1,4 @@
-ghost use Rattle.std.specs.Prelude.{◌≡◌, ◌||◌, ◌<◌, ◌≤◌, ◌↔◌, [], ◌∷◌, true, false, length, find, is_some, option_map, IsTrue};
+ghost use Rattle.std.specs.Prelude.{◌≡◌, ◌||◌, ◌<◌, ◌↔◌, [], ◌∷◌, length, find, is_some};
 ghost use Rattle.std.specs.Prelude.{IfSome, IfErr, OnOk, OnErr, IsOk, IsSome, Some, None, Err};
 ghost use Rattle.std.specs.List.{list_any, position_from};
 ghost use Rattle.std.specs.Option.{option_copied};
@@ -28,9 +28,10 @@ pub struct Registered {
 /// A node's own names, in the order in which they were registered. At most 64 stand.
 #[derive(Drop)]
 pub struct Names<A: Allocator = Global> {
-    own: Address,
-    zone: Pascal,
-    list: Vec<Registered, A>,
+    pub(crate) alloc: A,
+    pub(crate) own: Address,
+    pub(crate) zone: Pascal,
+    pub(crate) list: Vec<Registered, A>,
 }
 
 impl<A: Allocator> Model for Names<A> {
@@ -45,7 +46,7 @@ impl<A: Allocator> Model for Names<A> {
     ghost invariant = { λ n. length n.list.items ≤ 64 };
 }
 
-impl<A: Allocator> Names<A> {
+impl<A: Allocator + Copy> Names<A> {
     /// The table of a node without names. Its names carry the node's zone, or `*` if it has none.
     pub fn new(alloc: A, own: Address, zone: Option<Pascal>) -> Names<A>
         ensures zone { IfSome zone (λ z. result.zone ≡ z) }
@@ -57,6 +58,7 @@ impl<A: Allocator> Names<A> {
             None => Pascal::new(b"*").unwrap(),
         };
         Names {
+            alloc,
             own,
             zone,
             list: Vec::new(alloc),

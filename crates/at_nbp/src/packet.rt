@@ -25,7 +25,7 @@ use std::alloc::Allocator;
 pub const MAX_TUPLES: usize = 15;
 
 // The bytes before the tuples.
-const HEADER_LEN: usize = 2;
+pub(crate) const HEADER_LEN: usize = 2;
 
 // The first byte holds the function in its high four bits, and the number of tuples in the others.
 const COUNTS: u8 = 16;
@@ -123,6 +123,7 @@ pub fn encode<A: Allocator>(
     ensures bad_count { IsErrOf result NbpFault.BadCount ↔ (¬ HasCount function (length tuples.now)) }
     ensures bad_string { IsErrOf result NbpFault.BadString
         ↔ (HasCount function (length tuples.now) × (¬ All FitsStrings (map content tuples.now))) }
+    ensures grows { vec_capacity out.old ≤ vec_capacity out.new }
     // Out of memory only if the vector has no room left.
     ensures room { IsErrOf result NbpFault.NoMemory → vec_capacity out.old < vec_len out.old
         + length (spelling (record { function = function; id = id; tuples = map content tuples.now })) }
@@ -141,6 +142,20 @@ pub fn encode<A: Allocator>(
     out.push(id).unwrap();
     push_tuples(out, tuples);
     Ok(())
+}
+
+/// Writes a reply in the place of what the bytes were. They have room for it, and each string has at most 32 bytes.
+pub(crate) fn write_reply<A: Allocator>(id: u8, tuples: &[Tuple<'_>], bytes: &mut Vec<u8, A>)
+    requires few { length tuples.now ≤ 15 }
+    requires short { All FitsStrings (map content tuples.now) }
+    requires room { length (spelling (record { function = Function.Reply; id = id; tuples = map content tuples.now }))
+        ≤ vec_capacity bytes.old }
+    ensures items { bytes.new.items
+        ≡ spelling (record { function = Function.Reply; id = id; tuples = map content tuples.now }) }
+    ensures room { vec_capacity bytes.old ≤ vec_capacity bytes.new }
+{
+    bytes.clear();
+    encode(Function::Reply, id, tuples, bytes).unwrap();
 }
 
 /// The bytes that the tuples take in a packet; none if a string is over 32 bytes.
@@ -165,7 +180,8 @@ fn spelled_lens(tuples: &[Tuple<'_>]) -> Option<usize>
 fn push_tuples<A: Allocator>(out: &mut Vec<u8, A>, tuples: &[Tuple<'_>])
     requires short { All FitsStrings (map content tuples.now) }
     requires room { vec_len out.old + length (flat_map tuple_spelling (map content tuples.now)) ≤ vec_capacity out.old }
-    ensures { out.new.items ≡ out.old.items ++ flat_map tuple_spelling (map content tuples.now) }
+    ensures items { out.new.items ≡ out.old.items ++ flat_map tuple_spelling (map content tuples.now) }
+    ensures grows { vec_capacity out.old ≤ vec_capacity out.new }
 {
     for tuple in tuples {
         push_tuple(out, tuple);

@@ -11,7 +11,8 @@ use std::alloc::Allocator;
 // The bytes of a tuple before its strings: network (2), node, socket, enumerator.
 const FIXED_LEN: usize = 5;
 
-/// A name and the address that has it, as a packet carries them. The strings stay in the bytes that they were read from.
+/// A name and the address that has it, as a packet carries them. The strings stay in the bytes that they were read
+/// from.
 #[derive(Clone, Copy, Debug, PartialEq, Eq)]
 pub struct Tuple<'a> {
     /// In a reply the socket that has the name, otherwise the socket that asks.
@@ -84,7 +85,8 @@ pub(crate) fn has_strings(tuple: &Tuple<'_>) -> bool
 /// The bytes that the tuple takes in a packet, 8 to 104.
 pub(crate) fn spelled_len(tuple: &Tuple<'_>) -> usize
     requires { FitsStrings (content tuple.now) }
-    ensures { result ≡ length (tuple_spelling (content tuple.now)) }
+    ensures len { result ≡ length (tuple_spelling (content tuple.now)) }
+    ensures small { result ≤ 104 }
 {
     FIXED_LEN + 3 + tuple.object.len() + tuple.kind.len() + tuple.zone.len()
 }

@@ -15,4 +15,4 @@ returns-clause-ok g c =
     let second = rw c.unwrap-2.ensures at c.push-2.ensures.items in
     let header = rw (c.reserve.ensures.items, c.code.ensures) at first in
     is_spelling c.args.out.now.items c.push.new.self.items c.push-2.new.self.items c.push_tuples.new.out.items c.args.function (length c.args.tuples.now) c.args.id
-    (map content c.args.tuples.now) header second c.push_tuples.ensures (sym (length-map c.args.tuples.now content))
+    (map content c.args.tuples.now) header second c.push_tuples.ensures.items (sym (length-map c.args.tuples.now content))

@@ -1,0 +1,11 @@
+use Rattle.std.proofs.Common.{length, map, sym, ap, subst, List, arith}
+use Rattle.std.specs.Prelude.{All}
+use Rattle.at_nbp.specs.Tuples.{FitsStrings, content}
+use Rattle.at_nbp.specs.declared.tuple.Tuple.{Tuple}
+use Rattle.at_nbp.proofs.names.Names.answer.Goals as goal
+
+pub send_replies-requires-clause-short : goal.send_replies-requires-clause-short
+send_replies-requires-clause-short g c = subst (λ (l : List Tuple). All FitsStrings (map content l)) (sym c.deref.ensures.value) c.in_ok-found.ensures.short
+
+pub send_replies-requires-clause-few : goal.send_replies-requires-clause-few
+send_replies-requires-clause-few g c = omega (arith, ap (length {A = Tuple}) c.deref.ensures.value, c.in_ok-found.ensures.few)
