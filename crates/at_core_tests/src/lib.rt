@@ -1,5 +1,5 @@
-//! Tests of datagrams, transactions, names and zone lists: each public call once over ample memory, against written
-//! values. A body that always told that memory is out would meet its contract, and so would one under a wrong
+//! Tests of datagrams, transactions, names, lookups and zone lists: each public call once over ample memory, against
+//! written values. A body that always told that memory is out would meet its contract, and so would one under a wrong
 //! definition.
 #![tactic(auto)]
 
@@ -7,6 +7,8 @@
 mod datagrams;
 #[cfg(test)]
 mod frames;
+#[cfg(test)]
+mod lookups;
 #[cfg(test)]
 mod names;
 #[cfg(test)]

@@ -4,7 +4,7 @@ use at_ddp::{Address, Datagrams, Outbox, Pascal};
 use at_nbp::{Function, Name, Names, NbpFault, Tuple, decode, encode, matches};
 use std::process::Abort;
 
-const ASKER: Tuple<'static> = Tuple {
+pub(crate) const ASKER: Tuple<'static> = Tuple {
     address: Address {
         net: 10,
         node: 5,
@@ -16,7 +16,7 @@ const ASKER: Tuple<'static> = Tuple {
     zone: b"*",
 };
 
-const PRINTER: Tuple<'static> = Tuple {
+pub(crate) const PRINTER: Tuple<'static> = Tuple {
     address: Address {
         net: 10,
         node: 7,
@@ -29,9 +29,9 @@ const PRINTER: Tuple<'static> = Tuple {
 };
 
 /// The protocol of NBP's datagrams.
-const NBP: u8 = 2;
+pub(crate) const NBP: u8 = 2;
 
-static REQUEST: &[u8] =
+pub(crate) static REQUEST: &[u8] =
     b"\x11\x00\x00\x0A\x05\x02\x00\x01\x3D\x0B\x6C\x61\x73\x65\x72\x77\x72\x69\x74\x65\x72\x01\x2A";
 
 static REPLY: &[u8] = b"\x31\xFF\x00\x0A\x07\x82\x01\x07Printer\x0BLaserWriter\x03Lab";
@@ -75,11 +75,11 @@ static PATTERNS: [([&[u8]; 3], [&[u8]; 3], bool); 7] = [
     ),
 ];
 
-fn text(rt: &impl Abort, bytes: &[u8]) -> Pascal {
+pub(crate) fn text(rt: &impl Abort, bytes: &[u8]) -> Pascal {
     Pascal::new(bytes).expect(rt, "a string is too long")
 }
 
-fn name(rt: &impl Abort, texts: &[&[u8]; 3]) -> Name {
+pub(crate) fn name(rt: &impl Abort, texts: &[&[u8]; 3]) -> Name {
     Name {
         object: text(rt, texts[0]),
         kind: text(rt, texts[1]),

@@ -1,7 +1,15 @@
+mod AskingLemmas
 mod CodeLemmas
+mod DistinctLemmas
+mod FindLemmas
+mod HearingLemmas
+mod Histories
 mod ListLemmas
+mod LookupLaws
 mod NameTableLemmas
+mod NetworkLemmas
 mod NumberLemmas
 mod PacketLemmas
 mod ReplyLemmas
+mod StoodLemmas
 mod TupleLemmas

@@ -1,4 +1,4 @@
--- Names with numbers of one socket: there are at least as many names as numbers in use.
+-- Numbers in use: there are at least as many entries as numbers that they have.
 use Rattle.std.proofs.Common.{◌≡◌, ℕ, zero, suc, ◌+◌, ◌<◌, ◌≤◌, Bool, true, false, List, [], ◌∷◌, length, refl, arith}
 use Rattle.std.specs.Prelude.{◌==◌, ◌||◌}
 use Rattle.std.specs.List.{list_any}
@@ -27,6 +27,17 @@ stays {X} p q (x ∷ xs) apart h = go (λ g. stays p q xs apart g) (p x) refl (q
     go ih false is true also g = rw (is, also) refl
     go ih false is false also g = rw (is, also) (ih g)
 
+-- Tests that no entry passes two of: if each is passed by some entry, there are at least as many entries as tests.
+pub tests_in_use : {X : Type 0} (test : ℕ → X → Bool) (bound : ℕ) → ((m n : ℕ) (x : X) → m < n → n < bound → test n x ≡ true → test m x ≡ false) →
+    (count : ℕ) (xs : List X) → count ≤ bound → ((n : ℕ) → n < count → list_any (test n) xs ≡ true) → count ≤ length xs
+tests_in_use test bound apart zero xs few used = omega arith
+tests_in_use test bound apart (suc count) xs few used =
+    let here = used count (omega arith) in
+    let fewer = shorter (test count) xs here in
+    let rest = tests_in_use test bound apart count (without_first (test count) xs) (omega (arith, few))
+    (λ n lt. stays (test count) (test n) xs (λ x h. apart n count x lt (omega (arith, few)) h) (used n (omega (arith, lt)))) in
+    omega (arith, fewer, rest)
+
 apart : (socket m n : ℕ) (name : Registered) → m < n → has_number socket n name ≡ true → has_number socket m name ≡ false
 apart socket m n name lt h =
     let parts = and_parts (name.socket == socket) (name.enumerator == n) h in
@@ -34,10 +45,4 @@ apart socket m n name lt h =
     rw (parts.0, ne_eqb name.enumerator m (λ e. absurd (omega (arith, e, is, lt)))) refl
 
 pub numbers_in_use : (socket count : ℕ) (names : List Registered) → ((n : ℕ) → n < count → list_any (has_number socket n) names ≡ true) → count ≤ length names
-numbers_in_use socket zero names used = omega arith
-numbers_in_use socket (suc count) names used =
-    let here = used count (omega arith) in
-    let fewer = shorter (has_number socket count) names here in
-    let rest = numbers_in_use socket count (without_first (has_number socket count) names)
-    (λ n lt. stays (has_number socket count) (has_number socket n) names (λ name h. apart socket n count name lt h) (used n (omega (arith, lt)))) in
-    omega (arith, fewer, rest)
+numbers_in_use socket count names used = tests_in_use (has_number socket) count (λ m n name lt within. apart socket m n name lt) count names (omega arith) used

@@ -7,6 +7,7 @@ use Rattle.at_nbp.specs.Tuples.{Entry, IsString, IsTuple, string_spelling, tuple
 use Rattle.at_nbp.specs.declared.fault.NbpFault.{NbpFault}
 use Rattle.at_nbp.specs.declared.fault.NbpFault.TheVariants.{ShortNbp, BadNbpFunction, BadCount, BadString, NoMemory}
 use Rattle.at_nbp.specs.declared.fault.NbpFault.TheVariants.{NameInUse, NoSuchName, EmptyName, NamesFull}
+use Rattle.at_nbp.specs.declared.fault.NbpFault.TheVariants.{LookupsFull, NoSuchLookup}
 use Rattle.at_nbp.specs.declared.function.Function.{Function}
 
 -- the number by which a refusal is reported
@@ -19,6 +20,8 @@ number_of NameInUse = Some 24
 number_of NoSuchName = Some 25
 number_of EmptyName = Some 26
 number_of NamesFull = Some 27
+number_of LookupsFull = Some 28
+number_of NoSuchLookup = Some 29
 number_of NoMemory = None
 
 -- no whole string stands at the front: its length byte is missing or over 32, or its bytes are cut

@@ -1,6 +1,9 @@
 pub mod Fault
+pub mod Lookups
 pub mod NameTables
 pub mod Names
+pub mod Network
 pub mod Packets
+pub mod Relays
 pub mod Replies
 pub mod Tuples

@@ -1,12 +1,13 @@
 -- A node's table of its own names (Inside AppleTalk, NBP, "Names directory" and "Name registration").
-use Rattle.std.specs.Prelude.{◌≡◌, ℕ, ◌<◌, ◌==◌, ◌&&◌, ◌||◌, nat_le, is_some, if◌then◌else◌, Bool, true, false}
+use Rattle.std.specs.Prelude.{◌≡◌, ℕ, ◌<◌, ◌≤◌, ◌==◌, ◌&&◌, ◌||◌, nat_le, is_some, if◌then◌else◌, Bool, true, false}
 use Rattle.std.specs.Prelude.{List, [], ◌∷◌, ◌++◌, length, find, Option, Some, None}
-use Rattle.std.specs.List.{list_any}
+use Rattle.std.specs.List.{IsDistinct, list_any}
 use Rattle.std.specs.Str.{bytes_eq}
 use Rattle.at_ddp.specs.declared.address.Address.{Address}
 use Rattle.at_nbp.specs.Names.{is_any_text, same_text}
 use Rattle.at_nbp.specs.declared.fault.NbpFault.{NbpFault}
 use Rattle.at_nbp.specs.declared.fault.NbpFault.TheVariants.{NameInUse, EmptyName, NamesFull}
+use Rattle.at_nbp.specs.declared.find.Find.{Find}
 use Rattle.at_nbp.specs.declared.names.Registered.{Registered}
 
 -- the names of a node, in the order in which they were registered; the node's network and number, and its zone
@@ -47,3 +48,20 @@ pub record IsRegistered (object kind : List ℕ) (socket : ℕ) (old new : Table
     names = old.names
         ++ record { object = object; kind = kind; socket = socket; enumerator = enumerator } ∷ [];
   }
+
+-- a name of the node's own, as others find it
+abbrev pub own_find : Table → Registered → Find
+own_find table name = record {
+  name = record { object = name.object; kind = name.kind; zone = table.zone };
+  address = record { net = table.own.net; node = table.own.node; socket = name.socket };
+  enumerator = name.enumerator;
+}
+
+-- what holds of the names of every table
+pub record AreNames (names : List Registered) : Type 0 where
+  -- at most 64 stand
+  pub few : length names ≤ 64
+  -- no two have the same object and the same type, but for the case of letters
+  pub differ : IsDistinct (λ a b. is_called b.object b.kind a) names
+  -- no two names of one socket have the same enumerator
+  pub numbers : IsDistinct (λ a b. has_number b.socket b.enumerator a) names

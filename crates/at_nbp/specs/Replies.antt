@@ -25,6 +25,10 @@ entry_in table r = record {
   zone = table.zone;
 }
 
+-- the pattern of a lookup's tuple
+abbrev pub pattern_of : Entry → Name
+pattern_of t = record { object = t.object; kind = t.kind; zone = t.zone }
+
 -- the names that match a pattern, in the order in which they were registered
 abbrev pub matching : Table → Name → List Entry
 matching table pattern =

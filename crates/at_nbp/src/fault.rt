@@ -4,7 +4,7 @@ ghost use Rattle.at_nbp.specs.declared.fault.NbpFault.TheVariants.{NoMemory};
 use std::alloc::AllocError;
 use thiserror::Error;
 
-/// Why an NBP packet, or a call of a table of names, is refused.
+/// Why an NBP packet, or a call of a table of names or of lookups, is refused.
 #[derive(Clone, Copy, Debug, PartialEq, Eq, Error)]
 pub enum NbpFault {
     /// The header is cut, or a tuple's address and enumerator are.
@@ -31,6 +31,12 @@ pub enum NbpFault {
     /// The node has 64 names.
     #[error("the node has 64 names already")]
     NamesFull,
+    /// The node has 8 open lookups.
+    #[error("the node has 8 open lookups already")]
+    LookupsFull,
+    /// No open lookup has this identifier.
+    #[error("the node has no open lookup with this identifier")]
+    NoSuchLookup,
     /// No rule was broken, but memory ran out.
     #[error("out of memory")]
     NoMemory,
@@ -52,6 +58,8 @@ impl NbpFault {
             NbpFault::NoSuchName => Some(25),
             NbpFault::EmptyName => Some(26),
             NbpFault::NamesFull => Some(27),
+            NbpFault::LookupsFull => Some(28),
+            NbpFault::NoSuchLookup => Some(29),
             NbpFault::NoMemory => None,
         }
     }

@@ -1,4 +1,5 @@
 ghost use Rattle.std.specs.Prelude.{◌≡◌, ◌≢◌, ℕ, IfSome};
+ghost use Rattle.at_nbp.specs.Lookups.{is_reply};
 ghost use Rattle.at_nbp.specs.Packets.{code};
 ghost use Rattle.at_nbp.specs.declared.function.Function.{Function};
 
@@ -16,6 +17,12 @@ pub enum Function {
 }
 
 impl Function {
+    pub(crate) fn is_reply(self) -> bool
+        ensures { result ≡ is_reply self }
+    {
+        matches!(self, Function::Reply)
+    }
+
     /// The number that a packet has for this function, 1 to 4.
     pub(crate) fn code(self) -> u8
         ensures { result ≡ code self }

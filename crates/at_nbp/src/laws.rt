@@ -1,7 +1,8 @@
-//! Laws of packets. The functions do nothing: each contract is a law.
+//! Laws of packets, and of a network of names and lookups. The functions do nothing: each contract is a law.
 ghost use Rattle.std.specs.Prelude.{◌≡◌, ℕ, ◌++◌, List, []};
 ghost use Rattle.at_nbp.specs.Packets.{Content, IsLawful, BeginsWith, spelling};
 ghost use Rattle.at_nbp.specs.Fault.{IsFirstFault};
+ghost use Rattle.at_nbp.specs.Network.{Setting, Happening, AllAsk, AllTimely, FindsStood};
 ghost use Rattle.at_nbp.specs.declared.fault.NbpFault.{NbpFault};
 
 /// What is written is read, whatever follows.
@@ -17,4 +18,12 @@ pub fn one_packet_a_spelling()
         → (p ≡ q) × (rest ≡ []) }
     ensures faultless { (input : List ℕ) (p : Content) (rest : List ℕ) → BeginsWith input p rest → (fault : NbpFault)
         → ¬ IsFirstFault fault input }
+{}
+
+/// Packets may be lost, repeated or reordered, but no reply outlives the identifier that it carries. Then each find of
+/// an open lookup matches its pattern, and stood among the names of the node of its address, with that socket and
+/// enumerator, at some moment since the lookup began. The finds of a lookup differ from each other.
+pub fn finds_stood_since_their_lookup_began()
+    ensures { (setting : Setting) (history : List Happening) → AllAsk setting → AllTimely setting history
+        → FindsStood setting history }
 {}

@@ -4,7 +4,7 @@ ghost use Rattle.at_nbp.specs.Names.{is_any_text, is_any_zone, is_match, same_te
 use at_ddp::{Pascal, same_text};
 
 /// The name of an entity, or a pattern of names: `=` stands for any object or type, and `*` for any zone.
-#[derive(Clone, Debug, Drop, PartialEq, Eq, Hash)]
+#[derive(Debug, Drop, PartialEq, Eq)]
 pub struct Name {
     pub object: Pascal,
     /// The type of the object.
@@ -51,7 +51,7 @@ pub(crate) fn is_any_text(pattern: &[u8]) -> bool
     matches!(pattern, [b'='])
 }
 
-fn is_any_zone(pattern: &[u8]) -> bool
+pub(crate) fn is_any_zone(pattern: &[u8]) -> bool
     ensures { result ≡ is_any_zone pattern.now }
 {
     matches!(pattern, [] | [b'*'])

@@ -1,12 +1,14 @@
-ghost use Rattle.std.specs.Prelude.{◌≡◌, ◌||◌, ◌<◌, ◌↔◌, [], ◌∷◌, length, find, is_some};
+ghost use Rattle.std.specs.Prelude.{◌≡◌, ◌||◌, ◌<◌, ◌↔◌, [], ◌∷◌, length, find, is_some, option_map};
 ghost use Rattle.std.specs.Prelude.{IfSome, IfErr, OnOk, OnErr, IsOk, IsSome, Some, None, Err};
 ghost use Rattle.std.specs.List.{list_any, position_from};
 ghost use Rattle.std.specs.Option.{option_copied};
 ghost use Rattle.at_ddp.specs.Tables.{without_first};
-ghost use Rattle.at_nbp.specs.NameTables.{IsLeastFree, IsRegistered, has_number, is_called, is_no_text, register_fault};
+ghost use Rattle.at_nbp.specs.NameTables.{IsLeastFree, IsRegistered, has_number, is_called, is_no_text, own_find};
+ghost use Rattle.at_nbp.specs.NameTables.{register_fault};
 
 use crate::fault::NbpFault;
-use crate::name::is_any_text;
+use crate::find::{Find, copy_of};
+use crate::name::{Name, is_any_text};
 use at_ddp::{Address, Pascal, same_text};
 use std::alloc::{Allocator, Global};
 use std::marker::Model;
@@ -15,7 +17,7 @@ use std::marker::Model;
 pub const MAX_NAMES: usize = 64;
 
 /// A name of a node's own.
-#[derive(Clone, Debug, Drop, PartialEq, Eq)]
+#[derive(Debug, Drop, PartialEq, Eq)]
 pub struct Registered {
     pub object: Pascal,
     /// The type of the object.
@@ -35,15 +37,13 @@ pub struct Names<A: Allocator = Global> {
 }
 
 impl<A: Allocator> Model for Names<A> {
-    ghost use Rattle.at_nbp.specs.NameTables.{Table};
+    ghost use Rattle.at_nbp.specs.NameTables.{AreNames, Table};
 
     ghost Value = { Table };
 
     ghost view = { λ n. record { own = n.own; zone = n.zone; names = n.list.items } };
 
-    ghost use Rattle.std.specs.Prelude.{◌≤◌, length};
-
-    ghost invariant = { λ n. length n.list.items ≤ 64 };
+    ghost invariant = { λ n. AreNames n.list.items };
 }
 
 impl<A: Allocator + Copy> Names<A> {
@@ -63,6 +63,20 @@ impl<A: Allocator + Copy> Names<A> {
             zone,
             list: Vec::new(alloc),
         }
+    }
+
+    /// The socket of the table, and its network and node.
+    pub fn own(&self) -> Address
+        ensures { result ≡ self.now.own }
+    {
+        self.own
+    }
+
+    /// The zone of the node's names.
+    pub fn zone(&self) -> &Pascal
+        ensures { result.now ≡ self.now.zone }
+    {
+        &self.zone
     }
 
     /// Registers a name of a socket, with the least enumerator that is free there.
@@ -102,6 +116,25 @@ impl<A: Allocator + Copy> Names<A> {
         let _ = self.list.remove(index);
         Ok(())
     }
+
+    /// The name with this object and type, as others find it; none if it is not registered.
+    pub fn find(&self, object: &Pascal, kind: &Pascal) -> Option<Find>
+        ensures { result ≡ option_map (own_find self.now) (find (is_called object.now kind.now) self.now.names) }
+    {
+        let name = named(&self.list, object, kind)?;
+        Some(Find {
+            name: Name {
+                object: copy_of(&name.object),
+                kind: copy_of(&name.kind),
+                zone: copy_of(&self.zone),
+            },
+            address: Address {
+                socket: name.socket,
+                ..self.own
+            },
+            enumerator: name.enumerator,
+        })
+    }
 }
 
 /// Why a name cannot be registered beside these.
@@ -119,7 +152,8 @@ fn register_fault(names: &[Registered], object: &Pascal, kind: &Pascal) -> Optio
     }
 }
 
-fn is_no_name(object: &Pascal, kind: &Pascal) -> bool
+/// Whether no name can have this object and type: one of them is empty or just `=`.
+pub fn is_no_name(object: &Pascal, kind: &Pascal) -> bool
     ensures { result ≡ (is_no_text object.now || is_no_text kind.now) }
 {
     is_no_text(object.bytes()) || is_no_text(kind.bytes())

@@ -31,7 +31,7 @@ pub(crate) const HEADER_LEN: usize = 2;
 const COUNTS: u8 = 16;
 
 /// A decoded packet. The strings of its tuples stay in the bytes that it was decoded from.
-#[derive(Clone, Debug, Drop)]
+#[derive(Debug, Drop)]
 pub struct Packet<'a> {
     pub function: Function,
     /// The identifier of the lookup.
@@ -45,6 +45,9 @@ pub struct Packet<'a> {
 pub fn decode(input: &[u8]) -> Result<(Packet<'_>, &[u8]), NbpFault>
     // What is decoded is spelled there.
     ensures found { IfOk result (λ r. BeginsWith input.now (packet_content r.0) r.1.now) }
+    // It has as many tuples as it may, and no string is over 32 bytes.
+    ensures counted { IfOk result (λ r. HasCount r.0.function (length r.0.tuples.items)) }
+    ensures short { IfOk result (λ r. All FitsStrings (map content r.0.tuples.items)) }
     // What is spelled there is decoded.
     ensures only { (p : Content) (rest : List ℕ) → BeginsWith input.now p rest
         → IsOkAnd result (λ r. (packet_content r.0 ≡ p) × (r.1.now ≡ rest)) }

@@ -1,8 +1,10 @@
 ghost use Rattle.std.specs.Prelude.{◌≡◌, ◌+◌, ◌≤◌, ◌++◌, ◌↔◌, IsTrue, length, IfOk, IfErr, vec_capacity, vec_len};
+ghost use Rattle.at_nbp.specs.Replies.{pattern_of};
 ghost use Rattle.at_nbp.specs.Tuples.{IsTuple, FitsStrings, content, tuple_spelling};
 ghost use Rattle.at_nbp.specs.Fault.{IsTupleFault};
 
 use crate::fault::NbpFault;
+use crate::name::Name;
 use crate::strings::{push_string, take_string};
 use at_ddp::{Address, Pascal};
 use byteorder::{BigEndian, ByteOrder};
@@ -10,6 +12,9 @@ use std::alloc::Allocator;
 
 // The bytes of a tuple before its strings: network (2), node, socket, enumerator.
 const FIXED_LEN: usize = 5;
+
+// The most bytes of a tuple: each string has its length byte and at most 32 bytes.
+pub(crate) const MAX_TUPLE_LEN: usize = FIXED_LEN + 3 * (1 + Pascal::MAX_LEN);
 
 /// A name and the address that has it, as a packet carries them. The strings stay in the bytes that they were read
 /// from.
@@ -24,6 +29,20 @@ pub struct Tuple<'a> {
     /// The type of the object.
     pub kind: &'a [u8],
     pub zone: &'a [u8],
+}
+
+impl<'a> Tuple<'a> {
+    /// The name in the tuple, or its pattern. No string is over 32 bytes.
+    pub fn name(&self) -> Name
+        requires { FitsStrings (content self.now) }
+        ensures { result ≡ pattern_of (content self.now) }
+    {
+        Name {
+            object: Pascal::new(self.object).unwrap(),
+            kind: Pascal::new(self.kind).unwrap(),
+            zone: Pascal::new(self.zone).unwrap(),
+        }
+    }
 }
 
 // What an array of tuples holds in places that are free.

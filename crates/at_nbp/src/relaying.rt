@@ -1,0 +1,47 @@
+ghost use Rattle.std.specs.Prelude.{◌≡◌, ◌∷◌, [], All, length, map, OnOk, OnErr, if◌then◌else◌};
+ghost use Rattle.at_ddp.specs.Outbox.{Sends};
+ghost use Rattle.at_nbp.specs.Packets.{packet_content, spelling};
+ghost use Rattle.at_nbp.specs.Relays.{in_zone, relayed};
+ghost use Rattle.at_nbp.specs.Tuples.{FitsStrings, content};
+
+use crate::asking::send_one;
+use crate::function::Function;
+use crate::name::is_any_zone;
+use crate::packet::Packet;
+use crate::tuple::Tuple;
+use at_ddp::{Address, Outbox, Pascal};
+use std::alloc::{AllocError, Allocator};
+
+/// Relays a request that came to a router, which has one tuple with strings of at most 32 bytes: asks `to` the same by
+/// a LkUp. The zone of the node that asks stands for `*` and for an empty zone. The error is out of memory.
+pub fn relay<A: Allocator + Copy>(
+    alloc: A,
+    packet: &Packet<'_>,
+    zone: &Pascal,
+    to: Address,
+    out: &mut Outbox<A>,
+) -> Result<(), AllocError>
+    requires one { length packet.now.tuples.items ≡ 1 }
+    requires short { All FitsStrings (map content packet.now.tuples.items) }
+    ensures ok { OnOk result (Sends out.old out.new
+        ((to, spelling (relayed zone.now (packet_content packet.now))) ∷ [])) }
+    ensures err { OnErr result (Sends out.old out.new []) }
+{
+    let tuple = tuple_in_zone(&packet.tuples[0], zone);
+    send_one(alloc, Function::LookUp, packet.id, &tuple, to, out)
+}
+
+fn tuple_in_zone<'a>(tuple: &Tuple<'a>, zone: &'a Pascal) -> Tuple<'a>
+    requires { FitsStrings (content tuple.now) }
+    ensures content { content result ≡ in_zone zone.now (content tuple.now) }
+    ensures short { FitsStrings (content result) }
+{
+    Tuple {
+        zone: if is_any_zone(tuple.zone) {
+            zone.bytes()
+        } else {
+            tuple.zone
+        },
+        ..*tuple
+    }
+}
