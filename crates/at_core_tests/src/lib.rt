@@ -10,6 +10,8 @@ mod frames;
 #[cfg(test)]
 mod lookups;
 #[cfg(test)]
+mod name_sockets;
+#[cfg(test)]
 mod names;
 #[cfg(test)]
 mod pages;

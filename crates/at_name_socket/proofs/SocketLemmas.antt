@@ -1,0 +1,157 @@
+-- Packets with one tuple, and lists of finds and claims.
+use Rattle.std.proofs.Common.{◌≡◌, ℕ, zero, suc, ◌+◌, ◌<◌, List, [], ◌∷◌, ◌++◌, length, get_or, take, map, Option, Some, None, IsSome, refl, sym, ap, subst, ◌∙◌, append-nil, arith}
+use Rattle.std.specs.Prelude.{All, find, slice_get, IfSome, Result, Ok, Err}
+use Rattle.std.specs.List.{position_from}
+use Rattle.std.proofs.lemmas.Bool.{eqb-true}
+use Rattle.at_ddp.proofs.TableLemmas.{found, none_by, without_none}
+use Rattle.at_ddp.specs.Outbox.{Outbox, Sends}
+use Rattle.at_ddp.specs.declared.address.Address.{Address}
+use Rattle.at_name_socket.specs.NameSockets.{Ends, EndsClaim, IsFinished, SocketState, claim_fault, closing, fault_of, finish_fault, is_claim, relayed_in, taker, zone_of}
+use Rattle.at_name_socket.specs.declared.claim.Claim.{Claim}
+use Rattle.at_name_socket.specs.declared.neighbour.Neighbour.{Neighbour}
+use Rattle.at_name_socket.specs.declared.step.Finished.{Finished}
+use Rattle.at_name_socket.specs.declared.step.Finished.TheVariants as finished
+use Rattle.at_nbp.specs.Lookups.{Search, closed, counted, finds_in, search_of}
+use Rattle.at_nbp.specs.NameTables.{IsRegistered, Table, register_fault}
+use Rattle.at_nbp.specs.Packets.{Content, spelling}
+use Rattle.at_nbp.specs.Relays.{relayed}
+use Rattle.at_nbp.specs.Tuples.{Entry, FitsStrings, content}
+use Rattle.at_nbp.specs.declared.fault.NbpFault.{NbpFault}
+use Rattle.at_nbp.specs.declared.find.Find.{Find}
+use Rattle.at_nbp.specs.declared.tuple.Tuple.{Tuple}
+
+-- a list of one entry is that entry
+pub one_tuple : (tuples : List Tuple) (d : Tuple) → length tuples ≡ 1 → tuples ≡ get_or tuples 0 d ∷ []
+one_tuple [] d one = absurd (omega (arith, one))
+one_tuple (t ∷ []) d one = refl
+one_tuple (t ∷ u ∷ ts) d one = absurd (omega (arith, one))
+
+pub one_fits : (tuples : List Tuple) (d : Tuple) → length tuples ≡ 1 → All FitsStrings (map content tuples) → FitsStrings (content (get_or tuples 0 d))
+one_fits [] d one fits = absurd (omega (arith, one))
+one_fits (t ∷ ts) d one fits = fits 0 (content t) (omega arith)
+
+-- ---- lists of finds
+
+pub take_found : {X : Type 0} (xs : List X) (i : ℕ) (x : X) → slice_get xs i ≡ Some x → take (i + 1) xs ≡ take i xs ++ x ∷ []
+take_found [] i x h = absurd cc
+take_found (y ∷ ys) zero x h = let same : y ≡ x = cc in ap (λ z. z ∷ []) same
+take_found (y ∷ ys) (suc i) x h =
+    let next : suc i + 1 ≡ suc (i + 1) = omega arith in
+    ap (λ n. take n (y ∷ ys)) next ∙ ap (λ l. y ∷ l) (take_found ys i x h)
+
+-- ---- what is relayed
+
+pub relayed_one : (s : SocketState) (neighbours : List Neighbour) (p : Content) (tuples : List Tuple) (d : Tuple) (zone : List ℕ) → length tuples ≡ 1 → p.tuples ≡ map content tuples →
+    zone ≡ zone_of s.table.zone neighbours (get_or tuples 0 d).address.node → (record s.table.own { node = 255 }, spelling (relayed zone p)) ∷ [] ≡ relayed_in s neighbours p
+relayed_one s neighbours p [] d zone one are is = absurd (omega (arith, one))
+relayed_one s neighbours p (t ∷ u ∷ ts) d zone one are is = absurd (omega (arith, one))
+relayed_one s neighbours p (t ∷ []) d zone one are is =
+    let sent : Entry → Address × List ℕ = λ e. (record s.table.own { node = 255 }, spelling (relayed (zone_of s.table.zone neighbours e.address.node) p)) in
+    ap (λ z. (record s.table.own { node = 255 }, spelling (relayed z p)) ∷ []) is ∙ ap (map sent) (sym are)
+
+pub sends_nothing : (out : Outbox) → Sends out out []
+sends_nothing out = record { items = sym (append-nil out.items); from = refl; kind = refl }
+
+-- ---- what becomes of a claim
+
+-- the claim at an index, if its lookup is open
+pub record Claiming (s : SocketState) (id index : ℕ) : Type 0 where
+  pub claim : Claim
+  pub first : find (is_claim id) s.claims ≡ Some claim
+  pub numbered : claim.id ≡ id
+  pub within : index < length s.claims
+  pub at : (d : Claim) → get_or s.claims index d ≡ claim
+  pub search : Search
+  pub is_search : search_of s.lookups id ≡ Some search
+
+pub claiming : (s : SocketState) (id index : ℕ) → position_from (is_claim id) 0 s.claims ≡ Some index → IsSome (search_of s.lookups id) → Claiming s id index
+claiming s id index at some = go (search_of s.lookups id) refl some
+  where
+    go : (o : Option Search) → search_of s.lookups id ≡ o → IsSome o → Claiming s id index
+    go None e g = absurd (cc)
+    go (Some search) e g =
+        let f = found (is_claim id) s.claims index at in
+        record { claim = f.entry; first = f.first; numbered = eqb-true (f.entry).id id f.passes; within = f.within; at = f.at; search = search; is_search = e }
+
+-- the fault of the claim, with who has its name
+pub fault_is : (s : SocketState) (id index : ℕ) (c : Claiming s id index) → finish_fault s id ≡ claim_fault s c.claim (taker s (c.search).finds c.claim)
+fault_is s id index c = λ i. fault_of s (c.is_search i) (c.first i)
+
+pub finished_by : {A : Type 0} (s : SocketState) (id index : ℕ) (c : Claiming s id index) (r : Finished A) (new : SocketState) → EndsClaim s id c.claim (taker s (c.search).finds c.claim) r new →
+    IsFinished s id r new
+finished_by s id index c r new ends = record {
+  search = c.search;
+  is_search = c.is_search;
+  ends = subst (λ o. Ends s id (c.search).finds o r new) (sym c.first) ends;
+}
+
+-- the finds of its lookup
+pub finds_are : (s : SocketState) (id index : ℕ) (c : Claiming s id index) → finds_in (search_of s.lookups id) ≡ (c.search).finds
+finds_are s id index c = ap finds_in c.is_search
+
+pub taker_is : (s : SocketState) (id index : ℕ) (c : Claiming s id index) (claim : Claim) → claim ≡ c.claim → taker s (finds_in (search_of s.lookups claim.id)) claim ≡ taker s (c.search).finds c.claim
+taker_is s id index c claim same =
+    (λ i. taker s (finds_in (search_of s.lookups (same i).id)) (same i)) ∙ ap (λ k. taker s (finds_in (search_of s.lookups k)) c.claim) c.numbered ∙ ap (λ l. taker s l c.claim) (finds_are s id index c)
+
+-- ---- the name of a claim that is registered
+
+pub register_is : (s : SocketState) (id index : ℕ) (c : Claiming s id index) (claim : Claim) (object kind : List ℕ) → claim ≡ c.claim → object ≡ claim.object → kind ≡ claim.kind →
+    taker s (c.search).finds c.claim ≡ None → finish_fault s id ≡ register_fault s.table.names object kind
+register_is s id index c claim object kind same o k none =
+    fault_is s id index c ∙ ap (claim_fault s c.claim) none
+    ∙ sym ((λ i. register_fault s.table.names (o i) (k i)) ∙ (λ i. register_fault s.table.names (same i).object (same i).kind))
+
+pub registered_as : (s : SocketState) (id index : ℕ) (c : Claiming s id index) (claim : Claim) (object kind : List ℕ) (table : Table) → claim ≡ c.claim → object ≡ claim.object → kind ≡ claim.kind →
+    IsRegistered object kind claim.socket s.table table → IsRegistered (c.claim).object (c.claim).kind (c.claim).socket s.table table
+registered_as s id index c claim object kind table same o k is =
+    let named = subst (λ x. IsRegistered x claim.kind claim.socket s.table table) o (subst (λ x. IsRegistered object x claim.socket s.table table) k is) in
+    subst (λ (x : Claim). IsRegistered x.object x.kind x.socket s.table table) same named
+
+pub claimed_by : (A : Type 0) (s mid new : SocketState) (id index : ℕ) (c : Claiming s id index) → taker s (c.search).finds c.claim ≡ None → mid ≡ record s { table = mid.table } → new ≡ closing mid id →
+    IsRegistered (c.claim).object (c.claim).kind (c.claim).socket s.table mid.table → EndsClaim {A = A} s id c.claim (taker s (c.search).finds c.claim) finished.Claimed new
+claimed_by A s mid new id index c none rest closes is =
+    subst (λ o. EndsClaim {A = A} s id c.claim o finished.Claimed new) (sym none) (refl, (mid.table, is, closes ∙ ap (λ (t : SocketState). closing t id) rest))
+
+-- ---- refusals
+
+pub same_fault : {X Y : Type 0} (o : Option NbpFault) (r : Result X NbpFault) (answer : Result Y NbpFault) (fault : NbpFault) → r ≡ Err fault → answer ≡ Err fault → IfSome o (λ f. r ≡ Err f) →
+    IfSome o (λ f. answer ≡ Err f)
+same_fault None r answer fault is gives named = tt
+same_fault {X} {Y} (Some f) r answer fault is gives named =
+    let same : fault ≡ f = cc in
+    let as_error : NbpFault → Result Y NbpFault = λ e. Err e in
+    gives ∙ ap as_error same
+
+-- a call that did not refuse had no reason to
+pub no_fault : {X : Type 0} (o : Option NbpFault) (r : Result X NbpFault) (x : X) → r ≡ Ok x → IfSome o (λ f. r ≡ Err f) → o ≡ None
+no_fault None r x is named = refl
+no_fault (Some f) r x is named = absurd cc
+
+-- ---- a lookup that is no claim
+
+pub record Plain (s : SocketState) (id : ℕ) : Type 0 where
+  pub search : Search
+  pub is_search : search_of s.lookups id ≡ Some search
+  pub none : find (is_claim id) s.claims ≡ None
+
+pub plain : (s : SocketState) (id count : ℕ) (r : Option ℕ) (given : List Claim) → counted (search_of s.lookups id) ≡ Ok count → given ≡ s.claims → r ≡ position_from (is_claim id) 0 given → r ≡ None → Plain s id
+plain s id count r given some same is none = go (search_of s.lookups id) refl some
+  where
+    go : (o : Option Search) → search_of s.lookups id ≡ o → counted o ≡ Ok count → Plain s id
+    go None e g = absurd (cc)
+    go (Some search) e g = record { search = search; is_search = e; none = none_by (is_claim id) s.claims given r same is none }
+
+pub plain_fault : (s : SocketState) (id : ℕ) → Plain s id → finish_fault s id ≡ None
+plain_fault s id p = λ i. fault_of s (p.is_search i) (p.none i)
+
+pub plain_finished : {A : Type 0} (s new : SocketState) (id : ℕ) (finds : List Find) → Plain s id → finds ≡ finds_in (search_of s.lookups id) → new ≡ record s { lookups = closed s.lookups id } →
+    IsFinished {A = A} s id (finished.Found finds) new
+plain_finished {A} s new id finds p are is =
+    let found : finds ≡ (p.search).finds = are ∙ ap finds_in p.is_search in
+    let left : new ≡ closing s id = is ∙ ap (λ (l : List Claim). record s { lookups = closed s.lookups id; claims = l }) (sym (without_none (is_claim id) s.claims p.none)) in
+    let as_found : List Find → Finished A = λ l. finished.Found l in
+    record {
+      search = p.search;
+      is_search = p.is_search;
+      ends = subst (λ o. Ends {A = A} s id (p.search).finds o (finished.Found finds) new) (sym p.none) (ap as_found found, left);
+    }

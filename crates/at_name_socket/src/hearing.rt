@@ -1,0 +1,111 @@
+//! What packets do at the socket.
+ghost use Rattle.std.specs.Prelude.{◌≡◌, ◌≢◌, ◌==◌, [], ◌∷◌, All, List, ℕ, length, map, find, IfOk, IfErr, OnErr};
+ghost use Rattle.std.specs.Prelude.{IsErrOf, if◌then◌else◌};
+ghost use Rattle.std.specs.Option.{option_copied};
+ghost use Rattle.at_ddp.specs.Outbox.{Sends};
+ghost use Rattle.at_ddp.specs.declared.address.Address.{Address as At};
+ghost use Rattle.at_name_socket.specs.NameSockets.{AnswersTo, Hears, Relays, Takes, counted, is_node, zone_of, zone_or};
+ghost use Rattle.at_nbp.specs.Fault.{IsFirstFault};
+ghost use Rattle.at_nbp.specs.Packets.{HasCount, packet_content};
+ghost use Rattle.at_nbp.specs.Tuples.{FitsStrings, content};
+ghost use Rattle.at_nbp.specs.declared.fault.NbpFault.{NbpFault as Fault};
+
+use crate::neighbour::Neighbour;
+use crate::socket::{EVERY_NODE, NAME_SOCKET, NameSocket};
+use crate::step::Heard;
+use at_ddp::{Address, Outbox, Pascal};
+use at_nbp::{Function, NbpFault, Packet, decode, relay};
+use std::alloc::{AllocError, Allocator};
+
+impl<A: Allocator + Copy> NameSocket<A> {
+    /// Takes the data of a datagram. The packet at its front is what counts: bytes after it are ignored.
+    pub fn receive(&mut self, bytes: &[u8], out: &mut Outbox<A>) -> Result<Heard, NbpFault>
+        ensures ok { IfOk result (λ h. (pushes : List (At × List ℕ)) × Hears self.old bytes.now h self.new pushes
+            × Sends out.old out.new pushes) }
+        ensures refused { (fault : Fault) → IsFirstFault fault bytes.now → IsErrOf result fault }
+        ensures fault { IfErr result (λ fault. fault ≢ NbpFault.NoMemory → IsFirstFault fault bytes.now) }
+        ensures unchanged { OnErr result (self.new ≡ self.old) }
+        ensures nothing_sent { OnErr result (Sends out.old out.new []) }
+    {
+        let (packet, _) = decode(bytes)?;
+        let heard = match packet.function {
+            Function::LookUp => self.answer(&packet, out)?,
+            Function::Reply => self.keep(&packet)?,
+            _ => self.relay(&packet, out)?,
+        };
+        Ok(heard)
+    }
+
+    // Answers a lookup.
+    fn answer(&self, packet: &Packet<'_>, out: &mut Outbox<A>) -> Result<Heard, AllocError>
+        requires one { length packet.now.tuples.items ≡ 1 }
+        requires short { All FitsStrings (map content packet.now.tuples.items) }
+        ensures ok { IfOk result (λ h. (pushes : List (At × List ℕ))
+            × AnswersTo self.now packet.now.id (map content packet.now.tuples.items) h pushes
+            × Sends out.old out.new pushes) }
+        ensures nothing_sent { OnErr result (Sends out.old out.new []) }
+    {
+        let tuple = &packet.tuples[0];
+        let count = self
+            .names
+            .answer(packet.id, tuple.address, &tuple.name(), out)?;
+        Ok(if count == 0 {
+            Heard::Ignored
+        } else {
+            Heard::Answered(count)
+        })
+    }
+
+    // Keeps what a reply found.
+    fn keep(&mut self, packet: &Packet<'_>) -> Result<Heard, AllocError>
+        requires reply { packet.now.function ≡ Function.Reply }
+        requires short { All FitsStrings (map content packet.now.tuples.items) }
+        ensures ok { IfOk result (λ h. Takes self.old (packet_content packet.now) Function.Reply h self.new []) }
+        ensures unchanged { OnErr result (self.new ≡ self.old) }
+    {
+        let count = self.lookups.receive(packet)?;
+        Ok(if count == 0 {
+            Heard::Ignored
+        } else {
+            Heard::Kept(count)
+        })
+    }
+
+    // Relays a request, if this node is the router.
+    fn relay(&self, packet: &Packet<'_>, out: &mut Outbox<A>) -> Result<Heard, AllocError>
+        requires one { length packet.now.tuples.items ≡ 1 }
+        requires short { All FitsStrings (map content packet.now.tuples.items) }
+        ensures ok { IfOk result (λ h. (pushes : List (At × List ℕ))
+            × Relays self.now (packet_content packet.now) self.now.neighbours h pushes
+            × Sends out.old out.new pushes) }
+        ensures nothing_sent { OnErr result (Sends out.old out.new []) }
+    {
+        let Some(neighbours) = &self.neighbours else {
+            return Ok(Heard::Ignored);
+        };
+        let own = self.names.zone();
+        let zone = zone_of(own, neighbours.as_slice(), packet.tuples[0].address.node);
+        let every_node = Address {
+            node: EVERY_NODE,
+            ..self.names.own()
+        };
+        relay(self.alloc, packet, zone, every_node, out)?;
+        Ok(Heard::Relayed)
+    }
+}
+
+// The zone of a node, or the router's own for a node that it does not know.
+fn zone_of<'a>(own: &'a Pascal, neighbours: &'a [Neighbour], node: u8) -> &'a Pascal
+    ensures { result.now ≡ zone_of own.now neighbours.now node }
+{
+    match neighbour(neighbours, node) {
+        Some(neighbour) => &neighbour.zone,
+        None => own,
+    }
+}
+
+fn neighbour(neighbours: &[Neighbour], node: u8) -> Option<&Neighbour>
+    ensures { option_copied result ≡ find (is_node node) neighbours.now }
+{
+    neighbours.iter().find(|n| n.node == node)
+}

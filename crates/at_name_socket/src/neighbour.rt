@@ -1,0 +1,10 @@
+use at_ddp::Pascal;
+
+/// A node of the cable, as the router knows it.
+#[derive(Debug, Drop)]
+pub struct Neighbour {
+    /// 1 to 254.
+    pub node: u8,
+    /// The zone that the node is in.
+    pub zone: Pascal,
+}
