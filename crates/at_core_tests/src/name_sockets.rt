@@ -2,7 +2,7 @@
 use crate::names::{NBP, REQUEST, name, text};
 use crate::sent::compare_sent;
 use at_ddp::{Address, Datagrams, HEADER_LEN, Listed, Outbox};
-use at_name_socket::{Finished, Heard, NameSocket, Neighbour};
+use at_name_socket::{Finished, Heard, NameSocket, Neighbour, carried};
 use at_nbp::{Find, NbpFault};
 use std::alloc::Global;
 use std::process::Abort;
@@ -123,7 +123,11 @@ fn a_name_is_found_that_was_taken_away_after_it_was_told(rt: HostRuntime) {
     assert!(rt; five.find(pattern, &mut out) == Ok(0));
     let asked = out.into_list();
     compare_sent(&rt, &asked, &[REQUEST]);
+    assert!(rt; carried(at(1, 2), REQUEST) == Some((5, 0)));
     let replied = reply_of_node_7(&rt, rt.alloc(), &asked, &mut seven);
+    let reply = b"\x31\x09\x00\x0A\x07\x82\x00\x01P\x01L\x01*";
+    assert!(rt; carried(at(5, 2), reply) == Some((5, 9)));
+    assert!(rt; carried(at(5, 2), b"\x31") == None);
     let taken = seven.unregister(&text(&rt, b"PRINTER"), &text(&rt, b"laserwriter"));
     assert!(rt; taken == Ok(()));
     for heard in [Heard::Kept(1), Heard::Ignored] {

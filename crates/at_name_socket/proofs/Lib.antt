@@ -1,1 +1,3 @@
+mod PacketSteps
 mod SocketLemmas
+mod StepLemmas

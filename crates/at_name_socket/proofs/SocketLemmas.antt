@@ -6,13 +6,13 @@ use Rattle.std.proofs.lemmas.Bool.{eqb-true}
 use Rattle.at_ddp.proofs.TableLemmas.{found, none_by, without_none}
 use Rattle.at_ddp.specs.Outbox.{Outbox, Sends}
 use Rattle.at_ddp.specs.declared.address.Address.{Address}
-use Rattle.at_name_socket.specs.NameSockets.{Ends, EndsClaim, IsFinished, SocketState, claim_fault, closing, fault_of, finish_fault, is_claim, relayed_in, taker, zone_of}
+use Rattle.at_name_socket.specs.NameSockets.{Ending, IsEnding, SocketState, claim_ended, claim_fault, closing, ended, ending, fault_of, finish, finish_fault, is_claim, relayed_in, taker, zone_of}
 use Rattle.at_name_socket.specs.declared.claim.Claim.{Claim}
 use Rattle.at_name_socket.specs.declared.neighbour.Neighbour.{Neighbour}
 use Rattle.at_name_socket.specs.declared.step.Finished.{Finished}
 use Rattle.at_name_socket.specs.declared.step.Finished.TheVariants as finished
 use Rattle.at_nbp.specs.Lookups.{Search, closed, counted, finds_in, search_of}
-use Rattle.at_nbp.specs.NameTables.{IsRegistered, Table, register_fault}
+use Rattle.at_nbp.specs.NameTables.{register_fault, registered}
 use Rattle.at_nbp.specs.Packets.{Content, spelling}
 use Rattle.at_nbp.specs.Relays.{relayed}
 use Rattle.at_nbp.specs.Tuples.{Entry, FitsStrings, content}
@@ -77,13 +77,13 @@ claiming s id index at some = go (search_of s.lookups id) refl some
 pub fault_is : (s : SocketState) (id index : ℕ) (c : Claiming s id index) → finish_fault s id ≡ claim_fault s c.claim (taker s (c.search).finds c.claim)
 fault_is s id index c = λ i. fault_of s (c.is_search i) (c.first i)
 
-pub finished_by : {A : Type 0} (s : SocketState) (id index : ℕ) (c : Claiming s id index) (r : Finished A) (new : SocketState) → EndsClaim s id c.claim (taker s (c.search).finds c.claim) r new →
-    IsFinished s id r new
-finished_by s id index c r new ends = record {
-  search = c.search;
-  is_search = c.is_search;
-  ends = subst (λ o. Ends s id (c.search).finds o r new) (sym c.first) ends;
-}
+pub claim_ending : (A : Type 0) (s : SocketState) (id index : ℕ) (c : Claiming s id index) → finish {A = A} s id ≡ claim_ended s id c.claim (taker s (c.search).finds c.claim)
+claim_ending A s id index c = ap (ending {A = A} s id) c.is_search ∙ ap (ended {A = A} s id (c.search).finds) c.first
+
+pub taken_ends : (A : Type 0) (s new : SocketState) (id index : ℕ) (c : Claiming s id index) (f : Find) → taker s (c.search).finds c.claim ≡ Some f → new ≡ closing s id →
+    IsEnding {A = A} (finish s id) (finished.Taken f) new
+taken_ends A s new id index c f takes is =
+    subst (λ (e : Ending A). IsEnding e (finished.Taken f) new) (sym (claim_ending A s id index c ∙ ap (claim_ended {A = A} s id c.claim) takes)) (record { finished = refl; state = is })
 
 -- the finds of its lookup
 pub finds_are : (s : SocketState) (id index : ℕ) (c : Claiming s id index) → finds_in (search_of s.lookups id) ≡ (c.search).finds
@@ -101,16 +101,14 @@ register_is s id index c claim object kind same o k none =
     fault_is s id index c ∙ ap (claim_fault s c.claim) none
     ∙ sym ((λ i. register_fault s.table.names (o i) (k i)) ∙ (λ i. register_fault s.table.names (same i).object (same i).kind))
 
-pub registered_as : (s : SocketState) (id index : ℕ) (c : Claiming s id index) (claim : Claim) (object kind : List ℕ) (table : Table) → claim ≡ c.claim → object ≡ claim.object → kind ≡ claim.kind →
-    IsRegistered object kind claim.socket s.table table → IsRegistered (c.claim).object (c.claim).kind (c.claim).socket s.table table
-registered_as s id index c claim object kind table same o k is =
-    let named = subst (λ x. IsRegistered x claim.kind claim.socket s.table table) o (subst (λ x. IsRegistered object x claim.socket s.table table) k is) in
-    subst (λ (x : Claim). IsRegistered x.object x.kind x.socket s.table table) same named
-
-pub claimed_by : (A : Type 0) (s mid new : SocketState) (id index : ℕ) (c : Claiming s id index) → taker s (c.search).finds c.claim ≡ None → mid ≡ record s { table = mid.table } → new ≡ closing mid id →
-    IsRegistered (c.claim).object (c.claim).kind (c.claim).socket s.table mid.table → EndsClaim {A = A} s id c.claim (taker s (c.search).finds c.claim) finished.Claimed new
-claimed_by A s mid new id index c none rest closes is =
-    subst (λ o. EndsClaim {A = A} s id c.claim o finished.Claimed new) (sym none) (refl, (mid.table, is, closes ∙ ap (λ (t : SocketState). closing t id) rest))
+pub claimed_ends : (A : Type 0) (s mid new : SocketState) (id index : ℕ) (c : Claiming s id index) (claim : Claim) (object kind : List ℕ) → claim ≡ c.claim → object ≡ claim.object → kind ≡ claim.kind →
+    taker s (c.search).finds c.claim ≡ None → mid ≡ record s { table = registered s.table object kind claim.socket } → new ≡ closing mid id → IsEnding {A = A} (finish s id) finished.Claimed new
+claimed_ends A s mid new id index c claim object kind same o k none is closes =
+    let with_name : List ℕ → List ℕ → ℕ → SocketState = λ x y z. record (closing s id) { table = registered s.table x y z } in
+    let table : with_name object kind claim.socket ≡ with_name (c.claim).object (c.claim).kind (c.claim).socket =
+    (λ i. with_name (o i) (k i) claim.socket) ∙ ap (λ (x : Claim). with_name x.object x.kind x.socket) same in
+    subst (λ (e : Ending A). IsEnding e finished.Claimed new) (sym (claim_ending A s id index c ∙ ap (claim_ended {A = A} s id c.claim) none))
+    (record { finished = refl; state = closes ∙ ap (λ (t : SocketState). closing t id) is ∙ table })
 
 -- ---- refusals
 
@@ -144,14 +142,11 @@ plain s id count r given some same is none = go (search_of s.lookups id) refl so
 pub plain_fault : (s : SocketState) (id : ℕ) → Plain s id → finish_fault s id ≡ None
 plain_fault s id p = λ i. fault_of s (p.is_search i) (p.none i)
 
-pub plain_finished : {A : Type 0} (s new : SocketState) (id : ℕ) (finds : List Find) → Plain s id → finds ≡ finds_in (search_of s.lookups id) → new ≡ record s { lookups = closed s.lookups id } →
-    IsFinished {A = A} s id (finished.Found finds) new
-plain_finished {A} s new id finds p are is =
+pub plain_ends : (A : Type 0) (s new : SocketState) (id : ℕ) (finds : List Find) → Plain s id → finds ≡ finds_in (search_of s.lookups id) → new ≡ record s { lookups = closed s.lookups id } →
+    IsEnding {A = A} (finish s id) (finished.Found finds) new
+plain_ends A s new id finds p are is =
     let found : finds ≡ (p.search).finds = are ∙ ap finds_in p.is_search in
     let left : new ≡ closing s id = is ∙ ap (λ (l : List Claim). record s { lookups = closed s.lookups id; claims = l }) (sym (without_none (is_claim id) s.claims p.none)) in
     let as_found : List Find → Finished A = λ l. finished.Found l in
-    record {
-      search = p.search;
-      is_search = p.is_search;
-      ends = subst (λ o. Ends {A = A} s id (p.search).finds o (finished.Found finds) new) (sym p.none) (ap as_found found, left);
-    }
+    subst (λ (e : Ending A). IsEnding e (finished.Found finds) new) (sym (ap (ending {A = A} s id) p.is_search ∙ ap (ended {A = A} s id (p.search).finds) p.none))
+    (record { finished = ap as_found found; state = left })

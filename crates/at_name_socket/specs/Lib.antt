@@ -1,1 +1,3 @@
+pub mod Carrying
 pub mod NameSockets
+pub mod Steps

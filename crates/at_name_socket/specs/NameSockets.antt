@@ -12,7 +12,7 @@ use Rattle.at_name_socket.specs.declared.step.Heard.{Heard}
 use Rattle.at_name_socket.specs.declared.step.Heard.TheVariants as heard
 use Rattle.at_nbp.specs.Lookups as lookups
 use Rattle.at_nbp.specs.Lookups.{Lookups, Search, beginning, begun, closed, search_of}
-use Rattle.at_nbp.specs.NameTables.{IsRegistered, Table, is_called, own_find, register_fault}
+use Rattle.at_nbp.specs.NameTables.{Table, is_called, own_find, register_fault, registered}
 use Rattle.at_nbp.specs.Packets.{BeginsWith, Content, spelling}
 use Rattle.at_nbp.specs.Relays.{relayed}
 use Rattle.at_nbp.specs.Replies.{AreReplies, matching, pattern_of, sent_reply}
@@ -94,22 +94,36 @@ abbrev pub taker : SocketState → List Find → Claim → Option Find
 taker s (f ∷ fs) claim = Some f
 taker s [] claim = option_map (own_find s.table) (standing s claim)
 
+-- what a lookup ends with, and the socket after it
+pub record Ending (A : Type 0) : Type 0 where
+  pub finished : Finished A
+  pub state : SocketState
+
 -- a claim ends with the name that is taken, or by registering its own
-abbrev pub EndsClaim : {A : Type 0} → SocketState → ℕ → Claim → Option Find → Finished A → SocketState → Type 0
-EndsClaim s id claim (Some f) r new = (r ≡ finished.Taken f) × (new ≡ closing s id)
-EndsClaim s id claim None r new =
-    (r ≡ finished.Claimed) × ((table : Table) × IsRegistered claim.object claim.kind claim.socket s.table table
-    × (new ≡ record (closing s id) { table = table }))
+abbrev pub claim_ended : {A : Type 0} → SocketState → ℕ → Claim → Option Find → Ending A
+claim_ended s id claim (Some f) = record { finished = finished.Taken f; state = closing s id }
+claim_ended s id claim None = record {
+  finished = finished.Claimed;
+  state = record (closing s id) { table = registered s.table claim.object claim.kind claim.socket };
+}
 
 -- any other lookup ends with its finds
-abbrev pub Ends : {A : Type 0} → SocketState → ℕ → List Find → Option Claim → Finished A → SocketState → Type 0
-Ends s id finds None r new = (r ≡ finished.Found finds) × (new ≡ closing s id)
-Ends s id finds (Some claim) r new = EndsClaim s id claim (taker s finds claim) r new
+abbrev pub ended : {A : Type 0} → SocketState → ℕ → List Find → Option Claim → Ending A
+ended s id finds None = record { finished = finished.Found finds; state = closing s id }
+ended s id finds (Some claim) = claim_ended s id claim (taker s finds claim)
 
-pub record IsFinished {A : Type 0} (s : SocketState) (id : ℕ) (r : Finished A) (new : SocketState) : Type 0 where
-  pub search : Search
-  pub is_search : search_of s.lookups id ≡ Some search
-  pub ends : Ends s id search.finds (find (is_claim id) s.claims) r new
+-- without such a lookup there is nothing to end
+abbrev pub ending : {A : Type 0} → SocketState → ℕ → Option Search → Ending A
+ending s id None = record { finished = finished.Found []; state = s }
+ending s id (Some search) = ended s id search.finds (find (is_claim id) s.claims)
+
+abbrev pub finish : {A : Type 0} → SocketState → ℕ → Ending A
+finish s id = ending s id (search_of s.lookups id)
+
+-- these are the end of a lookup and the socket after it
+pub record IsEnding {A : Type 0} (e : Ending A) (r : Finished A) (new : SocketState) : Type 0 where
+  pub finished : r ≡ e.finished
+  pub state : new ≡ e.state
 
 -- why a claim cannot be finished: its name cannot be registered
 abbrev pub claim_fault : SocketState → Claim → Option Find → Option NbpFault

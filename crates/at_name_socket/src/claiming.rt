@@ -3,7 +3,7 @@ ghost use Rattle.std.specs.Prelude.{◌≡◌, ◌≢◌, ◌≤◌, ◌<◌, �
 ghost use Rattle.std.specs.Prelude.{IfSome, OnErr, IsErrOf, IsOk, IsSome, Some, None, Err, true, false};
 ghost use Rattle.std.specs.List.{position_from};
 ghost use Rattle.at_ddp.specs.Outbox.{Sends};
-ghost use Rattle.at_name_socket.specs.NameSockets.{IsFinished, any_pattern, claim_begun, closing, taker};
+ghost use Rattle.at_name_socket.specs.NameSockets.{IsEnding, any_pattern, claim_begun, closing, finish, taker};
 ghost use Rattle.at_name_socket.specs.NameSockets.{finish_fault, is_claim};
 ghost use Rattle.at_name_socket.specs.declared.claim.Claim.{Claim as Claimed};
 ghost use Rattle.at_nbp.specs.Lookups.{beginning, finds_in, next_id, search_of, sent_question};
@@ -56,7 +56,7 @@ impl<A: Allocator + Copy> NameSocket<A> {
 
     /// Closes a lookup. A claim registers its name, if none like it was found and none stands here.
     pub fn finish(&mut self, id: u8) -> Result<Finished<A>, NbpFault>
-        ensures ok { IfOk result (λ r. IsFinished self.old id r self.new) }
+        ensures ok { IfOk result (λ r. IsEnding (finish self.old id) r self.new) }
         ensures refuses { IfSome (finish_fault self.old id) (λ fault. result ≡ Err fault) }
         ensures memory { IfErr result (λ fault. finish_fault self.old id ≡ None → fault ≡ NbpFault.NoMemory) }
         ensures unchanged { OnErr result (self.new ≡ self.old) }
@@ -89,7 +89,7 @@ impl<A: Allocator + Copy> NameSocket<A> {
         requires open { IsSome (search_of self.old.lookups id) }
         requires claim { position_from (is_claim id) 0 self.old.claims ≡ Some index }
         requires count { count ≡ length (finds_in (search_of self.old.lookups id)) }
-        ensures ok { IfOk result (λ r. IsFinished self.old id r self.new) }
+        ensures ok { IfOk result (λ r. IsEnding (finish self.old id) r self.new) }
         ensures refuses { IfSome (finish_fault self.old id) (λ fault. result ≡ Err fault) }
         ensures memory { IfErr result (λ fault. finish_fault self.old id ≡ None → fault ≡ NbpFault.NoMemory) }
         ensures unchanged { OnErr result (self.new ≡ self.old) }

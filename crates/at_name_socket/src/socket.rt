@@ -4,11 +4,12 @@ ghost use Rattle.at_ddp.specs.Outbox.{Sends};
 ghost use Rattle.at_ddp.specs.Tables.{without_first};
 ghost use Rattle.at_name_socket.specs.NameSockets.{asked_by, asked_node, opening, own_zone};
 ghost use Rattle.at_nbp.specs.Lookups.{beginning, begun, is_question, next_id, search_of, sent_question};
-ghost use Rattle.at_nbp.specs.NameTables.{IsRegistered, is_called, register_fault};
+ghost use Rattle.at_nbp.specs.NameTables.{is_called, register_fault, registered};
 
 use crate::claim::Claim;
 use crate::neighbour::Neighbour;
 use at_ddp::{Address, Listed, Outbox, Pascal};
+use at_nbp::laws::a_table_with_one_name_more_is_computed;
 use at_nbp::{Function, Lookup, Name, Names, NbpFault};
 use std::alloc::{Allocator, Global};
 use std::marker::Model;
@@ -74,13 +75,14 @@ impl<A: Allocator + Copy> NameSocket<A> {
 
     /// Registers a name of a socket, with the least enumerator that is free there.
     pub fn register(&mut self, object: Pascal, kind: Pascal, socket: u8) -> Result<(), NbpFault>
-        ensures rest { self.new ≡ record self.old { table = self.new.table } }
-        ensures ok { OnOk result (IsRegistered object kind socket self.old.table self.new.table) }
+        ensures ok { OnOk result (self.new
+            ≡ record self.old { table = registered self.old.table object kind socket }) }
         ensures unchanged { OnErr result (self.new ≡ self.old) }
         ensures refuses { IfSome (register_fault self.old.table.names object kind) (λ fault. result ≡ Err fault) }
         ensures memory { IfErr result (λ fault. register_fault self.old.table.names object kind ≡ None
             → fault ≡ NbpFault.NoMemory) }
     {
+        a_table_with_one_name_more_is_computed();
         self.names.register(object, kind, socket)
     }
 

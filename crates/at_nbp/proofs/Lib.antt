@@ -10,6 +10,8 @@ mod NameTableLemmas
 mod NetworkLemmas
 mod NumberLemmas
 mod PacketLemmas
+mod RangeHistories
+mod Ranges
 mod ReplyLemmas
 mod StoodLemmas
 mod TupleLemmas

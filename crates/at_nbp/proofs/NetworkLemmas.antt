@@ -44,7 +44,7 @@ pub record Sound (setting : Setting) (history : List Happening) (n : Network) : 
 
 -- ---- what changes at one address
 
-put_everywhere : {X : Type 0} (P : Address → X → Type 0) (f : Address → X) (at : Address) (x : X) → ((a : Address) → P a (f a)) → P at x → (a : Address) → P a (put f at x a)
+pub put_everywhere : {X : Type 0} (P : Address → X → Type 0) (f : Address → X) (at : Address) (x : X) → ((a : Address) → P a (f a)) → P at x → (a : Address) → P a (put f at x a)
 put_everywhere {X} P f at x all is a = go (same_address at a) refl
   where
     go : (b : Bool) → same_address at a ≡ b → P a (cond b x (f a))

@@ -1,10 +1,11 @@
 -- Numbers in use: there are at least as many entries as numbers that they have.
-use Rattle.std.proofs.Common.{◌≡◌, ℕ, zero, suc, ◌+◌, ◌<◌, ◌≤◌, Bool, true, false, List, [], ◌∷◌, length, refl, arith}
-use Rattle.std.specs.Prelude.{◌==◌, ◌||◌}
+use Rattle.std.proofs.Common.{◌≡◌, ℕ, zero, suc, ◌+◌, ◌<◌, ◌≤◌, Bool, true, false, List, [], ◌∷◌, length, refl, arith, cond, ◌++◌, sym, ap, ◌∙◌}
+use Rattle.std.specs.Prelude.{nat_lt, ◌==◌, ◌||◌}
 use Rattle.std.specs.List.{list_any}
-use Rattle.std.proofs.lemmas.Bool.{and_parts, eqb-true, ne_eqb}
+use Rattle.std.proofs.lemmas.Bool.{and_parts, eqb-true, ne_eqb, true≢false}
+use Rattle.std.proofs.lemmas.Bool.Decides.{nat_tests}
 use Rattle.at_ddp.specs.Tables.{without_first}
-use Rattle.at_nbp.specs.NameTables.{has_number}
+use Rattle.at_nbp.specs.NameTables.{IsLeastFree, IsRegistered, Table, has_number, number_from, registered}
 use Rattle.at_nbp.specs.declared.names.Registered.{Registered}
 
 -- a list without an entry that passes is shorter by one
@@ -46,3 +47,26 @@ apart socket m n name lt h =
 
 pub numbers_in_use : (socket count : ℕ) (names : List Registered) → ((n : ℕ) → n < count → list_any (has_number socket n) names ≡ true) → count ≤ length names
 numbers_in_use socket count names used = tests_in_use (has_number socket) count (λ m n name lt within. apart socket m n name lt) count names (omega arith) used
+
+-- ---- the least free number, computed
+
+least_from : (names : List Registered) (socket least : ℕ) → IsLeastFree names socket least → (tries number : ℕ) → number ≤ least → least ≤ number + tries → number_from tries number names socket ≡ least
+least_from names socket least is zero number low high = omega (arith, low, high)
+least_from names socket least is (suc tries) number low high = go (λ l h. least_from names socket least is tries (number + 1) l h) (list_any (has_number socket number) names) refl
+  where
+    go : (number + 1 ≤ least → least ≤ number + 1 + tries → number_from tries (number + 1) names socket ≡ least) → (b : Bool) → list_any (has_number socket number) names ≡ b →
+        cond b (number_from tries (number + 1) names socket) number ≡ least
+    go ih true used =
+        let apart : number ≡ least → ⊥ = λ same. true≢false (sym used ∙ ap (λ n. list_any (has_number socket n) names) same ∙ is.free) in
+        ih (omega (arith, low, apart)) (omega (arith, high))
+    go ih false free = at_least (nat_lt number least) refl
+      where
+        at_least : (b : Bool) → nat_lt number least ≡ b → number ≡ least
+        at_least true below = absurd (true≢false (sym (is.least number (grind (arith, nat_tests, below))) ∙ free))
+        at_least false above = grind (arith, nat_tests, above, low)
+
+pub registered_is : (object kind : List ℕ) (socket : ℕ) (old new : Table) → IsRegistered object kind socket old new → new ≡ registered old object kind socket
+registered_is object kind socket old new r =
+    let few = numbers_in_use socket r.enumerator old.names (r.least).least in
+    let number = least_from old.names socket r.enumerator r.least (length old.names) 0 (omega arith) (omega (arith, few)) in
+    r.joins ∙ ap (λ n. record old { names = old.names ++ record { object = object; kind = kind; socket = socket; enumerator = n } ∷ [] }) (sym number)

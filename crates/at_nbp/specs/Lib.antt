@@ -1,4 +1,5 @@
 pub mod Fault
+pub mod Lawfully
 pub mod Lookups
 pub mod NameTables
 pub mod Names

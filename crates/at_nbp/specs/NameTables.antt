@@ -1,6 +1,6 @@
 -- A node's table of its own names (Inside AppleTalk, NBP, "Names directory" and "Name registration").
-use Rattle.std.specs.Prelude.{◌≡◌, ℕ, ◌<◌, ◌≤◌, ◌==◌, ◌&&◌, ◌||◌, nat_le, is_some, if◌then◌else◌, Bool, true, false}
-use Rattle.std.specs.Prelude.{List, [], ◌∷◌, ◌++◌, length, find, Option, Some, None}
+use Rattle.std.specs.Prelude.{◌≡◌, ℕ, zero, suc, ◌+◌, ◌<◌, ◌≤◌, ◌==◌, ◌&&◌, ◌||◌, nat_le, is_some, if◌then◌else◌, Bool}
+use Rattle.std.specs.Prelude.{true, false, List, [], ◌∷◌, ◌++◌, length, find, Option, Some, None}
 use Rattle.std.specs.List.{IsDistinct, list_any}
 use Rattle.std.specs.Str.{bytes_eq}
 use Rattle.at_ddp.specs.declared.address.Address.{Address}
@@ -48,6 +48,24 @@ pub record IsRegistered (object kind : List ℕ) (socket : ℕ) (old new : Table
     names = old.names
         ++ record { object = object; kind = kind; socket = socket; enumerator = enumerator } ∷ [];
   }
+
+-- the first number from this one on that no name of the socket has, if it takes at most so many tries
+abbrev pub number_from : ℕ → ℕ → List Registered → ℕ → ℕ
+number_from zero number names socket = number
+number_from (suc tries) number names socket =
+    if list_any (has_number socket number) names then number_from tries (number + 1) names socket else number
+
+-- the same table, computed
+abbrev pub registered : Table → List ℕ → List ℕ → ℕ → Table
+registered table object kind socket = record table {
+  names = table.names
+      ++ record {
+        object = object;
+        kind = kind;
+        socket = socket;
+        enumerator = number_from (length table.names) 0 table.names socket;
+      } ∷ [];
+}
 
 -- a name of the node's own, as others find it
 abbrev pub own_find : Table → Registered → Find

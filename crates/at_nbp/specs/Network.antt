@@ -11,7 +11,7 @@ use Rattle.at_nbp.specs.Lookups.{Lookups, Search, AreLookups, asked, beginning, 
 use Rattle.at_nbp.specs.Lookups.{next_id, question, search_of}
 use Rattle.at_nbp.specs.NameTables.{Table, is_called}
 use Rattle.at_nbp.specs.Packets.{Content}
-use Rattle.at_nbp.specs.Relays.{relayed}
+use Rattle.at_nbp.specs.Relays.{asks_router, relayed}
 use Rattle.at_nbp.specs.Replies.{AreReplies, entry_in, matching, pattern_of}
 use Rattle.at_nbp.specs.Tuples.{Entry}
 use Rattle.at_nbp.specs.declared.find.Find.{Find}
@@ -193,9 +193,12 @@ abbrev pub AreMatches : Table → List (List Entry) → List Entry → Type 0
 AreMatches table replies [] = Unit {0}
 AreMatches table replies (t ∷ ts) = AreReplies (matching table (pattern_of t)) replies
 
+-- replies have the names that match, and a request alone is relayed
 abbrev pub IsAnswered : Network → Happening → Type 0
 IsAnswered n (Answers which at replies) =
     (s : Sent) → packet_at n.sent which ≡ Some s → AreMatches (n.tables at) replies s.packet.tuples
+IsAnswered n (Relays which at to zone) =
+    (s : Sent) → packet_at n.sent which ≡ Some s → asks_router s.packet.function ≡ true
 IsAnswered n other = Unit {0}
 
 abbrev pub AllTimely : Setting → List Happening → Type 0

@@ -1,12 +1,11 @@
 use Rattle.std.proofs.Common.{◌≡◌, ℕ, length, get_or, refl, sym, ap, subst, ◌∙◌, arith}
 use Rattle.std.specs.Prelude.{IfSome, Result, Err}
 use Rattle.at_nbp.specs.Lookups.{finds_in, search_of}
-use Rattle.at_name_socket.specs.NameSockets.{EndsClaim, SocketState, claim_fault}
+use Rattle.at_name_socket.specs.NameSockets.{SocketState, claim_fault}
 use Rattle.at_name_socket.specs.declared.claim.Claim.{Claim}
 use Rattle.at_name_socket.specs.declared.step.Finished.{Finished}
-use Rattle.at_name_socket.specs.declared.step.Finished.TheVariants as finished
 use Rattle.at_nbp.specs.declared.fault.NbpFault.{NbpFault}
-use Rattle.at_name_socket.proofs.SocketLemmas.{claimed_by, claiming, fault_is, finished_by, no_fault, register_is, registered_as, same_fault, taker_is}
+use Rattle.at_name_socket.proofs.SocketLemmas.{claimed_ends, claiming, fault_is, no_fault, register_is, same_fault, taken_ends, taker_is}
 use Rattle.at_name_socket.proofs.socket.NameSocket.end_claim.Goals as goal
 
 pub index-requires : goal.index-requires
@@ -31,7 +30,7 @@ returns-in-Some-clause-ok g c =
     let e = claiming s c.args.id c.args.index c.requires.claim c.requires.open in
     let claim : c.index.result.now ≡ e.claim = c.index.ensures ∙ ap (λ (t : SocketState). get_or t.claims c.args.index c.index.result.now) c.self.view_is ∙ e.at c.index.result.now in
     let takes = sym (taker_is s c.args.id c.args.index e c.index.result.now claim) ∙ sym c.taker.ensures ∙ c.in-Some.is in
-    finished_by s c.args.id c.args.index e _ c.close.new.self (subst (λ o. EndsClaim {A = g.row.A.Denot} s c.args.id e.claim o (finished.Taken c.in-Some.find) c.close.new.self) (sym takes) (refl, c.close.ensures))
+    taken_ends g.row.A.Denot s c.close.new.self c.args.id c.args.index e c.in-Some.find takes c.close.ensures
 
 pub returns-in-Some-clause-refuses : goal.returns-in-Some-clause-refuses
 returns-in-Some-clause-refuses g c =
@@ -69,8 +68,8 @@ returns-in-Ok-clause-ok g c =
     let claim : c.index.result.now ≡ e.claim = c.index.ensures ∙ ap (λ (t : SocketState). get_or t.claims c.args.index c.index.result.now) c.self.view_is ∙ e.at c.index.result.now in
     let again : c.index-claim.result.now ≡ e.claim = c.index-claim.ensures ∙ ap (λ (t : SocketState). get_or t.claims c.args.index c.index-claim.result.now) c.self.view_is ∙ e.at c.index-claim.result.now in
     let none = sym (taker_is s c.args.id c.args.index e c.index.result.now claim) ∙ sym c.taker.ensures ∙ c.in_default.is in
-    let is = registered_as s c.args.id c.args.index e c.index-claim.result.now c.copy_of-object.result c.copy_of-kind.result _ again c.copy_of-object.ensures c.copy_of-kind.ensures c.in-Ok.ensures.ok in
-    finished_by s c.args.id c.args.index e _ c.close-in-Ok.new.self (claimed_by g.row.A.Denot s c.register.new.self c.close-in-Ok.new.self c.args.id c.args.index e none c.register.ensures.rest c.close-in-Ok.ensures is)
+    claimed_ends g.row.A.Denot s c.register.new.self c.close-in-Ok.new.self c.args.id c.args.index e c.index-claim.result.now c.copy_of-object.result c.copy_of-kind.result again c.copy_of-object.ensures
+    c.copy_of-kind.ensures none c.in-Ok.ensures.ok c.close-in-Ok.ensures
 
 pub returns-in-Ok-clause-refuses : goal.returns-in-Ok-clause-refuses
 returns-in-Ok-clause-refuses g c =

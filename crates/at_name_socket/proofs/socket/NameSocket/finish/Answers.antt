@@ -1,7 +1,7 @@
 use Rattle.std.proofs.Common.{◌≡◌, None, sym, ap, subst, ◌∙◌}
 use Rattle.at_nbp.specs.Lookups.{finds_in, search_of}
 use Rattle.at_name_socket.specs.NameSockets.{SocketState, finish_fault}
-use Rattle.at_name_socket.proofs.SocketLemmas.{plain, plain_fault, plain_finished}
+use Rattle.at_name_socket.proofs.SocketLemmas.{plain, plain_ends, plain_fault}
 use Rattle.at_name_socket.proofs.socket.NameSocket.finish.Goals as goal
 
 pub returns-in_err-finds-in-None-clause-refuses : goal.returns-in_err-finds-in-None-clause-refuses
@@ -18,7 +18,7 @@ returns-in_ok-finds-in-None-clause-ok g c =
     let lookups = rw c.unwrap.ensures at c.finish.ensures.ok in
     let finds = c.in_ok-finds-in-None.finds in
     let are = subst (λ (t : SocketState). finds ≡ finds_in (search_of t.lookups c.args.id)) (sym c.self.view_is) c.in_ok-finds-in-None.ensures in
-    rw (← c.self.view_is) (plain_finished s _ c.args.id finds p are (ap (λ l. record s { lookups = l }) lookups))
+    rw (← c.self.view_is) (plain_ends g.row.A.Denot s _ c.args.id finds p are (ap (λ l. record s { lookups = l }) lookups))
 
 pub returns-in_ok-finds-in-None-clause-refuses : goal.returns-in_ok-finds-in-None-clause-refuses
 returns-in_ok-finds-in-None-clause-refuses g c =

@@ -1,0 +1,5 @@
+use Rattle.at_name_socket.proofs.PacketSteps.{comes_happens}
+use Rattle.at_name_socket.proofs.laws.a_packet_is_a_happening.Goals as goal
+
+pub returns : goal.returns
+returns c = comes_happens

@@ -1,0 +1,31 @@
+ghost use Rattle.std.specs.Prelude.{◌≡◌, ℕ, IfSome, Some, length, map};
+ghost use Rattle.at_name_socket.specs.Carrying.{Carries, owner_by};
+ghost use Rattle.at_nbp.specs.Packets.{HasCount};
+ghost use Rattle.at_nbp.specs.Tuples.{content};
+
+use at_ddp::Address;
+use at_nbp::{Function, Packet, decode};
+
+/// The identifier that the packet at the front of a datagram's data carries, with the number of the node that drew it:
+/// (node, identifier). The datagram goes to `to`. There is none if no packet stands there. This needs no memory.
+pub fn carried(to: Address, bytes: &[u8]) -> Option<(u8, u8)>
+    ensures found { IfSome result (λ r. Carries to bytes.now r.0 r.1) }
+    ensures only { (node id : ℕ) → Carries to bytes.now node id → result ≡ Some (node, id) }
+{
+    match decode(bytes) {
+        Ok((packet, _)) => Some((owner_of(to, &packet), packet.id)),
+        Err(_) => None,
+    }
+}
+
+// The node that drew the identifier of a packet to this address.
+fn owner_of(to: Address, packet: &Packet<'_>) -> u8
+    requires { HasCount packet.now.function (length packet.now.tuples.items) }
+    ensures { result ≡ owner_by to packet.now.function (map content packet.now.tuples.items) }
+{
+    if matches!(packet.function, Function::Reply) {
+        to.node
+    } else {
+        packet.tuples[0].address.node
+    }
+}
