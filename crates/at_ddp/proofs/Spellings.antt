@@ -35,6 +35,13 @@ one_reading input d e x y p q =
     let same = two_spellings p.spelled.free q.spelled.free d e x y p.spelled.in_two_bits q.spelled.in_two_bits p.spelled.lawful q.spelled.lawful both in
     (same.1, same.2)
 
+-- the protocol stands at one place in every spelling
+pub the_protocol_is_read_as_written : (to from : Address) (kind : ℕ) (bytes rest : List ℕ) (d : Content) → BeginsWith (canonical to from kind bytes) d rest → d.kind ≡ kind
+unfolding spelling
+the_protocol_is_read_as_written to from kind bytes rest d p =
+    let same : spelling 0 (written to from kind bytes) ≡ spelling p.spelled.free d ++ rest = p.follows ∙ ap (λ b. b ++ rest) p.spelled.fields in
+    ap (λ (l : List ℕ). get_or l 12 0) (sym same)
+
 pub what_is_written_is_read : (to from : Address) (kind : ℕ) (bytes rest : List ℕ) → IsAddress to → IsAddress from → kind < 256 → AreBytes bytes → length bytes ≤ 586 → BeginsWith (canonical to from kind bytes ++ rest) (written to from kind bytes) rest
 what_is_written_is_read to from kind bytes rest to_ok from_ok kind_ok are_bytes len = record {
   bytes = canonical to from kind bytes;

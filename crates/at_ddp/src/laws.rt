@@ -20,3 +20,9 @@ pub fn what_is_written_is_read()
     ensures faultless { (input : List ℕ) (d : Content) (rest : List ℕ) → BeginsWith input d rest → (fault : DdpFault)
         → ¬ Stands fault input }
 {}
+
+/// The protocol of an encoded datagram is read as it was written, also if fields are out of range.
+pub fn the_protocol_is_read_as_written()
+    ensures { (to from : Address) (kind : ℕ) (bytes rest : List ℕ) (d : Content)
+        → BeginsWith (canonical to from kind bytes) d rest → d.kind ≡ kind }
+{}

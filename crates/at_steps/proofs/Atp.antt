@@ -4,6 +4,7 @@ pub mod Asking
 pub mod Below
 pub mod Calls
 pub mod Coming
+pub mod Foreign
 pub mod Heard
 pub mod Holding
 pub mod Moves

@@ -1,6 +1,6 @@
--- What happens at a node, and whose report it is.
+-- What happens at a node, whose report it is, and which reports there are.
 use Rattle.std.specs.Prelude.{ℕ, Bool, true, false}
-use Rattle.at_node.specs.Kinds.{Kind, Atp, kind_of_call, kind_of_timer, reporter_of}
+use Rattle.at_node.specs.Kinds.{Kind, Nobody, Atp, kind_of_call, kind_of_timer, reporter_of}
 use Rattle.at_node.specs.declared.event.Call.{Call}
 use Rattle.at_node.specs.declared.event.Report.{Report}
 use Rattle.at_node.specs.declared.event.Report.TheVariants as report
@@ -21,3 +21,16 @@ owner_of act r = reporter_of r
 abbrev pub is_atp : Kind → Bool
 is_atp Atp = true
 is_atp other = false
+
+abbrev pub IsSomebodys : Kind → Type 0
+IsSomebodys Nobody = ⊥
+IsSomebodys other = Unit {0}
+
+-- which reports there are: those of a protocol, and those that tell of nothing new
+abbrev pub IsSaid : {A : Type 0} → Act A → Report A → Type 0
+IsSaid act (report.Refused number) = Unit {0}
+IsSaid act report.NoMemory = Unit {0}
+IsSaid (Gets which) report.Ignored = Unit {0}
+IsSaid (Gets which) report.Again = Unit {0}
+IsSaid (Fires time) report.Again = Unit {0}
+IsSaid act r = IsSomebodys (owner_of act r)

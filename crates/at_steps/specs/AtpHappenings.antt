@@ -16,7 +16,7 @@ use Rattle.at_node.specs.Nodes.{NodeState}
 use Rattle.at_node.specs.Outcomes.{Outcome, Outgoing}
 use Rattle.at_node.specs.declared.drawing.Draw.{Draw}
 use Rattle.at_node.specs.declared.drawing.Draw.TheVariants.{Tid}
-use Rattle.at_steps.specs.Acts.{Act, owner_of, is_atp}
+use Rattle.at_steps.specs.Acts.{Act, owner_of, is_atp, IsSaid}
 use Rattle.at_steps.specs.AtpReports.{Matches}
 use Rattle.at_steps.specs.AtpSteps.{Change, IsStep}
 
@@ -120,8 +120,9 @@ abbrev pub Passes : (A : Type 0) → List Happening → ℕ → ℕ → NodeStat
 Passes A history net number n act o = (h : Happens A history net number n act o)
     × ((done A (after A history) h.happening).asked ≡ (after A history).asked)
 
--- The step leaves this part as it was, sends no packet of it, and has a report that is not its own.
+-- The step leaves this part as it was, and sends no packet of it. Its report is one that there is, but not this part's.
 pub record IsForeign {A : Type 0} (n : NodeState) (act : Act A) (o : Outcome A NodeState) : Type 0 where
   pub same : o.state.atp ≡ n.atp
   pub sends : AllByRecursion (λ p. (p.kind == atp_kind) ≡ false) o.out
   pub reports : is_atp (owner_of act o.report) ≡ false
+  pub said : IsSaid act o.report

@@ -1,12 +1,14 @@
 //! The laws of a node's steps, a law for each kind of event and each protocol. The functions do nothing at run time.
-ghost use Rattle.std.specs.Prelude.{◌≡◌, ℕ, List, Some, true, false};
+ghost use Rattle.std.specs.Prelude.{◌≡◌, ℕ, ◌==◌, List, Some, true, false};
 ghost use Rattle.at_ddp.specs.Datagram.{canonical};
+ghost use Rattle.at_ddp.specs.declared.address.Address.{Address};
 ghost use Rattle.at_atp_frame.specs.Frames.{spelled};
 ghost use Rattle.at_atp.specs.Network.{Happening, NoneHolds, Sent, packet_at, is_fresh, after};
 ghost use Rattle.at_node.specs.AtpParts.{asking, atp_kind};
 ghost use Rattle.at_node.specs.Calls.{IsCall};
 ghost use Rattle.at_node.specs.Drawing.{drawn_by, holds};
 ghost use Rattle.at_node.specs.Hearing.{Hears};
+ghost use Rattle.at_node.specs.Kinds.{kind_of_call, kind_of_timer};
 ghost use Rattle.at_node.specs.Nodes.{NodeState, called, timed};
 ghost use Rattle.at_node.specs.Outcomes.{Outcome};
 ghost use Rattle.at_node.specs.ServiceSocket.{is_asked};
@@ -15,15 +17,16 @@ ghost use Rattle.at_node.specs.declared.event.Call.{Call};
 ghost use Rattle.at_node.specs.declared.event.Timer.{Timer};
 ghost use Rattle.at_node.specs.declared.service.Reply.{Reply};
 ghost use Rattle.at_node.specs.declared.service.Reply.TheVariants.{Later};
-ghost use Rattle.at_steps.specs.Acts.{Act, Calls, Fires, Gets};
+ghost use Rattle.at_steps.specs.Acts.{Act, Calls, Fires, Gets, is_atp};
 ghost use Rattle.at_steps.specs.AtpHappenings.{HoldsNo, IsForeign, IsHappening, Passes, Stands};
 
 use std::alloc::Allocator;
 
-/// A call is one happening among requesters and responders, if no responder holds the number that it draws.
+/// A call of ATP or ZIP is one happening among requesters and responders, if no responder holds the number that it
+/// draws.
 pub fn a_call_is_a_happening_of_atp<A: Allocator>()
     ensures { (history : List Happening) (n : NodeState) (call : Call A) → Stands A history n.seat.net n.seat.number n
-        → IsCall call
+        → IsCall call → is_atp (kind_of_call call) ≡ true
         → ((tid : ℕ) → drawn_by (called n call).report ≡ Some (Tid tid)
         → NoneHolds (after A history).responders (asking n.seat.net n.seat.number) tid)
         → IsHappening A history n.seat.net n.seat.number n (Calls call) (called n call) }
@@ -33,9 +36,10 @@ pub fn a_call_is_a_happening_of_atp<A: Allocator>()
     at_atp::laws::no_more_is_sent_than_answered();
 }
 
-/// A timer that fires is one happening among requesters and responders.
+/// A timer of ATP or ZIP that fires is one happening among requesters and responders.
 pub fn a_timer_is_a_happening_of_atp<A: Allocator>()
     ensures { (history : List Happening) (n : NodeState) (time : Timer) → Stands A history n.seat.net n.seat.number n
+        → is_atp (kind_of_timer time) ≡ true
         → IsHappening A history n.seat.net n.seat.number n (Fires time) (timed n time) }
 {
     at_atp::laws::numbers_stay_open::<A>();
@@ -66,6 +70,19 @@ pub fn another_protocols_step_passes_atp<A: Allocator>()
         → Stands A history n.seat.net n.seat.number n → IsForeign n act o
         → Passes A history n.seat.net n.seat.number n act o }
 {}
+
+/// An event of another protocol leaves the part of ATP and ZIP as it was, and sends no packet of that part.
+pub fn another_protocols_event_is_foreign<A: Allocator>()
+    ensures call { (n : NodeState) (call : Call A) → is_atp (kind_of_call call) ≡ false
+        → IsForeign n (Calls call) (called n call) }
+    ensures timer { (n : NodeState) (time : Timer) → is_atp (kind_of_timer time) ≡ false
+        → IsForeign {A = A} n (Fires time) (timed n time) }
+    ensures datagram { (n : NodeState) (which : ℕ) (to from : Address) (kind : ℕ) (bytes : List ℕ) (said : Reply A)
+        (o : Outcome A NodeState) → (kind == atp_kind) ≡ false → Hears said n (canonical to from kind bytes) o
+        → IsForeign n (Gets which) o }
+{
+    at_ddp::laws::the_protocol_is_read_as_written();
+}
 
 /// A transaction number that a node does not hold has no record at the node's responders.
 pub fn a_number_that_is_not_held_has_no_record()

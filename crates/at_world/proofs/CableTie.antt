@@ -1,14 +1,12 @@
 -- What ties a world to the cable: where its nodes stand, and what was ever sent.
 use Rattle.std.proofs.Common.{◌≡◌, ℕ, ◌^◌, ◌<◌, Bool, true, false, cond, List, [], ◌∷◌, ◌++◌, map, Some, refl, sym, ap, subst, ◌∙◌}
 use Rattle.std.specs.Prelude.{find, ◌==◌}
-use Rattle.std.specs.List.{AllByRecursion}
 use Rattle.std.proofs.lemmas.Bool.{eqb-true}
 use Rattle.at_ddp.specs.Datagram.{canonical}
 use Rattle.at_ddp.specs.declared.address.Address.{Address}
-use Rattle.at_node.specs.Kinds.{kind_of}
 use Rattle.at_node.specs.Nodes.{NodeState}
 use Rattle.at_node.specs.Outcomes.{Outcome, Outgoing, posted}
-use Rattle.at_world.specs.Cables.{Cable, IsSomebodys}
+use Rattle.at_world.specs.Cables.{Cable}
 use Rattle.at_world.specs.Sents.{SentDatagram, stamp}
 use Rattle.at_world.specs.Worlds.{WorldState, is_numbered, node_at, recorded}
 use Rattle.at_ddp.specs.Tables.{replaced}
@@ -29,13 +27,6 @@ wire event o = record { event = event; from = o.from; to = o.to; kind = o.kind; 
 abbrev pub spelled_wire : Wire → SentDatagram
 spelled_wire x = record { event = x.event; to = x.to.node; bytes = canonical x.to x.from x.kind x.data_ }
 
--- a part of some node speaks its protocol
-abbrev pub IsOwned : Wire → Type 0
-IsOwned x = IsSomebodys (kind_of x.kind)
-
-abbrev pub AreOwned : List Outgoing → Type 0
-AreOwned out = AllByRecursion (λ o. IsSomebodys (kind_of o.kind)) out
-
 -- a node stands on the cable, under its number
 pub record SeatTie (c : Cable) (k : ℕ) (n : NodeState) : Type 0 where
   pub net : n.seat.net ≡ c.net
@@ -48,7 +39,6 @@ pub record CableTie (w : WorldState) (c : Cable) : Type 0 where
   pub router : (r : ℕ) → c.router ≡ Some r → r < 256
   pub wires : List Wire
   pub sent : w.sent ≡ map spelled_wire wires
-  pub owned : AllByRecursion IsOwned wires
   pub seats : (k : ℕ) (n : NodeState) → node_at w k ≡ Some n → SeatTie c k n
 
 pub map_both : {X Y : Type 0} (f : X → Y) (xs ys : List X) → map f (xs ++ ys) ≡ map f xs ++ map f ys
@@ -72,22 +62,16 @@ found_after k j x old n nodes P same stands h mine other = go (k == j) refl (sym
 pub seat_kept : (c : Cable) (k : ℕ) (n x : NodeState) → x.seat ≡ n.seat → SeatTie c k n → SeatTie c k x
 seat_kept c k n x same its = record { net = (λ i. (same i).net) ∙ its.net; number = (λ i. (same i).number) ∙ its.number; small = its.small; router = (λ i. (same i).router) ∙ its.router }
 
-both_owned : (wires : List Wire) (event : ℕ) (out : List Outgoing) → AllByRecursion IsOwned wires → AreOwned out → AllByRecursion IsOwned (wires ++ map (wire event) out)
-both_owned [] event [] a b = tt
-both_owned [] event (o ∷ out) a b = (b.0, both_owned [] event out tt b.1)
-both_owned (x ∷ wires) event out a b = (a.0, both_owned wires event out a.1 b)
-
 -- after an event whose node kept its seat
-pub cable_next : (A : Type 0) (w : WorldState) (c : Cable) (k : ℕ) (n : NodeState) (o : Outcome A NodeState) (t : CableTie w c) → node_at w k ≡ Some n → o.state.seat ≡ n.seat → AreOwned o.out →
+pub cable_next : (A : Type 0) (w : WorldState) (c : Cable) (k : ℕ) (n : NodeState) (o : Outcome A NodeState) (t : CableTie w c) → node_at w k ≡ Some n → o.state.seat ≡ n.seat →
     (now : CableTie (recorded w k o.report o.state (map posted o.out)) c) × (now.wires ≡ t.wires ++ map (wire w.events) o.out)
-cable_next A w c k n o t stands same owned =
+cable_next A w c k n o t stands same =
     let its = seat_kept c k n o.state same (t.seats k n stands) in (
       record {
         net = t.net;
         router = t.router;
         wires = t.wires ++ map (wire w.events) o.out;
         sent = (λ i. t.sent i ++ posted_wires w.events o.out i) ∙ sym (map_both spelled_wire t.wires (map (wire w.events) o.out));
-        owned = both_owned t.wires w.events o.out t.owned owned;
         seats = λ j y h. found_after k j o.state n y w.nodes (SeatTie c j) its.number stands h (λ e. subst (λ i. SeatTie c i o.state) e its) (λ e g. t.seats j y g);
       },
       refl,

@@ -50,8 +50,8 @@ either_coming A P n r after out h = inr h
 module _ (A : Type 0) (w : WorldState) (m : Machine) (t : Tied A w m) (e : Event A) (n : NodeState) (stands : node_at w (node_of e) ≡ Some n) where
   -- the parts and the cable follow an outcome together
   together : (o : Outcome A NodeState) → KeepsSeat n o → FollowsAtp A w m.cable m.atp t.cable t.atp e o → Follow A w m t e o.report (recorded w (node_of e) o.report o.state (map posted o.out))
-  together o seat (said, owned, good) =
-      let cable = cable_next A w m.cable (node_of e) n o t.cable stands seat owned in
+  together o seat (said, good) =
+      let cable = cable_next A w m.cable (node_of e) n o t.cable stands seat in
       let both = subst (λ l. (x : AtpTie A (recorded w (node_of e) o.report o.state (map posted o.out)) m.cable l good.0) × Grown A m.cable (t.atp).history x.history e o.report) (sym cable.1) (good.2, good.3) in
       (record { cable = m.cable; atp = good.0 }, record { cable = record { said = said; becomes = refl }; atp = good.1 }, record { cable = cable.0; atp = both.0 }, both.1, refl)
 
@@ -62,7 +62,7 @@ module _ (A : Type 0) (w : WorldState) (m : Machine) (t : Tied A w m) (e : Event
         (subst (λ x. Follow A w m t e x (recorded w (node_of e) o.report o.state (map posted o.out))) (sym l.0) (together o seat good))
 
     of_nothing : Laws A → is_atp (owner_of {A = A} e NoMemory) ≡ false → Nothing r n after out → Follow A w m t e r w'
-    of_nothing laws nobodys l = of_good (idle n NoMemory) refl (tt, tt, passed A laws w m.cable m.atp t.cable t.atp e n stands (idle n NoMemory) refl (record { same = refl; sends = tt; reports = nobodys })) l
+    of_nothing laws nobodys l = of_good (idle n NoMemory) refl (passed A laws w m.cable m.atp t.cable t.atp e n stands (idle n NoMemory) refl (record { same = refl; sends = tt; reports = nobodys; said = tt })) l
 
 -- ---- one event
 

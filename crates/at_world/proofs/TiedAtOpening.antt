@@ -59,7 +59,7 @@ module _ (A : Type 0) (s : Setup A) where
   pub cable_at_opening : is_lawful s ≡ true → (t : CableTie (opening_world s) (cables.opening s)) × (t.wires ≡ [])
   cable_at_opening ok =
       let has = lawful_has A s ok in
-      (record { net = has.net; router = λ r is. router_fits s.nodes r has.each is; wires = []; sent = refl; owned = tt; seats = λ k n is. seats_open s.nodes has.each k n is }, refl)
+      (record { net = has.net; router = λ r is. router_fits s.nodes r has.each is; wires = []; sent = refl; seats = λ k n is. seats_open s.nodes has.each k n is }, refl)
 
   pub tied_at_opening : is_lawful s ≡ true → (t : Tied A (opening_world s) (opening_machine s)) × ((t.atp).history ≡ [])
   tied_at_opening ok =

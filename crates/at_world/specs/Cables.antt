@@ -1,14 +1,12 @@
--- What the machine knows that is of no protocol: the cable, and which reports there are.
+-- What the machine knows that is of no protocol: the cable, whose report it is, and which reports there are.
 use Rattle.std.specs.Prelude.{◌≡◌, ℕ, Option}
 use Rattle.at_ddp.specs.declared.address.Address.{Address}
-use Rattle.at_node.specs.Kinds.{Kind, Nobody}
+use Rattle.at_node.specs.Kinds.{Kind}
 use Rattle.at_node.specs.declared.event.Report.{Report}
-use Rattle.at_node.specs.declared.event.Report.TheVariants as report
 use Rattle.at_steps.specs.Acts as acts
 use Rattle.at_world.specs.Events.{act_of}
 use Rattle.at_world.specs.Plays.{router_of}
 use Rattle.at_world.specs.declared.event.Event.{Event}
-use Rattle.at_world.specs.declared.event.Event.TheVariants as event
 use Rattle.at_world.specs.declared.setup.Setup.{Setup}
 
 -- its network, and the number of its router, if it has one
@@ -27,18 +25,9 @@ at_net c node socket = record { net = c.net; node = node; socket = socket }
 abbrev pub owner_of : {A : Type 0} → Event A → Report A → Kind
 owner_of e r = acts.owner_of (act_of e) r
 
-abbrev pub IsSomebodys : Kind → Type 0
-IsSomebodys Nobody = ⊥
-IsSomebodys other = Unit {0}
-
--- which reports there are: those of a protocol, and those that tell of nothing new
+-- is there such a report of an event?
 abbrev pub IsSaid : {A : Type 0} → Event A → Report A → Type 0
-IsSaid e (report.Refused number) = Unit {0}
-IsSaid e report.NoMemory = Unit {0}
-IsSaid (event.Deliver which node) report.Ignored = Unit {0}
-IsSaid (event.Deliver which node) report.Again = Unit {0}
-IsSaid (event.Timer node timer) report.Again = Unit {0}
-IsSaid e r = IsSomebodys (owner_of e r)
+IsSaid e r = acts.IsSaid (act_of e) r
 
 -- an event has a report that there is, and leaves the cable as it was
 pub record Step {A : Type 0} (c : Cable) (e : Event A) (r : Report A) (c' : Cable) : Type 0 where

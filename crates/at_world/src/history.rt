@@ -24,6 +24,7 @@ pub(crate) fn steps_make_a_history<A: Allocator>()
     at_steps::laws::a_timer_is_a_happening_of_atp::<A>();
     at_steps::laws::a_packet_is_a_happening_of_atp::<A>();
     at_steps::laws::another_protocols_step_passes_atp::<A>();
+    at_steps::laws::another_protocols_event_is_foreign::<A>();
     at_steps::laws::a_number_that_is_not_held_has_no_record();
     at_atp::laws::what_is_sent_is_lawful::<A>();
     at_atp::laws::answers_join_what_was_asked();

@@ -15,6 +15,7 @@ use Rattle.at_atp.specs.Network.{Network, Happening, after, done, put, stamped}
 use Rattle.at_atp.specs.Transactions.{Asked}
 use Rattle.at_node.specs.Calls.{IsCall}
 use Rattle.at_node.specs.AtpParts.{serving}
+use Rattle.at_node.specs.Kinds.{kind_of_call}
 use Rattle.at_node.specs.Nodes.{with_atp, NodeState, called}
 use Rattle.at_node.specs.Outcomes.{over, idle, refused_as}
 use Rattle.at_node.specs.Seats.{at_socket}
@@ -22,7 +23,7 @@ use Rattle.at_node.specs.ServiceSocket.{answered_with}
 use Rattle.at_node.specs.declared.event.Call.{Call}
 use Rattle.at_node.specs.declared.event.Call.TheVariants.{Zones, Ask, Answer}
 use Rattle.at_node.specs.declared.event.Report.TheVariants as report
-use Rattle.at_steps.specs.Acts.{Act, Calls}
+use Rattle.at_steps.specs.Acts.{Act, Calls, is_atp}
 use Rattle.at_steps.specs.AtpSteps as steps
 use Rattle.at_steps.specs.AtpHappenings.{Stands}
 use Rattle.at_steps.proofs.Atp.Asking.{DrawsFree, zones_call, ask_call}
@@ -98,7 +99,7 @@ module _ (A : Type 0) (laws : CallLaws A) (history : List Happening) (n : NodeSt
           reading = refl;
         }))
 
-  pub call_happens : (call : Call A) → IsCall call → DrawsFree A history n (called n call).report → IsIts A history n (Calls call) (called n call)
-  call_happens Zones range free = zones_call A laws history n st n.seat.router n.atp.reading refl free
-  call_happens (Ask node socket user bytes wanted xo retries) range free = ask_call A laws history n st node socket user bytes wanted xo retries range (nat_lt 578 (length bytes)) refl free
-  call_happens (Answer node socket tid packets) range free = answer_call node socket tid packets range (answer_fault n.atp.service_responder (record { from = at_socket n.seat node socket; tid = tid }) packets) refl
+  pub call_happens : (call : Call A) → IsCall call → is_atp (kind_of_call call) ≡ true → DrawsFree A history n (called n call).report → IsIts A history n (Calls call) (called n call)
+  call_happens Zones range own free = zones_call A laws history n st n.seat.router n.atp.reading refl free
+  call_happens (Ask node socket user bytes wanted xo retries) range own free = ask_call A laws history n st node socket user bytes wanted xo retries range (nat_lt 578 (length bytes)) refl free
+  call_happens (Answer node socket tid packets) range own free = answer_call node socket tid packets range (answer_fault n.atp.service_responder (record { from = at_socket n.seat node socket; tid = tid }) packets) refl

@@ -45,15 +45,14 @@ entries_foreign event (o ∷ out) all = (all.0, entries_foreign event out all.1)
 
 -- ---- reports of other protocols
 
-foreign_is_quiet : (A : Type 0) (act : Act A) (r : Report A) → is_atp (owner_of act r) ≡ false → is_quiet r act ≡ true
-foreign_is_quiet A (Calls call) (report.Begun tid) h = absurd (true≢false h)
-foreign_is_quiet A (Calls call) (report.Answered count) h = absurd (true≢false h)
-foreign_is_quiet A (Gets which) (report.Served count) h = absurd (true≢false h)
-foreign_is_quiet A (Gets which) (report.Asked k user bytes) h = absurd (true≢false h)
-foreign_is_quiet A (Gets which) (report.Response tid packets) h = absurd (true≢false h)
-foreign_is_quiet A (Fires (timer.Retry tid)) report.Done h = absurd (true≢false h)
-foreign_is_quiet A (Fires (timer.Release own node socket tid)) report.Done h = absurd (true≢false h)
-foreign_is_quiet A act r h = refl
+foreign_is_quiet : (A : Type 0) (r : Report A) (act : Act A) → is_atp (owner_of act r) ≡ false → is_quiet r act ≡ true
+foreign_is_quiet A (report.Begun tid) (Calls call) h = absurd (true≢false h)
+foreign_is_quiet A (report.Answered count) (Calls call) h = absurd (true≢false h)
+foreign_is_quiet A (report.Served count) (Gets which) h = absurd (true≢false h)
+foreign_is_quiet A (report.Asked k user bytes) (Gets which) h = absurd (true≢false h)
+foreign_is_quiet A (report.Response tid packets) (Gets which) h = absurd (true≢false h)
+foreign_is_quiet A report.Done (Fires (timer.Release own node socket tid)) h = absurd (true≢false h)
+foreign_is_quiet A r act h = refl
 
 foreign_draws_nothing : (A : Type 0) (act : Act A) (r : Report A) (event : ℕ) (who : Address) → is_atp (owner_of act r) ≡ false → numbers_drawn event who (drawn_by r) ≡ []
 foreign_draws_nothing A (Calls call) (report.Begun tid) event who h = absurd (true≢false h)
@@ -151,7 +150,7 @@ module _ (A : Type 0) (history : List Happening) (n : NodeState) (act : Act A) (
   )
 
   pub foreign_passes : (o : Outcome A NodeState) → IsForeign n act o → Passes A history n.seat.net n.seat.number n act o
-  foreign_passes o foreign = passing o foreign (foreign_is_quiet A act o.report foreign.reports) (foreign_draws_nothing A act o.report (after A history).event (asking n.seat.net n.seat.number) foreign.reports)
+  foreign_passes o foreign = passing o foreign (foreign_is_quiet A o.report act foreign.reports) (foreign_draws_nothing A act o.report (after A history).event (asking n.seat.net n.seat.number) foreign.reports)
 
   -- ---- one socket changes
 

@@ -32,7 +32,7 @@ is_quiet (report.Answered count) (Calls call) = false
 is_quiet (report.Served count) (Gets which) = false
 is_quiet (report.Asked k user bytes) (Gets which) = false
 is_quiet (report.Response tid packets) (Gets which) = false
-is_quiet report.Done (Fires time) = false
+is_quiet report.Done (Fires (timer.Release own node socket tid)) = false
 is_quiet r act = true
 
 no_begin : (A : Type 0) (net number : ℕ) (act : Act A) (r : Report A) (key : Key) → is_quiet r act ≡ true → began_under net number act r key ≡ false

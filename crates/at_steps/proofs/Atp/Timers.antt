@@ -16,6 +16,7 @@ use Rattle.at_atp_responder.specs.declared.reception.Key.{Key}
 use Rattle.at_atp.specs.Network as network
 use Rattle.at_atp.specs.Network.{Network, Happening, Expires, Retries, after, done, put, with_requester, with_responder}
 use Rattle.at_node.specs.AtpParts.{AtpState, serving, zones_at, asking}
+use Rattle.at_node.specs.Kinds.{kind_of_timer}
 use Rattle.at_node.specs.Nodes.{with_atp, NodeState, timed}
 use Rattle.at_node.specs.Outcomes.{over, Outcome, idle, refused_as}
 use Rattle.at_node.specs.RequesterSocket.{after_retry, retry_fired}
@@ -25,7 +26,7 @@ use Rattle.at_node.specs.ZoneReading.{is_reading, after_failing}
 use Rattle.at_node.specs.declared.event.Report.TheVariants as report
 use Rattle.at_node.specs.declared.event.Timer.{Timer}
 use Rattle.at_node.specs.declared.event.Timer.TheVariants as timer
-use Rattle.at_steps.specs.Acts.{Fires}
+use Rattle.at_steps.specs.Acts.{Fires, is_atp}
 use Rattle.at_steps.specs.AtpReports.{Matches}
 use Rattle.at_steps.specs.AtpHappenings.{Stands, IsOpen}
 use Rattle.at_steps.specs.AtpSteps.{Plain, Fails}
@@ -141,7 +142,7 @@ module _ (A : Type 0) (history : List Happening) (n : NodeState) (st : Stands A 
       (Plain (record { plain = refl; asked = refl; reading = refl }))
   release_happens false false None ex ey is = absurd (cc)
 
-pub timer_happens : (A : Type 0) (stays : StaysOpen) (history : List Happening) (n : NodeState) (st : Stands A history n.seat.net n.seat.number n) (time : Timer) → IsIts A history n (Fires time) (timed n time)
-timer_happens A stays history n st (timer.Retry tid) = retry_happens A stays history n st tid (retried n.atp.requester tid) refl
-timer_happens A stays history n st (timer.Release own node socket tid) =
+pub timer_happens : (A : Type 0) (stays : StaysOpen) (history : List Happening) (n : NodeState) (st : Stands A history n.seat.net n.seat.number n) (time : Timer) → is_atp (kind_of_timer time) ≡ true → IsIts A history n (Fires time) (timed n time)
+timer_happens A stays history n st (timer.Retry tid) its = retry_happens A stays history n st tid (retried n.atp.requester tid) refl
+timer_happens A stays history n st (timer.Release own node socket tid) its =
     release_happens A history n st own node socket tid (own == 129) (own == 6) (expiry_fault (find (is_key (record { from = at_socket n.seat node socket; tid = tid })) (records_at n.atp own))) refl refl refl

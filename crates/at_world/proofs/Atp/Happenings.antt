@@ -1,5 +1,5 @@
 -- How the machine follows each event of a node, by the laws of its steps.
-use Rattle.std.proofs.Common.{◌≡◌, ℕ, true, false, Option, Some, refl, sym, subst, ◌∙◌}
+use Rattle.std.proofs.Common.{◌≡◌, inl, inr, ℕ, Bool, true, false, Option, Some, refl, sym, subst, ◌∙◌}
 use Rattle.std.specs.List.{AllByRecursion}
 use Rattle.at_atp.specs.Network.{NoneHolds, after, done}
 use Rattle.at_zip.specs.Zones.{IsTable}
@@ -7,7 +7,7 @@ use Rattle.at_node.specs.AtpParts.{asking, serving, zones_at}
 use Rattle.at_node.specs.Calls.{IsCall}
 use Rattle.at_node.specs.Drawing.{draw_of}
 use Rattle.at_node.specs.Hearing.{Hears}
-use Rattle.at_node.specs.Kinds.{Kind, Nobody, Atp}
+use Rattle.at_node.specs.Kinds.{Kind, Atp, kind_of_call, kind_of_timer}
 use Rattle.at_node.specs.Nodes.{NodeState, called, timed}
 use Rattle.at_node.specs.Outcomes.{Outcome}
 use Rattle.at_node.specs.ServiceSocket.{is_asked}
@@ -28,21 +28,21 @@ use Rattle.at_world.specs.Sents.{SentDatagram}
 use Rattle.at_world.specs.Worlds.{WorldState, node_at, holds_some}
 use Rattle.at_world.specs.declared.event.Event.{Event}
 use Rattle.at_world.specs.declared.event.Event.TheVariants as event
-use Rattle.at_world.proofs.CableTie.{CableTie, SeatTie, AreOwned, seat_kept}
+use Rattle.at_world.proofs.CableTie.{CableTie, SeatTie, seat_kept}
 use Rattle.at_world.proofs.Atp.Coming.{Comes}
 use Rattle.at_world.proofs.Atp.Places.{requester_here, service_here, served_here}
 use Rattle.at_world.proofs.Atp.Steps.{step_becomes, pass_becomes}
-use Rattle.at_world.proofs.Atp.Tie.{Laws, AtpTie, Good, atp_is_owned, good_next}
+use Rattle.at_world.proofs.Atp.Tie.{Laws, AtpTie, Good, good_next}
 use Rattle.at_world.proofs.Atp.Times.{none_holds}
 
 -- at a report of another protocol a moment passes
 moment_passes : (A : Type 0) (c : Cable) (m : AtpMachine) (e : Event A) (r : Report A) (k : Kind) → is_atp k ≡ false → StepBy c m e r (next m) k
 moment_passes A c m e r Atp h = absurd (cc)
-moment_passes A c m e r Nobody h = refl
+moment_passes A c m e r other h = refl
 
--- the report is one that there is, a part speaks all that is sent, and the machine follows
+-- the report is one that there is, and the machine follows
 abbrev pub Follows : (A : Type 0) (w : WorldState) (c : Cable) (m : AtpMachine) (ct : CableTie w c) → AtpTie A w c ct.wires m → Event A → Outcome A NodeState → Type 0
-Follows A w c m ct t e o = IsSaid e o.report × AreOwned o.out × Good A w c m ct.wires t e o
+Follows A w c m ct t e o = IsSaid e o.report × Good A w c m ct.wires t e o
 
 module _ (A : Type 0) (laws : Laws A) (w : WorldState) (c : Cable) (m : AtpMachine) (ct : CableTie w c) (t : AtpTie A w c ct.wires m) (e : Event A) (n : NodeState) (stands : node_at w (node_of e) ≡ Some n) where
   its : SeatTie c (node_of e) n
@@ -81,11 +81,11 @@ module _ (A : Type 0) (laws : Laws A) (w : WorldState) (c : Cable) (m : AtpMachi
         go (x, step, sends) =
             let b = step_becomes A laws w c m ct.wires e n o.state o.report t stands its.router (done A (after A t.history) x.happening).asked
             (subst (λ ts. IsStep c.net (node_of e) n.seat.router (record { asked = ts; now_asked = (done A (after A t.history) x.happening).asked; part = n.atp; now = o.state.atp; act = act_of e; report = o.report })) t.asked step) in
-            (b.0, atp_is_owned o.out sends, good_next A w c ct.wires m e n o t stands x mine (done A (after A t.history) x.happening).asked refl b.1)
+            (b.0, good_next A w c ct.wires m e n o t stands x mine (done A (after A t.history) x.happening).asked refl b.1)
 
     -- a step of another protocol
-    pub passed : IsForeign n (act_of e) o → Good A w c m ct.wires t e o
-    passed foreign = go (at_place (λ net k. Passes A t.history net k n (act_of e) o) (laws.passes t.history n (act_of e) o stands_there foreign))
+    pub passed : IsForeign n (act_of e) o → Follows A w c m ct t e o
+    passed foreign = (foreign.said, go (at_place (λ net k. Passes A t.history net k n (act_of e) o) (laws.passes t.history n (act_of e) o stands_there foreign)))
       where
         go : Passes A t.history c.net (node_of e) n (act_of e) o → Good A w c m ct.wires t e o
         go (x, same) = good_next A w c ct.wires m e n o t stands x mine (done A (after A t.history) x.happening).asked refl
@@ -100,12 +100,22 @@ module _ (A : Type 0) (laws : Laws A) (w : WorldState) (c : Cable) (m : AtpMachi
 
 module _ (A : Type 0) (laws : Laws A) (w : WorldState) (c : Cable) (m : AtpMachine) (ct : CableTie w c) (t : AtpTie A w c ct.wires m) (k : ℕ) (n : NodeState) (stands : node_at w k ≡ Some n) where
   pub call_follows : (call : Call A) → IsCall call → holds_some w.nodes k (draw_of n call) ≡ false → (called n call).state.seat ≡ n.seat → Follows A w c m ct t (event.Call k call) (called n call)
-  call_follows call range free seat = happened A laws w c m ct t (event.Call k call) n stands (called n call) seat
-      (laws.called t.history n call (stands_there A laws w c m ct t (event.Call k call) n stands) range (draws_free A laws w c m ct t (event.Call k call) n stands (draw_of n call) free))
+  call_follows call range free seat = go (is_atp (kind_of_call call)) refl
+    where
+      go : (b : Bool) → is_atp (kind_of_call call) ≡ b → Follows A w c m ct t (event.Call k call) (called n call)
+      go true own = happened A laws w c m ct t (event.Call k call) n stands (called n call) seat
+          (laws.called t.history n call (stands_there A laws w c m ct t (event.Call k call) n stands) range own (draws_free A laws w c m ct t (event.Call k call) n stands (draw_of n call) free))
+      go false other = passed A laws w c m ct t (event.Call k call) n stands (called n call) seat (laws.foreign_call n call other)
 
   pub timer_follows : (time : Timer) → (timed {A = A} n time).state.seat ≡ n.seat → Follows A w c m ct t (event.Timer k time) (timed n time)
-  timer_follows time seat = happened A laws w c m ct t (event.Timer k time) n stands (timed n time) seat (laws.timed t.history n time (stands_there A laws w c m ct t (event.Timer k time) n stands))
+  timer_follows time seat = go (is_atp (kind_of_timer time)) refl
+    where
+      go : (b : Bool) → is_atp (kind_of_timer time) ≡ b → Follows A w c m ct t (event.Timer k time) (timed n time)
+      go true own = happened A laws w c m ct t (event.Timer k time) n stands (timed n time) seat (laws.timed t.history n time (stands_there A laws w c m ct t (event.Timer k time) n stands) own)
+      go false other = passed A laws w c m ct t (event.Timer k time) n stands (timed n time) seat (laws.foreign_timer n time other)
 
   pub datagram_follows : (which : ℕ) (d : SentDatagram) → Comes A w c m ct t which d → (said : Reply A) (o : Outcome A NodeState) → (is_asked o.report ≡ true → said ≡ Later) → Hears said n d.bytes o → o.state.seat ≡ n.seat → Follows A w c m ct t (event.Deliver which k) o
-  datagram_follows which d comes said o later hears seat = happened A laws w c m ct t (event.Deliver which k) n stands o seat
+  datagram_follows which d (inr x) said o later hears seat = passed A laws w c m ct t (event.Deliver which k) n stands o seat
+      (laws.foreign_datagram n which (x.0).to (x.0).from (x.0).kind (x.0).data_ said o x.2 (subst (λ (y : SentDatagram). Hears said n y.bytes o) x.1 hears))
+  datagram_follows which d (inl comes) said o later hears seat = happened A laws w c m ct t (event.Deliver which k) n stands o seat
       (laws.heard t.history n which comes.packet said o (stands_there A laws w c m ct t (event.Deliver which k) n stands) comes.was_sent comes.fresh later (subst (λ (x : SentDatagram). Hears said n x.bytes o) comes.spells hears))

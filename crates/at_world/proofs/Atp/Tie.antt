@@ -19,7 +19,7 @@ use Rattle.at_node.specs.Calls.{IsCall}
 use Rattle.at_node.specs.Drawing.{Carries, drawn_by, holds}
 use Rattle.at_node.specs.AtpParts.{asking, serving, zones_at, atp_kind}
 use Rattle.at_node.specs.Hearing.{Hears}
-use Rattle.at_node.specs.Kinds.{kind_of}
+use Rattle.at_node.specs.Kinds.{kind_of_call, kind_of_timer}
 use Rattle.at_node.specs.Nodes.{NodeState, called, timed}
 use Rattle.at_node.specs.Outcomes.{Outcome, Outgoing, posted}
 use Rattle.at_node.specs.ServiceSocket.{is_asked}
@@ -31,25 +31,28 @@ use Rattle.at_node.specs.declared.event.Report.{Report}
 use Rattle.at_node.specs.declared.event.Timer.{Timer}
 use Rattle.at_node.specs.declared.service.Reply.{Reply}
 use Rattle.at_node.specs.declared.service.Reply.TheVariants.{Later}
-use Rattle.at_steps.specs.Acts.{Act, Calls, Fires, Gets}
-use Rattle.at_steps.specs.AtpHappenings.{AreEntries, Happens, HoldsNo, IsForeign, IsHappening, IsOn, IsOpen, Passes, SendsAtp, Stands, numbers_drawn}
+use Rattle.at_steps.specs.Acts.{Act, Calls, Fires, Gets, is_atp}
+use Rattle.at_steps.specs.AtpHappenings.{AreEntries, Happens, HoldsNo, IsForeign, IsHappening, IsOn, IsOpen, Passes, Stands, numbers_drawn}
 use Rattle.at_world.specs.Draws.{noted as noted_in}
 use Rattle.at_steps.specs.AtpSteps.{page_answer}
 use Rattle.at_world.specs.AtpGuards.{AtpMachine, Reading, StepBy, since_of, next}
-use Rattle.at_world.specs.Cables.{Cable, IsSomebodys, owner_of}
+use Rattle.at_world.specs.Cables.{Cable, owner_of}
 use Rattle.at_world.specs.Events.{act_of, node_of}
 use Rattle.at_world.specs.Stories.{Grows, Matches}
 use Rattle.at_world.specs.Worlds.{WorldState, node_at, recorded}
 use Rattle.at_world.specs.declared.event.Event.{Event}
-use Rattle.at_world.proofs.CableTie.{Wire, wire, SeatTie, AreOwned, found_after}
+use Rattle.at_world.proofs.CableTie.{Wire, wire, SeatTie, found_after}
 use Rattle.at_world.proofs.Atp.Places.{requester_at, requester_after, records_at, records_after}
 use Rattle.at_world.proofs.Atp.Times.{IsNoted, all_noted, drawn_too}
 
 -- what the layers below promise
 pub record Laws (A : Type 0) : Type 0 where
-  pub called : (history : List Happening) (n : NodeState) (call : Call A) → Stands A history n.seat.net n.seat.number n → IsCall call → ((tid : ℕ) → drawn_by (called n call).report ≡ Some (Tid tid) → NoneHolds (after A history).responders (asking n.seat.net n.seat.number) tid)
+  pub foreign_call : (n : NodeState) (call : Call A) → is_atp (kind_of_call call) ≡ false → IsForeign n (Calls call) (called n call)
+  pub foreign_timer : (n : NodeState) (time : Timer) → is_atp (kind_of_timer time) ≡ false → IsForeign {A = A} n (Fires time) (timed n time)
+  pub foreign_datagram : (n : NodeState) (which : ℕ) (to from : Address) (kind : ℕ) (bytes : List ℕ) (said : Reply A) (o : Outcome A NodeState) → (kind == atp_kind) ≡ false → Hears said n (canonical to from kind bytes) o → IsForeign n (Gets which) o
+  pub called : (history : List Happening) (n : NodeState) (call : Call A) → Stands A history n.seat.net n.seat.number n → IsCall call → is_atp (kind_of_call call) ≡ true → ((tid : ℕ) → drawn_by (called n call).report ≡ Some (Tid tid) → NoneHolds (after A history).responders (asking n.seat.net n.seat.number) tid)
       → IsHappening A history n.seat.net n.seat.number n (Calls call) (called n call)
-  pub timed : (history : List Happening) (n : NodeState) (time : Timer) → Stands A history n.seat.net n.seat.number n → IsHappening A history n.seat.net n.seat.number n (Fires time) (timed n time)
+  pub timed : (history : List Happening) (n : NodeState) (time : Timer) → Stands A history n.seat.net n.seat.number n → is_atp (kind_of_timer time) ≡ true → IsHappening A history n.seat.net n.seat.number n (Fires time) (timed n time)
   pub heard : (history : List Happening) (n : NodeState) (which : ℕ) (s : Sent) (said : Reply A) (o : Outcome A NodeState) → Stands A history n.seat.net n.seat.number n → packet_at (after A history).sent which ≡ Some s → is_fresh (after A history).drawn s ≡ true → (is_asked o.report ≡ true → said ≡ Later)
       → Hears said n (canonical s.to s.from atp_kind (spelled s.packet)) o → IsHappening A history n.seat.net n.seat.number n (Gets which) o
   pub passes : (history : List Happening) (n : NodeState) (act : Act A) (o : Outcome A NodeState) → Stands A history n.seat.net n.seat.number n → IsForeign n act o → Passes A history n.seat.net n.seat.number n act o
@@ -141,10 +144,6 @@ entries_of event event' (o ∷ out) (Some s ∷ more) same all = (ap (wire event
 entries_of event event' (o ∷ out) (None ∷ more) same all = (all.0, entries_of event event' out more same all.1)
 entries_of event event' [] (x ∷ more) same all = absurd all
 entries_of event event' (o ∷ out) [] same all = absurd all
-
-pub atp_is_owned : (out : List Outgoing) → SendsAtp out → AreOwned out
-atp_is_owned [] all = tt
-atp_is_owned (o ∷ out) all = (subst (λ k. IsSomebodys (kind_of k)) (sym all.0) tt, atp_is_owned out all.1)
 
 -- ---- one step
 

@@ -7,4 +7,4 @@ returns g c =
     let A = g.row.A.Denot in
     let open_numbers = c.numbers_stay_open.ensures in
     let laws : CallLaws A = record { answers = c.responses_are_answers.ensures; drawn = open_numbers.drawn; few = c.no_more_is_sent_than_answered.ensures } in
-    λ history n call st range free. call_happens A laws history n st call range free
+    λ history n call st range own free. call_happens A laws history n st call range own free

@@ -23,7 +23,11 @@ pub returns : goal.returns
 returns g c s events reports w lawful =
     let A = g.row.A.Denot in
     let read = c.what_is_written_is_read.ensures in
+    let foreign = c.another_protocols_event_is_foreign.ensures in
     let laws : Laws A = record {
+      foreign_call = foreign.call;
+      foreign_timer = foreign.timer;
+      foreign_datagram = foreign.datagram;
       called = c.a_call_is_a_happening_of_atp.ensures;
       timed = c.a_timer_is_a_happening_of_atp.ensures;
       heard = c.a_packet_is_a_happening_of_atp.ensures;
