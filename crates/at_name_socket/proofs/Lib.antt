@@ -1,3 +1,4 @@
+mod OwedLemmas
 mod PacketSteps
 mod SocketLemmas
 mod StepLemmas

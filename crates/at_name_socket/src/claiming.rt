@@ -32,6 +32,8 @@ impl<A: Allocator + Copy> NameSocket<A> {
         ensures empty { IsErrOf result NbpFault.EmptyName ↔ ((is_no_text object || is_no_text kind) ≡ true) }
         ensures full { IsErrOf result NbpFault.LookupsFull
             ↔ (((is_no_text object || is_no_text kind) ≡ false) × (8 ≤ length self.old.lookups.searches)) }
+        ensures free { IfErr result (λ fault. fault ≢ NbpFault.EmptyName → fault ≢ NbpFault.LookupsFull
+            → IsSome (next_id self.old.lookups)) }
         ensures memory { IfErr result (λ fault. fault ≢ NbpFault.EmptyName → fault ≢ NbpFault.LookupsFull
             → fault ≡ NbpFault.NoMemory) }
         ensures unchanged { OnErr result (self.new ≡ self.old) }

@@ -4,7 +4,9 @@ ghost use Rattle.std.specs.Prelude.{IsErrOf, if◌then◌else◌};
 ghost use Rattle.std.specs.Option.{option_copied};
 ghost use Rattle.at_ddp.specs.Outbox.{Sends};
 ghost use Rattle.at_ddp.specs.declared.address.Address.{Address as At};
-ghost use Rattle.at_name_socket.specs.NameSockets.{AnswersTo, Hears, Relays, Takes, counted, is_node, zone_of, zone_or};
+ghost use Rattle.at_name_socket.specs.NameSockets.{AnswersTo, Hears, Relays, SocketState, Takes, counted};
+ghost use Rattle.at_name_socket.specs.NameSockets.{is_node, zone_of, zone_or};
+ghost use Rattle.at_name_socket.specs.declared.step.Heard.{Heard as Come};
 ghost use Rattle.at_nbp.specs.Fault.{IsFirstFault};
 ghost use Rattle.at_nbp.specs.Packets.{HasCount, packet_content};
 ghost use Rattle.at_nbp.specs.Tuples.{FitsStrings, content};
@@ -24,6 +26,8 @@ impl<A: Allocator + Copy> NameSocket<A> {
             × Sends out.old out.new pushes) }
         ensures refused { (fault : Fault) → IsFirstFault fault bytes.now → IsErrOf result fault }
         ensures fault { IfErr result (λ fault. fault ≢ NbpFault.NoMemory → IsFirstFault fault bytes.now) }
+        ensures owed { IfErr result (λ fault. fault ≡ NbpFault.NoMemory → (h : Come) × (new : SocketState)
+            × (pushes : List (At × List ℕ)) × Hears self.old bytes.now h new pushes) }
         ensures unchanged { OnErr result (self.new ≡ self.old) }
         ensures nothing_sent { OnErr result (Sends out.old out.new []) }
     {
@@ -43,6 +47,8 @@ impl<A: Allocator + Copy> NameSocket<A> {
         ensures ok { IfOk result (λ h. (pushes : List (At × List ℕ))
             × AnswersTo self.now packet.now.id (map content packet.now.tuples.items) h pushes
             × Sends out.old out.new pushes) }
+        ensures owed { OnErr result ((h : Come) × (pushes : List (At × List ℕ))
+            × AnswersTo self.now packet.now.id (map content packet.now.tuples.items) h pushes) }
         ensures nothing_sent { OnErr result (Sends out.old out.new []) }
     {
         let tuple = &packet.tuples[0];

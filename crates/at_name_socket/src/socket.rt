@@ -115,6 +115,7 @@ impl<A: Allocator + Copy> NameSocket<A> {
         ensures sent { IfOk result (λ id. Sends out.old out.new
             (sent_question self.old.lookups (beginning id pattern) ∷ [])) }
         ensures full { IsErrOf result NbpFault.LookupsFull ↔ (8 ≤ length self.old.lookups.searches) }
+        ensures free { IfErr result (λ fault. fault ≢ NbpFault.LookupsFull → IsSome (next_id self.old.lookups)) }
         ensures memory { IfErr result (λ fault. fault ≢ NbpFault.LookupsFull → fault ≡ NbpFault.NoMemory) }
         ensures unchanged { OnErr result (self.new ≡ self.old) }
         ensures nothing_sent { OnErr result (Sends out.old out.new []) }

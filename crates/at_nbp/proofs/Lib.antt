@@ -12,6 +12,7 @@ mod NumberLemmas
 mod PacketLemmas
 mod RangeHistories
 mod Ranges
+mod ReplyExistence
 mod ReplyLemmas
 mod StoodLemmas
 mod TupleLemmas

@@ -91,6 +91,7 @@ impl<A: Allocator + Copy> Lookup<A> {
         ensures state { IfOk result (λ id. self.new ≡ begun self.old (beginning id pattern)) }
         ensures sent { IfOk result (λ id. Sends out.old out.new (sent_question self.old (beginning id pattern) ∷ [])) }
         ensures full { IsErrOf result NbpFault.LookupsFull ↔ (8 ≤ length self.old.searches) }
+        ensures free { IfErr result (λ fault. fault ≢ NbpFault.LookupsFull → IsSome (next_id self.old)) }
         ensures memory { IfErr result (λ fault. fault ≢ NbpFault.LookupsFull → fault ≡ NbpFault.NoMemory) }
         ensures unchanged { OnErr result (self.new ≡ self.old) }
         ensures nothing_sent { OnErr result (Sends out.old out.new []) }

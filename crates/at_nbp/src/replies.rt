@@ -1,9 +1,9 @@
 //! The replies to a lookup: the names that match, as many in each reply as fit.
-ghost use Rattle.std.specs.Prelude.{◌≡◌, ◌<◌, ◌≤◌, [], All, length, map, IfOk, OnOk, OnErr};
+ghost use Rattle.std.specs.Prelude.{◌≡◌, ◌<◌, ◌≤◌, [], All, List, length, map, IfOk, IsOk, OnOk, OnErr};
 ghost use Rattle.at_ddp.specs.Outbox.{Sends};
-ghost use Rattle.at_nbp.specs.Replies.{Answers, IsFull, entry_in, matching, name_in};
+ghost use Rattle.at_nbp.specs.Replies.{Answers, AreReplies, IsFull, entry_in, matching, name_in};
 ghost use Rattle.at_nbp.specs.Names.{is_match};
-ghost use Rattle.at_nbp.specs.Tuples.{FitsStrings, content};
+ghost use Rattle.at_nbp.specs.Tuples.{Entry, FitsStrings, content};
 
 use crate::name::{Name, matches_texts};
 use crate::names::{Names, Registered};
@@ -14,7 +14,8 @@ use std::alloc::{AllocError, Allocator};
 
 impl<A: Allocator + Copy> Names<A> {
     /// Answers a lookup: sends the names that match its pattern to the socket that asked, in replies that are as full
-    /// as fit, and returns how many match. If none does, it sends nothing. The error is out of memory.
+    /// as fit, and returns how many match. If none does, it sends nothing and needs no memory. The error is out of
+    /// memory.
     pub fn answer(
         &self,
         id: u8,
@@ -25,10 +26,32 @@ impl<A: Allocator + Copy> Names<A> {
         ensures count { IfOk result (λ count. count ≡ length (matching self.now pattern.now)) }
         ensures sent { OnOk result (Answers (matching self.now pattern.now) id to out.old out.new) }
         ensures nothing_sent { OnErr result (Sends out.old out.new []) }
+        ensures ignored { length (matching self.now pattern.now) ≡ 0 → IsOk result }
+        ensures owed { OnErr result ((replies : List (List Entry))
+            × AreReplies (matching self.now pattern.now) replies) }
     {
+        let count = self.count_matching(pattern);
+        if count == 0 {
+            return Ok(0);
+        }
         let found = self.matching(pattern)?;
         send_replies(self.alloc, id, to, &found, out)?;
-        Ok(found.len())
+        Ok(count)
+    }
+
+    // How many names match. Their strings are read, so that it is known how short they are.
+    fn count_matching(&self, pattern: &Name) -> usize
+        ensures count { result ≡ length (matching self.now pattern.now) }
+        ensures short { All FitsStrings (matching self.now pattern.now) }
+    {
+        let mut count = 0;
+        for name in self.list.as_slice() {
+            if self.is_match(pattern, name) {
+                let _tuple = self.tuple_of(name);
+                count += 1;
+            }
+        }
+        count
     }
 
     // The names that match, as the tuples of replies.
