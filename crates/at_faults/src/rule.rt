@@ -27,7 +27,8 @@ pub enum Rule {
     #[error("`zones` wants names of 1 to 32 bytes, as in \"zones Lab Office\"")]
     Zones,
     /// `call N CALL ..`
-    #[error("`call` wants a node and `zones`, `ask` or `answer`, as in \"call 5 zones\"")]
+    #[error("`call` wants a node and `zones`, `ask`, `answer`, `find`, `claim`, `finish`, `register` or `unregister`, \
+        as in \"call 5 zones\"")]
     Call,
     /// `call N zones`
     #[error("`zones` wants nothing after it in a call, as in \"call 5 zones\"")]
@@ -40,6 +41,25 @@ pub enum Rule {
     #[error("`answer` wants a node, a socket, a transaction's number and packets, \
         as in \"call 7 answer 5 128 0 00000000:BB\"")]
     Answer,
+    /// `call N find TEXT TEXT [TEXT]`
+    #[error("`find` wants an object, a type, and a zone if needed, of at most 32 bytes each, \
+        as in \"call 5 find = LaserWriter\"")]
+    Find,
+    /// `call N claim TEXT TEXT SOCKET`
+    #[error("`claim` wants an object and a type of at most 32 bytes each, and a socket, 1 to 254, \
+        as in \"call 5 claim Printer LaserWriter 130\"")]
+    Claim,
+    /// `call N finish ID`
+    #[error("`finish` wants a lookup's identifier, 0 to 255, as in \"call 5 finish 0\"")]
+    Finish,
+    /// `call N register TEXT TEXT SOCKET`
+    #[error("`register` wants an object and a type of at most 32 bytes each, and a socket, 1 to 254, \
+        as in \"call 7 register Printer LaserWriter 130\"")]
+    Register,
+    /// `call N unregister TEXT TEXT`
+    #[error("`unregister` wants an object and a type of at most 32 bytes each, \
+        as in \"call 7 unregister Printer LaserWriter\"")]
+    Unregister,
     /// Pairs of hexadecimal digits, or `-`.
     #[error("data is pairs of hexadecimal digits, or `-` for no bytes")]
     Data,
@@ -47,7 +67,7 @@ pub enum Rule {
     #[error("`deliver` wants a datagram's number and a node, as in \"deliver 0 1\"")]
     Deliver,
     /// `timer N TIMER ..`
-    #[error("`timer` wants a node and `retry` or `release`, as in \"timer 5 retry 0\"")]
+    #[error("`timer` wants a node and `retry`, `release` or `lookup`, as in \"timer 5 retry 0\"")]
     Timer,
     /// `timer N retry T`
     #[error("`retry` wants a transaction's number, 0 to 65535, as in \"timer 5 retry 0\"")]
@@ -56,6 +76,9 @@ pub enum Rule {
     #[error("`release` wants socket 6 or 129, and a request's node, socket and number, \
         as in \"timer 7 release 129 5 128 0\"")]
     Release,
+    /// `timer N lookup ID`
+    #[error("`lookup` wants a lookup's identifier, 0 to 255, as in \"timer 5 lookup 0\"")]
+    Lookup,
     /// `net` comes before all other lines.
     #[error("`net` comes first, as in \"net 10\"")]
     NetFirst,

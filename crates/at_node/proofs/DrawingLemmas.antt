@@ -1,5 +1,5 @@
 -- The numbers that packets carry.
-use Rattle.std.proofs.Common.{◌≡◌, zero, suc, [], ◌∷◌, Option, Some, None, refl, arith}
+use Rattle.std.proofs.Common.{◌≡◌, ℕ, zero, suc, [], ◌∷◌, Option, Some, None, refl, ap, arith}
 use Rattle.std.specs.List.{Contains}
 use Rattle.at_atp_frame.specs.Frames.{Content, Request, Response, Release}
 use Rattle.at_atp_frame.specs.Frames.{number_of}
@@ -15,3 +15,9 @@ pub is_first : {X : Type 0} (o : Option X) (x : X) → Contains (o ∷ None ∷ 
 is_first o x (zero, within, is) = is
 is_first o x (suc zero, within, is) = absurd (cc)
 is_first o x (suc (suc k), within, is) = absurd (omega arith)
+
+some_same : (x y : ℕ × ℕ) → Some x ≡ Some y → x ≡ y
+some_same x y h = cc
+
+pub same_pair : (a b c d : ℕ) → ◌≡◌ {A = Option (ℕ × ℕ)} (Some (a, b)) (Some (c, d)) → (a ≡ c) × (b ≡ d)
+same_pair a b c d h = let same = some_same (a, b) (c, d) h in (ap (λ (p : ℕ × ℕ). p.0) same, ap (λ (p : ℕ × ℕ). p.1) same)

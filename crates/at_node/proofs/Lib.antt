@@ -1,4 +1,5 @@
 mod DrawingLemmas
+mod NameLemmas
 mod OutcomeLemmas
 mod PostLemmas
 mod RequesterLemmas

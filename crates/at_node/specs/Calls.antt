@@ -1,10 +1,16 @@
 -- Calls whose parts are in the range of their types.
-use Rattle.std.specs.Prelude.{◌≡◌, ◌<◌, ◌≤◌, length}
+use Rattle.std.specs.Prelude.{◌≡◌, ℕ, ◌<◌, ◌≤◌, List, length, Option, Some, None}
 use Rattle.std.specs.List.{AllByRecursion}
 use Rattle.at_ddp.specs.Datagram.{AreBytes}
 use Rattle.at_atp_frame.specs.Packets.{AreWords}
+use Rattle.at_nbp.specs.Tuples.{IsString}
 use Rattle.at_node.specs.declared.event.Call.{Call}
-use Rattle.at_node.specs.declared.event.Call.TheVariants.{Ask, Answer}
+use Rattle.at_node.specs.declared.event.Call.TheVariants.{Ask, Answer, Find, Claim, Finish, Register, Unregister}
+
+-- the zone of a pattern, if it has one
+abbrev pub IsZone : Option (List ℕ) → Type 0
+IsZone None = Unit {0}
+IsZone (Some zone) = IsString zone
 
 -- the parts of a call are in the range of their types
 abbrev pub IsCall : {A : Type 0} → Call A → Type 0
@@ -12,4 +18,9 @@ IsCall (Ask node socket user bytes wanted xo retries) =
     (node < 256) × (socket < 256) × (length user ≡ 4) × AreBytes user × AreBytes bytes × (1 ≤ wanted) × (wanted ≤ 8)
 IsCall (Answer node socket tid packets) =
     (node < 256) × (socket < 256) × (tid < 65536) × AllByRecursion AreWords packets
+IsCall (Find object kind zone) = IsString object × IsString kind × IsZone zone
+IsCall (Claim object kind socket) = IsString object × IsString kind × (socket < 256)
+IsCall (Finish id) = id < 256
+IsCall (Register object kind socket) = IsString object × IsString kind × (socket < 256)
+IsCall (Unregister object kind) = IsString object × IsString kind
 IsCall call = Unit {0}

@@ -1,5 +1,5 @@
 -- What comes of received bytes: the first fault that they have, or what their datagram does to a part of the node.
-use Rattle.std.specs.Prelude.{MatchBool, ◌≡◌, ℕ, ◌==◌, List, Some, ◌⊎◌}
+use Rattle.std.specs.Prelude.{MatchBool, ◌≡◌, ℕ, ◌==◌, ◌||◌, List, Some, ◌⊎◌}
 use Rattle.at_ddp.specs.Datagram.{Content as Datagram, BeginsWith}
 use Rattle.at_ddp.specs.Fault as ddp
 use Rattle.at_ddp.specs.declared.address.Address.{Address}
@@ -9,18 +9,22 @@ use Rattle.at_node.specs.declared.event.Report.TheVariants as report
 use Rattle.at_node.specs.declared.service.Reply.{Reply}
 use Rattle.at_node.specs.AtpHearing.{AtSocket, HearsAtp, atp_socket}
 use Rattle.at_node.specs.AtpParts.{atp_kind}
-use Rattle.at_node.specs.Nodes.{NodeState, with_atp}
+use Rattle.at_node.specs.NameCalls.{nbp_kind}
+use Rattle.at_node.specs.NameHearing.{HearsNames}
+use Rattle.at_node.specs.Nodes.{NodeState, with_atp, with_names}
 use Rattle.at_node.specs.Outcomes.{Outcome, Over, idle}
-use Rattle.at_node.specs.Seats.{is_mine}
+use Rattle.at_node.specs.Seats.{is_for_all, is_mine}
 
 -- which part a datagram is for, by its protocol; that of a protocol which no part speaks is ignored
 abbrev pub HearsMine : {A : Type 0} → Reply A → NodeState → Datagram → Outcome A NodeState → Type 0
 HearsMine said n d o =
-    MatchBool (d.kind == atp_kind) (Over (with_atp n) (HearsAtp said n.seat n.atp d) o) (o ≡ idle n report.Ignored)
+    MatchBool (d.kind == atp_kind) (Over (with_atp n) (HearsAtp said n.seat n.atp d) o)
+    (MatchBool (d.kind == nbp_kind) (Over (with_names n) (HearsNames n.seat n.names d) o) (o ≡ idle n report.Ignored))
 
 -- what is for another node is ignored
 abbrev pub HearsIt : {A : Type 0} → Reply A → NodeState → Datagram → Outcome A NodeState → Type 0
-HearsIt said n d o = MatchBool (is_mine n.seat d.to) (HearsMine said n d o) (o ≡ idle n report.Ignored)
+HearsIt said n d o =
+    MatchBool (is_for_all n.seat d.kind d.to || is_mine n.seat d.to) (HearsMine said n d o) (o ≡ idle n report.Ignored)
 
 pub record HearsDatagram {A : Type 0} (said : Reply A) (n : NodeState) (bytes : List ℕ)
     (o : Outcome A NodeState) : Type 0 where

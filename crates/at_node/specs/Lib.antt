@@ -5,6 +5,8 @@ pub mod Drawing
 pub mod Faults
 pub mod Hearing
 pub mod Kinds
+pub mod NameCalls
+pub mod NameHearing
 pub mod Nodes
 pub mod Outcomes
 pub mod RequesterSocket

@@ -1,13 +1,19 @@
 -- A node: its seat and its parts, and which part has each call and each timer.
 use Rattle.std.specs.Prelude.{ℕ, List, Option}
 use Rattle.at_atp_requester.specs.Requests.{retried}
+use Rattle.at_name_socket.specs.NameSockets as names
+use Rattle.at_name_socket.specs.NameSockets.{SocketState}
+use Rattle.at_name_socket.specs.declared.neighbour.Neighbour.{Neighbour}
 use Rattle.at_node.specs.declared.event.Call.{Call}
 use Rattle.at_node.specs.declared.event.Call.TheVariants.{Zones, Ask, Answer}
+use Rattle.at_node.specs.declared.event.Call.TheVariants.{Find, Claim, Finish, Register, Unregister}
 use Rattle.at_node.specs.declared.event.Timer.{Timer}
 use Rattle.at_node.specs.declared.event.Timer.TheVariants as timer
 use Rattle.at_node.specs.declared.seat.Seat.{Seat}
 use Rattle.at_node.specs.AtpParts as atp
 use Rattle.at_node.specs.AtpParts.{AtpState}
+use Rattle.at_node.specs.NameCalls.{claim_called, find_called, finish_called, lookup_fired, pattern_asked}
+use Rattle.at_node.specs.NameCalls.{register_called, unregister_called}
 use Rattle.at_node.specs.Outcomes.{Outcome, over}
 use Rattle.at_node.specs.RequesterSocket.{ask_called, retry_fired}
 use Rattle.at_node.specs.Responders.{release_fired}
@@ -18,16 +24,22 @@ use Rattle.at_node.specs.ZoneReading.{zones_called}
 pub record NodeState : Type 0 where
   pub seat : Seat
   pub atp : AtpState
+  pub names : SocketState
 
-abbrev pub opening : ℕ → ℕ → Option ℕ → Option (List (List ℕ)) → NodeState
-opening net number router table = record {
+-- the zone table and the nodes of the cable are the router's alone
+abbrev pub opening : ℕ → ℕ → Option ℕ → Option (List ℕ) → Option (List (List ℕ)) → Option (List Neighbour) → NodeState
+opening net number router zone table neighbours = record {
   seat = record { net = net; number = number; router = router };
   atp = atp.opening table;
+  names = names.opening net number router zone neighbours;
 }
 
 -- a new state of one part
 abbrev pub with_atp : NodeState → AtpState → NodeState
 with_atp n part = record n { atp = part }
+
+abbrev pub with_names : NodeState → SocketState → NodeState
+with_names n part = record n { names = part }
 
 abbrev pub called : {A : Type 0} → NodeState → Call A → Outcome A NodeState
 called n Zones = over (with_atp n) (zones_called n.seat n.atp n.seat.router n.atp.reading)
@@ -35,8 +47,15 @@ called n (Ask node socket user bytes wanted xo retries) =
     over (with_atp n) (ask_called n.seat n.atp (at_socket n.seat node socket) user bytes wanted xo retries)
 called n (Answer node socket tid packets) =
     over (with_atp n) (answer_called n.seat n.atp (record { from = at_socket n.seat node socket; tid = tid }) packets)
+called n (Find object kind zone) =
+    over (with_names n) (find_called n.seat n.names (pattern_asked object kind zone))
+called n (Claim object kind socket) = over (with_names n) (claim_called n.seat n.names object kind socket)
+called n (Finish id) = over (with_names n) (finish_called n.names id)
+called n (Register object kind socket) = over (with_names n) (register_called n.names object kind socket)
+called n (Unregister object kind) = over (with_names n) (unregister_called n.names object kind)
 
 abbrev pub timed : {A : Type 0} → NodeState → Timer → Outcome A NodeState
 timed n (timer.Retry tid) = over (with_atp n) (retry_fired n.seat n.atp tid (retried n.atp.requester tid))
 timed n (timer.Release own node socket tid) =
     over (with_atp n) (release_fired n.atp own (record { from = at_socket n.seat node socket; tid = tid }))
+timed n (timer.Lookup id) = over (with_names n) (lookup_fired n.seat n.names id)

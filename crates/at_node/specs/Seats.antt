@@ -1,6 +1,7 @@
 -- Where a node stands on its cable.
 use Rattle.std.specs.Prelude.{ℕ, ◌==◌, ◌&&◌, ◌||◌, Bool}
 use Rattle.at_ddp.specs.declared.address.Address.{Address}
+use Rattle.at_node.specs.NameCalls.{nbp_kind}
 use Rattle.at_node.specs.declared.seat.Seat.{Seat}
 
 -- an address on the node's own network
@@ -10,3 +11,7 @@ at_socket s node socket = record { net = s.net; node = node; socket = socket }
 -- a datagram to this address is for the node: it is on the node's network, or on network 0
 abbrev pub is_mine : Seat → Address → Bool
 is_mine s to = ((to.net == s.net) || (to.net == 0)) && (to.node == s.number)
+
+-- so is a datagram of NBP to every node
+abbrev pub is_for_all : Seat → ℕ → Address → Bool
+is_for_all s kind to = (kind == nbp_kind) && (((to.net == s.net) || (to.net == 0)) && (to.node == 255))

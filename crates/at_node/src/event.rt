@@ -1,8 +1,11 @@
-ghost use Rattle.at_node.specs.Calls.{IsCall};
+ghost use Rattle.std.specs.Prelude.{◌<◌};
+ghost use Rattle.at_nbp.specs.Tuples.{IsString};
+ghost use Rattle.at_node.specs.Calls.{IsCall, IsZone};
 
 use crate::packet_count::PacketCount;
 use at_atp::{Key, Packet, ranges_of, ranges_of_bytes};
 use at_ddp::{Bytes, Listed, Pascal};
+use at_nbp::Find;
 use std::alloc::{Allocator, Global};
 
 /// A call by the node's user.
@@ -30,6 +33,35 @@ pub enum Call<A: Allocator = Global> {
         socket: u8,
         tid: u16,
         packets: Listed<Packet<A>, A>,
+    },
+    /// Looks names up: `=` stands for any object or type, and `*` for any zone. Without a zone it asks for any.
+    Find {
+        object: Pascal,
+        /// The type of the object.
+        kind: Pascal,
+        zone: Option<Pascal>,
+    },
+    /// Looks a name up, which is to be registered for a socket if nobody has it.
+    Claim {
+        object: Pascal,
+        kind: Pascal,
+        socket: u8,
+    },
+    /// Ends a lookup, and with it a claim.
+    Finish {
+        /// The identifier of the lookup.
+        id: u8,
+    },
+    /// Registers a name for a socket, whoever has it elsewhere.
+    Register {
+        object: Pascal,
+        kind: Pascal,
+        socket: u8,
+    },
+    /// Takes a name away.
+    Unregister {
+        object: Pascal,
+        kind: Pascal,
     },
 }
 
@@ -61,9 +93,59 @@ impl<A: Allocator> Call<A> {
                 let _key = (*node, *socket, *tid);
                 ranges_of(packets.as_slice());
             }
-            _ => {}
+            Call::Find { object, kind, zone } => {
+                ranges_of_name(object, kind);
+                ranges_of_zone(zone);
+            }
+            Call::Claim {
+                object,
+                kind,
+                socket,
+            } => ranges_of_own(object, kind, *socket),
+            Call::Register {
+                object,
+                kind,
+                socket,
+            } => ranges_of_own(object, kind, *socket),
+            Call::Unregister { object, kind } => ranges_of_name(object, kind),
+            Call::Finish { id } => {
+                let _id = *id;
+            }
+            Call::Zones => {}
         }
     }
+}
+
+// A name of a socket.
+fn ranges_of_own(object: &Pascal, kind: &Pascal, socket: u8)
+    ensures object { IsString object.now }
+    ensures kind { IsString kind.now }
+    ensures socket { socket < 256 }
+{
+    let _socket = socket;
+    ranges_of_name(object, kind);
+}
+
+fn ranges_of_name(object: &Pascal, kind: &Pascal)
+    ensures object { IsString object.now }
+    ensures kind { IsString kind.now }
+{
+    ranges_of_text(object);
+    ranges_of_text(kind);
+}
+
+fn ranges_of_zone(zone: &Option<Pascal>)
+    ensures { IsZone zone.now }
+{
+    if let Some(zone) = zone {
+        ranges_of_text(zone);
+    }
+}
+
+fn ranges_of_text(text: &Pascal)
+    ensures { IsString text.now }
+{
+    ranges_of_bytes(text.bytes());
 }
 
 /// A timer that fires.
@@ -80,6 +162,10 @@ pub enum Timer {
         node: u8,
         socket: u8,
         tid: u16,
+    },
+    /// A lookup is to be asked again.
+    Lookup {
+        id: u8,
     },
 }
 
@@ -115,6 +201,22 @@ pub enum Report<A: Allocator = Global> {
     },
     /// A transaction ended without an answer, since no retry was left.
     Failed(u16),
+    /// A lookup began under this identifier.
+    Looking(u8),
+    /// A lookup ended with these finds, in the order in which they came.
+    Found(Listed<Find, A>),
+    /// A claim ended: nobody had the name, and now it is registered.
+    Claimed,
+    /// A claim ended: this node or another has the name.
+    Taken(Find),
+    /// A name was registered.
+    Registered,
+    /// The router asked every node for names.
+    Relayed,
+    /// A lookup was answered with so many names.
+    Names(usize),
+    /// So many finds of a reply are new.
+    Finds(usize),
     /// Something was sent again, or a request that still waits came again.
     Again,
     /// The answer to an exactly-once request arrived complete, and is no longer kept.

@@ -7,6 +7,8 @@ mod event;
 mod fault;
 mod incoming;
 pub mod laws;
+mod name_calls;
+mod name_part;
 mod node;
 mod packet_count;
 mod requester_socket;

@@ -1,6 +1,7 @@
-ghost use Rattle.std.specs.Prelude.{◌≡◌, ℕ, List, false};
+ghost use Rattle.std.specs.Prelude.{◌≡◌, ℕ, List, Option, false};
 ghost use Rattle.at_ddp.specs.Datagram.{content};
 ghost use Rattle.at_node.specs.Hearing.{HearsIt, Hears};
+ghost use Rattle.at_node.specs.Kinds.{Nbp, kind_of_call};
 ghost use Rattle.at_node.specs.Nodes.{opening, called, timed};
 ghost use Rattle.at_node.specs.Outcomes.{Comes, IsStep, refused_as};
 ghost use Rattle.at_node.specs.ServiceSocket.{Serves, is_asked};
@@ -8,11 +9,14 @@ ghost use Rattle.at_node.specs.declared.service.Reply.{Reply};
 
 use crate::atp_part::{ATP, AtpPart};
 use crate::event::{Call, Report, Timer};
+use crate::name_calls::pattern_asked;
+use crate::name_part::{NBP, NamePart};
 use crate::requester_socket::Question;
 use crate::seat::Seat;
 use crate::service::Service;
 use at_atp::Key;
-use at_ddp::{Datagram, Datagrams, decode};
+use at_ddp::{Datagram, Datagrams, Listed, Pascal, decode};
+use at_name_socket::Neighbour;
 use at_zip::Zones;
 use std::alloc::{Allocator, Global};
 use std::marker::Model;
@@ -22,6 +26,7 @@ use std::marker::Model;
 pub struct Node<A: Allocator = Global> {
     pub(crate) seat: Seat,
     pub(crate) atp: AtpPart<A>,
+    pub(crate) names: NamePart<A>,
 }
 
 impl<A: Allocator> Model for Node<A> {
@@ -29,28 +34,33 @@ impl<A: Allocator> Model for Node<A> {
 
     ghost Value = { NodeState };
 
-    ghost view = { λ n. record { seat = n.seat; atp = n.atp } };
+    ghost view = { λ n. record { seat = n.seat; atp = n.atp; names = n.names } };
 }
 
 impl<A: Allocator + Copy> Node<A> {
     /// A node with a number from 1 to 254 on a network from 1 to 65,535. `router` is the number of the cable's router,
-    /// if it has one. `zones` is the router's table, if this node is the router.
+    /// if it has one, and `zone` the node's zone. `zones` is the zone table and `neighbours` are the nodes of the
+    /// cable, if this node is the router.
     pub fn new(
         alloc: A,
         net: u16,
         number: u8,
         router: Option<u8>,
+        zone: Option<Pascal>,
         zones: Option<Zones<A>>,
+        neighbours: Option<Listed<Neighbour, A>>,
     ) -> Node<A>
-        ensures { result ≡ opening net number router zones }
+        ensures { result ≡ opening net number router zone zones neighbours }
     {
+        let seat = Seat {
+            net,
+            number,
+            router,
+        };
         Node {
-            seat: Seat {
-                net,
-                number,
-                router,
-            },
+            seat,
             atp: AtpPart::new(alloc, zones),
+            names: NamePart::new(alloc, seat, zone, neighbours),
         }
     }
 
@@ -96,6 +106,33 @@ impl<A: Allocator + Copy> Node<A> {
                 let key = Key { from, tid: *tid };
                 self.atp.answer(self.seat, key, packets.as_slice(), out)
             }
+            _ => self.call_names(call, out),
+        }
+    }
+
+    // Plays a call of the socket for names.
+    fn call_names(&mut self, call: &Call<A>, out: &mut Datagrams<A>) -> Report<A>
+        requires { kind_of_call call.now ≡ Nbp }
+        ensures { IsStep (called self.old call.now) self.old out.old.items result self.new out.new.items }
+    {
+        match call {
+            Call::Find { object, kind, zone } => {
+                self.names
+                    .find(self.seat, pattern_asked(object, kind, zone), out)
+            }
+            Call::Claim {
+                object,
+                kind,
+                socket,
+            } => self.names.claim(self.seat, object, kind, *socket, out),
+            Call::Finish { id } => self.names.finish(*id),
+            Call::Register {
+                object,
+                kind,
+                socket,
+            } => self.names.register(object, kind, *socket),
+            Call::Unregister { object, kind } => self.names.unregister(object, kind),
+            _ => unreachable!(),
         }
     }
 
@@ -114,6 +151,7 @@ impl<A: Allocator + Copy> Node<A> {
                 let from = self.seat.there(node, socket);
                 self.atp.expire(own, Key { from, tid })
             }
+            Timer::Lookup { id } => self.names.ask_again(self.seat, id, out),
         }
     }
 
@@ -146,11 +184,14 @@ impl<A: Allocator + Copy> Node<A> {
             × Comes (HearsIt said self.old (content datagram.now)) self.old out.old.items result self.new out.new.items
             × Serves S.serves result said service.old service.new }
     {
-        if !self.seat.is_mine(datagram.to) {
+        if !self.seat.is_for(datagram.kind, datagram.to) {
             return Report::Ignored;
         }
         if datagram.kind == ATP {
             return self.atp.hear(self.seat, service, datagram, out);
+        }
+        if datagram.kind == NBP {
+            return self.names.hear(self.seat, datagram, out);
         }
         Report::Ignored
     }

@@ -1,7 +1,11 @@
-ghost use Rattle.std.specs.Prelude.{◌≡◌};
-ghost use Rattle.at_node.specs.Seats.{at_socket, is_mine};
+ghost use Rattle.std.specs.Prelude.{◌≡◌, ◌||◌};
+ghost use Rattle.at_node.specs.Seats.{at_socket, is_for_all, is_mine};
 
+use crate::name_part::NBP;
 use at_ddp::Address;
+
+/// The node number that means every node.
+const EVERY_NODE: u8 = 255;
 
 // Where a node stands: its network, its number, and the number of the cable's router, if there is one.
 #[derive(Clone, Copy)]
@@ -30,8 +34,22 @@ impl Seat {
         }
     }
 
-    // Whether a datagram to this address is for the node.
-    pub(crate) fn is_mine(self, to: Address) -> bool
+    // Whether a datagram of a protocol to this address is for the node.
+    pub(crate) fn is_for(self, kind: u8, to: Address) -> bool
+        ensures { result ≡ (is_for_all self kind to || is_mine self to) }
+    {
+        self.is_for_all(kind, to) || self.is_mine(to)
+    }
+
+    // NBP alone sends to every node.
+    fn is_for_all(self, kind: u8, to: Address) -> bool
+        ensures { result ≡ is_for_all self kind to }
+    {
+        kind == NBP && ((to.net == self.net || to.net == 0) && to.node == EVERY_NODE)
+    }
+
+    // Whether an address is one of the node's own.
+    fn is_mine(self, to: Address) -> bool
         ensures { result ≡ is_mine self to }
     {
         (to.net == self.net || to.net == 0) && to.node == self.number

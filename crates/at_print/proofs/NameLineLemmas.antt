@@ -11,7 +11,7 @@ use Rattle.at_nbp.specs.declared.tuple.Tuple.{Tuple}
 use Rattle.at_print.specs.Lines.{address_text}
 use Rattle.at_print.specs.NameLines.{function_word, names_lines, tuple_line}
 use Rattle.at_print.specs.Printers.{Prints}
-use Rattle.at_print.specs.Reports.{text_word}
+use Rattle.at_print.specs.Reports.{name_text, text_word}
 use Rattle.at_print.specs.declared.printer.Printer.{Printer}
 use Rattle.at_print.proofs.PrintLemmas.{Prints-five, Prints-trans}
 
@@ -23,14 +23,17 @@ pub lines_of : (tuples : List Tuple) → flat_map line_of tuples ≡ flat_map tu
 lines_of tuples = sym (flat_map-map tuple_line content tuples)
 
 module _ {W : Type 0} (contents : W → Option (List ℕ)) where
-  pub tuple_prints : (a b c d e f g h i j : Printer W) (t : Entry) → Prints contents a b (codes "tuple ") → Prints contents b c (text_word t.object) → Prints contents c d (codes ":")
-      → Prints contents d e (text_word t.kind) → Prints contents e f (codes "@") → Prints contents f g (text_word t.zone) → Prints contents g h (codes " ")
-      → Prints contents h i (address_text t.address) → Prints contents i j (codes " enumerator " ++ (decimal t.enumerator ++ codes "\n")) → Prints contents a j (tuple_line t)
-  tuple_prints a b c d e f g h i j t p1 p2 p3 p4 p5 p6 p7 p8 p9 =
-      let place = Prints-trans contents g h j _ _ p7 (Prints-trans contents h i j _ _ p8 p9) in
-      let zone = Prints-trans contents e f j _ _ p5 (Prints-trans contents f g j _ _ p6 place) in
-      let kind = Prints-trans contents c d j _ _ p3 (Prints-trans contents d e j _ _ p4 zone) in
-      Prints-trans contents a b j _ _ p1 (Prints-trans contents b c j _ _ p2 kind)
+  pub name_prints : (a b c d e f : Printer W) (object kind zone : List ℕ) → Prints contents a b (text_word object) → Prints contents b c (codes ":") → Prints contents c d (text_word kind)
+      → Prints contents d e (codes "@") → Prints contents e f (text_word zone) → Prints contents a f (name_text object kind zone)
+  name_prints a b c d e f object kind zone p1 p2 p3 p4 p5 =
+      let typed = Prints-trans contents c d f _ _ p3 (Prints-trans contents d e f _ _ p4 p5) in
+      Prints-trans contents a b f _ _ p1 (Prints-trans contents b c f _ _ p2 typed)
+
+  pub tuple_prints : (a b c d e f : Printer W) (t : Entry) → Prints contents a b (codes "tuple ") → Prints contents b c (name_text t.object t.kind t.zone) → Prints contents c d (codes " ")
+      → Prints contents d e (address_text t.address) → Prints contents e f (codes " enumerator " ++ (decimal t.enumerator ++ codes "\n")) → Prints contents a f (tuple_line t)
+  tuple_prints a b c d e f t p1 p2 p3 p4 p5 =
+      let place = Prints-trans contents c d f _ _ p3 (Prints-trans contents d e f _ _ p4 p5) in
+      Prints-trans contents a b f _ _ p1 (Prints-trans contents b c f _ _ p2 place)
 
   pub names_print : (a b c d e : Printer W) (p : Content) (count : ℕ) → count ≡ length p.tuples → Prints contents a b (codes "nbp ") → Prints contents b c (function_word p.function)
       → Prints contents c d (codes " id " ++ (decimal p.id ++ (codes " count " ++ (decimal count ++ codes "\n")))) → Prints contents d e (flat_map tuple_line p.tuples)

@@ -7,7 +7,7 @@ use Rattle.at_nbp.specs.Tuples.{Entry}
 use Rattle.at_nbp.specs.declared.function.Function.{Function}
 use Rattle.at_nbp.specs.declared.function.Function.TheVariants.{BroadcastRequest, LookUp, Reply, ForwardRequest}
 use Rattle.at_print.specs.Lines.{address_text}
-use Rattle.at_print.specs.Reports.{text_word}
+use Rattle.at_print.specs.Reports.{name_text}
 
 abbrev pub function_word : Function → List ℕ
 function_word BroadcastRequest = codes "brrq"
@@ -18,7 +18,7 @@ function_word ForwardRequest = codes "fwdreq"
 -- a name, the address that has it, and the enumerator
 abbrev pub tuple_line : Entry → List ℕ
 tuple_line t = concat (
-    codes "tuple " ∷ text_word t.object ∷ codes ":" ∷ text_word t.kind ∷ codes "@" ∷ text_word t.zone ∷ codes " "
+    codes "tuple " ∷ name_text t.object t.kind t.zone ∷ codes " "
     ∷ address_text t.address ∷ codes " enumerator " ∷ decimal t.enumerator ∷ codes "\n" ∷ [])
 
 -- the packet's line, and a line for each tuple

@@ -5,6 +5,7 @@ use Rattle.std.specs.Char.{is_ascii_alphanumeric}
 use Rattle.std.specs.Fmt.{decimal}
 use Rattle.at_atp_frame.specs.Packets.{Packet}
 use Rattle.at_atp_responder.specs.declared.reception.Key.{Key}
+use Rattle.at_nbp.specs.declared.find.Find.{Find}
 use Rattle.at_node.specs.declared.event.Report.{Report}
 use Rattle.at_node.specs.declared.event.Report.TheVariants as report
 use Rattle.at_world.specs.Sents.{SentDatagram}
@@ -26,6 +27,21 @@ glyph c = if stands_for_itself c then c ∷ [] else codes "%" ++ pairs (c ∷ []
 abbrev pub text_word : List ℕ → List ℕ
 text_word [] = codes "%"
 text_word (c ∷ text) = flat_map glyph (c ∷ text)
+
+-- an object, a type and a zone
+abbrev pub name_text : List ℕ → List ℕ → List ℕ → List ℕ
+name_text object kind zone =
+    text_word object ++ (codes ":" ++ (text_word kind ++ (codes "@" ++ text_word zone)))
+
+-- a name that was found, and the node, the socket and the enumerator that it has
+abbrev pub find_text : Find → List ℕ
+find_text f =
+    name_text (f.name).object (f.name).kind (f.name).zone
+    ++ (codes "," ++ (decimal (f.address).node ++ (codes "," ++ (decimal (f.address).socket
+    ++ (codes "," ++ decimal f.enumerator)))))
+
+abbrev pub found_text : Find → List ℕ
+found_text f = codes " " ++ find_text f
 
 abbrev pub zone_text : List ℕ → List ℕ
 zone_text zone = codes " " ++ text_word zone
@@ -54,6 +70,14 @@ report_text (report.Response tid packets) = (codes "response " ++ decimal tid) +
 report_text (report.Failed tid) = codes "failed " ++ decimal tid
 report_text report.Again = codes "again"
 report_text report.Released = codes "released"
+report_text (report.Looking id) = codes "looking " ++ decimal id
+report_text (report.Found finds) = codes "found" ++ flat_map found_text finds
+report_text report.Claimed = codes "claimed"
+report_text report.Registered = codes "done"
+report_text (report.Taken f) = codes "taken " ++ find_text f
+report_text report.Relayed = codes "relayed"
+report_text (report.Names count) = codes "names " ++ decimal count
+report_text (report.Finds count) = codes "finds " ++ decimal count
 report_text report.Ignored = codes "ignored"
 report_text (report.Refused number) = codes "refused " ++ decimal number
 report_text report.NoMemory = codes "nomemory"

@@ -3,6 +3,7 @@
 
 mod digits;
 mod name_lines;
+mod name_reports;
 mod packet_lines;
 mod print;
 mod printer;

@@ -5,6 +5,7 @@ ghost use Rattle.at_nbp.specs.Packets.{packet_content};
 ghost use Rattle.at_nbp.specs.Tuples.{content};
 ghost use Rattle.at_print.specs.NameLines.{function_word, names_lines, tuple_line};
 ghost use Rattle.at_print.specs.Printers.{Prints};
+ghost use Rattle.at_print.specs.Reports.{name_text};
 
 use crate::packet_lines::write_address;
 use crate::print::write_text;
@@ -46,12 +47,24 @@ fn write_tuple<W: Write>(printer: &mut Printer<W>, tuple: &Tuple<'_>)
     ensures { Prints W.contents printer.old printer.new (tuple_line (content tuple.now)) }
 {
     printer.write_all(b"tuple ");
-    write_text(printer, tuple.object);
-    printer.write_all(b":");
-    write_text(printer, tuple.kind);
-    printer.write_all(b"@");
-    write_text(printer, tuple.zone);
+    write_name(printer, tuple.object, tuple.kind, tuple.zone);
     printer.write_all(b" ");
     write_address(printer, tuple.address);
     writeln!(printer, " enumerator {}", tuple.enumerator);
+}
+
+/// An object, a type and a zone.
+pub(crate) fn write_name<W: Write>(
+    printer: &mut Printer<W>,
+    object: &[u8],
+    kind: &[u8],
+    zone: &[u8],
+)
+    ensures { Prints W.contents printer.old printer.new (name_text object.now kind.now zone.now) }
+{
+    write_text(printer, object);
+    printer.write_all(b":");
+    write_text(printer, kind);
+    printer.write_all(b"@");
+    write_text(printer, zone);
 }

@@ -8,6 +8,7 @@ ghost use Rattle.at_print.specs.Reports.{asked_text, event_line, packet_text, re
 ghost use Rattle.at_print.specs.Reports.{glyph, is_sign, stands_for_itself, text_word};
 
 use crate::digits::{write_hex, write_pairs};
+use crate::name_reports::{write_found, write_taken};
 use crate::printer::Printer;
 use at_atp::{Key, Packet};
 use at_ddp::Pascal;
@@ -58,6 +59,14 @@ fn write_report<A: Allocator, W: Write>(printer: &mut Printer<W>, report: &Repor
         Report::Failed(tid) => write!(printer, "failed {tid}"),
         Report::Again => printer.write_all(b"again"),
         Report::Released => printer.write_all(b"released"),
+        Report::Looking(id) => write!(printer, "looking {id}"),
+        Report::Found(finds) => write_found(printer, finds.as_slice()),
+        Report::Claimed => printer.write_all(b"claimed"),
+        Report::Registered => printer.write_all(b"done"),
+        Report::Taken(find) => write_taken(printer, find),
+        Report::Relayed => printer.write_all(b"relayed"),
+        Report::Names(count) => write!(printer, "names {count}"),
+        Report::Finds(count) => write!(printer, "finds {count}"),
         Report::Ignored => printer.write_all(b"ignored"),
         Report::Refused(number) => write!(printer, "refused {number}"),
         Report::NoMemory => printer.write_all(b"nomemory"),

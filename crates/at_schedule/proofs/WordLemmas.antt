@@ -51,3 +51,9 @@ module _ {T : Type 0} (P : List (List ℕ) → T → Type 0) (line rest known wo
   pub some_after : {E : Type 0} (o : Option T) (e : E) (r : Result T E) → r ≡ ok_or o e → IfSome o (λ t. After known rest (λ ws. P ws t)) → IfOk r (λ t. (ws : List (List ℕ)) × HasWords line ws × P ws t)
   some_after (Some t) e r is_ok h = rw is_ok (said_after t h)
   some_after None e r is_ok h = rw is_ok tt
+
+-- what a line says after a known word, it says after this one, which is the same
+pub some_as : {T E : Type 0} (P : List (List ℕ) → T → Type 0) (rest known word : List ℕ) → word ≡ known → (o : Option T) (e : E) (r : Result T E) → r ≡ ok_or o e
+    → IfSome o (λ t. After known rest (λ ws. P ws t)) → IfOk r (λ t. After word rest (λ ws. P ws t))
+some_as P rest known word is (Some t) e r is_ok h = rw is_ok (subst (λ w. After w rest (λ ws. P ws t)) (sym is) h)
+some_as P rest known word is None e r is_ok h = rw is_ok tt

@@ -9,6 +9,7 @@ use Rattle.at_node.specs.declared.event.Timer.TheVariants as timer
 use Rattle.at_world.specs.declared.event.Event.{Event}
 use Rattle.at_world.specs.declared.event.Event.TheVariants as event
 use Rattle.at_schedule.specs.Schedules.{is_event_line}
+use Rattle.at_schedule.specs.Texts.{AreZone, IsText}
 use Rattle.at_words.specs.Hexes.{IsHex}
 use Rattle.at_words.specs.Numbers.{IsCount, IsNumber}
 use Rattle.at_words.specs.Words.{HasWords}
@@ -41,6 +42,11 @@ abbrev pub AnswerSays : List (List ℕ) → ℕ → ℕ → ℕ → List (List �
 AnswerSays ws node socket tid ps =
     (n s t : List ℕ) × (ws ≡ codes "answer" ∷ n ∷ s ∷ t ∷ ps) × IsNumber n node × IsNumber s socket × IsNumber t tid
 
+-- an object, a type and a socket
+abbrev pub SocketSays : List (List ℕ) → List ℕ → List ℕ → ℕ → Type 0
+SocketSays ws object kind socket =
+    (o k s : List ℕ) × (ws ≡ o ∷ k ∷ s ∷ []) × IsText o object × IsText k kind × IsNumber s socket
+
 -- the words of a call, after its node
 abbrev pub SaysCall : {A : Type 0} → List (List ℕ) → Call A → Type 0
 SaysCall ws call.Zones = ws ≡ codes "zones" ∷ []
@@ -48,6 +54,16 @@ SaysCall ws (call.Ask node socket user bytes wanted exactly_once retries) =
     (d : List ℕ) × AskSays ws node socket user d wanted exactly_once retries × IsHex d bytes
 SaysCall ws (call.Answer node socket tid packets) =
     (ps : List (List ℕ)) × AnswerSays ws node socket tid ps × ArePacketWords ps packets
+SaysCall ws (call.Find object kind place) =
+    (o k : List ℕ) × (zs : List (List ℕ)) × (ws ≡ codes "find" ∷ o ∷ k ∷ zs)
+    × IsText o object × IsText k kind × AreZone zs place
+SaysCall ws (call.Claim object kind socket) =
+    (ns : List (List ℕ)) × (ws ≡ codes "claim" ∷ ns) × SocketSays ns object kind socket
+SaysCall ws (call.Finish id) = (i : List ℕ) × (ws ≡ codes "finish" ∷ i ∷ []) × IsNumber i id
+SaysCall ws (call.Register object kind socket) =
+    (ns : List (List ℕ)) × (ws ≡ codes "register" ∷ ns) × SocketSays ns object kind socket
+SaysCall ws (call.Unregister object kind) =
+    (o k : List ℕ) × (ws ≡ codes "unregister" ∷ o ∷ k ∷ []) × IsText o object × IsText k kind
 
 -- the words of a timer, after its node
 abbrev pub SaysTimer : List (List ℕ) → Timer → Type 0
@@ -55,6 +71,7 @@ SaysTimer ws (timer.Retry tid) = (t : List ℕ) × (ws ≡ codes "retry" ∷ t �
 SaysTimer ws (timer.Release own node socket tid) =
     (o n s t : List ℕ) × (ws ≡ codes "release" ∷ o ∷ n ∷ s ∷ t ∷ [])
     × IsNumber o own × IsNumber n node × IsNumber s socket × IsNumber t tid
+SaysTimer ws (timer.Lookup id) = (i : List ℕ) × (ws ≡ codes "lookup" ∷ i ∷ []) × IsNumber i id
 
 -- the words of an event
 abbrev pub SaysEvent : {A : Type 0} → List (List ℕ) → Event A → Type 0

@@ -8,7 +8,7 @@ ghost use Rattle.at_world.specs.Setups.{is_lawful};
 use crate::event_line::{call_of, delivery_of, timer_of};
 use crate::node_line::{net_of, node_of};
 use crate::nodes::{has_router, lacks_router, rule_broken_by};
-use crate::zone_word::zone_name;
+use crate::text_word::zone_name;
 use at_ddp::{Listed, Pascal};
 use at_faults::{LineFault, Rule};
 use at_words::Words;

@@ -5,6 +5,7 @@ ghost use Rattle.at_schedule.specs.Says.{After, ArePacketWords, IsPacketWord, Sa
 ghost use Rattle.at_words.specs.Words.{HasWords};
 
 use crate::call_words::{AnswerWords, AskWords, packet_words};
+use crate::name_words::{lookup, name_call};
 use at_atp::Packet;
 use at_ddp::{Bytes, Listed};
 use at_faults::{LineFault, Rule};
@@ -13,7 +14,7 @@ use at_words::{HexFault, Words, byte, bytes_of, node_number, number, two_bytes};
 use at_world::Event;
 use std::alloc::Allocator;
 
-/// `call N` and `zones`, `ask ..` or `answer ..`
+/// `call N` and a call: `zones`, `ask ..`, `answer ..`, or one for names
 pub(crate) fn call_of<A: Allocator + Copy>(
     alloc: A,
     mut words: Words<'_>,
@@ -37,11 +38,12 @@ fn call_words<A: Allocator + Copy>(alloc: A, mut words: Words<'_>) -> Result<Cal
     } else if is_word(word, b"answer") {
         answer(alloc, words)
     } else {
-        Err(LineFault::Unlawful(Rule::Call))
+        name_call(word, words)
     }
 }
 
-fn is_word(word: &[u8], known: &[u8]) -> bool
+/// Whether a word is a known one.
+pub(crate) fn is_word(word: &[u8], known: &[u8]) -> bool
     ensures { result ≡ true → word.now ≡ known.now }
 {
     word == known
@@ -57,7 +59,7 @@ pub(crate) fn delivery_of<A: Allocator>(mut words: Words<'_>) -> Option<Event<A>
     Some(Event::Deliver { which, node })
 }
 
-/// `timer N` and `retry T` or `release OWN NODE SOCKET T`
+/// `timer N` and `retry T`, `release OWN NODE SOCKET T` or `lookup ID`
 pub(crate) fn timer_of<A: Allocator>(mut words: Words<'_>) -> Result<Event<A>, LineFault>
     ensures { IfOk result (λ event. After (codes "timer") words.entry.rest.now (λ ws. SaysEvent ws event)) }
 {
@@ -75,6 +77,8 @@ fn timer_words(mut words: Words<'_>) -> Result<Timer, LineFault>
         retry(words).ok_or(LineFault::Unlawful(Rule::Retry))
     } else if is_word(word, b"release") {
         release(words).ok_or(LineFault::Unlawful(Rule::Release))
+    } else if is_word(word, b"lookup") {
+        lookup(words).ok_or(LineFault::Unlawful(Rule::Lookup))
     } else {
         Err(LineFault::Unlawful(Rule::Timer))
     }

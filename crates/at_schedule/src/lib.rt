@@ -4,10 +4,11 @@
 mod call_words;
 mod draft;
 mod event_line;
+mod name_words;
 mod node_line;
 mod nodes;
 mod schedule;
-mod zone_word;
+mod text_word;
 
 pub use at_faults::{Fault, LineFault, Rule, Unreadable};
 pub use draft::Draft;

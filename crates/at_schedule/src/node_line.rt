@@ -1,7 +1,7 @@
 //! The lines of a schedule's setup, after their first word.
 ghost use Rattle.std.specs.Prelude.{◌≡◌, ◌<◌, IfSome};
 
-use crate::zone_word::zone_name;
+use crate::text_word::zone_name;
 use at_words::{Words, node_number, positive};
 use at_world::NodeSetup;
 

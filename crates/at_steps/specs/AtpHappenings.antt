@@ -65,8 +65,8 @@ AreEntries event (o ∷ out) [] = ⊥
 
 -- the transaction number that an event drew, if it drew one
 abbrev pub numbers_drawn : ℕ → Address → Option Draw → List Drawn
-numbers_drawn event who None = []
 numbers_drawn event who (Some (Tid tid)) = record { event = event; who = who; tid = tid } ∷ []
+numbers_drawn event who other = []
 
 -- ---- a step of this protocol
 

@@ -68,7 +68,7 @@ const REPORTED: &str = "0 ignored
 #[test]
 fn a_router_ignores_or_refuses_what_does_not_ask_it_for_zones(rt: HostRuntime) {
     let zones = Zones::new(Listed::from_vec(Vec::new(rt.alloc())));
-    let mut router = Node::new(rt.alloc(), 10, 1, Some(1), zones.ok());
+    let mut router = Node::new(rt.alloc(), 10, 1, Some(1), None, zones.ok(), None);
     let text = told(rt.alloc(), &mut router, &HEARD);
     assert!(rt; text.as_slice() == REPORTED.as_bytes());
 }
@@ -112,7 +112,7 @@ const READ: &str = "0 begun 0
 
 #[test]
 fn a_reading_ends_with_its_page_or_with_the_fault_of_it(rt: HostRuntime) {
-    let mut node = Node::new(rt.alloc(), 10, 5, Some(1), None);
+    let mut node = Node::new(rt.alloc(), 10, 5, Some(1), None, None, None);
     let text = told(rt.alloc(), &mut node, &STEPS);
     assert!(rt; text.as_slice() == READ.as_bytes());
 }

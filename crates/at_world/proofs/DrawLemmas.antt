@@ -1,15 +1,19 @@
 -- The list of last draws, as a map keeps it.
-use Rattle.std.proofs.Common.{◌≡◌, ℕ, Bool, cond, [], ◌∷◌, Some, refl}
+use Rattle.std.proofs.Common.{◌≡◌, ℕ, Bool, false, cond, [], ◌∷◌, Some, refl}
 use Rattle.std.specs.Prelude.{◌==◌, ◌&&◌}
 use Rattle.std.specs.Map.{lookup}
 use Rattle.indexmap.specs.IndexMap.{insert_entry}
 use Rattle.at_node.specs.declared.drawing.Draw.{Draw}
-use Rattle.at_node.specs.declared.drawing.Draw.TheVariants.{Tid}
+use Rattle.at_node.specs.declared.drawing.Draw.TheVariants.{Lookup, Tid}
 use Rattle.at_world.specs.Draws.{Draws, same_draw, is_number, last_of, drawn_at}
 
-module _ (eq_node : ℕ → ℕ → Bool) (eq_draw : Draw → Draw → Bool) (nodes : (a b : ℕ) → eq_node a b ≡ (a == b)) (tids : (a b : ℕ) → eq_draw (Tid a) (Tid b) ≡ (a == b)) where
+module _ (eq_node : ℕ → ℕ → Bool) (eq_draw : Draw → Draw → Bool) (nodes : (a b : ℕ) → eq_node a b ≡ (a == b)) (tids : (a b : ℕ) → eq_draw (Tid a) (Tid b) ≡ (a == b)) (lookups : (a b : ℕ) → eq_draw (Lookup a) (Lookup b) ≡ (a == b))
+    (apart : (a b : ℕ) → eq_draw (Tid a) (Lookup b) ≡ false) (parted : (a b : ℕ) → eq_draw (Lookup a) (Tid b) ≡ false) where
   draws : (x y : Draw) → eq_draw x y ≡ same_draw x y
   draws (Tid a) (Tid b) = tids a b
+  draws (Lookup a) (Lookup b) = lookups a b
+  draws (Tid a) (Lookup b) = apart a b
+  draws (Lookup a) (Tid b) = parted a b
 
   pub alike : (node : ℕ) (draw : Draw) (number : ℕ × Draw) → (eq_node node number.0 && eq_draw draw number.1) ≡ is_number node draw number
   alike node draw number = λ i. nodes node number.0 i && draws draw number.1 i

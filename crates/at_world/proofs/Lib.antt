@@ -4,6 +4,7 @@ mod CableTie
 mod Canonical
 mod DeliveryLemmas
 mod DrawLemmas
+mod EventLemmas
 mod Following
 mod FreshLemmas
 mod LawfulSetups

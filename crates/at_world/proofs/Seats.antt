@@ -1,9 +1,9 @@
 -- Each outcome leaves a node where it stands.
 use Rattle.std.proofs.Common.{◌≡◌, Bool, true, false, List, ℕ, inl, inr, refl, ap}
-use Rattle.std.specs.Prelude.{MatchBool, ◌==◌}
+use Rattle.std.specs.Prelude.{MatchBool, ◌==◌, ◌||◌}
 use Rattle.at_ddp.specs.Datagram.{Content as Datagram}
 use Rattle.at_node.specs.declared.event.Call.{Call}
-use Rattle.at_node.specs.declared.event.Call.TheVariants.{Zones, Ask, Answer}
+use Rattle.at_node.specs.declared.event.Call.TheVariants.{Zones, Ask, Answer, Find, Claim, Finish, Register, Unregister}
 use Rattle.at_node.specs.declared.event.Report.TheVariants as report
 use Rattle.at_node.specs.declared.event.Timer.{Timer}
 use Rattle.at_node.specs.declared.event.Timer.TheVariants as timer
@@ -11,9 +11,11 @@ use Rattle.at_node.specs.declared.service.Reply.{Reply}
 use Rattle.at_node.specs.AtpHearing.{HearsAtp}
 use Rattle.at_node.specs.AtpParts.{atp_kind}
 use Rattle.at_node.specs.Hearing.{Hears, HearsIt, HearsMine}
-use Rattle.at_node.specs.Nodes.{NodeState, with_atp, called, timed}
+use Rattle.at_node.specs.NameCalls.{nbp_kind}
+use Rattle.at_node.specs.NameHearing.{HearsNames}
+use Rattle.at_node.specs.Nodes.{NodeState, with_atp, with_names, called, timed}
 use Rattle.at_node.specs.Outcomes.{Outcome, Over, idle}
-use Rattle.at_node.specs.Seats.{is_mine}
+use Rattle.at_node.specs.Seats.{is_for_all, is_mine}
 
 abbrev pub KeepsSeat : {A : Type 0} → NodeState → Outcome A NodeState → Type 0
 KeepsSeat n o = o.state.seat ≡ n.seat
@@ -22,20 +24,30 @@ pub call_keeps_seat : (A : Type 0) (n : NodeState) (call : Call A) → KeepsSeat
 call_keeps_seat A n Zones = refl
 call_keeps_seat A n (Ask node socket user bytes wanted xo retries) = refl
 call_keeps_seat A n (Answer node socket tid packets) = refl
+call_keeps_seat A n (Find object kind _) = refl
+call_keeps_seat A n (Claim object kind socket) = refl
+call_keeps_seat A n (Finish id) = refl
+call_keeps_seat A n (Register object kind socket) = refl
+call_keeps_seat A n (Unregister object kind) = refl
 
 pub timer_keeps_seat : (A : Type 0) (n : NodeState) (time : Timer) → KeepsSeat {A = A} n (timed n time)
 timer_keeps_seat A n (timer.Retry tid) = refl
 timer_keeps_seat A n (timer.Release own node socket tid) = refl
+timer_keeps_seat A n (timer.Lookup id) = refl
 
 mine_keeps_seat : (A : Type 0) (said : Reply A) (n : NodeState) (d : Datagram) (o : Outcome A NodeState) → HearsMine said n d o → KeepsSeat n o
 mine_keeps_seat A said n d o = go (d.kind == atp_kind)
   where
-    go : (b : Bool) → MatchBool b (Over (with_atp n) (HearsAtp said n.seat n.atp d) o) (o ≡ idle n report.Ignored) → KeepsSeat n o
+    other : (b : Bool) → MatchBool b (Over (with_names n) (HearsNames n.seat n.names d) o) (o ≡ idle n report.Ignored) → KeepsSeat n o
+    other true h = ap (λ (x : Outcome A NodeState). x.state.seat) h.2
+    other false h = ap (λ (x : Outcome A NodeState). x.state.seat) h
+
+    go : (b : Bool) → MatchBool b (Over (with_atp n) (HearsAtp said n.seat n.atp d) o) (MatchBool (d.kind == nbp_kind) (Over (with_names n) (HearsNames n.seat n.names d) o) (o ≡ idle n report.Ignored)) → KeepsSeat n o
     go true h = ap (λ (x : Outcome A NodeState). x.state.seat) h.2
-    go false h = ap (λ (x : Outcome A NodeState). x.state.seat) h
+    go false h = other (d.kind == nbp_kind) h
 
 it_keeps_seat : (A : Type 0) (said : Reply A) (n : NodeState) (d : Datagram) (o : Outcome A NodeState) → HearsIt said n d o → KeepsSeat n o
-it_keeps_seat A said n d o = go (is_mine n.seat d.to)
+it_keeps_seat A said n d o = go (is_for_all n.seat d.kind d.to || is_mine n.seat d.to)
   where
     go : (b : Bool) → MatchBool b (HearsMine said n d o) (o ≡ idle n report.Ignored) → KeepsSeat n o
     go true h = mine_keeps_seat A said n d o h

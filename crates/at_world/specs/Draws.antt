@@ -1,7 +1,8 @@
 -- The numbers that nodes drew, and the event that drew each last.
-use Rattle.std.specs.Prelude.{ℕ, ◌==◌, ◌&&◌, nat_le, if◌then◌else◌, Bool, true, List, [], ◌∷◌, Option, Some, None}
+use Rattle.std.specs.Prelude.{ℕ, ◌==◌, ◌&&◌, nat_le, if◌then◌else◌, Bool, true, false, List, [], ◌∷◌, Option, Some}
+use Rattle.std.specs.Prelude.{None}
 use Rattle.at_node.specs.declared.drawing.Draw.{Draw}
-use Rattle.at_node.specs.declared.drawing.Draw.TheVariants.{Tid}
+use Rattle.at_node.specs.declared.drawing.Draw.TheVariants.{Tid, Lookup}
 
 -- each number of each node that was ever drawn, with the event of its last draw
 abbrev pub Draws : Type 0
@@ -9,6 +10,8 @@ Draws = List ((ℕ × Draw) × ℕ)
 
 abbrev pub same_draw : Draw → Draw → Bool
 same_draw (Tid a) (Tid b) = a == b
+same_draw (Lookup a) (Lookup b) = a == b
+same_draw a b = false
 
 abbrev pub is_number : ℕ → Draw → ℕ × Draw → Bool
 is_number node draw number = (node == number.0) && same_draw draw number.1

@@ -1,6 +1,7 @@
 -- A whole play: each event by the world's step, with one report for each event.
 use Rattle.std.specs.Prelude.{◌≡◌, ℕ, false, if◌then◌else◌, List, [], ◌∷◌, map, take, find, slice_get, option_map}
 use Rattle.std.specs.Prelude.{IsSome, ◌⊎◌, Option, Some, None, Result, Ok, Err}
+use Rattle.at_name_socket.specs.declared.neighbour.Neighbour.{Neighbour}
 use Rattle.at_node.specs.declared.event.Report.{Report}
 use Rattle.at_node.specs.Nodes.{NodeState, opening}
 use Rattle.at_world.specs.declared.event.Event.{Event}
@@ -18,9 +19,21 @@ use Rattle.at_world.specs.Worlds.{WorldState, IsPlayable, Refuses, Plays}
 abbrev pub router_of : List NodeSetup → Option ℕ
 router_of ns = option_map (λ n. n.node) (find (λ n. n.router) ns)
 
--- only the router has the table
+-- a node that is in a zone, before these
+abbrev pub joined : ℕ → Option (List ℕ) → List Neighbour → List Neighbour
+joined node None ns = ns
+joined node (Some zone) ns = record { node = node; zone = zone } ∷ ns
+
+-- the nodes of a cable and their zones
+abbrev pub neighbours_of : List NodeSetup → List Neighbour
+neighbours_of [] = []
+neighbours_of (n ∷ ns) = joined n.node n.zone (neighbours_of ns)
+
+-- only the router has the table, and knows the zones of the other nodes
 abbrev pub opening_node : {A : Type 0} → Setup A → NodeSetup → NodeState
-opening_node s n = opening s.net n.node (router_of s.nodes) (if n.router then Some s.zones else None)
+opening_node s n =
+    opening s.net n.node (router_of s.nodes) n.zone (if n.router then Some s.zones else None)
+    (if n.router then Some (neighbours_of s.nodes) else None)
 
 -- the world before anything happened
 abbrev pub opening_world : {A : Type 0} → Setup A → WorldState

@@ -1,8 +1,10 @@
 ghost use Rattle.std.specs.Prelude.{◌≡◌, IfOk, Some, None, map, if◌then◌else◌};
-ghost use Rattle.at_world.specs.Plays.{opening_node, router_of};
+ghost use Rattle.at_world.specs.Plays.{neighbours_of, opening_node, router_of};
 
 use crate::setup::{NodeSetup, Setup};
 use at_ddp::{Listed, Pascal};
+use at_name_socket::Neighbour;
+use at_nbp::copy_of;
 use at_node::Node;
 use at_zip::Zones;
 use std::alloc::{AllocError, Allocator};
@@ -18,10 +20,54 @@ pub(crate) fn opening_nodes<A: Allocator + Copy>(
     let router = router_of(setups);
     let mut nodes = Vec::new(alloc);
     for n in setups {
+        let zone = zone_of(n);
         let zones = table_of(alloc, n.router, setup.zones.as_slice())?;
-        nodes.push(Node::new(alloc, setup.net, n.node, router, zones))?;
+        let neighbours = neighbours_for(alloc, n.router, setups)?;
+        nodes.push(Node::new(alloc, setup.net, n.node, router, zone, zones, neighbours))?;
     }
     Ok(nodes)
+}
+
+fn zone_of(node: &NodeSetup) -> Option<Pascal>
+    ensures { result ≡ node.now.zone }
+{
+    match &node.zone {
+        Some(zone) => Some(copy_of(zone)),
+        None => None,
+    }
+}
+
+// The nodes of the cable, as its router knows them; none if the node is not the router.
+fn neighbours_for<A: Allocator + Copy>(
+    alloc: A,
+    router: bool,
+    nodes: &[NodeSetup],
+) -> Result<Option<Listed<Neighbour, A>>, AllocError>
+    ensures { IfOk result (λ known. known ≡ (if router then Some (neighbours_of nodes.now) else None)) }
+{
+    if !router {
+        return Ok(None);
+    }
+    let neighbours = neighbours_of(alloc, nodes)?;
+    Ok(Some(Listed::from_vec(neighbours)))
+}
+
+fn neighbours_of<A: Allocator + Copy>(
+    alloc: A,
+    nodes: &[NodeSetup],
+) -> Result<Vec<Neighbour, A>, AllocError>
+    ensures { IfOk result (λ neighbours. neighbours.items ≡ neighbours_of nodes.now) }
+{
+    let mut neighbours = Vec::new(alloc);
+    for n in nodes {
+        if let Some(zone) = &n.zone {
+            neighbours.push(Neighbour {
+                node: n.node,
+                zone: copy_of(zone),
+            })?;
+        }
+    }
+    Ok(neighbours)
 }
 
 fn router_of(nodes: &[NodeSetup]) -> Option<u8>
@@ -54,16 +100,7 @@ fn copies_of<A: Allocator + Copy>(alloc: A, names: &[Pascal]) -> Result<Vec<Pasc
 {
     let mut copies = Vec::new(alloc);
     for name in names {
-        let Some(copy) = copy_of(name) else {
-            unreachable!();
-        };
-        copies.push(copy)?;
+        copies.push(copy_of(name))?;
     }
     Ok(copies)
-}
-
-fn copy_of(name: &Pascal) -> Option<Pascal>
-    ensures { result ≡ Some name.now }
-{
-    Pascal::new(name.bytes())
 }

@@ -193,6 +193,7 @@ fn drawn_by<A: Allocator>(report: &Report<A>) -> Option<Draw>
 {
     match report {
         Report::Begun(tid) => Some(Draw::Tid(*tid)),
+        Report::Looking(id) => Some(Draw::Lookup(*id)),
         _ => None,
     }
 }

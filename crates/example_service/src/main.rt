@@ -20,8 +20,8 @@ const MOST_ROUNDS: u32 = 10;
 
 fn main(rt: HostRuntime) -> io::Result<()> {
     // Both nodes are on network 10, which has no router.
-    let mut client = Node::new(rt.alloc(), 10, CLIENT, None, None);
-    let mut server = Node::new(rt.alloc(), 10, SERVER, None, None);
+    let mut client = Node::new(rt.alloc(), 10, CLIENT, None, None, None, None);
+    let mut server = Node::new(rt.alloc(), 10, SERVER, None, None, None, None);
     let mut sent = Datagrams::new(rt.alloc());
     let report = client.call(&request(rt.alloc())?, &mut sent);
     tell(&rt, CLIENT, &report)?;

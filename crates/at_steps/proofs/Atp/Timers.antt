@@ -146,3 +146,4 @@ pub timer_happens : (A : Type 0) (stays : StaysOpen) (history : List Happening) 
 timer_happens A stays history n st (timer.Retry tid) its = retry_happens A stays history n st tid (retried n.atp.requester tid) refl
 timer_happens A stays history n st (timer.Release own node socket tid) its =
     release_happens A history n st own node socket tid (own == 129) (own == 6) (expiry_fault (find (is_key (record { from = at_socket n.seat node socket; tid = tid })) (records_at n.atp own))) refl refl refl
+timer_happens A stays history n st (timer.Lookup id) its = absurd (cc)

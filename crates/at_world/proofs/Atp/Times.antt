@@ -13,7 +13,7 @@ use Rattle.at_node.specs.Drawing.{holds}
 use Rattle.at_node.specs.AtpParts.{asking}
 use Rattle.at_node.specs.Nodes.{NodeState}
 use Rattle.at_node.specs.declared.drawing.Draw.{Draw}
-use Rattle.at_node.specs.declared.drawing.Draw.TheVariants.{Tid}
+use Rattle.at_node.specs.declared.drawing.Draw.TheVariants.{Lookup, Tid}
 use Rattle.at_steps.specs.AtpHappenings.{HoldsNo, numbers_drawn}
 use Rattle.at_world.specs.Draws.{Draws, is_number, same_draw, last_of, drawn_at, noted, is_no_later}
 use Rattle.at_world.specs.Worlds.{is_numbered, holds_some}
@@ -75,6 +75,9 @@ last_after (e ∷ ds) node draw event j d = go (last_after ds node draw event j 
     -- the number in front is the one drawn
     same_as : (x y : Draw) → same_draw x y ≡ true → x ≡ y
     same_as (Tid a) (Tid b) h = ap Tid (eqb-true a b h)
+    same_as (Lookup a) (Lookup b) h = ap Lookup (eqb-true a b h)
+    same_as (Tid a) (Lookup b) h = absurd (cc)
+    same_as (Lookup a) (Tid b) h = absurd (cc)
 
     here : is_number node draw e.0 ≡ true → e.0 ≡ (node, draw)
     here h =
@@ -83,6 +86,9 @@ last_after (e ∷ ds) node draw event j d = go (last_after ds node draw event j 
 
     draws_alike : (x y : Draw) → x ≡ y → same_draw x y ≡ true
     draws_alike (Tid a) (Tid b) h = let e : a ≡ b = cc in eq-eqb a b e
+    draws_alike (Lookup a) (Lookup b) h = let e : a ≡ b = cc in eq-eqb a b e
+    draws_alike (Tid a) (Lookup b) h = absurd (cc)
+    draws_alike (Lookup a) (Tid b) h = absurd (cc)
 
     both_true : node ≡ e.0.0 → draw ≡ e.0.1 → is_number node draw e.0 ≡ true
     both_true num dr = λ i. eq-eqb node e.0.0 num i && draws_alike draw e.0.1 dr i
@@ -138,6 +144,7 @@ noted_now last events net k tid = record {
 -- and so is each number that an event drew now, if it drew one
 pub drawn_too : (last : Draws) (events event net k : ℕ) (d : Option Draw) (drawn : List Drawn) → events ≡ event → AllByRecursion (IsNoted (noted last k events d) (events + 1)) drawn → AllByRecursion (IsNoted (noted last k events d) (events + 1)) (drawn ++ numbers_drawn event (asking net k) d)
 drawn_too last events event net k None [] same all = tt
+drawn_too last events event net k (Some (Lookup id)) [] same all = tt
 drawn_too last events event net k (Some (Tid tid)) [] same all = (subst (λ i. IsNoted (noted last k events (Some (Tid tid))) (events + 1) (record { event = i; who = asking net k; tid = tid })) same (noted_now last events net k tid), tt)
 drawn_too last events event net k d (x ∷ drawn) same all = (all.0, drawn_too last events event net k d drawn same all.1)
 

@@ -1,42 +1,67 @@
 use Rattle.std.proofs.Common.{rules, ◌≡◌, true, false, refl, subst}
-use Rattle.std.specs.Prelude.{◌==◌}
+use Rattle.std.specs.Prelude.{◌==◌, ◌||◌}
 use Rattle.std.proofs.lemmas.Bool.{eq-eqb, ne_eqb}
 use Rattle.at_ddp.specs.Datagram.{content}
 use Rattle.at_node.specs.AtpHearing.{HearsAtp}
 use Rattle.at_node.specs.AtpParts.{atp_kind}
 use Rattle.at_node.specs.Hearing.{HearsIt}
-use Rattle.at_node.specs.Nodes.{NodeState, with_atp}
+use Rattle.at_node.specs.NameCalls.{nbp_kind}
+use Rattle.at_node.specs.NameHearing.{HearsNames}
+use Rattle.at_node.specs.Nodes.{NodeState, with_atp, with_names}
 use Rattle.at_node.specs.Outcomes.{Comes, Over}
-use Rattle.at_node.specs.Seats.{is_mine}
+use Rattle.at_node.specs.Seats.{is_for_all, is_mine}
 use Rattle.at_node.specs.declared.service.Reply.TheVariants.{Later}
 use Rattle.at_node.proofs.OutcomeLemmas.{comes_ignored, comes_over, comes_wider}
+use Rattle.at_node.proofs.ResponderLemmas.{not_served}
 use Rattle.at_node.proofs.node.Node.take_in.Goals as goal
 
-pub returns-then-not-is_mine : goal.returns-then-not-is_mine
-returns-then-not-is_mine g c =
-    let other : is_mine c.args.self.now.seat (c.args.datagram.now).to ≡ false = search rules in
-    (Later, comes_ignored (HearsIt Later c.args.self.now (content c.args.datagram.now)) c.args.self.now c.args.out.now.items (rw other refl), refl)
+pub returns-then-not-is_for : goal.returns-then-not-is_for
+returns-then-not-is_for g c =
+    let d = content c.args.datagram.now in
+    let other : (is_for_all c.args.self.now.seat d.kind d.to || is_mine c.args.self.now.seat d.to) ≡ false = search rules in
+    (Later, comes_ignored (HearsIt Later c.args.self.now d) c.args.self.now c.args.out.now.items (rw other refl), refl)
 
 pub returns : goal.returns
 returns g c =
-    let mine : is_mine c.args.self.now.seat (c.args.datagram.now).to ≡ true = search rules in
-    let other : ((c.args.datagram.now).kind == atp_kind) ≡ false = ne_eqb (c.args.datagram.now).kind atp_kind c.if-datagram-eq-ATP.false in
-    (Later, comes_ignored (HearsIt Later c.args.self.now (content c.args.datagram.now)) c.args.self.now c.args.out.now.items (rw (mine, other) refl), refl)
+    let d = content c.args.datagram.now in
+    let mine : (is_for_all c.args.self.now.seat d.kind d.to || is_mine c.args.self.now.seat d.to) ≡ true = search rules in
+    let not_atp : (d.kind == atp_kind) ≡ false = ne_eqb d.kind atp_kind c.if-datagram-eq-ATP.false in
+    let not_nbp : (d.kind == nbp_kind) ≡ false = ne_eqb d.kind nbp_kind c.if-datagram-eq-NBP.false in
+    (Later, comes_ignored (HearsIt Later c.args.self.now d) c.args.self.now c.args.out.now.items (rw (mine, not_atp, not_nbp) refl), refl)
 
 pub returns-then-datagram-eq-ATP : goal.returns-then-datagram-eq-ATP
 returns-then-datagram-eq-ATP g c =
     let r = c.hear.ensures in
-    let inside : NodeState = record { seat = c.self.inside.seat; atp = c.self.inside.atp } in
-    let new : NodeState = record { seat = c.self.inside.seat; atp = c.hear.new.self } in
+    let inside : NodeState = record { seat = c.self.inside.seat; atp = c.self.inside.atp; names = c.self.inside.names } in
+    let new : NodeState = record { seat = c.self.inside.seat; atp = c.hear.new.self; names = c.self.inside.names } in
     let d = content c.args.datagram.now in
     let before = c.args.out.now.items in
     let after = c.hear.new.out.items in
-    let mine : is_mine c.self.inside.seat (c.args.datagram.now).to ≡ true = search rules in
-    let its : ((c.args.datagram.now).kind == atp_kind) ≡ true = eq-eqb (c.args.datagram.now).kind atp_kind c.if-datagram-eq-ATP.true in (
+    let mine : (is_for_all c.self.inside.seat d.kind d.to || is_mine c.self.inside.seat d.to) ≡ true = search rules in
+    let its : (d.kind == atp_kind) ≡ true = eq-eqb d.kind atp_kind c.if-datagram-eq-ATP.true in (
       r.0,
       subst (λ (n : NodeState). Comes (HearsIt r.0 n d) n before c.hear.result new after) c.self.view_is
           (comes_wider (Over (with_atp inside) (HearsAtp r.0 c.self.inside.seat c.self.inside.atp d)) (HearsIt r.0 inside d) inside before c.hear.result new after
           (λ o p. rw (mine, its) p)
           (comes_over (with_atp inside) inside c.self.inside.atp refl before c.hear.result c.hear.new.self after (HearsAtp r.0 c.self.inside.seat c.self.inside.atp d) r.1)),
       r.2,
+    )
+
+pub returns-then-datagram-eq-NBP : goal.returns-then-datagram-eq-NBP
+returns-then-datagram-eq-NBP g c =
+    let h = c.hear-then-datagram-eq-NBP in
+    let inside : NodeState = record { seat = c.self.inside.seat; atp = c.self.inside.atp; names = c.self.inside.names } in
+    let new : NodeState = record { seat = c.self.inside.seat; atp = c.self.inside.atp; names = h.new.self } in
+    let d = content c.args.datagram.now in
+    let before = c.args.out.now.items in
+    let after = h.new.out.items in
+    let mine : (is_for_all c.self.inside.seat d.kind d.to || is_mine c.self.inside.seat d.to) ≡ true = search rules in
+    let not_atp : (d.kind == atp_kind) ≡ false = ne_eqb d.kind atp_kind c.if-datagram-eq-ATP.false in
+    let its : (d.kind == nbp_kind) ≡ true = eq-eqb d.kind nbp_kind c.if-datagram-eq-NBP.true in (
+      Later,
+      subst (λ (n : NodeState). Comes (HearsIt Later n d) n before h.result new after) c.self.view_is
+          (comes_wider (Over (with_names inside) (HearsNames c.self.inside.seat c.self.inside.names d)) (HearsIt Later inside d) inside before h.result new after
+          (λ o p. rw (mine, not_atp, its) p)
+          (comes_over (with_names inside) inside c.self.inside.names refl before h.result h.new.self after (HearsNames c.self.inside.seat c.self.inside.names d) h.ensures.comes)),
+      not_served _ h.result Later c.args.service.now h.ensures.not_asked,
     )

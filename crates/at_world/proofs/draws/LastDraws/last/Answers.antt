@@ -5,4 +5,4 @@ use Rattle.at_world.proofs.DrawLemmas.{found}
 use Rattle.at_world.proofs.draws.LastDraws.last.Goals as goal
 
 pub returns : goal.returns
-returns g c = c.copied.ensures ∙ c.get.ensures.value ∙ found nat_eq (equality.ghosts).eq (λ a b. refl) (λ a b. refl) c.self.inside.events.entries c.args.node c.args.draw ∙ ap (λ (d : Draws). last_of d c.args.node c.args.draw) c.self.view_is
+returns g c = c.copied.ensures ∙ c.get.ensures.value ∙ found nat_eq (equality.ghosts).eq (λ a b. refl) (λ a b. refl) (λ a b. refl) (λ a b. refl) (λ a b. refl) c.self.inside.events.entries c.args.node c.args.draw ∙ ap (λ (d : Draws). last_of d c.args.node c.args.draw) c.self.view_is

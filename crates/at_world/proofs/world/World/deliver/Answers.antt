@@ -1,4 +1,5 @@
 use Rattle.std.proofs.Common.{◌≡◌, ◌∙◌, ◌<◌, length, get_or, true, false, sym, ap, refl, arith}
+use Rattle.std.proofs.lemmas.Bool.{true≢false}
 use Rattle.std.proofs.lemmas.Option.{slice_get-get_or}
 use Rattle.at_world.specs.Sents.{SentDatagram, stamped}
 use Rattle.at_world.specs.Worlds.{WorldState, is_for}
@@ -80,3 +81,6 @@ returns-in_default-clause-not_played g c =
     let some = hits c.args.self.now c.args.node c.self.inside.nodes.items c.deref.result.now c.place_of.result c.is_none.result (ap (λ (w : WorldState). w.nodes) c.self.view_is) c.deref.ensures.value c.place_of.ensures c.is_none.ensures c.if-is_none.false in
     let fresh = fresh_there c.args.self.now s.0 c.self.inside.last c.get.result.now c.index.result.now (ap (λ (w : WorldState). w.last) c.self.view_is) s.4 (c.index.ensures ∙ s.2) (c.is_fresh.ensures.fresh c.if-not-is_fresh.false) in
     (refl, ap (λ (w : WorldState). w.sent) c.self.view_is, λ whole. record { allowed = for_it g.row.A.Denot c.args.self.now c.args.which c.args.node s.0 _ c.requires.runs s.1 for some; timely = timely_at g.row.A.Denot c.args.self.now c.args.which c.args.node s.0 s.1 fresh })
+
+pub invariant_of-self : goal.invariant_of-self
+invariant_of-self g c = (c.self.invariant.0, λ e. absurd (true≢false e))

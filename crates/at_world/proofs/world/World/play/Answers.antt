@@ -3,7 +3,7 @@ use Rattle.std.proofs.lemmas.Bool.{true≢false}
 use Rattle.at_ddp.proofs.TableLemmas.{found_by, none_by}
 use Rattle.at_world.specs.Sents.{stamped}
 use Rattle.at_world.specs.Worlds.{WorldState, is_numbered, Takes}
-use Rattle.at_world.proofs.WorldLemmas.{one_stands, takes_splits, has_room, node_stands, none_stands, held_at, whole_inside, Ran, ran_ok, ran_err, ran_invariant, world_after, taken, not_taken, if_ok}
+use Rattle.at_world.proofs.WorldLemmas.{few_events, one_stands, takes_splits, has_room, node_stands, none_stands, held_at, whole_inside, Ran, ran_ok, ran_err, ran_invariant, world_after, taken, not_taken, if_ok}
 use Rattle.at_world.proofs.world.World.play.Goals as goal
 
 pub returns-in_default-clause-not_played : goal.returns-in_default-clause-not_played
@@ -118,3 +118,6 @@ returns-clause-not_played g c =
     let held = held_at g.row.A.Denot c.args.self.now c.args.node c.args.input.now c.deref-2.result.now given c.draw_of-draw.result c.is_held.result false (c.deref-2.ensures.value ∙ inside) stands c.draw_of-draw.ensures c.is_held.ensures c.if-is_held.false in
     not_taken g.row.A.Denot c.args.self.now c.args.node c.args.input.now (world_after c.self.inside.nodes.items c.in-Some.place c.take-report.new.node c.book-booked.new.stamps.items c.take-report.new.out.items c.book-booked.new.last c.self.inside.events c.is_err-self-inside.result) c.book-booked.result c.kept.result
     (λ err. ran_err g.row.A.Denot _ _ _ _ _ _ _ _ _ _ _ _ _ _ _ _ _ _ c.is_err-self-inside.result ran c.is_err-self-inside.ensures.value err) (one_stands c.args.self.now c.args.node given stands) held c.kept.ensures.err
+
+pub overflow_add-self : goal.overflow_add-self
+overflow_add-self g c = few_events c.args.self.now c.self.inside.events (ap (λ (w : WorldState). w.events) c.self.view_is) c.requires.runs

@@ -1,0 +1,129 @@
+//! The calls and the timer of the socket for names.
+ghost use Rattle.std.specs.Prelude.{◌≡◌, List};
+ghost use Rattle.at_ddp.specs.Datagrams.{Posted};
+ghost use Rattle.at_node.specs.NameCalls.{claim_called, find_called, finish_called, lookup_fired, pattern_asked};
+ghost use Rattle.at_node.specs.NameCalls.{register_called, told_of, unregister_called, zone_asked};
+ghost use Rattle.at_node.specs.Outcomes.{IsStep};
+
+use crate::event::Report;
+use crate::name_part::{NamePart, outbox_over};
+use crate::node::refused;
+use crate::seat::Seat;
+use at_ddp::{Datagrams, Pascal};
+use at_name_socket::Finished;
+use at_nbp::{Name, copy_of};
+use std::alloc::Allocator;
+
+impl<A: Allocator + Copy> NamePart<A> {
+    // Looks up the names that match a pattern.
+    pub(crate) fn find(&mut self, seat: Seat, pattern: Name, out: &mut Datagrams<A>) -> Report<A>
+        ensures { IsStep (find_called seat self.old pattern) self.old out.old.items result self.new out.new.items }
+    {
+        let mut outbox = outbox_over(self.alloc, seat, out);
+        let begun = self.socket.find(pattern, &mut outbox);
+        *out = outbox.into_list();
+        match begun {
+            Ok(id) => Report::Looking(id),
+            Err(fault) => refused(fault.number()),
+        }
+    }
+
+    // Begins to claim a name for a socket.
+    pub(crate) fn claim(
+        &mut self,
+        seat: Seat,
+        object: &Pascal,
+        kind: &Pascal,
+        socket: u8,
+        out: &mut Datagrams<A>,
+    ) -> Report<A>
+        ensures { IsStep (claim_called seat self.old object.now kind.now socket) self.old out.old.items result self.new
+            out.new.items }
+    {
+        let mut outbox = outbox_over(self.alloc, seat, out);
+        let begun = self
+            .socket
+            .claim(copy_of(object), copy_of(kind), socket, &mut outbox);
+        *out = outbox.into_list();
+        match begun {
+            Ok(id) => Report::Looking(id),
+            Err(fault) => refused(fault.number()),
+        }
+    }
+
+    // Ends a lookup, and with it a claim.
+    pub(crate) fn finish(&mut self, id: u8) -> Report<A>
+        ensures { (sent : List Posted) → IsStep (finish_called self.old id) self.old sent result self.new sent }
+    {
+        match self.socket.finish(id) {
+            Ok(finished) => told_of(finished),
+            Err(fault) => refused(fault.number()),
+        }
+    }
+
+    // Asks again for an open lookup.
+    pub(crate) fn ask_again(&mut self, seat: Seat, id: u8, out: &mut Datagrams<A>) -> Report<A>
+        ensures { IsStep (lookup_fired seat self.old id) self.old out.old.items result self.new out.new.items }
+    {
+        let mut outbox = outbox_over(self.alloc, seat, out);
+        let asked = self.socket.retry(id, &mut outbox);
+        *out = outbox.into_list();
+        match asked {
+            Ok(()) => Report::Again,
+            Err(fault) => refused(fault.number()),
+        }
+    }
+
+    // Registers a name for a socket.
+    pub(crate) fn register(&mut self, object: &Pascal, kind: &Pascal, socket: u8) -> Report<A>
+        ensures { (sent : List Posted)
+            → IsStep (register_called self.old object.now kind.now socket) self.old sent result self.new sent }
+    {
+        match self.socket.register(copy_of(object), copy_of(kind), socket) {
+            Ok(()) => Report::Registered,
+            Err(fault) => refused(fault.number()),
+        }
+    }
+
+    // Takes a name away.
+    pub(crate) fn unregister(&mut self, object: &Pascal, kind: &Pascal) -> Report<A>
+        ensures { (sent : List Posted)
+            → IsStep (unregister_called self.old object.now kind.now) self.old sent result self.new sent }
+    {
+        match self.socket.unregister(object, kind) {
+            Ok(()) => Report::Done,
+            Err(fault) => refused(fault.number()),
+        }
+    }
+}
+
+// The pattern of a lookup. Without a zone it asks for any.
+pub(crate) fn pattern_asked(object: &Pascal, kind: &Pascal, zone: &Option<Pascal>) -> Name
+    ensures { result ≡ pattern_asked object.now kind.now zone.now }
+{
+    Name {
+        object: copy_of(object),
+        kind: copy_of(kind),
+        zone: zone_asked(zone),
+    }
+}
+
+fn zone_asked(zone: &Option<Pascal>) -> Pascal
+    ensures { result ≡ zone_asked zone.now }
+{
+    match zone {
+        Some(zone) => copy_of(zone),
+        None => Pascal::new(b"*").unwrap(),
+    }
+}
+
+// The report of the end of a lookup.
+fn told_of<A: Allocator>(finished: Finished<A>) -> Report<A>
+    ensures { result ≡ told_of finished }
+{
+    match finished {
+        Finished::Found(finds) => Report::Found(finds),
+        Finished::Claimed => Report::Claimed,
+        Finished::Taken(find) => Report::Taken(find),
+    }
+}

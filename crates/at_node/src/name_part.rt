@@ -1,0 +1,102 @@
+//! The part of a node that speaks NBP: its socket for names, and what packets do there.
+ghost use Rattle.std.specs.Prelude.{◌≡◌, Option, false};
+ghost use Rattle.at_ddp.specs.Datagram.{content};
+ghost use Rattle.at_name_socket.specs.NameSockets.{names_of, opening};
+ghost use Rattle.at_name_socket.specs.declared.neighbour.Neighbour.{Neighbour as Known};
+ghost use Rattle.at_node.specs.NameCalls.{nbp_kind};
+ghost use Rattle.at_node.specs.NameHearing.{HearsNames, told_by};
+ghost use Rattle.at_node.specs.Outcomes.{Comes};
+ghost use Rattle.at_node.specs.ServiceSocket.{is_asked};
+
+use crate::event::Report;
+use crate::node::refused;
+use crate::seat::Seat;
+use at_ddp::{Datagram, Datagrams, Listed, Outbox, Pascal};
+use at_name_socket::{Heard, NAME_SOCKET, NameSocket, Neighbour};
+use std::alloc::Allocator;
+use std::marker::Model;
+use std::mem;
+
+/// The protocol of NBP's datagrams.
+pub(crate) const NBP: u8 = 2;
+
+// The part of a node that speaks NBP.
+#[derive(Drop)]
+pub(crate) struct NamePart<A: Allocator> {
+    pub(crate) alloc: A,
+    pub(crate) socket: NameSocket<A>,
+}
+
+impl<A: Allocator> Model for NamePart<A> {
+    ghost use Rattle.at_name_socket.specs.NameSockets.{SocketState};
+
+    ghost Value = { SocketState };
+
+    ghost view = { λ p. p.socket };
+}
+
+impl<A: Allocator + Copy> NamePart<A> {
+    pub(crate) fn new(
+        alloc: A,
+        seat: Seat,
+        zone: Option<Pascal>,
+        neighbours: Option<Listed<Neighbour, A>>,
+    ) -> NamePart<A>
+        ensures { result ≡ opening seat.net seat.number seat.router zone neighbours }
+    {
+        NamePart {
+            alloc,
+            socket: NameSocket::new(alloc, seat.net, seat.number, seat.router, zone, neighbours),
+        }
+    }
+
+    // Takes a datagram of NBP that is for this node.
+    pub(crate) fn hear(
+        &mut self,
+        seat: Seat,
+        datagram: &Datagram<'_>,
+        out: &mut Datagrams<A>,
+    ) -> Report<A>
+        ensures comes { Comes (HearsNames seat self.old (content datagram.now)) self.old out.old.items result self.new
+            out.new.items }
+        ensures not_asked { is_asked result ≡ false }
+    {
+        if datagram.to.socket != NAME_SOCKET {
+            return Report::Ignored;
+        }
+        let mut outbox = outbox_over(self.alloc, seat, out);
+        let heard = self.socket.receive(datagram.data_, &mut outbox);
+        *out = outbox.into_list();
+        match heard {
+            Ok(heard) => told_by(heard),
+            Err(fault) => refused(fault.number()),
+        }
+    }
+}
+
+// An outbox of the socket for names, over a list that is empty until the outbox gives it back.
+pub(crate) fn outbox_over<A: Allocator + Copy>(
+    alloc: A,
+    seat: Seat,
+    list: &mut Datagrams<A>,
+) -> Outbox<A>
+    ensures items { result.items ≡ list.old.items }
+    ensures from { result.from ≡ names_of seat.net seat.number }
+    ensures kind { result.kind ≡ nbp_kind }
+{
+    let own = seat.at(NAME_SOCKET);
+    Outbox::over(mem::replace(list, Datagrams::new(alloc)), own, NBP)
+}
+
+// The report of what came of a packet.
+fn told_by<A: Allocator>(heard: Heard) -> Report<A>
+    ensures report { result ≡ told_by heard }
+    ensures not_asked { is_asked result ≡ false }
+{
+    match heard {
+        Heard::Ignored => Report::Ignored,
+        Heard::Relayed => Report::Relayed,
+        Heard::Answered(count) => Report::Names(count),
+        Heard::Kept(count) => Report::Finds(count),
+    }
+}

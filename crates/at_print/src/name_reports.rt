@@ -1,0 +1,44 @@
+//! How the names that lookups found print in reports.
+ghost use Rattle.std.specs.Prelude.{◌++◌, codes};
+ghost use Rattle.std.specs.List.{flat_map};
+ghost use Rattle.at_print.specs.Printers.{Prints};
+ghost use Rattle.at_print.specs.Reports.{find_text, found_text};
+
+use crate::name_lines::write_name;
+use crate::printer::Printer;
+use at_nbp::Find;
+use std::io::Write;
+
+/// The finds of a lookup that was finished.
+pub(crate) fn write_found<W: Write>(printer: &mut Printer<W>, finds: &[Find])
+    ensures { Prints W.contents printer.old printer.new (codes "found" ++ flat_map found_text finds.now) }
+{
+    printer.write_all(b"found");
+    for find in finds {
+        printer.write_all(b" ");
+        write_find(printer, find);
+    }
+}
+
+/// The name of a claim that is taken.
+pub(crate) fn write_taken<W: Write>(printer: &mut Printer<W>, find: &Find)
+    ensures { Prints W.contents printer.old printer.new (codes "taken " ++ find_text find.now) }
+{
+    printer.write_all(b"taken ");
+    write_find(printer, find);
+}
+
+// A name and who has it.
+fn write_find<W: Write>(printer: &mut Printer<W>, find: &Find)
+    ensures { Prints W.contents printer.old printer.new (find_text find.now) }
+{
+    let name = &find.name;
+    write_name(
+        printer,
+        name.object.bytes(),
+        name.kind.bytes(),
+        name.zone.bytes(),
+    );
+    let (node, socket) = (find.address.node, find.address.socket);
+    write!(printer, ",{node},{socket},{}", find.enumerator);
+}

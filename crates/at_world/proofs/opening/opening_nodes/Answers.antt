@@ -1,0 +1,28 @@
+use Rattle.std.proofs.Common.{◌≡◌, ℕ, ◌∷◌, ◌++◌, [], List, Some, None, cond, get_or, map, take, sym, ap, ◌∙◌, arith}
+use Rattle.std.proofs.lemmas.List.{map-append, take_all, take_more}
+use Rattle.at_node.specs.Nodes.{opening}
+use Rattle.at_world.specs.Plays.{neighbours_of, opening_node, router_of}
+use Rattle.at_world.specs.declared.setup.NodeSetup.{NodeSetup}
+use Rattle.at_world.proofs.opening.opening_nodes.Goals as goal
+
+pub loop-n-preserved : goal.loop-n-preserved
+loop-n-preserved g c =
+    let s = c.args.setup.now in
+    let setups = c.as_slice-setups.result.now in
+    let n : NodeSetup = c.n-item.result in
+    let i = c.loop-n.n-index in
+    let same : setups ≡ s.nodes = c.as_slice-setups.ensures in
+    let router = c.router_of-router.ensures ∙ ap router_of same in
+    let zones = c.in_ok-zones.ensures ∙ ap (λ (z : List (List ℕ)). cond n.router (Some z) None) c.as_slice.ensures in
+    let known = c.in_ok-neighbours.ensures ∙ ap (λ (l : List NodeSetup). cond n.router (Some (neighbours_of l)) None) same in
+    let node : c.new.result ≡ opening_node s n = c.new.ensures ∙ (λ k. opening s.net n.node (router k) (c.zone_of-zone.ensures k) (zones k) (known k)) in
+    let name : get_or setups i n ≡ n = sym c.n-item.is in
+    c.in_ok-push.ensures.items ∙ (λ k. c.loop-n.invariant k ++ node k ∷ [])
+    ∙ sym (ap (map (opening_node s)) (take_more setups i n c.loop-n-test.true) ∙ map-append (opening_node s) (take i setups) (get_or setups i n ∷ []) ∙ ap (λ x. map (opening_node s) (take i setups) ++ opening_node s x ∷ []) name)
+
+pub returns : goal.returns
+returns g c =
+    let s = c.args.setup.now in
+    let setups = c.as_slice-setups.result.now in
+    let same : setups ≡ s.nodes = c.as_slice-setups.ensures in
+    c.loop-n.invariant ∙ ap (map (opening_node s)) (take_all c.loop-n.n-index setups (omega (arith, c.loop-n-test.false)) ∙ same)
