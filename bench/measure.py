@@ -1,5 +1,5 @@
 #!/usr/bin/env python3
-"""Plays four kinds of schedules at two sizes, and prints how fast they were played and the memory that it took.
+"""Plays five kinds of schedules at two sizes, and prints how fast they were played and the memory that it took.
 
     python3 bench/measure.py [PROGRAM]
 
@@ -62,11 +62,31 @@ def sixteen_nodes(events):
         yield f"deliver {2 * turn + 1} {asker + 1}"
 
 
+# The nodes that have a name each. The first of all nodes is the router, and the last one looks the names up.
+OWNERS = range(2, NODES)
+
+
+def lookups(events):
+    yield from ("net 10", "node 1 router zone Lab", *(f"node {node} zone Lab" for node in range(2, NODES + 1)))
+    for node in OWNERS:
+        yield f"call {node} register Printer{node} LaserWriter 130"
+    for number in range((events - len(OWNERS)) // (3 + 2 * len(OWNERS))):
+        first = (2 + len(OWNERS)) * number
+        yield f"call {NODES} find = LaserWriter Lab"
+        yield f"deliver {first} 1"
+        for node in OWNERS:
+            yield f"deliver {first + 1} {node}"
+        for place in range(len(OWNERS)):
+            yield f"deliver {first + 2 + place} {NODES}"
+        yield f"call {NODES} finish {number % 256}"
+
+
 KINDS = (
     ("zone requests", zone_requests),
     ("transactions of eight full packets", transactions),
     ("all numbers in turn", numbers),
     ("sixteen nodes that ask each other", sixteen_nodes),
+    ("lookups", lookups),
 )
 
 

@@ -7,6 +7,8 @@ mod allocator;
 #[cfg(test)]
 mod failing;
 #[cfg(test)]
+mod lookups;
+#[cfg(test)]
 mod nodes;
 #[cfg(test)]
 mod reads;
