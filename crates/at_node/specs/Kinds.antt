@@ -1,7 +1,4 @@
--- Of which protocol a call, a timer, a datagram and a report are.
-use Rattle.std.specs.Prelude.{ℕ, ◌==◌, if◌then◌else◌}
-use Rattle.at_node.specs.AtpParts.{atp_kind}
-use Rattle.at_node.specs.NameCalls.{nbp_kind}
+-- Of which protocol a call, a timer and a report are.
 use Rattle.at_node.specs.declared.event.Call.{Call}
 use Rattle.at_node.specs.declared.event.Call.TheVariants.{Zones, Ask, Answer}
 use Rattle.at_node.specs.declared.event.Call.TheVariants.{Find, Claim, Finish, Register, Unregister}
@@ -30,10 +27,6 @@ abbrev pub kind_of_timer : Timer → Kind
 kind_of_timer (timer.Retry tid) = Atp
 kind_of_timer (timer.Release own node socket tid) = Atp
 kind_of_timer (timer.Lookup id) = Nbp
-
--- which part speaks the protocol of this number
-abbrev pub kind_of : ℕ → Kind
-kind_of protocol = if protocol == atp_kind then Atp else (if protocol == nbp_kind then Nbp else Nobody)
 
 -- which part alone reports this; nobody, if several do, or none
 abbrev pub reporter_of : {A : Type 0} → Report A → Kind
