@@ -18,7 +18,7 @@ use Rattle.at_nbp.proofs.StoodLemmas.{stood_before, joined_stood, replies_stand}
 
 -- ---- a packet that was sent
 
-sent_at : (P : Sent → Type 0) (sent : List (Option Sent)) (which : ℕ) (s : Sent) → AllByRecursion (λ (o : Option Sent). IfSome o P) sent → packet_at sent which ≡ Some s → P s
+pub sent_at : (P : Sent → Type 0) (sent : List (Option Sent)) (which : ℕ) (s : Sent) → AllByRecursion (λ (o : Option Sent). IfSome o P) sent → packet_at sent which ≡ Some s → P s
 sent_at P [] which s all is = absurd (cc)
 sent_at P (x ∷ sent) zero s all is = subst (λ (o : Option Sent). IfSome o P) is all.0
 sent_at P (x ∷ sent) (suc i) s all is = sent_at P sent i s all.1 is
@@ -104,7 +104,7 @@ module _ (setting : Setting) (history : List Happening) where
 
       go : (o : Option Sent) → packet_at n.sent which ≡ o → Sound setting history (answers n at replies o)
       go None e = sound
-      go (Some s) e = with s.packet.id s.packet.tuples (full s e)
+      go (Some s) e = with s.packet.id s.packet.tuples (full s e).1
 
   pub relays_sound : (n : Network) (at to : Address) (zone : List ℕ) (o : Option Sent) → Sound setting history n → Sound setting history (relays n at to zone o)
   relays_sound n at to zone None sound = sound

@@ -1,6 +1,8 @@
+mod AskedHistories
 mod AskingLemmas
+mod ByteLemmas
 mod CodeLemmas
-mod DistinctLemmas
+pub mod DistinctLemmas
 mod FindLemmas
 mod HearingLemmas
 mod Histories

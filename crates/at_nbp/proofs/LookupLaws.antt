@@ -1,5 +1,5 @@
 -- What holds of every table of lookups, after each call.
-use Rattle.std.proofs.Common.{◌≡◌, ℕ, zero, suc, ◌+◌, ◌%◌, ◌<◌, Bool, true, false, cond, List, [], ◌∷◌, ◌++◌, length, Option, Some, None, refl, sym, subst, ◌∙◌, arith}
+use Rattle.std.proofs.Common.{◌≡◌, ℕ, zero, suc, ◌+◌, ◌%◌, ◌<◌, Bool, true, false, cond, List, [], ◌∷◌, ◌++◌, length, find, Option, Some, None, refl, sym, subst, ◌∙◌, arith}
 use Rattle.std.specs.Prelude.{nat_lt, not, ◌==◌, ◌&&◌}
 use Rattle.std.specs.List.{AllByRecursion, IsDistinct, list_any}
 use Rattle.std.proofs.lemmas.Bool.{true≢false, and_parts, eqb-true}
@@ -61,6 +61,14 @@ drawn_free l id h = go (nat_lt (length l.searches) 8) h
     go : (b : Bool) → cond b (free_id (length l.searches + 1) l.next l.searches) None ≡ Some id → list_any (has_id id) l.searches ≡ false
     go true g = free_from (length l.searches + 1) l.next l.searches id g
     go false g = absurd (cc)
+
+-- no open lookup has the identifier that is drawn
+pub none_drawn : (l : Lookups) (id : ℕ) → next_id l ≡ Some id → search_of l id ≡ None
+none_drawn l id h = go l.searches (none_any (has_id id) l.searches (drawn_free l id h))
+  where
+    go : (searches : List Search) → AllByRecursion (λ s. has_id id s ≡ false) searches → find (has_id id) searches ≡ None
+    go [] all = refl
+    go (s ∷ searches) all = rw all.0 (go searches all.1)
 
 drawn_few : (l : Lookups) (id : ℕ) → next_id l ≡ Some id → length l.searches < 8
 drawn_few l id h = go (nat_lt (length l.searches) 8) refl h

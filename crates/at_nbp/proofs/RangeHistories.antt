@@ -12,7 +12,7 @@ use Rattle.at_nbp.specs.Lookups.{Lookups, Search, answered, beginning, closed, f
 use Rattle.at_nbp.specs.NameTables.{Table, is_called}
 use Rattle.at_nbp.specs.Names.{is_match}
 use Rattle.at_nbp.specs.Network.{AllTimely, Answers, AreMatches, Begins, Claims, Finishes, Happening, Hears, IsAnswered, Network, Other, Registers, Relays, Retries, Sent, Setting, Unregisters, after, answers, answers_with, begins, done, finishes, hears, packet_at, packet_of, put, relays, reply_to, retries, stamped, with_names, with_sent}
-use Rattle.at_nbp.specs.Packets.{Content, IsLawful}
+use Rattle.at_nbp.specs.Packets.{Content}
 use Rattle.at_nbp.specs.Relays.{relayed}
 use Rattle.at_nbp.specs.Replies.{matching, name_in, pattern_of}
 use Rattle.at_nbp.specs.Tuples.{Entry, IsString, IsTuple}
@@ -20,7 +20,7 @@ use Rattle.at_nbp.specs.declared.function.Function.TheVariants.{Reply}
 use Rattle.at_nbp.specs.declared.name.Name.{Name}
 use Rattle.at_nbp.specs.declared.names.Registered.{Registered}
 use Rattle.at_nbp.proofs.NetworkLemmas.{put_everywhere}
-use Rattle.at_nbp.proofs.Ranges.{IsAsked, asked_fits, by_place, entries_fit, first_tuple, question_fits, relayed_fits, replies_fit}
+use Rattle.at_nbp.proofs.Ranges.{IsAsked, IsSpelled, asked_fits, by_place, entries_fit, first_tuple, question_fits, relayed_fits, replies_fit}
 
 record TableFits (at : Address) (t : Table) : Type 0 where
   pub own : t.own ≡ at
@@ -44,11 +44,11 @@ record Fits (n : Network) : Type 0 where
 -- ---- what is sent
 
 abbrev CanBeSent : Address × Content → Type 0
-CanBeSent x = IsAddress x.0 × IsLawful x.1
+CanBeSent x = IsAddress x.0 × IsSpelled x.1
 
 stamped_fits : (event : ℕ) (from : Address) (packets : List (Address × Content)) → IsAddress from → AllByRecursion CanBeSent packets → SentFits (stamped event from packets)
 stamped_fits event from [] at each = tt
-stamped_fits event from (x ∷ xs) at each = (record { from_fits = at; to_fits = (each.0).0; lawful = (each.0).1 }, stamped_fits event from xs at each.1)
+stamped_fits event from (x ∷ xs) at each = (record { from_fits = at; to_fits = (each.0).0; lawful = (each.0).1.0; fits = (each.0).1.1 }, stamped_fits event from xs at each.1)
 
 sends_fits : (n : Network) (from : Address) (packets : List (Address × Content)) → Fits n → IsAddress from → AllByRecursion CanBeSent packets → Fits (with_sent n from packets)
 sends_fits n from packets f at each = record {
@@ -148,7 +148,7 @@ hears_fits n (Some s) f = with_lookups n s.to (heard (n.lookups s.to) s.packet).
 
 -- ---- answers and relays
 
-packets_fit : (to : Address) (id : ℕ) (replies : List (List Entry)) → IsAddress to → AllByRecursion (λ (reply : List Entry). IsLawful (record { function = Reply; id = id; tuples = reply })) replies →
+packets_fit : (to : Address) (id : ℕ) (replies : List (List Entry)) → IsAddress to → AllByRecursion (λ (reply : List Entry). IsSpelled (record { function = Reply; id = id; tuples = reply })) replies →
     AllByRecursion CanBeSent (map (reply_to to id) replies)
 packets_fit to id [] at each = tt
 packets_fit to id (r ∷ rs) at each = ((at, each.0), packets_fit to id rs at each.1)
@@ -174,7 +174,7 @@ done_fits n (Answers which at replies) f is full = go (packet_at n.sent which) r
   where
     go : (o : Option Sent) → packet_at n.sent which ≡ o → Fits (answers n at replies o)
     go None e = f
-    go (Some s) e = let lawful = (sent_fits n.sent which s f.sent e).lawful in answers_fits n at s.packet.id replies s.packet.tuples f is lawful.id lawful.each (full s e)
+    go (Some s) e = let lawful = (sent_fits n.sent which s f.sent e).lawful in answers_fits n at s.packet.id replies s.packet.tuples f is lawful.id lawful.each (full s e).1
 done_fits n (Relays which at to zone) f is full = go (packet_at n.sent which) refl
   where
     go : (o : Option Sent) → packet_at n.sent which ≡ o → Fits (relays n at to zone o)

@@ -1,5 +1,5 @@
 -- What is in range, packet by packet and happening by happening.
-use Rattle.std.proofs.Common.{◌≡◌, ℕ, zero, suc, ◌<◌, Bool, true, false, cond, List, [], ◌∷◌, length, drop, map, sym, subst, ◌∙◌, arith}
+use Rattle.std.proofs.Common.{◌≡◌, ℕ, zero, suc, ◌<◌, Bool, true, false, cond, List, [], ◌∷◌, length, drop, map, refl, sym, ap, subst, ◌≤◌, ◌∙◌, arith}
 use Rattle.std.specs.Prelude.{All}
 use Rattle.std.specs.List.{AllByRecursion, filter}
 use Rattle.std.proofs.lemmas.List.{length-map}
@@ -11,15 +11,16 @@ use Rattle.at_nbp.specs.Lookups.{Lookups, Search, answered, asking, beginning, c
 use Rattle.at_nbp.specs.NameTables.{Table}
 use Rattle.at_nbp.specs.Names.{is_any_zone}
 use Rattle.at_nbp.specs.Network.{asks}
-use Rattle.at_nbp.specs.Packets.{Content, HasCount, IsLawful}
+use Rattle.at_nbp.specs.Packets.{Content, HasCount, IsLawful, spelling}
 use Rattle.at_nbp.specs.Relays.{asks_router, in_zone, relayed}
-use Rattle.at_nbp.specs.Replies.{AreReplies, IsFull, entry_in}
-use Rattle.at_nbp.specs.Tuples.{Entry, IsString, IsTuple}
+use Rattle.at_nbp.specs.Replies.{AreReplies, IsFull, entry_in, size_of}
+use Rattle.at_nbp.specs.Tuples.{Entry, FitsStrings, IsString, IsTuple}
 use Rattle.at_nbp.specs.declared.function.Function.{Function}
 use Rattle.at_nbp.specs.declared.function.Function.TheVariants.{BroadcastRequest, LookUp, Reply, ForwardRequest}
 use Rattle.at_nbp.specs.declared.name.Name.{Name}
 use Rattle.at_nbp.specs.declared.names.Registered.{Registered}
-use Rattle.at_nbp.proofs.AskingLemmas.{one_counts}
+use Rattle.at_nbp.proofs.AskingLemmas.{one_counts, one_len}
+use Rattle.at_nbp.proofs.PacketLemmas.{length_spelling}
 
 -- ---- strings and tuples
 
@@ -47,6 +48,21 @@ one_tuple t is (suc k) d lt = absurd (omega (arith, lt))
 pub first_tuple : (t : Entry) (ts : List Entry) → All IsTuple (t ∷ ts) → IsTuple t
 first_tuple t ts each = each 0 t (omega arith)
 
+-- ---- packets in the data of one datagram
+
+-- a packet that can be spelled, and has room there
+abbrev pub IsSpelled : Content → Type 0
+IsSpelled p = IsLawful p × (length (spelling p) ≤ 586)
+
+short_strings : (t : Entry) → IsTuple t → FitsStrings t
+short_strings t is k d lt = let text = is.each k d lt in text.fits
+
+-- one tuple has room
+one_small : (f : Function) (id : ℕ) (tuples : List Entry) → length tuples ≡ 1 → All IsTuple tuples → length (spelling (record { function = f; id = id; tuples = tuples })) ≤ 586
+one_small f id [] one each = absurd (omega (arith, one))
+one_small f id (t ∷ u ∷ ts) one each = absurd (omega (arith, one))
+one_small f id (t ∷ []) one each = omega (arith, one_len f id t (short_strings t (first_tuple t [] each)))
+
 -- ---- questions
 
 pub asked_fits : (pattern : Name) → IsName pattern → IsName (lookups.asked pattern)
@@ -57,12 +73,11 @@ pub record IsAsked (s : Search) : Type 0 where
   pub id : s.id < 256
   pub pattern : IsName s.pattern
 
-pub question_fits : (l : Lookups) (s : Search) → IsAddress l.own → IsAsked s → IsLawful (question l s)
-question_fits l s own is = record {
-  id = is.id;
-  count = one_counts l.function;
-  each = one_tuple (asking l.own s.pattern) (record { address = own; enumerator = omega arith; each = three_fit s.pattern.object s.pattern.kind s.pattern.zone (is.pattern).object (is.pattern).kind (is.pattern).zone });
-}
+pub question_fits : (l : Lookups) (s : Search) → IsAddress l.own → IsAsked s → IsSpelled (question l s)
+question_fits l s own is =
+    let strings = three_fit s.pattern.object s.pattern.kind s.pattern.zone (is.pattern).object (is.pattern).kind (is.pattern).zone in
+    let each = one_tuple (asking l.own s.pattern) (record { address = own; enumerator = omega arith; each = strings }) in
+    (record { id = is.id; count = one_counts l.function; each = each }, one_small l.function s.id (asking l.own s.pattern ∷ []) refl each)
 
 -- ---- replies
 
@@ -88,11 +103,13 @@ by_place P (x ∷ xs) each (suc k) d lt = by_place P xs each.1 k d (omega (arith
 
 -- each of the replies can be spelled
 pub replies_fit : (id : ℕ) (entries : List Entry) (replies : List (List Entry)) → id < 256 → AreReplies entries replies → All IsTuple entries →
-    AllByRecursion (λ (reply : List Entry). IsLawful (record { function = Reply; id = id; tuples = reply })) replies
+    AllByRecursion (λ (reply : List Entry). IsSpelled (record { function = Reply; id = id; tuples = reply })) replies
 replies_fit id entries [] fits are each = tt
 replies_fit id entries (r ∷ rs) fits are each =
     let full : IsFull entries (length r) = are.0 in
-    (record { id = fits; count = full.few; each = subst (All IsTuple) (sym are.1) (All-take IsTuple (length r) entries each) }, replies_fit id (drop (length r) entries) rs fits are.2 (All-drop IsTuple (length r) entries each))
+    let lawful : IsLawful (record { function = Reply; id = id; tuples = r }) = record { id = fits; count = full.few; each = subst (All IsTuple) (sym are.1) (All-take IsTuple (length r) entries each) } in
+    let small = full.fits in
+    ((lawful, omega (arith, small, ap size_of are.1, length_spelling (record { function = Reply; id = id; tuples = r }))), replies_fit id (drop (length r) entries) rs fits are.2 (All-drop IsTuple (length r) entries each))
 
 -- ---- requests that are relayed
 
@@ -114,7 +131,9 @@ one_asks ForwardRequest count asks is = is
 one_asks LookUp count asks is = absurd cc
 one_asks Reply count asks is = absurd cc
 
-pub relayed_fits : (zone : List ℕ) (p : Content) → IsString zone → asks_router p.function ≡ true → IsLawful p → IsLawful (relayed zone p)
+pub relayed_fits : (zone : List ℕ) (p : Content) → IsString zone → asks_router p.function ≡ true → IsLawful p → IsSpelled (relayed zone p)
 relayed_fits zone p fits asks is =
     let one : length p.tuples ≡ 1 = one_asks p.function (length p.tuples) asks is.count in
-    record { id = is.id; count = length-map p.tuples (in_zone zone) ∙ one; each = one_in_zone zone p.tuples fits one is.each }
+    let still : length (map (in_zone zone) p.tuples) ≡ 1 = length-map p.tuples (in_zone zone) ∙ one in
+    let each = one_in_zone zone p.tuples fits one is.each in
+    (record { id = is.id; count = still; each = each }, one_small LookUp p.id (map (in_zone zone) p.tuples) still each)

@@ -1,9 +1,9 @@
 -- Networks in which all that is asked and registered is in range (Inside AppleTalk, NBP, "NBP packet formats").
-use Rattle.std.specs.Prelude.{◌<◌}
+use Rattle.std.specs.Prelude.{◌<◌, ◌≤◌, length}
 use Rattle.at_ddp.specs.Datagram.{IsAddress}
 use Rattle.at_ddp.specs.declared.address.Address.{Address}
 use Rattle.at_nbp.specs.Network.{Happening, Begins, Retries, Answers, Relays, Registers, Claims, Setting, Sent}
-use Rattle.at_nbp.specs.Packets.{IsLawful}
+use Rattle.at_nbp.specs.Packets.{IsLawful, spelling}
 use Rattle.at_nbp.specs.Tuples.{IsString}
 use Rattle.at_nbp.specs.declared.name.Name.{Name}
 use Rattle.at_nbp.specs.declared.names.Registered.{Registered}
@@ -36,8 +36,9 @@ IsInRange (Registers at name) = IsNamed name
 IsInRange (Claims at id name) = IsNamed name
 IsInRange other = Unit {0}
 
--- a packet that was sent can be spelled, and so can its addresses
+-- a packet that was sent can be spelled in the data of one datagram, and so can its addresses
 pub record IsLawfullySent (s : Sent) : Type 0 where
   pub from_fits : IsAddress s.from
   pub to_fits : IsAddress s.to
   pub lawful : IsLawful s.packet
+  pub fits : length (spelling s.packet) ≤ 586

@@ -1,3 +1,4 @@
+pub mod Askers
 pub mod Fault
 pub mod Lawfully
 pub mod Lookups

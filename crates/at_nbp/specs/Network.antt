@@ -16,7 +16,7 @@ use Rattle.at_nbp.specs.Replies.{AreReplies, entry_in, matching, pattern_of}
 use Rattle.at_nbp.specs.Tuples.{Entry}
 use Rattle.at_nbp.specs.declared.find.Find.{Find}
 use Rattle.at_nbp.specs.declared.function.Function.{Function}
-use Rattle.at_nbp.specs.declared.function.Function.TheVariants.{Reply}
+use Rattle.at_nbp.specs.declared.function.Function.TheVariants.{LookUp, Reply}
 use Rattle.at_nbp.specs.declared.name.Name.{Name}
 use Rattle.at_nbp.specs.declared.names.Registered.{Registered}
 
@@ -193,10 +193,11 @@ abbrev pub AreMatches : Table → List (List Entry) → List Entry → Type 0
 AreMatches table replies [] = Unit {0}
 AreMatches table replies (t ∷ ts) = AreReplies (matching table (pattern_of t)) replies
 
--- replies have the names that match, and a request alone is relayed
+-- a lookup alone is answered, with the names that match, and a request alone is relayed
 abbrev pub IsAnswered : Network → Happening → Type 0
 IsAnswered n (Answers which at replies) =
-    (s : Sent) → packet_at n.sent which ≡ Some s → AreMatches (n.tables at) replies s.packet.tuples
+    (s : Sent) → packet_at n.sent which ≡ Some s
+    → (s.packet.function ≡ LookUp) × AreMatches (n.tables at) replies s.packet.tuples
 IsAnswered n (Relays which at to zone) =
     (s : Sent) → packet_at n.sent which ≡ Some s → asks_router s.packet.function ≡ true
 IsAnswered n other = Unit {0}
