@@ -1,4 +1,6 @@
+mod OpenLemmas
 mod OwedLemmas
 mod PacketSteps
 mod SocketLemmas
 mod StepLemmas
+mod TableSteps

@@ -1,21 +1,27 @@
 -- Each step of the socket as a happening of the network.
-use Rattle.std.proofs.Common.{◌≡◌, ℕ, false, length, List, [], ◌∷◌, Option, Some, None, refl, sym, ap, subst, ◌∙◌, append-nil}
-use Rattle.std.specs.Prelude.{find}
+use Rattle.std.proofs.Common.{◌≡◌, ℕ, zero, suc, ◌+◌, ◌<◌, ◌≤◌, Bool, true, false, cond, length, List, [], ◌∷◌, find, Option, Some, None, refl, sym, ap, subst, ◌∙◌, arith}
+use Rattle.std.specs.Prelude.{All, ◌||◌, is_some, nat_le}
+use Rattle.std.specs.List.{AllByRecursion, IsDistinct, list_any}
+use Rattle.std.proofs.lemmas.Bool.Decides.{nat_tests}
 use Rattle.at_ddp.specs.Address.{same_address}
-use Rattle.at_ddp.specs.Tables.{without_first}
 use Rattle.at_ddp.specs.declared.address.Address.{Address}
 use Rattle.at_ddp.proofs.Octets.{same_address_itself}
-use Rattle.at_name_socket.specs.NameSockets.{SocketState, any_pattern, claim_begun, claim_ended, closing, ended, ending, finish, is_claim, taker}
-use Rattle.at_name_socket.specs.Steps.{Becomes, Happens, Stands, spelled}
+use Rattle.at_name_socket.specs.NameSockets.{SocketState, any_pattern, claim_begun, opening, own_zone}
+use Rattle.at_name_socket.specs.Sockets.{IsClaim, IsSocket, Opens, Stays, changed, open_at}
+use Rattle.at_name_socket.specs.Steps.{Becomes, Happens, StandsLawfully, spelled}
 use Rattle.at_name_socket.specs.declared.claim.Claim.{Claim}
+use Rattle.at_name_socket.specs.declared.neighbour.Neighbour.{Neighbour}
+use Rattle.at_nbp.specs.Lawfully.{IsName}
 use Rattle.at_nbp.specs.Lookups as lookups
 use Rattle.at_nbp.specs.Lookups.{Lookups, Search, asked, beginning, closed, next_id, question, search_of, sent_question}
-use Rattle.at_nbp.specs.NameTables.{Table, is_called, number_from, registered}
-use Rattle.at_nbp.specs.Network.{Begins, Claims, Finishes, Network, Other, Registers, Retries, Unregisters, begins, done, put, retries}
+use Rattle.at_nbp.specs.NameTables.{Table, has_number, is_called, is_no_text, number_from, register_fault}
+use Rattle.at_nbp.specs.Network.{Begins, Network, Other, Retries, begins, done, put, retries}
 use Rattle.at_nbp.specs.Packets.{Content}
-use Rattle.at_nbp.specs.declared.find.Find.{Find}
+use Rattle.at_nbp.specs.Tuples.{IsString}
+use Rattle.at_nbp.specs.declared.fault.NbpFault.TheVariants.{EmptyName, NameInUse, NamesFull}
 use Rattle.at_nbp.specs.declared.name.Name.{Name}
 use Rattle.at_nbp.specs.declared.names.Registered.{Registered}
+use Rattle.at_name_socket.proofs.OpenLemmas.{claim_lawful, claim_opens, found_lawful, found_opens, stands_begun}
 
 -- ---- what stands at an address
 
@@ -25,172 +31,143 @@ put_here f at x = rw (same_address_itself at) refl
 pub put_there : {X : Type 0} (f : Address → X) (at a : Address) (x : X) → same_address at a ≡ false → put f at x a ≡ f a
 put_there f at a x apart = rw apart refl
 
+-- ---- what is in range
+
+pub star_fits : IsString (0x2A ∷ [])
+star_fits = record { fits = omega arith; bytes = all_one }
+  where
+    all_one : All (λ b. b < 256) (0x2A ∷ [])
+    all_one zero d lt = omega arith
+    all_one (suc k) d lt = absurd (omega (arith, lt))
+
+-- the number of a new name is at most that of the names
+pub number_few : (tries number : ℕ) (names : List Registered) (socket : ℕ) → number_from tries number names socket ≤ number + tries
+number_few zero number names socket = omega arith
+number_few (suc tries) number names socket = go (number_few tries (number + 1) names socket) (list_any (has_number socket number) names)
+  where
+    go : number_from tries (number + 1) names socket ≤ (number + 1) + tries → (b : Bool) → cond b (number_from tries (number + 1) names socket) number ≤ number + suc tries
+    go ih true = omega (arith, ih)
+    go ih false = omega arith
+
+-- a table that takes one name more has fewer than 64
+pub few_names : (names : List Registered) (object kind : List ℕ) → register_fault names object kind ≡ None → length names < 64
+few_names names object kind h = go (is_no_text object || is_no_text kind) (is_some (find (is_called object kind) names)) (nat_le 64 (length names)) refl h
+  where
+    go : (a b c : Bool) → nat_le 64 (length names) ≡ c → cond a (Some EmptyName) (cond b (Some NameInUse) (cond c (Some NamesFull) None)) ≡ None → length names < 64
+    go true b c e g = absurd cc
+    go false true c e g = absurd cc
+    go false false true e g = absurd cc
+    go false false false e g = grind (arith, nat_tests, e)
+
+-- ---- a new socket
+
+pub new_lawful : (net node : ℕ) (router : Option ℕ) (zone : Option (List ℕ)) (neighbours : Option (List Neighbour)) → IsString (own_zone zone) →
+    ((ns : List Neighbour) → neighbours ≡ Some ns → AllByRecursion (λ (n : Neighbour). IsString n.zone) ns) → IsSocket (opening net node router zone neighbours)
+unfolding IsDistinct
+new_lawful net node router its_zone neighbours fits known = record { differ = tt; claims = tt; zone = fits; neighbours = known }
+
 -- ---- nothing happens
 
-pub passes : (n : Network) (at : Address) (s : SocketState) → Stands n at s → Happens n at s []
+pub passes : (n : Network) (at : Address) (s : SocketState) → StandsLawfully n at s → Happens n at s s Stays []
 passes n at s st = record {
   happening = Other 0;
   is =
       record {
-        becomes = record { stands = record { table = st.table; lookups = st.lookups }; others = λ a apart. (refl, refl); packets = []; sent = refl; are = refl };
+        becomes = record {
+          stands = record { table = (st.stands).table; lookups = (st.stands).lookups };
+          others = λ a apart. (refl, refl);
+          same_event = refl;
+          begun = refl;
+          packets = [];
+          sent = refl;
+          are = refl;
+          opened = λ id. refl;
+          socket = st.socket;
+          own = refl;
+        };
         timely = tt;
         answered = tt;
+        in_range = tt;
+        asks = λ these is. tt;
       };
 }
 
 -- ---- lookups
 
-pub find_happens : (n : Network) (at : Address) (s : SocketState) (id : ℕ) (pattern : Name) → Stands n at s → next_id s.lookups ≡ Some id →
-    Happens n at (record s { lookups = lookups.begun s.lookups (beginning id pattern) }) (sent_question s.lookups (beginning id pattern) ∷ [])
-find_happens n at s id pattern st drawn =
-    let to : done n (Begins at pattern) ≡ begins n at pattern (Some id) = ap (begins n at pattern) (ap next_id st.lookups ∙ drawn) in
+-- a lookup begins, which may be a claim
+begins_open : (n : Network) (at : Address) (s new : SocketState) (id : ℕ) (pattern : Name) (claim : Option Claim) → StandsLawfully n at s → IsName pattern → next_id s.lookups ≡ Some id →
+    new.table ≡ s.table → new.lookups ≡ lookups.begun s.lookups (beginning id pattern) → ((other : ℕ) → open_at new other ≡ changed (Opens id pattern claim) (open_at s) other) → IsSocket new →
+    Happens n at s new (Opens id pattern claim) (sent_question s.lookups (beginning id pattern) ∷ [])
+begins_open n at s new id pattern claim st name drawn table now opened lawful =
+    let here = st.stands in
+    let to : done n (Begins at pattern) ≡ begins n at pattern (Some id) = ap (begins n at pattern) (ap next_id here.lookups ∙ drawn) in
     let packet : Lookups → Address × Content = λ l. (l.to, question l (beginning id pattern)) in
-    let new : SocketState = record s { lookups = lookups.begun s.lookups (beginning id pattern) } in
-    let becomes : Becomes n (begins n at pattern (Some id)) at new (sent_question s.lookups (beginning id pattern) ∷ []) = record {
+    let pushes = sent_question s.lookups (beginning id pattern) ∷ [] in
+    let becomes : Becomes n (begins n at pattern (Some id)) at s new (Opens id pattern claim) pushes = record {
       stands = record {
-        table = st.table;
-        lookups = put_here n.lookups at (lookups.begun (n.lookups at) (beginning id pattern)) ∙ ap (λ (l : Lookups). lookups.begun l (beginning id pattern)) st.lookups;
+        table = here.table ∙ sym table;
+        lookups = put_here n.lookups at (lookups.begun (n.lookups at) (beginning id pattern)) ∙ ap (λ (l : Lookups). lookups.begun l (beginning id pattern)) here.lookups ∙ sym now;
       };
       others = λ a apart. (refl, put_there n.lookups at a (lookups.begun (n.lookups at) (beginning id pattern)) apart);
+      same_event = refl;
+      begun = refl;
       packets = packet (n.lookups at) ∷ [];
       sent = refl;
-      are = ap (λ (l : Lookups). spelled (packet l) ∷ []) (sym st.lookups);
+      are = ap (λ (l : Lookups). spelled (packet l) ∷ []) (sym here.lookups);
+      opened = opened;
+      socket = lawful;
+      own = ap (λ (t : Table). t.own) table;
     } in
-    record { happening = Begins at pattern; is = record { becomes = subst (λ (m : Network). Becomes n m at new (sent_question s.lookups (beginning id pattern) ∷ [])) (sym to) becomes; timely = tt; answered = tt } }
-
--- a claim is noted beside its lookup
-pub claim_happens : (n : Network) (at : Address) (s : SocketState) (id : ℕ) (object kind : List ℕ) (socket : ℕ) → Stands n at s → next_id s.lookups ≡ Some id →
-    Happens n at (claim_begun s id object kind socket) (sent_question s.lookups (beginning id (any_pattern object kind)) ∷ [])
-claim_happens n at s id object kind socket st drawn =
-    let h = find_happens n at s id (any_pattern object kind) st drawn in
-    let b = ((h.is).becomes) in
     record {
-      happening = h.happening;
+      happening = Begins at pattern;
       is =
           record {
-            becomes = record { stands = record { table = (b.stands).table; lookups = (b.stands).lookups }; others = b.others; packets = b.packets; sent = b.sent; are = b.are };
-            timely = (h.is).timely;
-            answered = (h.is).answered;
+            becomes = subst (λ (m : Network). Becomes n m at s new (Opens id pattern claim) pushes) (sym to) becomes;
+            timely = tt;
+            answered = tt;
+            in_range = (st.fits, name);
+            asks = λ these is. is;
           };
     }
 
-pub retry_happens : (n : Network) (at : Address) (s : SocketState) (id : ℕ) (search : Search) → Stands n at s → search_of s.lookups id ≡ Some search →
-    Happens n at s (sent_question s.lookups search ∷ [])
-retry_happens n at s id search st there =
-    let to : done n (Retries at id) ≡ retries n at (Some search) = ap (retries n at) (ap (λ (l : Lookups). search_of l id) st.lookups ∙ there) in
-    let packet : Lookups → Address × Content = λ l. (l.to, question l search) in
-    let becomes : Becomes n (retries n at (Some search)) at s (sent_question s.lookups search ∷ []) = record {
-      stands = record { table = st.table; lookups = st.lookups };
+module _ (drawn : (l : Lookups) (id : ℕ) → next_id l ≡ Some id → search_of l id ≡ None) where
+  pub find_happens : (n : Network) (at : Address) (s : SocketState) (id : ℕ) (pattern : Name) → StandsLawfully n at s → IsName pattern → next_id s.lookups ≡ Some id →
+      Happens n at s (record s { lookups = lookups.begun s.lookups (beginning id pattern) }) (Opens id pattern None) (sent_question s.lookups (beginning id pattern) ∷ [])
+  find_happens n at s id pattern st name next =
+      let none = drawn s.lookups id next in
+      begins_open n at s (record s { lookups = lookups.begun s.lookups (beginning id pattern) }) id pattern None st name next refl refl (found_opens s id pattern st.socket none) (found_lawful s id pattern st.socket none)
+
+  -- a claim is noted beside its lookup
+  pub claim_happens : (n : Network) (at : Address) (s : SocketState) (id : ℕ) (object kind : List ℕ) (socket : ℕ) → StandsLawfully n at s → IsString object → IsString kind → socket < 256 → next_id s.lookups ≡ Some id →
+      Happens n at s (claim_begun s id object kind socket) (Opens id (any_pattern object kind) (Some (record { id = id; object = object; kind = kind; socket = socket })))
+      (sent_question s.lookups (beginning id (any_pattern object kind)) ∷ [])
+  claim_happens n at s id object kind socket st first second small next =
+      let none = drawn s.lookups id next in
+      let claim : Claim = record { id = id; object = object; kind = kind; socket = socket } in
+      let new : IsClaim (claim_begun s id object kind socket) claim = record { object = first; kind = second; socket = small; stands = stands_begun s.lookups id (any_pattern object kind) none } in
+      begins_open n at s (claim_begun s id object kind socket) id (any_pattern object kind) (Some claim) st (record { object = first; kind = second; zone = star_fits }) next refl refl
+      (claim_opens s id object kind socket st.socket none) (claim_lawful s id object kind socket st.socket none new)
+
+pub retry_happens : (n : Network) (at : Address) (s : SocketState) (id : ℕ) (looked : Search) → StandsLawfully n at s → search_of s.lookups id ≡ Some looked →
+    Happens n at s s Stays (sent_question s.lookups looked ∷ [])
+retry_happens n at s id looked st there =
+    let here = st.stands in
+    let to : done n (Retries at id) ≡ retries n at (Some looked) = ap (retries n at) (ap (λ (l : Lookups). search_of l id) here.lookups ∙ there) in
+    let packet : Lookups → Address × Content = λ l. (l.to, question l looked) in
+    let pushes = sent_question s.lookups looked ∷ [] in
+    let becomes : Becomes n (retries n at (Some looked)) at s s Stays pushes = record {
+      stands = record { table = here.table; lookups = here.lookups };
       others = λ a apart. (refl, refl);
+      same_event = refl;
+      begun = refl;
       packets = packet (n.lookups at) ∷ [];
       sent = refl;
-      are = ap (λ (l : Lookups). spelled (packet l) ∷ []) (sym st.lookups);
+      are = ap (λ (l : Lookups). spelled (packet l) ∷ []) (sym here.lookups);
+      opened = λ other. refl;
+      socket = st.socket;
+      own = refl;
     } in
-    record { happening = Retries at id; is = record { becomes = subst (λ (m : Network). Becomes n m at s (sent_question s.lookups search ∷ [])) (sym to) becomes; timely = tt; answered = tt } }
-
--- ---- names
-
--- the name that joins a table
-abbrev joining : List ℕ → List ℕ → ℕ → Table → Registered
-joining object kind socket t = record { object = object; kind = kind; socket = socket; enumerator = number_from (length t.names) 0 t.names socket }
-
-pub register_happens : (n : Network) (at : Address) (s : SocketState) (object kind : List ℕ) (socket : ℕ) → Stands n at s → Happens n at (record s { table = registered s.table object kind socket }) []
-register_happens n at s object kind socket st =
-    let joined : Table → Table = λ t. registered t object kind socket in
     record {
-      happening = Registers at (joining object kind socket (n.tables at));
-      is =
-          record {
-            becomes =
-                record {
-                  stands = record { table = put_here n.tables at (joined (n.tables at)) ∙ ap joined st.table; lookups = st.lookups };
-                  others = λ a apart. (put_there n.tables at a (joined (n.tables at)) apart, refl);
-                  packets = [];
-                  sent = sym (append-nil n.sent);
-                  are = refl;
-                };
-            timely = tt;
-            answered = tt;
-          };
+      happening = Retries at id;
+      is = record { becomes = subst (λ (m : Network). Becomes n m at s s Stays pushes) (sym to) becomes; timely = tt; answered = tt; in_range = st.fits; asks = λ these is. is };
     }
-
-pub unregister_happens : (n : Network) (at : Address) (s : SocketState) (object kind : List ℕ) → Stands n at s →
-    Happens n at (record s { table = record s.table { names = without_first (is_called object kind) s.table.names } }) []
-unregister_happens n at s object kind st =
-    let left : Table → Table = λ t. record t { names = without_first (is_called object kind) t.names } in
-    record {
-      happening = Unregisters at object kind;
-      is =
-          record {
-            becomes =
-                record {
-                  stands = record { table = put_here n.tables at (left (n.tables at)) ∙ ap left st.table; lookups = st.lookups };
-                  others = λ a apart. (put_there n.tables at a (left (n.tables at)) apart, refl);
-                  packets = [];
-                  sent = sym (append-nil n.sent);
-                  are = refl;
-                };
-            timely = tt;
-            answered = tt;
-          };
-    }
-
--- ---- the end of a lookup
-
-closes : (n : Network) (at : Address) (s : SocketState) (id : ℕ) → Stands n at s → Happens n at (closing s id) []
-closes n at s id st = record {
-  happening = Finishes at id;
-  is =
-      record {
-        becomes =
-            record {
-              stands = record { table = st.table; lookups = put_here n.lookups at (closed (n.lookups at) id) ∙ ap (λ (l : Lookups). closed l id) st.lookups };
-              others = λ a apart. (refl, put_there n.lookups at a (closed (n.lookups at) id) apart);
-              packets = [];
-              sent = sym (append-nil n.sent);
-              are = refl;
-            };
-        timely = tt;
-        answered = tt;
-      };
-}
-
-claims : (n : Network) (at : Address) (s : SocketState) (id : ℕ) (object kind : List ℕ) (socket : ℕ) → Stands n at s →
-    Happens n at (record (closing s id) { table = registered s.table object kind socket }) []
-claims n at s id object kind socket st =
-    let joined : Table → Table = λ t. registered t object kind socket in
-    record {
-      happening = Claims at id (joining object kind socket (n.tables at));
-      is =
-          record {
-            becomes =
-                record {
-                  stands =
-                      record {
-                        table = put_here n.tables at (joined (n.tables at)) ∙ ap joined st.table;
-                        lookups = put_here n.lookups at (closed (n.lookups at) id) ∙ ap (λ (l : Lookups). closed l id) st.lookups;
-                      };
-                  others = λ a apart. (put_there n.tables at a (joined (n.tables at)) apart, put_there n.lookups at a (closed (n.lookups at) id) apart);
-                  packets = [];
-                  sent = sym (append-nil n.sent);
-                  are = refl;
-                };
-            timely = tt;
-            answered = tt;
-          };
-    }
-
-claim_ends : (A : Type 0) (n : Network) (at : Address) (s : SocketState) (id : ℕ) (claim : Claim) (taken : Option Find) → Stands n at s → Happens n at (claim_ended {A = A} s id claim taken).state []
-claim_ends A n at s id claim (Some f) st = closes n at s id st
-claim_ends A n at s id claim None st = claims n at s id claim.object claim.kind claim.socket st
-
-lookup_ends : (A : Type 0) (n : Network) (at : Address) (s : SocketState) (id : ℕ) (finds : List Find) (claim : Option Claim) → Stands n at s → Happens n at (ended {A = A} s id finds claim).state []
-lookup_ends A n at s id finds None st = closes n at s id st
-lookup_ends A n at s id finds (Some claim) st = claim_ends A n at s id claim (taker s finds claim) st
-
-ends : (A : Type 0) (n : Network) (at : Address) (s : SocketState) (id : ℕ) (search : Option Search) → Stands n at s → Happens n at (ending {A = A} s id search).state []
-ends A n at s id None st = passes n at s st
-ends A n at s id (Some search) st = lookup_ends A n at s id search.finds (find (is_claim id) s.claims) st
-
-pub finish_happens : (A : Type 0) (n : Network) (at : Address) (s : SocketState) (id : ℕ) → Stands n at s → Happens n at (finish {A = A} s id).state []
-finish_happens A n at s id st = ends A n at s id (search_of s.lookups id) st

@@ -1,3 +1,4 @@
 pub mod Carrying
 pub mod NameSockets
+pub mod Sockets
 pub mod Steps

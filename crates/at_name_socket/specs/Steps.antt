@@ -1,10 +1,16 @@
 -- The socket of a node in the network of names and lookups: each call and each packet there is one happening.
-use Rattle.std.specs.Prelude.{◌≡◌, ℕ, true, false, List, ◌++◌, length, map, Some}
+use Rattle.std.specs.Prelude.{◌≡◌, ℕ, Bool, true, false, List, ◌∷◌, ◌++◌, length, map, Some}
 use Rattle.at_ddp.specs.Address.{same_address}
+use Rattle.at_ddp.specs.Datagram.{IsAddress}
 use Rattle.at_ddp.specs.declared.address.Address.{Address}
 use Rattle.at_name_socket.specs.NameSockets.{SocketState, Takes}
+use Rattle.at_name_socket.specs.Sockets.{Change, IsSocket, Opens, changed, open_at}
 use Rattle.at_name_socket.specs.declared.step.Heard.{Heard}
-use Rattle.at_nbp.specs.Network.{Happening, IsAnswered, IsTimely, Network, Sent, done, packet_at, is_fresh, stamped}
+use Rattle.at_nbp.specs.Askers.{IsAskedBy}
+use Rattle.at_nbp.specs.Lawfully.{IsInRange}
+use Rattle.at_nbp.specs.Lookups.{AreLookups}
+use Rattle.at_nbp.specs.Network.{Begun, Happening, IsAnswered, IsTimely, Network, Sent, done, packet_at, is_fresh}
+use Rattle.at_nbp.specs.Network.{stamped}
 use Rattle.at_nbp.specs.Packets.{Content, HasCount, spelling}
 use Rattle.at_nbp.specs.declared.function.Function.TheVariants.{Reply}
 
@@ -12,6 +18,14 @@ use Rattle.at_nbp.specs.declared.function.Function.TheVariants.{Reply}
 pub record Stands (n : Network) (at : Address) (s : SocketState) : Type 0 where
   pub table : n.tables at ≡ s.table
   pub lookups : n.lookups at ≡ s.lookups
+
+-- so it is, and what it has is lawful
+pub record StandsLawfully (n : Network) (at : Address) (s : SocketState) : Type 0 where
+  pub stands : Stands n at s
+  pub socket : IsSocket s
+  pub lookups : AreLookups s.lookups
+  pub own : s.table.own ≡ at
+  pub fits : IsAddress at
 
 -- the names and the lookups at all other addresses stay
 abbrev pub OthersStay : Network → Network → Address → Type 0
@@ -22,25 +36,42 @@ OthersStay n m at =
 abbrev pub spelled : Address × Content → Address × List ℕ
 spelled sent = (sent.0, spelling sent.1)
 
--- a network becomes another: the socket at an address is now this one, and it sends these packets
-pub record Becomes (n m : Network) (at : Address) (new : SocketState) (pushes : List (Address × List ℕ)) : Type 0 where
+-- the lookups that ever began, newest first, after a change in this event
+abbrev pub begun_with : List Begun → ℕ → Address → Change → List Begun
+begun_with begun event at (Opens id pattern claim) =
+    record { event = event; who = at; id = id; pattern = pattern } ∷ begun
+begun_with begun event at other = begun
+
+-- a network becomes another in the same event: the socket at an address is now this one, it sends these packets, and
+-- its open lookups change so
+pub record Becomes (n m : Network) (at : Address) (old new : SocketState) (change : Change)
+    (pushes : List (Address × List ℕ)) : Type 0 where
   pub stands : Stands m at new
   pub others : OthersStay n m at
+  pub same_event : m.event ≡ n.event
+  pub begun : m.begun ≡ begun_with n.begun n.event at change
   pub packets : List (Address × Content)
   pub sent : m.sent ≡ n.sent ++ stamped n.event at packets
   pub are : pushes ≡ map spelled packets
+  pub opened : (id : ℕ) → open_at new id ≡ changed change (open_at old) id
+  pub socket : IsSocket new
+  pub own : new.table.own ≡ old.table.own
 
--- the step of a socket is this happening of the network, which is timely there
-pub record IsHappening (n : Network) (at : Address) (new : SocketState) (pushes : List (Address × List ℕ))
-    (h : Happening) : Type 0 where
-  pub becomes : Becomes n (done n h) at new pushes
+-- The step of a socket is this happening of the network, which is timely and in range there. If a lookup is asked by
+-- it, then at this address.
+pub record IsHappening (n : Network) (at : Address) (old new : SocketState) (change : Change)
+    (pushes : List (Address × List ℕ)) (h : Happening) : Type 0 where
+  pub becomes : Becomes n (done n h) at old new change pushes
   pub timely : IsTimely n h
   pub answered : IsAnswered n h
+  pub in_range : IsInRange h
+  pub asks : (these : Address → Bool) → these at ≡ true → IsAskedBy these h
 
 -- some happening is the step
-pub record Happens (n : Network) (at : Address) (new : SocketState) (pushes : List (Address × List ℕ)) : Type 0 where
+pub record Happens (n : Network) (at : Address) (old new : SocketState) (change : Change)
+    (pushes : List (Address × List ℕ)) : Type 0 where
   pub happening : Happening
-  pub is : IsHappening n at new pushes happening
+  pub is : IsHappening n at old new change pushes happening
 
 -- a packet of the network comes to the socket that it was sent to, in time, and this is what it does there
 pub record Comes (n : Network) (at : Address) (s : SocketState) (which : ℕ) (h : Heard) (new : SocketState)

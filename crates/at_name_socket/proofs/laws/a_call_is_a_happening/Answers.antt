@@ -1,11 +1,12 @@
-use Rattle.at_name_socket.proofs.StepLemmas.{claim_happens, find_happens, finish_happens, register_happens, retry_happens, unregister_happens}
+use Rattle.at_name_socket.proofs.StepLemmas.{claim_happens, find_happens, retry_happens}
+use Rattle.at_name_socket.proofs.TableSteps.{finish_happens, register_happens, unregister_happens}
 use Rattle.at_name_socket.proofs.laws.a_call_is_a_happening.Goals as goal
 
 pub returns-clause-find : goal.returns-clause-find
-returns-clause-find g c = find_happens
+returns-clause-find g c = let below = c.finds_stood_since_their_lookup_began.ensures in find_happens below.drawn
 
 pub returns-clause-claim : goal.returns-clause-claim
-returns-clause-claim g c = claim_happens
+returns-clause-claim g c = let below = c.finds_stood_since_their_lookup_began.ensures in claim_happens below.drawn
 
 pub returns-clause-retry : goal.returns-clause-retry
 returns-clause-retry g c = retry_happens
