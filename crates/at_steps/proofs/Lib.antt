@@ -1,1 +1,2 @@
 mod Atp
+mod Names

@@ -1,6 +1,6 @@
 -- What happens at a node, whose report it is, and which reports there are.
 use Rattle.std.specs.Prelude.{ℕ, Bool, true, false}
-use Rattle.at_node.specs.Kinds.{Kind, Nobody, Atp, kind_of_call, kind_of_timer, reporter_of}
+use Rattle.at_node.specs.Kinds.{Kind, Nobody, Atp, Nbp, kind_of_call, kind_of_timer, reporter_of}
 use Rattle.at_node.specs.declared.event.Call.{Call}
 use Rattle.at_node.specs.declared.event.Report.{Report}
 use Rattle.at_node.specs.declared.event.Report.TheVariants as report
@@ -21,6 +21,10 @@ owner_of act r = reporter_of r
 abbrev pub is_atp : Kind → Bool
 is_atp Atp = true
 is_atp other = false
+
+abbrev pub is_nbp : Kind → Bool
+is_nbp Nbp = true
+is_nbp other = false
 
 abbrev pub IsSomebodys : Kind → Type 0
 IsSomebodys Nobody = ⊥

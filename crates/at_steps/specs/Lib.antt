@@ -2,3 +2,5 @@ pub mod Acts
 pub mod AtpHappenings
 pub mod AtpReports
 pub mod AtpSteps
+pub mod NameHappenings
+pub mod NameSteps

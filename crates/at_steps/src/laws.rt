@@ -22,6 +22,8 @@ ghost use Rattle.at_steps.specs.AtpHappenings.{HoldsNo, IsForeign, IsHappening, 
 
 use std::alloc::Allocator;
 
+pub mod names;
+
 /// A call of ATP or ZIP is one happening among requesters and responders, if no responder holds the number that it
 /// draws.
 pub fn a_call_is_a_happening_of_atp<A: Allocator>()

@@ -1,0 +1,9 @@
+-- How each step of a node's part for names is a happening of its network.
+pub mod Arriving
+pub mod Below
+pub mod Calls
+pub mod Carrying
+pub mod Foreign
+pub mod Moves
+pub mod Passing
+pub mod Timers

@@ -1,0 +1,100 @@
+-- Which happening of the network of names and lookups a step of a node is (Inside AppleTalk, NBP, "Name lookup").
+use Rattle.std.specs.Prelude.{◌≡◌, ℕ, ◌^◌, ◌<◌, ◌==◌, ◌&&◌, ◌++◌, nat_lt, Bool, false, List, [], ◌∷◌, Option, Some}
+use Rattle.std.specs.Prelude.{None}
+use Rattle.std.specs.List.{AllByRecursion}
+use Rattle.at_ddp.specs.declared.address.Address.{Address}
+use Rattle.at_nbp.specs.Askers.{IsAskedBy}
+use Rattle.at_nbp.specs.Lawfully.{IsInRange, IsLawfulSetting}
+use Rattle.at_nbp.specs.Network.{AllAsk, AllTimely, Begun, Happening, IsAnswered, IsTimely, Sent, Setting, after, done}
+use Rattle.at_nbp.specs.Network.{put}
+use Rattle.at_nbp.specs.Packets.{spelling}
+use Rattle.at_nbp.specs.declared.name.Name.{Name}
+use Rattle.at_name_socket.specs.NameSockets.{names_of}
+use Rattle.at_name_socket.specs.Sockets.{IsSocket}
+use Rattle.at_name_socket.specs.Steps as sockets
+use Rattle.at_node.specs.Drawing.{drawn_by}
+use Rattle.at_node.specs.NameCalls.{nbp_kind}
+use Rattle.at_node.specs.Nodes.{NodeState}
+use Rattle.at_node.specs.Outcomes.{Outcome, Outgoing}
+use Rattle.at_node.specs.declared.drawing.Draw.{Draw}
+use Rattle.at_node.specs.declared.drawing.Draw.TheVariants.{Lookup}
+use Rattle.at_steps.specs.Acts.{Act, is_nbp, owner_of}
+use Rattle.at_steps.specs.NameSteps.{IsStep}
+
+-- ---- a node in a network
+
+-- is this the socket for names of a node on this AppleTalk network?
+abbrev pub is_names_socket : ℕ → Address → Bool
+is_names_socket net at = (at.net == net) && (nat_lt at.node 255 && (at.socket == 2))
+
+-- After this history the node's socket for names is that of its part. No reply outlived its identifier, all that was
+-- asked, answered and registered is in range, and only sockets for names asked.
+pub record Stands (setting : Setting) (history : List Happening) (net number : ℕ) (n : NodeState) : Type 0 where
+  pub all_ask : AllAsk setting
+  pub lawful : IsLawfulSetting setting
+  pub timely : AllTimely setting history
+  pub in_range : AllByRecursion IsInRange history
+  pub asked : AllByRecursion (IsAskedBy (is_names_socket net)) history
+  pub small_net : net < 2 ^ 16
+  pub small_number : number < 255
+  pub stands : sockets.Stands (after setting history) (names_of net number) n.names
+  pub socket : IsSocket n.names
+  pub own : n.names.table.own ≡ names_of net number
+
+-- ---- what is sent and drawn
+
+-- a datagram is this packet, which this event sent; or it is of another protocol
+abbrev pub IsEntry : ℕ → Outgoing → Option Sent → Type 0
+IsEntry event o (Some s) =
+    (o ≡ record { from = s.from; to = s.to; kind = nbp_kind; data_ = spelling s.packet }) × (s.event ≡ event)
+IsEntry event o None = (o.kind == nbp_kind) ≡ false
+
+abbrev pub AreEntries : ℕ → List Outgoing → List (Option Sent) → Type 0
+AreEntries event [] [] = Unit {0}
+AreEntries event (o ∷ out) (x ∷ sent) = IsEntry event o x × AreEntries event out sent
+AreEntries event [] (x ∷ sent) = ⊥
+AreEntries event (o ∷ out) [] = ⊥
+
+-- the lookups that ever began, newest first: one more, if an event drew its identifier
+abbrev pub BeginsBy : ℕ → Address → Option Draw → List Begun → List Begun → Type 0
+BeginsBy event who (Some (Lookup id)) before now =
+    (pattern : Name) × (now ≡ record { event = event; who = who; id = id; pattern = pattern } ∷ before)
+BeginsBy event who other before now = now ≡ before
+
+-- ---- a step of this protocol
+
+-- A node's step with this outcome is one happening of the network. The node's socket becomes what its part becomes, and
+-- all others stay.
+pub record Happens {A : Type 0} (setting : Setting) (history : List Happening) (net number : ℕ) (n : NodeState)
+    (act : Act A) (o : Outcome A NodeState) : Type 0 where
+  pub happening : Happening
+  pub timely : IsTimely (after setting history) happening
+  pub answered : IsAnswered (after setting history) happening
+  pub in_range : IsInRange happening
+  pub asked : IsAskedBy (is_names_socket net) happening
+  pub same_event : (done (after setting history) happening).event ≡ (after setting history).event
+  pub tables : (at : Address) → (done (after setting history) happening).tables at
+      ≡ put (after setting history).tables (names_of net number) o.state.names.table at
+  pub lookups : (who : Address) → (done (after setting history) happening).lookups who
+      ≡ put (after setting history).lookups (names_of net number) o.state.names.lookups who
+  pub more : List (Option Sent)
+  pub sent : (done (after setting history) happening).sent ≡ (after setting history).sent ++ more
+  pub posts : AreEntries (after setting history).event o.out more
+  pub begun : BeginsBy (after setting history).event (names_of net number) (drawn_by o.report)
+      (after setting history).begun (done (after setting history) happening).begun
+  pub socket : IsSocket o.state.names
+  pub own : o.state.names.table.own ≡ names_of net number
+
+-- such a happening, which is a step in words of names and lookups
+abbrev pub IsHappening : {A : Type 0} → Setting → List Happening → ℕ → ℕ → NodeState → Act A → Outcome A NodeState
+    → Type 0
+IsHappening {A} setting history net number n act o = Happens setting history net number n act o
+    × IsStep {A = A} (record { part = n.names; now = o.state.names; act = act; report = o.report })
+
+-- ---- steps of other protocols
+
+-- The step leaves this part as it was, and sends no packet of it. Its report is not this part's.
+pub record IsForeign {A : Type 0} (n : NodeState) (act : Act A) (o : Outcome A NodeState) : Type 0 where
+  pub same : o.state.names ≡ n.names
+  pub sends : AllByRecursion (λ p. (p.kind == nbp_kind) ≡ false) o.out
+  pub reports : is_nbp (owner_of act o.report) ≡ false

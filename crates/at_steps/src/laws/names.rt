@@ -1,0 +1,92 @@
+//! The laws of names and lookups. The functions do nothing at run time.
+ghost use Rattle.std.specs.Prelude.{◌≡◌, ℕ, ◌==◌, List, Some, true, false};
+ghost use Rattle.at_ddp.specs.Datagram.{canonical};
+ghost use Rattle.at_ddp.specs.declared.address.Address.{Address};
+ghost use Rattle.at_nbp.specs.Lawfully.{IsLawfullySent};
+ghost use Rattle.at_nbp.specs.Network.{Happening, Sent, Setting, after, is_fresh, packet_at};
+ghost use Rattle.at_nbp.specs.Packets.{spelling};
+ghost use Rattle.at_nbp.specs.declared.function.Function.TheVariants as function;
+ghost use Rattle.at_node.specs.Calls.{IsCall};
+ghost use Rattle.at_node.specs.Drawing.{Carries};
+ghost use Rattle.at_node.specs.Hearing.{Hears};
+ghost use Rattle.at_node.specs.Kinds.{kind_of_call, kind_of_timer};
+ghost use Rattle.at_node.specs.NameCalls.{nbp_kind};
+ghost use Rattle.at_node.specs.Nodes.{NodeState, called, timed};
+ghost use Rattle.at_node.specs.Outcomes.{Outcome};
+ghost use Rattle.at_node.specs.declared.drawing.Draw.TheVariants.{Lookup};
+ghost use Rattle.at_node.specs.declared.event.Call.{Call};
+ghost use Rattle.at_node.specs.declared.event.Timer.{Timer};
+ghost use Rattle.at_node.specs.declared.service.Reply.{Reply};
+ghost use Rattle.at_steps.specs.Acts.{Act, Calls, Fires, Gets, is_nbp};
+ghost use Rattle.at_steps.specs.NameHappenings.{Happens, IsForeign, IsHappening, Stands};
+
+use std::alloc::Allocator;
+
+/// A call of NBP is one happening among names and lookups.
+pub fn a_call_is_a_happening<A: Allocator>()
+    ensures { (setting : Setting) (history : List Happening) (n : NodeState) (call : Call A)
+        → Stands setting history n.seat.net n.seat.number n → IsCall call → is_nbp (kind_of_call call) ≡ true
+        → IsHappening setting history n.seat.net n.seat.number n (Calls call) (called n call) }
+{
+    at_nbp::laws::finds_stood_since_their_lookup_began();
+    at_nbp::laws::a_table_with_one_name_more_is_computed();
+    at_name_socket::laws::a_call_is_a_happening::<A>();
+    at_name_socket::laws::a_packet_is_a_happening();
+}
+
+/// A timer of NBP that fires is one happening among names and lookups.
+pub fn a_timer_is_a_happening<A: Allocator>()
+    ensures { (setting : Setting) (history : List Happening) (n : NodeState) (time : Timer)
+        → Stands setting history n.seat.net n.seat.number n → is_nbp (kind_of_timer time) ≡ true
+        → IsHappening {A = A} setting history n.seat.net n.seat.number n (Fires time) (timed n time) }
+{
+    at_nbp::laws::finds_stood_since_their_lookup_began();
+    at_name_socket::laws::a_call_is_a_happening::<A>();
+    at_name_socket::laws::a_packet_is_a_happening();
+}
+
+/// A packet that comes to a node is one happening among names and lookups. A reply has to come in time.
+pub fn a_packet_is_a_happening<A: Allocator>()
+    ensures { (setting : Setting) (history : List Happening) (n : NodeState) (which : ℕ) (s : Sent) (said : Reply A)
+        (o : Outcome A NodeState) → Stands setting history n.seat.net n.seat.number n
+        → packet_at (after setting history).sent which ≡ Some s
+        → (s.packet.function ≡ function.Reply → is_fresh (after setting history).begun s ≡ true)
+        → Hears said n (canonical s.to s.from nbp_kind (spelling s.packet)) o
+        → IsHappening setting history n.seat.net n.seat.number n (Gets which) o }
+{
+    at_ddp::laws::what_is_written_is_read();
+    at_nbp::laws::what_is_written_is_read();
+    at_nbp::laws::one_packet_a_spelling();
+    at_nbp::laws::what_is_sent_is_lawful();
+    at_nbp::laws::finds_stood_since_their_lookup_began();
+    at_name_socket::laws::a_packet_is_a_happening();
+}
+
+/// A step of another protocol is one happening among names and lookups, which leaves them as they were.
+pub fn another_protocols_step_passes<A: Allocator>()
+    ensures { (setting : Setting) (history : List Happening) (n : NodeState) (act : Act A) (o : Outcome A NodeState)
+        → Stands setting history n.seat.net n.seat.number n → IsForeign n act o
+        → Happens setting history n.seat.net n.seat.number n act o }
+{}
+
+/// An event of another protocol leaves the socket for names as it was, and sends no packet of NBP.
+pub fn another_protocols_event_is_foreign<A: Allocator>()
+    ensures call { (n : NodeState) (call : Call A) → is_nbp (kind_of_call call) ≡ false
+        → IsForeign n (Calls call) (called n call) }
+    ensures timer { (n : NodeState) (time : Timer) → is_nbp (kind_of_timer time) ≡ false
+        → IsForeign {A = A} n (Fires time) (timed n time) }
+    ensures datagram { (n : NodeState) (which : ℕ) (to from : Address) (kind : ℕ) (bytes : List ℕ) (said : Reply A)
+        (o : Outcome A NodeState) → (kind == nbp_kind) ≡ false → Hears said n (canonical to from kind bytes) o
+        → IsForeign n (Gets which) o }
+{
+    at_ddp::laws::the_protocol_is_read_as_written();
+}
+
+/// A reply in a datagram carries the identifier of the lookup that it answers.
+pub fn a_reply_carries_its_identifier()
+    ensures { (s : Sent) → IsLawfullySent s → s.packet.function ≡ function.Reply
+        → Carries (canonical s.to s.from nbp_kind (spelling s.packet)) s.to.node (Lookup s.packet.id) }
+{
+    at_ddp::laws::what_is_written_is_read();
+    at_nbp::laws::what_is_written_is_read();
+}
