@@ -8,7 +8,9 @@ mod EventLemmas
 mod Following
 mod FreshLemmas
 mod LawfulSetups
+mod Names
 mod Nodes
+mod NotedLemmas
 mod Runs
 mod Seats
 mod SentLemmas

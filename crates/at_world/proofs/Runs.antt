@@ -12,7 +12,7 @@ use Rattle.at_world.specs.declared.event.Event.TheVariants as event
 use Rattle.at_world.specs.declared.setup.Setup.{Setup}
 use Rattle.at_world.specs.declared.transcript.Transcript.{Transcript}
 use Rattle.at_world.specs.declared.transcript.PlayFault.{PlayFault}
-use Rattle.at_steps.specs.Acts.{is_atp}
+use Rattle.at_steps.specs.Acts.{is_atp, is_nbp}
 use Rattle.at_world.specs.Cables.{Cable, owner_of}
 use Rattle.at_world.specs.Events.{node_of}
 use Rattle.at_world.specs.Machine.{Machine, opening_machine, Step, Run, IsRun}
@@ -24,11 +24,20 @@ use Rattle.at_world.proofs.Atp.Tie.{Laws, AtpTie, Grown}
 use Rattle.at_world.proofs.CableTie.{cable_next}
 use Rattle.at_world.proofs.Seats.{KeepsSeat, call_keeps_seat, timer_keeps_seat, hearing_keeps_seat}
 use Rattle.at_world.proofs.Atp.Coming.{comes}
+use Rattle.at_world.proofs.Names.Coming as names_coming
+use Rattle.at_world.proofs.Names.Happenings as named
+use Rattle.at_world.proofs.Names.Next.{Good as GoodNames}
+use Rattle.at_world.proofs.Names.Tie.{NameLaws, NameTie}
 use Rattle.at_world.proofs.Tied.{Tied}
 
 -- the machine may answer an event so, and is tied to the world after it
 abbrev pub Follow : (A : Type 0) (w : WorldState) (m : Machine) → Tied A w m → Event A → Report A → WorldState → Type 0
 Follow A w m t e r w' = (m' : Machine) × Step m e r m' × (now : Tied A w' m') × Grown A m.cable (t.atp).history (now.atp).history e r × (m'.cable ≡ m.cable)
+
+-- what the layers below promise of each part
+pub record BothLaws (A : Type 0) : Type 0 where
+  pub atp : Laws A
+  pub names : NameLaws A
 
 -- ---- the two ends of a step
 
@@ -48,50 +57,68 @@ either_coming A P n NoMemory after out h = inl (refl, h.0, h.1)
 either_coming A P n r after out h = inr h
 
 module _ (A : Type 0) (w : WorldState) (m : Machine) (t : Tied A w m) (e : Event A) (n : NodeState) (stands : node_at w (node_of e) ≡ Some n) where
+  -- each part follows an outcome
+  abbrev EachFollows : Outcome A NodeState → Type 0
+  EachFollows o = FollowsAtp A w m.cable m.atp t.cable t.atp e o × GoodNames A w m.cable m.names (t.cable).wires e o
+
   -- the parts and the cable follow an outcome together
-  together : (o : Outcome A NodeState) → KeepsSeat n o → FollowsAtp A w m.cable m.atp t.cable t.atp e o → Follow A w m t e o.report (recorded w (node_of e) o.report o.state (map posted o.out))
-  together o seat (said, good) =
+  together : (o : Outcome A NodeState) → KeepsSeat n o → EachFollows o → Follow A w m t e o.report (recorded w (node_of e) o.report o.state (map posted o.out))
+  together o seat ((said, good), names) =
       let cable = cable_next A w m.cable (node_of e) n o t.cable stands seat in
       let both = subst (λ l. (x : AtpTie A (recorded w (node_of e) o.report o.state (map posted o.out)) m.cable l good.0) × Grown A m.cable (t.atp).history x.history e o.report) (sym cable.1) (good.2, good.3) in
-      (record { cable = m.cable; atp = good.0 }, record { cable = record { said = said; becomes = refl }; atp = good.1 }, record { cable = cable.0; atp = both.0 }, both.1, refl)
+      let tied_names = subst (λ l. NameTie (recorded w (node_of e) o.report o.state (map posted o.out)) m.cable l names.0) (sym cable.1) names.2 in
+      (record { cable = m.cable; atp = good.0; names = names.0 }, record { cable = record { said = said; becomes = refl }; atp = good.1; names = names.1 }, record { cable = cable.0; atp = both.0; names = tied_names }, both.1, refl)
 
   module _ (r : Report A) (after : NodeState) (out : List Posted) (w' : WorldState) (is : w' ≡ recorded w (node_of e) r after out) where
-    of_good : (o : Outcome A NodeState) → KeepsSeat n o → FollowsAtp A w m.cable m.atp t.cable t.atp e o → Its o r after out → Follow A w m t e r w'
+    of_good : (o : Outcome A NodeState) → KeepsSeat n o → EachFollows o → Its o r after out → Follow A w m t e r w'
     of_good o seat good l =
         subst (Follow A w m t e r) (sym (is ∙ (λ i. recorded w (node_of e) (l.0 i) (l.1 i) (l.2 i))))
         (subst (λ x. Follow A w m t e x (recorded w (node_of e) o.report o.state (map posted o.out))) (sym l.0) (together o seat good))
 
-    of_nothing : Laws A → is_atp (owner_of {A = A} e NoMemory) ≡ false → Nothing r n after out → Follow A w m t e r w'
-    of_nothing laws nobodys l = of_good (idle n NoMemory) refl (passed A laws w m.cable m.atp t.cable t.atp e n stands (idle n NoMemory) refl (record { same = refl; sends = tt; reports = nobodys; said = tt })) l
+    of_nothing : BothLaws A → is_atp (owner_of {A = A} e NoMemory) ≡ false → is_nbp (owner_of {A = A} e NoMemory) ≡ false → Nothing r n after out → Follow A w m t e r w'
+    of_nothing laws not_atp not_nbp l = of_good (idle n NoMemory) refl (
+      passed A laws.atp w m.cable m.atp t.cable t.atp e n stands (idle n NoMemory) refl (record { same = refl; sends = tt; reports = not_atp; said = tt }),
+      named.passed A laws.names w m.cable m.names t.cable t.names e n stands (idle n NoMemory) refl (record { same = refl; sends = tt; reports = not_nbp }),
+    ) l
 
 -- ---- one event
 
-followed : (A : Type 0) → Laws A → (w : WorldState) (m : Machine) (e : Event A) (r : Report A) (w' : WorldState) (t : Tied A w m) → IsTimely w e → Plays w e r w' → Follow A w m t e r w'
+followed : (A : Type 0) → BothLaws A → (w : WorldState) (m : Machine) (e : Event A) (r : Report A) (w' : WorldState) (t : Tied A w m) → IsTimely w e → Plays w e r w' → Follow A w m t e r w'
 followed A laws w m (event.Call k call) r w' t timely both =
     let p = both.0 in
     let n = p.node in
+    let seat = call_keeps_seat A n call in
     ⊎_elim
-    (of_nothing A w m t (event.Call k call) n p.stands r p.after p.out w' p.booked laws refl)
-    (of_good A w m t (event.Call k call) n p.stands r p.after p.out w' p.booked (called n call) (call_keeps_seat A n call)
-    (call_follows A laws w m.cable m.atp t.cable t.atp k n p.stands call both.1 (timely n p.stands) (call_keeps_seat A n call)))
+    (of_nothing A w m t (event.Call k call) n p.stands r p.after p.out w' p.booked laws refl refl)
+    (of_good A w m t (event.Call k call) n p.stands r p.after p.out w' p.booked (called n call) seat (
+      call_follows A laws.atp w m.cable m.atp t.cable t.atp k n p.stands call both.1 (timely n p.stands) seat,
+      named.call_follows A laws.names w m.cable m.names t.cable t.names k n p.stands call both.1 seat,
+    ))
     (either A (called n call) n r p.after p.out p.steps)
 followed A laws w m (event.Timer k time) r w' t timely p =
     let n = p.node in
+    let seat = timer_keeps_seat A n time in
     ⊎_elim
-    (of_nothing A w m t (event.Timer k time) n p.stands r p.after p.out w' p.booked laws refl)
-    (of_good A w m t (event.Timer k time) n p.stands r p.after p.out w' p.booked (timed n time) (timer_keeps_seat A n time) (timer_follows A laws w m.cable m.atp t.cable t.atp k n p.stands time (timer_keeps_seat A n time)))
+    (of_nothing A w m t (event.Timer k time) n p.stands r p.after p.out w' p.booked laws refl refl)
+    (of_good A w m t (event.Timer k time) n p.stands r p.after p.out w' p.booked (timed n time) seat (
+      timer_follows A laws.atp w m.cable m.atp t.cable t.atp k n p.stands time seat,
+      named.timer_follows A laws.names w m.cable m.names t.cable t.names k n p.stands time seat,
+    ))
     (either A (timed n time) n r p.after p.out p.steps)
 followed A laws w m (event.Deliver which k) r w' t timely d =
     let p = d.plays in
     let n = p.node in
-    let c = comes A laws w m.cable m.atp t.cable t.atp which d.datagram d.was_sent (timely d.datagram d.was_sent) in
+    let fresh = timely d.datagram d.was_sent in
+    let c = comes A laws.atp w m.cable m.atp t.cable t.atp which d.datagram d.was_sent fresh in
+    let c' = names_coming.comes A laws.names w m.cable m.names t.cable t.names which d.datagram d.was_sent fresh in
     let said = p.steps.0 in
     let later = p.steps.2 in
     ⊎_elim
-    (of_nothing A w m t (event.Deliver which k) n p.stands r p.after p.out w' p.booked laws refl)
-    (λ (x : (o : Outcome A NodeState) × Hears said n (d.datagram).bytes o × Its o r p.after p.out). of_good A w m t (event.Deliver which k) n p.stands r p.after p.out w' p.booked x.0
-    (hearing_keeps_seat A said n (d.datagram).bytes x.0 x.1)
-    (datagram_follows A laws w m.cable m.atp t.cable t.atp k n p.stands which d.datagram c said x.0 (λ asked. later (ap is_asked (x.2).0 ∙ asked)) x.1 (hearing_keeps_seat A said n (d.datagram).bytes x.0 x.1)) x.2)
+    (of_nothing A w m t (event.Deliver which k) n p.stands r p.after p.out w' p.booked laws refl refl)
+    (λ (x : (o : Outcome A NodeState) × Hears said n (d.datagram).bytes o × Its o r p.after p.out). let seat = hearing_keeps_seat A said n (d.datagram).bytes x.0 x.1 in of_good A w m t (event.Deliver which k) n p.stands r p.after p.out w' p.booked x.0 seat (
+      datagram_follows A laws.atp w m.cable m.atp t.cable t.atp k n p.stands which d.datagram c said x.0 (λ asked. later (ap is_asked (x.2).0 ∙ asked)) x.1 seat,
+      named.datagram_follows A laws.names w m.cable m.names t.cable t.names k n p.stands which d.datagram c' said x.0 x.1 seat,
+    ) x.2)
     (either_coming A (Hears said n (d.datagram).bytes) n r p.after p.out p.steps.1)
 
 -- ---- all of them
@@ -100,7 +127,7 @@ followed A laws w m (event.Deliver which k) r w' t timely d =
 abbrev pub Ran : (A : Type 0) (w : WorldState) (m : Machine) → Tied A w m → List (Event A) → List (Report A) → WorldState → Type 0
 Ran A w m t es rs w' = (m' : Machine) × Run m es rs m' × (now : Tied A w' m') × Tells (m.cable).net (t.atp).history es rs (now.atp).history
 
-pub runs : (A : Type 0) → Laws A → (w : WorldState) (m : Machine) (es : List (Event A)) (rs : List (Report A)) (w' : WorldState) (t : Tied A w m) → Follows w es rs w' → Ran A w m t es rs w'
+pub runs : (A : Type 0) → BothLaws A → (w : WorldState) (m : Machine) (es : List (Event A)) (rs : List (Report A)) (w' : WorldState) (t : Tied A w m) → Follows w es rs w' → Ran A w m t es rs w'
 runs A laws w m [] [] w' t h = let same = subst (λ x. (now : Tied A x m) × ((now.atp).history ≡ (t.atp).history)) (sym h) (t, refl) in (m, refl, same.0, same.1)
 runs A laws w m (e ∷ es) (r ∷ rs) w' t h =
     let playable = h.1 in

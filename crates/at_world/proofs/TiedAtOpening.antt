@@ -1,42 +1,25 @@
 -- The opening world and the opening machine are tied.
-use Rattle.std.proofs.Common.{◌≡◌, ℕ, ◌<◌, Bool, true, false, cond, List, [], ◌∷◌, map, Some, refl, sym, subst, arith}
-use Rattle.std.specs.Prelude.{find, option_map, ◌==◌, ◌&&◌, nat_lt}
+use Rattle.std.proofs.Common.{◌≡◌, ℕ, Bool, true, false, cond, List, [], ◌∷◌, map, Some, refl, sym, subst, arith}
+use Rattle.std.specs.Prelude.{find, ◌==◌}
 use Rattle.std.specs.List.{list_all}
-use Rattle.std.proofs.lemmas.Bool.{and_parts, ltb-true, eqb-true}
+use Rattle.std.proofs.lemmas.Bool.{and_parts, eqb-true}
 use Rattle.at_node.specs.Nodes.{NodeState}
 use Rattle.at_world.specs.declared.setup.NodeSetup.{NodeSetup}
 use Rattle.at_world.specs.declared.setup.Setup.{Setup}
 use Rattle.at_world.specs.AtpGuards as atp
 use Rattle.at_world.specs.Cables as cables
+use Rattle.at_world.specs.NameGuards as names
 use Rattle.at_world.specs.Machine.{opening_machine}
-use Rattle.at_world.specs.Plays.{router_of, opening_node, opening_world}
+use Rattle.at_world.specs.Plays.{opening_node, opening_world}
 use Rattle.at_world.specs.Setups.{is_lawful_node, is_lawful}
 use Rattle.at_world.specs.Worlds.{is_numbered}
 use Rattle.at_world.proofs.Atp.Opening.{atp_at_opening}
 use Rattle.at_world.proofs.Atp.Tie.{AtpTie}
 use Rattle.at_world.proofs.CableTie.{CableTie, SeatTie}
-use Rattle.at_world.proofs.LawfulSetups.{lawful_has}
+use Rattle.at_world.proofs.LawfulSetups.{lawful_has, node_fits, router_fits}
+use Rattle.at_world.proofs.Names.Opening.{names_at_opening}
+use Rattle.at_world.proofs.Names.Tie.{NameLaws, NameTie}
 use Rattle.at_world.proofs.Tied.{Tied}
-
-node_fits : (n : NodeSetup) → is_lawful_node n ≡ true → n.node < 255
-node_fits n h =
-    let a = and_parts (nat_lt 0 n.node && nat_lt n.node 255 && nat_lt 0 n.receive_room) (nat_lt 0 n.send_room) h in
-    let b = and_parts (nat_lt 0 n.node && nat_lt n.node 255) (nat_lt 0 n.receive_room) a.0 in
-    let c = and_parts (nat_lt 0 n.node) (nat_lt n.node 255) b.0 in
-    ltb-true n.node 255 c.1
-
--- the router's number is that of a node
-router_fits : (ns : List NodeSetup) (r : ℕ) → list_all is_lawful_node ns ≡ true → router_of ns ≡ Some r → r < 256
-router_fits [] r h is = absurd (cc)
-router_fits (n ∷ ns) r h is = go (λ each g. router_fits ns r each g) n.router is
-  where
-    go : (list_all is_lawful_node ns ≡ true → router_of ns ≡ Some r → r < 256) → (b : Bool) → option_map (λ (x : NodeSetup). x.node) (cond b (Some n) (find (λ x. x.router) ns)) ≡ Some r → r < 256
-    go ih true g =
-        let same : n.node ≡ r = cc in
-        let parts = and_parts (is_lawful_node n) (list_all is_lawful_node ns) h in
-        let fits = node_fits n parts.0 in
-        omega (arith, same, fits)
-    go ih false g = let parts = and_parts (is_lawful_node n) (list_all is_lawful_node ns) h in ih parts.1 g
 
 module _ (A : Type 0) (s : Setup A) where
   seat_opens : (k : ℕ) (x : NodeSetup) → is_lawful_node x ≡ true → (x.node == k) ≡ true → SeatTie (cables.opening s) k (opening_node s x)
@@ -61,8 +44,9 @@ module _ (A : Type 0) (s : Setup A) where
       let has = lawful_has A s ok in
       (record { net = has.net; router = λ r is. router_fits s.nodes r has.each is; wires = []; sent = refl; seats = λ k n is. seats_open s.nodes has.each k n is }, refl)
 
-  pub tied_at_opening : is_lawful s ≡ true → (t : Tied A (opening_world s) (opening_machine s)) × ((t.atp).history ≡ [])
-  tied_at_opening ok =
+  pub tied_at_opening : NameLaws A → is_lawful s ≡ true → (t : Tied A (opening_world s) (opening_machine s)) × ((t.atp).history ≡ [])
+  tied_at_opening laws ok =
       let cable = cable_at_opening ok in
       let both = subst (λ l. (t : AtpTie A (opening_world s) (cables.opening s) l (atp.opening s)) × (t.history ≡ [])) (sym cable.1) (atp_at_opening A s ok) in
-      (record { cable = cable.0; atp = both.0 }, both.1)
+      let named = subst (λ l. NameTie (opening_world s) (cables.opening s) l (names.opening s)) (sym cable.1) (names_at_opening A laws s ok) in
+      (record { cable = cable.0; atp = both.0; names = named }, both.1)

@@ -4,6 +4,7 @@ pub mod Draws
 pub mod Events
 pub mod ExactlyOnce
 pub mod Machine
+pub mod NameGuards
 pub mod Plays
 pub mod Refusals
 pub mod Sents

@@ -6,6 +6,8 @@ use Rattle.at_world.specs.AtpGuards as atp
 use Rattle.at_world.specs.AtpGuards.{AtpMachine}
 use Rattle.at_world.specs.Cables as cables
 use Rattle.at_world.specs.Cables.{Cable, owner_of}
+use Rattle.at_world.specs.NameGuards as names
+use Rattle.at_world.specs.NameGuards.{NameMachine}
 use Rattle.at_world.specs.declared.event.Event.{Event}
 use Rattle.at_world.specs.declared.setup.Setup.{Setup}
 use Rattle.at_world.specs.declared.transcript.Transcript.{Transcript}
@@ -14,14 +16,16 @@ use Rattle.at_world.specs.declared.transcript.PlayFault.{PlayFault}
 pub record Machine : Type 0 where
   pub cable : Cable
   pub atp : AtpMachine
+  pub names : NameMachine
 
 abbrev pub opening_machine : {A : Type 0} → Setup A → Machine
-opening_machine s = record { cable = cables.opening s; atp = atp.opening s }
+opening_machine s = record { cable = cables.opening s; atp = atp.opening s; names = names.opening s }
 
 -- one step: of the cable, and of each part, by whose report it is
 pub record Step {A : Type 0} (m : Machine) (e : Event A) (r : Report A) (m' : Machine) : Type 0 where
   pub cable : cables.Step m.cable e r m'.cable
   pub atp : atp.StepBy m.cable m.atp e r m'.atp (owner_of e r)
+  pub names : names.StepBy m.names e r m'.names (owner_of e r)
 
 -- the machine may give these reports to these events, one step after another
 abbrev pub Run : {A : Type 0} → Machine → List (Event A) → List (Report A) → Machine → Type 0

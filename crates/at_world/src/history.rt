@@ -26,6 +26,12 @@ pub(crate) fn steps_make_a_history<A: Allocator>()
     at_steps::laws::another_protocols_step_passes_atp::<A>();
     at_steps::laws::another_protocols_event_is_foreign::<A>();
     at_steps::laws::a_number_that_is_not_held_has_no_record();
+    at_steps::laws::names::a_call_is_a_happening::<A>();
+    at_steps::laws::names::a_timer_is_a_happening::<A>();
+    at_steps::laws::names::a_packet_is_a_happening::<A>();
+    at_steps::laws::names::another_protocols_step_passes::<A>();
+    at_steps::laws::names::another_protocols_event_is_foreign::<A>();
+    at_steps::laws::names::a_reply_carries_its_identifier();
     at_atp::laws::what_is_sent_is_lawful::<A>();
     at_atp::laws::answers_join_what_was_asked();
     at_node::laws::what_is_sent_carries_its_number();
@@ -33,4 +39,7 @@ pub(crate) fn steps_make_a_history<A: Allocator>()
     at_zip::laws::what_is_written_is_read();
     at_zip::laws::one_page_a_spelling();
     at_zip::laws::a_small_table_is_one_page();
+    at_nbp::laws::finds_stood_since_their_lookup_began();
+    at_nbp::laws::what_is_sent_is_lawful();
+    at_name_socket::laws::a_new_socket_is_lawful();
 }

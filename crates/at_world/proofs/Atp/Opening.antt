@@ -1,8 +1,8 @@
 -- The tie of the part of ATP and ZIP before anything happened.
-use Rattle.std.proofs.Common.{◌≡◌, ℕ, ◌+◌, ◌<◌, ◌≤◌, Bool, true, false, cond, List, [], ◌∷◌, length, map, nat_le, Some, None, refl, sym, ap, subst, ◌∙◌, arith}
-use Rattle.std.specs.Prelude.{find, option_map, count_by, ◌==◌, ◌&&◌, nat_lt}
+use Rattle.std.proofs.Common.{◌≡◌, ℕ, ◌+◌, ◌≤◌, Bool, true, false, cond, List, [], ◌∷◌, length, map, Some, None, refl, sym, ap, subst, ◌∙◌, arith}
+use Rattle.std.specs.Prelude.{find, option_map, count_by, ◌==◌, ◌&&◌}
 use Rattle.std.specs.List.{list_all, AllByRecursion}
-use Rattle.std.proofs.lemmas.Bool.{and_parts, leb-true, ltb-true, eqb-true}
+use Rattle.std.proofs.lemmas.Bool.{and_parts, eqb-true}
 use Rattle.std.proofs.lemmas.List.{length-append}
 use Rattle.std.proofs.lemmas.List.Elements.{All-from_recursion}
 use Rattle.std.proofs.lemmas.List.Sums.{sum_by-cons}
@@ -16,22 +16,12 @@ use Rattle.at_world.specs.declared.setup.Setup.{Setup}
 use Rattle.at_world.specs.AtpGuards as atp
 use Rattle.at_world.specs.Cables as cables
 use Rattle.at_world.specs.Plays.{neighbours_of, router_of, opening_node, opening_world}
-use Rattle.at_world.specs.Setups.{is_byte, is_name, spelled_len, is_lawful}
+use Rattle.at_world.specs.Setups.{is_name, spelled_len, is_lawful}
 use Rattle.at_world.specs.Worlds.{is_numbered}
 use Rattle.at_world.proofs.Atp.Places.{requester_of, requester_at, service_of, served_of, records_at}
 use Rattle.at_world.proofs.Atp.Tie.{IsReading, AtpTie}
-use Rattle.at_world.proofs.LawfulSetups.{lawful_has}
+use Rattle.at_world.proofs.LawfulSetups.{is_a_name, lawful_has}
 use Rattle.at_world.proofs.SetupLemmas.{spelled_len-cons}
-
-bytes_are : (name : List ℕ) → list_all is_byte name ≡ true → AllByRecursion (λ b. b < 256) name
-bytes_are [] h = tt
-bytes_are (b ∷ name) h = let parts = and_parts (is_byte b) (list_all is_byte name) h in (ltb-true b 256 parts.0, bytes_are name parts.1)
-
-is_a_name : (name : List ℕ) → is_name name ≡ true → IsName name
-is_a_name name h =
-    let outer = and_parts (nat_lt 0 (length name) && nat_le (length name) 32) (list_all is_byte name) h in
-    let inner = and_parts (nat_lt 0 (length name)) (nat_le (length name) 32) outer.0 in
-    record { some = ltb-true 0 (length name) inner.0; fits = leb-true (length name) 32 inner.1; bytes = All-from_recursion (λ b. b < 256) name (bytes_are name outer.1) }
 
 names_are : (names : List (List ℕ)) → list_all is_name names ≡ true → AllByRecursion IsName names
 names_are [] h = tt

@@ -6,7 +6,8 @@ use Rattle.at_world.specs.Plays.{opening_world}
 use Rattle.at_world.specs.Stories.{Tells, posted_packet}
 use Rattle.at_world.proofs.Atp.Tie.{Laws, Entries}
 use Rattle.at_world.proofs.CableTie.{Wire, spelled_wire}
-use Rattle.at_world.proofs.Runs.{runs}
+use Rattle.at_world.proofs.Names.Tie.{NameLaws}
+use Rattle.at_world.proofs.Runs.{BothLaws, runs}
 use Rattle.at_world.proofs.TiedAtOpening.{tied_at_opening}
 use Rattle.at_world.proofs.history.steps_make_a_history.Goals as goal
 
@@ -42,9 +43,26 @@ returns g c s events reports w lawful =
       lawful = read.lawful;
       whole = c.a_small_table_is_one_page.ensures;
     } in
+    let its_names = c.another_protocols_event_is_foreign-2.ensures in
+    let found = c.finds_stood_since_their_lookup_began.ensures in
+    let sent = c.what_is_sent_is_lawful-2.ensures in
+    let names : NameLaws A = record {
+      foreign_call = its_names.call;
+      foreign_timer = its_names.timer;
+      foreign_datagram = its_names.datagram;
+      called = c.a_call_is_a_happening.ensures;
+      timed = c.a_timer_is_a_happening.ensures;
+      heard = c.a_packet_is_a_happening.ensures;
+      passes = c.another_protocols_step_passes.ensures;
+      carries = c.a_reply_carries_its_identifier.ensures;
+      lawful_sent = sent.lawful;
+      found = found.stood;
+      opens = c.a_new_socket_is_lawful.ensures;
+    } in
+    let both : BothLaws A = record { atp = laws; names = names } in
     λ follows.
-    let opened = tied_at_opening A s lawful in
-    let ran = runs A laws (opening_world s) (opening_machine s) events reports w opened.0 follows in
+    let opened = tied_at_opening A s names lawful in
+    let ran = runs A both (opening_world s) (opening_machine s) events reports w opened.0 follows in
     let now = ran.2 in
     let cable = now.cable in
     let atp = now.atp in (
