@@ -1,6 +1,6 @@
 //! Zone tables, their pages, and requests for these.
 use at_ddp::{Listed, Pascal};
-use at_zip::{ZipFault, Zones, page, read_page, read_request, request_user};
+use at_zip::{Taken, ZipFault, ZoneReader, Zones, page, read_page, read_request, request_user};
 use std::alloc::Global;
 use std::process::Abort;
 
@@ -40,6 +40,25 @@ fn a_table_of_594_bytes_is_two_pages(rt: HostRuntime) {
     assert!(rt; (first.user, first.data_.as_slice().len()) == ([0, 0, 0, 17], 561));
     let second = page(rt.alloc(), &zones, 18).expect(&rt, "out of memory");
     assert!(rt; (second.user, second.data_.as_slice().len()) == ([1, 0, 0, 1], 33));
+}
+
+#[test]
+fn a_table_of_two_pages_is_read_in_turn(rt: HostRuntime) {
+    let zones = table(&rt, rt.alloc(), &[[b'z'; 32].as_slice(); 18]);
+    let mut reader = ZoneReader::new(rt.alloc());
+    let start = ZoneReader::<Global>::first();
+    let first = page(rt.alloc(), &zones, start).expect(&rt, "out of memory");
+    let view = read_page(first.user, first.data_.as_slice()).expect(&rt, "no page");
+    reader.room(&view).expect(&rt, "no room");
+    assert!(rt; reader.after(&view) == 18);
+    assert!(rt; matches!(reader.take(&view), Taken::Ask(18)));
+    let second = page(rt.alloc(), &zones, 18).expect(&rt, "out of memory");
+    let view = read_page(second.user, second.data_.as_slice()).expect(&rt, "no page");
+    reader.room(&view).expect(&rt, "no room");
+    let Taken::Done(names) = reader.take(&view) else {
+        panic!(rt; "the last page does not end the reading");
+    };
+    assert!(rt; names.as_slice() == zones.names());
 }
 
 // The user bytes of requests, and the place that each asks from.

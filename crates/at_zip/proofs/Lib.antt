@@ -1,6 +1,7 @@
 mod ListLemmas
 mod NameLemmas
 mod PageLemmas
+mod ReadingLemmas
 mod RequestLemmas
 mod RunLemmas
 mod SpelledLemmas

@@ -2,5 +2,6 @@ pub mod Fault
 pub mod Names
 pub mod Page
 pub mod PageView
+pub mod Reading
 pub mod Request
 pub mod Zones

@@ -1,9 +1,10 @@
 //! Laws of requests, pages and tables. The functions do nothing: each contract is a law.
-ghost use Rattle.std.specs.Prelude.{◌≡◌, ℕ, ◌^◌, ◌<◌, ◌≤◌, ◌++◌, true, List, length};
+ghost use Rattle.std.specs.Prelude.{◌≡◌, ℕ, ◌^◌, ◌<◌, ◌≤◌, ◌++◌, true, false, List, [], length};
 ghost use Rattle.at_ddp.specs.Datagram.{AreBytes};
 ghost use Rattle.at_zip.specs.Fault.{IsFirstFault};
 ghost use Rattle.at_zip.specs.Names.{spelled};
 ghost use Rattle.at_zip.specs.Page.{Page, IsLawful, Spells, IsPageFrom, page_of, page_user, page_data};
+ghost use Rattle.at_zip.specs.Reading.{BeginsTable, EndsWithLast, InTurn, NoneIsLast, names_of, place_after};
 ghost use Rattle.at_zip.specs.Request.{RequestSpells, request_user};
 ghost use Rattle.at_zip.specs.Zones.{IsTable};
 ghost use Rattle.at_zip.specs.declared.fault.ZipFault.{ZipFault};
@@ -41,4 +42,24 @@ pub fn a_page_is_the_longest_run()
 pub fn a_small_table_is_one_page()
     ensures { (table : List (List ℕ)) → length (spelled table) ≤ 578
         → page_of table 1 ≡ record { last = true; names = table } }
+{}
+
+/// A reading asks for each page from the place after the names that it has. If these begin a table, they still do with
+/// the names of the next page. They are the table if that is its last page, and else there is a name more.
+pub fn a_page_goes_on_with_its_table()
+    ensures begins { (table read : List (List ℕ)) → BeginsTable table read
+        → BeginsTable table (read ++ (page_of table (place_after read)).names) }
+    ensures whole { (table read : List (List ℕ)) → BeginsTable table read
+        → (page_of table (place_after read)).last ≡ true → read ++ (page_of table (place_after read)).names ≡ table }
+    ensures more { (table read : List (List ℕ)) → IsTable table → (page_of table (place_after read)).last ≡ false
+        → 0 < length (page_of table (place_after read)).names }
+{}
+
+/// Pages of one table that are read one after another give that table, if the last of them is its last page. Before that
+/// page there are no more pages than the table has names.
+pub fn pages_in_turn_give_their_table()
+    ensures whole { (table : List (List ℕ)) (pages : List Page) → InTurn table [] pages → EndsWithLast pages
+        → names_of pages ≡ table }
+    ensures ends { (table : List (List ℕ)) (pages : List Page) → IsTable table → InTurn table [] pages
+        → NoneIsLast pages → length pages ≤ length table }
 {}

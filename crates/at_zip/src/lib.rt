@@ -1,5 +1,5 @@
 //! The zone table of a router in the Zone Information Protocol (ZIP), and its pages as ATP carries them. The crate
-//! reads and writes requests for a page, makes the page of a table, and reads one.
+//! reads and writes requests for a page, makes the page of a table, and reads one, or all of them in turn.
 #![tactic(auto)]
 
 mod fault;
@@ -7,11 +7,13 @@ pub mod laws;
 mod names;
 mod page_view;
 mod paging;
+mod reader;
 mod request;
 mod zones;
 
 pub use fault::ZipFault;
 pub use page_view::{PageView, read_page};
 pub use paging::{MAX_PAGE_DATA, PageBytes, page};
+pub use reader::{Taken, ZoneReader};
 pub use request::{read_request, request_user};
 pub use zones::{MAX_ZONES, Zones};

@@ -1,4 +1,4 @@
-ghost use Rattle.std.specs.Prelude.{◌≡◌, length, IfOk, IfErr};
+ghost use Rattle.std.specs.Prelude.{◌≡◌, ◌+◌, ◌≤◌, ◌++◌, length, IfOk, IfErr, vec_capacity};
 ghost use Rattle.at_zip.specs.Fault.{IsFirstFault};
 ghost use Rattle.at_zip.specs.Page.{Page, Spells, IsLawful};
 ghost use Rattle.at_zip.specs.declared.fault.ZipFault.{ZipFault};
@@ -51,13 +51,22 @@ impl<'a> PageView<'a> {
         ensures { IfOk result (λ list. list ≡ self.now.names) }
     {
         let mut list = Vec::with_capacity(alloc, self.count())?;
+        self.push_names(&mut list);
+        Ok(Listed::from_vec(list))
+    }
+
+    // Appends the names, in order. The vector has room for them.
+    pub(crate) fn push_names<A: Allocator>(&self, list: &mut Vec<Pascal, A>)
+        requires { length list.old.items + length self.now.names ≤ vec_capacity list.old }
+        ensures names { list.new.items ≡ list.old.items ++ self.now.names }
+        ensures lawful { IsLawful self.now }
+    {
         let mut rest = self.bytes;
         for _ in 0..self.count {
             let (name, after) = take_name(rest).unwrap();
             list.push(Pascal::new(name).unwrap()).unwrap();
             rest = after;
         }
-        Ok(Listed::from_vec(list))
     }
 }
 

@@ -1,0 +1,95 @@
+ghost use Rattle.std.specs.Prelude.{◌≡◌, ◌↔◌, ◌+◌, ◌<◌, ◌⊎◌, ◌++◌, [], length, OnOk, IfErr, IsErrOf};
+ghost use Rattle.at_zip.specs.Reading.{HasRoomFor, follows, kept, place_after};
+
+use crate::fault::ZipFault;
+use crate::page_view::PageView;
+use crate::zones::MAX_ZONES;
+use at_ddp::{Listed, Pascal};
+use std::alloc::{Allocator, Global};
+use std::marker::Model;
+use std::mem;
+
+/// What follows a page.
+#[derive(Drop)]
+pub enum Taken<A: Allocator = Global> {
+    /// The next page is to be asked for, from this place on.
+    Ask(u16),
+    /// It was the last page: these are all names, in their order.
+    Done(Listed<Pascal, A>),
+}
+
+/// A reading of a zone table page by page: the names of the pages so far.
+#[derive(Drop)]
+pub struct ZoneReader<A: Allocator = Global> {
+    alloc: A,
+    names: Vec<Pascal, A>,
+}
+
+impl<A: Allocator> Model for ZoneReader<A> {
+    ghost use Rattle.std.specs.Prelude.{◌-◌, vec_len, vec_capacity};
+    ghost use Rattle.at_zip.specs.Reading.{Reader};
+    ghost use Rattle.at_zip.specs.Zones.{IsTable};
+
+    ghost Value = { Reader };
+
+    ghost view = { λ r. record { names = r.names.items; room = vec_capacity r.names - vec_len r.names } };
+
+    ghost invariant = { λ r. IsTable r.names.items };
+}
+
+impl<A: Allocator + Copy> ZoneReader<A> {
+    /// A reading without names. This needs no memory.
+    pub fn new(alloc: A) -> ZoneReader<A>
+        ensures { result.names ≡ [] }
+    {
+        ZoneReader {
+            alloc,
+            names: Vec::new(alloc),
+        }
+    }
+
+    /// The place that a reading asks from first.
+    pub fn first() -> u16
+        ensures { result ≡ place_after [] }
+    {
+        1
+    }
+
+    /// Makes room for the names of a page. Refuses a page with which the table would have over 1,024 names.
+    pub fn room(&mut self, page: &PageView<'_>) -> Result<(), ZipFault>
+        ensures ok { OnOk result (HasRoomFor self.new page.now) }
+        ensures too_many { IsErrOf result ZipFault.TooManyZones
+            ↔ (1024 < length self.old.names + length page.now.names) }
+        ensures no_other { IfErr result (λ fault. (fault ≡ ZipFault.TooManyZones) ⊎ (fault ≡ ZipFault.NoMemory)) }
+        ensures same { self.new.names ≡ self.old.names }
+    {
+        if self.names.len() + page.count() > MAX_ZONES {
+            return Err(ZipFault::TooManyZones);
+        }
+        self.names.reserve(page.count())?;
+        Ok(())
+    }
+
+    /// The place from which the page after this one is to be asked for.
+    pub fn after(&self, page: &PageView<'_>) -> u16
+        requires { HasRoomFor self.now page.now }
+        ensures { result ≡ place_after (self.now.names ++ page.now.names) }
+    {
+        (1 + self.names.len() + page.count()) as u16
+    }
+
+    /// Takes a page for which there is room. After the last page the reading has no names any more.
+    pub fn take(&mut self, page: &PageView<'_>) -> Taken<A>
+        requires { HasRoomFor self.old page.now }
+        ensures follows { result ≡ follows (self.old.names ++ page.now.names) page.now.last }
+        ensures kept { self.new.names ≡ kept (self.old.names ++ page.now.names) page.now.last }
+    {
+        page.push_names(&mut self.names);
+        if page.is_last() {
+            let names = mem::replace(&mut self.names, Vec::new(self.alloc));
+            Taken::Done(Listed::from_vec(names))
+        } else {
+            Taken::Ask((1 + self.names.len()) as u16)
+        }
+    }
+}
