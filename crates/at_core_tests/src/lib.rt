@@ -1,6 +1,6 @@
-//! Tests of datagrams, transactions, names, lookups and zone lists: each public call once over ample memory, against
-//! written values. A body that always told that memory is out would meet its contract, and so would one under a wrong
-//! definition.
+//! Tests of datagrams, transactions, segments, names, lookups and zone lists: each public call once over ample memory,
+//! against written values. A body that always told that memory is out would meet its contract, and so would one under a
+//! wrong definition.
 #![tactic(auto)]
 
 #[cfg(test)]
@@ -19,6 +19,8 @@ mod pages;
 mod requester;
 #[cfg(test)]
 mod responder;
+#[cfg(test)]
+mod segments;
 #[cfg(test)]
 mod sent;
 #[cfg(test)]

@@ -1,0 +1,5 @@
+pub mod Fault
+pub mod Openings
+pub mod Order
+pub mod Reading
+pub mod Segments

@@ -1,0 +1,15 @@
+//! Segments of the AppleTalk Data Stream Protocol (ADSP) as they stand on the wire.
+#![tactic(auto)]
+
+mod fault;
+pub mod laws;
+mod order;
+mod reading;
+mod segment;
+mod writing;
+
+pub use fault::AdspFault;
+pub use order::before;
+pub use reading::decode;
+pub use segment::{Body, HEADER_LEN, MAX_DATA, OpenKind, Segment};
+pub use writing::encode;

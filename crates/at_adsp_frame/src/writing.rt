@@ -1,0 +1,99 @@
+ghost use Rattle.std.specs.Prelude.{◌≡◌, ◌≢◌, ◌+◌, ◌*◌, ◌<◌, ◌≤◌, ◌++◌, ◌↔◌, length};
+ghost use Rattle.std.specs.Prelude.{IfErr, OnOk, OnErr, IsErrOf, vec_len, vec_capacity};
+ghost use Rattle.at_adsp_frame.specs.Openings.{opening};
+ghost use Rattle.at_adsp_frame.specs.Segments.{CanBeWritten, bit, bits_of, content, data_of, fields_of, header, part, spelled};
+
+use crate::fault::AdspFault;
+use crate::segment::{
+    ACK, ADVICE, Body, CLOSE, CONTROL, EOM, HEADER_LEN, MAX_DATA, OPENING_LEN, PROBE, RESET,
+    RESET_ACK, Segment, VERSION,
+};
+use std::alloc::Allocator;
+
+/// Appends a segment in the canonical spelling, with 0 in the free bits. A request to open a connection is to no
+/// connection identifier.
+pub fn encode<A: Allocator>(segment: &Segment<'_>, out: &mut Vec<u8, A>) -> Result<(), AdspFault>
+    requires { CanBeWritten (part segment.now.body) }
+    ensures ok { OnOk result (out.new.items ≡ out.old.items ++ spelled (content segment.now)) }
+    ensures err { OnErr result (out.new.items ≡ out.old.items) }
+    ensures too_long { IsErrOf result AdspFault.AdspTooLong ↔ (572 < length (data_of (part segment.now.body))) }
+    ensures memory { IfErr result (λ fault. fault ≢ AdspFault.AdspTooLong → fault ≡ AdspFault.NoMemory) }
+
+    // Out of memory only if the vector has no room left.
+    ensures room { IsErrOf result AdspFault.NoMemory
+        → vec_capacity out.old < vec_len out.old + length (spelled (content segment.now)) }
+{
+    if data_in(&segment.body).len() > MAX_DATA {
+        return Err(AdspFault::AdspTooLong);
+    }
+    out.reserve(HEADER_LEN + fields_len(&segment.body))?;
+    out.extend_from_slice(&header_of(segment)).unwrap();
+    push_fields(out, &segment.body);
+    Ok(())
+}
+
+fn data_in<'a>(body: &Body<'a>) -> &'a [u8]
+    ensures { result.now ≡ data_of (part body.now) }
+{
+    match body {
+        Body::Data { data_, .. } => data_,
+        _ => &[],
+    }
+}
+
+// How many bytes follow the header.
+fn fields_len(body: &Body<'_>) -> usize
+    ensures { result ≡ length (fields_of (part body.now)) }
+{
+    match body {
+        Body::Data { data_, .. } => data_.len(),
+        Body::Open { .. } => OPENING_LEN,
+        _ => 0,
+    }
+}
+
+fn push_fields<A: Allocator>(out: &mut Vec<u8, A>, body: &Body<'_>)
+    requires { vec_len out.old + length (fields_of (part body.now)) ≤ vec_capacity out.old }
+    ensures { out.new.items ≡ out.old.items ++ fields_of (part body.now) }
+{
+    match body {
+        Body::Data { data_, .. } => out.extend_from_slice(data_).unwrap(),
+        Body::Open { dest, .. } => out.extend_from_slice(&opening_to(*dest)).unwrap(),
+        _ => {}
+    }
+}
+
+// The fields of an opening to this destination.
+fn opening_to(dest: u16) -> [u8; OPENING_LEN]
+    ensures { result ≡ opening dest 0 }
+{
+    let [version, minor] = VERSION.to_be_bytes();
+    let [high, low] = dest.to_be_bytes();
+    [version, minor, high, low, 0, 0, 0, 0]
+}
+
+fn header_of(segment: &Segment<'_>) -> [u8; HEADER_LEN]
+    ensures { result ≡ header (content segment.now) (64 * bit segment.now.ack + bits_of (part segment.now.body)) }
+{
+    let [s0, s1] = segment.source.to_be_bytes();
+    let [f0, f1, f2, f3] = segment.first.to_be_bytes();
+    let [n0, n1, n2, n3] = segment.next.to_be_bytes();
+    let [w0, w1] = segment.window.to_be_bytes();
+    let descriptor = ACK * u8::from(segment.ack) + bits_in(&segment.body);
+    [s0, s1, f0, f1, f2, f3, n0, n1, n2, n3, w0, w1, descriptor]
+}
+
+// The descriptor without the bit that asks for an acknowledgement.
+fn bits_in(body: &Body<'_>) -> u8
+    ensures { result ≡ bits_of (part body.now) }
+{
+    match body {
+        Body::Data { end, .. } => EOM * u8::from(*end),
+        Body::Probe => CONTROL + PROBE,
+        Body::Open { kind, .. } => CONTROL + kind.code(),
+        Body::Close => CONTROL + CLOSE,
+        Body::Reset => CONTROL + RESET,
+        Body::ResetAck => CONTROL + RESET_ACK,
+        Body::Advice => CONTROL + ADVICE,
+    }
+}
