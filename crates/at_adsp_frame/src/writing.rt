@@ -1,7 +1,8 @@
 ghost use Rattle.std.specs.Prelude.{◌≡◌, ◌≢◌, ◌+◌, ◌*◌, ◌<◌, ◌≤◌, ◌++◌, ◌↔◌, length};
 ghost use Rattle.std.specs.Prelude.{IfErr, OnOk, OnErr, IsErrOf, vec_len, vec_capacity};
 ghost use Rattle.at_adsp_frame.specs.Openings.{opening};
-ghost use Rattle.at_adsp_frame.specs.Segments.{CanBeWritten, bit, bits_of, content, data_of, fields_of, header, part, spelled};
+ghost use Rattle.at_adsp_frame.specs.Segments.{CanBeWritten, bit, bits_of, content, data_of, fields_of, header};
+ghost use Rattle.at_adsp_frame.specs.Segments.{part, spelled};
 
 use crate::fault::AdspFault;
 use crate::segment::{

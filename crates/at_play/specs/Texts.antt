@@ -7,12 +7,17 @@ use Rattle.at_ddp.specs.declared.fault.DdpFault.{DdpFault}
 use Rattle.at_atp_frame.specs.Frames.{Content as Packet, Spells}
 use Rattle.at_atp_frame.specs.Fault.{IsFirstFault, number_of}
 use Rattle.at_atp_frame.specs.declared.fault.AtpFault.{AtpFault}
+use Rattle.at_adsp_frame.specs.Fault as adsp
+use Rattle.at_adsp_frame.specs.Segments as segments
+use Rattle.at_adsp_frame.specs.Segments.{Content as Segment}
+use Rattle.at_adsp_frame.specs.declared.fault.AdspFault.{AdspFault}
 use Rattle.at_nbp.specs.Fault as nbp
 use Rattle.at_nbp.specs.Packets as names
 use Rattle.at_nbp.specs.Packets.{Content as Names}
 use Rattle.at_nbp.specs.declared.fault.NbpFault.{NbpFault}
 use Rattle.at_print.specs.Lines.{header_line, packet_line, raw_line}
 use Rattle.at_print.specs.NameLines.{names_lines}
+use Rattle.at_print.specs.SegmentLines.{segment_line}
 use Rattle.at_words.specs.Hexes.{IsHex}
 
 -- there was no memory for the first event, or for the bytes of a word
@@ -34,10 +39,18 @@ pub data NamesText (bytes : List ℕ) : List ℕ → Type 0 where
   Named : (packet : Names) (rest : List ℕ) → names.BeginsWith bytes packet rest → NamesText bytes (names_lines packet)
   Misnamed : (fault : NbpFault) → nbp.IsFirstFault fault bytes → NamesText bytes (refusal_line (nbp.number_of fault))
 
+-- what is printed of the data of ADSP's datagrams: the segment, or the first fault by its number
+pub data SegmentText (bytes : List ℕ) : List ℕ → Type 0 where
+  Parsed : (segment : Segment) → segments.Spells bytes segment → SegmentText bytes (segment_line segment)
+  Unparsed : (fault : AdspFault) → adsp.IsFirstFault fault bytes
+      → SegmentText bytes (refusal_line (adsp.number_of fault))
+
 -- what is printed of the data of any datagram
 abbrev pub DataText : ℕ → List ℕ → List ℕ → Type 0
 DataText kind bytes text =
-    MatchBool (kind == 2) (NamesText bytes text) (MatchBool (kind == 3) (PacketText bytes text) (text ≡ raw_line bytes))
+    MatchBool (kind == 2) (NamesText bytes text)
+    (MatchBool (kind == 3) (PacketText bytes text)
+    (MatchBool (kind == 7) (SegmentText bytes text) (text ≡ raw_line bytes)))
 
 -- what is printed of bytes: the header and the data of the datagram with which they begin, or the first fault by its
 -- number

@@ -7,6 +7,7 @@ mod playing;
 mod program;
 mod show;
 mod show_names;
+mod show_segment;
 mod stop;
 
 pub use at_print::{Printer, Status};

@@ -10,6 +10,7 @@ ghost use Rattle.at_play.specs.Shown.{IsPacket, IsReadable, IsSound, Shows};
 use crate::diagnostics::Diagnostics;
 use crate::hex_reason::HexReason;
 use crate::show_names::show_names;
+use crate::show_segment::show_segment;
 use at_ddp::Datagram;
 use at_print::{Printer, Status, write_frame, write_header, write_raw};
 use at_words::{HexFault, bytes_of};
@@ -22,6 +23,9 @@ const NBP: u8 = 2;
 
 /// The protocol of ATP's datagrams.
 const ATP: u8 = 3;
+
+/// The protocol of ADSP's datagrams.
+const ADSP: u8 = 7;
 
 /// Prints the datagram that a word spells in hexadecimal digits, its header and its packet, or the number of the first
 /// refusal. What follows the datagram is counted only. The bytes are put into the room. Why a word or a datagram is
@@ -111,6 +115,8 @@ fn show_data<W: Write, E: Write>(
         show_names(bytes, printer, diagnostics)
     } else if kind == ATP {
         show_packet(bytes, printer, diagnostics)
+    } else if kind == ADSP {
+        show_segment(bytes, printer, diagnostics)
     } else {
         write_raw(printer, bytes);
         Status::Done

@@ -2,4 +2,5 @@ pub mod Lines
 pub mod NameLines
 pub mod Printers
 pub mod Reports
+pub mod SegmentLines
 pub mod Statuses

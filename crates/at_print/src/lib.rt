@@ -7,10 +7,12 @@ mod name_reports;
 mod packet_lines;
 mod print;
 mod printer;
+mod segment_lines;
 mod status;
 
 pub use name_lines::write_names;
 pub use packet_lines::{write_frame, write_header, write_raw};
 pub use print::{write_event, write_sent, write_text};
 pub use printer::Printer;
+pub use segment_lines::write_segment;
 pub use status::Status;

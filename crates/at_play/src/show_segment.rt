@@ -1,0 +1,27 @@
+ghost use Rattle.std.specs.Prelude.{◌≡◌, ◌↔◌, List, ℕ};
+ghost use Rattle.at_play.specs.Shown.{IsSegment};
+ghost use Rattle.at_play.specs.Texts.{SegmentText};
+ghost use Rattle.at_print.specs.Printers.{Prints};
+
+use crate::diagnostics::Diagnostics;
+use crate::show::show_refusal;
+use at_print::{Printer, Status, write_segment};
+use std::io::Write;
+
+/// The line of an ADSP segment, or the number of its first refusal.
+pub(crate) fn show_segment<W: Write, E: Write>(
+    bytes: &[u8],
+    printer: &mut Printer<W>,
+    diagnostics: &mut Diagnostics<'_, E>,
+) -> Status
+    ensures done { (result ≡ Status.Done) ↔ IsSegment bytes.now }
+    ensures printed { (text : List ℕ) × SegmentText bytes.now text × Prints W.contents printer.old printer.new text }
+{
+    match at_adsp_frame::decode(bytes) {
+        Ok(segment) => {
+            write_segment(printer, &segment);
+            Status::Done
+        }
+        Err(fault) => show_refusal(fault, fault.number(), printer, diagnostics),
+    }
+}
