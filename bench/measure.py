@@ -1,5 +1,5 @@
 #!/usr/bin/env python3
-"""Plays five kinds of schedules at two sizes, and prints how fast they were played and the memory that it took.
+"""Plays six kinds of schedules at two sizes, and prints how fast they were played and the memory that it took.
 
     python3 bench/measure.py [PROGRAM]
 
@@ -25,6 +25,20 @@ def zone_requests(events):
         yield "call 5 zones"
         yield f"deliver {2 * reading} 1"
         yield f"deliver {2 * reading + 1} 5"
+
+
+# A table of the most names, each as long as it may be, and the pages that it takes.
+ZONES, PAGES = 1024, 61
+
+
+def zone_lists(events):
+    yield from ("net 10", "node 1 router zone Lab", "node 5 zone Lab")
+    yield "zones " + " ".join(f"{number:032}" for number in range(ZONES))
+    for reading in range(events // (1 + 2 * PAGES)):
+        yield "call 5 zones"
+        for page in range(PAGES * reading, PAGES * (reading + 1)):
+            yield f"deliver {2 * page} 1"
+            yield f"deliver {2 * page + 1} 5"
 
 
 def transactions(events):
@@ -83,6 +97,7 @@ def lookups(events):
 
 KINDS = (
     ("zone requests", zone_requests),
+    ("zone lists of 1,024 names", zone_lists),
     ("transactions of eight full packets", transactions),
     ("all numbers in turn", numbers),
     ("sixteen nodes that ask each other", sixteen_nodes),

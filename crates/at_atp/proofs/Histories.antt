@@ -1,9 +1,9 @@
 -- What every timely history leaves true of a network.
-use Rattle.std.proofs.Common.{◌≡◌, ℕ, ◌+◌, ◌<◌, true, List, [], ◌∷◌, Option, Some, None, refl, subst, arith}
+use Rattle.std.proofs.Common.{◌≡◌, ℕ, ◌+◌, ◌<◌, Bool, true, false, List, [], ◌∷◌, Option, Some, None, refl, subst, arith}
 use Rattle.std.specs.Prelude.{find}
 use Rattle.std.proofs.lemmas.Bool.{eqb-true}
 use Rattle.at_ddp.specs.declared.address.Address.{Address}
-use Rattle.at_atp.specs.Network.{Network, Sent, packet_at, Happening, Begins, Answers, Hears, Takes, Serves, Expires, Retries, Other, begins, answers, handed_up, hears, takes, takes_in, serves, expires, retries, is_fresh, done, tick, after, IsTimely, AllTimely, GivesAnswers}
+use Rattle.at_atp.specs.Network.{Network, Sent, packet_at, Happening, Begins, Answers, Hears, Turns, Takes, Serves, Expires, Retries, Other, begins, turns, ending, number_after, answers, handed_up, hears, takes, takes_in, serves, expires, retries, is_fresh, done, tick, after, IsTimely, AllTimely, GivesAnswers}
 use Rattle.at_atp_frame.specs.Packets.{Packet}
 use Rattle.at_atp_responder.specs.Records.{is_key, taken, answer_fault, expiry_fault}
 use Rattle.at_atp_requester.specs.Requests as requests
@@ -19,11 +19,13 @@ use Rattle.at_atp.proofs.Carried.{Tells, Holds}
 use Rattle.at_atp.proofs.Hearings.{heard_sound}
 use Rattle.at_atp.proofs.NetworkLemmas.{Fresh, Sound, asked_by, hears_sound, takes_sound, serves_sound, expires_sound, retries_sound, gives_sound}
 use Rattle.at_atp.proofs.SentLemmas.{sent_at, sent_implied}
+use Rattle.at_atp.proofs.Turns.{turns_sound}
 
-done_sound : (A : Type 0) (draws : DrawsFree) (n : Network) (h : Happening) → Sound n.event n → IsTimely n h → Sound (n.event + 1) (done A n h)
+done_sound : (A : Type 0) (draws : DrawsFree) (n : Network) (h : Happening) → Sound n.event n → IsTimely A n h → Sound (n.event + 1) (done A n h)
 done_sound A draws n (Begins who to user bytes wanted xo times) sound timely = begins_sound draws n who to user bytes wanted xo times sound timely
 done_sound A draws n (Answers at key packets) sound timely = gives_sound n at key packets (later n sound)
 done_sound A draws n (Hears which) sound timely = hears_sound A n which (later n sound) timely
+done_sound A draws n (Turns which user times) sound timely = turns_sound A draws n which user times sound timely
 done_sound A draws n (Takes which) sound timely = takes_sound n which (later n sound) timely
 done_sound A draws n (Serves which packets) sound timely = serves_sound n which packets (later n sound) timely
 done_sound A draws n (Expires at key) sound timely = expires_sound n at key (later n sound)
@@ -41,18 +43,23 @@ handed n at packets (reception.Again count) = refl
 handed n at packets reception.Released = refl
 handed n at packets reception.Ignored = refl
 
+began : (n : Network) (who to : Address) (user bytes : List ℕ) (wanted : ℕ) (xo : Bool) (times : ℕ) (o : Option ℕ) → (begins n who to user bytes wanted xo times o).event ≡ n.event
+began n who to user bytes wanted xo times None = refl
+began n who to user bytes wanted xo times (Some tid) = refl
+
 same_event : (A : Type 0) (n : Network) (h : Happening) → (done A n h).event ≡ n.event
-same_event A n (Begins who to user bytes wanted xo times) = go (next_number (n.requesters who))
-  where
-    go : (o : Option ℕ) → (begins n who to user bytes wanted xo times o).event ≡ n.event
-    go None = refl
-    go (Some tid) = refl
+same_event A n (Begins who to user bytes wanted xo times) = began n who to user bytes wanted xo times (next_number (n.requesters who))
 same_event A n (Answers at key packets) = given n at key packets (answer_fault (n.responders at) key packets)
 same_event A n (Hears which) = go (packet_at n.sent which)
   where
     go : (o : Option Sent) → (hears A n o).event ≡ n.event
     go None = refl
     go (Some s) = refl
+same_event A n (Turns which user times) = go (ending A n (packet_at n.sent which))
+  where
+    go : (o : Option Sent) → (turns A n user times o).event ≡ n.event
+    go None = refl
+    go (Some s) = began (hears A n (Some s)) s.to s.from user [] 1 false times (number_after A n s)
 same_event A n (Takes which) = go (packet_at n.sent which)
   where
     go : (o : Option Sent) → (takes_in n o).event ≡ n.event

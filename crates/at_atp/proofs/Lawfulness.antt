@@ -1,5 +1,5 @@
 -- All that a network sends can be spelled, if what is asked and answered is in range.
-use Rattle.std.proofs.Common.{◌≡◌, ℕ, zero, suc, ◌<◌, ◌≤◌, Bool, true, false, cond, List, [], ◌∷◌, length, Option, Some, None, refl, subst, arith, lit<}
+use Rattle.std.proofs.Common.{◌≡◌, ℕ, zero, suc, ◌<◌, ◌≤◌, Bool, true, false, cond, List, [], ◌∷◌, length, Option, Some, None, refl, subst, arith, lit<, lit≤}
 use Rattle.std.specs.Prelude.{find, option_map, nat_le, replicate, IfSome, ◌&&◌}
 use Rattle.std.specs.List.{AllByRecursion}
 use Rattle.std.proofs.lemmas.Bool.{leb-true}
@@ -9,7 +9,7 @@ use Rattle.at_ddp.specs.declared.address.Address.{Address}
 use Rattle.at_atp_requester.specs.Answers.{Arrival, is_wanted, whole, with_part}
 use Rattle.at_atp_frame.specs.Frames.{Content, Request, Response, Release, IsLawful}
 use Rattle.at_atp.specs.Lawfully.{IsAsking, IsInRange, IsLawfullySent}
-use Rattle.at_atp.specs.Network.{Network, Sent, AllSent, packet_at, Happening, Begins, Answers, Hears, Takes, Serves, Expires, Retries, Other, begins, begun, answers, gives, hears, takes, takes_in, handed_up, serves, expires, retries, done, after}
+use Rattle.at_atp.specs.Network.{Network, Sent, AllSent, packet_at, Happening, Begins, Answers, Hears, Turns, Takes, Serves, Expires, Retries, Other, begins, begun, turns, ending, number_after, answers, gives, hears, takes, takes_in, handed_up, serves, expires, retries, done, after}
 use Rattle.at_atp_frame.specs.Packets.{Packet, IsPacket}
 use Rattle.at_atp_responder.specs.Records.{State, Waiting, Answered, Released, Record, Taken, is_key, is_kept, repeated, released, came_again, request_came, release_came, passed, is_passed_over, taken, answer_fault, asked_for, asked_bitmap, after_answer, expiry_fault, fit, record_fault}
 use Rattle.at_atp_requester.specs.Requests.{Transaction, Requests, Retried, next_number, beginning, request_by, came, came_for, was_kept, is_finished, is_of, response_came, Effect, Heard, heard, is_numbered, retried_with, retried}
@@ -23,6 +23,7 @@ use Rattle.at_ddp.proofs.Alls.{all_both, all_replaced, all_without, all_found}
 use Rattle.at_atp.proofs.NetworkLemmas.{put_all}
 use Rattle.at_atp.proofs.KeyedRecords.{one_key}
 use Rattle.at_atp.proofs.SentLemmas.{sent_at, none_sent}
+use Rattle.at_atp.proofs.Turns.{ends}
 use Rattle.at_atp.proofs.Ranges.{FitsOpen, FitsRequests, FitsState, FitsRecord, FitSent, Fits, number_fits, asks_fit, responses_fit, more_fits, requester_fits, responder_fits}
 
 -- ---- a packet comes to a requester
@@ -209,6 +210,20 @@ begun_fits n who to user bytes wanted xo times tid fits a numbered =
     it : FitsOpen (beginning tid to user bytes wanted xo times)
     it = record { tid = numbered; to = a.to_fits; asks = a.asks; few = let few = a.few in omega (arith, few, length-replicate {A = Option Arrival} wanted None) }
 
+hears_fits : (A : Type 0) (n : Network) (which : ℕ) (s : Sent) → Fits n → packet_at n.sent which ≡ Some s → Fits (hears A n (Some s))
+hears_fits A n which s fits e =
+    let l = sent_at IsLawfullySent n.sent which s fits.sent e in
+    let h = heard_fits A (n.requesters s.to) s.from s.packet (fits.requesters s.to) in
+    requester_fits n s.to (heard {A = A} (n.requesters s.to) s.from s.packet).after (heard {A = A} (n.requesters s.to) s.from s.packet).sent fits l.to_fits h.after h.sent
+
+turned_fits : (A : Type 0) (n : Network) (which : ℕ) (user : List ℕ) (times : ℕ) (s : Sent) → Fits n → IsInRange (Turns which user times) → packet_at n.sent which ≡ Some s → (o : Option ℕ) → number_after A n s ≡ o →
+    Fits (begins (hears A n (Some s)) s.to s.from user [] 1 false times o)
+turned_fits A n which user times s fits range e None f = hears_fits A n which s fits e
+turned_fits A n which user times s fits range e (Some tid) f =
+    let l = sent_at IsLawfullySent n.sent which s fits.sent e in
+    let h = heard_fits A (n.requesters s.to) s.from s.packet (fits.requesters s.to) in
+    begun_fits (hears A n (Some s)) s.to s.from user [] 1 false times tid (hears_fits A n which s fits e) (record { who_fits = l.to_fits; to_fits = l.from_fits; asks = range; few = lit≤ tt }) (number_fits (heard {A = A} (n.requesters s.to) s.from s.packet).after tid (h.after).next f)
+
 done_fits : (A : Type 0) (n : Network) (h : Happening) → Fits n → IsInRange h → Fits (done A n h)
 done_fits A n (Begins who to user bytes wanted xo times) fits range = go (next_number (n.requesters who)) refl
   where
@@ -220,10 +235,12 @@ done_fits A n (Hears which) fits range = go (packet_at n.sent which) refl
   where
     go : (o : Option Sent) → packet_at n.sent which ≡ o → Fits (hears A n o)
     go None e = fits
-    go (Some s) e =
-        let l = sent_at IsLawfullySent n.sent which s fits.sent e in
-        let h = heard_fits A (n.requesters s.to) s.from s.packet (fits.requesters s.to) in
-        requester_fits n s.to (heard {A = A} (n.requesters s.to) s.from s.packet).after (heard {A = A} (n.requesters s.to) s.from s.packet).sent fits l.to_fits h.after h.sent
+    go (Some s) e = hears_fits A n which s fits e
+done_fits A n (Turns which user times) fits range = go (ending A n (packet_at n.sent which)) refl
+  where
+    go : (o : Option Sent) → ending A n (packet_at n.sent which) ≡ o → Fits (turns A n user times o)
+    go None e = fits
+    go (Some s) e = let came = ends A n which s e in turned_fits A n which user times s fits range came.was_sent (number_after A n s) refl
 done_fits A n (Takes which) fits range = go (packet_at n.sent which) refl
   where
     go : (o : Option Sent) → packet_at n.sent which ≡ o → Fits (takes_in n o)

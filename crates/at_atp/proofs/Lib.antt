@@ -13,3 +13,4 @@ mod Ranges
 mod SentLemmas
 mod Stages
 mod Takings
+mod Turns

@@ -9,7 +9,7 @@ use Rattle.at_ddp.specs.declared.address.Address.{Address}
 use Rattle.at_ddp.proofs.Octets.{same_address-true}
 use Rattle.at_atp_frame.specs.Packets.{Packet}
 use Rattle.at_atp.specs.Transactions.{Transaction, is_transaction, transaction_of, Asked, answered, IsPart}
-use Rattle.at_atp.specs.Network.{Network, Sent, Happening, Begins, Answers, Hears, Takes, Serves, Expires, Retries, packet_at, hears, takes_in, expires, retries, done}
+use Rattle.at_atp.specs.Network.{Network, Sent, Happening, Begins, Answers, Hears, Turns, Takes, Serves, Expires, Retries, packet_at, hears, takes_in, expires, retries, done}
 use Rattle.at_atp_frame.specs.declared.fault.AtpFault.{AtpFault}
 use Rattle.at_atp_requester.specs.Requests.{Retried, retried}
 use Rattle.at_atp_responder.specs.Records.{is_key, expiry_fault}
@@ -129,6 +129,7 @@ still_asked ts from tid packets who k responder a =
 abbrev pub asks_or_answers : Happening → Bool
 asks_or_answers (Begins who to user bytes wanted xo times) = true
 asks_or_answers (Answers at key packets) = true
+asks_or_answers (Turns which user times) = true
 asks_or_answers (Serves which packets) = true
 asks_or_answers other = false
 
@@ -136,6 +137,7 @@ asks_or_answers other = false
 pub left_as_asked : (A : Type 0) (n : Network) (h : Happening) → asks_or_answers h ≡ false → (done A n h).asked ≡ n.asked
 left_as_asked A n (Begins who to user bytes wanted xo times) quiet = absurd (true≢false quiet)
 left_as_asked A n (Answers at key packets) quiet = absurd (true≢false quiet)
+left_as_asked A n (Turns which user times) quiet = absurd (true≢false quiet)
 left_as_asked A n (Serves which packets) quiet = absurd (true≢false quiet)
 left_as_asked A n (Hears which) quiet = go (packet_at n.sent which)
   where

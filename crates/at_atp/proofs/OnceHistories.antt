@@ -8,8 +8,8 @@ use Rattle.std.proofs.Math.Seq.{take-append_seam}
 use Rattle.at_ddp.specs.Address.{same_address}
 use Rattle.at_ddp.specs.declared.address.Address.{Address}
 use Rattle.at_atp_frame.specs.Frames.{Content, Request, Response, Release, number_of}
-use Rattle.at_atp.specs.HandUps.{is_drawn, brings, hand_ups_since, has_expired, ComesInLife, Lives, AllLived, AnswersOnce}
-use Rattle.at_atp.specs.Network.{Network, Sent, packet_at, Happening, Begins, Answers, Hears, Takes, Serves, Expires, Retries, Other, begins, answers, gives, handed_up, hears, takes, takes_in, serves, expires, retries, new_transaction, after, IsTimely, AllTimely}
+use Rattle.at_atp.specs.HandUps.{is_drawn, is_drawn_after, brings, hand_ups_since, has_expired, ComesInLife, Lives, AllLived, AnswersOnce}
+use Rattle.at_atp.specs.Network.{Network, Sent, packet_at, Happening, Begins, Answers, Hears, Turns, Takes, Serves, Expires, Retries, Other, begins, turns, ending, number_after, NoneHolds, answers, gives, handed_up, hears, takes, takes_in, serves, expires, retries, new_transaction, after, IsTimely, AllTimely}
 use Rattle.at_atp_responder.specs.Once.{same_key}
 use Rattle.at_atp_frame.specs.Packets.{Packet}
 use Rattle.at_atp_responder.specs.Records.{State, Waiting, Answered, Released, Record, is_key, taken, record_fault, answer_fault, expiry_fault}
@@ -67,18 +67,24 @@ alive A hs which s lives is (Request mask xo timer tid user bytes) e = lives s m
 alive A hs which s lives is (Response place eom sts tid user bytes) e = tt
 alive A hs which s lives is (Release tid) e = tt
 
-step : (A : Type 0) (waits : AnswersWaiting) (h : Happening) (hs : List Happening) → Sound (after A hs).event (after A hs) → IsTimely (after A hs) h → Lives A hs h → OnceAfter A hs → OnceAfter A (h ∷ hs)
-step A waits (Begins who to user bytes wanted xo times) hs sound timely lives each = go (next_number ((after A hs).requesters who)) refl
-  where
-    go : (o : Option ℕ) → next_number ((after A hs).requesters who) ≡ o → IsOnce (begins (after A hs) who to user bytes wanted xo times o) (λ key. cond (is_drawn who o key) 0 (hand_ups_since A hs key)) (λ at key. cond (is_drawn who o key) false (has_expired A hs at key))
-    go None e = each
-    go (Some tid) e = begun_once (after A hs).asked (after A hs).responders (hand_ups_since A hs) (has_expired A hs) (new_transaction who (beginning tid to user bytes wanted xo times)) refl (timely tid e) each
+begins_once : (n : Network) (hands : Key → ℕ) (expired : Address → Key → Bool) (who to : Address) (user bytes : List ℕ) (wanted : ℕ) (xo : Bool) (times : ℕ) (o : Option ℕ) → ((tid : ℕ) → o ≡ Some tid → NoneHolds n.responders who tid) → IsOnce n hands expired →
+    IsOnce (begins n who to user bytes wanted xo times o) (λ key. cond (is_drawn who o key) 0 (hands key)) (λ at key. cond (is_drawn who o key) false (expired at key))
+begins_once n hands expired who to user bytes wanted xo times None free each = each
+begins_once n hands expired who to user bytes wanted xo times (Some tid) free each = begun_once n.asked n.responders hands expired (new_transaction who (beginning tid to user bytes wanted xo times)) refl (free tid refl) each
+
+step : (A : Type 0) (waits : AnswersWaiting) (h : Happening) (hs : List Happening) → Sound (after A hs).event (after A hs) → IsTimely A (after A hs) h → Lives A hs h → OnceAfter A hs → OnceAfter A (h ∷ hs)
+step A waits (Begins who to user bytes wanted xo times) hs sound timely lives each = begins_once (after A hs) (hand_ups_since A hs) (has_expired A hs) who to user bytes wanted xo times (next_number ((after A hs).requesters who)) timely each
 step A waits (Answers at key packets) hs sound timely lives each = gives_once waits (after A hs).event (after A hs) (hand_ups_since A hs) (has_expired A hs) at key packets sound each
 step A waits (Hears which) hs sound timely lives each = go (packet_at (after A hs).sent which)
   where
     go : (o : Option Sent) → IsOnce (hears A (after A hs) o) (hand_ups_since A hs) (has_expired A hs)
     go None = each
     go (Some s) = each
+step A waits (Turns which user times) hs sound timely lives each = go (ending A (after A hs) (packet_at (after A hs).sent which)) refl
+  where
+    go : (o : Option Sent) → ending A (after A hs) (packet_at (after A hs).sent which) ≡ o → IsOnce (turns A (after A hs) user times o) (λ key. cond (is_drawn_after A (after A hs) o key) 0 (hand_ups_since A hs key)) (λ at key. cond (is_drawn_after A (after A hs) o key) false (has_expired A hs at key))
+    go None e = each
+    go (Some s) e = begins_once (hears A (after A hs) (Some s)) (hand_ups_since A hs) (has_expired A hs) s.to s.from user [] 1 false times (number_after A (after A hs) s) (λ tid drawn. timely.1 s tid e drawn) each
 step A waits (Takes which) hs sound timely lives each = go (packet_at (after A hs).sent which) refl
   where
     go : (o : Option Sent) → packet_at (after A hs).sent which ≡ o → IsOnce (takes_in (after A hs) o) (λ key. cond (brings (after A hs) key o) (hand_ups_since A hs key + 1) (hand_ups_since A hs key)) (has_expired A hs)

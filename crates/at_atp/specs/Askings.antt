@@ -1,11 +1,11 @@
 -- What a happening does to what was asked: nothing, a transaction begins, or an answer joins one (Inside AppleTalk,
 -- ATP, "Transactions").
-use Rattle.std.specs.Prelude.{◌≡◌, ℕ, true, false, List, [], ◌∷◌}
+use Rattle.std.specs.Prelude.{◌≡◌, ℕ, true, false, List, [], ◌∷◌, Some}
 use Rattle.at_atp_frame.specs.Packets.{Packet}
 use Rattle.at_atp_responder.specs.Once.{same_key}
 use Rattle.at_atp_responder.specs.declared.reception.Key.{Key}
 use Rattle.at_atp.specs.HandUps.{brings, draws}
-use Rattle.at_atp.specs.Network.{Network, Happening, Begins, Answers, Serves, packet_at, done}
+use Rattle.at_atp.specs.Network.{Network, Sent, Happening, Begins, Answers, Turns, Serves, packet_at, ending, done}
 use Rattle.at_atp.specs.Transactions.{Transaction, is_transaction, answered}
 
 -- the happening gives this answer to the request of a key
@@ -17,24 +17,40 @@ Gives n h key answer = ⊥
 -- all stays as it was asked
 pub record LeavesAsked (A : Type 0) (n : Network) (h : Happening) : Type 0 where
   pub same : (done A n h).asked ≡ n.asked
-  pub draws_none : (key : Key) → draws n h key ≡ false
+  pub draws_none : (key : Key) → draws A n h key ≡ false
+
+-- a packet ends another transaction, and this one asks its sender for one packet, at least once and without data
+pub record FollowsOne (A : Type 0) (n : Network) (h : Happening) (t : Transaction) (retries : ℕ) : Type 0 where
+  pub which : ℕ
+  pub packet : Sent
+  pub turns : h ≡ Turns which t.user retries
+  pub ends : ending A n (packet_at n.sent which) ≡ Some packet
+  pub requester : t.requester ≡ packet.to
+  pub responder : t.responder ≡ packet.from
+  pub no_data : t.data_ ≡ []
+  pub one_wanted : t.wanted ≡ 1
+  pub not_xo : t.xo ≡ false
+
+-- how a transaction begins with so many retries: by itself, or at the end of another
+pub data BeginsIt (A : Type 0) (n : Network) (h : Happening) (t : Transaction) (retries : ℕ) : Type 0 where
+  ByItself : h ≡ Begins t.requester t.responder t.user t.data_ t.wanted t.xo retries → BeginsIt A n h t retries
+  AfterOne : FollowsOne A n h t retries → BeginsIt A n h t retries
 
 -- this transaction begins, and has no answer yet
 pub record BeginsOne (A : Type 0) (n : Network) (h : Happening) : Type 0 where
   pub transaction : Transaction
   pub retries : ℕ
-  pub begins : h ≡ Begins transaction.requester transaction.responder transaction.user transaction.data_
-      transaction.wanted transaction.xo retries
+  pub begins : BeginsIt A n h transaction retries
   pub asked : (done A n h).asked ≡ transaction ∷ n.asked
   pub no_answers : transaction.answers ≡ []
-  pub draws_its : (key : Key) → draws n h key ≡ is_transaction key.from key.tid transaction
+  pub draws_its : (key : Key) → draws A n h key ≡ is_transaction key.from key.tid transaction
 
 -- this answer joins the newest transaction of a key
 pub record JoinsOne (A : Type 0) (n : Network) (h : Happening) : Type 0 where
   pub key : Key
   pub packets : List Packet
   pub asked : (done A n h).asked ≡ answered n.asked key.from key.tid packets
-  pub draws_none : (other : Key) → draws n h other ≡ false
+  pub draws_none : (other : Key) → draws A n h other ≡ false
   pub gives : (other : Key) → same_key key other ≡ true → Gives n h other packets
 
 pub data ChangesAsked (A : Type 0) (n : Network) (h : Happening) : Type 0 where

@@ -5,7 +5,8 @@ use Rattle.std.specs.Prelude.{length, take, find, Option, Some, None}
 use Rattle.at_ddp.specs.Address.{same_address}
 use Rattle.at_ddp.specs.declared.address.Address.{Address}
 use Rattle.at_atp_frame.specs.Frames.{Request, number_of}
-use Rattle.at_atp.specs.Network.{Network, Sent, Happening, Begins, Takes, Serves, Expires, is_fresh, packet_at, after}
+use Rattle.at_atp.specs.Network.{Network, Sent, Happening, Begins, Turns, Takes, Serves, Expires, is_fresh, packet_at}
+use Rattle.at_atp.specs.Network.{ending, number_after, after}
 use Rattle.at_atp_responder.specs.Once.{Comes, hands_up, same_key}
 use Rattle.at_atp_frame.specs.Packets.{Packet}
 use Rattle.at_atp_responder.specs.Records.{is_key, expiry_fault}
@@ -19,10 +20,16 @@ abbrev pub is_drawn : Address → Option ℕ → Key → Bool
 is_drawn who None key = false
 is_drawn who (Some tid) key = same_key (record { from = who; tid = tid }) key
 
+-- does the requester draw the number of the key after the packet that ends a transaction there?
+abbrev pub is_drawn_after : (A : Type 0) → Network → Option Sent → Key → Bool
+is_drawn_after A n None key = false
+is_drawn_after A n (Some s) key = is_drawn s.to (number_after A n s) key
+
 -- does a happening draw the number of this key?
-abbrev pub draws : Network → Happening → Key → Bool
-draws n (Begins who to user bytes wanted xo times) key = is_drawn who (next_number (n.requesters who)) key
-draws n h key = false
+abbrev pub draws : (A : Type 0) → Network → Happening → Key → Bool
+draws A n (Begins who to user bytes wanted xo times) key = is_drawn who (next_number (n.requesters who)) key
+draws A n (Turns which user times) key = is_drawn_after A n (ending A n (packet_at n.sent which)) key
+draws A n h key = false
 
 -- does a packet that comes deliver this request to the service?
 abbrev pub brings : Network → Key → Option Sent → Bool
@@ -38,7 +45,7 @@ is_handed_up n h key = false
 abbrev pub hand_ups_since : (A : Type 0) → List Happening → Key → ℕ
 hand_ups_since A [] key = 0
 hand_ups_since A (h ∷ hs) key =
-    if draws (after A hs) h key then 0
+    if draws A (after A hs) h key then 0
     else if is_handed_up (after A hs) h key then hand_ups_since A hs key + 1
     else hand_ups_since A hs key
 
@@ -52,7 +59,7 @@ expires_there n h at key = false
 abbrev pub has_expired : (A : Type 0) → List Happening → Address → Key → Bool
 has_expired A [] at key = false
 has_expired A (h ∷ hs) at key =
-    if draws (after A hs) h key then false else expires_there (after A hs) h at key || has_expired A hs at key
+    if draws A (after A hs) h key then false else expires_there (after A hs) h at key || has_expired A hs at key
 
 -- ---- histories in which no request outlives its record
 

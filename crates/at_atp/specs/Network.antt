@@ -1,6 +1,6 @@
 -- A network of requesters and responders at any addresses that ask and answer each other. Each packet may come late,
 -- again or never (Inside AppleTalk, ATP, "Transactions").
-use Rattle.std.specs.Prelude.{◌≡◌, ℕ, ◌+◌, ◌==◌, ◌&&◌, ◌||◌, not, nat_le, if◌then◌else◌, Bool, true, List, []}
+use Rattle.std.specs.Prelude.{◌≡◌, ℕ, ◌+◌, ◌==◌, ◌&&◌, ◌||◌, not, nat_le, if◌then◌else◌, Bool, true, false, List, []}
 use Rattle.std.specs.Prelude.{◌∷◌, ◌++◌, length, map, find, replicate, slice_get, IfSome, Option, Some, None}
 use Rattle.std.specs.List.{AllByRecursion, list_all}
 use Rattle.at_ddp.specs.Address.{same_address}
@@ -10,7 +10,7 @@ use Rattle.at_atp_frame.specs.Packets.{Packet}
 use Rattle.at_atp_responder.specs.Records.{Record, is_key, taken, answer_fault, asked_for, after_answer, expiry_fault}
 use Rattle.at_atp_requester.specs.Requests as requests
 use Rattle.at_atp_requester.specs.Requests.{Requests, Retried, no_requests, next_number, beginning, request_by, heard}
-use Rattle.at_atp_requester.specs.Requests.{is_numbered, retried}
+use Rattle.at_atp_requester.specs.Requests.{is_numbered, retried, finishes}
 use Rattle.at_ddp.specs.Tables.{without_first}
 use Rattle.at_atp.specs.Transactions.{Transaction, Asked, answered, IsPart, IsResponse}
 use Rattle.at_atp_frame.specs.declared.fault.AtpFault.{AtpFault}
@@ -79,6 +79,9 @@ pub data Happening : Type 0 where
   Answers : (at : Address) (key : Key) (packets : List Packet) → Happening
   -- a packet comes to the requester at the address that it was sent to
   Hears : (which : ℕ) → Happening
+  -- a packet comes that ends an at-least-once transaction, and the requester asks the same responder for one packet
+  -- more, at least once
+  Turns : (which : ℕ) (user : List ℕ) (retries : ℕ) → Happening
   -- a packet comes to the responder at the address that it was sent to
   Takes : (which : ℕ) → Happening
   -- the same, and if the request is new there, it is answered at once
@@ -151,6 +154,21 @@ hears A n (Some s) =
     (heard {A = A} (n.requesters s.to) s.from s.packet).after
     (heard {A = A} (n.requesters s.to) s.from s.packet).sent
 
+-- what comes, if it ends an at-least-once transaction of the requester that it comes to
+abbrev pub ending : (A : Type 0) → Network → Option Sent → Option Sent
+ending A n None = None
+ending A n (Some s) = if finishes A (n.requesters s.to) s.from s.packet then Some s else None
+
+-- the number that the requester draws after that packet
+abbrev pub number_after : (A : Type 0) → Network → Sent → Option ℕ
+number_after A n s = next_number (heard {A = A} (n.requesters s.to) s.from s.packet).after
+
+-- the packet is heard, and a transaction with its sender begins in the same event
+abbrev pub turns : (A : Type 0) → Network → List ℕ → ℕ → Option Sent → Network
+turns A n user retries None = n
+turns A n user retries (Some s) =
+    begins (hears A n (Some s)) s.to s.from user [] 1 false retries (number_after A n s)
+
 abbrev pub takes : Network → Sent → Network
 takes n s =
     with_responder n s.to
@@ -184,6 +202,7 @@ done A n (Begins who to user bytes wanted xo times) =
     begins n who to user bytes wanted xo times (next_number (n.requesters who))
 done A n (Answers at key packets) = gives n at key packets
 done A n (Hears which) = hears A n (packet_at n.sent which)
+done A n (Turns which user times) = turns A n user times (ending A n (packet_at n.sent which))
 done A n (Takes which) = takes_in n (packet_at n.sent which)
 done A n (Serves which packets) = serves n packets (packet_at n.sent which)
 done A n (Expires at key) = expires n at key (expiry_fault (find (is_key key) (n.responders at)))
@@ -205,17 +224,20 @@ abbrev pub ComesInTime : Network → ℕ → Type 0
 ComesInTime n which = (s : Sent) → packet_at n.sent which ≡ Some s → is_fresh n.drawn s ≡ true
 
 -- each packet comes before its number is drawn again, and no number is drawn while a record is held under it
-abbrev pub IsTimely : Network → Happening → Type 0
-IsTimely n (Begins who to user bytes wanted xo times) =
+abbrev pub IsTimely : (A : Type 0) → Network → Happening → Type 0
+IsTimely A n (Begins who to user bytes wanted xo times) =
     (tid : ℕ) → next_number (n.requesters who) ≡ Some tid → NoneHolds n.responders who tid
-IsTimely n (Hears which) = ComesInTime n which
-IsTimely n (Takes which) = ComesInTime n which
-IsTimely n (Serves which packets) = ComesInTime n which
-IsTimely n other = Unit {0}
+IsTimely A n (Hears which) = ComesInTime n which
+IsTimely A n (Turns which user times) = ComesInTime n which
+    × ((s : Sent) (tid : ℕ) → ending A n (packet_at n.sent which) ≡ Some s → number_after A n s ≡ Some tid
+    → NoneHolds n.responders s.to tid)
+IsTimely A n (Takes which) = ComesInTime n which
+IsTimely A n (Serves which packets) = ComesInTime n which
+IsTimely A n other = Unit {0}
 
 abbrev pub AllTimely : (A : Type 0) → List Happening → Type 0
 AllTimely A [] = Unit {0}
-AllTimely A (h ∷ hs) = IsTimely (after A hs) h × AllTimely A hs
+AllTimely A (h ∷ hs) = IsTimely A (after A hs) h × AllTimely A hs
 
 -- ---- what holds after such a history
 

@@ -1,6 +1,6 @@
 //! The laws of ATP: spellings, transactions, requests that are delivered once, and answers. The functions do nothing at
 //! run time: each contract is a law.
-ghost use Rattle.std.specs.Prelude.{◌≡◌, List, ℕ};
+ghost use Rattle.std.specs.Prelude.{◌≡◌, List, [], true, ℕ};
 ghost use Rattle.at_ddp.specs.declared.address.Address.{Address};
 ghost use Rattle.std.specs.List.{AllByRecursion};
 ghost use Rattle.at_atp.specs.Askings.{ChangesAsked};
@@ -8,7 +8,9 @@ ghost use Rattle.at_atp.specs.HandUps.{AllLived, AnswersOnce};
 ghost use Rattle.at_atp.specs.Lawfully.{IsInRange, IsLawfullySent};
 ghost use Rattle.at_atp.specs.Network.{Network, Happening, AllSent, AllTimely, GivesAnswers, after};
 ghost use Rattle.at_atp.specs.Transactions.{Transaction as Exchange, Asked, answered};
+ghost use Rattle.at_atp_frame.specs.Frames.{Content};
 ghost use Rattle.at_atp_frame.specs.Packets.{Packet};
+ghost use Rattle.at_atp_requester.specs.Requests.{Requests, finishes, heard};
 
 pub use at_atp_frame::laws::{what_is_written_fits, what_is_written_is_read};
 pub use at_atp_requester::laws::{
@@ -47,6 +49,12 @@ pub fn exactly_once_requests_are_answered_once<A: Allocator>()
 pub fn what_is_sent_is_lawful<A: Allocator>()
     ensures { (history : List Happening) → AllByRecursion IsInRange history
         → AllSent IsLawfullySent (after A history).sent }
+{}
+
+/// A packet that ends an at-least-once transaction is answered by nothing.
+pub fn an_end_is_answered_by_nothing<A: Allocator>()
+    ensures { (r : Requests) (from : Address) (f : Content) → finishes A r from f ≡ true
+        → (heard {A = A} r from f).sent ≡ [] }
 {}
 
 /// An answer leaves what was asked as it was.

@@ -1,4 +1,5 @@
 mod AnswerLemmas
+mod ClosingLemmas
 mod DifferLemmas
 mod MoveLemmas
 mod OpenLemmas

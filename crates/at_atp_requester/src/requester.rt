@@ -2,9 +2,11 @@ ghost use Rattle.std.specs.Prelude.{◌≡◌, ◌≢◌, ◌↔◌, ◌+◌, �
 ghost use Rattle.std.specs.Prelude.{IfSome, OnErr, IsOk, IsErrOf, true, Some, None};
 ghost use Rattle.std.specs.List.{position_from};
 ghost use Rattle.at_ddp.specs.Outbox.{Sends};
-ghost use Rattle.at_atp_frame.specs.Frames.{content, spelled};
+ghost use Rattle.at_ddp.specs.declared.address.Address.{Address as At};
+ghost use Rattle.at_atp_frame.specs.Frames.{Content, content, number_of, spelled};
 ghost use Rattle.at_atp_requester.specs.Requests.{no_requests, next_number, closing, beginning, begun, request_by};
-ghost use Rattle.at_atp_requester.specs.Requests.{is_of, is_finished, is_ignored, is_numbered, heard, retried, IsHeard};
+ghost use Rattle.at_atp_requester.specs.Requests.{is_of, is_finished, is_ignored, is_numbered, finishes, heard};
+ghost use Rattle.at_atp_requester.specs.Requests.{retried, IsHeard};
 ghost use Rattle.at_atp_requester.specs.Requests.{IsRetried};
 
 use crate::numbers::next_of;
@@ -47,7 +49,11 @@ impl<A: Allocator + Copy> Requester<A> {
     /// The number that the next transaction will get; none if 32 are open. If `closed` is a number, its transaction
     /// counts as closed.
     pub fn next_number(&self, closed: Option<u16>) -> Option<u16>
-        ensures { result ≡ next_number (closing self.now closed) }
+        ensures number { result ≡ next_number (closing self.now closed) }
+
+        // So it tells the number that a turn will draw.
+        ensures turn { (from : At) (f : Content) → finishes A self.now from f ≡ true → closed ≡ Some (number_of f)
+            → result ≡ next_number (heard {A = A} self.now from f).after }
     {
         let standing = self.standing.as_slice();
         let Some(tid) = closed else {

@@ -1,4 +1,5 @@
 ghost use Rattle.std.specs.Prelude.{◌≡◌, ◌<◌, ◌∷◌, [], true, false, length, remove, is_some, Some, IfSome, IfOk, OnErr};
+ghost use Rattle.std.specs.Prelude.{IsSome};
 ghost use Rattle.at_ddp.specs.Outbox.{Sends};
 ghost use Rattle.at_atp_frame.specs.Frames.{Response, content, spelled};
 ghost use Rattle.at_atp_requester.specs.Requests.{Requests, next_number, beginning, begun, request_by, is_response};
@@ -15,7 +16,11 @@ use std::alloc::{AllocError, Allocator};
 impl<A: Allocator + Copy> Requester<A> {
     /// Whether this packet from this address would end an at-least-once transaction.
     pub fn finishes(&self, from: Address, frame: &Frame<'_>) -> bool
-        ensures { result ≡ finishes A self.now from (content frame.now) }
+        ensures ends { result ≡ finishes A self.now from (content frame.now) }
+
+        // Then a number is free for the next one.
+        ensures free { finishes A self.now from (content frame.now) ≡ true
+            → IsSome (next_number (heard {A = A} self.now from (content frame.now)).after) }
     {
         let Some((tid, arriving)) = answer_in(frame) else {
             return false;

@@ -1,16 +1,41 @@
 //! Zone tables, their pages, and requests for these.
 use at_ddp::{Listed, Pascal};
-use at_zip::{Taken, ZipFault, ZoneReader, Zones, page, read_page, read_request, request_user};
+use at_zip::{
+    MAX_ZONES, Taken, ZipFault, ZoneReader, Zones, is_name, page, read_page, read_request,
+    request_user, table_fault,
+};
 use std::alloc::Global;
 use std::process::Abort;
 
-fn table(rt: &impl Abort, alloc: Global, texts: &[&[u8]]) -> Zones {
+fn names(rt: &impl Abort, alloc: Global, texts: &[&[u8]]) -> Vec<Pascal> {
     let mut list = Vec::new(alloc);
     for text in texts {
         let name = Pascal::new(text).expect(rt, "a name is too long");
         list.push(name).expect(rt, "out of memory");
     }
-    Zones::new(Listed::from_vec(list)).expect(rt, "no table")
+    list
+}
+
+fn table(rt: &impl Abort, alloc: Global, texts: &[&[u8]]) -> Zones {
+    Zones::new(Listed::from_vec(names(rt, alloc, texts))).expect(rt, "no table")
+}
+
+#[test]
+fn a_table_has_at_most_1024_names_that_are_not_empty(rt: HostRuntime) {
+    let most = names(&rt, rt.alloc(), &[b"Lab".as_slice(); MAX_ZONES]);
+    assert!(rt; table_fault(&most) == None);
+    let zones = Zones::copy_of(rt.alloc(), &most).expect(&rt, "no table");
+    assert!(rt; zones.names() == most.as_slice());
+    let more = names(&rt, rt.alloc(), &[b"".as_slice(); 1025]);
+    assert!(rt; table_fault(&more) == Some(ZipFault::TooManyZones));
+    let empty = names(&rt, rt.alloc(), &[b"Lab", b""]);
+    assert!(rt; table_fault(&empty) == Some(ZipFault::BadZone));
+    let refused = Zones::copy_of(rt.alloc(), &empty);
+    assert!(rt; refused.err() == Some(ZipFault::BadZone));
+    let lab = Pascal::new(b"Lab").expect(&rt, "no name");
+    let nothing = Pascal::new(b"").expect(&rt, "no name");
+    assert!(rt; is_name(&lab) && !is_name(&nothing));
+    assert!(rt; ZipFault::TooManyZones.number() == Some(34));
 }
 
 // Places of the table, and the pages that begin there: user bytes and data.

@@ -27,12 +27,15 @@ pub enum Rule {
     #[error("`zones` wants names of 1 to 32 bytes, as in \"zones Lab Office\"")]
     Zones,
     /// `call N CALL ..`
-    #[error("`call` wants a node and `zones`, `ask`, `answer`, `find`, `claim`, `finish`, `register` or `unregister`, \
-        as in \"call 5 zones\"")]
+    #[error("`call` wants a node and `zones`, `setzones`, `ask`, `answer`, `find`, `claim`, `finish`, `register` or \
+        `unregister`, as in \"call 5 zones\"")]
     Call,
     /// `call N zones`
     #[error("`zones` wants nothing after it in a call, as in \"call 5 zones\"")]
     CallZones,
+    /// `call N setzones TEXT ..`
+    #[error("`setzones` wants texts of at most 32 bytes, as in \"call 1 setzones Lab Office\"")]
+    SetZones,
     /// `call N ask NODE SOCKET USER DATA WANTED alo|xo RETRIES`
     #[error("`ask` wants a node, a socket, user bytes, data, 1 to 8 packets, `alo` or `xo`, and retries, \
         as in \"call 5 ask 7 129 00000000 AA 1 alo 3\"")]
@@ -112,9 +115,9 @@ pub enum Rule {
     /// `zones` wants a router.
     #[error("`zones` wants a router among the nodes, as in \"node 1 router zone Lab\"")]
     ZonesOfRouter,
-    /// A zone table fits one page.
-    #[error("the names of `zones` have at most 578 bytes, a byte for each one's length included")]
-    ZonesFitPage,
+    /// A zone table has at most 1,024 names.
+    #[error("`zones` has at most 1,024 names")]
+    ZonesFitTable,
     /// A schedule has a network.
     #[error("the schedule ends without a `net` line")]
     NoNet,

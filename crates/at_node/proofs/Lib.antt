@@ -2,6 +2,7 @@ mod DrawingLemmas
 mod NameLemmas
 mod OutcomeLemmas
 mod PostLemmas
+mod ReadingLemmas
 mod RequesterLemmas
 mod ResponderLemmas
 mod ServingLemmas

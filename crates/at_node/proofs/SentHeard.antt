@@ -8,6 +8,7 @@ use Rattle.at_ddp.specs.declared.address.Address.{Address}
 use Rattle.at_ddp.specs.declared.fault.DdpFault.{DdpFault}
 use Rattle.at_atp_frame.specs.Frames.{Content, Request, IsLawful, Spells, spelled}
 use Rattle.at_atp_frame.specs.Fault as atp
+use Rattle.at_atp_requester.specs.Requests.{Heard}
 use Rattle.at_atp_frame.specs.Frames.{owner, number_of}
 use Rattle.at_node.specs.Drawing.{Carries}
 use Rattle.at_node.specs.declared.drawing.Draw.TheVariants.{Tid}
@@ -17,7 +18,6 @@ use Rattle.at_zip.specs.Fault as zip
 use Rattle.at_zip.specs.Request.{RequestSpells, request_user}
 use Rattle.at_zip.specs.declared.fault.ZipFault.{ZipFault}
 use Rattle.at_node.specs.declared.service.Reply.{Reply}
-use Rattle.at_node.specs.declared.event.Report.{Report}
 use Rattle.at_node.specs.declared.event.Report.TheVariants.{Ignored}
 use Rattle.at_node.specs.declared.seat.Seat.{Seat}
 use Rattle.at_node.specs.AtpHearing.{AtpSocket, AtSocket, HearsAt, atp_socket}
@@ -26,7 +26,7 @@ use Rattle.at_node.specs.Hearing.{HearsIt, HearsMine, Hears, HearsSent}
 use Rattle.at_node.specs.Nodes.{NodeState, with_atp}
 use Rattle.at_node.specs.Outcomes.{Outcome, Over, idle}
 use Rattle.at_node.specs.Seats.{is_mine}
-use Rattle.at_node.specs.ZoneReading.{Tells, told_by}
+use Rattle.at_node.specs.ZoneReading.{ReadsPage, TakesPage}
 use Rattle.at_node.specs.ZoneSocket.{AtZones, zone_asked}
 
 -- ---- packets
@@ -97,16 +97,16 @@ asked_is_served A s a from table mask xo timer tid start bytes o reads alone som
     h.outcome ∙ ap (λ k. zone_asked {A = A} s a from (Request mask xo timer tid (request_user start) bytes) table k) (alone (request_user start) h.start start h.asks (reads start some fits))
 asked_is_served A s a from table mask xo timer tid start bytes o reads alone some fits (inr h) = absurd (h.0 start (reads start some fits))
 
-pub told_as_written : (A : Type 0) (p : page.Page) (r : Report A) →
+pub taken_as_written : (A : Type 0) (s : Seat) (a : AtpState) (h : Heard A) (from : Address) (names : List (List ℕ)) (p : page.Page) (o : Outcome A AtpState) →
     ((q : page.Page) (rest : List ℕ) → page.IsLawful q → page.Spells (page.page_user q) (page.page_data q ++ rest) q) →
     ((user bytes : List ℕ) (q s : page.Page) → page.Spells user bytes q → page.Spells user bytes s → q ≡ s) →
     ((user bytes : List ℕ) (q : page.Page) → page.Spells user bytes q → (fault : ZipFault) → ¬ zip.IsFirstFault fault user bytes) →
-    page.IsLawful p → Tells (record { user = page.page_user p; data_ = page.page_data p }) r → r ≡ told_by p
-told_as_written A p r reads alone faultless ok told = go told
+    page.IsLawful p → ReadsPage s a h from names (record { user = page.page_user p; data_ = page.page_data p }) o → TakesPage s a h from names p o
+taken_as_written A s a h from names p o reads alone faultless ok read = go read
   where
     spelled-p : page.Spells (page.page_user p) (page.page_data p) p
     spelled-p = subst (λ bytes. page.Spells (page.page_user p) bytes p) (append-nil (page.page_data p)) (reads p [] ok)
 
-    go : Tells (record { user = page.page_user p; data_ = page.page_data p }) r → r ≡ told_by p
-    go (inl h) = h.tells ∙ ap (λ (q : page.Page). told_by {A = A} q) (alone (page.page_user p) (page.page_data p) h.names p h.spelled spelled-p)
-    go (inr h) = absurd (faultless (page.page_user p) (page.page_data p) p spelled-p h.fault h.first)
+    go : ReadsPage s a h from names (record { user = page.page_user p; data_ = page.page_data p }) o → TakesPage s a h from names p o
+    go (inl had) = subst (λ (q : page.Page). TakesPage s a h from names q o) (alone (page.page_user p) (page.page_data p) had.page p had.spelled spelled-p) had.outcome
+    go (inr had) = absurd (faultless (page.page_user p) (page.page_data p) p spelled-p had.fault had.first)

@@ -4,12 +4,11 @@ use Rattle.at_ddp.specs.Datagram.{Content as Datagram}
 use Rattle.at_ddp.specs.declared.address.Address.{Address}
 use Rattle.at_atp_frame.specs.Fault as atp
 use Rattle.at_atp_frame.specs.Frames.{Content, Spells}
-use Rattle.at_atp_requester.specs.Requests.{heard}
 use Rattle.at_atp_frame.specs.declared.fault.AtpFault.{AtpFault}
 use Rattle.at_node.specs.declared.event.Report.TheVariants as report
 use Rattle.at_node.specs.declared.seat.Seat.{Seat}
 use Rattle.at_node.specs.declared.service.Reply.{Reply}
-use Rattle.at_node.specs.AtpParts.{AtpState, tid_of, packet_in}
+use Rattle.at_node.specs.AtpParts.{AtpState}
 use Rattle.at_node.specs.Outcomes.{Outcome, idle}
 use Rattle.at_node.specs.RequesterSocket.{AtRequester}
 use Rattle.at_node.specs.ServiceSocket.{AtService}
@@ -31,8 +30,7 @@ atp_socket a socket =
 abbrev pub AtSocket : {A : Type 0} → Reply A → Seat → AtpState → Address → Option AtpSocket → Content
     → Outcome A AtpState → Type 0
 AtSocket said s a from None f o = o ≡ idle a report.Ignored
-AtSocket {A} said s a from (Some Requester) f o =
-    AtRequester s a (tid_of f) (packet_in f) (heard a.requester from f) (heard {A = A} a.requester from f).step o
+AtSocket said s a from (Some Requester) f o = AtRequester s a from f o
 AtSocket said s a from (Some Service) f o = AtService said s a from f o
 AtSocket said s a from (Some (Zones table)) f o = AtZones s a from table f o
 

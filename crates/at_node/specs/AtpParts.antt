@@ -11,9 +11,14 @@ use Rattle.at_node.specs.declared.event.Report.TheVariants as report
 use Rattle.at_node.specs.declared.seat.Seat.{Seat}
 use Rattle.at_node.specs.Outcomes.{Outcome, sent_by}
 
+-- a reading of the zone list: the transaction that asks for the next page, and the names of the pages so far
+pub record Reading : Type 0 where
+  pub tid : ℕ
+  pub names : List (List ℕ)
+
 pub record AtpState : Type 0 where
   pub table : Option (List (List ℕ))  -- the zone table, if the node is the router
-  pub reading : Option ℕ  -- the transaction that reads the zone list
+  pub reading : Option Reading  -- the open reading of the zone list
   pub requester : Requests
   pub zone_responder : List Record  -- the records of zone requests
   pub service_responder : List Record  -- the records of requests for the service
@@ -52,7 +57,7 @@ tid_of (Release tid) = tid
 -- ---- the requester
 
 -- a transaction begins, and its request is sent
-abbrev pub asks : {A : Type 0} → Seat → AtpState → Option ℕ → Transaction → Outcome A AtpState
+abbrev pub asks : {A : Type 0} → Seat → AtpState → Option Reading → Transaction → Outcome A AtpState
 asks s a reading t = record {
   report = report.Begun t.tid;
   state = record a { reading = reading; requester = begun a.requester t };
@@ -60,7 +65,7 @@ asks s a reading t = record {
 }
 
 -- a packet was received: the report, and the reading after it
-abbrev pub after_heard : {A : Type 0} → Seat → AtpState → Heard A → Report A → Option ℕ → Outcome A AtpState
+abbrev pub after_heard : {A : Type 0} → Seat → AtpState → Heard A → Report A → Option Reading → Outcome A AtpState
 after_heard s a h r reading = record {
   report = r;
   state = record a { reading = reading; requester = h.after };

@@ -5,7 +5,8 @@ use Rattle.at_ddp.specs.Datagram.{AreBytes}
 use Rattle.at_atp_frame.specs.Packets.{AreWords}
 use Rattle.at_nbp.specs.Tuples.{IsString}
 use Rattle.at_node.specs.declared.event.Call.{Call}
-use Rattle.at_node.specs.declared.event.Call.TheVariants.{Ask, Answer, Find, Claim, Finish, Register, Unregister}
+use Rattle.at_node.specs.declared.event.Call.TheVariants.{SetZones, Ask, Answer}
+use Rattle.at_node.specs.declared.event.Call.TheVariants.{Find, Claim, Finish, Register, Unregister}
 
 -- the zone of a pattern, if it has one
 abbrev pub IsZone : Option (List ℕ) → Type 0
@@ -18,6 +19,7 @@ IsCall (Ask node socket user bytes wanted xo retries) =
     (node < 256) × (socket < 256) × (length user ≡ 4) × AreBytes user × AreBytes bytes × (1 ≤ wanted) × (wanted ≤ 8)
 IsCall (Answer node socket tid packets) =
     (node < 256) × (socket < 256) × (tid < 65536) × AllByRecursion AreWords packets
+IsCall (SetZones names) = AllByRecursion IsString names
 IsCall (Find object kind zone) = IsString object × IsString kind × IsZone zone
 IsCall (Claim object kind socket) = IsString object × IsString kind × (socket < 256)
 IsCall (Finish id) = id < 256

@@ -13,9 +13,12 @@ use Rattle.at_node.specs.declared.drawing.Input.TheVariants as input
 use Rattle.at_node.specs.declared.event.Call.{Call}
 use Rattle.at_node.specs.declared.event.Report.{Report}
 use Rattle.at_node.specs.declared.event.Report.TheVariants as report
+use Rattle.at_node.specs.declared.service.Reply.{Reply}
 use Rattle.at_node.specs.AtpParts.{atp_kind}
+use Rattle.at_node.specs.Hearing.{Hears}
 use Rattle.at_node.specs.NameCalls.{nbp_kind}
-use Rattle.at_node.specs.Nodes.{NodeState, called}
+use Rattle.at_node.specs.Nodes.{NodeState, called, timed}
+use Rattle.at_node.specs.Outcomes.{Outcome}
 
 -- the number that the node drew, if this is its report
 abbrev pub drawn_by : {A : Type 0} → Report A → Option Draw
@@ -27,10 +30,19 @@ drawn_by other = None
 abbrev pub draw_of : {A : Type 0} → NodeState → Call A → Option Draw
 draw_of n call = drawn_by (called n call).report
 
--- the same for any input: only calls draw a number
-abbrev pub draw_of_input : {A : Type 0} → NodeState → Input A → Option Draw
-draw_of_input n (input.Call call) = draw_of n call.now
-draw_of_input n other = None
+-- what comes of these bytes, whatever the service replies, tells of this number
+pub record DrawsHearing (A : Type 0) (n : NodeState) (bytes : List ℕ) (draw : Draw) : Type 0 where
+  pub said : Reply A
+  pub outcome : Outcome A NodeState
+  pub hears : Hears said n bytes outcome
+  pub tells : drawn_by outcome.report ≡ Some draw
+
+-- The same for any input: this is the number that its outcome tells of. A page that makes the next one be asked for
+-- draws a number too.
+abbrev pub Draws : {A : Type 0} → NodeState → Input A → Draw → Type 0
+Draws n (input.Call call) draw = draw_of n call.now ≡ Some draw
+Draws {A} n (input.Timer timer) draw = drawn_by (timed {A = A} n timer).report ≡ Some draw
+Draws {A} n (input.Received bytes) draw = DrawsHearing A n bytes.now draw
 
 -- does the node hold a record of a request of that node with this number? nobody holds the identifier of a lookup
 abbrev pub holds : NodeState → ℕ → Draw → Bool

@@ -1,6 +1,6 @@
 -- Of which protocol a call, a timer and a report are.
 use Rattle.at_node.specs.declared.event.Call.{Call}
-use Rattle.at_node.specs.declared.event.Call.TheVariants.{Zones, Ask, Answer}
+use Rattle.at_node.specs.declared.event.Call.TheVariants.{Zones, SetZones, Ask, Answer}
 use Rattle.at_node.specs.declared.event.Call.TheVariants.{Find, Claim, Finish, Register, Unregister}
 use Rattle.at_node.specs.declared.event.Report.{Report}
 use Rattle.at_node.specs.declared.event.Report.TheVariants as report
@@ -15,6 +15,7 @@ pub data Kind : Type 0 where
 
 abbrev pub kind_of_call : {A : Type 0} → Call A → Kind
 kind_of_call Zones = Atp
+kind_of_call (SetZones names) = Atp
 kind_of_call (Ask node socket user bytes wanted xo retries) = Atp
 kind_of_call (Answer node socket tid packets) = Atp
 kind_of_call (Find object kind _) = Nbp
@@ -35,6 +36,7 @@ reporter_of (report.Answered count) = Atp
 reporter_of (report.Served count) = Atp
 reporter_of (report.Asked key user bytes) = Atp
 reporter_of (report.Zones names) = Atp
+reporter_of report.TableSet = Atp
 reporter_of (report.ZoneFault number) = Atp
 reporter_of report.ZonesFailed = Atp
 reporter_of report.Kept = Atp

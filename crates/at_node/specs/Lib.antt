@@ -9,6 +9,7 @@ pub mod NameCalls
 pub mod NameHearing
 pub mod Nodes
 pub mod Outcomes
+pub mod Readings
 pub mod RequesterSocket
 pub mod Responders
 pub mod Seats

@@ -5,7 +5,7 @@ use Rattle.at_name_socket.specs.NameSockets as names
 use Rattle.at_name_socket.specs.NameSockets.{SocketState}
 use Rattle.at_name_socket.specs.declared.neighbour.Neighbour.{Neighbour}
 use Rattle.at_node.specs.declared.event.Call.{Call}
-use Rattle.at_node.specs.declared.event.Call.TheVariants.{Zones, Ask, Answer}
+use Rattle.at_node.specs.declared.event.Call.TheVariants.{Zones, SetZones, Ask, Answer}
 use Rattle.at_node.specs.declared.event.Call.TheVariants.{Find, Claim, Finish, Register, Unregister}
 use Rattle.at_node.specs.declared.event.Timer.{Timer}
 use Rattle.at_node.specs.declared.event.Timer.TheVariants as timer
@@ -20,6 +20,7 @@ use Rattle.at_node.specs.Responders.{release_fired}
 use Rattle.at_node.specs.Seats.{at_socket}
 use Rattle.at_node.specs.ServiceSocket.{answer_called}
 use Rattle.at_node.specs.ZoneReading.{zones_called}
+use Rattle.at_node.specs.ZoneSocket.{set_zones_called}
 
 pub record NodeState : Type 0 where
   pub seat : Seat
@@ -43,6 +44,7 @@ with_names n part = record n { names = part }
 
 abbrev pub called : {A : Type 0} → NodeState → Call A → Outcome A NodeState
 called n Zones = over (with_atp n) (zones_called n.seat n.atp n.seat.router n.atp.reading)
+called n (SetZones names) = over (with_atp n) (set_zones_called n.atp n.atp.table names)
 called n (Ask node socket user bytes wanted xo retries) =
     over (with_atp n) (ask_called n.seat n.atp (at_socket n.seat node socket) user bytes wanted xo retries)
 called n (Answer node socket tid packets) =

@@ -3,9 +3,8 @@ use Rattle.std.specs.Prelude.{MatchBool, ◌≡◌, ℕ, nat_lt, if◌then◌els
 use Rattle.std.specs.Prelude.{None}
 use Rattle.at_ddp.specs.declared.address.Address.{Address}
 use Rattle.at_atp_frame.specs.Fault as atp
-use Rattle.at_atp_frame.specs.Frames.{spelled_all}
-use Rattle.at_atp_frame.specs.Packets.{Packet}
-use Rattle.at_atp_requester.specs.Requests.{Heard, Retried, next_number, beginning}
+use Rattle.at_atp_frame.specs.Frames.{Content, spelled_all}
+use Rattle.at_atp_requester.specs.Requests.{Heard, Retried, next_number, beginning, heard}
 use Rattle.at_atp_frame.specs.declared.fault.AtpFault.TheVariants.{AtpTooLong, Full, NoSuch}
 use Rattle.at_atp_requester.specs.declared.step.Retry.{Retry}
 use Rattle.at_atp_requester.specs.declared.step.Retry.TheVariants as retry
@@ -14,9 +13,9 @@ use Rattle.at_atp_requester.specs.declared.step.Step.TheVariants as step
 use Rattle.at_node.specs.declared.event.Report.{Report}
 use Rattle.at_node.specs.declared.event.Report.TheVariants as report
 use Rattle.at_node.specs.declared.seat.Seat.{Seat}
-use Rattle.at_node.specs.AtpParts.{AtpState, asking, atp_kind, asks, after_heard}
+use Rattle.at_node.specs.AtpParts.{AtpState, asking, atp_kind, asks, after_heard, packet_in, tid_of}
 use Rattle.at_node.specs.Outcomes.{Outcome, idle, sent_by, refused_as}
-use Rattle.at_node.specs.ZoneReading.{EndsReading, is_reading, after_failing}
+use Rattle.at_node.specs.ZoneReading.{ReadsPage, is_page, is_reading, after_failing, names_read}
 
 -- ---- the call
 
@@ -49,19 +48,19 @@ retry_fired s a tid (Some r) = after_retry s a tid r r.step
 
 -- ---- packets
 
--- the report of a step of a transaction that does not read the zone list
+-- the report of a step of a transaction, unless it ends by the page of a reading
 abbrev pub reported_other : {A : Type 0} → ℕ → Step A → Report A
 reported_other tid step.Ignored = report.Ignored
 reported_other tid step.Kept = report.Kept
 reported_other tid step.AskAgain = report.Again
 reported_other tid (step.Finished packets) = report.Response tid packets
 
--- a packet of this number was received, with p as its user bytes and data
-abbrev pub AtRequester : {A : Type 0} → Seat → AtpState → ℕ → Packet → Heard A → Step A → Outcome A AtpState → Type 0
-AtRequester s a tid p h step.Ignored o = o ≡ after_heard s a h report.Ignored a.reading
-AtRequester s a tid p h step.Kept o = o ≡ after_heard s a h report.Kept a.reading
-AtRequester s a tid p h step.AskAgain o = o ≡ after_heard s a h report.Again a.reading
-AtRequester s a tid p h (step.Finished packets) o =
-    MatchBool (is_reading a.reading tid)
-    (EndsReading s a h p o)
-    (o ≡ after_heard s a h (report.Response tid packets) a.reading)
+abbrev pub hears_other : {A : Type 0} → Seat → AtpState → ℕ → Heard A → Outcome A AtpState
+hears_other s a tid h = after_heard s a h (reported_other tid h.step) a.reading
+
+-- a packet from an address: the page that a reading asked for, or any other
+abbrev pub AtRequester : {A : Type 0} → Seat → AtpState → Address → Content → Outcome A AtpState → Type 0
+AtRequester {A} s a from f o =
+    MatchBool (is_page A a from f)
+    (ReadsPage s a (heard a.requester from f) from (names_read a.reading) (packet_in f) o)
+    (o ≡ hears_other s a (tid_of f) (heard a.requester from f))

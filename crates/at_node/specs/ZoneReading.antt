@@ -1,13 +1,15 @@
--- How a node reads the zone list (Inside AppleTalk, ZIP, "GetZoneList").
-use Rattle.std.specs.Prelude.{◌≡◌, ℕ, ◌==◌, if◌then◌else◌, Bool, true, false, [], Option, Some, None, ◌⊎◌}
+-- How a node reads the zone list, page by page (Inside AppleTalk, ZIP, "GetZoneList").
+use Rattle.std.specs.Prelude.{MatchBool, ◌≡◌, ℕ, ◌+◌, ◌==◌, ◌&&◌, nat_lt, Bool, true, false, List, [], ◌++◌, length}
+use Rattle.std.specs.Prelude.{Option, Some, None, ◌⊎◌}
+use Rattle.at_ddp.specs.declared.address.Address.{Address}
 use Rattle.at_atp_frame.specs.Fault as atp
+use Rattle.at_atp_frame.specs.Frames.{Content}
 use Rattle.at_atp_frame.specs.Packets.{Packet}
-use Rattle.at_atp_requester.specs.Requests.{Transaction, Requests, Heard, next_number, beginning, is_finished}
+use Rattle.at_atp_requester.specs.Requests.{Transaction, Requests, Heard, next_number, beginning, finishes}
 use Rattle.at_atp_frame.specs.declared.fault.AtpFault.TheVariants.{Full}
-use Rattle.at_atp_requester.specs.declared.step.Step.{Step}
-use Rattle.at_atp_requester.specs.declared.step.Step.TheVariants as step
 use Rattle.at_zip.specs.Fault as zip
-use Rattle.at_zip.specs.Page as page
+use Rattle.at_zip.specs.Page as pages
+use Rattle.at_zip.specs.Reading.{place_after}
 use Rattle.at_zip.specs.Request.{request_user}
 use Rattle.at_zip.specs.declared.fault.ZipFault.{ZipFault}
 use Rattle.at_zip.specs.declared.fault.ZipFault.TheVariants.{TooManyZones}
@@ -15,44 +17,43 @@ use Rattle.at_node.specs.declared.event.Report.{Report}
 use Rattle.at_node.specs.declared.event.Report.TheVariants as report
 use Rattle.at_node.specs.declared.fault.NodeFault.TheVariants.{NoRouter, StillReading}
 use Rattle.at_node.specs.declared.seat.Seat.{Seat}
-use Rattle.at_node.specs.AtpParts.{AtpState, asks, after_heard, zones_at}
+use Rattle.at_node.specs.AtpParts.{AtpState, Reading, asks, after_heard, tid_of, zones_at}
 use Rattle.at_node.specs.Faults.{number_of}
 use Rattle.at_node.specs.Outcomes.{Outcome, idle, refused_as}
 
--- ---- the call
+-- the transaction by which a reading asks for the page after the names that it has: one packet, at least once, with
+-- three retries
+abbrev pub page_transaction : Address → List (List ℕ) → ℕ → Transaction
+page_transaction to names tid = beginning tid to (request_user (place_after names)) [] 1 false 3
 
--- the transaction by which a node asks its router for the zone list, from the first name on: one packet, with three
--- retries
-abbrev pub zone_transaction : Seat → ℕ → ℕ → Transaction
-zone_transaction s router tid = beginning tid (zones_at s.net router) (request_user 1) [] 1 false 3
+-- ---- the call
 
 abbrev pub reading_begins : {A : Type 0} → Seat → AtpState → ℕ → Option ℕ → Outcome A AtpState
 reading_begins s a router None = idle a (refused_as (atp.number_of Full))
-reading_begins s a router (Some tid) = asks s a (Some tid) (zone_transaction s router tid)
+reading_begins s a router (Some tid) =
+    asks s a (Some (record { tid = tid; names = [] })) (page_transaction (zones_at s.net router) [] tid)
 
 -- without a router nothing can be read, and a node reads one list at a time
-abbrev pub zones_called : {A : Type 0} → Seat → AtpState → Option ℕ → Option ℕ → Outcome A AtpState
+abbrev pub zones_called : {A : Type 0} → Seat → AtpState → Option ℕ → Option Reading → Outcome A AtpState
 zones_called s a None reading = idle a (report.Refused (number_of NoRouter))
-zones_called s a (Some router) (Some tid) = idle a (report.Refused (number_of StillReading))
+zones_called s a (Some router) (Some r) = idle a (report.Refused (number_of StillReading))
 zones_called s a (Some router) None = reading_begins s a router (next_number a.requester)
 
 -- ---- the transaction that reads
 
 -- is this the transaction that reads the zone list?
-abbrev pub is_reading : Option ℕ → ℕ → Bool
+abbrev pub is_reading : Option Reading → ℕ → Bool
 is_reading None tid = false
-is_reading (Some t) tid = t == tid
+is_reading (Some r) tid = r.tid == tid
 
--- the reading goes on until its transaction ends
-abbrev pub reading_after : {A : Type 0} → Option ℕ → Step A → Option ℕ
-reading_after reading s = if is_finished s then None else reading
+-- the names of the pages so far
+abbrev pub names_read : Option Reading → List (List ℕ)
+names_read None = []
+names_read (Some r) = r.names
 
--- the report of a step of a transaction that ends with this report
-abbrev pub reported : {A : Type 0} → Report A → Step A → Report A
-reported ends step.Ignored = report.Ignored
-reported ends step.Kept = report.Kept
-reported ends step.AskAgain = report.Again
-reported ends (step.Finished packets) = ends
+-- is this packet from an address the page that a reading asked for? It ends the transaction that reads.
+abbrev pub is_page : (A : Type 0) → AtpState → Address → Content → Bool
+is_page A a from f = is_reading a.reading (tid_of f) && finishes A a.requester from f
 
 -- a transaction ended without an answer; if it read the zone list, the reading ends
 abbrev pub after_failing : {A : Type 0} → AtpState → ℕ → Requests → Bool → Outcome A AtpState
@@ -68,29 +69,41 @@ abbrev pub faulted_as : {A : Type 0} → Option ℕ → Report A
 faulted_as None = report.NoMemory
 faulted_as (Some number) = report.ZoneFault number
 
--- What a reading reports of its page. A reading takes one page, so a page that is not the last is refused: the list is
--- too long.
-abbrev pub told_by : {A : Type 0} → page.Page → Report A
-told_by p = if p.last then report.Zones p.names else faulted_as (zip.number_of TooManyZones)
+-- the same responder is asked for the page after these names
+pub record AsksOn {A : Type 0} (s : Seat) (a : AtpState) (h : Heard A) (from : Address) (names : List (List ℕ))
+    (o : Outcome A AtpState) : Type 0 where
+  pub tid : ℕ
+  pub drawn : next_number h.after ≡ Some tid
+  pub outcome : o
+      ≡ asks s (record a { requester = h.after }) (Some (record { tid = tid; names = names }))
+      (page_transaction from names tid)
 
-pub record TellsPage {A : Type 0} (p : Packet) (r : Report A) : Type 0 where
-  pub names : page.Page
-  pub spelled : page.Spells p.user p.data_ names
-  pub tells : r ≡ told_by names
+-- What a page does to a reading with these names. With too many names the reading ends, with the last page it has the
+-- whole list, and else it goes on.
+abbrev pub TakesPage : {A : Type 0} → Seat → AtpState → Heard A → Address → List (List ℕ) → pages.Page
+    → Outcome A AtpState → Type 0
+TakesPage s a h from names p o =
+    MatchBool (nat_lt 1024 (length names + length p.names))
+    (o ≡ after_heard s a h (faulted_as (zip.number_of TooManyZones)) None)
+    (MatchBool p.last (o ≡ after_heard s a h (report.Zones (names ++ p.names)) None)
+    (AsksOn s a h from (names ++ p.names) o))
 
-pub record TellsFault {A : Type 0} (p : Packet) (r : Report A) : Type 0 where
+pub record HasPage {A : Type 0} (s : Seat) (a : AtpState) (h : Heard A) (from : Address) (names : List (List ℕ))
+    (p : Packet) (o : Outcome A AtpState) : Type 0 where
+  pub page : pages.Page
+  pub spelled : pages.Spells p.user p.data_ page
+  pub outcome : TakesPage s a h from names page o
+
+pub record HasPageFault {A : Type 0} (s : Seat) (a : AtpState) (h : Heard A) (p : Packet)
+    (o : Outcome A AtpState) : Type 0 where
   pub fault : ZipFault
   pub number : ℕ
   pub first : zip.IsFirstFault fault p.user p.data_
   pub numbered : zip.number_of fault ≡ Some number
-  pub tells : r ≡ report.ZoneFault number
+  pub outcome : o ≡ after_heard s a h (report.ZoneFault number) None
 
--- what a reading of the zone list reports of the packet that ended it
-abbrev pub Tells : {A : Type 0} → Packet → Report A → Type 0
-Tells p r = TellsPage p r ⊎ TellsFault p r
-
-pub record EndsReading {A : Type 0} (s : Seat) (a : AtpState) (h : Heard A) (p : Packet)
-    (o : Outcome A AtpState) : Type 0 where
-  pub told : Report A
-  pub tells : Tells p told
-  pub outcome : o ≡ after_heard s a h told None
+-- what the packet that was asked for does to a reading with these names: its page is taken, or its fault ends the
+-- reading
+abbrev pub ReadsPage : {A : Type 0} → Seat → AtpState → Heard A → Address → List (List ℕ) → Packet
+    → Outcome A AtpState → Type 0
+ReadsPage s a h from names p o = HasPage s a h from names p o ⊎ HasPageFault s a h p o

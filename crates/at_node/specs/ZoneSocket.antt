@@ -1,5 +1,5 @@
 -- The router's zone socket: what its packets do (Inside AppleTalk, ZIP, "GetZoneList").
-use Rattle.std.specs.Prelude.{◌≡◌, ℕ, if◌then◌else◌, List, [], ◌∷◌, length, find, ◌⊎◌}
+use Rattle.std.specs.Prelude.{◌≡◌, ℕ, if◌then◌else◌, List, [], ◌∷◌, length, find, Option, Some, None, ◌⊎◌}
 use Rattle.at_ddp.specs.declared.address.Address.{Address}
 use Rattle.at_atp_frame.specs.Fault.{number_of}
 use Rattle.at_atp_frame.specs.Frames.{Content, Request, Response, Release, spelled_all}
@@ -9,14 +9,32 @@ use Rattle.at_atp_frame.specs.declared.fault.AtpFault.TheVariants.{Full}
 use Rattle.at_atp_responder.specs.declared.reception.Key.{Key}
 use Rattle.at_atp_responder.specs.declared.reception.Reception.{Reception}
 use Rattle.at_atp_responder.specs.declared.reception.Reception.TheVariants as reception
+use Rattle.at_zip.specs.Fault as zip
 use Rattle.at_zip.specs.Page.{page_of, page_user, page_data}
 use Rattle.at_zip.specs.Request.{RequestSpells}
+use Rattle.at_zip.specs.Zones.{table_fault}
+use Rattle.at_zip.specs.declared.fault.ZipFault.{ZipFault}
 use Rattle.at_node.specs.declared.event.Report.{Report}
 use Rattle.at_node.specs.declared.event.Report.TheVariants as report
+use Rattle.at_node.specs.declared.fault.NodeFault.TheVariants.{NoRouter}
 use Rattle.at_node.specs.declared.seat.Seat.{Seat}
 use Rattle.at_node.specs.AtpParts.{AtpState, zones_at, atp_kind}
+use Rattle.at_node.specs.Faults as node
 use Rattle.at_node.specs.Outcomes.{Outcome, idle, sent_by, refused_as}
 use Rattle.at_node.specs.Responders.{released_report}
+
+-- ---- the call
+
+abbrev pub table_set : {A : Type 0} → AtpState → List (List ℕ) → Option ZipFault → Outcome A AtpState
+table_set a names (Some fault) = idle a (refused_as (zip.number_of fault))
+table_set a names None = record { report = report.TableSet; state = record a { table = Some names }; out = [] }
+
+-- the router gets another zone table; no other node has one
+abbrev pub set_zones_called : {A : Type 0} → AtpState → Option (List (List ℕ)) → List (List ℕ) → Outcome A AtpState
+set_zones_called a None names = idle a (report.Refused (node.number_of NoRouter))
+set_zones_called a (Some table) names = table_set a names (table_fault names)
+
+-- ---- packets
 
 -- a page as the one packet of an answer
 abbrev pub page_packet : List (List ℕ) → ℕ → Packet

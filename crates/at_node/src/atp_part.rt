@@ -11,6 +11,7 @@ use crate::requester_socket::REQUESTER_SOCKET;
 use crate::seat::Seat;
 use crate::service::Service;
 use crate::service_socket::SERVICE_SOCKET;
+use crate::zone_reading::ZoneReading;
 use crate::zone_socket::ZONE_SOCKET;
 use at_atp::{Requester, Responder};
 use at_ddp::{Address, Datagram, Datagrams, Outbox};
@@ -28,8 +29,8 @@ pub(crate) struct AtpPart<A: Allocator> {
     pub(crate) alloc: A,
     // The zone table, if the node is the router.
     pub(crate) zones: Option<Zones<A>>,
-    // The transaction that reads the zone list, if one is open.
-    pub(crate) reading: Option<u16>,
+    // The reading of the zone list, if one is open.
+    pub(crate) reading: Option<ZoneReading<A>>,
     pub(crate) requester: Requester<A>,
     // The requests that came to the zone socket.
     pub(crate) zone_responder: Responder<A>,
@@ -38,13 +39,15 @@ pub(crate) struct AtpPart<A: Allocator> {
 }
 
 impl<A: Allocator> Model for AtpPart<A> {
+    ghost use Rattle.std.specs.Prelude.{option_map};
     ghost use Rattle.at_node.specs.AtpParts.{AtpState};
+    ghost use Rattle.at_node.specs.Readings.{reading_of};
 
     ghost Value = { AtpState };
 
     ghost view = { λ a. record {
       table = a.zones;
-      reading = a.reading;
+      reading = option_map reading_of a.reading;
       requester = a.requester;
       zone_responder = a.zone_responder;
       service_responder = a.service_responder;

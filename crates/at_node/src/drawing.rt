@@ -5,17 +5,24 @@ ghost use Rattle.at_atp_frame.specs.Frames.{content};
 ghost use Rattle.at_atp_requester.specs.Requests.{next_number};
 ghost use Rattle.at_ddp.specs.Datagram.{content as written};
 ghost use Rattle.at_nbp.specs.Lookups.{next_id};
-ghost use Rattle.at_node.specs.AtpParts.{atp_kind};
-ghost use Rattle.at_node.specs.Drawing.{Carries, CarriesLookup, CarriesTid, draw_of, draw_of_input, holds};
+ghost use Rattle.at_node.specs.AtpParts.{AtpState, atp_kind};
+ghost use Rattle.at_node.specs.Drawing.{Carries, CarriesLookup, CarriesTid, Draws, DrawsHearing, draw_of, drawn_by};
+ghost use Rattle.at_node.specs.Drawing.{holds};
+ghost use Rattle.at_node.specs.Hearing.{HearsIt};
 ghost use Rattle.at_node.specs.NameCalls.{nbp_kind};
+ghost use Rattle.at_node.specs.Nodes.{NodeState};
+ghost use Rattle.at_node.specs.Outcomes.{Outcome as Result};
+ghost use Rattle.at_node.specs.RequesterSocket.{AtRequester};
 ghost use Rattle.at_node.specs.declared.drawing.Draw.{Draw as Drawn};
 ghost use Rattle.at_node.specs.declared.drawing.Draw.TheVariants.{Lookup, Tid};
+ghost use Rattle.at_node.specs.declared.service.Reply.{Reply as Said};
 
 use crate::atp_part::ATP;
 use crate::event::{Call, Timer};
+use crate::incoming::Incoming;
 use crate::name_part::NBP;
 use crate::node::Node;
-use crate::requester_socket::tid_of;
+use crate::requester_socket::{REQUESTER_SOCKET, tid_of};
 use at_atp::{Frame, MAX_DATA};
 use at_ddp::{Address, Datagram, decode};
 use at_nbp::is_no_name;
@@ -41,11 +48,13 @@ pub enum Input<'a, A: Allocator = Global> {
 impl<A: Allocator + Copy> Node<A> {
     /// The number that the node will draw for this input, if memory does not run out.
     pub fn draw_of(&self, input: &Input<'_, A>) -> Option<Draw>
-        ensures { result ≡ draw_of_input self.now input.now }
+        ensures found { IfSome result (Draws self.now input.now) }
+        ensures only { (draw : Drawn) → Draws self.now input.now draw → result ≡ Some draw }
     {
         match input {
             Input::Call(call) => self.draw_of_call(call),
-            _ => None,
+            Input::Timer(_) => None,
+            Input::Received(bytes) => self.draw_of_bytes(bytes),
         }
     }
 
@@ -86,6 +95,52 @@ impl<A: Allocator + Copy> Node<A> {
                 self.next_lookup()
             }
             _ => None,
+        }
+    }
+
+    fn draw_of_bytes(&self, bytes: &[u8]) -> Option<Draw>
+        ensures found { IfSome result (DrawsHearing A self.now bytes.now) }
+        ensures only { (draw : Drawn) → DrawsHearing A self.now bytes.now draw → result ≡ Some draw }
+    {
+        match decode(bytes) {
+            Ok((datagram, _)) => self.draw_of_datagram(&datagram),
+            Err(_) => None,
+        }
+    }
+
+    // A page that makes the next one be asked for draws a number, and no other datagram does.
+    fn draw_of_datagram(&self, datagram: &Datagram<'_>) -> Option<Draw>
+        ensures found { IfSome result (λ draw. (said : Said A) × (o : Result A NodeState)
+            × HearsIt said self.now (written datagram.now) o × (drawn_by o.report ≡ Some draw)) }
+        ensures only { (said : Said A) (o : Result A NodeState) → HearsIt said self.now (written datagram.now) o
+            → (draw : Drawn) → drawn_by o.report ≡ Some draw → result ≡ Some draw }
+    {
+        if !self.seat.is_for(datagram.kind, datagram.to) {
+            return None;
+        }
+        if datagram.kind != ATP {
+            return None;
+        }
+        if datagram.to.socket != REQUESTER_SOCKET {
+            return None;
+        }
+        match Incoming::in_datagram(self.seat, datagram) {
+            Ok(packet) => self.draw_of_packet(&packet),
+            Err(_) => None,
+        }
+    }
+
+    fn draw_of_packet(&self, packet: &Incoming<'_>) -> Option<Draw>
+        ensures found { IfSome result (λ draw. (o : Result A AtpState)
+            × AtRequester packet.now.seat self.now.atp packet.now.from (content packet.now.frame) o
+            × (drawn_by o.report ≡ Some draw)) }
+        ensures only { (o : Result A AtpState)
+            → AtRequester packet.now.seat self.now.atp packet.now.from (content packet.now.frame) o
+            → (draw : Drawn) → drawn_by o.report ≡ Some draw → result ≡ Some draw }
+    {
+        match self.atp.draw_of_page(packet) {
+            Some(tid) => Some(Draw::Tid(tid)),
+            None => None,
         }
     }
 

@@ -1,4 +1,5 @@
 ghost use Rattle.std.specs.Prelude.{◌<◌};
+ghost use Rattle.std.specs.List.{AllByRecursion};
 ghost use Rattle.at_nbp.specs.Tuples.{IsString};
 ghost use Rattle.at_node.specs.Calls.{IsCall, IsZone};
 
@@ -13,6 +14,10 @@ use std::alloc::{Allocator, Global};
 pub enum Call<A: Allocator = Global> {
     /// Reads the router's zone list.
     Zones,
+    /// Gives the router another zone table: at most 1,024 names of 1 to 32 bytes.
+    SetZones {
+        names: Listed<Pascal, A>,
+    },
     /// Asks a socket of the cable for packets.
     Ask {
         node: u8,
@@ -111,6 +116,7 @@ impl<A: Allocator> Call<A> {
             Call::Finish { id } => {
                 let _id = *id;
             }
+            Call::SetZones { names } => ranges_of_texts(names.as_slice()),
             Call::Zones => {}
         }
     }
@@ -139,6 +145,15 @@ fn ranges_of_zone(zone: &Option<Pascal>)
 {
     if let Some(zone) = zone {
         ranges_of_text(zone);
+    }
+}
+
+fn ranges_of_texts(texts: &[Pascal])
+    ensures { AllByRecursion IsString texts.now }
+{
+    if let [text, rest @ ..] = texts {
+        ranges_of_text(text);
+        ranges_of_texts(rest);
     }
 }
 
@@ -186,6 +201,8 @@ pub enum Report<A: Allocator = Global> {
         user: [u8; 4],
         data_: Bytes<A>,
     },
+    /// The router has another zone table.
+    TableSet,
     /// A reading of the zone list ended with these names.
     Zones(Listed<Pascal, A>),
     /// A reading of the zone list ended, since its page was refused. This is the number of the refusal.

@@ -1,7 +1,7 @@
-ghost use Rattle.std.specs.Prelude.{◌≡◌, IfOk, IfErr};
+ghost use Rattle.std.specs.Prelude.{◌≡◌, IfOk, IfErr, IsOkAnd};
 ghost use Rattle.at_ddp.specs.Datagram.{content as written};
 ghost use Rattle.at_atp_frame.specs.Fault.{IsFirstFault};
-ghost use Rattle.at_atp_frame.specs.Frames.{Spells, content};
+ghost use Rattle.at_atp_frame.specs.Frames.{Content, Spells, content};
 
 use crate::seat::Seat;
 use at_atp::{AtpFault, Frame};
@@ -23,6 +23,8 @@ impl<'a> Incoming<'a> {
         ensures seat { IfOk result (λ packet. packet.seat ≡ seat) }
         ensures from { IfOk result (λ packet. packet.from ≡ (written datagram.now).from) }
         ensures found { IfOk result (λ packet. Spells (written datagram.now).data_ (content packet.frame)) }
+        ensures only { (f : Content) → Spells (written datagram.now).data_ f
+            → IsOkAnd result (λ packet. content packet.frame ≡ f) }
         ensures fault { IfErr result (λ fault. IsFirstFault fault (written datagram.now).data_) }
     {
         match at_atp::decode(datagram.data_) {

@@ -3,7 +3,7 @@ ghost use Rattle.std.specs.Prelude.{◌≡◌, ℕ, ◌^◌, ◌<◌, ◌≤◌,
 ghost use Rattle.at_ddp.specs.Datagram.{IsAddress, canonical, written};
 ghost use Rattle.at_ddp.specs.declared.address.Address.{Address};
 ghost use Rattle.at_atp_frame.specs.Frames.{Content, Request, IsLawful, spelled};
-ghost use Rattle.at_atp_frame.specs.Packets.{Packet};
+ghost use Rattle.at_atp_requester.specs.Requests.{Heard};
 ghost use Rattle.at_zip.specs.Page.{Page, IsLawful as IsLawfulPage, page_user, page_data};
 ghost use Rattle.at_zip.specs.Request.{request_user};
 ghost use Rattle.at_node.specs.AtpParts.{AtpState, atp_kind};
@@ -13,10 +13,9 @@ ghost use Rattle.at_atp_frame.specs.Frames.{owner, number_of};
 ghost use Rattle.at_node.specs.Drawing.{Carries};
 ghost use Rattle.at_node.specs.declared.drawing.Draw.TheVariants.{Tid};
 ghost use Rattle.at_node.specs.Hearing.{Hears, HearsSent};
-ghost use Rattle.at_node.specs.ZoneReading.{Tells, told_by};
+ghost use Rattle.at_node.specs.ZoneReading.{ReadsPage, TakesPage};
 ghost use Rattle.at_node.specs.ZoneSocket.{AtZones, zone_asked};
 ghost use Rattle.at_node.specs.declared.seat.Seat.{Seat};
-ghost use Rattle.at_node.specs.declared.event.Report.{Report};
 ghost use Rattle.at_node.specs.declared.service.Reply.{Reply};
 
 use std::alloc::Allocator;
@@ -43,10 +42,12 @@ pub fn a_page_asked_for_is_served<A: Allocator>()
     at_zip::laws::one_page_a_spelling();
 }
 
-/// The page that was written is the page that is reported.
-pub fn a_page_written_is_told<A: Allocator>()
-    ensures { (p : Page) (r : Report A) → IsLawfulPage p → Tells (record { user = page_user p; data_ = page_data p }) r
-        → r ≡ told_by p }
+/// The page that was written is the page that a reading takes.
+pub fn a_page_written_is_taken<A: Allocator>()
+    ensures { (s : Seat) (a : AtpState) (h : Heard A) (from : Address) (names : List (List ℕ)) (p : Page)
+        (o : Outcome A AtpState) → IsLawfulPage p
+        → ReadsPage s a h from names (record { user = page_user p; data_ = page_data p }) o
+        → TakesPage s a h from names p o }
 {
     at_zip::laws::what_is_written_is_read();
     at_zip::laws::one_page_a_spelling();

@@ -77,6 +77,7 @@ impl<A: Allocator + Copy> Node<A> {
     {
         match call {
             Call::Zones => self.atp.read_zones(self.seat, out),
+            Call::SetZones { names } => self.atp.set_zones(names.as_slice()),
             Call::Ask {
                 node,
                 socket,

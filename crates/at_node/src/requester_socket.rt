@@ -9,7 +9,7 @@ ghost use Rattle.at_node.specs.AtpParts.{atp_kind, tid_of};
 ghost use Rattle.at_node.specs.Outcomes.{Comes, IsStep, posted, sent_by};
 ghost use Rattle.at_node.specs.RequesterSocket.{ask_called, retry_fired, reported_other};
 ghost use Rattle.at_node.specs.ServiceSocket.{is_asked};
-ghost use Rattle.at_node.specs.ZoneReading.{is_reading};
+ghost use Rattle.at_node.specs.ZoneReading.{is_page};
 ghost use Rattle.at_node.specs.declared.service.Reply.{Reply as Said};
 
 use crate::atp_part::{AtpPart, outbox_over};
@@ -93,21 +93,16 @@ impl<A: Allocator + Copy> AtpPart<A> {
         ensures not_asked { is_asked result ≡ false }
     {
         match packet.frame {
-            Frame::Response {
-                tid,
-                user,
-                data_,
-                ..
-            } if self.reading == Some(tid) => self.take_page(packet, user, data_, out),
+            Frame::Response { user, data_, .. } if self.is_page(packet) => {
+                self.take_page(packet, user, data_, out)
+            }
             _ => self.take_other(packet, out),
         }
     }
 
-    // Takes a packet that is not of the transaction that reads the zone list.
+    // Takes a packet that is not the page that a reading asked for.
     fn take_other(&mut self, packet: &Incoming<'_>, out: &mut Datagrams<A>) -> Report<A>
-        requires { (place : ℕ) (eom sts : Bool) (tid : ℕ) (user data_ : List ℕ)
-            → content packet.now.frame ≡ Response place eom sts tid user data_
-            → is_reading self.old.reading tid ≡ false }
+        requires { is_page A self.old packet.now.from (content packet.now.frame) ≡ false }
         ensures comes { (said : Said A)
             → Comes (AtSocket said packet.now.seat self.old packet.now.from (Some RequesterSocket)
             (content packet.now.frame)) self.old out.old.items result self.new out.new.items }
@@ -216,7 +211,7 @@ pub(crate) fn hear<A: Allocator + Copy>(
     step
 }
 
-// The report of a step of a transaction that does not read the zone list.
+// The report of a step of a transaction, unless it ends by the page of a reading.
 fn reported_other<A: Allocator>(tid: u16, step: Step<A>) -> Report<A>
     ensures report { result ≡ reported_other tid step }
     ensures not_asked { is_asked result ≡ false }

@@ -1,6 +1,7 @@
-ghost use Rattle.std.specs.Prelude.{◌≡◌, ◌≤◌, ◌++◌, ◌∷◌, [], map, length, find, option_map, None, Some, false};
+ghost use Rattle.std.specs.Prelude.{◌≡◌, ◌≤◌, ◌++◌, ◌∷◌, List, [], map, length, find, option_map, None, Some, false};
 ghost use Rattle.std.specs.Prelude.{IfOk, OnOk, OnErr};
 ghost use Rattle.at_ddp.specs.Datagram.{content as written};
+ghost use Rattle.at_ddp.specs.Datagrams.{Posted};
 ghost use Rattle.at_atp_frame.specs.Frames.{content, spelled_all};
 ghost use Rattle.at_atp_responder.specs.Records.{record_fault, is_key, after_answer, asked_for};
 ghost use Rattle.at_ddp.specs.Tables.{without_first};
@@ -8,18 +9,19 @@ ghost use Rattle.at_node.specs.AtpHearing.{AtSocket, HearsAt, Zones as ZoneSocke
 ghost use Rattle.at_node.specs.AtpParts.{AtpState, atp_kind, zones_at};
 ghost use Rattle.at_node.specs.Outcomes.{Comes, IsStep, posted, sent_by};
 ghost use Rattle.at_node.specs.ServiceSocket.{is_asked};
-ghost use Rattle.at_node.specs.ZoneSocket.{page_packet, zone_asked};
+ghost use Rattle.at_node.specs.ZoneSocket.{page_packet, set_zones_called, zone_asked};
 ghost use Rattle.at_node.specs.declared.seat.Seat.{Seat as Place};
 ghost use Rattle.at_node.specs.declared.service.Reply.{Reply as Said};
 
 use crate::atp_part::AtpPart;
 use crate::event::Report;
+use crate::fault::NodeFault;
 use crate::incoming::Incoming;
 use crate::node::refused;
 use crate::responders::{answer, release, take};
 use crate::seat::Seat;
 use at_atp::{AtpFault, Frame, Key, Packet, Reception, Responder};
-use at_ddp::{Address, Datagram, Datagrams};
+use at_ddp::{Address, Datagram, Datagrams, Pascal};
 use at_zip::{Zones, page, read_request};
 use std::alloc::{AllocError, Allocator};
 
@@ -27,6 +29,23 @@ use std::alloc::{AllocError, Allocator};
 pub(crate) const ZONE_SOCKET: u8 = 6;
 
 impl<A: Allocator + Copy> AtpPart<A> {
+    // Gives the router another zone table.
+    pub(crate) fn set_zones(&mut self, names: &[Pascal]) -> Report<A>
+        ensures { (items : List Posted) → IsStep (set_zones_called self.old self.old.table names.now) self.old items
+            result self.new items }
+    {
+        if self.zones.is_none() {
+            return Report::Refused(NodeFault::NoRouter.number());
+        }
+        match Zones::copy_of(self.alloc, names) {
+            Ok(zones) => {
+                self.zones = Some(zones);
+                Report::TableSet
+            }
+            Err(fault) => refused(fault.number()),
+        }
+    }
+
     // Takes a datagram for the zone socket, which only a router serves.
     pub(crate) fn hear_zone_request(
         &mut self,

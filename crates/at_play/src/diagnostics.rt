@@ -58,7 +58,7 @@ impl<'a, W: Write> Diagnostics<'a, W> {
         }
     }
 
-    // Why an event was not played. Which number is untimely depends on whether it is a delivery.
+    // Why an event was not played. A delivery may be untimely for what it carries, and for what it would draw.
     fn tell_fault(&mut self, fault: at_world::Fault, which: Option<u64>)
         ensures file { self.new.file ≡ self.old.file }
         ensures stopped { HasFailed self.old.printer → self.new ≡ self.old }
@@ -66,7 +66,8 @@ impl<'a, W: Write> Diagnostics<'a, W> {
         match (fault, which) {
             (at_world::Fault::Refused(Refusal::Untimely), Some(which)) => writeln!(
                 self.printer,
-                "a number in datagram {which} has been drawn again since (refusal 72)"
+                "a number in datagram {which} has been drawn again since, \
+                    or a node still holds a record under the number that it would draw (refusal 72)"
             ),
             (at_world::Fault::Refused(Refusal::Untimely), None) => writeln!(
                 self.printer,

@@ -2,34 +2,36 @@
 use Rattle.std.proofs.Common.{◌≡◌, ℕ, Bool, true, false, cond, List, [], ◌∷◌, ◌++◌, None, Some, Ok, Err, Result, IfOk, IfSome, sym, subst, append-nil, append_assoc}
 use Rattle.std.specs.Prelude.{Option}
 use Rattle.std.specs.Option.{ok_or}
-use Rattle.at_schedule.specs.Says.{After, ArePacketWords, IsPacketWord}
+use Rattle.std.specs.List.{AllZip}
+use Rattle.at_schedule.specs.Says.{After}
 use Rattle.at_words.specs.Words.{HasWords}
-use Rattle.at_atp_frame.specs.Packets.{Packet}
 
--- one packet more
-packets_more : (ws : List (List ℕ)) (ps : List Packet) (w : List ℕ) (p : Packet) → ArePacketWords ws ps → IsPacketWord w p → ArePacketWords (ws ++ w ∷ []) (ps ++ p ∷ [])
-packets_more [] [] w p h is = (is, tt)
-packets_more (v ∷ ws) (q ∷ ps) w p h is = (h.0, packets_more ws ps w p h.1 is)
-packets_more [] (q ∷ ps) w p h is = absurd h
-packets_more (v ∷ ws) [] w p h is = absurd h
+-- what the words of a list say, each of one thing
+module _ {T : Type 0} (P : List ℕ → T → Type 0) where
+  -- one thing more
+  one_more : (ws : List (List ℕ)) (ts : List T) (w : List ℕ) (t : T) → AllZip P ws ts → P w t → AllZip P (ws ++ w ∷ []) (ts ++ t ∷ [])
+  one_more [] [] w t h is = (is, tt)
+  one_more (v ∷ ws) (u ∷ ts) w t h is = (h.0, one_more ws ts w t h.1 is)
+  one_more [] (u ∷ ts) w t h is = absurd h
+  one_more (v ∷ ws) [] w t h is = absurd h
 
--- the words before these say the packets so far
-abbrev pub Packets : List ℕ → List ℕ → List Packet → Type 0
-Packets line rest packets = (said : List (List ℕ)) × ArePacketWords said packets × ((ws : List (List ℕ)) → HasWords rest ws → HasWords line (said ++ ws))
+  -- the words before these say the things so far
+  abbrev pub SaidSoFar : List ℕ → List ℕ → List T → Type 0
+  SaidSoFar line rest things = (said : List (List ℕ)) × AllZip P said things × ((ws : List (List ℕ)) → HasWords rest ws → HasWords line (said ++ ws))
 
-pub packets_none : (line : List ℕ) → Packets line line []
-packets_none line = ([], tt, λ ws h. h)
+  pub none_said : (line : List ℕ) → SaidSoFar line line []
+  none_said line = ([], tt, λ ws h. h)
 
-pub packets_next : (line rest left : List ℕ) (packets more : List Packet) (word : List ℕ) (p : Packet) → Packets line rest packets → ((ws : List (List ℕ)) → HasWords left ws → HasWords rest (word ∷ ws))
-    → IsPacketWord word p → more ≡ packets ++ p ∷ [] → Packets line left more
-packets_next line rest left packets more word p (said, are, follow) next is new = (
-  said ++ word ∷ [],
-  subst (ArePacketWords (said ++ word ∷ [])) (sym new) (packets_more said packets word p are is),
-  λ ws h. subst (HasWords line) (sym (append_assoc said (word ∷ []) ws)) (follow (word ∷ ws) (next ws h)),
-)
+  pub next_said : (line rest left : List ℕ) (things more : List T) (word : List ℕ) (t : T) → SaidSoFar line rest things → ((ws : List (List ℕ)) → HasWords left ws → HasWords rest (word ∷ ws))
+      → P word t → more ≡ things ++ t ∷ [] → SaidSoFar line left more
+  next_said line rest left things more word t (said, are, follow) next is new = (
+    said ++ word ∷ [],
+    subst (AllZip P (said ++ word ∷ [])) (sym new) (one_more said things word t are is),
+    λ ws h. subst (HasWords line) (sym (append_assoc said (word ∷ []) ws)) (follow (word ∷ ws) (next ws h)),
+  )
 
-pub packets_all : (line rest : List ℕ) (packets : List Packet) → Packets line rest packets → HasWords rest [] → (ws : List (List ℕ)) × HasWords line ws × ArePacketWords ws packets
-packets_all line rest packets (said, are, follow) none = (said, subst (HasWords line) (append-nil said) (follow [] none), are)
+  pub all_said : (line rest : List ℕ) (things : List T) → SaidSoFar line rest things → HasWords rest [] → (ws : List (List ℕ)) × HasWords line ws × AllZip P ws things
+  all_said line rest things (said, are, follow) none = (said, subst (HasWords line) (append-nil said) (follow [] none), are)
 
 pub some_of : {T E : Type 0} (o : Option T) (e : E) (r : Result T E) (x : T) → r ≡ ok_or o e → r ≡ Ok x → o ≡ Some x
 some_of None e r x is ok = cc

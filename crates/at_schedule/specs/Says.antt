@@ -1,5 +1,6 @@
 -- Which event a line of a schedule says.
 use Rattle.std.specs.Prelude.{◌≡◌, ℕ, Bool, true, false, List, [], ◌∷◌, ◌++◌, Ok, Option, Some, None, codes}
+use Rattle.std.specs.List.{AllZip}
 use Rattle.hex.specs.Hex.{decode_of}
 use Rattle.at_atp_frame.specs.Packets.{Packet}
 use Rattle.at_node.specs.declared.event.Call.{Call}
@@ -24,12 +25,6 @@ abbrev pub IsPacketWord : List ℕ → Packet → Type 0
 IsPacketWord word p =
     (user bytes : List ℕ) × (word ≡ user ++ (58 ∷ bytes)) × (decode_of user ≡ Ok p.user) × IsHex bytes p.data_
 
-abbrev pub ArePacketWords : List (List ℕ) → List Packet → Type 0
-ArePacketWords [] [] = Unit {0}
-ArePacketWords (w ∷ ws) (p ∷ ps) = IsPacketWord w p × ArePacketWords ws ps
-ArePacketWords [] (p ∷ ps) = ⊥
-ArePacketWords (w ∷ ws) [] = ⊥
-
 -- the words of an ask: node, socket, user bytes, data, packets wanted, mode and retries; the data is a word yet
 abbrev pub AskSays : List (List ℕ) → ℕ → ℕ → List ℕ → List ℕ → ℕ → Bool → ℕ → Type 0
 AskSays ws node socket user d wanted exactly_once retries =
@@ -50,10 +45,11 @@ SocketSays ws object kind socket =
 -- the words of a call, after its node
 abbrev pub SaysCall : {A : Type 0} → List (List ℕ) → Call A → Type 0
 SaysCall ws call.Zones = ws ≡ codes "zones" ∷ []
+SaysCall ws (call.SetZones names) = (ns : List (List ℕ)) × (ws ≡ codes "setzones" ∷ ns) × AllZip IsText ns names
 SaysCall ws (call.Ask node socket user bytes wanted exactly_once retries) =
     (d : List ℕ) × AskSays ws node socket user d wanted exactly_once retries × IsHex d bytes
 SaysCall ws (call.Answer node socket tid packets) =
-    (ps : List (List ℕ)) × AnswerSays ws node socket tid ps × ArePacketWords ps packets
+    (ps : List (List ℕ)) × AnswerSays ws node socket tid ps × AllZip IsPacketWord ps packets
 SaysCall ws (call.Find object kind place) =
     (o k : List ℕ) × (zs : List (List ℕ)) × (ws ≡ codes "find" ∷ o ∷ k ∷ zs)
     × IsText o object × IsText k kind × AreZone zs place

@@ -13,10 +13,8 @@ use at_ddp::{Listed, Pascal};
 use at_faults::{LineFault, Rule};
 use at_words::Words;
 use at_world::{Event, NodeSetup, Setup};
+use at_zip::MAX_ZONES;
 use std::alloc::{Allocator, Global};
-
-/// How many bytes the names of a zone table spell to at most, each with a byte for its length.
-const MAX_TABLE: usize = 578;
 
 // Which line comes next.
 #[derive(Clone, Copy)]
@@ -141,13 +139,11 @@ impl<A: Allocator + Copy> Draft<A> {
     }
 
     fn take_table(&mut self, words: Words<'_>) -> Result<(), LineFault> {
-        let mut left = MAX_TABLE;
         for word in words {
             let name = zone_name(word).ok_or(LineFault::Unlawful(Rule::Zones))?;
-            let len = name.bytes().len() + 1;
-            left = left
-                .checked_sub(len)
-                .ok_or(LineFault::Unlawful(Rule::ZonesFitPage))?;
+            if self.zones.len() >= MAX_ZONES {
+                return Err(LineFault::Unlawful(Rule::ZonesFitTable));
+            }
             self.zones.push(name)?;
         }
         Ok(())

@@ -1,11 +1,13 @@
 //! The lines of a schedule's events, after their first word.
 ghost use Rattle.std.specs.Prelude.{◌≡◌, List, ℕ, true, codes, IfOk, IfSome, IsErrOf};
+ghost use Rattle.std.specs.List.{AllZip};
 ghost use Rattle.at_words.specs.Hexes.{IsHex};
-ghost use Rattle.at_schedule.specs.Says.{After, ArePacketWords, IsPacketWord, SaysCall, SaysEvent, SaysTimer};
+ghost use Rattle.at_schedule.specs.Says.{After, IsPacketWord, SaysCall, SaysEvent, SaysTimer};
 ghost use Rattle.at_words.specs.Words.{HasWords};
 
 use crate::call_words::{AnswerWords, AskWords, packet_words};
 use crate::name_words::{lookup, name_call};
+use crate::table_words::set_zones;
 use at_atp::Packet;
 use at_ddp::{Bytes, Listed};
 use at_faults::{LineFault, Rule};
@@ -14,7 +16,7 @@ use at_words::{HexFault, Words, byte, bytes_of, node_number, number, two_bytes};
 use at_world::Event;
 use std::alloc::Allocator;
 
-/// `call N` and a call: `zones`, `ask ..`, `answer ..`, or one for names
+/// `call N` and a call: `zones`, `setzones ..`, `ask ..`, `answer ..`, or one for names
 pub(crate) fn call_of<A: Allocator + Copy>(
     alloc: A,
     mut words: Words<'_>,
@@ -33,6 +35,8 @@ fn call_words<A: Allocator + Copy>(alloc: A, mut words: Words<'_>) -> Result<Cal
     let word = words.next().ok_or(LineFault::Unlawful(Rule::Call))?;
     if is_word(word, b"zones") {
         zones(words)
+    } else if is_word(word, b"setzones") {
+        set_zones(alloc, words)
     } else if is_word(word, b"ask") {
         ask(alloc, words)
     } else if is_word(word, b"answer") {
@@ -153,7 +157,7 @@ fn packets_of<A: Allocator + Copy>(
     words: Words<'_>,
 ) -> Result<Listed<Packet<A>, A>, LineFault>
     ensures { IfOk result (λ packets. (ws : List (List ℕ))
-        × HasWords words.entry.rest.now ws × ArePacketWords ws packets) }
+        × HasWords words.entry.rest.now ws × AllZip IsPacketWord ws packets) }
 {
     let mut packets = Vec::new(alloc);
     for word in words {

@@ -8,6 +8,7 @@ mod name_words;
 mod node_line;
 mod nodes;
 mod schedule;
+mod table_words;
 mod text_word;
 
 pub use at_faults::{Fault, LineFault, Rule, Unreadable};

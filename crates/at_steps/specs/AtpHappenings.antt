@@ -1,6 +1,6 @@
 -- Which happening of the network of requesters and responders a step of a node is (Inside AppleTalk, ATP,
 -- "Transactions").
-use Rattle.std.specs.Prelude.{◌≡◌, ℕ, ◌^◌, ◌<◌, ◌==◌, ◌++◌, true, false, List, [], ◌∷◌, find, Option, Some, None}
+use Rattle.std.specs.Prelude.{◌≡◌, ℕ, ◌^◌, ◌<◌, ◌==◌, ◌++◌, Bool, true, false, List, [], ◌∷◌, find, Option, Some, None}
 use Rattle.std.specs.List.{AllByRecursion}
 use Rattle.at_ddp.specs.declared.address.Address.{Address}
 use Rattle.at_atp_frame.specs.Frames.{spelled}
@@ -8,14 +8,16 @@ use Rattle.at_atp_requester.specs.Requests.{has_number}
 use Rattle.at_atp_responder.specs.Records.{Record, is_key}
 use Rattle.at_atp.specs.Lawfully.{IsInRange}
 use Rattle.at_atp.specs.Network.{Sent, Drawn, Happening, AllTimely, IsTimely, after, done, put}
-use Rattle.at_atp.specs.Transactions.{Transaction}
+use Rattle.at_atp.specs.Transactions.{Transaction, transaction_of}
 use Rattle.at_zip.specs.Zones.{IsTable}
-use Rattle.at_node.specs.AtpParts.{AtpState, asking, serving, zones_at, atp_kind}
+use Rattle.at_node.specs.AtpParts.{AtpState, Reading, asking, serving, zones_at, atp_kind}
 use Rattle.at_node.specs.Drawing.{drawn_by}
 use Rattle.at_node.specs.Nodes.{NodeState}
 use Rattle.at_node.specs.Outcomes.{Outcome, Outgoing}
 use Rattle.at_node.specs.declared.drawing.Draw.{Draw}
 use Rattle.at_node.specs.declared.drawing.Draw.TheVariants.{Tid}
+use Rattle.at_node.specs.declared.event.Report.{Report}
+use Rattle.at_node.specs.declared.event.Report.TheVariants as report
 use Rattle.at_steps.specs.Acts.{Act, owner_of, is_atp, IsSaid}
 use Rattle.at_steps.specs.AtpReports.{Matches}
 use Rattle.at_steps.specs.AtpSteps.{Change, IsStep}
@@ -28,7 +30,12 @@ IsOn net t = (t.requester.net ≡ net) × (t.responder.net ≡ net)
 
 -- the transaction that reads the zone list is open
 abbrev pub IsOpen : AtpState → Type 0
-IsOpen a = (tid : ℕ) → a.reading ≡ Some tid → has_number a.requester.standing tid ≡ true
+IsOpen a = (r : Reading) → a.reading ≡ Some r → has_number a.requester.standing r.tid ≡ true
+
+-- and it is at-least-once: so is the newest transaction of its number
+abbrev pub ReadsAtLeastOnce : List Transaction → Address → AtpState → Type 0
+ReadsAtLeastOnce asked who a =
+    (r : Reading) → a.reading ≡ Some r → (t : Transaction) → transaction_of asked who r.tid ≡ Some t → t.xo ≡ false
 
 -- After this history the node's sockets are those of its part. No packet outlived its number, and all that was asked
 -- and answered is in range.
@@ -43,6 +50,7 @@ pub record Stands (A : Type 0) (history : List Happening) (net number : ℕ) (n 
   pub zones : (after A history).responders (zones_at net number) ≡ n.atp.zone_responder
   pub service : (after A history).responders (serving net number) ≡ n.atp.service_responder
   pub is_open : IsOpen n.atp
+  pub at_least_once : ReadsAtLeastOnce (after A history).asked (asking net number) n.atp
   pub has_table : (table : List (List ℕ)) → n.atp.table ≡ Some table → IsTable table
 
 -- no record of these is of this requester and number
@@ -68,6 +76,11 @@ abbrev pub numbers_drawn : ℕ → Address → Option Draw → List Drawn
 numbers_drawn event who (Some (Tid tid)) = record { event = event; who = who; tid = tid } ∷ []
 numbers_drawn event who other = []
 
+-- the router's table is another after this report
+abbrev pub sets_table : {A : Type 0} → Report A → Bool
+sets_table report.TableSet = true
+sets_table r = false
+
 -- ---- a step of this protocol
 
 -- A node's step with this outcome is one happening of the network: one that its report tells of. The node's sockets
@@ -75,7 +88,7 @@ numbers_drawn event who other = []
 pub record Happens (A : Type 0) (history : List Happening) (net number : ℕ) (n : NodeState) (act : Act A)
     (o : Outcome A NodeState) : Type 0 where
   pub happening : Happening
-  pub timely : IsTimely (after A history) happening
+  pub timely : IsTimely A (after A history) happening
   pub in_range : IsInRange happening
   pub same_event : (done A (after A history) happening).event ≡ (after A history).event
   pub requesters : (who : Address) → (done A (after A history) happening).requesters who
@@ -90,7 +103,8 @@ pub record Happens (A : Type 0) (history : List Happening) (net number : ℕ) (n
       ++ numbers_drawn (after A history).event (asking net number) (drawn_by o.report)
   pub on_net : AllByRecursion (IsOn net) (done A (after A history) happening).asked
   pub is_open : IsOpen o.state.atp
-  pub same_table : o.state.atp.table ≡ n.atp.table
+  pub same_table : sets_table o.report ≡ false → o.state.atp.table ≡ n.atp.table
+  pub has_table : (table : List (List ℕ)) → o.state.atp.table ≡ Some table → IsTable table
   pub matches : Matches net number (after A history) happening act o.report
 
 abbrev pub change : {A : Type 0} {history : List Happening} {net number : ℕ} {n : NodeState} {act : Act A}

@@ -10,7 +10,8 @@ use Rattle.at_atp_requester.specs.declared.step.Step.TheVariants as step
 use Rattle.at_atp_responder.specs.Once.{same_key}
 use Rattle.at_atp_responder.specs.declared.reception.Key.{Key}
 use Rattle.at_atp.specs.HandUps.{draws, is_handed_up, expires_there}
-use Rattle.at_atp.specs.Network.{Network, Sent, packet_at, Happening, Begins, Answers, Takes, Serves, is_fresh, done}
+use Rattle.at_atp.specs.Network.{Network, Sent, packet_at, Happening, Begins, Answers, Turns, Takes, Serves, is_fresh}
+use Rattle.at_atp.specs.Network.{done}
 use Rattle.at_atp.specs.Transactions.{answered}
 use Rattle.at_node.specs.AtpParts.{asking}
 use Rattle.at_node.specs.declared.event.Call.TheVariants.{Zones, Ask, Answer}
@@ -23,8 +24,7 @@ use Rattle.at_steps.specs.Acts.{Act, Calls, Fires, Gets}
 
 -- a transaction of the node began under the number of this key
 abbrev pub began_under : {A : Type 0} → ℕ → ℕ → Act A → Report A → Key → Bool
-began_under net number (Calls call) (report.Begun tid) key =
-    same_key (record { from = asking net number; tid = tid }) key
+began_under net number act (report.Begun tid) key = same_key (record { from = asking net number; tid = tid }) key
 began_under net number act r key = false
 
 -- the release timer removed the record of this key at one of the node's responders
@@ -54,6 +54,7 @@ asks_once act = false
 abbrev pub asks_for : {A : Type 0} → Act A → ℕ
 asks_for (Calls (Ask k socket user bytes wanted xo retries)) = wanted
 asks_for (Calls Zones) = 1
+asks_for (Gets which) = 1
 asks_for act = 0
 
 -- ---- the happening that they tell of
@@ -62,10 +63,12 @@ asks_for act = 0
 abbrev pub TakesIn : {A : Type 0} → Happening → Act A → Type 0
 TakesIn (Takes which) act = act ≡ Gets which
 TakesIn (Serves which packets) act = act ≡ Gets which
+TakesIn (Turns which user retries) act = act ≡ Gets which
 TakesIn h act = Unit {0}
 
 abbrev pub BeginsAs : {A : Type 0} → Happening → Act A → Type 0
 BeginsAs (Begins who to user bytes wanted xo retries) act = (asks_once act ≡ xo) × (asks_for act ≡ wanted)
+BeginsAs (Turns which user retries) act = (asks_once act ≡ false) × (asks_for act ≡ 1)
 BeginsAs h act = Unit {0}
 
 -- a call gives an answer, or the router answers what came
@@ -104,7 +107,7 @@ Finishes net number n act r = Unit {0}
 -- the happening is what the event at the node and its report say
 pub record Matches {A : Type 0} (net number : ℕ) (n : Network) (h : Happening) (act : Act A)
     (r : Report A) : Type 0 where
-  pub draws_it : (key : Key) → draws n h key ≡ began_under net number act r key
+  pub draws_it : (key : Key) → draws A n h key ≡ began_under net number act r key
   pub expires_it : (at : Address) (key : Key) → expires_there n h at key ≡ expired_at net number act r at key
   pub hands_up : (key : Key) → is_handed_up n h key ≡ handed_up_by n.sent act r key
   pub takes_in : TakesIn h act

@@ -1,15 +1,20 @@
 -- What a step of a node is in words of transactions (Inside AppleTalk, ATP, "Transactions", and ZIP, "GetZoneList").
 -- Packets, records, bitmaps and retries play no part.
-use Rattle.std.specs.Prelude.{◌≡◌, ℕ, ◌≤◌, ◌==◌, Bool, true, false, List, [], ◌∷◌, length, Option, Some, None}
+use Rattle.std.specs.Prelude.{◌≡◌, ℕ, ◌+◌, ◌<◌, ◌≤◌, ◌==◌, Bool, true, false, List, [], ◌∷◌, ◌++◌, length, Option, Some}
+use Rattle.std.specs.Prelude.{None}
 use Rattle.at_ddp.specs.declared.address.Address.{Address}
 use Rattle.at_atp_frame.specs.Packets.{Packet}
 use Rattle.at_atp_responder.specs.declared.reception.Key.{Key}
 use Rattle.at_atp.specs.Transactions.{Transaction, Asked, transaction_of, answered, IsPart, IsResponse}
+use Rattle.at_zip.specs.Fault.{IsFirstFault}
+use Rattle.at_zip.specs.Page.{Page, Spells}
+use Rattle.at_zip.specs.Reading.{place_after}
 use Rattle.at_zip.specs.Request.{RequestSpells, request_user}
-use Rattle.at_node.specs.AtpParts.{AtpState, asking, serving, zones_at}
-use Rattle.at_node.specs.ZoneReading.{Tells}
+use Rattle.at_zip.specs.Zones.{IsTable}
+use Rattle.at_zip.specs.declared.fault.ZipFault.{ZipFault}
+use Rattle.at_node.specs.AtpParts.{AtpState, Reading, asking, serving, zones_at}
 use Rattle.at_node.specs.ZoneSocket.{page_packet}
-use Rattle.at_node.specs.declared.event.Call.TheVariants.{Zones, Ask, Answer}
+use Rattle.at_node.specs.declared.event.Call.TheVariants.{Zones, SetZones, Ask, Answer}
 use Rattle.at_node.specs.declared.event.Report.{Report}
 use Rattle.at_node.specs.declared.event.Report.TheVariants as report
 use Rattle.at_node.specs.declared.event.Timer.{Timer}
@@ -29,9 +34,10 @@ new_transaction net node responder user bytes wanted xo tid = record {
   answers = [];
 }
 
--- a node asks the router for the first page: one packet, at least once
-abbrev pub first_page : ℕ → ℕ → ℕ → ℕ → Transaction
-first_page net node router tid = new_transaction net node (zones_at net router) (request_user 1) [] 1 false tid
+-- a node asks for the page after these names: one packet, at least once
+abbrev pub page_asked : ℕ → ℕ → Address → List (List ℕ) → ℕ → Transaction
+page_asked net node server names tid =
+    new_transaction net node server (request_user (place_after names)) [] 1 false tid
 
 -- the page of a table from a place on, as the one packet of an answer
 abbrev pub page_answer : List (List ℕ) → ℕ → List Packet
@@ -81,7 +87,7 @@ pub record BeginsAsking {A : Type 0} (net number : ℕ) (c : Change A) : Type 0 
       ≡ new_transaction net number (record { net = net; node = node; socket = socket }) user bytes wanted xo tid
       ∷ c.asked
   pub reading : c.now.reading ≡ c.part.reading
-  pub apart : (reading : ℕ) → c.part.reading ≡ Some reading → (tid == reading) ≡ false
+  pub apart : (r : Reading) → c.part.reading ≡ Some r → (tid == r.tid) ≡ false
 
 -- a reading of the zone list begins: the node asks its router for the first page, one packet, at least once
 pub record BeginsReading {A : Type 0} (net number : ℕ) (router : Option ℕ) (c : Change A) : Type 0 where
@@ -90,8 +96,20 @@ pub record BeginsReading {A : Type 0} (net number : ℕ) (router : Option ℕ) (
   pub is_router : router ≡ Some server
   pub act : c.act ≡ Calls Zones
   pub report : c.report ≡ report.Begun tid
-  pub asked : c.now_asked ≡ first_page net number server tid ∷ c.asked
-  pub reading : c.now.reading ≡ Some tid
+  pub asked : c.now_asked ≡ page_asked net number (zones_at net server) [] tid ∷ c.asked
+  pub reading : c.now.reading ≡ Some (record { tid = tid; names = [] })
+
+-- the router gets another zone table
+pub record SetsTable {A : Type 0} (c : Change A) : Type 0 where
+  pub names : List (List ℕ)
+  pub table : List (List ℕ)
+  pub act : c.act ≡ Calls (SetZones names)
+  pub report : c.report ≡ report.TableSet
+  pub was : c.part.table ≡ Some table
+  pub becomes : c.now.table ≡ Some names
+  pub is_table : IsTable names
+  pub asked : c.now_asked ≡ c.asked
+  pub reading : c.now.reading ≡ c.part.reading
 
 -- the node's user answers the newest transaction of a requester under a number, which asked the node's service
 pub record GivesAnswer {A : Type 0} (net number : ℕ) (c : Change A) : Type 0 where
@@ -151,29 +169,72 @@ pub record Finishes {A : Type 0} (net number : ℕ) (c : Change A) : Type 0 wher
   pub asked : c.now_asked ≡ c.asked
   pub reading : c.now.reading ≡ c.part.reading
 
--- the reading ends by a packet of an answer to its transaction, and the report tells what that packet has
-pub record EndsReading {A : Type 0} (net number : ℕ) (c : Change A) : Type 0 where
+-- the packet that a reading asked for comes: it is of an answer to the newest transaction of its number
+pub record ComesToReading {A : Type 0} (net number : ℕ) (c : Change A) : Type 0 where
   pub which : ℕ
   pub act : c.act ≡ Gets which
-  pub tid : ℕ
-  pub reads : c.part.reading ≡ Some tid
+  pub read : Reading
+  pub reads : c.part.reading ≡ Some read
   pub from : Address
-  pub newest : Asked c.asked (asking net number) tid from
+  pub newest : Asked c.asked (asking net number) read.tid from
   pub place : ℕ
   pub ends : Bool
   pub packet : Packet
   pub part : IsPart newest.transaction place ends packet
-  pub tells : Tells packet c.report
+
+-- the packet has the last page: with it the list is whole
+pub record TellsAll {A : Type 0} (names : List (List ℕ)) (p : Packet) (r : Report A) : Type 0 where
+  pub page : Page
+  pub spelled : Spells p.user p.data_ page
+  pub last : page.last ≡ true
+  pub tells : r ≡ report.Zones (names ++ page.names)
+
+-- with its page there would be too many names
+pub record TellsTooMany {A : Type 0} (names : List (List ℕ)) (p : Packet) (r : Report A) : Type 0 where
+  pub page : Page
+  pub spelled : Spells p.user p.data_ page
+  pub many : 1024 < length names + length page.names
+  pub tells : r ≡ report.ZoneFault 34
+
+-- it has no page
+pub record TellsFault {A : Type 0} (p : Packet) (r : Report A) : Type 0 where
+  pub fault : ZipFault
+  pub number : ℕ
+  pub first : IsFirstFault fault p.user p.data_
+  pub tells : r ≡ report.ZoneFault number
+
+-- how a reading with these names ends by a packet
+pub data Tells {A : Type 0} (names : List (List ℕ)) (p : Packet) (r : Report A) : Type 0 where
+  All : TellsAll names p r → Tells names p r
+  TooMany : TellsTooMany names p r → Tells names p r
+  Faulty : TellsFault p r → Tells names p r
+
+-- the reading ends by its packet
+pub record EndsReading {A : Type 0} (net number : ℕ) (c : Change A) : Type 0 where
+  pub came : ComesToReading net number c
+  pub tells : Tells (came.read).names came.packet c.report
   pub asked : c.now_asked ≡ c.asked
   pub reading : c.now.reading ≡ None
+
+-- the reading goes on: its packet has a page that is not the last, and the next one is asked for
+pub record TurnsPage {A : Type 0} (net number : ℕ) (c : Change A) : Type 0 where
+  pub came : ComesToReading net number c
+  pub page : Page
+  pub spelled : Spells (came.packet).user (came.packet).data_ page
+  pub last : page.last ≡ false
+  pub few : length (came.read).names + length page.names ≤ 1024
+  pub tid : ℕ
+  pub report : c.report ≡ report.Begun tid
+  pub asked : c.now_asked ≡ page_asked net number came.from ((came.read).names ++ page.names) tid ∷ c.asked
+  pub reading : c.now.reading ≡ Some (record { tid = tid; names = (came.read).names ++ page.names })
 
 -- the reading ends without an answer
 pub record FailsReading {A : Type 0} (c : Change A) : Type 0 where
   pub time : Timer
   pub act : c.act ≡ Fires time
   pub report : c.report ≡ report.ZonesFailed
-  pub tid : ℕ
-  pub reads : c.part.reading ≡ Some tid
+  pub read : Reading
+  pub reads : c.part.reading ≡ Some read
   pub asked : c.now_asked ≡ c.asked
   pub reading : c.now.reading ≡ None
 
@@ -186,5 +247,7 @@ pub data IsStep {A : Type 0} (net number : ℕ) (router : Option ℕ) (c : Chang
   Serves : ServesPage net number c → IsStep net number router c
   Delivers : HandsUp net number c → IsStep net number router c
   Ends : Finishes net number c → IsStep net number router c
+  Sets : SetsTable c → IsStep net number router c
+  Turns : TurnsPage net number c → IsStep net number router c
   HasRead : EndsReading net number c → IsStep net number router c
   Fails : FailsReading c → IsStep net number router c

@@ -36,6 +36,7 @@ pub fn a_call_is_a_happening_of_atp<A: Allocator>()
     at_atp::laws::responses_are_answers::<A>();
     at_atp::laws::numbers_stay_open::<A>();
     at_atp::laws::no_more_is_sent_than_answered();
+    at_zip::laws::names_without_a_fault_are_a_table();
 }
 
 /// A timer of ATP or ZIP that fires is one happening among requesters and responders.
@@ -48,11 +49,13 @@ pub fn a_timer_is_a_happening_of_atp<A: Allocator>()
 }
 
 /// A packet in time that comes to a node is one happening among requesters and responders, if the service answers
-/// later.
+/// later, and if no responder holds the number that it makes the node draw.
 pub fn a_packet_is_a_happening_of_atp<A: Allocator>()
     ensures { (history : List Happening) (n : NodeState) (which : ℕ) (s : Sent) (said : Reply A)
         (o : Outcome A NodeState) → Stands A history n.seat.net n.seat.number n
         → packet_at (after A history).sent which ≡ Some s → is_fresh (after A history).drawn s ≡ true
+        → ((tid : ℕ) → drawn_by o.report ≡ Some (Tid tid)
+        → NoneHolds (after A history).responders (asking n.seat.net n.seat.number) tid)
         → (is_asked o.report ≡ true → said ≡ Later)
         → Hears said n (canonical s.to s.from atp_kind (spelled s.packet)) o
         → IsHappening A history n.seat.net n.seat.number n (Gets which) o }
@@ -62,6 +65,7 @@ pub fn a_packet_is_a_happening_of_atp<A: Allocator>()
     at_atp::laws::numbers_stay_open::<A>();
     at_atp::laws::a_new_request_waits();
     at_atp::laws::no_more_is_sent_than_answered();
+    at_atp::laws::an_end_is_answered_by_nothing::<A>();
     at_node::laws::what_is_sent_is_heard::<A>();
     at_zip::laws::a_page_fits_one_packet();
 }

@@ -15,8 +15,12 @@ mod reads;
 #[cfg(test)]
 mod refusals;
 #[cfg(test)]
+mod refused_memory;
+#[cfg(test)]
 mod transcripts;
 #[cfg(test)]
 mod writes;
 #[cfg(test)]
 mod zone_list;
+#[cfg(test)]
+mod zone_pages;

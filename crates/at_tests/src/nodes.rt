@@ -74,7 +74,7 @@ fn a_router_ignores_or_refuses_what_does_not_ask_it_for_zones(rt: HostRuntime) {
 }
 
 // What node 5 is given, whose router is node 1.
-static STEPS: [Option<&[u8]>; 12] = [
+static STEPS: [Option<&[u8]>; 15] = [
     None,
     // Of another node than the router.
     Some(b"\0\x15\xEE\x11\0\x0A\0\x0A\x05\x02\x80\x06\x03\x90\0\0\0\0\0\0\0"),
@@ -87,13 +87,14 @@ static STEPS: [Option<&[u8]>; 12] = [
     None,
     Some(b"\0\x16\xBC\xC7\0\x0A\0\x0A\x05\x01\x80\x06\x03\x90\0\0\x02\x01\0\0\x01\0"),
     None,
-    // Not the last page, and a reading takes one page.
+    // Not the last page: the next one is asked for, and is the last.
     Some(b"\0\x19\xEC\x15\0\x0A\0\x0A\x05\x01\x80\x06\x03\x90\0\0\x03\0\0\0\x01\x03Lab"),
     None,
-    // The list.
-    Some(
-        b"\0\x20\xCA\x75\0\x0A\0\x0A\x05\x01\x80\x06\x03\x90\0\0\x04\x01\0\0\x02\x03Lab\x06Office",
-    ),
+    Some(b"\0\x1C\x81\x6D\0\x0A\0\x0A\x05\x01\x80\x06\x03\x90\0\0\x04\x01\0\0\x01\x06Office"),
+    None,
+    // The same, but the next one is at fault.
+    Some(b"\0\x19\xF0\x15\0\x0A\0\x0A\x05\x01\x80\x06\x03\x90\0\0\x05\0\0\0\x01\x03Lab"),
+    Some(b"\0\x15\xDE\xD1\0\x0A\0\x0A\x05\x01\x80\x06\x03\x90\0\0\x06\0\0\0\0"),
 ];
 
 const READ: &str = "0 begun 0
@@ -105,13 +106,16 @@ const READ: &str = "0 begun 0
 6 begun 2
 7 zonefault 32
 8 begun 3
-9 zonefault 34
-10 begun 4
+9 begun 4
+10 refused 63
 11 zones Lab Office
+12 begun 5
+13 begun 6
+14 zonefault 33
 ";
 
 #[test]
-fn a_reading_ends_with_its_page_or_with_the_fault_of_it(rt: HostRuntime) {
+fn a_reading_ends_with_its_last_page_or_with_the_fault_of_a_page(rt: HostRuntime) {
     let mut node = Node::new(rt.alloc(), 10, 5, Some(1), None, None, None);
     let text = told(rt.alloc(), &mut node, &STEPS);
     assert!(rt; text.as_slice() == READ.as_bytes());

@@ -6,6 +6,9 @@ pub mod Newest
 pub mod Onces
 pub mod Opening
 pub mod Places
+pub mod Readings
+pub mod ReadingSteps
+pub mod Staying
 pub mod Steps
 pub mod Tie
 pub mod Times

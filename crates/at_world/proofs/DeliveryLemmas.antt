@@ -5,7 +5,7 @@ use Rattle.std.specs.List.{position_from}
 use Rattle.std.specs.Option.{is_some}
 use Rattle.at_ddp.proofs.TableLemmas.{found_by, none_by}
 use Rattle.std.specs.Prelude.{slice_get, ◌==◌, ◌||◌, if◌then◌else◌, Result, Ok, Err, IfOk, IfErr}
-use Rattle.at_node.specs.Drawing.{Carries}
+use Rattle.at_node.specs.Drawing.{Carries, DrawsHearing}
 use Rattle.at_node.specs.Nodes.{NodeState}
 use Rattle.at_node.specs.declared.drawing.Draw.{Draw}
 use Rattle.at_node.specs.declared.drawing.Input.TheVariants as input
@@ -18,7 +18,7 @@ use Rattle.at_world.specs.declared.event.Refusal.{Refusal}
 use Rattle.at_world.specs.declared.event.Refusal.TheVariants.{Limit, NoDatagram, NotForNode, Untimely}
 use Rattle.at_world.specs.declared.event.Fault.{Fault}
 use Rattle.at_world.specs.declared.event.Fault.TheVariants as fault
-use Rattle.at_world.specs.Worlds.{WorldState, is_over, node_at, node_refusal, refusal, refusal_at, delivery_refusal, is_for, IsFresh, IsTimely, IsPlayable, is_numbered, PlaysAt, Receives, Takes, PlaysDelivery, IsNotTaken, IsFault}
+use Rattle.at_world.specs.Worlds.{WorldState, is_over, node_at, node_refusal, refusal, refusal_at, delivery_refusal, is_for, ComesInTime, DrawsFree, IsFresh, IsTimely, IsPlayable, is_numbered, PlaysAt, Receives, Takes, PlaysDelivery, IsNotTaken, IsFault}
 use Rattle.at_world.proofs.WorldLemmas.{node_stands, none_stands, one_stands}
 
 pub refused_at : (A : Type 0) (w : WorldState) (e : Event A) (r : Option Refusal) → is_over w ≡ false → refusal_at w e ≡ r → refusal w e ≡ r
@@ -65,23 +65,31 @@ fresh_there w s ds bytes e known same when fine = λ node draw carries.
 pub one : (w : WorldState) (which : ℕ) (s t : SentDatagram) → slice_get w.sent which ≡ Some s → slice_get w.sent which ≡ Some t → s ≡ t
 one w which s t here there = let both : Some s ≡ Some t = sym here ∙ there in cc
 
-pub timely_at : (A : Type 0) (w : WorldState) (which k : ℕ) (s : SentDatagram) → slice_get w.sent which ≡ Some s → IsFresh w s → IsTimely {A = A} w (event.Deliver which k)
-timely_at A w which k s is fresh = λ t there. subst (IsFresh w) (one w which s t is there) fresh
+-- what the bytes that were sent would make the node draw
+abbrev pub HeardFree : (A : Type 0) → WorldState → ℕ → List ℕ → Type 0
+HeardFree A w k bytes = DrawsFree w k (λ n draw. DrawsHearing A n bytes draw)
+
+pub timely_at : (A : Type 0) (w : WorldState) (which k : ℕ) (s : SentDatagram) → slice_get w.sent which ≡ Some s → IsFresh w s → HeardFree A w k s.bytes → IsTimely {A = A} w (event.Deliver which k)
+timely_at A w which k s is fresh free = λ t there. subst (ComesInTime A w k) (one w which s t is there) (record { fresh = fresh; free = free })
+
+-- the node would draw a number that is held
+pub held_there : (A : Type 0) (w : WorldState) (which k : ℕ) (s : SentDatagram) (bytes : List ℕ) → slice_get w.sent which ≡ Some s → bytes ≡ s.bytes → ¬ HeardFree A w k bytes → IsTimely {A = A} w (event.Deliver which k) → ⊥
+held_there A w which k s bytes is same held timely = held (subst (HeardFree A w k) (sym same) (timely s is).free)
 
 pub stale_there : (A : Type 0) (w : WorldState) (which k : ℕ) (s : SentDatagram) (ds : Draws) (bytes : List ℕ) (e : ℕ) → slice_get w.sent which ≡ Some s → ds ≡ w.last → bytes ≡ s.bytes → e ≡ s.event →
     (node : ℕ) × (draw : Draw) × Carries bytes node draw × (is_no_later (last_of ds node draw) e ≡ false) → IsTimely {A = A} w (event.Deliver which k) → ⊥
 stale_there A w which k s ds bytes e is known same when (node, draw, carries, late) timely =
-    let fine : is_no_later (last_of w.last node draw) s.event ≡ true = timely s is node draw (subst (λ l. Carries l node draw) same carries) in
+    let fine : is_no_later (last_of w.last node draw) s.event ≡ true = (timely s is).fresh node draw (subst (λ l. Carries l node draw) same carries) in
     let not : is_no_later (last_of w.last node draw) s.event ≡ false = (λ j. is_no_later (last_of (sym known j) node draw) (sym when j)) ∙ late in
     absurd (cc)
 
 -- ---- what is answered
 
-pub delivered : (A : Type 0) (w : WorldState) (which k : ℕ) (s : SentDatagram) (bytes : Bor (List ℕ)) (w' : WorldState) (answer : Result (Report A) Fault) → is_over w ≡ false → slice_get w.sent which ≡ Some s → is_for s k ≡ true → IsFresh w s →
+pub delivered : (A : Type 0) (w : WorldState) (which k : ℕ) (s : SentDatagram) (bytes : Bor (List ℕ)) (w' : WorldState) (answer : Result (Report A) Fault) → is_over w ≡ false → slice_get w.sent which ≡ Some s → is_for s k ≡ true → IsFresh w s → HeardFree A w k s.bytes →
     bytes.now ≡ s.bytes → IfOk answer (λ r. PlaysAt w k (Takes {A = A} (input.Received bytes)) r w') → IfOk answer (λ r. IsPlayable {A = A} w (event.Deliver which k) × PlaysDelivery w which k r w')
-delivered A w which k s bytes w' (Err f) runs is for fresh same played = tt
-delivered A w which k s bytes w' (Ok r) runs is for fresh same played = (
-  record { allowed = for_it A w which k s None runs is for (one_stands w k played.node played.stands); timely = timely_at A w which k s is fresh },
+delivered A w which k s bytes w' (Err f) runs is for fresh free same played = tt
+delivered A w which k s bytes w' (Ok r) runs is for fresh free same played = (
+  record { allowed = for_it A w which k s None runs is for (one_stands w k played.node played.stands); timely = timely_at A w which k s is fresh free },
   record {
     datagram = s;
     was_sent = is;
@@ -97,12 +105,12 @@ delivered A w which k s bytes w' (Ok r) runs is for fresh same played = (
   },
 )
 
-pub not_delivered : (A : Type 0) (w : WorldState) (which k : ℕ) (s : SentDatagram) (bytes : Bor (List ℕ)) (w' : WorldState) (answer : Result (Report A) Fault) → is_over w ≡ false → slice_get w.sent which ≡ Some s → is_for s k ≡ true → IsFresh w s →
-    IfErr answer (λ f. IsNotTaken {A = A} w k (input.Received bytes) f w') → IfErr answer (λ f. IsFault {A = A} w (event.Deliver which k) f w')
-not_delivered A w which k s bytes w' (Ok r) runs is for fresh h = tt
-not_delivered A w which k s bytes w' (Err fault.NoMemory) runs is for fresh h =
-    (h.0, h.1, λ whole. record { allowed = for_it A w which k s None runs is for h.2; timely = timely_at A w which k s is fresh })
-not_delivered A w which k s bytes w' (Err (fault.Refused Limit)) runs is for fresh h = (for_it A w which k s (Some Limit) runs is for h.0, h.1)
-not_delivered A w which k s bytes w' (Err (fault.Refused NoDatagram)) runs is for fresh h = (for_it A w which k s (Some NoDatagram) runs is for h.0, h.1)
-not_delivered A w which k s bytes w' (Err (fault.Refused NotForNode)) runs is for fresh h = (for_it A w which k s (Some NotForNode) runs is for h.0, h.1)
-not_delivered A w which k s bytes w' (Err (fault.Refused Untimely)) runs is for fresh h = absurd (h.0.2 refl)
+pub not_delivered : (A : Type 0) (w : WorldState) (which k : ℕ) (s : SentDatagram) (bytes : Bor (List ℕ)) (w' : WorldState) (answer : Result (Report A) Fault) → is_over w ≡ false → slice_get w.sent which ≡ Some s → is_for s k ≡ true → IsFresh w s → HeardFree A w k s.bytes →
+    bytes.now ≡ s.bytes → IfErr answer (λ f. IsNotTaken {A = A} w k (input.Received bytes) f w') → IfErr answer (λ f. IsFault {A = A} w (event.Deliver which k) f w')
+not_delivered A w which k s bytes w' (Ok r) runs is for fresh free same h = tt
+not_delivered A w which k s bytes w' (Err fault.NoMemory) runs is for fresh free same h =
+    (h.0, h.1, λ whole. record { allowed = for_it A w which k s None runs is for h.2; timely = timely_at A w which k s is fresh free })
+not_delivered A w which k s bytes w' (Err (fault.Refused Limit)) runs is for fresh free same h = (for_it A w which k s (Some Limit) runs is for h.0, h.1)
+not_delivered A w which k s bytes w' (Err (fault.Refused NoDatagram)) runs is for fresh free same h = (for_it A w which k s (Some NoDatagram) runs is for h.0, h.1)
+not_delivered A w which k s bytes w' (Err (fault.Refused NotForNode)) runs is for fresh free same h = (for_it A w which k s (Some NotForNode) runs is for h.0, h.1)
+not_delivered A w which k s bytes w' (Err (fault.Refused Untimely)) runs is for fresh free same h = ((for_it A w which k s None runs is for h.0, held_there A w which k s bytes.now is same h.1), h.2)

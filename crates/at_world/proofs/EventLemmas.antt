@@ -1,9 +1,8 @@
 -- Events of each kind: why they are refused, and what they do.
-use Rattle.std.proofs.Common.{Bor, ◌≡◌, ℕ, false, None, Some, refl, sym, subst}
+use Rattle.std.proofs.Common.{Bor, ◌≡◌, ℕ, false, None, Some, sym, subst}
 use Rattle.std.specs.Prelude.{Result, Ok, Err, IfOk, IfErr}
 use Rattle.at_node.specs.Calls.{IsCall}
-use Rattle.at_node.specs.Drawing.{draw_of_input}
-use Rattle.at_node.specs.Nodes.{NodeState}
+use Rattle.at_node.specs.Drawing.{Draws as DrawsFor}
 use Rattle.at_node.specs.declared.drawing.Input.TheVariants as input
 use Rattle.at_node.specs.declared.event.Call.{Call}
 use Rattle.at_node.specs.declared.event.Report.{Report}
@@ -13,36 +12,36 @@ use Rattle.at_world.specs.declared.event.Event.TheVariants as event
 use Rattle.at_world.specs.declared.event.Refusal.TheVariants.{Limit, NoDatagram, NotForNode, Untimely}
 use Rattle.at_world.specs.declared.event.Fault.{Fault}
 use Rattle.at_world.specs.declared.event.Fault.TheVariants as fault
-use Rattle.at_world.specs.Worlds.{WorldState, is_over, node_at, IsFree, IsPlayable, IsNotTaken, IsFault, Plays, PlaysAt, PlaysDelivery, Takes}
+use Rattle.at_world.specs.Worlds.{WorldState, is_over, DrawsFree, IsPlayable, IsNotTaken, IsFault, Plays, PlaysAt, PlaysDelivery, Takes}
 use Rattle.at_world.proofs.DeliveryLemmas.{refused_at}
 use Rattle.at_world.proofs.WorldLemmas.{one_stands}
 
 module _ (A : Type 0) (w w' : WorldState) (e : Event A) (k : ℕ) (time : Timer) (answer : Result (Report A) Fault) (is : e ≡ event.Timer k time) (runs : is_over w ≡ false) where
-  pub fired : IfOk answer (λ r. PlaysAt w k (Takes {A = A} (input.Timer time)) r w') → IfOk answer (λ r. IsPlayable w e × Plays w e r w')
-  fired h = subst (λ x. IfOk answer (λ r. IsPlayable w x × Plays w x r w')) (sym is) (go answer h)
+  pub fired : IfOk answer (λ r. PlaysAt w k (Takes {A = A} (input.Timer time)) r w') → IfOk answer (λ r. DrawsFree w k (λ n x. DrawsFor {A = A} n (input.Timer time) x)) → IfOk answer (λ r. IsPlayable w e × Plays w e r w')
+  fired h free = subst (λ x. IfOk answer (λ r. IsPlayable w x × Plays w x r w')) (sym is) (go answer h free)
     where
-      go : (a : Result (Report A) Fault) → IfOk a (λ r. PlaysAt w k (Takes {A = A} (input.Timer time)) r w') → IfOk a (λ r. IsPlayable {A = A} w (event.Timer k time) × Plays w (event.Timer k time) r w')
-      go (Err f) p = tt
-      go (Ok r) p = (record { allowed = refused_at A w (event.Timer k time) None runs (one_stands w k p.node p.stands); timely = tt }, p)
+      go : (a : Result (Report A) Fault) → IfOk a (λ r. PlaysAt w k (Takes {A = A} (input.Timer time)) r w') → IfOk a (λ r. DrawsFree w k (λ n x. DrawsFor {A = A} n (input.Timer time) x)) → IfOk a (λ r. IsPlayable {A = A} w (event.Timer k time) × Plays w (event.Timer k time) r w')
+      go (Err f) p q = tt
+      go (Ok r) p q = (record { allowed = refused_at A w (event.Timer k time) None runs (one_stands w k p.node p.stands); timely = q }, p)
 
   pub not_fired : IfErr answer (λ f. IsNotTaken {A = A} w k (input.Timer time) f w') → IfErr answer (λ f. IsFault w e f w')
   not_fired h = subst (λ x. IfErr answer (λ f. IsFault w x f w')) (sym is) (go answer h)
     where
       go : (a : Result (Report A) Fault) → IfErr a (λ f. IsNotTaken {A = A} w k (input.Timer time) f w') → IfErr a (λ f. IsFault {A = A} w (event.Timer k time) f w')
       go (Ok r) p = tt
-      go (Err fault.NoMemory) p = (p.0, p.1, λ whole. record { allowed = refused_at A w (event.Timer k time) None runs p.2; timely = tt })
+      go (Err fault.NoMemory) p = (p.0, p.1, λ whole. record { allowed = refused_at A w (event.Timer k time) None runs p.2; timely = p.3 })
       go (Err (fault.Refused Limit)) p = (refused_at A w (event.Timer k time) (Some Limit) runs p.0, p.1)
       go (Err (fault.Refused NoDatagram)) p = (refused_at A w (event.Timer k time) (Some NoDatagram) runs p.0, p.1)
       go (Err (fault.Refused NotForNode)) p = (refused_at A w (event.Timer k time) (Some NotForNode) runs p.0, p.1)
-      go (Err (fault.Refused Untimely)) p = absurd (p.0.2 refl)
+      go (Err (fault.Refused Untimely)) p = ((refused_at A w (event.Timer k time) None runs p.0, p.1), p.2)
 
 -- a call draws a number only if it is free
 module _ (A : Type 0) (w w' : WorldState) (e : Event A) (k : ℕ) (call : Call A) (lent : Bor (Call A)) (answer : Result (Report A) Fault) (is : e ≡ event.Call k call) (same : lent.now ≡ call) (runs : is_over w ≡ false) where
-  pub called_by : IfOk answer (λ r. PlaysAt w k (Takes {A = A} (input.Call lent)) r w') → IfOk answer (λ r. (n : NodeState) → node_at w k ≡ Some n → IsFree w k (draw_of_input n (input.Call lent))) → IsCall call → IfOk answer (λ r. IsPlayable w e × Plays w e r w')
+  pub called_by : IfOk answer (λ r. PlaysAt w k (Takes {A = A} (input.Call lent)) r w') → IfOk answer (λ r. DrawsFree w k (λ n x. DrawsFor n (input.Call lent) x)) → IsCall call → IfOk answer (λ r. IsPlayable w e × Plays w e r w')
   called_by h free range = subst (λ x. IfOk answer (λ r. IsPlayable w x × Plays w x r w')) (sym is)
       (subst (λ (x : Call A). IfOk answer (λ r. IsPlayable w (event.Call k x) × Plays w (event.Call k x) r w')) same (go answer h free (subst (λ (x : Call A). IsCall x) (sym same) range)))
     where
-      go : (a : Result (Report A) Fault) → IfOk a (λ r. PlaysAt w k (Takes {A = A} (input.Call lent)) r w') → IfOk a (λ r. (n : NodeState) → node_at w k ≡ Some n → IsFree w k (draw_of_input n (input.Call lent))) → IsCall lent.now
+      go : (a : Result (Report A) Fault) → IfOk a (λ r. PlaysAt w k (Takes {A = A} (input.Call lent)) r w') → IfOk a (λ r. DrawsFree w k (λ n x. DrawsFor n (input.Call lent) x)) → IsCall lent.now
           → IfOk a (λ r. IsPlayable {A = A} w (event.Call k lent.now) × Plays w (event.Call k lent.now) r w')
       go (Err f) p q range' = tt
       go (Ok r) p q range' = (record { allowed = refused_at A w (event.Call k lent.now) None runs (one_stands w k p.node p.stands); timely = q }, (p, range'))
@@ -56,7 +55,7 @@ module _ (A : Type 0) (w w' : WorldState) (e : Event A) (k : ℕ) (call : Call A
       go (Err (fault.Refused Limit)) p = (refused_at A w (event.Call k lent.now) (Some Limit) runs p.0, p.1)
       go (Err (fault.Refused NoDatagram)) p = (refused_at A w (event.Call k lent.now) (Some NoDatagram) runs p.0, p.1)
       go (Err (fault.Refused NotForNode)) p = (refused_at A w (event.Call k lent.now) (Some NotForNode) runs p.0, p.1)
-      go (Err (fault.Refused Untimely)) p = ((refused_at A w (event.Call k lent.now) None runs (one_stands w k p.0.0 p.0.1), λ timely. p.0.2 (timely p.0.0 p.0.1)), p.1)
+      go (Err (fault.Refused Untimely)) p = ((refused_at A w (event.Call k lent.now) None runs p.0, p.1), p.2)
 
 module _ (A : Type 0) (w w' : WorldState) (e : Event A) (which k : ℕ) (answer : Result (Report A) Fault) (is : e ≡ event.Deliver which k) where
   pub came : IfOk answer (λ r. IsPlayable {A = A} w (event.Deliver which k) × PlaysDelivery w which k r w') → IfOk answer (λ r. IsPlayable w e × Plays w e r w')

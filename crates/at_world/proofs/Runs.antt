@@ -91,7 +91,7 @@ followed A laws w m (event.Call k call) r w' t timely both =
     ⊎_elim
     (of_nothing A w m t (event.Call k call) n p.stands r p.after p.out w' p.booked laws refl refl)
     (of_good A w m t (event.Call k call) n p.stands r p.after p.out w' p.booked (called n call) seat (
-      call_follows A laws.atp w m.cable m.atp t.cable t.atp k n p.stands call both.1 (timely n p.stands) seat,
+      call_follows A laws.atp w m.cable m.atp t.cable t.atp k n p.stands call both.1 timely seat,
       named.call_follows A laws.names w m.cable m.names t.cable t.names k n p.stands call both.1 seat,
     ))
     (either A (called n call) n r p.after p.out p.steps)
@@ -108,15 +108,15 @@ followed A laws w m (event.Timer k time) r w' t timely p =
 followed A laws w m (event.Deliver which k) r w' t timely d =
     let p = d.plays in
     let n = p.node in
-    let fresh = timely d.datagram d.was_sent in
-    let c = comes A laws.atp w m.cable m.atp t.cable t.atp which d.datagram d.was_sent fresh in
-    let c' = names_coming.comes A laws.names w m.cable m.names t.cable t.names which d.datagram d.was_sent fresh in
+    let in_time = timely d.datagram d.was_sent in
+    let c = comes A laws.atp w m.cable m.atp t.cable t.atp which d.datagram d.was_sent in_time.fresh in
+    let c' = names_coming.comes A laws.names w m.cable m.names t.cable t.names which d.datagram d.was_sent in_time.fresh in
     let said = p.steps.0 in
     let later = p.steps.2 in
     ⊎_elim
     (of_nothing A w m t (event.Deliver which k) n p.stands r p.after p.out w' p.booked laws refl refl)
     (λ (x : (o : Outcome A NodeState) × Hears said n (d.datagram).bytes o × Its o r p.after p.out). let seat = hearing_keeps_seat A said n (d.datagram).bytes x.0 x.1 in of_good A w m t (event.Deliver which k) n p.stands r p.after p.out w' p.booked x.0 seat (
-      datagram_follows A laws.atp w m.cable m.atp t.cable t.atp k n p.stands which d.datagram c said x.0 (λ asked. later (ap is_asked (x.2).0 ∙ asked)) x.1 seat,
+      datagram_follows A laws.atp w m.cable m.atp t.cable t.atp k n p.stands which d.datagram c in_time.free said x.0 (λ asked. later (ap is_asked (x.2).0 ∙ asked)) x.1 seat,
       named.datagram_follows A laws.names w m.cable m.names t.cable t.names k n p.stands which d.datagram c' said x.0 x.1 seat,
     ) x.2)
     (either_coming A (Hears said n (d.datagram).bytes) n r p.after p.out p.steps.1)

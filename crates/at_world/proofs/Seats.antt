@@ -3,7 +3,7 @@ use Rattle.std.proofs.Common.{◌≡◌, Bool, true, false, List, ℕ, inl, inr,
 use Rattle.std.specs.Prelude.{MatchBool, ◌==◌, ◌||◌}
 use Rattle.at_ddp.specs.Datagram.{Content as Datagram}
 use Rattle.at_node.specs.declared.event.Call.{Call}
-use Rattle.at_node.specs.declared.event.Call.TheVariants.{Zones, Ask, Answer, Find, Claim, Finish, Register, Unregister}
+use Rattle.at_node.specs.declared.event.Call.TheVariants.{Zones, SetZones, Ask, Answer, Find, Claim, Finish, Register, Unregister}
 use Rattle.at_node.specs.declared.event.Report.TheVariants as report
 use Rattle.at_node.specs.declared.event.Timer.{Timer}
 use Rattle.at_node.specs.declared.event.Timer.TheVariants as timer
@@ -22,6 +22,7 @@ KeepsSeat n o = o.state.seat ≡ n.seat
 
 pub call_keeps_seat : (A : Type 0) (n : NodeState) (call : Call A) → KeepsSeat n (called n call)
 call_keeps_seat A n Zones = refl
+call_keeps_seat A n (SetZones names) = refl
 call_keeps_seat A n (Ask node socket user bytes wanted xo retries) = refl
 call_keeps_seat A n (Answer node socket tid packets) = refl
 call_keeps_seat A n (Find object kind _) = refl

@@ -16,7 +16,7 @@ use Rattle.at_world.specs.Worlds.{is_numbered}
 use Rattle.at_world.proofs.Atp.Opening.{atp_at_opening}
 use Rattle.at_world.proofs.Atp.Tie.{AtpTie}
 use Rattle.at_world.proofs.CableTie.{CableTie, SeatTie}
-use Rattle.at_world.proofs.LawfulSetups.{lawful_has, node_fits, router_fits}
+use Rattle.at_world.proofs.LawfulSetups.{SetupLaws, lawful_has, node_fits, router_fits}
 use Rattle.at_world.proofs.Names.Opening.{names_at_opening}
 use Rattle.at_world.proofs.Names.Tie.{NameLaws, NameTie}
 use Rattle.at_world.proofs.Tied.{Tied}
@@ -44,9 +44,9 @@ module _ (A : Type 0) (s : Setup A) where
       let has = lawful_has A s ok in
       (record { net = has.net; router = λ r is. router_fits s.nodes r has.each is; wires = []; sent = refl; seats = λ k n is. seats_open s.nodes has.each k n is }, refl)
 
-  pub tied_at_opening : NameLaws A → is_lawful s ≡ true → (t : Tied A (opening_world s) (opening_machine s)) × ((t.atp).history ≡ [])
-  tied_at_opening laws ok =
+  pub tied_at_opening : SetupLaws → NameLaws A → is_lawful s ≡ true → (t : Tied A (opening_world s) (opening_machine s)) × ((t.atp).history ≡ [])
+  tied_at_opening setups laws ok =
       let cable = cable_at_opening ok in
-      let both = subst (λ l. (t : AtpTie A (opening_world s) (cables.opening s) l (atp.opening s)) × (t.history ≡ [])) (sym cable.1) (atp_at_opening A s ok) in
-      let named = subst (λ l. NameTie (opening_world s) (cables.opening s) l (names.opening s)) (sym cable.1) (names_at_opening A laws s ok) in
+      let both = subst (λ l. (t : AtpTie A (opening_world s) (cables.opening s) l (atp.opening s)) × (t.history ≡ [])) (sym cable.1) (atp_at_opening A s setups ok) in
+      let named = subst (λ l. NameTie (opening_world s) (cables.opening s) l (names.opening s)) (sym cable.1) (names_at_opening A laws s setups ok) in
       (record { cable = cable.0; atp = both.0; names = named }, both.1)

@@ -3,7 +3,7 @@ use Rattle.std.proofs.Common.{◌≡◌, ℕ, zero, suc, ◌+◌, ◌-◌, ◌�
 use Rattle.std.proofs.lemmas.Bool.{true≢false}
 use Rattle.std.proofs.lemmas.Bool.Decides.{nat_tests}
 use Rattle.std.proofs.lemmas.List.{append-nil, length-append}
-use Rattle.std.specs.Prelude.{nat_le, nat_lt, ◌||◌, find, Result, Ok, Err, IfOk, IfErr, IsOk, IsErr, OnOk, OnErr}
+use Rattle.std.specs.Prelude.{nat_le, nat_lt, ◌||◌, find, IfSome, Result, Ok, Err, IfOk, IfErr, IsOk, IsErr, OnOk, OnErr}
 use Rattle.std.specs.Result.{is_err}
 use Rattle.std.specs.declared.alloc.AllocError.{AllocError}
 use Rattle.at_ddp.specs.Datagrams.{Posted}
@@ -13,7 +13,7 @@ use Rattle.at_node.specs.declared.drawing.Input.{Input}
 use Rattle.at_node.specs.declared.drawing.Input.TheVariants as input
 use Rattle.at_node.specs.declared.event.Report.{Report}
 use Rattle.at_node.specs.declared.event.Report.TheVariants.{NoMemory}
-use Rattle.at_node.specs.Drawing.{drawn_by, draw_of_input}
+use Rattle.at_node.specs.Drawing.{drawn_by, Draws as DrawsFor}
 use Rattle.at_node.specs.Hearing.{Hears}
 use Rattle.at_node.specs.Nodes.{NodeState, called, timed}
 use Rattle.at_node.specs.Outcomes.{Outcome, posted, IsStep, Comes}
@@ -22,7 +22,7 @@ use Rattle.at_world.specs.Sents.{SentDatagram, stamp, stamped}
 use Rattle.at_world.specs.declared.event.Refusal.TheVariants.{NotForNode}
 use Rattle.at_world.specs.declared.event.Fault.{Fault}
 use Rattle.at_world.specs.declared.event.Fault.TheVariants as fault
-use Rattle.at_world.specs.Worlds.{WorldState, is_over, is_numbered, node_at, node_refusal, holds_some, recorded, PlaysAt, Takes, IsFree, IsNotTaken}
+use Rattle.at_world.specs.Worlds.{WorldState, is_over, is_numbered, node_at, node_refusal, holds_some, recorded, PlaysAt, Takes, DrawsFree, IsNotTaken}
 
 -- ---- what a node sends goes behind what was there
 
@@ -105,16 +105,26 @@ node_stands w k nodes i given same f is = ap (find (is_numbered k)) (sym same) �
 pub none_stands : (w : WorldState) (k : ℕ) (nodes : List NodeState) → nodes ≡ w.nodes → find (is_numbered k) nodes ≡ None → node_refusal (node_at w k) ≡ Some NotForNode
 none_stands w k nodes same none = ap (λ l. node_refusal (find (is_numbered k) l)) (sym same) ∙ ap node_refusal none
 
+pub nobody_at : (w : WorldState) (k : ℕ) (nodes : List NodeState) → nodes ≡ w.nodes → find (is_numbered k) nodes ≡ None → node_at w k ≡ None
+nobody_at w k nodes same none = ap (find (is_numbered k)) (sym same) ∙ none
+
 pub one_stands : (w : WorldState) (k : ℕ) (n : NodeState) → node_at w k ≡ Some n → node_refusal (node_at w k) ≡ None
 one_stands w k n is = ap node_refusal is
 
 -- whether a record stands under the number that would be drawn, as it was looked up
-pub held_at : (A : Type 0) (w : WorldState) (k : ℕ) (i : Input A) (nodes : List NodeState) (given : NodeState) (draw : Option Draw) (held b : Bool) → nodes ≡ w.nodes → node_at w k ≡ Some given → draw ≡ draw_of_input given i →
-    held ≡ holds_some nodes k draw → held ≡ b → (n : NodeState) → node_at w k ≡ Some n → holds_some w.nodes k (draw_of_input n i) ≡ b
-held_at A w k i nodes given draw held b same stands draws is so n here =
+pub held_at : (A : Type 0) (w : WorldState) (k : ℕ) (i : Input A) (nodes : List NodeState) (given : NodeState) (draw : Option Draw) → nodes ≡ w.nodes → node_at w k ≡ Some given → IfSome draw (DrawsFor given i) → true ≡ holds_some nodes k draw → DrawsFree w k (λ n x. DrawsFor n i x) → ⊥
+held_at A w k i nodes given None same stands found held free = absurd (cc)
+held_at A w k i nodes given (Some draw) same stands found held free = true≢false (held ∙ ap (λ l. holds_some l k (Some draw)) same ∙ free given stands draw found)
+
+pub free_at : (A : Type 0) (w : WorldState) (k : ℕ) (i : Input A) (nodes : List NodeState) (given : NodeState) (draw : Option Draw) → nodes ≡ w.nodes → node_at w k ≡ Some given → ((x : Draw) → DrawsFor given i x → draw ≡ Some x) → false ≡ holds_some nodes k draw → DrawsFree w k (λ n x. DrawsFor n i x)
+free_at A w k i nodes given draw same stands only free n here x draws =
     let both : Some n ≡ Some given = sym here ∙ stands in
     let one : n ≡ given = cc in
-    (λ j. holds_some (sym same j) k ((ap (draw_of_input {A = A}) one j) i)) ∙ ap (holds_some nodes k) (sym draws) ∙ sym is ∙ so
+    let is = only x (subst (λ y. DrawsFor {A = A} y i x) one draws) in
+    (λ j. holds_some (sym same j) k (sym is j)) ∙ sym free
+
+pub nobody_draws : (A : Type 0) (w : WorldState) (k : ℕ) (i : Input A) → node_at w k ≡ None → DrawsFree w k (λ n x. DrawsFor n i x)
+nobody_draws A w k i none n here x draws = let both : None ≡ Some n = sym none ∙ here in absurd (cc)
 
 -- ---- what an answered step is
 
@@ -181,7 +191,7 @@ taken A w k S report w' booking (Err e) books ok = tt
 taken A w k S report w' booking (Ok r) books ok = subst (λ x. PlaysAt w k S x w') (sym ok.0) (books ok.1)
 
 pub not_taken : (A : Type 0) (w : WorldState) (k : ℕ) (i : Input A) (w' : WorldState) (booking : Result (Unit {0}) AllocError) (answer : Result (Report A) Fault) →
-    (IsErr booking → (w'.failed ≡ true) × (w'.sent ≡ w.sent)) → node_refusal (node_at w k) ≡ None → ((n : NodeState) → node_at w k ≡ Some n → IsFree w k (draw_of_input n i)) → IfErr answer (λ f. (f ≡ fault.NoMemory) × IsErr booking) → IfErr answer (λ f. IsNotTaken w k i f w')
+    (IsErr booking → (w'.failed ≡ true) × (w'.sent ≡ w.sent)) → node_refusal (node_at w k) ≡ None → DrawsFree w k (λ n x. DrawsFor n i x) → IfErr answer (λ f. (f ≡ fault.NoMemory) × IsErr booking) → IfErr answer (λ f. IsNotTaken w k i f w')
 not_taken A w k i w' booking (Ok r) kept there free err = tt
 not_taken A w k i w' booking (Err f) kept there free err = let k' = kept err.1 in subst (λ x. IsNotTaken w k i x w') (sym err.0) (k'.0, k'.1, there, free)
 

@@ -6,14 +6,16 @@ use Rattle.at_ddp.specs.declared.address.Address.{Address}
 use Rattle.at_atp_frame.specs.Packets.{Packet}
 use Rattle.at_atp.specs.Transactions.{Transaction, Asked, transaction_of, answered, IsResponse}
 use Rattle.at_atp_responder.specs.declared.reception.Key.{Key}
+use Rattle.at_zip.specs.Reading.{BeginsTable}
 use Rattle.at_zip.specs.Request.{RequestSpells}
+use Rattle.at_zip.specs.Zones.{IsTable}
 use Rattle.at_node.specs.AtpParts.{asking, serving, zones_at}
 use Rattle.at_node.specs.Kinds.{Kind, Atp}
 use Rattle.at_node.specs.declared.event.Call.{Call}
-use Rattle.at_node.specs.declared.event.Call.TheVariants.{Zones, Ask, Answer}
+use Rattle.at_node.specs.declared.event.Call.TheVariants.{Zones, SetZones, Ask, Answer}
 use Rattle.at_node.specs.declared.event.Report.{Report}
 use Rattle.at_node.specs.declared.event.Report.TheVariants as report
-use Rattle.at_steps.specs.AtpSteps.{first_page, new_transaction, page_answer}
+use Rattle.at_steps.specs.AtpSteps.{new_transaction, page_answer, page_asked}
 use Rattle.at_world.specs.Cables.{Cable, at_net}
 use Rattle.at_world.specs.declared.event.Event.{Event}
 use Rattle.at_world.specs.declared.event.Event.TheVariants as event
@@ -55,14 +57,32 @@ StoodSince past since table =
 
 -- ---- the steps, one for each report
 
--- a reading of the zone list begins with its first transaction
+-- a reading of the zone list begins: the node asks the router for the first page
 pub record BeginsReading (c : Cable) (m : AtpMachine) (node tid : ℕ) (m' : AtpMachine) : Type 0 where
   pub router : ℕ
   pub is_router : c.router ≡ Some router
   pub becomes : m' ≡ next (record m {
-    asked = first_page c.net node router tid ∷ m.asked;
+    asked = page_asked c.net node (zones_at c.net router) [] tid ∷ m.asked;
     readings = record { node = node; since = length m.past } ∷ m.readings;
   })
+
+-- a reading goes on: with these names so far, the node asks the router for the page after them. They begin the table,
+-- if it was the same at every moment since the reading began.
+pub record GoesOn (c : Cable) (m : AtpMachine) (node tid : ℕ) (m' : AtpMachine) : Type 0 where
+  pub router : ℕ
+  pub is_router : c.router ≡ Some router
+  pub since : ℕ
+  pub began : since_of m.readings node ≡ Some since
+  pub names : List (List ℕ)
+  pub few : length names ≤ 1024
+  pub tells : StoodSince m.past since m.table → BeginsTable m.table names
+  pub becomes : m' ≡ next (record m { asked = page_asked c.net node (zones_at c.net router) names tid ∷ m.asked })
+
+-- the router gets another zone table
+pub record SetsTable (c : Cable) (m : AtpMachine) (node : ℕ) (names : List (List ℕ)) (m' : AtpMachine) : Type 0 where
+  pub is_router : c.router ≡ Some node
+  pub is_table : IsTable names
+  pub becomes : m' ≡ next (record m { table = names })
 
 -- a transaction begins
 pub record BeginsAsking (c : Cable) (m : AtpMachine) (node : ℕ) (responder : Address) (user bytes : List ℕ)
@@ -119,6 +139,11 @@ Begins c m node (Ask k socket user bytes wanted xo retries) tid m' =
     BeginsAsking c m node (at_net c k socket) user bytes wanted xo tid m'
 Begins c m node call tid m' = ⊥
 
+-- a call gives the router this table
+abbrev pub Sets : {A : Type 0} → Cable → AtpMachine → ℕ → Call A → AtpMachine → Type 0
+Sets c m node (SetZones names) m' = SetsTable c m node names m'
+Sets c m node call m' = ⊥
+
 -- a call gives this answer, and so many of its packets are sent
 abbrev pub Answers : {A : Type 0} → Cable → AtpMachine → ℕ → Call A → ℕ → AtpMachine → Type 0
 Answers c m node (Answer k socket tid packets) count m' = GivesAnswer c m node (at_net c k socket) tid packets count m'
@@ -128,6 +153,8 @@ Answers c m node call count m' = ⊥
 abbrev pub Says : {A : Type 0} → Cable → AtpMachine → Event A → Report A → AtpMachine → Type 0
 Says c m (event.Call node call) (report.Begun tid) m' = Begins c m node call tid m'
 Says c m (event.Call node call) (report.Answered count) m' = Answers c m node call count m'
+Says c m (event.Call node call) report.TableSet m' = Sets c m node call m'
+Says c m (event.Deliver which node) (report.Begun tid) m' = GoesOn c m node tid m'
 Says c m (event.Deliver which node) (report.Served count) m' = Serves c m node count m'
 Says c m (event.Deliver which node) (report.Asked key user bytes) m' = IsAsked c m node key user bytes × (m' ≡ next m)
 Says c m (event.Deliver which node) (report.Response tid packets) m' = IsAnswered c m node tid packets × (m' ≡ next m)

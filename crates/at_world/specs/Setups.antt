@@ -1,17 +1,12 @@
 -- Which setups are lawful.
-use Rattle.std.specs.Prelude.{ℕ, ◌+◌, ◌==◌, ◌&&◌, ◌||◌, nat_le, nat_lt, if◌then◌else◌, Bool, false, List, length}
-use Rattle.std.specs.Prelude.{count_by, sum_by, is_none, Option, Some, None}
+use Rattle.std.specs.Prelude.{ℕ, ◌==◌, ◌&&◌, ◌||◌, nat_le, nat_lt, if◌then◌else◌, Bool, false, List, length}
+use Rattle.std.specs.Prelude.{count_by, is_none, Option, Some, None}
 use Rattle.std.specs.List.{list_all, list_any}
+use Rattle.at_zip.specs.Zones.{is_name, table_fault}
 use Rattle.at_world.specs.declared.setup.NodeSetup.{NodeSetup}
 use Rattle.at_world.specs.declared.setup.Setup.{Setup}
 
-abbrev pub is_byte : ℕ → Bool
-is_byte b = nat_lt b 256
-
--- the name of a zone has 1 to 32 bytes (Inside AppleTalk, ZIP, "Zones and zone names")
-abbrev pub is_name : List ℕ → Bool
-is_name name = nat_lt 0 (length name) && nat_le (length name) 32 && list_all is_byte name
-
+-- the zone of a node, if it has one
 abbrev pub is_zone : Option (List ℕ) → Bool
 is_zone None = false
 is_zone (Some name) = is_name name
@@ -36,14 +31,9 @@ are_lawful_nodes ns =
     nat_le (length ns) 16 && list_all is_lawful_node ns && list_all (stands_once ns) ns
     && nat_le (count_by (λ n. n.router) ns) 1 && are_in_zones ns
 
--- how many bytes the names have, with a length byte each
-abbrev pub spelled_len : List (List ℕ) → ℕ
-spelled_len names = sum_by (λ name. length name + 1) names
-
--- a table that fits one page, and that is empty without a router
+-- a zone table (Inside AppleTalk, ZIP, "Zones and zone names"), which is empty without a router
 abbrev pub is_lawful_table : Bool → List (List ℕ) → Bool
-is_lawful_table router names =
-    list_all is_name names && nat_le (spelled_len names) 578 && (router || (length names == 0))
+is_lawful_table router names = is_none (table_fault names) && (router || (length names == 0))
 
 abbrev pub is_lawful : {A : Type 0} → Setup A → Bool
 is_lawful s =

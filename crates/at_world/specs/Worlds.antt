@@ -11,7 +11,8 @@ use Rattle.at_node.specs.declared.event.Report.{Report}
 use Rattle.at_node.specs.declared.service.Reply.{Reply}
 use Rattle.at_node.specs.declared.service.Reply.TheVariants as reply
 use Rattle.at_node.specs.Calls.{IsCall}
-use Rattle.at_node.specs.Drawing.{Carries, drawn_by, draw_of, draw_of_input, holds}
+use Rattle.at_node.specs.Drawing.{Carries, DrawsHearing, drawn_by, draw_of, holds}
+use Rattle.at_node.specs.Drawing.{Draws as DrawsFor}
 use Rattle.at_node.specs.Hearing.{Hears}
 use Rattle.at_node.specs.Nodes.{NodeState, called, timed}
 use Rattle.at_node.specs.Outcomes.{IsStep, Comes}
@@ -75,16 +76,25 @@ abbrev pub holds_some : List NodeState → ℕ → Option Draw → Bool
 holds_some nodes k None = false
 holds_some nodes k (Some draw) = list_any (λ n. holds n k draw) nodes
 
--- no node holds a record under the number that would be drawn
-abbrev pub IsFree : WorldState → ℕ → Option Draw → Type 0
-IsFree w k draw = holds_some w.nodes k draw ≡ false
+-- no node holds a record under this number of a node
+abbrev pub IsFree : WorldState → ℕ → Draw → Type 0
+IsFree w k draw = holds_some w.nodes k (Some draw) ≡ false
+
+-- the numbers that a node draws so are free
+abbrev pub DrawsFree : WorldState → ℕ → (NodeState → Draw → Type 0) → Type 0
+DrawsFree w k D = (n : NodeState) → node_at w k ≡ Some n → (draw : Draw) → D n draw → IsFree w k draw
+
+-- a datagram comes before its numbers are drawn again, and what it makes the node draw is free
+pub record ComesInTime (A : Type 0) (w : WorldState) (k : ℕ) (s : SentDatagram) : Type 0 where
+  pub fresh : IsFresh w s
+  pub free : DrawsFree w k (λ n draw. DrawsHearing A n s.bytes draw)
 
 -- No packet outlives the number that it carries. A datagram comes before its numbers are drawn again, and no number is
--- drawn while a record is held under it. Only calls draw numbers.
+-- drawn while a record is held under it.
 abbrev pub IsTimely : {A : Type 0} → WorldState → Event A → Type 0
-IsTimely w (event.Call k call) = (n : NodeState) → node_at w k ≡ Some n → IsFree w k (draw_of n call)
-IsTimely w (event.Deliver which k) = (s : SentDatagram) → slice_get w.sent which ≡ Some s → IsFresh w s
-IsTimely w (event.Timer k timer) = Unit {0}
+IsTimely w (event.Call k call) = DrawsFree w k (λ n draw. draw_of n call ≡ Some draw)
+IsTimely {A} w (event.Deliver which k) = (s : SentDatagram) → slice_get w.sent which ≡ Some s → ComesInTime A w k s
+IsTimely {A} w (event.Timer k timer) = DrawsFree w k (λ n draw. drawn_by (timed {A = A} n timer).report ≡ Some draw)
 
 -- an event that nothing refuses
 pub record IsPlayable {A : Type 0} (w : WorldState) (e : Event A) : Type 0 where
@@ -158,8 +168,8 @@ IsFault w e fault.NoMemory w' = (w'.failed ≡ true) × (w'.sent ≡ w.sent) × 
 -- why a node did not take an input
 abbrev pub IsNotTaken : {A : Type 0} → WorldState → ℕ → Input A → Fault → WorldState → Type 0
 IsNotTaken w k i (fault.Refused refusals.Untimely) w' =
-    ((n : NodeState) × (node_at w k ≡ Some n) × ¬ IsFree w k (draw_of_input n i)) × (w' ≡ w)
+    (node_refusal (node_at w k) ≡ None) × (¬ DrawsFree w k (λ n draw. DrawsFor n i draw)) × (w' ≡ w)
 IsNotTaken w k i (fault.Refused r) w' = (node_refusal (node_at w k) ≡ Some r) × (w' ≡ w)
 IsNotTaken w k i fault.NoMemory w' =
     (w'.failed ≡ true) × (w'.sent ≡ w.sent) × (node_refusal (node_at w k) ≡ None)
-    × ((n : NodeState) → node_at w k ≡ Some n → IsFree w k (draw_of_input n i))
+    × DrawsFree w k (λ n draw. DrawsFor n i draw)

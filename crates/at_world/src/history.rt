@@ -33,12 +33,12 @@ pub(crate) fn steps_make_a_history<A: Allocator>()
     at_steps::laws::names::another_protocols_event_is_foreign::<A>();
     at_steps::laws::names::a_reply_carries_its_identifier();
     at_atp::laws::what_is_sent_is_lawful::<A>();
-    at_atp::laws::answers_join_what_was_asked();
     at_node::laws::what_is_sent_carries_its_number();
-    at_node::laws::a_page_written_is_told::<A>();
     at_zip::laws::what_is_written_is_read();
     at_zip::laws::one_page_a_spelling();
-    at_zip::laws::a_small_table_is_one_page();
+    at_zip::laws::a_page_is_the_longest_run();
+    at_zip::laws::a_page_goes_on_with_its_table();
+    at_zip::laws::names_without_a_fault_are_a_table();
     at_nbp::laws::finds_stood_since_their_lookup_began();
     at_nbp::laws::what_is_sent_is_lawful();
     at_name_socket::laws::a_new_socket_is_lawful();

@@ -88,19 +88,8 @@ fn table_of<A: Allocator + Copy>(
     if !router {
         return Ok(None);
     }
-    let copies = copies_of(alloc, names)?;
-    match Zones::new(Listed::from_vec(copies)) {
+    match Zones::copy_of(alloc, names) {
         Ok(table) => Ok(Some(table)),
         Err(_) => Err(AllocError),
     }
-}
-
-fn copies_of<A: Allocator + Copy>(alloc: A, names: &[Pascal]) -> Result<Vec<Pascal, A>, AllocError>
-    ensures { IfOk result (λ copies. copies.items ≡ names.now) }
-{
-    let mut copies = Vec::new(alloc);
-    for name in names {
-        copies.push(copy_of(name))?;
-    }
-    Ok(copies)
 }

@@ -1,9 +1,10 @@
-ghost use Rattle.std.specs.Prelude.{◌≡◌, ◌≤◌, length, nat_le, count_by, is_none};
+ghost use Rattle.std.specs.Prelude.{◌≡◌, count_by, is_none};
 ghost use Rattle.std.specs.List.{list_all};
-ghost use Rattle.at_world.specs.Setups.{is_lawful_node, is_name, is_zone, stands_once, has_router, are_in_zones};
-ghost use Rattle.at_world.specs.Setups.{are_lawful_nodes, spelled_len, is_lawful_table};
+ghost use Rattle.at_world.specs.Setups.{is_lawful_node, is_zone, stands_once, has_router, are_in_zones};
+ghost use Rattle.at_world.specs.Setups.{are_lawful_nodes, is_lawful_table};
 
 use at_ddp::{Listed, Pascal};
+use at_zip::{is_name, table_fault};
 use std::alloc::{Allocator, Global};
 
 /// A node of a setup.
@@ -26,8 +27,7 @@ pub struct Setup<A: Allocator = Global> {
     /// The number of the network, 1 to 65,535.
     pub net: u16,
     pub nodes: Listed<NodeSetup, A>,
-    /// The router's zone table: at most 1,024 names of 1 to 32 bytes. With a length byte each, they have at most 578
-    /// bytes together.
+    /// The router's zone table: at most 1,024 names of 1 to 32 bytes.
     pub zones: Listed<Pascal, A>,
 }
 
@@ -44,19 +44,6 @@ impl<A: Allocator> Setup<A> {
             && are_lawful_nodes(nodes)
             && is_lawful_table(has_router(nodes), self.zones.as_slice())
     }
-}
-
-fn is_name(name: &Pascal) -> bool
-    ensures { result ≡ is_name name.now }
-{
-    is_name_spelled(name.bytes())
-}
-
-fn is_name_spelled(bytes: &[u8]) -> bool
-    requires { length bytes.now ≤ 32 }
-    ensures { result ≡ is_name bytes.now }
-{
-    !bytes.is_empty()
 }
 
 fn is_zone(zone: &Option<Pascal>) -> bool
@@ -136,28 +123,8 @@ fn are_lawful_nodes(nodes: &[NodeSetup]) -> bool
         && are_in_zones(nodes)
 }
 
-// Whether the names fit in this many bytes, with a length byte each.
-#[tactic(auto, using(crate::proofs::SetupLemmas::fits_after, crate::proofs::SetupLemmas::too_long))]
-fn fit(names: &[Pascal], room: usize) -> bool
-    ensures { result ≡ nat_le (spelled_len names.now) room }
-{
-    match names {
-        [] => true,
-        [first, rest @ ..] => {
-            let len = first.bytes().len() + 1;
-            len <= room && fit(rest, room - len)
-        }
-    }
-}
-
-fn are_names(names: &[Pascal]) -> bool
-    ensures { result ≡ list_all is_name names.now }
-{
-    names.iter().all(is_name)
-}
-
 fn is_lawful_table(router: bool, names: &[Pascal]) -> bool
     ensures { result ≡ is_lawful_table router names.now }
 {
-    are_names(names) && fit(names, 578) && (router || names.is_empty())
+    table_fault(names).is_none() && (router || names.is_empty())
 }

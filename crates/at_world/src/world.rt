@@ -1,12 +1,11 @@
 ghost use Rattle.std.specs.Prelude.{◌≡◌, Err, ◌==◌, ◌||◌, IfOk, IfErr, IsOk, IsErr, OnOk, OnErr, None, false, true};
 ghost use Rattle.std.specs.Prelude.{◌≤◌, ◌-◌, ◌++◌, length, replicate, ℕ};
 ghost use Rattle.std.specs.List.{position_from, list_any};
-ghost use Rattle.at_node.specs.Drawing.{Carries, drawn_by, draw_of_input, holds};
-ghost use Rattle.at_node.specs.Nodes.{NodeState};
+ghost use Rattle.at_node.specs.Drawing.{Carries, Draws, drawn_by, holds};
 ghost use Rattle.at_node.specs.declared.drawing.Draw.{Draw as Drawn};
 ghost use Rattle.at_world.specs.Draws.{last_of, noted, is_no_later};
 ghost use Rattle.at_world.specs.Plays.{opening_world};
-ghost use Rattle.at_world.specs.Worlds.{IsNotTaken, holds_some, is_in_time, IsPlayable, IsFree, Plays, PlaysAt};
+ghost use Rattle.at_world.specs.Worlds.{DrawsFree, IsNotTaken, holds_some, is_in_time, IsPlayable, Plays, PlaysAt};
 ghost use Rattle.at_world.specs.Worlds.{PlaysDelivery, Takes, IsFault, Refuses, refusal, refusal_at, node_refusal};
 ghost use Rattle.at_world.specs.Worlds.{node_at, is_over, is_numbered};
 
@@ -115,15 +114,13 @@ impl<A: Allocator + Copy> World<A> {
         requires whole { self.old.failed ≡ false }
         requires runs { is_over self.old ≡ false }
         ensures played { IfOk result (λ report. PlaysAt self.old node (Takes input.now) report self.new) }
-        ensures free { IfOk result (λ report. (n : NodeState) → node_at self.old node ≡ Some n
-            → IsFree self.old node (draw_of_input n input.now)) }
+        ensures free { IfOk result (λ report. DrawsFree self.old node (λ n draw. Draws n input.now draw)) }
         ensures not_played { IfErr result (λ fault. IsNotTaken self.old node input.now fault self.new) }
     {
         let Some(place) = place_of(&self.nodes, node) else {
             return Err(Fault::Refused(Refusal::NotForNode));
         };
-        let draw = self.nodes[place].draw_of(input);
-        if is_held(&self.nodes, node, draw) {
+        if self.draws_held(node, input) {
             return Err(Fault::Refused(Refusal::Untimely));
         }
         let report = take(&mut self.nodes[place], input, &mut self.datagrams);
@@ -140,6 +137,18 @@ impl<A: Allocator + Copy> World<A> {
         self.failed = booked.is_err();
         self.events += 1;
         kept(booked, report)
+    }
+
+    // Whether a node would draw a number under which some node still holds a record.
+    fn draws_held(&self, node: u8, input: &Input<'_, A>) -> bool
+        ensures held { result ≡ true → ¬ DrawsFree self.now node (λ n draw. Draws n input.now draw) }
+        ensures free { result ≡ false → DrawsFree self.now node (λ n draw. Draws n input.now draw) }
+    {
+        let Some(place) = place_of(&self.nodes, node) else {
+            return false;
+        };
+        let draw = self.nodes[place].draw_of(input);
+        is_held(&self.nodes, node, draw)
     }
 
     fn deliver(&mut self, which: u64, node: u8) -> Result<Report<A>, Fault>
@@ -161,6 +170,9 @@ impl<A: Allocator + Copy> World<A> {
             return Err(Fault::Refused(Refusal::NotForNode));
         }
         if !is_fresh(&self.last, self.datagrams.get(which), self.stamps[which]) {
+            return Err(Fault::Refused(Refusal::Untimely));
+        }
+        if self.draws_held(node, &Input::Received(self.datagrams.get(which))) {
             return Err(Fault::Refused(Refusal::Untimely));
         }
         // The bytes are copied, since what the node sends may move the list that they lie in.

@@ -5,3 +5,4 @@ mod ReadingLemmas
 mod RequestLemmas
 mod RunLemmas
 mod SpelledLemmas
+mod ZoneLemmas

@@ -1,5 +1,5 @@
--- The reading of a zone table page by page (Inside AppleTalk, ZIP, "GetZoneList": a node asks again, from the place after
--- the names that it has, until LastFlag is set).
+-- The reading of a zone table page by page (Inside AppleTalk, ZIP, "GetZoneList": a node asks again, from the place
+-- after the names that it has, until LastFlag is set).
 use Rattle.std.specs.Prelude.{◌≡◌, ℕ, ◌+◌, ◌≤◌, Bool, true, false, List, [], ◌∷◌, ◌++◌, length}
 use Rattle.at_zip.specs.Page.{Page, page_of}
 use Rattle.at_zip.specs.declared.reader.Taken.{Taken}

@@ -1,12 +1,12 @@
 //! Laws of requests, pages and tables. The functions do nothing: each contract is a law.
-ghost use Rattle.std.specs.Prelude.{◌≡◌, ℕ, ◌^◌, ◌<◌, ◌≤◌, ◌++◌, true, false, List, [], length};
+ghost use Rattle.std.specs.Prelude.{◌≡◌, ℕ, ◌^◌, ◌<◌, ◌≤◌, ◌++◌, true, false, List, [], length, None};
 ghost use Rattle.at_ddp.specs.Datagram.{AreBytes};
 ghost use Rattle.at_zip.specs.Fault.{IsFirstFault};
 ghost use Rattle.at_zip.specs.Names.{spelled};
 ghost use Rattle.at_zip.specs.Page.{Page, IsLawful, Spells, IsPageFrom, page_of, page_user, page_data};
 ghost use Rattle.at_zip.specs.Reading.{BeginsTable, EndsWithLast, InTurn, NoneIsLast, names_of, place_after};
 ghost use Rattle.at_zip.specs.Request.{RequestSpells, request_user};
-ghost use Rattle.at_zip.specs.Zones.{IsTable};
+ghost use Rattle.at_zip.specs.Zones.{IsName, IsTable, is_name, table_fault};
 ghost use Rattle.at_zip.specs.declared.fault.ZipFault.{ZipFault};
 
 /// What is written is read: the canonical bytes spell the request or the page that they were written for. The page of a
@@ -55,11 +55,17 @@ pub fn a_page_goes_on_with_its_table()
         → 0 < length (page_of table (place_after read)).names }
 {}
 
-/// Pages of one table that are read one after another give that table, if the last of them is its last page. Before that
-/// page there are no more pages than the table has names.
+/// Pages of one table that are read one after another give that table, if the last of them is its last page. Before
+/// that page there are no more pages than the table has names.
 pub fn pages_in_turn_give_their_table()
     ensures whole { (table : List (List ℕ)) (pages : List Page) → InTurn table [] pages → EndsWithLast pages
         → names_of pages ≡ table }
     ensures ends { (table : List (List ℕ)) (pages : List Page) → IsTable table → InTurn table [] pages
         → NoneIsLast pages → length pages ≤ length table }
+{}
+
+/// A string that passes the test is the name of a zone, and names without a fault are a table.
+pub fn names_without_a_fault_are_a_table()
+    ensures name { (name : List ℕ) → is_name name ≡ true → IsName name }
+    ensures table { (names : List (List ℕ)) → table_fault names ≡ None → IsTable names }
 {}

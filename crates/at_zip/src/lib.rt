@@ -16,4 +16,4 @@ pub use page_view::{PageView, read_page};
 pub use paging::{MAX_PAGE_DATA, PageBytes, page};
 pub use reader::{Taken, ZoneReader};
 pub use request::{read_request, request_user};
-pub use zones::{MAX_ZONES, Zones};
+pub use zones::{MAX_ZONES, Zones, is_name, table_fault};

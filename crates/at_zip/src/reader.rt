@@ -1,4 +1,4 @@
-ghost use Rattle.std.specs.Prelude.{◌≡◌, ◌↔◌, ◌+◌, ◌<◌, ◌⊎◌, ◌++◌, [], length, OnOk, IfErr, IsErrOf};
+ghost use Rattle.std.specs.Prelude.{◌≡◌, ◌↔◌, ◌+◌, ◌<◌, ◌⊎◌, ◌++◌, [], length, nat_lt, OnOk, IfErr, IsErrOf};
 ghost use Rattle.at_zip.specs.Reading.{HasRoomFor, follows, kept, place_after};
 
 use crate::fault::ZipFault;
@@ -63,11 +63,18 @@ impl<A: Allocator + Copy> ZoneReader<A> {
         ensures no_other { IfErr result (λ fault. (fault ≡ ZipFault.TooManyZones) ⊎ (fault ≡ ZipFault.NoMemory)) }
         ensures same { self.new.names ≡ self.old.names }
     {
-        if self.names.len() + page.count() > MAX_ZONES {
+        if self.is_too_long_with(page) {
             return Err(ZipFault::TooManyZones);
         }
         self.names.reserve(page.count())?;
         Ok(())
+    }
+
+    /// Whether the table would have over 1,024 names with those of a page.
+    pub fn is_too_long_with(&self, page: &PageView<'_>) -> bool
+        ensures { result ≡ nat_lt 1024 (length self.now.names + length page.now.names) }
+    {
+        self.names.len() + page.count() > MAX_ZONES
     }
 
     /// The place from which the page after this one is to be asked for.

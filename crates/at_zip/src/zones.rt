@@ -1,10 +1,10 @@
-ghost use Rattle.std.specs.Prelude.{◌≡◌, ◌<◌, ◌≤◌, ◌↔◌, ◌⊎◌, [], length, All, Contains, IfOk, IfErr, IsErrOf};
-ghost use Rattle.std.specs.Bool.{OnTrue, OnFalse};
-ghost use Rattle.at_zip.specs.Zones.{IsName, IsTable};
+ghost use Rattle.std.specs.Prelude.{◌≡◌, ◌≢◌, ◌≤◌, length, None, Some, IfOk, IfErr, OnOk, IsErrOf};
+ghost use Rattle.std.specs.List.{list_all};
+ghost use Rattle.at_zip.specs.Zones.{IsTable, is_name, table_fault};
 
 use crate::fault::ZipFault;
 use at_ddp::{Listed, Pascal};
-use std::alloc::{Allocator, Global};
+use std::alloc::{AllocError, Allocator, Global};
 use std::marker::Model;
 
 /// The most names of a table.
@@ -31,18 +31,29 @@ impl<A: Allocator> Zones<A> {
     /// The table of these names. This needs no memory.
     pub fn new(list: Listed<Pascal, A>) -> Result<Zones<A>, ZipFault>
         ensures ok { IfOk result (λ zones. zones ≡ list) }
+        ensures lawful { OnOk result (table_fault list ≡ None) }
         ensures table { IfOk result IsTable }
-        ensures too_many { IsErrOf result ZipFault.TooManyZones ↔ (1024 < length list) }
-        ensures bad { IsErrOf result ZipFault.BadZone ↔ ((length list ≤ 1024) × Contains list []) }
-        ensures no_other { IfErr result (λ fault. (fault ≡ ZipFault.TooManyZones) ⊎ (fault ≡ ZipFault.BadZone)) }
+        ensures fault { IfErr result (λ fault. table_fault list ≡ Some fault) }
     {
-        if list.as_slice().len() > MAX_ZONES {
-            return Err(ZipFault::TooManyZones);
+        match table_fault(list.as_slice()) {
+            None => Ok(Zones { list }),
+            Some(fault) => Err(fault),
         }
-        if !are_names(list.as_slice()) {
-            return Err(ZipFault::BadZone);
+    }
+
+    /// A table of copies of these names. They are looked at before memory is asked for.
+    pub fn copy_of(alloc: A, names: &[Pascal]) -> Result<Zones<A>, ZipFault>
+        ensures ok { IfOk result (λ zones. zones ≡ names.now) }
+        ensures lawful { OnOk result (table_fault names.now ≡ None) }
+        ensures fault { IfErr result (λ fault. fault ≢ ZipFault.NoMemory → table_fault names.now ≡ Some fault) }
+        ensures memory { IsErrOf result ZipFault.NoMemory → table_fault names.now ≡ None }
+    {
+        match table_fault(names) {
+            None => Ok(Zones {
+                list: Listed::from_vec(copies_of(alloc, names)?),
+            }),
+            Some(fault) => Err(fault),
         }
-        Ok(Zones { list })
     }
 
     pub fn names(&self) -> &[Pascal]
@@ -53,22 +64,46 @@ impl<A: Allocator> Zones<A> {
     }
 }
 
-fn are_names(strings: &[Pascal]) -> bool
-    ensures each { OnTrue result (All IsName strings.now) }
-    ensures empty { OnFalse result (Contains strings.now []) }
+/// Why these names are no table, if they are none. This needs no memory.
+pub fn table_fault(names: &[Pascal]) -> Option<ZipFault>
+    ensures fault { result ≡ table_fault names.now }
+    ensures table { result ≡ None → IsTable names.now }
 {
-    for string in strings {
-        if !is_name(string.bytes()) {
-            return false;
-        }
+    if names.len() > MAX_ZONES {
+        return Some(ZipFault::TooManyZones);
     }
-    true
+    if !are_names(names) {
+        return Some(ZipFault::BadZone);
+    }
+    None
 }
 
-fn is_name(bytes: &[u8]) -> bool
+fn copies_of<A: Allocator>(alloc: A, names: &[Pascal]) -> Result<Vec<Pascal, A>, AllocError>
+    ensures { IfOk result (λ copies. copies.items ≡ names.now) }
+{
+    let mut copies = Vec::new(alloc);
+    for name in names {
+        copies.push(Pascal::new(name.bytes()).unwrap())?;
+    }
+    Ok(copies)
+}
+
+fn are_names(names: &[Pascal]) -> bool
+    ensures { result ≡ list_all is_name names.now }
+{
+    names.iter().all(is_name)
+}
+
+/// Whether a string is the name of a zone: it has 1 to 32 bytes.
+pub fn is_name(name: &Pascal) -> bool
+    ensures { result ≡ is_name name.now }
+{
+    is_name_spelled(name.bytes())
+}
+
+fn is_name_spelled(bytes: &[u8]) -> bool
     requires { length bytes.now ≤ 32 }
-    ensures name { OnTrue result (IsName bytes.now) }
-    ensures empty { OnFalse result (bytes.now ≡ []) }
+    ensures { result ≡ is_name bytes.now }
 {
     !bytes.is_empty()
 }

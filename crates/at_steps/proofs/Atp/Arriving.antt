@@ -2,13 +2,14 @@
 use Rattle.std.proofs.Common.{◌≡◌, inl, inr, ℕ, Bool, true, false, cond, List, Option, Some, None, refl, sym, ap, subst, ◌∙◌}
 use Rattle.std.specs.Prelude.{MatchBool, option_map, ◌==◌, ◌||◌}
 use Rattle.std.proofs.lemmas.Bool.{and_parts, eqb-true}
+use Rattle.std.proofs.Math.Bool.{and-false}
 use Rattle.at_ddp.specs.Datagram.{canonical}
 use Rattle.at_atp_frame.specs.Frames.{Content, Request, Response, Release, spelled}
-use Rattle.at_atp_requester.specs.Requests.{heard}
 use Rattle.at_atp.specs.Lawfully.{IsLawfullySent}
-use Rattle.at_atp.specs.Network.{Sent, Happening, packet_at, is_fresh, after}
+use Rattle.at_atp.specs.Network.{Sent, Happening, NoneHolds, packet_at, is_fresh, after}
 use Rattle.at_node.specs.AtpHearing.{AtSocket, Requester, Service, Zones, atp_socket}
-use Rattle.at_node.specs.AtpParts.{AtpState, atp_kind, packet_in, tid_of}
+use Rattle.at_node.specs.AtpParts.{AtpState, asking, atp_kind}
+use Rattle.at_node.specs.Drawing.{drawn_by}
 use Rattle.at_node.specs.Hearing.{Hears, HearsSent}
 use Rattle.at_node.specs.Seats.{at_socket, is_mine}
 use Rattle.at_node.specs.Nodes.{with_atp, NodeState}
@@ -16,6 +17,8 @@ use Rattle.at_node.specs.Outcomes.{Over, over, Outcome, idle}
 use Rattle.at_node.specs.RequesterSocket.{AtRequester}
 use Rattle.at_node.specs.ServiceSocket.{AtService, is_asked}
 use Rattle.at_node.specs.ZoneSocket.{AtZones}
+use Rattle.at_node.specs.ZoneReading.{is_reading}
+use Rattle.at_node.specs.declared.drawing.Draw.TheVariants.{Tid}
 use Rattle.at_node.specs.declared.event.Report.TheVariants as report
 use Rattle.at_node.specs.declared.service.Reply.{Reply}
 use Rattle.at_node.specs.declared.service.Reply.TheVariants as reply
@@ -36,15 +39,18 @@ module _ (A : Type 0) (laws : HearingLaws A) (history : List Happening) (n : Nod
   its_address : (socket : ℕ) → s.to.net ≡ n.seat.net → s.to.node ≡ n.seat.number → s.to.socket ≡ socket → s.to ≡ at_socket n.seat n.seat.number socket
   its_address socket a b e = λ i. record { net = a i; node = b i; socket = e i }
 
-  at_asker : (f : Content) (o : Outcome A AtpState) → s.packet ≡ f → s.to.node ≡ n.seat.number → s.to.socket ≡ 128 →
-      AtRequester n.seat n.atp (tid_of f) (packet_in f) (heard n.atp.requester s.from f) (heard {A = A} n.atp.requester s.from f).step o → IsIts A history n (Gets which) (over (with_atp n) o)
-  at_asker (Request mask xo timer tid user bytes) o is here socket at = ignoring o at
-  at_asker (Release tid) o is here socket at = ignoring o at
-  at_asker (Response place eom sts tid user bytes) o is here socket at =
+  -- what the step of a packet draws is held by no responder
+  abbrev Free : Outcome A AtpState → Type 0
+  Free o = (k : ℕ) → drawn_by o.report ≡ Some (Tid k) → NoneHolds (after A history).responders (asking n.seat.net n.seat.number) k
+
+  at_asker : (f : Content) (o : Outcome A AtpState) → Free o → s.packet ≡ f → s.to.node ≡ n.seat.number → s.to.socket ≡ 128 → AtRequester n.seat n.atp s.from f o → IsIts A history n (Gets which) (over (with_atp n) o)
+  at_asker (Request mask xo timer tid user bytes) o free is here socket at = ignoring o (rw (and-false (is_reading n.atp.reading tid)) at at)
+  at_asker (Release tid) o free is here socket at = ignoring o (rw (and-false (is_reading n.atp.reading tid)) at at)
+  at_asker (Response place eom sts tid user bytes) o free is here socket at =
       let gives = laws.answers history st.timely in
       let p = gives.responded which s place eom sts tid user bytes was_sent fresh is in
       let on_net = requester_on_net n.seat.net (after A history).asked s.to tid s.from st.on_net p.0 in
-      response_happens A laws history n st which s was_sent fresh (its_address 128 on_net here socket) place eom sts tid user bytes is (heard {A = A} n.atp.requester s.from (Response place eom sts tid user bytes)).step o refl at
+      response_happens A laws history n st which s was_sent fresh (its_address 128 on_net here socket) place eom sts tid user bytes is (responder_on_net n.seat.net (after A history).asked s.to tid s.from st.on_net p.0) o free at
 
   at_service : (said : Reply A) (f : Content) (o : Outcome A AtpState) → (is_asked o.report ≡ true → said ≡ reply.Later) → s.packet ≡ f → s.to.node ≡ n.seat.number → s.to.socket ≡ 129 → AtService said n.seat n.atp s.from f o → IsIts A history n (Gets which) (over (with_atp n) o)
   at_service said (Response place eom sts tid user bytes) o later is here socket at = ignoring o at
@@ -75,15 +81,15 @@ module _ (A : Type 0) (laws : HearingLaws A) (history : List Happening) (n : Nod
   at_router o None said has here socket at = ignoring o at
   at_router o (Some table) said has here socket at = at_zone_socket s.packet o table has refl here socket at
 
-  at_mine : (said : Reply A) (o : Outcome A AtpState) → (is_asked o.report ≡ true → said ≡ reply.Later) → s.to.node ≡ n.seat.number → (x y z : Bool) → (s.to.socket == 128) ≡ x → (s.to.socket == 129) ≡ y → (s.to.socket == 6) ≡ z →
+  at_mine : (said : Reply A) (o : Outcome A AtpState) → Free o → (is_asked o.report ≡ true → said ≡ reply.Later) → s.to.node ≡ n.seat.number → (x y z : Bool) → (s.to.socket == 128) ≡ x → (s.to.socket == 129) ≡ y → (s.to.socket == 6) ≡ z →
       AtSocket said n.seat n.atp s.from (cond x (Some Requester) (cond y (Some Service) (cond z (option_map Zones n.atp.table) None))) s.packet o → IsIts A history n (Gets which) (over (with_atp n) o)
-  at_mine said o later here true y z e f g at = at_asker s.packet o refl here (eqb-true s.to.socket 128 e) at
-  at_mine said o later here false true z e f g at = at_service said s.packet o later refl here (eqb-true s.to.socket 129 f) at
-  at_mine said o later here false false true e f g at = at_router o n.atp.table said refl here (eqb-true s.to.socket 6 g) at
-  at_mine said o later here false false false e f g at = ignoring o at
+  at_mine said o free later here true y z e f g at = at_asker s.packet o free refl here (eqb-true s.to.socket 128 e) at
+  at_mine said o free later here false true z e f g at = at_service said s.packet o later refl here (eqb-true s.to.socket 129 f) at
+  at_mine said o free later here false false true e f g at = at_router o n.atp.table said refl here (eqb-true s.to.socket 6 g) at
+  at_mine said o free later here false false false e f g at = ignoring o at
 
-  pub datagram_happens : (said : Reply A) (o : Outcome A NodeState) → (is_asked o.report ≡ true → said ≡ reply.Later) → Hears said n (canonical s.to s.from atp_kind (spelled s.packet)) o → IsIts A history n (Gets which) o
-  datagram_happens said o later h = go (is_mine n.seat s.to) refl heard_so
+  pub datagram_happens : (said : Reply A) (o : Outcome A NodeState) → ((k : ℕ) → drawn_by o.report ≡ Some (Tid k) → NoneHolds (after A history).responders (asking n.seat.net n.seat.number) k) → (is_asked o.report ≡ true → said ≡ reply.Later) → Hears said n (canonical s.to s.from atp_kind (spelled s.packet)) o → IsIts A history n (Gets which) o
+  datagram_happens said o free later h = go (is_mine n.seat s.to) refl heard_so
     where
       heard_so : HearsSent said n s.to s.from s.packet o
       heard_so =
@@ -96,4 +102,4 @@ module _ (A : Type 0) (laws : HearingLaws A) (history : List Happening) (n : Nod
       go : (b : Bool) → is_mine n.seat s.to ≡ b → MatchBool b (Over (with_atp n) (AtSocket said n.seat n.atp s.from (atp_socket n.atp s.to.socket) s.packet) o) (o ≡ idle n report.Ignored) → IsIts A history n (Gets which) o
       go false e g = subst (IsIts A history n (Gets which)) (sym g) (idle_happens A history n (Gets which) st report.Ignored refl refl refl)
       go true e g = subst (IsIts A history n (Gets which)) (sym g.2)
-          (at_mine said g.0 (λ asked. later (ap (λ (x : Outcome A NodeState). is_asked x.report) g.2 ∙ asked)) (here e) (s.to.socket == 128) (s.to.socket == 129) (s.to.socket == 6) refl refl refl g.1)
+          (at_mine said g.0 (λ k is. free k (ap (λ (x : Outcome A NodeState). drawn_by x.report) g.2 ∙ is)) (λ asked. later (ap (λ (x : Outcome A NodeState). is_asked x.report) g.2 ∙ asked)) (here e) (s.to.socket == 128) (s.to.socket == 129) (s.to.socket == 6) refl refl refl g.1)

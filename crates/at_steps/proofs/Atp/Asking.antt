@@ -1,5 +1,5 @@
 -- What the calls that begin a transaction are in the network.
-use Rattle.std.proofs.Common.{◌≡◌, ℕ, ◌<◌, ◌≤◌, Bool, true, false, cond, List, [], ◌∷◌, ◌++◌, length, Option, Some, None, refl, sym, ap, subst, ◌∙◌, arith, lit<, lit≤}
+use Rattle.std.proofs.Common.{◌≡◌, ℕ, ◌/◌, ◌%◌, ◌<◌, ◌≤◌, Bool, true, false, cond, List, [], ◌∷◌, ◌++◌, length, Option, Some, None, refl, sym, ap, subst, ◌∙◌, arith, lit<, lit≤}
 use Rattle.std.specs.Prelude.{◌==◌, ◌||◌, nat_lt}
 use Rattle.std.proofs.lemmas.Bool.{true≢false, false≢true, eq-eqb, eqb-true}
 use Rattle.std.proofs.lemmas.Bool.Decides.{nat_tests}
@@ -11,24 +11,29 @@ use Rattle.at_atp_requester.specs.Answers as arrivals
 use Rattle.at_atp_requester.specs.Requests as requests
 use Rattle.at_atp_requester.specs.Requests.{has_number, next_number, beginning}
 use Rattle.at_atp.specs.Network.{Happening, NoneHolds, after}
+use Rattle.at_zip.specs.Fault as zip
+use Rattle.at_zip.specs.Reading.{place_after}
 use Rattle.at_zip.specs.Request.{request_user}
+use Rattle.at_zip.specs.Zones.{table_fault}
+use Rattle.at_zip.specs.declared.fault.ZipFault.{ZipFault}
 use Rattle.at_node.specs.Calls.{IsCall}
 use Rattle.at_node.specs.Drawing.{drawn_by}
-use Rattle.at_node.specs.AtpParts.{asking, zones_at}
+use Rattle.at_node.specs.AtpParts.{Reading, asking, zones_at}
 use Rattle.at_node.specs.Nodes.{with_atp, NodeState}
-use Rattle.at_node.specs.Outcomes.{over, idle}
+use Rattle.at_node.specs.Outcomes.{over, idle, refused_as}
 use Rattle.at_node.specs.RequesterSocket.{asked_as}
 use Rattle.at_node.specs.Seats.{at_socket}
-use Rattle.at_node.specs.ZoneReading.{reading_begins, zones_called, zone_transaction}
+use Rattle.at_node.specs.ZoneReading.{reading_begins, zones_called, page_transaction}
+use Rattle.at_node.specs.ZoneSocket.{set_zones_called, table_set}
 use Rattle.at_node.specs.declared.drawing.Draw.TheVariants.{Tid}
-use Rattle.at_node.specs.declared.event.Call.TheVariants.{Zones, Ask}
+use Rattle.at_node.specs.declared.event.Call.TheVariants.{Zones, SetZones, Ask}
 use Rattle.at_node.specs.declared.event.Report.{Report}
 use Rattle.at_node.specs.declared.event.Report.TheVariants as report
 use Rattle.at_steps.specs.Acts.{Calls}
 use Rattle.at_steps.specs.AtpHappenings.{Stands, IsOpen}
-use Rattle.at_steps.specs.AtpSteps.{Begins, Reads}
+use Rattle.at_steps.specs.AtpSteps.{Begins, Reads, Sets}
 use Rattle.at_steps.proofs.Atp.Below.{CallLaws}
-use Rattle.at_steps.proofs.Atp.Moves.{IsIts, idle_happens, begun_happens}
+use Rattle.at_steps.proofs.Atp.Moves.{IsIts, idle_happens, begun_happens, table_happens}
 use Rattle.at_steps.proofs.Atp.Stories.{begins_match}
 
 -- ---- numbers that are open
@@ -49,6 +54,27 @@ open_last (u ∷ ts) t = go (u.tid == t.tid) (open_last ts t)
     go true h = refl
     go false h = h
 
+-- a reading whose transaction begins is open
+pub begun_is_open : (q : requests.Requests) (t : requests.Transaction) (mine r : Reading) → mine.tid ≡ t.tid → Some mine ≡ Some r → has_number (requests.begun q t).standing r.tid ≡ true
+begun_is_open q t mine r numbered is =
+    let same : mine ≡ r = cc in
+    subst (λ k. has_number (q.standing ++ t ∷ []) k ≡ true) (sym numbered ∙ ap (λ (x : Reading). x.tid) same) (open_last q.standing t)
+
+-- the request for a page is in range
+pub asks_fit : (names : List (List ℕ)) → IsPacket (record { user = request_user (place_after names); data_ = [] })
+asks_fit names = record {
+  four = refl;
+  user = All-from_recursion (λ b. b < 256) (request_user (place_after names)) (lit< tt, (lit< tt, (high (place_after names), (low (place_after names), tt))));
+  bytes = All-nil (λ b. b < 256);
+  fits = lit≤ tt;
+}
+  where
+    high : (k : ℕ) → k / 256 % 256 < 256
+    high k = omega arith
+
+    low : (k : ℕ) → k % 256 < 256
+    low k = omega arith
+
 -- no responder holds a number that a step with this report draws
 abbrev pub DrawsFree : (A : Type 0) (history : List Happening) (n : NodeState) → Report A → Type 0
 DrawsFree A history n r = (tid : ℕ) → drawn_by r ≡ Some (Tid tid) → NoneHolds (after A history).responders (asking n.seat.net n.seat.number) tid
@@ -62,35 +88,47 @@ module _ (A : Type 0) (laws : CallLaws A) (history : List Happening) (n : NodeSt
 
   -- ---- the zone list
 
-  first_asks : IsPacket (record { user = request_user 1; data_ = [] })
-  first_asks = record { four = refl; user = All-from_recursion (λ b. b < 256) (request_user 1) (lit< tt, (lit< tt, (lit< tt, (lit< tt, tt)))); bytes = All-nil (λ b. b < 256); fits = lit≤ tt }
-
-  reading_is_open : (router tid : ℕ) → IsOpen (record n.atp { requester = requests.begun n.atp.requester (zone_transaction n.seat router tid); reading = Some tid })
-  reading_is_open router tid number is = let same : tid ≡ number = cc in subst (λ i. has_number (n.atp.requester.standing ++ zone_transaction n.seat router tid ∷ []) i ≡ true) same (open_last n.atp.requester.standing (zone_transaction n.seat router tid))
+  reading_is_open : (router tid : ℕ) → IsOpen (record n.atp { requester = requests.begun n.atp.requester (page_transaction (zones_at n.seat.net router) [] tid); reading = Some (record { tid = tid; names = [] }) })
+  reading_is_open router tid r is = begun_is_open n.atp.requester (page_transaction (zones_at n.seat.net router) [] tid) (record { tid = tid; names = [] }) r refl is
 
   reading_begun : (router : ℕ) → n.seat.router ≡ Some router → (drawn : Option ℕ) → next_number n.atp.requester ≡ drawn → DrawsFree A history n (over (with_atp n) (reading_begins {A = A} n.seat n.atp router drawn)).report → IsIts A history n (Calls Zones) (over (with_atp n) (reading_begins n.seat n.atp router drawn))
   reading_begun router is None is_drawn free = idle_happens A history n (Calls Zones) st (report.Refused 14) refl refl refl
   reading_begun router is (Some tid) is_drawn free =
-      begun_happens A history n (Calls Zones) st (zones_at n.seat.net router) (request_user 1) [] 1 false 3 tid (Some tid) is_drawn (free tid refl)
-      (record { who_fits = asking_fits; to_fits = there_fits router 6 (st.small_router router is) (lit< tt); asks = first_asks; few = lit≤ tt })
+      begun_happens A history n (Calls Zones) st (zones_at n.seat.net router) (request_user 1) [] 1 false 3 tid (Some (record { tid = tid; names = [] })) is_drawn (free tid refl)
+      (record { who_fits = asking_fits; to_fits = there_fits router 6 (st.small_router router is) (lit< tt); asks = asks_fit []; few = lit≤ tt })
       refl (reading_is_open router tid)
       (begins_match A n.seat.net n.seat.number (after A history) tid (zones_at n.seat.net router) (request_user 1) [] 1 false 3 Zones refl refl (ap next_number st.requester ∙ is_drawn))
       (Reads (record { tid = tid; server = router; is_router = is; act = refl; report = refl; asked = refl; reading = refl }))
 
-  pub zones_call : (router reading : Option ℕ) → n.seat.router ≡ router → DrawsFree A history n (over (with_atp n) (zones_called {A = A} n.seat n.atp router reading)).report → IsIts A history n (Calls Zones) (over (with_atp n) (zones_called n.seat n.atp router reading))
+  pub zones_call : (router : Option ℕ) (reading : Option Reading) → n.seat.router ≡ router → DrawsFree A history n (over (with_atp n) (zones_called {A = A} n.seat n.atp router reading)).report → IsIts A history n (Calls Zones) (over (with_atp n) (zones_called n.seat n.atp router reading))
   zones_call None reading is free = idle_happens A history n (Calls Zones) st (report.Refused 60) refl refl refl
-  zones_call (Some router) (Some tid) is free = idle_happens A history n (Calls Zones) st (report.Refused 63) refl refl refl
+  zones_call (Some router) (Some r) is free = idle_happens A history n (Calls Zones) st (report.Refused 63) refl refl refl
   zones_call (Some router) None is free = reading_begun router is (next_number n.atp.requester) refl free
+
+  -- ---- the router's table
+
+  table_call : (names table : List (List ℕ)) → n.atp.table ≡ Some table → (fault : Option ZipFault) → table_fault names ≡ fault → IsIts A history n (Calls (SetZones names)) (over (with_atp n) (table_set n.atp names fault))
+  table_call names table has None none =
+      table_happens A history n (Calls (SetZones names)) st names (laws.tables names none) refl (Sets (record { names = names; table = table; act = refl; report = refl; was = has; becomes = refl; is_table = laws.tables names none; asked = refl; reading = refl }))
+  table_call names table has (Some fault) is = refused (zip.number_of fault)
+    where
+      refused : (number : Option ℕ) → IsIts A history n (Calls (SetZones names)) (over (with_atp n) (idle n.atp (refused_as number)))
+      refused None = idle_happens A history n (Calls (SetZones names)) st report.NoMemory refl refl refl
+      refused (Some k) = idle_happens A history n (Calls (SetZones names)) st (report.Refused k) refl refl refl
+
+  pub set_zones_call : (names : List (List ℕ)) (table : Option (List (List ℕ))) → n.atp.table ≡ table → IsIts A history n (Calls (SetZones names)) (over (with_atp n) (set_zones_called n.atp table names))
+  set_zones_call names None has = idle_happens A history n (Calls (SetZones names)) st (report.Refused 60) refl refl refl
+  set_zones_call names (Some table) has = table_call names table has (table_fault names) refl
 
   -- ---- asking
 
   -- a transaction that begins is not the one that reads the list
-  apart_from_reading : (tid : ℕ) → next_number n.atp.requester ≡ Some tid → (reading : ℕ) → n.atp.reading ≡ Some reading → (tid == reading) ≡ false
-  apart_from_reading tid drawn reading is = go (tid == reading) refl
+  apart_from_reading : (tid : ℕ) → next_number n.atp.requester ≡ Some tid → (r : Reading) → n.atp.reading ≡ Some r → (tid == r.tid) ≡ false
+  apart_from_reading tid drawn r is = go (tid == r.tid) refl
     where
-      go : (b : Bool) → (tid == reading) ≡ b → b ≡ false
+      go : (b : Bool) → (tid == r.tid) ≡ b → b ≡ false
       go false e = refl
-      go true e = absurd (true≢false (sym (st.is_open reading is) ∙ ap (has_number n.atp.requester.standing) (sym (eqb-true tid reading e)) ∙ laws.drawn n.atp.requester tid drawn))
+      go true e = absurd (true≢false (sym (st.is_open r is) ∙ ap (has_number n.atp.requester.standing) (sym (eqb-true tid r.tid e)) ∙ laws.drawn n.atp.requester tid drawn))
 
   module _ (node socket : ℕ) (user bytes : List ℕ) (wanted : ℕ) (xo : Bool) (retries : ℕ) (range : IsCall {A = A} (Ask node socket user bytes wanted xo retries)) where
     asked_for : length bytes ≤ 578 → (drawn : Option ℕ) → next_number n.atp.requester ≡ drawn → DrawsFree A history n (over (with_atp n) (asked_as {A = A} n.seat n.atp (at_socket n.seat node socket) user bytes wanted xo retries drawn)).report →
@@ -99,7 +137,7 @@ module _ (A : Type 0) (laws : CallLaws A) (history : List Happening) (n : NodeSt
     asked_for few (Some tid) is_drawn free =
         begun_happens A history n (Calls (Ask node socket user bytes wanted xo retries)) st (at_socket n.seat node socket) user bytes wanted xo retries tid n.atp.reading is_drawn (free tid refl)
         (record { who_fits = asking_fits; to_fits = there_fits node socket range.0 range.1; asks = record { four = range.2; user = range.3; bytes = range.4; fits = few }; few = range.6 })
-        refl (λ number is. open_more n.atp.requester.standing (beginning tid (at_socket n.seat node socket) user bytes wanted xo retries ∷ []) number (st.is_open number is))
+        refl (λ r is. open_more n.atp.requester.standing (beginning tid (at_socket n.seat node socket) user bytes wanted xo retries ∷ []) r.tid (st.is_open r is))
         (begins_match A n.seat.net n.seat.number (after A history) tid (at_socket n.seat node socket) user bytes wanted xo retries (Ask node socket user bytes wanted xo retries) refl refl (ap next_number st.requester ∙ is_drawn))
         (Begins (record {
           tid = tid;

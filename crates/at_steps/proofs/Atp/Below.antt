@@ -6,7 +6,7 @@ use Rattle.at_ddp.specs.Datagram.{canonical, IsAddress, AreBytes}
 use Rattle.at_ddp.specs.declared.address.Address.{Address}
 use Rattle.at_atp_frame.specs.Frames.{Content, IsLawful, spelled, number_of}
 use Rattle.at_atp_frame.specs.Packets.{Packet}
-use Rattle.at_atp_requester.specs.Requests.{Requests, Retried, has_number, next_number, is_finished, heard, retried}
+use Rattle.at_atp_requester.specs.Requests.{Requests, Retried, finishes, has_number, next_number, is_finished, heard, retried}
 use Rattle.at_atp_requester.specs.declared.step.Retry.TheVariants.{Failed}
 use Rattle.at_atp_responder.specs.Records.{Record, is_key, taken, record_fault, asked_for}
 use Rattle.at_atp_responder.specs.declared.reception.Key.{Key}
@@ -14,7 +14,7 @@ use Rattle.at_atp_responder.specs.declared.reception.Reception.TheVariants.{New}
 use Rattle.at_atp.specs.Lawfully.{IsInRange, IsLawfullySent}
 use Rattle.at_atp.specs.Network.{Happening, AllSent, AllTimely, GivesAnswers, after}
 use Rattle.at_zip.specs.Page.{page_of, page_user, page_data}
-use Rattle.at_zip.specs.Zones.{IsTable}
+use Rattle.at_zip.specs.Zones.{IsTable, table_fault}
 use Rattle.at_node.specs.AtpParts.{atp_kind}
 use Rattle.at_node.specs.Hearing.{Hears, HearsSent}
 use Rattle.at_node.specs.Nodes.{NodeState}
@@ -26,6 +26,7 @@ pub record CallLaws (A : Type 0) : Type 0 where
   pub answers : (history : List Happening) → AllTimely A history → GivesAnswers A (after A history)
   pub drawn : (r : Requests) (tid : ℕ) → next_number r ≡ Some tid → has_number r.standing tid ≡ false
   pub few : (o : Option Record) (key : Key) (packets : List Packet) → length (asked_for o key packets) ≤ length packets
+  pub tables : (names : List (List ℕ)) → table_fault names ≡ None → IsTable names
 
 -- a number stays open until its transaction fails
 abbrev pub StaysOpen : Type 0
@@ -40,6 +41,7 @@ pub record HearingLaws (A : Type 0) : Type 0 where
   pub new_waits : (rs : List Record) (from : Address) (f : Content) (key : Key) → (taken rs from f).reception ≡ New key
       → (record_fault (find (is_key key) (taken rs from f).after) ≡ None) × ((taken rs from f).sent ≡ []) × (key ≡ record { from = from; tid = number_of f })
   pub few : (o : Option Record) (key : Key) (packets : List Packet) → length (asked_for o key packets) ≤ length packets
+  pub quiet_end : (r : Requests) (from : Address) (f : Content) → finishes A r from f ≡ true → (heard {A = A} r from f).sent ≡ []
   pub user : (table : List (List ℕ)) (start : ℕ) → AreBytes (page_user (page_of table start))
   pub bytes : (table : List (List ℕ)) (start : ℕ) → IsTable table → AreBytes (page_data (page_of table start))
   pub fits : (table : List (List ℕ)) (start : ℕ) → length (page_data (page_of table start)) ≤ 578

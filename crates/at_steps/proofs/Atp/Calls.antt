@@ -21,12 +21,12 @@ use Rattle.at_node.specs.Outcomes.{over, idle, refused_as}
 use Rattle.at_node.specs.Seats.{at_socket}
 use Rattle.at_node.specs.ServiceSocket.{answered_with}
 use Rattle.at_node.specs.declared.event.Call.{Call}
-use Rattle.at_node.specs.declared.event.Call.TheVariants.{Zones, Ask, Answer, Find, Claim, Finish, Register, Unregister}
+use Rattle.at_node.specs.declared.event.Call.TheVariants.{Zones, SetZones, Ask, Answer, Find, Claim, Finish, Register, Unregister}
 use Rattle.at_node.specs.declared.event.Report.TheVariants as report
 use Rattle.at_steps.specs.Acts.{Act, Calls, is_atp}
 use Rattle.at_steps.specs.AtpSteps as steps
 use Rattle.at_steps.specs.AtpHappenings.{Stands}
-use Rattle.at_steps.proofs.Atp.Asking.{DrawsFree, zones_call, ask_call}
+use Rattle.at_steps.proofs.Atp.Asking.{DrawsFree, zones_call, set_zones_call, ask_call}
 use Rattle.at_steps.proofs.Atp.Below.{CallLaws}
 use Rattle.at_steps.proofs.Atp.Moves.{IsIts, idle_happens, gave_happens, with_service}
 use Rattle.at_steps.proofs.Atp.Stories.{answers_match}
@@ -101,6 +101,7 @@ module _ (A : Type 0) (laws : CallLaws A) (history : List Happening) (n : NodeSt
 
   pub call_happens : (call : Call A) → IsCall call → is_atp (kind_of_call call) ≡ true → DrawsFree A history n (called n call).report → IsIts A history n (Calls call) (called n call)
   call_happens Zones range own free = zones_call A laws history n st n.seat.router n.atp.reading refl free
+  call_happens (SetZones names) range own free = set_zones_call A laws history n st names n.atp.table refl
   call_happens (Ask node socket user bytes wanted xo retries) range own free = ask_call A laws history n st node socket user bytes wanted xo retries range (nat_lt 578 (length bytes)) refl free
   call_happens (Answer node socket tid packets) range own free = answer_call node socket tid packets range (answer_fault n.atp.service_responder (record { from = at_socket n.seat node socket; tid = tid }) packets) refl
   call_happens (Find object kind _) range own free = absurd (cc)

@@ -29,7 +29,7 @@ use Rattle.at_node.specs.Nodes.{NodeState, with_atp, with_names, called, timed}
 use Rattle.at_node.specs.Outcomes.{Outcome, Over, idle, over, refused_as, sent_by}
 use Rattle.at_node.specs.Seats.{is_for_all, is_mine}
 use Rattle.at_node.specs.declared.event.Call.{Call}
-use Rattle.at_node.specs.declared.event.Call.TheVariants.{Zones, Ask, Answer, Find, Claim, Finish, Register, Unregister}
+use Rattle.at_node.specs.declared.event.Call.TheVariants.{Zones, SetZones, Ask, Answer, Find, Claim, Finish, Register, Unregister}
 use Rattle.at_node.specs.declared.event.Report.{Report}
 use Rattle.at_node.specs.declared.event.Report.TheVariants as report
 use Rattle.at_node.specs.declared.event.Timer.{Timer}
@@ -87,6 +87,7 @@ unregistering A n object kind (Some name) = (tt, refl, tt)
 
 pub call_is_foreign : (A : Type 0) (n : NodeState) (call : Call A) → is_atp (kind_of_call call) ≡ false → IsForeign n (Calls call) (called n call)
 call_is_foreign A n Zones h = absurd (true≢false h)
+call_is_foreign A n (SetZones names) h = absurd (true≢false h)
 call_is_foreign A n (Ask node socket user bytes wanted xo retries) h = absurd (true≢false h)
 call_is_foreign A n (Answer node socket tid packets) h = absurd (true≢false h)
 call_is_foreign A n (Find object kind zone) h =

@@ -7,15 +7,16 @@ use Rattle.std.proofs.lemmas.List.{append-nil}
 use Rattle.at_ddp.specs.Address.{same_address}
 use Rattle.at_ddp.specs.declared.address.Address.{Address}
 use Rattle.at_atp_frame.specs.Frames.{Content, spelled_all}
-use Rattle.at_atp_frame.specs.Packets.{Packet}
+use Rattle.at_atp_frame.specs.Packets.{Packet, IsPacket}
 use Rattle.at_atp_requester.specs.Requests as requests
-use Rattle.at_atp_requester.specs.Requests.{Requests, next_number, beginning, request_by}
+use Rattle.at_atp_requester.specs.Requests.{Requests, finishes, heard, next_number, beginning, request_by}
 use Rattle.at_atp_responder.specs.Records.{Record}
 use Rattle.at_atp.specs.Lawfully.{IsInRange, IsAsking}
 use Rattle.at_atp.specs.Network as network
-use Rattle.at_atp.specs.Network.{Network, Happening, Begins, Other, NoneHolds, after, done, put, stamped, with_requester, with_responder, new_transaction, IsTimely}
+use Rattle.at_atp.specs.Network.{Network, Sent, Happening, Begins, Turns, Other, ComesInTime, NoneHolds, ending, number_after, packet_at, after, done, put, stamped, with_requester, with_responder, new_transaction, IsTimely}
 use Rattle.at_atp.specs.Transactions.{Transaction, is_transaction, answered}
-use Rattle.at_node.specs.AtpParts.{AtpState, asking, serving, zones_at, atp_kind}
+use Rattle.at_zip.specs.Zones.{IsTable}
+use Rattle.at_node.specs.AtpParts.{AtpState, Reading, asking, serving, zones_at, atp_kind}
 use Rattle.at_node.specs.Drawing.{drawn_by}
 use Rattle.at_node.specs.Nodes.{NodeState, with_atp}
 use Rattle.at_node.specs.Outcomes.{Outcome, Outgoing, idle, sent_by}
@@ -27,7 +28,7 @@ use Rattle.at_steps.specs.AtpReports.{Matches}
 use Rattle.at_steps.specs.AtpHappenings.{Stands, IsOn, IsOpen, AreEntries, IsHappening, IsForeign, Passes, SendsAtp, numbers_drawn}
 use Rattle.at_steps.specs.AtpSteps.{IsStep, Plain, is_plain}
 use Rattle.at_steps.proofs.Atp.Stories.{is_quiet, other_matches}
-use Rattle.at_steps.proofs.Atp.Values.{put_same, put_itself}
+use Rattle.at_steps.proofs.Atp.Values.{put_here, put_same, put_itself, put_twice}
 
 -- ---- what is sent
 
@@ -47,6 +48,8 @@ entries_foreign event (o ∷ out) all = (all.0, entries_foreign event out all.1)
 
 foreign_is_quiet : (A : Type 0) (r : Report A) (act : Act A) → is_atp (owner_of act r) ≡ false → is_quiet r act ≡ true
 foreign_is_quiet A (report.Begun tid) (Calls call) h = absurd (true≢false h)
+foreign_is_quiet A (report.Begun tid) (Gets which) h = absurd (true≢false h)
+foreign_is_quiet A (report.Begun tid) (Fires time) h = absurd (true≢false h)
 foreign_is_quiet A (report.Answered count) (Calls call) h = absurd (true≢false h)
 foreign_is_quiet A (report.Served count) (Gets which) h = absurd (true≢false h)
 foreign_is_quiet A (report.Asked k user bytes) (Gets which) h = absurd (true≢false h)
@@ -119,7 +122,8 @@ module _ (A : Type 0) (history : List Happening) (n : NodeState) (act : Act A) (
       drawn = no_draw r none;
       on_net = st.on_net;
       is_open = st.is_open;
-      same_table = refl;
+      same_table = λ no. refl;
+      has_table = st.has_table;
       matches = other_matches A n.seat.net n.seat.number (after A history) 0 act r quiet;
     },
     Plain (record { plain = plain; asked = refl; reading = refl }),
@@ -143,7 +147,8 @@ module _ (A : Type 0) (history : List Happening) (n : NodeState) (act : Act A) (
       drawn = sym (append-nil (after A history).drawn) ∙ ap (λ l. (after A history).drawn ++ l) (sym none);
       on_net = st.on_net;
       is_open = subst IsOpen (sym foreign.same) st.is_open;
-      same_table = ap (λ (a : AtpState). a.table) foreign.same;
+      same_table = λ no. ap (λ (a : AtpState). a.table) foreign.same;
+      has_table = λ table is. st.has_table table (sym (ap (λ (a : AtpState). a.table) foreign.same) ∙ is);
       matches = other_matches A n.seat.net n.seat.number (after A history) (length o.out) act o.report quiet;
     },
     refl,
@@ -154,7 +159,7 @@ module _ (A : Type 0) (history : List Happening) (n : NodeState) (act : Act A) (
 
   -- ---- one socket changes
 
-  pub requester_happens : (h : Happening) (x : Requests) (reading : Option ℕ) (sent : List (Address × Content)) (r : Report A) → IsTimely (after A history) h → IsInRange h →
+  pub requester_happens : (h : Happening) (x : Requests) (reading : Option Reading) (sent : List (Address × Content)) (r : Report A) → IsTimely A (after A history) h → IsInRange h →
       done A (after A history) h ≡ with_requester (after A history) (asking n.seat.net n.seat.number) x sent → drawn_by r ≡ None → IsOpen (record n.atp { requester = x; reading = reading }) → Matches n.seat.net n.seat.number (after A history) h act r →
       StepTo A history n act (after A history).asked (record n.atp { requester = x; reading = reading }) r →
       IsIts A history n act (record { report = r; state = with_atp n (record n.atp { requester = x; reading = reading }); out = sent_by (asking n.seat.net n.seat.number) atp_kind (spelled_all sent) })
@@ -172,7 +177,8 @@ module _ (A : Type 0) (history : List Happening) (n : NodeState) (act : Act A) (
       drawn = ap (λ (y : Network). y.drawn) is ∙ no_draw r none;
       on_net = subst (AllByRecursion (IsOn n.seat.net)) (ap (λ (y : Network). y.asked) (sym is)) st.on_net;
       is_open = opened;
-      same_table = refl;
+      same_table = λ no. refl;
+      has_table = st.has_table;
       matches = matches;
     },
     subst (λ ts. StepTo A history n act ts (record n.atp { requester = x; reading = reading }) r) (ap (λ (y : Network). y.asked) (sym is)) step,
@@ -181,7 +187,7 @@ module _ (A : Type 0) (history : List Happening) (n : NodeState) (act : Act A) (
 
   -- the records of a socket that answers become these, and so those of both are these
   responder_happens : (h : Happening) (own : Address) (rs served service : List Record) (sent : List (Address × Content)) (r : Report A) → ((at : Address) → put (after A history).responders own rs at ≡ put (put (after A history).responders (serving n.seat.net n.seat.number) service) (zones_at n.seat.net n.seat.number) served at) →
-      IsTimely (after A history) h → IsInRange h → done A (after A history) h ≡ with_responder (after A history) own rs sent → drawn_by r ≡ None → Matches n.seat.net n.seat.number (after A history) h act r →
+      IsTimely A (after A history) h → IsInRange h → done A (after A history) h ≡ with_responder (after A history) own rs sent → drawn_by r ≡ None → Matches n.seat.net n.seat.number (after A history) h act r →
       StepTo A history n act (after A history).asked (record n.atp { zone_responder = served; service_responder = service }) r →
       IsIts A history n act (record { report = r; state = with_atp n (record n.atp { zone_responder = served; service_responder = service }); out = sent_by own atp_kind (spelled_all sent) })
   responder_happens h own rs served service sent r both timely range is none matches step = (
@@ -198,19 +204,20 @@ module _ (A : Type 0) (history : List Happening) (n : NodeState) (act : Act A) (
       drawn = ap (λ (y : Network). y.drawn) is ∙ no_draw r none;
       on_net = subst (AllByRecursion (IsOn n.seat.net)) (ap (λ (y : Network). y.asked) (sym is)) st.on_net;
       is_open = st.is_open;
-      same_table = refl;
+      same_table = λ no. refl;
+      has_table = st.has_table;
       matches = matches;
     },
     subst (λ ts. StepTo A history n act ts (record n.atp { zone_responder = served; service_responder = service }) r) (ap (λ (y : Network). y.asked) (sym is)) step,
     all_atp own sent,
   )
 
-  pub service_happens : (h : Happening) (rs : List Record) (sent : List (Address × Content)) (r : Report A) → IsTimely (after A history) h → IsInRange h → done A (after A history) h ≡ with_responder (after A history) (serving n.seat.net n.seat.number) rs sent →
+  pub service_happens : (h : Happening) (rs : List Record) (sent : List (Address × Content)) (r : Report A) → IsTimely A (after A history) h → IsInRange h → done A (after A history) h ≡ with_responder (after A history) (serving n.seat.net n.seat.number) rs sent →
       drawn_by r ≡ None → Matches n.seat.net n.seat.number (after A history) h act r → StepTo A history n act (after A history).asked (record n.atp { service_responder = rs }) r →
       IsIts A history n act (record { report = r; state = with_atp n (record n.atp { service_responder = rs }); out = sent_by (serving n.seat.net n.seat.number) atp_kind (spelled_all sent) })
   service_happens h rs sent r timely range is none matches step = responder_happens h (serving n.seat.net n.seat.number) rs n.atp.zone_responder rs sent r (with_service rs) timely range is none matches step
 
-  pub zones_happen : (h : Happening) (rs : List Record) (sent : List (Address × Content)) (r : Report A) → IsTimely (after A history) h → IsInRange h → done A (after A history) h ≡ with_responder (after A history) (zones_at n.seat.net n.seat.number) rs sent →
+  pub zones_happen : (h : Happening) (rs : List Record) (sent : List (Address × Content)) (r : Report A) → IsTimely A (after A history) h → IsInRange h → done A (after A history) h ≡ with_responder (after A history) (zones_at n.seat.net n.seat.number) rs sent →
       drawn_by r ≡ None → Matches n.seat.net n.seat.number (after A history) h act r → StepTo A history n act (after A history).asked (record n.atp { zone_responder = rs }) r →
       IsIts A history n act (record { report = r; state = with_atp n (record n.atp { zone_responder = rs }); out = sent_by (zones_at n.seat.net n.seat.number) atp_kind (spelled_all sent) })
   zones_happen h rs sent r timely range is none matches step = responder_happens h (zones_at n.seat.net n.seat.number) rs rs n.atp.service_responder sent r (with_served rs) timely range is none matches step
@@ -218,7 +225,7 @@ module _ (A : Type 0) (history : List Happening) (n : NodeState) (act : Act A) (
   -- ---- an answer is given at a socket of this node, whose records become these
 
   pub gave_happens : (h : Happening) (r : Report A) (own from : Address) (tid : ℕ) (packets : List Packet) (served service : List Record) (sent : List (Address × Content)) →
-      IsTimely (after A history) h → IsInRange h → (done A (after A history) h).event ≡ (after A history).event → ((who : Address) → (done A (after A history) h).requesters who ≡ (after A history).requesters who) →
+      IsTimely A (after A history) h → IsInRange h → (done A (after A history) h).event ≡ (after A history).event → ((who : Address) → (done A (after A history) h).requesters who ≡ (after A history).requesters who) →
       ((at : Address) → (done A (after A history) h).responders at ≡ put (put (after A history).responders (serving n.seat.net n.seat.number) service) (zones_at n.seat.net n.seat.number) served at) →
       (done A (after A history) h).sent ≡ (after A history).sent ++ stamped (after A history).event own sent → (done A (after A history) h).drawn ≡ (after A history).drawn →
       (done A (after A history) h).asked ≡ answered (after A history).asked from tid packets → drawn_by r ≡ None → Matches n.seat.net n.seat.number (after A history) h act r →
@@ -238,7 +245,8 @@ module _ (A : Type 0) (history : List Happening) (n : NodeState) (act : Act A) (
       drawn = drawn ∙ no_draw r none;
       on_net = subst (AllByRecursion (IsOn n.seat.net)) (sym is_asked) (answered_all (IsOn n.seat.net) (after A history).asked from tid packets st.on_net (λ a on. on));
       is_open = st.is_open;
-      same_table = refl;
+      same_table = λ no. refl;
+      has_table = st.has_table;
       matches = matches;
     },
     subst (λ ts. StepTo A history n act ts (record n.atp { zone_responder = served; service_responder = service }) r) (sym is_asked) step,
@@ -247,7 +255,7 @@ module _ (A : Type 0) (history : List Happening) (n : NodeState) (act : Act A) (
 
   -- ---- a transaction begins
 
-  pub begun_happens : (to : Address) (user bytes : List ℕ) (wanted : ℕ) (xo : Bool) (retries tid : ℕ) (reading : Option ℕ) → next_number n.atp.requester ≡ Some tid → NoneHolds (after A history).responders (asking n.seat.net n.seat.number) tid →
+  pub begun_happens : (to : Address) (user bytes : List ℕ) (wanted : ℕ) (xo : Bool) (retries tid : ℕ) (reading : Option Reading) → next_number n.atp.requester ≡ Some tid → NoneHolds (after A history).responders (asking n.seat.net n.seat.number) tid →
       IsAsking (asking n.seat.net n.seat.number) to user bytes wanted → to.net ≡ n.seat.net → IsOpen (record n.atp { requester = requests.begun n.atp.requester (beginning tid to user bytes wanted xo retries); reading = reading }) →
       Matches n.seat.net n.seat.number (after A history) (Begins (asking n.seat.net n.seat.number) to user bytes wanted xo retries) act (report.Begun tid) →
       StepTo A history n act (new_transaction (asking n.seat.net n.seat.number) (beginning tid to user bytes wanted xo retries) ∷ (after A history).asked) (record n.atp { requester = requests.begun n.atp.requester (beginning tid to user bytes wanted xo retries); reading = reading }) (report.Begun tid) →
@@ -270,7 +278,8 @@ module _ (A : Type 0) (history : List Happening) (n : NodeState) (act : Act A) (
       drawn = ap (λ (y : Network). y.drawn) is;
       on_net = subst (AllByRecursion (IsOn n.seat.net)) (ap (λ (y : Network). y.asked) (sym is)) ((refl, on_net), st.on_net);
       is_open = opened;
-      same_table = refl;
+      same_table = λ no. refl;
+      has_table = st.has_table;
       matches = matches;
     },
     subst (λ ts. StepTo A history n act ts (record n.atp { requester = requests.begun n.atp.requester (beginning tid to user bytes wanted xo retries); reading = reading }) (report.Begun tid)) (ap (λ (y : Network). y.asked) (sym is)) step,
@@ -282,3 +291,97 @@ module _ (A : Type 0) (history : List Happening) (n : NodeState) (act : Act A) (
 
       is : done A (after A history) (Begins (asking n.seat.net n.seat.number) to user bytes wanted xo retries) ≡ network.begun (after A history) (asking n.seat.net n.seat.number) (beginning tid to user bytes wanted xo retries)
       is = ap (λ o. network.begins (after A history) (asking n.seat.net n.seat.number) to user bytes wanted xo retries o) (ap next_number st.requester ∙ drawn)
+
+  -- ---- the router gets another table
+
+  pub table_happens : (names : List (List ℕ)) → IsTable names → is_quiet {A = A} report.TableSet act ≡ true → StepTo A history n act (after A history).asked (record n.atp { table = Some names }) report.TableSet →
+      IsIts A history n act (record { report = report.TableSet; state = with_atp n (record n.atp { table = Some names }); out = [] })
+  table_happens names is_table quiet step = (
+    record {
+      happening = Other 0;
+      timely = tt;
+      in_range = tt;
+      same_event = refl;
+      requesters = requesters_stay;
+      responders = responders_stay;
+      more = [];
+      sent = refl;
+      posts = tt;
+      drawn = no_draw report.TableSet refl;
+      on_net = st.on_net;
+      is_open = st.is_open;
+      same_table = λ no. absurd (true≢false no);
+      has_table = λ table is. let same : names ≡ table = cc in subst IsTable same is_table;
+      matches = other_matches A n.seat.net n.seat.number (after A history) 0 act report.TableSet quiet;
+    },
+    step,
+    tt,
+  )
+
+  -- ---- a packet ends a transaction, and the next one begins
+
+  module _ (which : ℕ) (s : Sent) (user : List ℕ) (times tid : ℕ) (was_sent : packet_at (after A history).sent which ≡ Some s) (to_is : s.to ≡ asking n.seat.net n.seat.number) (ends : finishes A n.atp.requester s.from s.packet ≡ true)
+      (drawn : next_number (heard {A = A} n.atp.requester s.from s.packet).after ≡ Some tid) (nothing : (heard {A = A} n.atp.requester s.from s.packet).sent ≡ []) where
+    its : (after A history).requesters s.to ≡ n.atp.requester
+    its = ap (after A history).requesters to_is ∙ st.requester
+
+    next : requests.Transaction
+    next = beginning tid s.from user [] 1 false times
+
+    pub it_ends : ending A (after A history) (packet_at (after A history).sent which) ≡ Some s
+    it_ends = ap (ending A (after A history)) was_sent ∙ ap (λ b. cond b (Some s) None) (ap (λ r. finishes A r s.from s.packet) its ∙ ends)
+
+    pub it_draws : number_after A (after A history) s ≡ Some tid
+    it_draws = ap (λ r. next_number (heard {A = A} r s.from s.packet).after) its ∙ drawn
+
+    turned : done A (after A history) (Turns which user times) ≡ network.begun (with_requester (after A history) (asking n.seat.net n.seat.number) (heard {A = A} n.atp.requester s.from s.packet).after []) (asking n.seat.net n.seat.number) (beginning tid s.from user [] 1 false times)
+    turned =
+        ap (network.turns A (after A history) user times) it_ends
+        ∙ ap (network.begins (network.hears A (after A history) (Some s)) s.to s.from user [] 1 false times) it_draws
+        ∙ (λ i. network.begun (with_requester (after A history) (to_is i) (heard {A = A} (its i) s.from s.packet).after (heard {A = A} (its i) s.from s.packet).sent) (to_is i) (beginning tid s.from user [] 1 false times))
+        ∙ ap (λ l. network.begun (with_requester (after A history) (asking n.seat.net n.seat.number) (heard {A = A} n.atp.requester s.from s.packet).after l) (asking n.seat.net n.seat.number) (beginning tid s.from user [] 1 false times)) nothing
+
+    pub turned_happens : (reading : Option Reading) → ComesInTime (after A history) which → NoneHolds (after A history).responders (asking n.seat.net n.seat.number) tid → IsPacket (record { user = user; data_ = [] }) → (s.from).net ≡ n.seat.net →
+        IsOpen (record n.atp { requester = requests.begun (heard {A = A} n.atp.requester s.from s.packet).after (beginning tid s.from user [] 1 false times); reading = reading }) →
+        Matches n.seat.net n.seat.number (after A history) (Turns which user times) act (report.Begun tid) →
+        StepTo A history n act (new_transaction (asking n.seat.net n.seat.number) (beginning tid s.from user [] 1 false times) ∷ (after A history).asked) (record n.atp { requester = requests.begun (heard {A = A} n.atp.requester s.from s.packet).after (beginning tid s.from user [] 1 false times); reading = reading }) (report.Begun tid) →
+        IsIts A history n act (record {
+          report = report.Begun tid;
+          state = with_atp n (record n.atp { requester = requests.begun (heard {A = A} n.atp.requester s.from s.packet).after (beginning tid s.from user [] 1 false times); reading = reading });
+          out = sent_by (asking n.seat.net n.seat.number) atp_kind (spelled_all ((s.from, request_by (beginning tid s.from user [] 1 false times)) ∷ []));
+        })
+    turned_happens reading in_time free asks on_net opened matches step = (
+      record {
+        happening = Turns which user times;
+        timely = (
+          in_time,
+          λ x k is drew.
+              let same : s ≡ x = some_sent (sym it_ends ∙ is) in
+              let number : tid ≡ k = some_number (sym it_draws ∙ ap (number_after A (after A history)) same ∙ drew) in
+              subst (λ y. NoneHolds (after A history).responders y k) (sym to_is ∙ ap (λ (y : Sent). y.to) same) (subst (NoneHolds (after A history).responders (asking n.seat.net n.seat.number)) number free),
+        );
+        in_range = asks;
+        same_event = ap (λ (y : Network). y.event) turned;
+        requesters = λ who. ap (λ (y : Network). y.requesters who) turned
+            ∙ put_twice (after A history).requesters (asking n.seat.net n.seat.number) (heard {A = A} n.atp.requester s.from s.packet).after (requests.begun (put (after A history).requesters (asking n.seat.net n.seat.number) (heard {A = A} n.atp.requester s.from s.packet).after (asking n.seat.net n.seat.number)) (beginning tid s.from user [] 1 false times)) who
+            ∙ ap (λ r. put (after A history).requesters (asking n.seat.net n.seat.number) (requests.begun r (beginning tid s.from user [] 1 false times)) who) (put_here (after A history).requesters (asking n.seat.net n.seat.number) (heard {A = A} n.atp.requester s.from s.packet).after);
+        responders = λ at. ap (λ (y : Network). y.responders at) turned ∙ responders_stay at;
+        more = stamped (after A history).event (asking n.seat.net n.seat.number) ((s.from, request_by (beginning tid s.from user [] 1 false times)) ∷ []);
+        sent = ap (λ (y : Network). y.sent) turned ∙ ap (λ l. l ++ stamped (after A history).event (asking n.seat.net n.seat.number) ((s.from, request_by (beginning tid s.from user [] 1 false times)) ∷ [])) (append-nil (after A history).sent);
+        posts = entries_of (after A history).event (asking n.seat.net n.seat.number) ((s.from, request_by (beginning tid s.from user [] 1 false times)) ∷ []);
+        drawn = ap (λ (y : Network). y.drawn) turned;
+        on_net = subst (AllByRecursion (IsOn n.seat.net)) (ap (λ (y : Network). y.asked) (sym turned)) ((refl, on_net), st.on_net);
+        is_open = opened;
+        same_table = λ no. refl;
+        has_table = st.has_table;
+        matches = matches;
+      },
+      subst (λ ts. StepTo A history n act ts (record n.atp { requester = requests.begun (heard {A = A} n.atp.requester s.from s.packet).after (beginning tid s.from user [] 1 false times); reading = reading }) (report.Begun tid)) (ap (λ (y : Network). y.asked) (sym turned)) step,
+      all_atp (asking n.seat.net n.seat.number) ((s.from, request_by (beginning tid s.from user [] 1 false times)) ∷ []),
+    )
+      where
+        some_number : {a b : ℕ} → Some a ≡ Some b → a ≡ b
+        some_number h = cc
+
+        some_sent : {a b : Sent} → Some a ≡ Some b → a ≡ b
+        some_sent h = cc

@@ -4,9 +4,9 @@ use Rattle.std.specs.Prelude.{find, is_none, ◌&&◌}
 use Rattle.std.proofs.lemmas.Bool.{false≢true}
 use Rattle.at_ddp.specs.Address.{same_address}
 use Rattle.at_ddp.specs.declared.address.Address.{Address}
-use Rattle.at_atp.specs.HandUps.{brings, is_drawn}
+use Rattle.at_atp.specs.HandUps.{brings, is_drawn, is_drawn_after}
 use Rattle.at_atp_frame.specs.Frames.{number_of}
-use Rattle.at_atp.specs.Network.{Network, Sent, packet_at, Begins, Answers, Hears, Takes, Serves, Expires, Retries, Other, Happening, done}
+use Rattle.at_atp.specs.Network.{Network, Sent, ending, number_after, packet_at, Begins, Turns, Answers, Hears, Takes, Serves, Expires, Retries, Other, Happening, done}
 use Rattle.at_atp_responder.specs.Once.{is_new_of, same_key}
 use Rattle.at_atp_frame.specs.Packets.{Packet}
 use Rattle.at_atp_responder.specs.Records.{Record, State, Waiting, Answered, Released, is_key, came_again, released, release_came, taken, expiry_fault}
@@ -27,7 +27,7 @@ use Rattle.at_steps.specs.AtpReports.{Matches, Joins, Finishes, Ends, asks_once,
 
 -- an event whose report tells of no beginning, no request, no response and no expiry
 abbrev pub is_quiet : {A : Type 0} → Report A → Act A → Bool
-is_quiet (report.Begun tid) (Calls call) = false
+is_quiet (report.Begun tid) act = false
 is_quiet (report.Answered count) (Calls call) = false
 is_quiet (report.Served count) (Gets which) = false
 is_quiet (report.Asked k user bytes) (Gets which) = false
@@ -36,10 +36,8 @@ is_quiet report.Done (Fires (timer.Release own node socket tid)) = false
 is_quiet r act = true
 
 no_begin : (A : Type 0) (net number : ℕ) (act : Act A) (r : Report A) (key : Key) → is_quiet r act ≡ true → began_under net number act r key ≡ false
-no_begin A net number (Calls call) (report.Begun tid) key q = absurd (false≢true q)
-no_begin A net number (Calls call) r key q = refl
-no_begin A net number (Gets which) r key q = refl
-no_begin A net number (Fires time) r key q = refl
+no_begin A net number act (report.Begun tid) key q = absurd (false≢true q)
+no_begin A net number act r key q = refl
 
 no_hand_up : (A : Type 0) (sent : List (Option Sent)) (act : Act A) (r : Report A) (key : Key) → is_quiet r act ≡ true → handed_up_by sent act r key ≡ false
 no_hand_up A sent (Calls call) r key q = refl
@@ -91,6 +89,20 @@ module _ (A : Type 0) (net number : ℕ) (n : Network) where
   pub begins_match : (tid : ℕ) (to : Address) (user bytes : List ℕ) (wanted : ℕ) (xo : Bool) (retries : ℕ) (call : Call A) → asks_once (Calls call) ≡ xo → asks_for (Calls call) ≡ wanted → next_number (n.requesters (asking net number)) ≡ Some tid →
       Matches net number n (Begins (asking net number) to user bytes wanted xo retries) (Calls call) (report.Begun tid)
   begins_match tid to user bytes wanted xo retries call once many drawn = record { draws_it = λ key. ap (λ o. is_drawn (asking net number) o key) drawn; expires_it = λ at key. refl; hands_up = λ key. refl; takes_in = tt; begins_as = (once, many); answers_as = tt; joins = tt; finishes = tt }
+
+  -- a packet ends a transaction, and the next one begins
+  pub turns_match : (which : ℕ) (s : Sent) (user : List ℕ) (times tid : ℕ) → ending A n (packet_at n.sent which) ≡ Some s → number_after A n s ≡ Some tid → s.to ≡ asking net number →
+      Matches {A = A} net number n (Turns which user times) (Gets which) (report.Begun tid)
+  turns_match which s user times tid ends drawn to_is = record {
+    draws_it = λ key. ap (λ o. is_drawn_after A n o key) ends ∙ ap (λ o. is_drawn s.to o key) drawn ∙ ap (λ who. same_key (record { from = who; tid = tid }) key) to_is;
+    expires_it = λ at key. refl;
+    hands_up = λ key. refl;
+    takes_in = refl;
+    begins_as = (refl, refl);
+    answers_as = tt;
+    joins = tt;
+    finishes = tt;
+  }
 
   module _ (which : ℕ) (s : Sent) (was_sent : packet_at n.sent which ≡ Some s) where
     -- a packet that hands nothing up

@@ -15,7 +15,7 @@ use Rattle.at_atp_responder.specs.Records.{Record, expiry_fault, is_key}
 use Rattle.at_atp_responder.specs.declared.reception.Key.{Key}
 use Rattle.at_atp.specs.Network as network
 use Rattle.at_atp.specs.Network.{Network, Happening, Expires, Retries, after, done, put, with_requester, with_responder}
-use Rattle.at_node.specs.AtpParts.{AtpState, serving, zones_at, asking}
+use Rattle.at_node.specs.AtpParts.{AtpState, Reading, serving, zones_at, asking}
 use Rattle.at_node.specs.Kinds.{kind_of_timer}
 use Rattle.at_node.specs.Nodes.{with_atp, NodeState, timed}
 use Rattle.at_node.specs.Outcomes.{over, Outcome, idle, refused_as}
@@ -48,17 +48,17 @@ failed_sends r tid x is failed = go (find (is_numbered tid) r.standing) is
     go (Some t) g = let same : retried_with r tid t t.retries ≡ x = cc in ap (λ (y : Retried). y.sent) (sym same) ∙ quiet t t.retries (ap (λ (y : Retried). y.step) same ∙ failed)
 
 -- the transaction of this number reads the list
-pub reads_it : (reading : Option ℕ) (tid : ℕ) → is_reading reading tid ≡ true → reading ≡ Some tid
+pub reads_it : (reading : Option Reading) (tid : ℕ) → is_reading reading tid ≡ true → (r : Reading) × (reading ≡ Some r) × (r.tid ≡ tid)
 reads_it None tid h = absurd (false≢true h)
-reads_it (Some number) tid h = ap Some (eqb-true number tid h)
+reads_it (Some r) tid h = (r, refl, eqb-true r.tid tid h)
 
 -- the transaction of this number is not the one that reads the list
-pub reads_another : (reading : Option ℕ) (tid number : ℕ) → is_reading reading tid ≡ false → reading ≡ Some number → (tid == number) ≡ false
-reads_another reading tid number h is = turned (tid == number) refl (ap (λ o. is_reading o tid) (sym is) ∙ h)
+pub reads_another : (reading : Option Reading) (tid : ℕ) (r : Reading) → is_reading reading tid ≡ false → reading ≡ Some r → (tid == r.tid) ≡ false
+reads_another reading tid r h is = turned (tid == r.tid) refl (ap (λ o. is_reading o tid) (sym is) ∙ h)
   where
-    turned : (b : Bool) → (tid == number) ≡ b → (number == tid) ≡ false → b ≡ false
+    turned : (b : Bool) → (tid == r.tid) ≡ b → (r.tid == tid) ≡ false → b ≡ false
     turned false e apart = refl
-    turned true e apart = absurd (true≢false (sym (eq-eqb number tid (sym (eqb-true tid number e))) ∙ apart))
+    turned true e apart = absurd (true≢false (sym (eq-eqb r.tid tid (sym (eqb-true tid r.tid e))) ∙ apart))
 
 -- what comes of a release timer, by which socket it is for
 abbrev pub expired_in : {A : Type 0} → AtpState → List Record → Bool → Bool → Key → Option AtpFault → Outcome A AtpState
@@ -78,10 +78,10 @@ module _ (A : Type 0) (stays : StaysOpen) (history : List Happening) (n : NodeSt
 
   -- a reading whose transaction is another, or asks again, goes on
   goes_on : (r : Retried) → retried n.atp.requester tid ≡ Some r → (r.step ≡ retry.Failed → is_reading n.atp.reading tid ≡ false) → IsOpen (record n.atp { requester = r.after })
-  goes_on r is away number reads = stays n.atp.requester tid number r is (st.is_open number reads) (λ failed. reads_another n.atp.reading tid number (away failed) reads)
+  goes_on r is away read reads = stays n.atp.requester tid read.tid r is (st.is_open read reads) (λ failed. reads_another n.atp.reading tid read (away failed) reads)
 
   nothing_open : (x : Requests) → IsOpen (record n.atp { requester = x; reading = None })
-  nothing_open x number reads = absurd (cc)
+  nothing_open x read reads = absurd (cc)
 
   failing : (r : Retried) → retried n.atp.requester tid ≡ Some r → r.step ≡ retry.Failed → (b : Bool) → is_reading n.atp.reading tid ≡ b → IsIts A history n (Fires (timer.Retry tid)) (over (with_atp n) (after_failing n.atp tid r.after b))
   failing r is failed true e =
@@ -89,7 +89,7 @@ module _ (A : Type 0) (stays : StaysOpen) (history : List Happening) (n : NodeSt
       (is_done r is ∙ ap (with_requester (after A history) (asking n.seat.net n.seat.number) r.after) (failed_sends n.atp.requester tid r is failed)) refl
       (nothing_open r.after)
       (retries_match A n.seat.net n.seat.number (after A history) (asking n.seat.net n.seat.number) tid (Fires (timer.Retry tid)) report.ZonesFailed refl)
-      (Fails (record { time = timer.Retry tid; act = refl; report = refl; tid = tid; reads = reads_it n.atp.reading tid e; asked = refl; reading = refl }))
+      (let it = reads_it n.atp.reading tid e in Fails (record { time = timer.Retry tid; act = refl; report = refl; read = it.0; reads = it.1; asked = refl; reading = refl }))
   failing r is failed false e =
       requester_happens A history n (Fires (timer.Retry tid)) st (Retries (asking n.seat.net n.seat.number) tid) r.after n.atp.reading [] (report.Failed tid) tt asking_fits
       (is_done r is ∙ ap (with_requester (after A history) (asking n.seat.net n.seat.number) r.after) (failed_sends n.atp.requester tid r is failed)) refl

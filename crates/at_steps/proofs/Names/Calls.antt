@@ -25,7 +25,7 @@ use Rattle.at_node.specs.NameCalls.{claimed_as, finished_as, found_as, pattern_a
 use Rattle.at_node.specs.Nodes.{NodeState, called, with_names}
 use Rattle.at_node.specs.Outcomes.{over}
 use Rattle.at_node.specs.declared.event.Call.{Call}
-use Rattle.at_node.specs.declared.event.Call.TheVariants.{Zones, Ask, Answer, Find, Claim, Finish, Register, Unregister}
+use Rattle.at_node.specs.declared.event.Call.TheVariants.{Zones, SetZones, Ask, Answer, Find, Claim, Finish, Register, Unregister}
 use Rattle.at_node.specs.declared.event.Report.TheVariants as report
 use Rattle.at_steps.specs.Acts.{Calls, is_nbp}
 use Rattle.at_steps.specs.NameHappenings.{Stands}
@@ -151,6 +151,7 @@ module _ (A : Type 0) (laws : CallLaws A) (setting : Setting) (history : List Ha
 
   pub call_happens : (call : Call A) → IsCall call → is_nbp (kind_of_call call) ≡ true → IsIts A setting history n (Calls call) (called n call)
   call_happens Zones range its = absurd (cc)
+  call_happens (SetZones names) range its = absurd (cc)
   call_happens (Ask node socket user bytes wanted xo retries) range its = absurd (cc)
   call_happens (Answer node socket tid packets) range its = absurd (cc)
   call_happens (Find object kind zone) range its = finding object kind zone range.0 range.1 range.2 (next_id n.names.lookups) refl

@@ -1,5 +1,5 @@
 -- An event of another protocol leaves the socket for names as it was.
-use Rattle.std.proofs.Common.{◌≡◌, inl, inr, ℕ, Bool, true, false, cond, List, [], ◌∷◌, Option, Some, None, refl, sym, ap, subst, ◌∙◌}
+use Rattle.std.proofs.Common.{◌≡◌, inl, inr, ℕ, ◌+◌, Bool, true, false, cond, List, [], ◌∷◌, ◌++◌, Option, Some, None, refl, sym, ap, subst, ◌∙◌}
 use Rattle.std.specs.Prelude.{MatchBool, find, length, nat_lt, ◌==◌, ◌||◌}
 use Rattle.std.specs.List.{AllByRecursion}
 use Rattle.std.proofs.lemmas.Bool.{true≢false}
@@ -21,23 +21,24 @@ use Rattle.at_atp_responder.specs.declared.reception.Reception.{Reception}
 use Rattle.at_atp_responder.specs.declared.reception.Reception.TheVariants as reception
 use Rattle.at_zip.specs.Fault as zip
 use Rattle.at_zip.specs.Page.{Page}
-use Rattle.at_zip.specs.declared.fault.ZipFault.TheVariants.{TooManyZones}
+use Rattle.at_zip.specs.Zones.{table_fault}
+use Rattle.at_zip.specs.declared.fault.ZipFault.{ZipFault}
 use Rattle.at_node.specs.AtpHearing.{AtSocket, AtpSocket, HearsAt, HearsAtp, Requester, Service, Zones as ZoneSocket, atp_socket}
-use Rattle.at_node.specs.AtpParts.{AtpState, after_heard, asking as asker, atp_kind, packet_in, serving, tid_of, zones_at}
+use Rattle.at_node.specs.AtpParts.{AtpState, Reading, after_heard, asking as asker, asks, atp_kind, packet_in, serving, tid_of, zones_at}
 use Rattle.at_node.specs.Hearing.{Hears, HearsIt, HearsMine}
 use Rattle.at_node.specs.Kinds.{kind_of_call, kind_of_timer}
 use Rattle.at_node.specs.NameCalls.{nbp_kind}
 use Rattle.at_node.specs.NameHearing.{HearsNames}
 use Rattle.at_node.specs.Nodes.{NodeState, called, timed, with_atp, with_names}
 use Rattle.at_node.specs.Outcomes.{Outcome, Over, idle, over, refused_as, sent_by}
-use Rattle.at_node.specs.RequesterSocket.{AtRequester, after_retry, ask_called, asked_as, retry_fired}
+use Rattle.at_node.specs.RequesterSocket.{AtRequester, after_retry, ask_called, asked_as, hears_other, reported_other, retry_fired}
 use Rattle.at_node.specs.Responders.{expired, release_fired, released_report, records_at}
 use Rattle.at_node.specs.Seats.{at_socket, is_for_all, is_mine}
 use Rattle.at_node.specs.ServiceSocket.{AtService, answer_called, answered_with, at_service, sent_by_reply, service_taken}
-use Rattle.at_node.specs.ZoneReading.{EndsReading, Tells, after_failing, faulted_as, is_reading, reading_begins, zones_called}
-use Rattle.at_node.specs.ZoneSocket.{AtZones, at_zones, page_packet, zone_taken}
+use Rattle.at_node.specs.ZoneReading.{AsksOn, ReadsPage, TakesPage, after_failing, is_page, is_reading, names_read, page_transaction, reading_begins, zones_called}
+use Rattle.at_node.specs.ZoneSocket.{AtZones, at_zones, page_packet, set_zones_called, table_set, zone_taken}
 use Rattle.at_node.specs.declared.event.Call.{Call}
-use Rattle.at_node.specs.declared.event.Call.TheVariants.{Zones, Ask, Answer, Find, Claim, Finish, Register, Unregister}
+use Rattle.at_node.specs.declared.event.Call.TheVariants.{Zones, SetZones, Ask, Answer, Find, Claim, Finish, Register, Unregister}
 use Rattle.at_node.specs.declared.event.Report.{Report}
 use Rattle.at_node.specs.declared.event.Report.TheVariants as report
 use Rattle.at_node.specs.declared.event.Timer.{Timer}
@@ -81,10 +82,18 @@ module _ (A : Type 0) (call : Call A) (a : AtpState) where
   reading s router None = call_refused (atp.number_of Full)
   reading s router (Some tid) = ((refl, tt), refl)
 
-  reading_zones : (s : Seat) (router now : Option ℕ) → IsOfAtp A (Calls call) (zones_called s a router now)
+  reading_zones : (s : Seat) (router : Option ℕ) (now : Option Reading) → IsOfAtp A (Calls call) (zones_called s a router now)
   reading_zones s None now = (tt, refl)
-  reading_zones s (Some router) (Some tid) = (tt, refl)
+  reading_zones s (Some router) (Some r) = (tt, refl)
   reading_zones s (Some router) None = reading s router (next_number a.requester)
+
+  setting : (names : List (List ℕ)) (o : Option ZipFault) → IsOfAtp A (Calls call) (table_set a names o)
+  setting names None = (tt, refl)
+  setting names (Some fault) = call_refused (zip.number_of fault)
+
+  setting_zones : (names : List (List ℕ)) (now : Option (List (List ℕ))) → IsOfAtp A (Calls call) (set_zones_called a now names)
+  setting_zones names None = (tt, refl)
+  setting_zones names (Some table) = setting names (table_fault names)
 
   answering : (s : Seat) (key : Key) (packets : List Packet) (o : Option AtpFault) → IsOfAtp A (Calls call) (answered_with s a key packets o)
   answering s key packets None = (all_atp (serving s.net s.number) (spelled_all (asked_for (find (is_key key) a.service_responder) key packets)), refl)
@@ -92,6 +101,7 @@ module _ (A : Type 0) (call : Call A) (a : AtpState) where
 
 pub call_is_foreign : (A : Type 0) (n : NodeState) (call : Call A) → is_nbp (kind_of_call call) ≡ false → IsForeign n (Calls call) (called n call)
 call_is_foreign A n Zones h = atp_foreign A n (Calls Zones) (zones_called n.seat n.atp n.seat.router n.atp.reading) (reading_zones A Zones n.atp n.seat n.seat.router n.atp.reading)
+call_is_foreign A n (SetZones names) h = atp_foreign A n (Calls (SetZones names)) (set_zones_called n.atp n.atp.table names) (setting_zones A (SetZones names) n.atp names n.atp.table)
 call_is_foreign A n (Ask node socket user bytes wanted xo retries) h =
     atp_foreign A n (Calls (Ask node socket user bytes wanted xo retries)) (ask_called n.seat n.atp (at_socket n.seat node socket) user bytes wanted xo retries)
     (asking_bytes A (Ask node socket user bytes wanted xo retries) n.atp n.seat (at_socket n.seat node socket) user bytes wanted xo retries (nat_lt 578 (length bytes)))
@@ -141,27 +151,34 @@ module _ (A : Type 0) (s : Seat) (a : AtpState) (which : ℕ) where
   ignored : (o : Outcome A AtpState) → o ≡ idle a report.Ignored → IsOfAtp A (Gets which) o
   ignored o is = by o (idle a report.Ignored) is (tt, refl)
 
-  hearing : (o : Outcome A AtpState) (h : Heard A) (r : Report A) (now : Option ℕ) → NotOfNames A (Gets which) r → o ≡ after_heard s a h r now → IsOfAtp A (Gets which) o
+  hearing : (o : Outcome A AtpState) (h : Heard A) (r : Report A) (now : Option Reading) → NotOfNames A (Gets which) r → o ≡ after_heard s a h r now → IsOfAtp A (Gets which) o
   hearing o h r now apart is = by o (after_heard s a h r now) is (all_atp (asker s.net s.number) (spelled_all h.sent), apart)
 
-  page_told : (q : Page) (b : Bool) → NotOfNames A (Gets which) (cond b (report.Zones q.names) (faulted_as (zip.number_of TooManyZones)))
-  page_told q true = refl
-  page_told q false = refl
+  other_told : (tid : ℕ) (x : Step A) → NotOfNames A (Gets which) (reported_other tid x)
+  other_told tid step.Ignored = refl
+  other_told tid step.Kept = refl
+  other_told tid step.AskAgain = refl
+  other_told tid (step.Finished packets) = refl
 
-  -- what is told of a page
-  telling : (p : Packet) (r : Report A) → Tells p r → NotOfNames A (Gets which) r
-  telling p r (inl t) = let q = t.names in ap (λ x. is_nbp (owner_of {A = A} (Gets which) x)) t.tells ∙ page_told q q.last
-  telling p r (inr t) = ap (λ x. is_nbp (owner_of {A = A} (Gets which) x)) t.tells
-
-  at_requester : (tid : ℕ) (p : Packet) (h : Heard A) (x : Step A) (o : Outcome A AtpState) → AtRequester s a tid p h x o → IsOfAtp A (Gets which) o
-  at_requester tid p h step.Ignored o at = hearing o h report.Ignored a.reading refl at
-  at_requester tid p h step.Kept o at = hearing o h report.Kept a.reading refl at
-  at_requester tid p h step.AskAgain o at = hearing o h report.Again a.reading refl at
-  at_requester tid p h (step.Finished packets) o at = go (is_reading a.reading tid) at
+  -- what comes of a page
+  paging : (h : Heard A) (from : Address) (names : List (List ℕ)) (q : Page) (o : Outcome A AtpState) → TakesPage s a h from names q o → IsOfAtp A (Gets which) o
+  paging h from names q o = go (nat_lt 1024 (length names + length q.names)) q.last
     where
-      go : (b : Bool) → MatchBool b (EndsReading s a h p o) (o ≡ after_heard s a h (report.Response tid packets) a.reading) → IsOfAtp A (Gets which) o
-      go true g = hearing o h g.told None (telling p g.told g.tells) g.outcome
-      go false g = hearing o h (report.Response tid packets) a.reading refl g
+      go : (long last : Bool) → MatchBool long (o ≡ after_heard s a h (report.ZoneFault 34) None) (MatchBool last (o ≡ after_heard s a h (report.Zones (names ++ q.names)) None) (AsksOn s a h from (names ++ q.names) o)) → IsOfAtp A (Gets which) o
+      go true last t = hearing o h (report.ZoneFault 34) None refl t
+      go false true t = hearing o h (report.Zones (names ++ q.names)) None refl t
+      go false false t = by o (asks s (record a { requester = h.after }) (Some (record { tid = t.tid; names = names ++ q.names })) (page_transaction from (names ++ q.names) t.tid)) t.outcome ((refl, tt), refl)
+
+  reading_page : (h : Heard A) (from : Address) (names : List (List ℕ)) (p : Packet) (o : Outcome A AtpState) → ReadsPage s a h from names p o → IsOfAtp A (Gets which) o
+  reading_page h from names p o (inl t) = paging h from names t.page o t.outcome
+  reading_page h from names p o (inr t) = hearing o h (report.ZoneFault t.number) None refl t.outcome
+
+  at_requester : (from : Address) (f : Content) (o : Outcome A AtpState) → AtRequester s a from f o → IsOfAtp A (Gets which) o
+  at_requester from f o = go (is_page A a from f)
+    where
+      go : (b : Bool) → MatchBool b (ReadsPage s a (heard a.requester from f) from (names_read a.reading) (packet_in f) o) (o ≡ hears_other s a (tid_of f) (heard a.requester from f)) → IsOfAtp A (Gets which) o
+      go true t = reading_page (heard a.requester from f) from (names_read a.reading) (packet_in f) o t
+      go false t = hearing o (heard a.requester from f) (reported_other (tid_of f) (heard {A = A} a.requester from f).step) a.reading (other_told (tid_of f) (heard {A = A} a.requester from f).step) t
 
   full : (b : Bool) (o q : Outcome A AtpState) → o ≡ cond b (idle a (refused_as (atp.number_of Full))) q → IsOfAtp A (Gets which) q → IsOfAtp A (Gets which) o
   full true o q is h = by o (idle a (refused_as (atp.number_of Full))) is (tt, refl)
@@ -207,7 +224,7 @@ module _ (A : Type 0) (s : Seat) (a : AtpState) (which : ℕ) where
       by o (zone_taken s a t (released_report t.reception)) at (all_atp (zones_at s.net s.number) (spelled_all t.sent), released t.reception)
 
   at_a_socket : (said : Reply A) (from : Address) (x : AtpSocket) (f : Content) (o : Outcome A AtpState) → AtSocket said s a from (Some x) f o → IsOfAtp A (Gets which) o
-  at_a_socket said from Requester f o at = at_requester (tid_of f) (packet_in f) (heard a.requester from f) (heard {A = A} a.requester from f).step o at
+  at_a_socket said from Requester f o at = at_requester from f o at
   at_a_socket said from Service f o at = serves said from f o at
   at_a_socket said from (ZoneSocket table) f o at = serves_zones from table f o at
 

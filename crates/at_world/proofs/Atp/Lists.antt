@@ -1,31 +1,46 @@
 -- Lists of transactions, of answers and of readings.
-use Rattle.std.proofs.Common.{◌≡◌, ℕ, zero, suc, Bool, true, false, cond, List, [], ◌∷◌, ◌++◌, Some, refl, sym, subst, ◌∙◌, arith}
+use Rattle.std.proofs.Common.{◌≡◌, ◌⊎◌, inl, inr, ap, ℕ, zero, suc, Bool, true, false, cond, List, [], ◌∷◌, ◌++◌, Some, refl, sym, ◌∙◌, arith}
 use Rattle.std.specs.Prelude.{not, slice_get, ◌==◌}
-use Rattle.std.specs.List.{AllByRecursion, Contains}
-use Rattle.std.proofs.lemmas.Bool.{true≢false, eq-eqb, eqb-true}
+use Rattle.std.specs.List.{Contains}
+use Rattle.std.proofs.lemmas.Bool.{true≢false, and_parts, eq-eqb, eqb-true}
+use Rattle.at_ddp.specs.Address.{same_address}
 use Rattle.at_ddp.specs.declared.address.Address.{Address}
+use Rattle.at_ddp.proofs.Octets.{same_address-true}
 use Rattle.at_atp_frame.specs.Packets.{Packet}
 use Rattle.at_atp.specs.Transactions.{Transaction, is_transaction, transaction_of, answered}
 use Rattle.at_world.specs.AtpGuards.{Reading, since_of, without_reading}
 
--- what holds of each transaction, and of the one that an answer joins, once it joined
-pub answered_all : (P : Transaction → Type 0) (ts : List Transaction) (from : Address) (tid : ℕ) (packets : List Packet) (a : Transaction) → transaction_of ts from tid ≡ Some a → AllByRecursion P ts →
-    (P a → P (record a { answers = a.answers ++ packets ∷ [] })) → AllByRecursion P (answered ts from tid packets)
-answered_all P [] from tid packets a is all joins = tt
-answered_all P (t ∷ ts) from tid packets a is all joins = go (λ g. answered_all P ts from tid packets a g all.1 joins) (is_transaction from tid t) is
-  where
-    go : (transaction_of ts from tid ≡ Some a → AllByRecursion P (answered ts from tid packets)) → (b : Bool) → cond b (Some t) (transaction_of ts from tid) ≡ Some a →
-        AllByRecursion P (cond b (record t { answers = t.answers ++ packets ∷ [] } ∷ ts) (t ∷ answered ts from tid packets))
-    go ih true g = let same : a ≡ t = cc in (subst (λ (x : Transaction). P (record x { answers = x.answers ++ packets ∷ [] })) same (joins (subst P (sym same) all.0)), all.1)
-    go ih false g = (all.0, ih g)
+pub some_transaction : (a b : Transaction) → Some a ≡ Some b → a ≡ b
+some_transaction a b h = cc
 
-pub one_of : (P : Transaction → Type 0) (ts : List Transaction) (from : Address) (tid : ℕ) (a : Transaction) → transaction_of ts from tid ≡ Some a → AllByRecursion P ts → P a
-one_of P [] from tid a is all = absurd (cc)
-one_of P (t ∷ ts) from tid a is all = go (λ g. one_of P ts from tid a g all.1) (is_transaction from tid t) is
+-- a transaction with one answer more
+abbrev pub with_answer : Transaction → List Packet → Transaction
+with_answer t packets = record t { answers = t.answers ++ packets ∷ [] }
+
+-- what becomes of the newest transaction of a number: the answer joins it, or it stays as it was
+abbrev pub Becomes : (from : Address) (tid : ℕ) (packets : List Packet) (who : Address) (k : ℕ) (before after : Transaction) → Type 0
+Becomes from tid packets who k before after = (after ≡ before) ⊎ ((from ≡ who) × (tid ≡ k) × (after ≡ with_answer before packets))
+
+same_number : (t : Transaction) (from who : Address) (tid k : ℕ) → is_transaction from tid t ≡ true → is_transaction who k t ≡ true → (from ≡ who) × (tid ≡ k)
+same_number t from who tid k a b =
+    let x = and_parts (same_address t.requester from) (t.tid == tid) a in
+    let y = and_parts (same_address t.requester who) (t.tid == k) b in
+    (sym (same_address-true t.requester from x.0) ∙ same_address-true t.requester who y.0, sym (eqb-true t.tid tid x.1) ∙ eqb-true t.tid k y.1)
+
+pub answer_joins : (ts : List Transaction) (from : Address) (tid : ℕ) (packets : List Packet) (who : Address) (k : ℕ) (u : Transaction) → transaction_of ts who k ≡ Some u →
+    (v : Transaction) × (transaction_of (answered ts from tid packets) who k ≡ Some v) × Becomes from tid packets who k u v
+answer_joins [] from tid packets who k u is = absurd (cc)
+answer_joins (t ∷ ts) from tid packets who k u is = go (λ g. answer_joins ts from tid packets who k u g) (is_transaction from tid t) (is_transaction who k t) refl refl is
   where
-    go : (transaction_of ts from tid ≡ Some a → P a) → (b : Bool) → cond b (Some t) (transaction_of ts from tid) ≡ Some a → P a
-    go ih true g = let same : t ≡ a = cc in subst P same all.0
-    go ih false g = ih g
+    go : (transaction_of ts who k ≡ Some u → (v : Transaction) × (transaction_of (answered ts from tid packets) who k ≡ Some v) × Becomes from tid packets who k u v) → (b c : Bool) → is_transaction from tid t ≡ b → is_transaction who k t ≡ c → cond c (Some t) (transaction_of ts who k) ≡ Some u →
+        (v : Transaction) × (transaction_of (cond b (with_answer t packets ∷ ts) (t ∷ answered ts from tid packets)) who k ≡ Some v) × Becomes from tid packets who k u v
+    go later true true d e g =
+        let same : t ≡ u = some_transaction t u g in
+        let number = same_number t from who tid k d e in
+        (with_answer t packets, ap (λ x. cond x (Some (with_answer t packets)) (transaction_of ts who k)) e, inr (number.0, number.1, ap (λ (x : Transaction). with_answer x packets) same))
+    go later true false d e g = (u, ap (λ x. cond x (Some (with_answer t packets)) (transaction_of ts who k)) e ∙ g, inl refl)
+    go later false true d e g = (u, ap (λ x. cond x (Some t) (transaction_of (answered ts from tid packets) who k)) e ∙ g, inl refl)
+    go later false false d e g = let rest = later g in (rest.0, ap (λ x. cond x (Some t) (transaction_of (answered ts from tid packets) who k)) e ∙ rest.1, rest.2)
 
 -- the end of a reading leaves the others
 pub others_left : (rs : List Reading) (k j : ℕ) → (k == j) ≡ false → since_of (without_reading rs k) j ≡ since_of rs j
@@ -49,6 +64,3 @@ one_answer x y (suc i, lt, is) = absurd (omega arith)
 pub only_packet : (p q : Packet) (place : ℕ) → slice_get (p ∷ []) place ≡ Some q → p ≡ q
 only_packet p q zero h = cc
 only_packet p q (suc place) h = absurd (cc)
-
-pub some_transaction : (a b : Transaction) → Some a ≡ Some b → a ≡ b
-some_transaction a b h = cc

@@ -11,9 +11,9 @@ use Rattle.at_ddp.proofs.Octets.{same_address-true, same_address_itself}
 use Rattle.at_atp_frame.specs.Packets.{Packet}
 use Rattle.at_atp_responder.specs.Once.{same_key}
 use Rattle.at_atp_responder.specs.declared.reception.Key.{Key}
-use Rattle.at_atp.specs.Askings.{ChangesAsked, Gives, JoinsOne, Leaves, Starts, Joins}
+use Rattle.at_atp.specs.Askings.{ChangesAsked, Gives, BeginsOne, BeginsIt, ByItself, AfterOne, JoinsOne, Leaves, Starts, Joins}
 use Rattle.at_atp.specs.HandUps.{draws}
-use Rattle.at_atp.specs.Network.{Network, Happening, Begins, after, done}
+use Rattle.at_atp.specs.Network.{Network, Happening, Begins, Turns, after, done}
 use Rattle.at_atp.specs.Transactions.{Transaction, is_transaction, transaction_of, answered}
 use Rattle.at_node.specs.declared.event.Report.{Report}
 use Rattle.at_steps.specs.AtpReports.{BeginsAs}
@@ -78,7 +78,7 @@ abbrev pub Changes : Type 0 → Type 0
 Changes A = (n : Network) (h : Happening) → ChangesAsked A n h
 
 -- what happens that does not draw its number leaves this true of it
-pub kept_newest : (A : Type 0) (changes : Changes A) (P : Transaction → Type 0) → IsKept P → (n : Network) (h : Happening) (key : Key) → draws n h key ≡ false → NewestIs P n.asked key → NewestIs P (done A n h).asked key
+pub kept_newest : (A : Type 0) (changes : Changes A) (P : Transaction → Type 0) → IsKept P → (n : Network) (h : Happening) (key : Key) → draws A n h key ≡ false → NewestIs P n.asked key → NewestIs P (done A n h).asked key
 kept_newest A changes P stays n h key apart newest = go (changes n h)
   where
     go : ChangesAsked A n h → NewestIs P (done A n h).asked key
@@ -86,17 +86,28 @@ kept_newest A changes P stays n h key apart newest = go (changes n h)
     go (Starts b) = subst (λ ts. NewestIs P ts key) (sym b.asked) (newest.0, ap (λ x. cond x (Some b.transaction) (transaction_of n.asked key.from key.tid)) (sym (b.draws_its key) ∙ apart) ∙ newest.1, newest.2)
     go (Joins j) = subst (λ ts. NewestIs P ts key) (sym j.asked) (answered_newest P stays n.asked (j.key).from (j.key).tid j.packets key newest)
 
+-- what begins is as its event asks
+as_asked : (A : Type 0) (net : ℕ) (n : Network) (h : Happening) (e : Event A) (r : Report A) (key : Key) → Matches net n h e r → draws A n h key ≡ true → (b : BeginsOne A n h) → Asks (asks_once e, asks_for e) b.transaction
+as_asked A net n h e r key m drawn b = go b.begins
+  where
+    go : BeginsIt A n h b.transaction b.retries → Asks (asks_once e, asks_for e) b.transaction
+    go (ByItself is) =
+        let begun : BeginsAs (Begins (b.transaction).requester (b.transaction).responder (b.transaction).user (b.transaction).data_ (b.transaction).wanted (b.transaction).xo b.retries) (act_of e) = subst (λ x. BeginsAs x (act_of e)) is m.begins_as in
+        (sym begun.0, sym begun.1)
+    go (AfterOne f) =
+        let turned : BeginsAs (Turns f.which (b.transaction).user b.retries) (act_of e) = subst (λ x. BeginsAs x (act_of e)) f.turns m.begins_as in
+        (f.not_xo ∙ sym turned.0, f.one_wanted ∙ sym turned.1)
+
 -- what draws its number begins one
-drawn_newest : (A : Type 0) (changes : Changes A) (net : ℕ) (n : Network) (h : Happening) (e : Event A) (r : Report A) (key : Key) → Matches net n h e r → draws n h key ≡ true → NewestIs (Asks (asks_once e, asks_for e)) (done A n h).asked key
+drawn_newest : (A : Type 0) (changes : Changes A) (net : ℕ) (n : Network) (h : Happening) (e : Event A) (r : Report A) (key : Key) → Matches net n h e r → draws A n h key ≡ true → NewestIs (Asks (asks_once e, asks_for e)) (done A n h).asked key
 drawn_newest A changes net n h e r key m drawn = go (changes n h)
   where
     go : ChangesAsked A n h → NewestIs (Asks (asks_once e, asks_for e)) (done A n h).asked key
     go (Leaves l) = absurd (false≢true (sym (l.draws_none key) ∙ drawn))
     go (Joins j) = absurd (false≢true (sym (j.draws_none key) ∙ drawn))
     go (Starts b) =
-        let begun : BeginsAs (Begins (b.transaction).requester (b.transaction).responder (b.transaction).user (b.transaction).data_ (b.transaction).wanted (b.transaction).xo b.retries) (act_of e) = subst (λ x. BeginsAs x (act_of e)) b.begins m.begins_as in
         subst (λ ts. NewestIs (Asks (asks_once e, asks_for e)) ts key) (sym b.asked)
-        (b.transaction, ap (λ x. cond x (Some b.transaction) (transaction_of n.asked key.from key.tid)) (sym (b.draws_its key) ∙ drawn), (sym begun.0, sym begun.1))
+        (b.transaction, ap (λ x. cond x (Some b.transaction) (transaction_of n.asked key.from key.tid)) (sym (b.draws_its key) ∙ drawn), as_asked A net n h e r key m drawn b)
 
 pub once_newest : (A : Type 0) (changes : Changes A) (net : ℕ) (past : List (Played A)) (hs : List Happening) (key : Key) → Told A net past hs → is_once net past key ≡ true → NewestIs (Asks (true, wanted_by net past key)) (after A hs).asked key
 once_newest A changes net [] hs key told once = absurd (false≢true once)
@@ -156,7 +167,7 @@ answered_from (t ∷ ts) from tid packets key answer h = go (λ g. answered_from
     go later false false d e u is among = there e (later (u, sym (ap (λ x. cond x (Some t) (transaction_of (answered ts from tid packets) key.from key.tid)) e) ∙ is, among))
 
 -- an answer of the newest transaction of a key was there, or was given now
-pub had_or_gave : (A : Type 0) (changes : Changes A) (n : Network) (h : Happening) (key : Key) (answer : List Packet) → draws n h key ≡ false → Has (done A n h).asked key answer → Has n.asked key answer ⊎ Gives n h key answer
+pub had_or_gave : (A : Type 0) (changes : Changes A) (n : Network) (h : Happening) (key : Key) (answer : List Packet) → draws A n h key ≡ false → Has (done A n h).asked key answer → Has n.asked key answer ⊎ Gives n h key answer
 had_or_gave A changes n h key answer apart has = go (changes n h)
   where
     given : (j : JoinsOne A n h) → Has n.asked key answer ⊎ ((same_key (record { from = (j.key).from; tid = (j.key).tid }) key ≡ true) × (j.packets ≡ answer)) → Has n.asked key answer ⊎ Gives n h key answer
@@ -171,7 +182,7 @@ had_or_gave A changes n h key answer apart has = go (changes n h)
     go (Joins j) = given j (answered_from n.asked (j.key).from (j.key).tid j.packets key answer (subst (λ ts. Has ts key answer) j.asked has))
 
 -- a transaction that begins has no answer
-pub none_yet : (A : Type 0) (changes : Changes A) (n : Network) (h : Happening) (key : Key) (answer : List Packet) → draws n h key ≡ true → Has (done A n h).asked key answer → ⊥
+pub none_yet : (A : Type 0) (changes : Changes A) (n : Network) (h : Happening) (key : Key) (answer : List Packet) → draws A n h key ≡ true → Has (done A n h).asked key answer → ⊥
 none_yet A changes n h key answer drawn has = go (changes n h)
   where
     empty : (new t : Transaction) → new.answers ≡ [] → Some new ≡ Some t → Contains t.answers answer → ⊥

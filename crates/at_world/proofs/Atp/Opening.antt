@@ -1,40 +1,22 @@
 -- The tie of the part of ATP and ZIP before anything happened.
-use Rattle.std.proofs.Common.{◌≡◌, ℕ, ◌+◌, ◌≤◌, Bool, true, false, cond, List, [], ◌∷◌, length, map, Some, None, refl, sym, ap, subst, ◌∙◌, arith}
+use Rattle.std.proofs.Common.{◌≡◌, ℕ, ◌+◌, ◌≤◌, Bool, true, false, cond, List, [], ◌∷◌, map, Some, None, refl, sym, ap, subst, ◌∙◌, arith}
 use Rattle.std.specs.Prelude.{find, option_map, count_by, ◌==◌, ◌&&◌}
-use Rattle.std.specs.List.{list_all, AllByRecursion}
-use Rattle.std.proofs.lemmas.Bool.{and_parts, eqb-true}
-use Rattle.std.proofs.lemmas.List.{length-append}
-use Rattle.std.proofs.lemmas.List.Elements.{All-from_recursion}
+use Rattle.std.proofs.lemmas.Bool.{eqb-true}
 use Rattle.std.proofs.lemmas.List.Sums.{sum_by-cons}
 use Rattle.at_ddp.specs.declared.address.Address.{Address}
 use Rattle.at_atp_requester.specs.Requests.{no_requests}
-use Rattle.at_zip.specs.Names.{spelled}
-use Rattle.at_zip.specs.Zones.{IsName}
+use Rattle.at_node.specs.AtpParts.{Reading}
 use Rattle.at_node.specs.Nodes.{NodeState, opening}
 use Rattle.at_world.specs.declared.setup.NodeSetup.{NodeSetup}
 use Rattle.at_world.specs.declared.setup.Setup.{Setup}
 use Rattle.at_world.specs.AtpGuards as atp
 use Rattle.at_world.specs.Cables as cables
 use Rattle.at_world.specs.Plays.{neighbours_of, router_of, opening_node, opening_world}
-use Rattle.at_world.specs.Setups.{is_name, spelled_len, is_lawful}
+use Rattle.at_world.specs.Setups.{is_lawful}
 use Rattle.at_world.specs.Worlds.{is_numbered}
 use Rattle.at_world.proofs.Atp.Places.{requester_of, requester_at, service_of, served_of, records_at}
 use Rattle.at_world.proofs.Atp.Tie.{IsReading, AtpTie}
-use Rattle.at_world.proofs.LawfulSetups.{is_a_name, lawful_has}
-use Rattle.at_world.proofs.SetupLemmas.{spelled_len-cons}
-
-names_are : (names : List (List ℕ)) → list_all is_name names ≡ true → AllByRecursion IsName names
-names_are [] h = tt
-names_are (name ∷ names) h = let parts = and_parts (is_name name) (list_all is_name names) h in (is_a_name name parts.0, names_are names parts.1)
-
--- each name takes a byte at least
-spelled_as_counted : (names : List (List ℕ)) → length (spelled names) ≡ spelled_len names
-spelled_as_counted [] = refl
-spelled_as_counted (name ∷ names) = let rest = spelled_as_counted names in omega (arith, rest, length-append name (spelled names), spelled_len-cons name names)
-
-few_names : (names : List (List ℕ)) → length names ≤ spelled_len names
-few_names [] = omega arith
-few_names (name ∷ names) = let rest = few_names names in omega (arith, rest, spelled_len-cons name names)
+use Rattle.at_world.proofs.LawfulSetups.{SetupLaws, lawful_has}
 
 routers-cons : (x : NodeSetup) (ns : List NodeSetup) → count_by (λ n. n.router) (x ∷ ns) ≡ cond x.router 1 0 + count_by (λ n. n.router) ns
 routers-cons x ns = sum_by-cons (λ (n : NodeSetup). cond n.router 1 0) x ns
@@ -130,16 +112,14 @@ module _ (A : Type 0) (s : Setup A) where
       go true false true = sym (nothing_served s.nodes at.node)
       go true false false = refl
 
-  none_read : {P : Type 0} (tid : ℕ) → None ≡ Some tid → P
-  none_read tid h = absurd (cc)
+  none_read : {P : Type 0} (read : Reading) → None ≡ Some read → P
+  none_read read h = absurd (cc)
 
-  pub atp_at_opening : is_lawful s ≡ true → (t : AtpTie A (opening_world s) (cables.opening s) [] (atp.opening s)) × (t.history ≡ [])
-  atp_at_opening ok =
-      let law = lawful_has A s ok in
-      let small = law.small in (
+  pub atp_at_opening : SetupLaws → is_lawful s ≡ true → (t : AtpTie A (opening_world s) (cables.opening s) [] (atp.opening s)) × (t.history ≡ [])
+  atp_at_opening laws ok =
+      let law = lawful_has A s ok in (
         record {
-          table = record { each = All-from_recursion IsName s.zones (names_are s.zones law.names); count = omega (arith, few_names s.zones, small) };
-          small = omega (arith, spelled_as_counted s.zones, small);
+          table = laws.is_a_table s.zones law.table;
           history = [];
           timely = tt;
           in_range = tt;
@@ -150,9 +130,8 @@ module _ (A : Type 0) (s : Setup A) where
           drawn = tt;
           asked = refl;
           tables = λ k n is t has. (table_is s.nodes k n is t has, router_is s.nodes law.one k n is t has);
-          opened = λ k n is tid reads. none_read tid (sym (nothing_read s.nodes k n is) ∙ reads);
+          opened = λ k n is read reads. none_read read (sym (nothing_read s.nodes k n is) ∙ reads);
           readings = λ k n is. subst (IsReading (cables.opening s) (atp.opening s) k) (sym (nothing_read s.nodes k n is)) tt;
-          pages = tt;
           on_net = tt;
         },
         refl,

@@ -1,29 +1,24 @@
 -- What ties a world to what the machine knows of transactions and of the zone list, through a history of the network of
 -- its requesters and responders.
-use Rattle.std.proofs.Common.{◌≡◌, ℕ, ◌+◌, ◌^◌, ◌<◌, ◌≤◌, true, false, cond, List, [], ◌∷◌, ◌++◌, length, map, Option, Some, None, refl, sym, ap, subst, ◌∙◌}
+use Rattle.std.proofs.Common.{◌≡◌, ℕ, ◌+◌, true, false, cond, List, [], ◌∷◌, ◌++◌, map, Option, Some, None, refl, sym, ap, subst, ◌∙◌}
 use Rattle.std.specs.Prelude.{◌==◌}
-use Rattle.std.specs.List.{AllByRecursion, Contains}
+use Rattle.std.specs.List.{AllByRecursion}
 use Rattle.at_ddp.specs.Address.{same_address}
 use Rattle.at_ddp.specs.Datagram.{canonical, IsAddress}
 use Rattle.at_ddp.specs.declared.address.Address.{Address}
 use Rattle.at_atp_frame.specs.Frames.{Content, IsLawful, spelled, owner, number_of}
-use Rattle.at_atp_frame.specs.Packets.{Packet}
 use Rattle.at_atp.specs.Lawfully.{IsInRange, IsLawfullySent}
 use Rattle.at_atp.specs.Network.{Sent, AllSent, Happening, NoneHolds, after, done, put, is_fresh, packet_at, AllTimely}
-use Rattle.at_atp.specs.Transactions.{Transaction, Asked, answered}
-use Rattle.at_zip.specs.Names as names
-use Rattle.at_zip.specs.Page.{Page, IsLawful as IsLawfulPage, page_of, page_user, page_data}
-use Rattle.at_zip.specs.Request.{RequestSpells, request_user}
+use Rattle.at_atp.specs.Transactions.{Transaction}
 use Rattle.at_zip.specs.Zones.{IsTable}
 use Rattle.at_node.specs.Calls.{IsCall}
 use Rattle.at_node.specs.Drawing.{Carries, drawn_by, holds}
-use Rattle.at_node.specs.AtpParts.{asking, serving, zones_at, atp_kind}
+use Rattle.at_node.specs.AtpParts.{Reading as ZoneReading, asking, serving, zones_at, atp_kind}
 use Rattle.at_node.specs.Hearing.{Hears}
 use Rattle.at_node.specs.Kinds.{kind_of_call, kind_of_timer}
 use Rattle.at_node.specs.Nodes.{NodeState, called, timed}
 use Rattle.at_node.specs.Outcomes.{Outcome, Outgoing, posted}
 use Rattle.at_node.specs.ServiceSocket.{is_asked}
-use Rattle.at_node.specs.ZoneReading.{Tells, told_by}
 use Rattle.at_node.specs.declared.drawing.Draw.{Draw}
 use Rattle.at_node.specs.declared.drawing.Draw.TheVariants.{Tid}
 use Rattle.at_node.specs.declared.event.Call.{Call}
@@ -34,7 +29,6 @@ use Rattle.at_node.specs.declared.service.Reply.TheVariants.{Later}
 use Rattle.at_steps.specs.Acts.{Act, Calls, Fires, Gets, is_atp}
 use Rattle.at_steps.specs.AtpHappenings.{AreEntries, Happens, HoldsNo, IsForeign, IsHappening, IsOn, IsOpen, Passes, Stands, numbers_drawn}
 use Rattle.at_world.specs.Draws.{noted as noted_in}
-use Rattle.at_steps.specs.AtpSteps.{page_answer}
 use Rattle.at_world.specs.AtpGuards.{AtpMachine, Reading, StepBy, since_of, next}
 use Rattle.at_world.specs.Cables.{Cable, owner_of}
 use Rattle.at_world.specs.Events.{act_of, node_of}
@@ -43,6 +37,7 @@ use Rattle.at_world.specs.Worlds.{WorldState, node_at, recorded}
 use Rattle.at_world.specs.declared.event.Event.{Event}
 use Rattle.at_world.proofs.CableTie.{Wire, wire, SeatTie, found_after}
 use Rattle.at_world.proofs.Atp.Places.{requester_at, requester_after, records_at, records_after}
+use Rattle.at_world.proofs.Atp.Readings.{ReadingLaws, Reads, StaysAsked, still_reads}
 use Rattle.at_world.proofs.Atp.Times.{IsNoted, all_noted, drawn_too}
 
 -- what the layers below promise
@@ -53,25 +48,19 @@ pub record Laws (A : Type 0) : Type 0 where
   pub called : (history : List Happening) (n : NodeState) (call : Call A) → Stands A history n.seat.net n.seat.number n → IsCall call → is_atp (kind_of_call call) ≡ true → ((tid : ℕ) → drawn_by (called n call).report ≡ Some (Tid tid) → NoneHolds (after A history).responders (asking n.seat.net n.seat.number) tid)
       → IsHappening A history n.seat.net n.seat.number n (Calls call) (called n call)
   pub timed : (history : List Happening) (n : NodeState) (time : Timer) → Stands A history n.seat.net n.seat.number n → is_atp (kind_of_timer time) ≡ true → IsHappening A history n.seat.net n.seat.number n (Fires time) (timed n time)
-  pub heard : (history : List Happening) (n : NodeState) (which : ℕ) (s : Sent) (said : Reply A) (o : Outcome A NodeState) → Stands A history n.seat.net n.seat.number n → packet_at (after A history).sent which ≡ Some s → is_fresh (after A history).drawn s ≡ true → (is_asked o.report ≡ true → said ≡ Later)
+  pub heard : (history : List Happening) (n : NodeState) (which : ℕ) (s : Sent) (said : Reply A) (o : Outcome A NodeState) → Stands A history n.seat.net n.seat.number n → packet_at (after A history).sent which ≡ Some s → is_fresh (after A history).drawn s ≡ true → ((tid : ℕ) → drawn_by o.report ≡ Some (Tid tid) → NoneHolds (after A history).responders (asking n.seat.net n.seat.number) tid) → (is_asked o.report ≡ true → said ≡ Later)
       → Hears said n (canonical s.to s.from atp_kind (spelled s.packet)) o → IsHappening A history n.seat.net n.seat.number n (Gets which) o
   pub passes : (history : List Happening) (n : NodeState) (act : Act A) (o : Outcome A NodeState) → Stands A history n.seat.net n.seat.number n → IsForeign n act o → Passes A history n.seat.net n.seat.number n act o
   pub unheld : (net k tid : ℕ) (n : NodeState) → holds n k (Tid tid) ≡ false → HoldsNo (asking net k) tid n.atp.service_responder × HoldsNo (asking net k) tid n.atp.zone_responder
   pub carries : (to from : Address) (f : Content) → IsAddress to → IsAddress from → IsLawful f → Carries (canonical to from atp_kind (spelled f)) (owner from to f).node (Tid (number_of f))
   pub lawful_sent : (history : List Happening) → AllByRecursion IsInRange history → AllSent IsLawfullySent (after A history).sent
-  pub joins : (ts : List Transaction) (from : Address) (tid : ℕ) (packets : List Packet) (who : Address) (k : ℕ) (responder : Address) (a : Asked ts who k responder)
-      → (b : Asked (answered ts from tid packets) who k responder) × (b.transaction.user ≡ a.transaction.user)
-  pub told : (p : Page) (r : Report A) → IsLawfulPage p → Tells (record { user = page_user p; data_ = page_data p }) r → r ≡ told_by p
-  pub asks : (start : ℕ) → 1 ≤ start → start < 2 ^ 16 → RequestSpells (request_user start) start
-  pub one_start : (user : List ℕ) (m k : ℕ) → RequestSpells user m → RequestSpells user k → m ≡ k
-  pub lawful : (table : List (List ℕ)) (start : ℕ) → IsTable table → IsLawfulPage (page_of table start)
-  pub whole : (table : List (List ℕ)) → length (names.spelled table) ≤ 578 → page_of table 1 ≡ record { last = true; names = table }
+  pub reading : ReadingLaws
 
 -- ---- what is known of a world
 
 -- a node that has a zone table is the router, and the table is the machine's
-abbrev pub HasTable : Cable → AtpMachine → ℕ → NodeState → Type 0
-HasTable c m k n = (t : List (List ℕ)) → n.atp.table ≡ Some t → (t ≡ m.table) × (c.router ≡ Some k)
+abbrev pub HasTable : Cable → List (List ℕ) → ℕ → NodeState → Type 0
+HasTable c table k n = (t : List (List ℕ)) → n.atp.table ≡ Some t → (t ≡ table) × (c.router ≡ Some k)
 
 -- a packet as it was sent
 abbrev pub wire_of : Sent → Wire
@@ -94,26 +83,12 @@ entries_both (x ∷ xs) xs' (y ∷ ys) ys' a b = (a.0, entries_both xs xs' ys ys
 entries_both [] xs' (y ∷ ys) ys' a b = absurd a
 entries_both (x ∷ xs) xs' [] ys' a b = absurd a
 
--- a node that reads the list has a transaction that asked the router for the first page
-pub record Reads (net : ℕ) (router : Option ℕ) (asked : List Transaction) (readings : List Reading) (k tid : ℕ) : Type 0 where
-  pub server : ℕ
-  pub is_router : router ≡ Some server
-  pub first : Asked asked (asking net k) tid (zones_at net server)
-  pub user : (first.transaction).user ≡ request_user 1
-  pub since : ℕ
-  pub began : since_of readings k ≡ Some since
-
-abbrev pub IsReading : Cable → AtpMachine → ℕ → Option ℕ → Type 0
+abbrev pub IsReading : Cable → AtpMachine → ℕ → Option ZoneReading → Type 0
 IsReading c m k None = Unit {0}
-IsReading c m k (Some tid) = Reads c.net c.router m.asked m.readings k tid
-
--- the answers to what asked the router are pages of its table
-abbrev pub PagesOf : Cable → AtpMachine → Transaction → Type 0
-PagesOf c m t = (server : ℕ) (answer : List Packet) → c.router ≡ Some server → t.responder ≡ zones_at c.net server → Contains t.answers answer → (start : ℕ) × RequestSpells t.user start × (answer ≡ page_answer m.table start)
+IsReading c m k (Some r) = Reads c.net c.router m.past m.asked m.readings k r
 
 pub record AtpTie (A : Type 0) (w : WorldState) (c : Cable) (wires : List Wire) (m : AtpMachine) : Type 0 where
   pub table : IsTable m.table
-  pub small : length (names.spelled m.table) ≤ 578
   pub history : List Happening
   pub timely : AllTimely A history
   pub in_range : AllByRecursion IsInRange history
@@ -123,15 +98,14 @@ pub record AtpTie (A : Type 0) (w : WorldState) (c : Cable) (wires : List Wire) 
   pub sent : Entries wires (after A history).sent
   pub drawn : AllByRecursion (IsNoted w.last w.events) (after A history).drawn
   pub asked : (after A history).asked ≡ m.asked
-  pub tables : (k : ℕ) (n : NodeState) → node_at w k ≡ Some n → HasTable c m k n
+  pub tables : (k : ℕ) (n : NodeState) → node_at w k ≡ Some n → HasTable c m.table k n
   pub opened : (k : ℕ) (n : NodeState) → node_at w k ≡ Some n → IsOpen n.atp
   pub readings : (k : ℕ) (n : NodeState) → node_at w k ≡ Some n → IsReading c m k n.atp.reading
-  pub pages : AllByRecursion (PagesOf c m) m.asked
   pub on_net : AllByRecursion (IsOn c.net) m.asked
 
--- the machine a moment later, with these transactions and readings
-abbrev pub moved : AtpMachine → List Transaction → List Reading → AtpMachine
-moved m asked readings = next (record m { asked = asked; readings = readings })
+-- the machine a moment later, with this table, and these transactions and readings
+abbrev pub moved : AtpMachine → List (List ℕ) → List Transaction → List Reading → AtpMachine
+moved m table asked readings = next (record m { table = table; asked = asked; readings = readings })
 
 pub put_same : {X : Type 0} (f g : Address → X) (at : Address) (x : X) (a : Address) → f a ≡ g a → put f at x a ≡ put g at x a
 put_same f g at x a same = ap (λ y. cond (same_address at a) x y) same
@@ -150,12 +124,15 @@ entries_of event event' (o ∷ out) [] same all = absurd all
 -- What a step does to what the machine knows: which transactions and readings there are after it, as far as the tie of
 -- the nodes needs it. The step is of node k, which becomes x.
 pub record Becomes (A : Type 0) (c : Cable) (m : AtpMachine) (e : Event A) (x : NodeState) (r : Report A) (asked : List Transaction) : Type 0 where
+  pub table : List (List ℕ)
+  pub is_table : IsTable table
   pub readings : List Reading
-  pub allows : StepBy c m e r (moved m asked readings) (owner_of e r)
-  pub reading : IsReading c (moved m asked readings) (node_of e) x.atp.reading
+  pub allows : StepBy c m e r (moved m table asked readings) (owner_of e r)
+  pub here : HasTable c table (node_of e) x
+  pub elsewhere : (j : ℕ) (y : NodeState) → (node_of e == j) ≡ false → HasTable c m.table j y → HasTable c table j y
+  pub reading : IsReading c (moved m table asked readings) (node_of e) x.atp.reading
   pub others : (j : ℕ) → (node_of e == j) ≡ false → since_of readings j ≡ since_of m.readings j
-  pub still : (j tid server : ℕ) → (node_of e == j) ≡ false → (a : Asked m.asked (asking c.net j) tid (zones_at c.net server)) → (b : Asked asked (asking c.net j) tid (zones_at c.net server)) × ((b.transaction).user ≡ (a.transaction).user)
-  pub pages : AllByRecursion (PagesOf c m) asked
+  pub still : (j tid server : ℕ) → (node_of e == j) ≡ false → StaysAsked table m.asked asked (asking c.net j) tid (zones_at c.net server)
 
 -- the history grew by one happening, which is what the event and its report say
 abbrev pub Grown : (A : Type 0) (cable : Cable) (before now : List Happening) → Event A → Report A → Type 0
@@ -166,26 +143,20 @@ abbrev pub Good : (A : Type 0) (w : WorldState) (c : Cable) (m : AtpMachine) (wi
 Good A w c m wires t e o =
     (m' : AtpMachine) × StepBy c m e o.report m' (owner_of e o.report) × (now : AtpTie A (recorded w (node_of e) o.report o.state (map posted o.out)) c (wires ++ map (wire w.events) o.out) m') × Grown A c t.history now.history e o.report
 
-module _ (A : Type 0) (w : WorldState) (c : Cable) (wires : List Wire) (m : AtpMachine) (e : Event A) (n : NodeState) (o : Outcome A NodeState) (t : AtpTie A w c wires m) (stands : node_at w (node_of e) ≡ Some n) (h : Happens A t.history c.net (node_of e) n (act_of e) o)
+module _ (A : Type 0) (laws : Laws A) (w : WorldState) (c : Cable) (wires : List Wire) (m : AtpMachine) (e : Event A) (n : NodeState) (o : Outcome A NodeState) (t : AtpTie A w c wires m) (stands : node_at w (node_of e) ≡ Some n) (h : Happens A t.history c.net (node_of e) n (act_of e) o)
     (mine : SeatTie c (node_of e) o.state) (asked : List Transaction) (is_asked : (done A (after A t.history) h.happening).asked ≡ asked) (b : Becomes A c m e o.state o.report asked) where
-  reading_kept : (j : ℕ) (y : NodeState) (reading : Option ℕ) → (node_of e == j) ≡ false → IsReading c m j reading → IsReading c (moved m asked b.readings) j reading
+  reading_kept : (j : ℕ) (y : NodeState) (reading : Option ZoneReading) → (node_of e == j) ≡ false → IsReading c m j reading → IsReading c (moved m b.table asked b.readings) j reading
   reading_kept j y None apart r = tt
-  reading_kept j y (Some tid) apart r =
-      let more = b.still j tid r.server apart r.first in
-      record { server = r.server; is_router = r.is_router; first = more.0; user = more.1 ∙ r.user; since = r.since; began = b.others j apart ∙ r.began }
+  reading_kept j y (Some read) apart r = let more = b.still j read.tid r.server apart r.first in still_reads laws.reading c.net c.router m.past b.table m.asked asked m.readings b.readings j read b.is_table r more.0 more.1 (b.others j apart)
 
   noted : (d : Option Draw) → (done A (after A t.history) h.happening).drawn ≡ (after A t.history).drawn ++ numbers_drawn (after A t.history).event (asking c.net (node_of e)) d → AllByRecursion (IsNoted (noted_in w.last (node_of e) w.events d) (w.events + 1)) (done A (after A t.history) h.happening).drawn
   noted d is = subst (AllByRecursion (IsNoted (noted_in w.last (node_of e) w.events d) (w.events + 1))) (sym is)
       (drawn_too w.last w.events (after A t.history).event c.net (node_of e) d (after A t.history).drawn t.events (all_noted w.last w.events (node_of e) d (after A t.history).drawn t.drawn))
 
-  has_table : HasTable c m (node_of e) o.state
-  has_table table is = t.tables (node_of e) n stands table (sym h.same_table ∙ is)
-
-  tied_next : (now : AtpTie A (recorded w (node_of e) o.report o.state (map posted o.out)) c (wires ++ map (wire w.events) o.out) (moved m asked b.readings)) × (now.history ≡ h.happening ∷ t.history)
+  tied_next : (now : AtpTie A (recorded w (node_of e) o.report o.state (map posted o.out)) c (wires ++ map (wire w.events) o.out) (moved m b.table asked b.readings)) × (now.history ≡ h.happening ∷ t.history)
   tied_next = (
     record {
-      table = t.table;
-      small = t.small;
+      table = b.is_table;
       history = h.happening ∷ t.history;
       timely = (h.timely, t.timely);
       in_range = (h.in_range, t.in_range);
@@ -197,14 +168,13 @@ module _ (A : Type 0) (w : WorldState) (c : Cable) (wires : List Wire) (m : AtpM
       sent = subst (Entries (wires ++ map (wire w.events) o.out)) (sym h.sent) (entries_both wires (map (wire w.events) o.out) (after A t.history).sent h.more t.sent (entries_of w.events (after A t.history).event o.out h.more t.events h.posts));
       drawn = noted (drawn_by o.report) h.drawn;
       asked = is_asked;
-      tables = λ j y is. found_after (node_of e) j o.state n y w.nodes (HasTable c (moved m asked b.readings) j) mine.number stands is (λ same. subst (λ i. HasTable c (moved m asked b.readings) i o.state) same has_table) (λ apart g. t.tables j y g);
+      tables = λ j y is. found_after (node_of e) j o.state n y w.nodes (HasTable c b.table j) mine.number stands is (λ same. subst (λ i. HasTable c b.table i o.state) same b.here) (λ apart g. b.elsewhere j y apart (t.tables j y g));
       opened = λ j y is. found_after (node_of e) j o.state n y w.nodes (λ z. IsOpen z.atp) mine.number stands is (λ same. h.is_open) (λ apart g. t.opened j y g);
-      readings = λ j y is. found_after (node_of e) j o.state n y w.nodes (λ z. IsReading c (moved m asked b.readings) j z.atp.reading) mine.number stands is (λ same. subst (λ i. IsReading c (moved m asked b.readings) i o.state.atp.reading) same b.reading) (λ apart g. reading_kept j y y.atp.reading apart (t.readings j y g));
-      pages = b.pages;
+      readings = λ j y is. found_after (node_of e) j o.state n y w.nodes (λ z. IsReading c (moved m b.table asked b.readings) j z.atp.reading) mine.number stands is (λ same. subst (λ i. IsReading c (moved m b.table asked b.readings) i o.state.atp.reading) same b.reading) (λ apart g. reading_kept j y y.atp.reading apart (t.readings j y g));
       on_net = subst (AllByRecursion (IsOn c.net)) is_asked h.on_net;
     },
     refl,
   )
 
   pub good_next : Good A w c m wires t e o
-  good_next = let now = tied_next in (moved m asked b.readings, b.allows, now.0, (h.happening, now.1, h.matches, (h.more, h.sent)))
+  good_next = let now = tied_next in (moved m b.table asked b.readings, b.allows, now.0, (h.happening, now.1, h.matches, (h.more, h.sent)))

@@ -19,7 +19,7 @@ use Rattle.at_world.specs.Setups.{are_in_zones, has_router, is_lawful, is_lawful
 use Rattle.at_world.specs.Worlds.{is_numbered}
 use Rattle.at_world.specs.declared.setup.NodeSetup.{NodeSetup}
 use Rattle.at_world.specs.declared.setup.Setup.{Setup}
-use Rattle.at_world.proofs.LawfulSetups.{is_a_name, lawful_has, node_fits, router_fits}
+use Rattle.at_world.proofs.LawfulSetups.{SetupLaws, lawful_has, node_fits, router_fits}
 use Rattle.at_world.proofs.Names.Moments.{first_moment}
 use Rattle.at_world.proofs.Names.Tie.{HasSocket, NameLaws, NameTie}
 
@@ -28,9 +28,9 @@ use Rattle.at_world.proofs.Names.Tie.{HasSocket, NameLaws, NameTie}
 star_fits : IsString (0x2A ∷ [])
 star_fits = record { fits = lit≤ tt; bytes = All-from_recursion (λ b. b < 256) (0x2A ∷ []) (lit< tt, tt) }
 
-zone_fits : (o : Option (List ℕ)) → is_zone o ≡ true → IsString (own_zone o)
-zone_fits None h = star_fits
-zone_fits (Some name) h = let is = is_a_name name h in record { fits = is.fits; bytes = is.bytes }
+zone_fits : SetupLaws → (o : Option (List ℕ)) → is_zone o ≡ true → IsString (own_zone o)
+zone_fits laws None h = star_fits
+zone_fits laws (Some name) h = let is = laws.is_a_name name h in record { fits = is.fits; bytes = is.bytes }
 
 no_zone_fits : (o : Option (List ℕ)) → is_none o ≡ true → IsString (own_zone o)
 no_zone_fits None h = star_fits
@@ -44,11 +44,11 @@ all_by : (p : NodeSetup → Bool) → ((n : NodeSetup) → p n ≡ true → IsPl
 all_by p fits [] h = tt
 all_by p fits (n ∷ ns) h = let parts = and_parts (p n) (list_all p ns) h in (fits n parts.0, all_by p fits ns parts.1)
 
-all_placed : (ns : List NodeSetup) → are_in_zones ns ≡ true → AllByRecursion IsPlaced ns
-all_placed ns = go (has_router ns)
+all_placed : SetupLaws → (ns : List NodeSetup) → are_in_zones ns ≡ true → AllByRecursion IsPlaced ns
+all_placed laws ns = go (has_router ns)
   where
     go : (b : Bool) → cond b (list_all (λ n. is_zone n.zone) ns) (list_all (λ n. is_none n.zone) ns) ≡ true → AllByRecursion IsPlaced ns
-    go true h = all_by (λ n. is_zone n.zone) (λ n. zone_fits n.zone) ns h
+    go true h = all_by (λ n. is_zone n.zone) (λ n. zone_fits laws n.zone) ns h
     go false h = all_by (λ n. is_none n.zone) (λ n. no_zone_fits n.zone) ns h
 
 zone_known : (ns : List NodeSetup) (k : ℕ) → AllByRecursion IsPlaced ns → IsString (zone_at ns k)
@@ -123,10 +123,10 @@ module _ (A : Type 0) (laws : NameLaws A) (s : Setup A) where
       known true ns is = let same : neighbours_of s.nodes ≡ ns = cc in subst (AllByRecursion (λ (y : Neighbour). IsString y.zone)) same (neighbours_fit s.nodes placed)
       known false ns is = absurd cc
 
-  pub names_at_opening : is_lawful s ≡ true → NameTie (opening_world s) (cables.opening s) [] (names.opening s)
-  names_at_opening ok =
+  pub names_at_opening : SetupLaws → is_lawful s ≡ true → NameTie (opening_world s) (cables.opening s) [] (names.opening s)
+  names_at_opening names ok =
       let has = lawful_has A s ok in
-      let placed = all_placed s.nodes has.placed in
+      let placed = all_placed names s.nodes has.placed in
       let lawful : IsLawfulSetting setting = record {
         zone = λ at. zone_known s.nodes at.node placed;
         to = λ at fits. record { net = has.net; node = asked_fits (router_of s.nodes) (λ r is. router_fits s.nodes r has.each is); socket = lit< tt };

@@ -14,8 +14,9 @@ returns g c =
       heard_stays = open_numbers.heard;
       new_waits = c.a_new_request_waits.ensures;
       few = c.no_more_is_sent_than_answered.ensures;
+      quiet_end = c.an_end_is_answered_by_nothing.ensures;
       user = fit.user;
       bytes = fit.bytes;
       fits = fit.fits;
     } in
-    λ history n which s said o st was_sent fresh later heard. datagram_happens A laws history n st which s was_sent fresh said o later heard
+    λ history n which s said o st was_sent fresh free later heard. datagram_happens A laws history n st which s was_sent fresh said o free later heard

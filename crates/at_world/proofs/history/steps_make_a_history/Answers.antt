@@ -6,6 +6,7 @@ use Rattle.at_world.specs.Plays.{opening_world}
 use Rattle.at_world.specs.Stories.{Tells, posted_packet}
 use Rattle.at_world.proofs.Atp.Tie.{Laws, Entries}
 use Rattle.at_world.proofs.CableTie.{Wire, spelled_wire}
+use Rattle.at_world.proofs.LawfulSetups.{SetupLaws}
 use Rattle.at_world.proofs.Names.Tie.{NameLaws}
 use Rattle.at_world.proofs.Runs.{BothLaws, runs}
 use Rattle.at_world.proofs.TiedAtOpening.{tied_at_opening}
@@ -24,6 +25,8 @@ pub returns : goal.returns
 returns g c s events reports w lawful =
     let A = g.row.A.Denot in
     let read = c.what_is_written_is_read.ensures in
+    let once = c.one_page_a_spelling.ensures in
+    let on = c.a_page_goes_on_with_its_table.ensures in
     let foreign = c.another_protocols_event_is_foreign.ensures in
     let laws : Laws A = record {
       foreign_call = foreign.call;
@@ -36,13 +39,20 @@ returns g c s events reports w lawful =
       unheld = c.a_number_that_is_not_held_has_no_record.ensures;
       carries = c.what_is_sent_carries_its_number.ensures;
       lawful_sent = c.what_is_sent_is_lawful.ensures;
-      joins = λ ts from tid packets who k responder a. let more = c.answers_join_what_was_asked.ensures ts from tid packets who k responder a in (more.0, more.1);
-      told = c.a_page_written_is_told.ensures;
-      asks = read.request;
-      one_start = c.one_page_a_spelling.ensures.request;
-      lawful = read.lawful;
-      whole = c.a_small_table_is_one_page.ensures;
+      reading = record {
+        asks = read.request;
+        written = read.page;
+        lawful = read.lawful;
+        one_start = once.request;
+        one_page = once.page;
+        faultless = once.faultless;
+        longest = c.a_page_is_the_longest_run.ensures.longest;
+        begins = on.begins;
+        whole = on.whole;
+      };
     } in
+    let table = c.names_without_a_fault_are_a_table.ensures in
+    let setups : SetupLaws = record { is_a_name = table.name; is_a_table = table.table } in
     let its_names = c.another_protocols_event_is_foreign-2.ensures in
     let found = c.finds_stood_since_their_lookup_began.ensures in
     let sent = c.what_is_sent_is_lawful-2.ensures in
@@ -61,7 +71,7 @@ returns g c s events reports w lawful =
     } in
     let both : BothLaws A = record { atp = laws; names = names } in
     λ follows.
-    let opened = tied_at_opening A s names lawful in
+    let opened = tied_at_opening A s setups names lawful in
     let ran = runs A both (opening_world s) (opening_machine s) events reports w opened.0 follows in
     let now = ran.2 in
     let cable = now.cable in

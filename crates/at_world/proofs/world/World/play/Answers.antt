@@ -1,9 +1,8 @@
-use Rattle.std.proofs.Common.{◌≡◌, ◌∙◌, true, false, sym, ap, refl, arith}
-use Rattle.std.proofs.lemmas.Bool.{true≢false}
+use Rattle.std.proofs.Common.{◌≡◌, ◌∙◌, false, ap, refl, arith}
 use Rattle.at_ddp.proofs.TableLemmas.{found_by, none_by}
 use Rattle.at_world.specs.Sents.{stamped}
 use Rattle.at_world.specs.Worlds.{WorldState, is_numbered, Takes}
-use Rattle.at_world.proofs.WorldLemmas.{few_events, one_stands, takes_splits, has_room, node_stands, none_stands, held_at, whole_inside, Ran, ran_ok, ran_err, ran_invariant, world_after, taken, not_taken, if_ok}
+use Rattle.at_world.proofs.WorldLemmas.{few_events, one_stands, takes_splits, has_room, node_stands, none_stands, whole_inside, Ran, ran_ok, ran_err, ran_invariant, world_after, taken, not_taken, if_ok}
 use Rattle.at_world.proofs.world.World.play.Goals as goal
 
 pub returns-in_default-clause-not_played : goal.returns-in_default-clause-not_played
@@ -11,19 +10,11 @@ returns-in_default-clause-not_played g c =
     let none = none_by (is_numbered c.args.node) c.self.inside.nodes.items c.deref.result.now c.place_of.result c.deref.ensures.value c.place_of.ensures c.in_default.is in
     (none_stands c.args.self.now c.args.node c.self.inside.nodes.items (ap (λ (w : WorldState). w.nodes) c.self.view_is) none, refl)
 
-pub index-requires : goal.index-requires
-index-requires g c =
+pub returns-then-draws_held-clause-not_played : goal.returns-then-draws_held-clause-not_played
+returns-then-draws_held-clause-not_played g c =
     let f = found_by (is_numbered c.args.node) c.self.inside.nodes.items c.deref.result.now c.place_of.result c.in-Some.place c.deref.ensures.value c.place_of.ensures c.in-Some.is in
-    omega (arith, f.within, c.self.inside.nodes.ok.0)
-
-pub returns-then-is_held-clause-not_played : goal.returns-then-is_held-clause-not_played
-returns-then-is_held-clause-not_played g c =
-    let f = found_by (is_numbered c.args.node) c.self.inside.nodes.items c.deref.result.now c.place_of.result c.in-Some.place c.deref.ensures.value c.place_of.ensures c.in-Some.is in
-    let same = ap (λ (w : WorldState). w.nodes) c.self.view_is in
-    let given = c.index.result.now in
-    let stands = node_stands c.args.self.now c.args.node c.self.inside.nodes.items c.in-Some.place given same f (c.index.ensures ∙ f.at given) in
-    let held = held_at g.row.A.Denot c.args.self.now c.args.node c.args.input.now c.deref-2.result.now given c.draw_of-draw.result c.is_held.result true (c.deref-2.ensures.value ∙ same) stands c.draw_of-draw.ensures c.is_held.ensures c.if-is_held.true in
-    ((given, stands, λ free. true≢false (sym (held given stands) ∙ free)), refl)
+    let stands = node_stands c.args.self.now c.args.node c.self.inside.nodes.items c.in-Some.place f.entry (ap (λ (w : WorldState). w.nodes) c.self.view_is) f refl in
+    (one_stands c.args.self.now c.args.node f.entry stands, c.draws_held.ensures.held c.if-draws_held.true, refl)
 
 pub index_mut-requires : goal.index_mut-requires
 index_mut-requires g c =
@@ -83,13 +74,7 @@ returns-clause-played g c =
     (λ ok. ran_ok g.row.A.Denot _ _ _ _ _ _ _ _ _ _ _ _ _ _ _ _ _ _ c.is_err-self-inside.result ran c.is_err-self-inside.ensures.value ok) c.kept.ensures.ok
 
 pub returns-clause-free : goal.returns-clause-free
-returns-clause-free g c =
-    let f = found_by (is_numbered c.args.node) c.self.inside.nodes.items c.deref.result.now c.place_of.result c.in-Some.place c.deref.ensures.value c.place_of.ensures c.in-Some.is in
-    let same = ap (λ (w : WorldState). w.nodes) c.self.view_is in
-    let given = c.index.result.now in
-    let stands = node_stands c.args.self.now c.args.node c.self.inside.nodes.items c.in-Some.place given same f (c.index.ensures ∙ f.at given) in
-    let held = held_at g.row.A.Denot c.args.self.now c.args.node c.args.input.now c.deref-2.result.now given c.draw_of-draw.result c.is_held.result false (c.deref-2.ensures.value ∙ same) stands c.draw_of-draw.ensures c.is_held.ensures c.if-is_held.false in
-    if_ok g.row.A.Denot _ c.kept.result held
+returns-clause-free g c = if_ok g.row.A.Denot _ c.kept.result (c.draws_held.ensures.free c.if-draws_held.false)
 
 pub returns-clause-not_played : goal.returns-clause-not_played
 returns-clause-not_played g c =
@@ -112,12 +97,9 @@ returns-clause-not_played g c =
       stamps = c.book-booked.ensures.stamped;
       kept = c.book-booked.ensures.kept;
     } in
-    let inside = ap (λ (w : WorldState). w.nodes) c.self.view_is in
-    let given = c.index.result.now in
-    let stands = node_stands c.args.self.now c.args.node c.self.inside.nodes.items c.in-Some.place given inside f (c.index.ensures ∙ f.at given) in
-    let held = held_at g.row.A.Denot c.args.self.now c.args.node c.args.input.now c.deref-2.result.now given c.draw_of-draw.result c.is_held.result false (c.deref-2.ensures.value ∙ inside) stands c.draw_of-draw.ensures c.is_held.ensures c.if-is_held.false in
+    let stands = node_stands c.args.self.now c.args.node c.self.inside.nodes.items c.in-Some.place f.entry (ap (λ (w : WorldState). w.nodes) c.self.view_is) f refl in
     not_taken g.row.A.Denot c.args.self.now c.args.node c.args.input.now (world_after c.self.inside.nodes.items c.in-Some.place c.take-report.new.node c.book-booked.new.stamps.items c.take-report.new.out.items c.book-booked.new.last c.self.inside.events c.is_err-self-inside.result) c.book-booked.result c.kept.result
-    (λ err. ran_err g.row.A.Denot _ _ _ _ _ _ _ _ _ _ _ _ _ _ _ _ _ _ c.is_err-self-inside.result ran c.is_err-self-inside.ensures.value err) (one_stands c.args.self.now c.args.node given stands) held c.kept.ensures.err
+    (λ err. ran_err g.row.A.Denot _ _ _ _ _ _ _ _ _ _ _ _ _ _ _ _ _ _ c.is_err-self-inside.result ran c.is_err-self-inside.ensures.value err) (one_stands c.args.self.now c.args.node f.entry stands) (c.draws_held.ensures.free c.if-draws_held.false) c.kept.ensures.err
 
 pub overflow_add-self : goal.overflow_add-self
 overflow_add-self g c = few_events c.args.self.now c.self.inside.events (ap (λ (w : WorldState). w.events) c.self.view_is) c.requires.runs
