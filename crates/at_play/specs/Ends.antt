@@ -42,7 +42,7 @@ pub record Obeys {A : Type 0} (setup : Setup A) (p : Played setup) : Type 0 wher
   pub lawful : is_lawful setup ≡ true
   pub run : (m : Machine) × Run (opening_machine setup) p.events p.reports m
   pub once : AllLive setup.net (p.world).sent (onto [] p.events p.reports)
-      → RunsOnce setup.net (p.world).sent (onto [] p.events p.reports)
+      → RunsOnce setup.net setup.zones (p.world).sent (onto [] p.events p.reports)
 
 -- What a schedule's play prints of its events: nothing if there is no schedule, and else what is told of those that
 -- were played. These are all of them unless it stopped, which is said if the schedule's text is known.

@@ -105,7 +105,7 @@ pub record Happens (A : Type 0) (history : List Happening) (net number : ℕ) (n
   pub is_open : IsOpen o.state.atp
   pub same_table : sets_table o.report ≡ false → o.state.atp.table ≡ n.atp.table
   pub has_table : (table : List (List ℕ)) → o.state.atp.table ≡ Some table → IsTable table
-  pub matches : Matches net number (after A history) happening act o.report
+  pub matches : Matches net number n.atp.table (after A history) happening act o.report
 
 abbrev pub change : {A : Type 0} {history : List Happening} {net number : ℕ} {n : NodeState} {act : Act A}
     {o : Outcome A NodeState} → Happens A history net number n act o → Change A

@@ -3,7 +3,7 @@
 use Rattle.std.specs.Prelude.{◌≡◌, ℕ, ◌&&◌, Bool, true, false, List, Option, Some, None}
 use Rattle.at_ddp.specs.Address.{same_address}
 use Rattle.at_ddp.specs.declared.address.Address.{Address}
-use Rattle.at_atp_frame.specs.Frames.{number_of}
+use Rattle.at_atp_frame.specs.Frames.{Content, Request, number_of}
 use Rattle.at_atp_frame.specs.Packets.{Packet}
 use Rattle.at_atp_requester.specs.Requests.{heard}
 use Rattle.at_atp_requester.specs.declared.step.Step.TheVariants as step
@@ -13,12 +13,14 @@ use Rattle.at_atp.specs.HandUps.{draws, is_handed_up, expires_there}
 use Rattle.at_atp.specs.Network.{Network, Sent, packet_at, Happening, Begins, Answers, Turns, Takes, Serves, is_fresh}
 use Rattle.at_atp.specs.Network.{done}
 use Rattle.at_atp.specs.Transactions.{answered}
+use Rattle.at_zip.specs.Request.{RequestSpells}
 use Rattle.at_node.specs.AtpParts.{asking}
 use Rattle.at_node.specs.declared.event.Call.TheVariants.{Zones, Ask, Answer}
 use Rattle.at_node.specs.declared.event.Report.{Report}
 use Rattle.at_node.specs.declared.event.Report.TheVariants as report
 use Rattle.at_node.specs.declared.event.Timer.TheVariants as timer
 use Rattle.at_steps.specs.Acts.{Act, Calls, Fires, Gets}
+use Rattle.at_steps.specs.AtpSteps.{page_answer}
 
 -- ---- what an event at a node and its report say of a request
 
@@ -71,14 +73,31 @@ BeginsAs (Begins who to user bytes wanted xo retries) act = (asks_once act ≡ x
 BeginsAs (Turns which user retries) act = (asks_once act ≡ false) × (asks_for act ≡ 1)
 BeginsAs h act = Unit {0}
 
--- a call gives an answer, or the router answers what came
-abbrev pub AnswersAs : {A : Type 0} → ℕ → Happening → Act A → Report A → Type 0
-AnswersAs net (Answers at key packets) act r =
+-- a packet asks for the page of the zone list from this place on
+abbrev pub AsksFrom : Content → ℕ → Type 0
+AsksFrom (Request mask xo timer tid user bytes) start = RequestSpells user start
+AsksFrom f start = ⊥
+
+-- these packets are the page of the router's table from the place that the datagram which came asks for
+pub record IsPageAsked (table : Option (List (List ℕ))) (n : Network) (which : ℕ) (packets : List Packet)
+    : Type 0 where
+  pub zones : List (List ℕ)
+  pub is_table : table ≡ Some zones
+  pub request : Sent
+  pub was_sent : packet_at n.sent which ≡ Some request
+  pub start : ℕ
+  pub asks_from : AsksFrom request.packet start
+  pub page : packets ≡ page_answer zones start
+
+-- a call gives an answer, or the router, which has this table, answers what came by a page of it
+abbrev pub AnswersAs : {A : Type 0} → ℕ → Option (List (List ℕ)) → Network → Happening → Act A → Report A → Type 0
+AnswersAs net table n (Answers at key packets) act r =
     (k : ℕ) × (socket : ℕ) × (tid : ℕ) × (count : ℕ) × (act ≡ Calls (Answer k socket tid packets))
     × (r ≡ report.Answered count)
     × (key ≡ record { from = record { net = net; node = k; socket = socket }; tid = tid })
-AnswersAs net (Serves which packets) act r = (count : ℕ) × (act ≡ Gets which) × (r ≡ report.Served count)
-AnswersAs net h act r = Unit {0}
+AnswersAs net table n (Serves which packets) act r =
+    (count : ℕ) × (act ≡ Gets which) × (r ≡ report.Served count) × IsPageAsked table n which packets
+AnswersAs net table n h act r = Unit {0}
 
 -- an answer that is reported joins its transaction: that of a call, or the router's to what came
 abbrev pub Joins : {A : Type 0} → ℕ → Network → Happening → Report A → Act A → Type 0
@@ -104,14 +123,14 @@ Finishes {A} net number n (Gets which) (report.Response tid packets) = Ends A ne
 Finishes net number n (Gets which) (report.Served count) = (s : Sent) × (packet_at n.sent which ≡ Some s)
 Finishes net number n act r = Unit {0}
 
--- the happening is what the event at the node and its report say
-pub record Matches {A : Type 0} (net number : ℕ) (n : Network) (h : Happening) (act : Act A)
-    (r : Report A) : Type 0 where
+-- the happening is what the event at the node and its report say; the node has this zone table, if it is the router
+pub record Matches {A : Type 0} (net number : ℕ) (table : Option (List (List ℕ))) (n : Network) (h : Happening)
+    (act : Act A) (r : Report A) : Type 0 where
   pub draws_it : (key : Key) → draws A n h key ≡ began_under net number act r key
   pub expires_it : (at : Address) (key : Key) → expires_there n h at key ≡ expired_at net number act r at key
   pub hands_up : (key : Key) → is_handed_up n h key ≡ handed_up_by n.sent act r key
   pub takes_in : TakesIn h act
   pub begins_as : BeginsAs h act
-  pub answers_as : AnswersAs net h act r
+  pub answers_as : AnswersAs net table n h act r
   pub joins : Joins net n h r act
   pub finishes : Finishes net number n act r

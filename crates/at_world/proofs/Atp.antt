@@ -10,6 +10,7 @@ pub mod Readings
 pub mod ReadingSteps
 pub mod Staying
 pub mod Steps
+pub mod Tables
 pub mod Tie
 pub mod Times
 pub mod Told

@@ -17,9 +17,10 @@ use Rattle.at_world.specs.Cables.{Cable, owner_of}
 use Rattle.at_world.specs.Events.{node_of}
 use Rattle.at_world.specs.Machine.{Machine, opening_machine, Step, Run, IsRun}
 use Rattle.at_world.specs.Plays.{opening_world, Follows, IsPlay}
-use Rattle.at_world.specs.Stories.{Tells}
+use Rattle.at_world.specs.Stories.{Tells, table_by}
 use Rattle.at_world.specs.Worlds.{WorldState, node_at, recorded, IsTimely, Plays}
 use Rattle.at_world.proofs.Atp.Happenings.{Follows as FollowsAtp, call_follows, datagram_follows, passed, timer_follows}
+use Rattle.at_world.proofs.Atp.Tables.{table_follows}
 use Rattle.at_world.proofs.Atp.Tie.{Laws, AtpTie, Grown}
 use Rattle.at_world.proofs.CableTie.{cable_next}
 use Rattle.at_world.proofs.Seats.{KeepsSeat, call_keeps_seat, timer_keeps_seat, hearing_keeps_seat}
@@ -32,7 +33,7 @@ use Rattle.at_world.proofs.Tied.{Tied}
 
 -- the machine may answer an event so, and is tied to the world after it
 abbrev pub Follow : (A : Type 0) (w : WorldState) (m : Machine) → Tied A w m → Event A → Report A → WorldState → Type 0
-Follow A w m t e r w' = (m' : Machine) × Step m e r m' × (now : Tied A w' m') × Grown A m.cable (t.atp).history (now.atp).history e r × (m'.cable ≡ m.cable)
+Follow A w m t e r w' = (m' : Machine) × Step m e r m' × (now : Tied A w' m') × Grown A m.cable (m.atp).table (t.atp).history (now.atp).history e r × (m'.cable ≡ m.cable)
 
 -- what the layers below promise of each part
 pub record BothLaws (A : Type 0) : Type 0 where
@@ -65,7 +66,7 @@ module _ (A : Type 0) (w : WorldState) (m : Machine) (t : Tied A w m) (e : Event
   together : (o : Outcome A NodeState) → KeepsSeat n o → EachFollows o → Follow A w m t e o.report (recorded w (node_of e) o.report o.state (map posted o.out))
   together o seat ((said, good), names) =
       let cable = cable_next A w m.cable (node_of e) n o t.cable stands seat in
-      let both = subst (λ l. (x : AtpTie A (recorded w (node_of e) o.report o.state (map posted o.out)) m.cable l good.0) × Grown A m.cable (t.atp).history x.history e o.report) (sym cable.1) (good.2, good.3) in
+      let both = subst (λ l. (x : AtpTie A (recorded w (node_of e) o.report o.state (map posted o.out)) m.cable l good.0) × Grown A m.cable (m.atp).table (t.atp).history x.history e o.report) (sym cable.1) (good.2, good.3) in
       let tied_names = subst (λ l. NameTie (recorded w (node_of e) o.report o.state (map posted o.out)) m.cable l names.0) (sym cable.1) names.2 in
       (record { cable = m.cable; atp = good.0; names = names.0 }, record { cable = record { said = said; becomes = refl }; atp = good.1; names = names.1 }, record { cable = cable.0; atp = both.0; names = tied_names }, both.1, refl)
 
@@ -125,7 +126,7 @@ followed A laws w m (event.Deliver which k) r w' t timely d =
 
 -- a run of the machine, and the history that it made
 abbrev pub Ran : (A : Type 0) (w : WorldState) (m : Machine) → Tied A w m → List (Event A) → List (Report A) → WorldState → Type 0
-Ran A w m t es rs w' = (m' : Machine) × Run m es rs m' × (now : Tied A w' m') × Tells (m.cable).net (t.atp).history es rs (now.atp).history
+Ran A w m t es rs w' = (m' : Machine) × Run m es rs m' × (now : Tied A w' m') × Tells (m.cable).net (m.atp).table (t.atp).history es rs (now.atp).history
 
 pub runs : (A : Type 0) → BothLaws A → (w : WorldState) (m : Machine) (es : List (Event A)) (rs : List (Report A)) (w' : WorldState) (t : Tied A w m) → Follows w es rs w' → Ran A w m t es rs w'
 runs A laws w m [] [] w' t h = let same = subst (λ x. (now : Tied A x m) × ((now.atp).history ≡ (t.atp).history)) (sym h) (t, refl) in (m, refl, same.0, same.1)
@@ -134,7 +135,10 @@ runs A laws w m (e ∷ es) (r ∷ rs) w' t h =
     let one = followed A laws w m e r h.0 t playable.timely h.2 in
     let rest = runs A laws h.0 one.0 es rs w' one.2 h.3 in
     let grown = one.3 in
-    let told = subst (λ l. Tells (m.cable).net l es rs ((rest.2).atp).history) grown.1 (subst (λ (c : Cable). Tells c.net ((one.2).atp).history es rs ((rest.2).atp).history) one.4 rest.3) in
+    let step = one.1 in
+    let table = table_follows m.cable m.atp e r (one.0).atp (owner_of e r) refl step.atp in
+    let told = subst (λ l. Tells (m.cable).net (table_by e r (m.atp).table) l es rs ((rest.2).atp).history) grown.1
+    (subst (λ zones. Tells (m.cable).net zones ((one.2).atp).history es rs ((rest.2).atp).history) table (subst (λ (c : Cable). Tells c.net ((one.0).atp).table ((one.2).atp).history es rs ((rest.2).atp).history) one.4 rest.3)) in
     (rest.0, (one.0, one.1, rest.1), rest.2, (grown.0, grown.2, grown.3, told))
 runs A laws w m [] (r ∷ rs) w' t h = absurd h
 runs A laws w m (e ∷ es) [] w' t h = absurd h

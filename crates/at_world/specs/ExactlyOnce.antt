@@ -1,7 +1,7 @@
 -- How often a play delivers an exactly-once request to its service, by its events, its reports and what was sent
 -- (Inside AppleTalk, ATP, "At-least-once and exactly-once transactions").
 use Rattle.std.specs.Prelude.{◌≡◌, ℕ, ◌||◌, if◌then◌else◌, Bool, true, false, List, [], ◌∷◌, take, slice_get, Some}
-use Rattle.std.specs.Prelude.{Result, Ok, Err, ◌⊎◌}
+use Rattle.std.specs.Prelude.{Result, Ok, Err, ◌⊎◌, MatchBool}
 use Rattle.at_ddp.specs.Datagram.{Content as Datagram, BeginsWith, canonical}
 use Rattle.at_ddp.specs.declared.address.Address.{Address}
 use Rattle.at_atp_frame.specs.Frames.{Content, Request, Spells, spelled}
@@ -13,8 +13,10 @@ use Rattle.at_node.specs.AtpParts.{asking, atp_kind}
 use Rattle.at_node.specs.declared.event.Call.TheVariants.{Answer}
 use Rattle.at_node.specs.declared.event.Report.{Report}
 use Rattle.at_node.specs.declared.event.Report.TheVariants as report
+use Rattle.at_steps.specs.AtpReports.{AsksFrom}
+use Rattle.at_steps.specs.AtpSteps.{page_answer}
 use Rattle.at_world.specs.Sents.{SentDatagram}
-use Rattle.at_world.specs.Stories.{asks_once, asks_for, began_under, expired_at}
+use Rattle.at_world.specs.Stories.{asks_once, asks_for, began_under, expired_at, table_by}
 use Rattle.at_world.specs.declared.event.Event.{Event}
 use Rattle.at_world.specs.declared.event.Event.TheVariants as event
 use Rattle.at_world.specs.declared.setup.Setup.{Setup}
@@ -82,21 +84,45 @@ abbrev pub wanted_by : {A : Type 0} → ℕ → List (Played A) → Key → ℕ
 wanted_by net [] key = 0
 wanted_by net (x ∷ xs) key = if began_under net x.event x.report key then asks_for x.event else wanted_by net xs key
 
--- this answer was given to it: by a node's user, or by the router, which answers what came
-abbrev pub GivesBy : {A : Type 0} → ℕ → List SentDatagram → Event A → Report A → Key → List Packet → Type 0
-GivesBy net sent (event.Call node (Answer k socket tid given)) (report.Answered count) key answer =
+-- an answer was given to it: by a node's user, or by the router, which answers what came
+abbrev pub IsGivenBy : {A : Type 0} → ℕ → List SentDatagram → Event A → Report A → Key → Type 0
+IsGivenBy net sent (event.Call node (Answer k socket tid given)) (report.Answered count) key =
+    same_key (record { from = record { net = net; node = k; socket = socket }; tid = tid }) key ≡ true
+IsGivenBy net sent (event.Deliver which node) (report.Served count) key = CameFrom sent which key
+IsGivenBy net sent e r key = ⊥
+
+abbrev pub Gives : {A : Type 0} → ℕ → List SentDatagram → Key → Played A → Type 0
+Gives net sent key x = IsGivenBy net sent x.event x.report key
+
+-- the router's zone table after these steps, if it was this one before the first
+abbrev pub table_after : {A : Type 0} → List (List ℕ) → List (Played A) → List (List ℕ)
+table_after zones [] = zones
+table_after zones (x ∷ xs) = table_by x.event x.report (table_after zones xs)
+
+-- a datagram that was sent has a request of this key, and this is the page of a table from the place that it asks for
+pub record IsPageFor (sent : List SentDatagram) (table : List (List ℕ)) (which : ℕ) (key : Key) (answer : List Packet)
+    : Type 0 where
+  pub came : CameFrom sent which key
+  pub start : ℕ
+  pub asks_from : AsksFrom came.packet start
+  pub page : answer ≡ page_answer table start
+
+-- this answer was given to it: that of a node's user, or the page of the table that the router has
+abbrev pub GivesBy : {A : Type 0} → ℕ → List SentDatagram → List (List ℕ) → Event A → Report A → Key → List Packet
+    → Type 0
+GivesBy net sent table (event.Call node (Answer k socket tid given)) (report.Answered count) key answer =
     (same_key (record { from = record { net = net; node = k; socket = socket }; tid = tid }) key ≡ true)
     × (given ≡ answer)
-GivesBy net sent (event.Deliver which node) (report.Served count) key answer = CameFrom sent which key
-GivesBy net sent e r key answer = ⊥
+GivesBy net sent table (event.Deliver which node) (report.Served count) key answer =
+    IsPageFor sent table which key answer
+GivesBy net sent table e r key answer = ⊥
 
-abbrev pub SomeGives : {A : Type 0} → ℕ → List SentDatagram → Key → List Packet → List (Played A) → Type 0
-SomeGives net sent key answer [] = ⊥
-SomeGives net sent key answer (x ∷ xs) = GivesBy net sent x.event x.report key answer ⊎ SomeGives net sent key answer xs
-
--- an answer was given to it by this step
-abbrev pub Gives : {A : Type 0} → ℕ → List SentDatagram → Key → Played A → Type 0
-Gives net sent key x = (answer : List Packet) × GivesBy net sent x.event x.report key answer
+-- this answer was given to it since its transaction began
+abbrev pub SomeGives : {A : Type 0} → ℕ → List (List ℕ) → List SentDatagram → Key → List Packet → List (Played A)
+    → Type 0
+SomeGives net zones sent key answer [] = ⊥
+SomeGives net zones sent key answer (x ∷ xs) = MatchBool (began_under net x.event x.report key) ⊥
+    (GivesBy net sent (table_after zones xs) x.event x.report key answer ⊎ SomeGives net zones sent key answer xs)
 
 abbrev pub NoneGives : {A : Type 0} → ℕ → List SentDatagram → Key → List (Played A) → Type 0
 NoneGives net sent key [] = Unit {0}
@@ -132,16 +158,16 @@ AllLive net sent (x ∷ xs) = LivesBy net sent x.event xs × AllLive net sent xs
 
 -- The request of a response that is reported was delivered. The response is the answer that was given to it, or as many
 -- of its first packets as were asked for.
-abbrev pub EndsBy : {A : Type 0} → ℕ → List SentDatagram → Event A → Report A → List (Played A) → Type 0
-EndsBy net sent (event.Deliver which node) (report.Response tid packets) past =
+abbrev pub EndsBy : {A : Type 0} → ℕ → List (List ℕ) → List SentDatagram → Event A → Report A → List (Played A)
+    → Type 0
+EndsBy net zones sent (event.Deliver which node) (report.Response tid packets) past =
     is_once net past (record { from = asking net node; tid = tid }) ≡ true
     → SomeHandsUp sent (record { from = asking net node; tid = tid })
     (since net past (record { from = asking net node; tid = tid }))
     × ((answer : List Packet)
-    × SomeGives net sent (record { from = asking net node; tid = tid }) answer
-    (since net past (record { from = asking net node; tid = tid }))
+    × SomeGives net zones sent (record { from = asking net node; tid = tid }) answer past
     × (packets ≡ take (wanted_by net past (record { from = asking net node; tid = tid })) answer))
-EndsBy net sent e r past = Unit {0}
+EndsBy net zones sent e r past = Unit {0}
 
 -- it was delivered at most once since its transaction began, and answered at most once
 abbrev pub RanOnce : {A : Type 0} → ℕ → List SentDatagram → List (Played A) → Key → Type 0
@@ -150,15 +176,16 @@ RanOnce net sent past key =
 
 -- At each moment, each exactly-once request was delivered and answered at most once since its transaction began. If the
 -- transaction ended with a response, it was delivered once, and the response is of the one answer that was given to it.
-abbrev pub RunsOnce : {A : Type 0} → ℕ → List SentDatagram → List (Played A) → Type 0
-RunsOnce net sent [] = Unit {0}
-RunsOnce net sent (x ∷ xs) =
+-- In the beginning the router has this zone table.
+abbrev pub RunsOnce : {A : Type 0} → ℕ → List (List ℕ) → List SentDatagram → List (Played A) → Type 0
+RunsOnce net zones sent [] = Unit {0}
+RunsOnce net zones sent (x ∷ xs) =
     ((key : Key) → is_once net (x ∷ xs) key ≡ true → RanOnce net sent (x ∷ xs) key)
-    × EndsBy net sent x.event x.report xs × RunsOnce net sent xs
+    × EndsBy net zones sent x.event x.report xs × RunsOnce net zones sent xs
 
 -- the same for a play, whole or up to where it stopped, if no request outlives its record
 abbrev pub IsOnce : {A : Type 0} → Setup A → List (Event A) → Result (Transcript A) (PlayFault A) → Type 0
 IsOnce s events (Ok t) =
-    AllLive s.net t.sent (onto [] events t.reports) → RunsOnce s.net t.sent (onto [] events t.reports)
+    AllLive s.net t.sent (onto [] events t.reports) → RunsOnce s.net s.zones t.sent (onto [] events t.reports)
 IsOnce s events (Err f) = AllLive s.net f.transcript.sent (onto [] (take f.at events) f.transcript.reports)
-    → RunsOnce s.net f.transcript.sent (onto [] (take f.at events) f.transcript.reports)
+    → RunsOnce s.net s.zones f.transcript.sent (onto [] (take f.at events) f.transcript.reports)

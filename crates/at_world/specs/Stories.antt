@@ -1,6 +1,6 @@
 -- What a play is in the network of its requesters and responders: each event is one happening there (Inside AppleTalk,
 -- ATP, "At-least-once and exactly-once transactions").
-use Rattle.std.specs.Prelude.{◌≡◌, ℕ, Bool, List, [], ◌∷◌, ◌++◌, slice_get, Option, Some}
+use Rattle.std.specs.Prelude.{◌≡◌, ℕ, if◌then◌else◌, Bool, List, [], ◌∷◌, ◌++◌, slice_get, Option, Some}
 use Rattle.std.specs.List.{AllByRecursion}
 use Rattle.at_ddp.specs.Datagram.{canonical}
 use Rattle.at_ddp.specs.declared.address.Address.{Address}
@@ -9,11 +9,14 @@ use Rattle.at_atp_responder.specs.declared.reception.Key.{Key}
 use Rattle.at_atp.specs.Lawfully.{IsInRange}
 use Rattle.at_atp.specs.Network.{Network, Sent, Happening, AllTimely, packet_at, after, done}
 use Rattle.at_node.specs.AtpParts.{atp_kind}
+use Rattle.at_node.specs.declared.event.Call.TheVariants.{SetZones}
 use Rattle.at_node.specs.declared.event.Report.{Report}
+use Rattle.at_steps.specs.AtpHappenings.{sets_table}
 use Rattle.at_steps.specs.AtpReports as reports
 use Rattle.at_world.specs.Events.{act_of, node_of}
 use Rattle.at_world.specs.Sents.{SentDatagram}
 use Rattle.at_world.specs.declared.event.Event.{Event}
+use Rattle.at_world.specs.declared.event.Event.TheVariants as event
 
 -- ---- what an event and its report say of a request
 
@@ -35,21 +38,32 @@ asks_for e = reports.asks_for (act_of e)
 
 -- ---- one happening for each event
 
--- the happening is what the event and its report say
-abbrev pub Matches : {A : Type 0} → ℕ → Network → Happening → Event A → Report A → Type 0
-Matches net n h e r = reports.Matches net (node_of e) n h (act_of e) r
+-- the zone table that a call names; or this one, if it names none
+abbrev pub named_table : {A : Type 0} → Event A → List (List ℕ) → List (List ℕ)
+named_table (event.Call node (SetZones names)) table = names
+named_table e table = table
+
+-- the router's zone table after an event with this report, if it was this one before
+abbrev pub table_by : {A : Type 0} → Event A → Report A → List (List ℕ) → List (List ℕ)
+table_by e r table = if sets_table r then named_table e table else table
+
+-- the happening is what the event and its report say, while the router has this zone table
+abbrev pub Matches : {A : Type 0} → ℕ → List (List ℕ) → Network → Happening → Event A → Report A → Type 0
+Matches net table n h e r = reports.Matches net (node_of e) (Some table) n h (act_of e) r
 
 -- what is sent is added to what was sent
 abbrev pub Grows : (A : Type 0) → Network → Happening → Type 0
 Grows A n h = (more : List (Option Sent)) × ((done A n h).sent ≡ n.sent ++ more)
 
--- these events and reports, after what happened before, make this history, whose newest happening comes first
-abbrev pub Tells : {A : Type 0} → ℕ → List Happening → List (Event A) → List (Report A) → List Happening → Type 0
-Tells net before [] [] history = history ≡ before
-Tells {A} net before (e ∷ es) (r ∷ rs) history = (h : Happening) × Matches net (after A before) h e r
-    × Grows A (after A before) h × Tells net (h ∷ before) es rs history
-Tells net before [] (r ∷ rs) history = ⊥
-Tells net before (e ∷ es) [] history = ⊥
+-- These events and reports, after what happened before, make this history, whose newest happening comes first. Before
+-- them the router has this zone table.
+abbrev pub Tells : {A : Type 0} → ℕ → List (List ℕ) → List Happening → List (Event A) → List (Report A)
+    → List Happening → Type 0
+Tells net table before [] [] history = history ≡ before
+Tells {A} net table before (e ∷ es) (r ∷ rs) history = (h : Happening) × Matches net table (after A before) h e r
+    × Grows A (after A before) h × Tells net (table_by e r table) (h ∷ before) es rs history
+Tells net table before [] (r ∷ rs) history = ⊥
+Tells net table before (e ∷ es) [] history = ⊥
 
 -- a packet as the world's list has it
 abbrev pub posted_packet : Sent → SentDatagram
@@ -60,10 +74,11 @@ posted_packet s =
 abbrev pub Within : List SentDatagram → Network → Type 0
 Within sent n = (which : ℕ) (s : Sent) → packet_at n.sent which ≡ Some s → slice_get sent which ≡ Some (posted_packet s)
 
--- a history in which no packet outlives its number, that these events and reports make, and that sent this
-pub record IsHistory {A : Type 0} (net : ℕ) (es : List (Event A)) (rs : List (Report A)) (sent : List SentDatagram)
-    (history : List Happening) : Type 0 where
+-- A history in which no packet outlives its number, that these events and reports make, and that sent this. In the
+-- beginning the router has this zone table.
+pub record IsHistory {A : Type 0} (net : ℕ) (zones : List (List ℕ)) (es : List (Event A)) (rs : List (Report A))
+    (sent : List SentDatagram) (history : List Happening) : Type 0 where
   pub timely : AllTimely A history
   pub in_range : AllByRecursion IsInRange history
-  pub tells : Tells net [] es rs history
+  pub tells : Tells net zones [] es rs history
   pub is_sent : Within sent (after A history)

@@ -18,7 +18,7 @@ pub(crate) fn steps_make_a_history<A: Allocator>()
     ensures { (s : Setup A) (events : List (Event A)) (reports : List (Report A)) (w : WorldState) → is_lawful s ≡ true
         → Follows (opening_world s) events reports w
         → ((m : Machine) × Run (opening_machine s) events reports m)
-        × ((history : List Happening) × IsHistory s.net events reports w.sent history) }
+        × ((history : List Happening) × IsHistory s.net s.zones events reports w.sent history) }
 {
     at_steps::laws::a_call_is_a_happening_of_atp::<A>();
     at_steps::laws::a_timer_is_a_happening_of_atp::<A>();

@@ -97,7 +97,7 @@ module _ (A : Type 0) (laws : CallLaws A) (history : List Happening) (n : NodeSt
       begun_happens A history n (Calls Zones) st (zones_at n.seat.net router) (request_user 1) [] 1 false 3 tid (Some (record { tid = tid; names = [] })) is_drawn (free tid refl)
       (record { who_fits = asking_fits; to_fits = there_fits router 6 (st.small_router router is) (lit< tt); asks = asks_fit []; few = lit≤ tt })
       refl (reading_is_open router tid)
-      (begins_match A n.seat.net n.seat.number (after A history) tid (zones_at n.seat.net router) (request_user 1) [] 1 false 3 Zones refl refl (ap next_number st.requester ∙ is_drawn))
+      (begins_match A n.seat.net n.seat.number n.atp.table (after A history) tid (zones_at n.seat.net router) (request_user 1) [] 1 false 3 Zones refl refl (ap next_number st.requester ∙ is_drawn))
       (Reads (record { tid = tid; server = router; is_router = is; act = refl; report = refl; asked = refl; reading = refl }))
 
   pub zones_call : (router : Option ℕ) (reading : Option Reading) → n.seat.router ≡ router → DrawsFree A history n (over (with_atp n) (zones_called {A = A} n.seat n.atp router reading)).report → IsIts A history n (Calls Zones) (over (with_atp n) (zones_called n.seat n.atp router reading))
@@ -138,7 +138,7 @@ module _ (A : Type 0) (laws : CallLaws A) (history : List Happening) (n : NodeSt
         begun_happens A history n (Calls (Ask node socket user bytes wanted xo retries)) st (at_socket n.seat node socket) user bytes wanted xo retries tid n.atp.reading is_drawn (free tid refl)
         (record { who_fits = asking_fits; to_fits = there_fits node socket range.0 range.1; asks = record { four = range.2; user = range.3; bytes = range.4; fits = few }; few = range.6 })
         refl (λ r is. open_more n.atp.requester.standing (beginning tid (at_socket n.seat node socket) user bytes wanted xo retries ∷ []) r.tid (st.is_open r is))
-        (begins_match A n.seat.net n.seat.number (after A history) tid (at_socket n.seat node socket) user bytes wanted xo retries (Ask node socket user bytes wanted xo retries) refl refl (ap next_number st.requester ∙ is_drawn))
+        (begins_match A n.seat.net n.seat.number n.atp.table (after A history) tid (at_socket n.seat node socket) user bytes wanted xo retries (Ask node socket user bytes wanted xo retries) refl refl (ap next_number st.requester ∙ is_drawn))
         (Begins (record {
           tid = tid;
           node = node;

@@ -83,7 +83,7 @@ module _ (A : Type 0) (laws : CallLaws A) (history : List Happening) (n : NodeSt
         (ap (λ (x : Network). x.sent) done_is ∙ ap (λ rs. (after A history).sent ++ stamped (after A history).event (serving n.seat.net n.seat.number) (asked_for (find (is_key (record { from = at_socket n.seat node socket; tid = tid })) rs) (record { from = at_socket n.seat node socket; tid = tid }) packets)) st.service)
         (ap (λ (x : Network). x.drawn) done_is)
         (ap (λ (x : Network). x.asked) done_is) refl
-        (answers_match A n.seat.net n.seat.number (after A history) (serving n.seat.net n.seat.number) (record { from = at_socket n.seat node socket; tid = tid }) packets node socket tid (length (asked_for (find (is_key (record { from = at_socket n.seat node socket; tid = tid })) n.atp.service_responder) (record { from = at_socket n.seat node socket; tid = tid }) packets)) refl
+        (answers_match A n.seat.net n.seat.number n.atp.table (after A history) (serving n.seat.net n.seat.number) (record { from = at_socket n.seat node socket; tid = tid }) packets node socket tid (length (asked_for (find (is_key (record { from = at_socket n.seat node socket; tid = tid })) n.atp.service_responder) (record { from = at_socket n.seat node socket; tid = tid }) packets)) refl
         (ap (λ (x : Network). x.asked) done_is))
         (steps.Answers (record {
           node = node;

@@ -110,7 +110,7 @@ module _ (A : Type 0) (laws : HearingLaws A) (history : List Happening) (n : Nod
   nothing_open x r reads = absurd (cc)
 
   -- a step of a transaction that goes on, or of another than the reading's
-  steps_so : (r : Report A) (o : Outcome A AtpState) → drawn_by r ≡ None → Matches n.seat.net n.seat.number (after A history) (Hears which) (Gets which) r → (is_finished (heard {A = A} n.atp.requester s.from (Response place eom sts tid user bytes)).step ≡ true → is_reading n.atp.reading tid ≡ false) →
+  steps_so : (r : Report A) (o : Outcome A AtpState) → drawn_by r ≡ None → Matches n.seat.net n.seat.number n.atp.table (after A history) (Hears which) (Gets which) r → (is_finished (heard {A = A} n.atp.requester s.from (Response place eom sts tid user bytes)).step ≡ true → is_reading n.atp.reading tid ≡ false) →
       StepTo A history n (Gets which) (after A history).asked (record n.atp { requester = (heard {A = A} n.atp.requester s.from (Response place eom sts tid user bytes)).after }) r →
       o ≡ after_heard n.seat n.atp (heard {A = A} n.atp.requester s.from (Response place eom sts tid user bytes)) r n.atp.reading → IsIts A history n (Gets which) (over (with_atp n) o)
   steps_so r o none matches apart step is = subst (λ p. IsIts A history n (Gets which) (over (with_atp n) p)) (sym is)
@@ -121,7 +121,7 @@ module _ (A : Type 0) (laws : HearingLaws A) (history : List Happening) (n : Nod
   plainly : (r : Report A) (o : Outcome A AtpState) → drawn_by r ≡ None → is_quiet r (Gets which) ≡ true → (x : Stepped A) → (heard {A = A} n.atp.requester s.from (Response place eom sts tid user bytes)).step ≡ x → is_finished x ≡ false →
       StepTo A history n (Gets which) (after A history).asked (record n.atp { requester = (heard {A = A} n.atp.requester s.from (Response place eom sts tid user bytes)).after }) r →
       o ≡ after_heard n.seat n.atp (heard {A = A} n.atp.requester s.from (Response place eom sts tid user bytes)) r n.atp.reading → IsIts A history n (Gets which) (over (with_atp n) o)
-  plainly r o none quiet x is goes step at = steps_so r o none (hears_matches A n.seat.net n.seat.number (after A history) which (Gets which) r quiet) (λ finished. absurd (false≢true (sym goes ∙ ap is_finished (sym is) ∙ finished))) step at
+  plainly r o none quiet x is goes step at = steps_so r o none (hears_matches A n.seat.net n.seat.number n.atp.table (after A history) which (Gets which) r quiet) (λ finished. absurd (false≢true (sym goes ∙ ap is_finished (sym is) ∙ finished))) step at
 
   -- ---- the page that a reading asked for
 
@@ -149,7 +149,7 @@ module _ (A : Type 0) (laws : HearingLaws A) (history : List Happening) (n : Nod
         subst (λ x. IsIts A history n (Gets which) (over (with_atp n) x)) (sym is)
         (requester_happens A history n (Gets which) st (Hears which) (heard {A = A} n.atp.requester s.from (Response place eom sts tid user bytes)).after None (heard {A = A} n.atp.requester s.from (Response place eom sts tid user bytes)).sent told (in_time (after A history) which s was_sent fresh) tt is_done none
         (nothing_open (heard {A = A} n.atp.requester s.from (Response place eom sts tid user bytes)).after)
-        (hears_matches A n.seat.net n.seat.number (after A history) which (Gets which) told quiet)
+        (hears_matches A n.seat.net n.seat.number n.atp.table (after A history) which (Gets which) told quiet)
         (HasRead (record { came = came (after A history).asked (record n.atp { requester = (heard {A = A} n.atp.requester s.from (Response place eom sts tid user bytes)).after; reading = None }) told; tells = tells; asked = refl; reading = refl })))
 
     ended : finishes A n.atp.requester s.from (Response place eom sts tid user bytes) ≡ true
@@ -168,7 +168,7 @@ module _ (A : Type 0) (laws : HearingLaws A) (history : List Happening) (n : Nod
         (subst (λ (q : Requests). IsIts A history n (Gets which) (over (with_atp n) (asks_page n.seat (record n.atp { requester = q }) (Some (record { tid = k; names = names })) (page_transaction s.from names k)))) (ap (λ f. (heard {A = A} n.atp.requester s.from f).after) packet_is)
         (turned_happens A history n (Gets which) st which s (request_user (place_after names)) 3 k was_sent to_is as_packet drawn nothing (Some (record { tid = k; names = names })) (in_time (after A history) which s was_sent fresh) free_now (asks_fit names) on_net
         (λ q is. begun_is_open (heard {A = A} n.atp.requester s.from s.packet).after (page_transaction s.from names k) (record { tid = k; names = names }) q refl is)
-        (turns_match A n.seat.net n.seat.number (after A history) which s (request_user (place_after names)) 3 k (it_ends A history n (Gets which) st which s (request_user (place_after names)) 3 k was_sent to_is as_packet drawn nothing) (it_draws A history n (Gets which) st which s (request_user (place_after names)) 3 k was_sent to_is as_packet drawn nothing) to_is)
+        (turns_match A n.seat.net n.seat.number n.atp.table (after A history) which s (request_user (place_after names)) 3 k (it_ends A history n (Gets which) st which s (request_user (place_after names)) 3 k was_sent to_is as_packet drawn nothing) (it_draws A history n (Gets which) st which s (request_user (place_after names)) 3 k was_sent to_is as_packet drawn nothing) to_is)
         (steps.Turns (record {
           came = came (page_asked n.seat.net n.seat.number s.from names k ∷ (after A history).asked) (record n.atp { requester = begun (heard {A = A} n.atp.requester s.from s.packet).after (page_transaction s.from names k); reading = Some (record { tid = k; names = names }) }) (report.Begun k);
           page = p;
@@ -211,7 +211,7 @@ module _ (A : Type 0) (laws : HearingLaws A) (history : List Happening) (n : Nod
   other_happens other (step.Finished packets) o is at =
       let r = response packets is in
       steps_so (report.Response tid packets) o refl
-      (ends_match A n.seat.net n.seat.number (after A history) which tid packets (record { packet = s; was_sent = was_sent; fresh = fresh; ends = (λ i. (heard {A = A} (its_requester i) s.from (packet_is i)).step) ∙ is; comes_to = to_is; numbered = ap number_of packet_is }))
+      (ends_match A n.seat.net n.seat.number n.atp.table (after A history) which tid packets (record { packet = s; was_sent = was_sent; fresh = fresh; ends = (λ i. (heard {A = A} (its_requester i) s.from (packet_is i)).step) ∙ is; comes_to = to_is; numbered = ap number_of packet_is }))
       (away other)
       (Ends (record { which = which; tid = tid; packets = packets; act = refl; report = refl; transaction = r.0; newest = r.1; response = r.2; asked = refl; reading = refl })) at
 

@@ -124,7 +124,7 @@ module _ (A : Type 0) (history : List Happening) (n : NodeState) (act : Act A) (
       is_open = st.is_open;
       same_table = λ no. refl;
       has_table = st.has_table;
-      matches = other_matches A n.seat.net n.seat.number (after A history) 0 act r quiet;
+      matches = other_matches A n.seat.net n.seat.number n.atp.table (after A history) 0 act r quiet;
     },
     Plain (record { plain = plain; asked = refl; reading = refl }),
     tt,
@@ -149,7 +149,7 @@ module _ (A : Type 0) (history : List Happening) (n : NodeState) (act : Act A) (
       is_open = subst IsOpen (sym foreign.same) st.is_open;
       same_table = λ no. ap (λ (a : AtpState). a.table) foreign.same;
       has_table = λ table is. st.has_table table (sym (ap (λ (a : AtpState). a.table) foreign.same) ∙ is);
-      matches = other_matches A n.seat.net n.seat.number (after A history) (length o.out) act o.report quiet;
+      matches = other_matches A n.seat.net n.seat.number n.atp.table (after A history) (length o.out) act o.report quiet;
     },
     refl,
   )
@@ -160,7 +160,7 @@ module _ (A : Type 0) (history : List Happening) (n : NodeState) (act : Act A) (
   -- ---- one socket changes
 
   pub requester_happens : (h : Happening) (x : Requests) (reading : Option Reading) (sent : List (Address × Content)) (r : Report A) → IsTimely A (after A history) h → IsInRange h →
-      done A (after A history) h ≡ with_requester (after A history) (asking n.seat.net n.seat.number) x sent → drawn_by r ≡ None → IsOpen (record n.atp { requester = x; reading = reading }) → Matches n.seat.net n.seat.number (after A history) h act r →
+      done A (after A history) h ≡ with_requester (after A history) (asking n.seat.net n.seat.number) x sent → drawn_by r ≡ None → IsOpen (record n.atp { requester = x; reading = reading }) → Matches n.seat.net n.seat.number n.atp.table (after A history) h act r →
       StepTo A history n act (after A history).asked (record n.atp { requester = x; reading = reading }) r →
       IsIts A history n act (record { report = r; state = with_atp n (record n.atp { requester = x; reading = reading }); out = sent_by (asking n.seat.net n.seat.number) atp_kind (spelled_all sent) })
   requester_happens h x reading sent r timely range is none opened matches step = (
@@ -187,7 +187,7 @@ module _ (A : Type 0) (history : List Happening) (n : NodeState) (act : Act A) (
 
   -- the records of a socket that answers become these, and so those of both are these
   responder_happens : (h : Happening) (own : Address) (rs served service : List Record) (sent : List (Address × Content)) (r : Report A) → ((at : Address) → put (after A history).responders own rs at ≡ put (put (after A history).responders (serving n.seat.net n.seat.number) service) (zones_at n.seat.net n.seat.number) served at) →
-      IsTimely A (after A history) h → IsInRange h → done A (after A history) h ≡ with_responder (after A history) own rs sent → drawn_by r ≡ None → Matches n.seat.net n.seat.number (after A history) h act r →
+      IsTimely A (after A history) h → IsInRange h → done A (after A history) h ≡ with_responder (after A history) own rs sent → drawn_by r ≡ None → Matches n.seat.net n.seat.number n.atp.table (after A history) h act r →
       StepTo A history n act (after A history).asked (record n.atp { zone_responder = served; service_responder = service }) r →
       IsIts A history n act (record { report = r; state = with_atp n (record n.atp { zone_responder = served; service_responder = service }); out = sent_by own atp_kind (spelled_all sent) })
   responder_happens h own rs served service sent r both timely range is none matches step = (
@@ -213,12 +213,12 @@ module _ (A : Type 0) (history : List Happening) (n : NodeState) (act : Act A) (
   )
 
   pub service_happens : (h : Happening) (rs : List Record) (sent : List (Address × Content)) (r : Report A) → IsTimely A (after A history) h → IsInRange h → done A (after A history) h ≡ with_responder (after A history) (serving n.seat.net n.seat.number) rs sent →
-      drawn_by r ≡ None → Matches n.seat.net n.seat.number (after A history) h act r → StepTo A history n act (after A history).asked (record n.atp { service_responder = rs }) r →
+      drawn_by r ≡ None → Matches n.seat.net n.seat.number n.atp.table (after A history) h act r → StepTo A history n act (after A history).asked (record n.atp { service_responder = rs }) r →
       IsIts A history n act (record { report = r; state = with_atp n (record n.atp { service_responder = rs }); out = sent_by (serving n.seat.net n.seat.number) atp_kind (spelled_all sent) })
   service_happens h rs sent r timely range is none matches step = responder_happens h (serving n.seat.net n.seat.number) rs n.atp.zone_responder rs sent r (with_service rs) timely range is none matches step
 
   pub zones_happen : (h : Happening) (rs : List Record) (sent : List (Address × Content)) (r : Report A) → IsTimely A (after A history) h → IsInRange h → done A (after A history) h ≡ with_responder (after A history) (zones_at n.seat.net n.seat.number) rs sent →
-      drawn_by r ≡ None → Matches n.seat.net n.seat.number (after A history) h act r → StepTo A history n act (after A history).asked (record n.atp { zone_responder = rs }) r →
+      drawn_by r ≡ None → Matches n.seat.net n.seat.number n.atp.table (after A history) h act r → StepTo A history n act (after A history).asked (record n.atp { zone_responder = rs }) r →
       IsIts A history n act (record { report = r; state = with_atp n (record n.atp { zone_responder = rs }); out = sent_by (zones_at n.seat.net n.seat.number) atp_kind (spelled_all sent) })
   zones_happen h rs sent r timely range is none matches step = responder_happens h (zones_at n.seat.net n.seat.number) rs rs n.atp.service_responder sent r (with_served rs) timely range is none matches step
 
@@ -228,7 +228,7 @@ module _ (A : Type 0) (history : List Happening) (n : NodeState) (act : Act A) (
       IsTimely A (after A history) h → IsInRange h → (done A (after A history) h).event ≡ (after A history).event → ((who : Address) → (done A (after A history) h).requesters who ≡ (after A history).requesters who) →
       ((at : Address) → (done A (after A history) h).responders at ≡ put (put (after A history).responders (serving n.seat.net n.seat.number) service) (zones_at n.seat.net n.seat.number) served at) →
       (done A (after A history) h).sent ≡ (after A history).sent ++ stamped (after A history).event own sent → (done A (after A history) h).drawn ≡ (after A history).drawn →
-      (done A (after A history) h).asked ≡ answered (after A history).asked from tid packets → drawn_by r ≡ None → Matches n.seat.net n.seat.number (after A history) h act r →
+      (done A (after A history) h).asked ≡ answered (after A history).asked from tid packets → drawn_by r ≡ None → Matches n.seat.net n.seat.number n.atp.table (after A history) h act r →
       StepTo A history n act (answered (after A history).asked from tid packets) (record n.atp { zone_responder = served; service_responder = service }) r →
       IsIts A history n act (record { report = r; state = with_atp n (record n.atp { zone_responder = served; service_responder = service }); out = sent_by own atp_kind (spelled_all sent) })
   gave_happens h r own from tid packets served service sent timely range event requesters responders is drawn is_asked none matches step = (
@@ -257,7 +257,7 @@ module _ (A : Type 0) (history : List Happening) (n : NodeState) (act : Act A) (
 
   pub begun_happens : (to : Address) (user bytes : List ℕ) (wanted : ℕ) (xo : Bool) (retries tid : ℕ) (reading : Option Reading) → next_number n.atp.requester ≡ Some tid → NoneHolds (after A history).responders (asking n.seat.net n.seat.number) tid →
       IsAsking (asking n.seat.net n.seat.number) to user bytes wanted → to.net ≡ n.seat.net → IsOpen (record n.atp { requester = requests.begun n.atp.requester (beginning tid to user bytes wanted xo retries); reading = reading }) →
-      Matches n.seat.net n.seat.number (after A history) (Begins (asking n.seat.net n.seat.number) to user bytes wanted xo retries) act (report.Begun tid) →
+      Matches n.seat.net n.seat.number n.atp.table (after A history) (Begins (asking n.seat.net n.seat.number) to user bytes wanted xo retries) act (report.Begun tid) →
       StepTo A history n act (new_transaction (asking n.seat.net n.seat.number) (beginning tid to user bytes wanted xo retries) ∷ (after A history).asked) (record n.atp { requester = requests.begun n.atp.requester (beginning tid to user bytes wanted xo retries); reading = reading }) (report.Begun tid) →
       IsIts A history n act (record {
         report = report.Begun tid;
@@ -312,7 +312,7 @@ module _ (A : Type 0) (history : List Happening) (n : NodeState) (act : Act A) (
       is_open = st.is_open;
       same_table = λ no. absurd (true≢false no);
       has_table = λ table is. let same : names ≡ table = cc in subst IsTable same is_table;
-      matches = other_matches A n.seat.net n.seat.number (after A history) 0 act report.TableSet quiet;
+      matches = other_matches A n.seat.net n.seat.number n.atp.table (after A history) 0 act report.TableSet quiet;
     },
     step,
     tt,
@@ -343,7 +343,7 @@ module _ (A : Type 0) (history : List Happening) (n : NodeState) (act : Act A) (
 
     pub turned_happens : (reading : Option Reading) → ComesInTime (after A history) which → NoneHolds (after A history).responders (asking n.seat.net n.seat.number) tid → IsPacket (record { user = user; data_ = [] }) → (s.from).net ≡ n.seat.net →
         IsOpen (record n.atp { requester = requests.begun (heard {A = A} n.atp.requester s.from s.packet).after (beginning tid s.from user [] 1 false times); reading = reading }) →
-        Matches n.seat.net n.seat.number (after A history) (Turns which user times) act (report.Begun tid) →
+        Matches n.seat.net n.seat.number n.atp.table (after A history) (Turns which user times) act (report.Begun tid) →
         StepTo A history n act (new_transaction (asking n.seat.net n.seat.number) (beginning tid s.from user [] 1 false times) ∷ (after A history).asked) (record n.atp { requester = requests.begun (heard {A = A} n.atp.requester s.from s.packet).after (beginning tid s.from user [] 1 false times); reading = reading }) (report.Begun tid) →
         IsIts A history n act (record {
           report = report.Begun tid;

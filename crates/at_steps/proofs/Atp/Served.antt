@@ -25,6 +25,7 @@ use Rattle.at_node.specs.ZoneSocket.{page_packet, zone_served, zone_taken, at_zo
 use Rattle.at_node.specs.declared.event.Report.{Report}
 use Rattle.at_node.specs.declared.event.Report.TheVariants as report
 use Rattle.at_steps.specs.Acts.{Gets}
+use Rattle.at_steps.specs.AtpReports.{AsksFrom}
 use Rattle.at_steps.specs.AtpSteps as steps
 use Rattle.at_steps.specs.AtpHappenings.{Stands}
 use Rattle.at_steps.specs.AtpSteps.{Plain, is_plain}
@@ -48,7 +49,7 @@ module _ (A : Type 0) (laws : HearingLaws A) (history : List Happening) (n : Nod
         IsIts A history n (Gets which) (over (with_atp n) (zone_taken n.seat n.atp (taken n.atp.zone_responder s.from f) r))
     quietly r x is old quiet plain none =
         zones_happen A history n (Gets which) st (Takes which) (taken n.atp.zone_responder s.from f).after (taken n.atp.zone_responder s.from f).sent r (in_time (after A history) which s was_sent fresh) tt is_taken none
-        (takes_quietly A n.seat.net n.seat.number (after A history) which s was_sent r x ((λ i. (taken (its_records i) s.from (packet_is i)).reception) ∙ is) old quiet)
+        (takes_quietly A n.seat.net n.seat.number n.atp.table (after A history) which s was_sent r x ((λ i. (taken (its_records i) s.from (packet_is i)).reception) ∙ is) old quiet)
         (Plain (record { plain = plain; asked = refl; reading = refl }))
 
   -- ---- a release
@@ -104,8 +105,9 @@ module _ (A : Type 0) (laws : HearingLaws A) (history : List Happening) (n : Nod
         ∙ ap (λ l. l ++ stamped (after A history).event (zones_at n.seat.net n.seat.number) (asked_for (find (is_key key) (taken n.atp.zone_responder s.from (Request mask xo timer tid user bytes)).after) key (page_packet table start ∷ []))) (append-nil (after A history).sent))
         (ap (λ (x : Network). x.drawn) d)
         joined refl
-        (serves_new A n.seat.net n.seat.number (after A history) which s was_sent key (page_packet table start ∷ []) (length (asked_for (find (is_key key) (taken n.atp.zone_responder s.from (Request mask xo timer tid user bytes)).after) key (page_packet table start ∷ []))) ((λ i. (taken (its_records i) s.from (packet_is i)).reception) ∙ is) (waits.2 ∙ ap (λ f. record { from = s.from; tid = number_of f }) (sym packet_is))
-        (joined ∙ (λ i. answered (after A history).asked s.from (number_of (sym packet_is i)) (page_packet table start ∷ []))))
+        (serves_new A n.seat.net n.seat.number n.atp.table (after A history) which s was_sent key (page_packet table start ∷ []) (length (asked_for (find (is_key key) (taken n.atp.zone_responder s.from (Request mask xo timer tid user bytes)).after) key (page_packet table start ∷ []))) ((λ i. (taken (its_records i) s.from (packet_is i)).reception) ∙ is) (waits.2 ∙ ap (λ f. record { from = s.from; tid = number_of f }) (sym packet_is))
+        (joined ∙ (λ i. answered (after A history).asked s.from (number_of (sym packet_is i)) (page_packet table start ∷ [])))
+        (record { zones = table; is_table = is_table; request = s; was_sent = was_sent; start = start; asks_from = subst (λ f. AsksFrom f start) (sym packet_is) asks_from; page = refl }))
         (steps.Serves (record {
           which = which;
           count = length (asked_for (find (is_key key) (taken n.atp.zone_responder s.from (Request mask xo timer tid user bytes)).after) key (page_packet table start ∷ []));

@@ -88,20 +88,20 @@ module _ (A : Type 0) (stays : StaysOpen) (history : List Happening) (n : NodeSt
       requester_happens A history n (Fires (timer.Retry tid)) st (Retries (asking n.seat.net n.seat.number) tid) r.after None [] report.ZonesFailed tt asking_fits
       (is_done r is ∙ ap (with_requester (after A history) (asking n.seat.net n.seat.number) r.after) (failed_sends n.atp.requester tid r is failed)) refl
       (nothing_open r.after)
-      (retries_match A n.seat.net n.seat.number (after A history) (asking n.seat.net n.seat.number) tid (Fires (timer.Retry tid)) report.ZonesFailed refl)
+      (retries_match A n.seat.net n.seat.number n.atp.table (after A history) (asking n.seat.net n.seat.number) tid (Fires (timer.Retry tid)) report.ZonesFailed refl)
       (let it = reads_it n.atp.reading tid e in Fails (record { time = timer.Retry tid; act = refl; report = refl; read = it.0; reads = it.1; asked = refl; reading = refl }))
   failing r is failed false e =
       requester_happens A history n (Fires (timer.Retry tid)) st (Retries (asking n.seat.net n.seat.number) tid) r.after n.atp.reading [] (report.Failed tid) tt asking_fits
       (is_done r is ∙ ap (with_requester (after A history) (asking n.seat.net n.seat.number) r.after) (failed_sends n.atp.requester tid r is failed)) refl
       (goes_on r is (λ f. e))
-      (retries_match A n.seat.net n.seat.number (after A history) (asking n.seat.net n.seat.number) tid (Fires (timer.Retry tid)) (report.Failed tid) refl)
+      (retries_match A n.seat.net n.seat.number n.atp.table (after A history) (asking n.seat.net n.seat.number) tid (Fires (timer.Retry tid)) (report.Failed tid) refl)
       (Plain (record { plain = refl; asked = refl; reading = refl }))
 
   retried_so : (r : Retried) → retried n.atp.requester tid ≡ Some r → (s : Retry) → r.step ≡ s → IsIts A history n (Fires (timer.Retry tid)) (over (with_atp n) (after_retry n.seat n.atp tid r s))
   retried_so r is retry.AskedAgain step =
       requester_happens A history n (Fires (timer.Retry tid)) st (Retries (asking n.seat.net n.seat.number) tid) r.after n.atp.reading r.sent report.Again tt asking_fits (is_done r is) refl
       (goes_on r is (λ failed. absurd (never r.step step failed)))
-      (retries_match A n.seat.net n.seat.number (after A history) (asking n.seat.net n.seat.number) tid (Fires (timer.Retry tid)) report.Again refl)
+      (retries_match A n.seat.net n.seat.number n.atp.table (after A history) (asking n.seat.net n.seat.number) tid (Fires (timer.Retry tid)) report.Again refl)
       (Plain (record { plain = refl; asked = refl; reading = refl }))
     where
       never : (x : Retry) → x ≡ retry.AskedAgain → x ≡ retry.Failed → ⊥
@@ -122,9 +122,9 @@ module _ (A : Type 0) (history : List Happening) (n : NodeState) (st : Stands A 
       ∙ (λ i. record (after A history) { responders = put (after A history).responders at (without_first (is_key (record { from = at_socket n.seat node socket; tid = tid })) (is i)); sent = sym (append-nil (after A history).sent) i })
 
   expiry_matches : (at : Address) (rs : List Record) → at ≡ at_socket n.seat n.seat.number own → (after A history).responders at ≡ rs → expiry_fault (find (is_key (record { from = at_socket n.seat node socket; tid = tid })) rs) ≡ None →
-      Matches {A = A} n.seat.net n.seat.number (after A history) (Expires at (record { from = at_socket n.seat node socket; tid = tid })) (Fires (timer.Release own node socket tid)) report.Done
+      Matches {A = A} n.seat.net n.seat.number n.atp.table (after A history) (Expires at (record { from = at_socket n.seat node socket; tid = tid })) (Fires (timer.Release own node socket tid)) report.Done
   expiry_matches at rs here is free =
-      expires_match A n.seat.net n.seat.number (after A history) own node socket tid at (record { from = at_socket n.seat node socket; tid = tid }) here refl
+      expires_match A n.seat.net n.seat.number n.atp.table (after A history) own node socket tid at (record { from = at_socket n.seat node socket; tid = tid }) here refl
       (ap (λ l. expiry_fault (find (is_key (record { from = at_socket n.seat node socket; tid = tid })) l)) is ∙ free)
 
   release_happens : (x y : Bool) (fault : Option AtpFault) → (own == 129) ≡ x → (own == 6) ≡ y → expiry_fault (find (is_key (record { from = at_socket n.seat node socket; tid = tid })) (cond x n.atp.service_responder (cond y n.atp.zone_responder []))) ≡ fault →

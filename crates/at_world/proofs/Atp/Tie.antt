@@ -8,7 +8,7 @@ use Rattle.at_ddp.specs.Datagram.{canonical, IsAddress}
 use Rattle.at_ddp.specs.declared.address.Address.{Address}
 use Rattle.at_atp_frame.specs.Frames.{Content, IsLawful, spelled, owner, number_of}
 use Rattle.at_atp.specs.Lawfully.{IsInRange, IsLawfullySent}
-use Rattle.at_atp.specs.Network.{Sent, AllSent, Happening, NoneHolds, after, done, put, is_fresh, packet_at, AllTimely}
+use Rattle.at_atp.specs.Network.{Network, Sent, AllSent, Happening, Answers, Serves, NoneHolds, after, done, put, is_fresh, packet_at, AllTimely}
 use Rattle.at_atp.specs.Transactions.{Transaction}
 use Rattle.at_zip.specs.Zones.{IsTable}
 use Rattle.at_node.specs.Calls.{IsCall}
@@ -27,6 +27,9 @@ use Rattle.at_node.specs.declared.event.Timer.{Timer}
 use Rattle.at_node.specs.declared.service.Reply.{Reply}
 use Rattle.at_node.specs.declared.service.Reply.TheVariants.{Later}
 use Rattle.at_steps.specs.Acts.{Act, Calls, Fires, Gets, is_atp}
+use Rattle.at_steps.specs.AtpReports as reports
+use Rattle.at_steps.specs.AtpReports.{AnswersAs}
+use Rattle.at_steps.specs.AtpSteps.{page_answer}
 use Rattle.at_steps.specs.AtpHappenings.{AreEntries, Happens, HoldsNo, IsForeign, IsHappening, IsOn, IsOpen, Passes, Stands, numbers_drawn}
 use Rattle.at_world.specs.Draws.{noted as noted_in}
 use Rattle.at_world.specs.AtpGuards.{AtpMachine, Reading, StepBy, since_of, next}
@@ -135,13 +138,22 @@ pub record Becomes (A : Type 0) (c : Cable) (m : AtpMachine) (e : Event A) (x : 
   pub still : (j tid server : ℕ) → (node_of e == j) ≡ false → StaysAsked table m.asked asked (asking c.net j) tid (zones_at c.net server)
 
 -- the history grew by one happening, which is what the event and its report say
-abbrev pub Grown : (A : Type 0) (cable : Cable) (before now : List Happening) → Event A → Report A → Type 0
-Grown A cable before now e r = (h : Happening) × (now ≡ h ∷ before) × Matches cable.net (after A before) h e r × Grows A (after A before) h
+abbrev pub Grown : (A : Type 0) (cable : Cable) (table : List (List ℕ)) (before now : List Happening) → Event A → Report A → Type 0
+Grown A cable table before now e r = (h : Happening) × (now ≡ h ∷ before) × Matches cable.net table (after A before) h e r × Grows A (after A before) h
+
+-- what matches with the table of a node matches with the machine's table, if that is the node's
+with_table : (A : Type 0) (net number : ℕ) (its : Option (List (List ℕ))) (table : List (List ℕ)) (n : Network) (h : Happening) (act : Act A) (r : Report A) → ((t : List (List ℕ)) → its ≡ Some t → t ≡ table) → reports.Matches net number its n h act r → reports.Matches net number (Some table) n h act r
+with_table A net number its table n h act r same m = record { draws_it = m.draws_it; expires_it = m.expires_it; hands_up = m.hands_up; takes_in = m.takes_in; begins_as = m.begins_as; answers_as = as_it_is h m.answers_as; joins = m.joins; finishes = m.finishes }
+  where
+    as_it_is : (h : Happening) → AnswersAs net its n h act r → AnswersAs net (Some table) n h act r
+    as_it_is (Answers at key packets) g = g
+    as_it_is (Serves which packets) g = let p = g.3 in (g.0, g.1, g.2, record { zones = table; is_table = refl; request = p.request; was_sent = p.was_sent; start = p.start; asks_from = p.asks_from; page = p.page ∙ ap (λ zones. page_answer zones p.start) (same p.zones p.is_table) })
+    as_it_is h g = tt
 
 -- the machine follows this outcome of a node's step
 abbrev pub Good : (A : Type 0) (w : WorldState) (c : Cable) (m : AtpMachine) (wires : List Wire) → AtpTie A w c wires m → Event A → Outcome A NodeState → Type 0
 Good A w c m wires t e o =
-    (m' : AtpMachine) × StepBy c m e o.report m' (owner_of e o.report) × (now : AtpTie A (recorded w (node_of e) o.report o.state (map posted o.out)) c (wires ++ map (wire w.events) o.out) m') × Grown A c t.history now.history e o.report
+    (m' : AtpMachine) × StepBy c m e o.report m' (owner_of e o.report) × (now : AtpTie A (recorded w (node_of e) o.report o.state (map posted o.out)) c (wires ++ map (wire w.events) o.out) m') × Grown A c m.table t.history now.history e o.report
 
 module _ (A : Type 0) (laws : Laws A) (w : WorldState) (c : Cable) (wires : List Wire) (m : AtpMachine) (e : Event A) (n : NodeState) (o : Outcome A NodeState) (t : AtpTie A w c wires m) (stands : node_at w (node_of e) ≡ Some n) (h : Happens A t.history c.net (node_of e) n (act_of e) o)
     (mine : SeatTie c (node_of e) o.state) (asked : List Transaction) (is_asked : (done A (after A t.history) h.happening).asked ≡ asked) (b : Becomes A c m e o.state o.report asked) where
@@ -177,4 +189,4 @@ module _ (A : Type 0) (laws : Laws A) (w : WorldState) (c : Cable) (wires : List
   )
 
   pub good_next : Good A w c m wires t e o
-  good_next = let now = tied_next in (moved m b.table asked b.readings, b.allows, now.0, (h.happening, now.1, h.matches, (h.more, h.sent)))
+  good_next = let now = tied_next in (moved m b.table asked b.readings, b.allows, now.0, (h.happening, now.1, with_table A c.net (node_of e) n.atp.table m.table (after A t.history) h.happening (act_of e) o.report (λ table is. (t.tables (node_of e) n stands table is).0) h.matches, (h.more, h.sent)))

@@ -20,7 +20,7 @@ use Rattle.at_atp_responder.specs.declared.reception.Key.{Key}
 use Rattle.at_node.specs.AtpParts.{atp_kind}
 use Rattle.at_node.specs.declared.event.Report.{Report}
 use Rattle.at_node.specs.declared.event.Report.TheVariants as report
-use Rattle.at_world.specs.ExactlyOnce.{Played, onto, since, CameFrom, HandsUpBy, HandsUp, NoneHandsUp, AtMostOneHandsUp, SomeHandsUp, has_expired, LivesBy, AllLive}
+use Rattle.at_world.specs.ExactlyOnce.{Played, onto, since, table_after, CameFrom, HandsUpBy, HandsUp, NoneHandsUp, AtMostOneHandsUp, SomeHandsUp, has_expired, LivesBy, AllLive}
 use Rattle.at_world.specs.Sents.{SentDatagram}
 use Rattle.at_steps.specs.AtpReports.{came_under}
 use Rattle.at_steps.specs.AtpReports as reports
@@ -45,17 +45,17 @@ pub record OnceLaws (A : Type 0) : Type 0 where
 
 -- ---- the steps and the happenings, side by side
 
-abbrev pub Told : (A : Type 0) → ℕ → List (Played A) → List Happening → Type 0
-Told A net [] [] = Unit {0}
-Told A net (x ∷ xs) (h ∷ hs) = Matches net (after A hs) h x.event x.report × Grows A (after A hs) h × Told A net xs hs
-Told A net [] (h ∷ hs) = ⊥
-Told A net (x ∷ xs) [] = ⊥
+abbrev pub Told : (A : Type 0) → ℕ → List (List ℕ) → List (Played A) → List Happening → Type 0
+Told A net zones [] [] = Unit {0}
+Told A net zones (x ∷ xs) (h ∷ hs) = Matches net (table_after zones xs) (after A hs) h x.event x.report × Grows A (after A hs) h × Told A net zones xs hs
+Told A net zones [] (h ∷ hs) = ⊥
+Told A net zones (x ∷ xs) [] = ⊥
 
-pub told_of : (A : Type 0) (net : ℕ) (past : List (Played A)) (before : List Happening) (es : List (Event A)) (rs : List (Report A)) (history : List Happening) → Told A net past before → Tells net before es rs history → Told A net (onto past es rs) history
-told_of A net past before [] [] history told h = subst (Told A net past) (sym h) told
-told_of A net past before (e ∷ es) (r ∷ rs) history told h = told_of A net (record { event = e; report = r } ∷ past) (h.0 ∷ before) es rs history (h.1, h.2, told) h.3
-told_of A net past before [] (r ∷ rs) history told h = absurd h
-told_of A net past before (e ∷ es) [] history told h = absurd h
+pub told_of : (A : Type 0) (net : ℕ) (zones : List (List ℕ)) (past : List (Played A)) (before : List Happening) (es : List (Event A)) (rs : List (Report A)) (history : List Happening) → Told A net zones past before → Tells net (table_after zones past) before es rs history → Told A net zones (onto past es rs) history
+told_of A net zones past before [] [] history told h = subst (Told A net zones past) (sym h) told
+told_of A net zones past before (e ∷ es) (r ∷ rs) history told h = told_of A net zones (record { event = e; report = r } ∷ past) (h.0 ∷ before) es rs history (h.1, h.2, told) h.3
+told_of A net zones past before [] (r ∷ rs) history told h = absurd h
+told_of A net zones past before (e ∷ es) [] history told h = absurd h
 
 pub get_more : (xs ys : List (Option Sent)) (i : ℕ) (x : Sent) → packet_at xs i ≡ Some x → packet_at (xs ++ ys) i ≡ Some x
 get_more [] ys i x h = absurd (cc)
@@ -67,7 +67,7 @@ within_before A sent h hs g within i s is = within i s (ap (λ l. packet_at l i)
 
 -- ---- what is delivered
 
-module _ (A : Type 0) (laws : OnceLaws A) (net : ℕ) (sent : List SentDatagram) where
+module _ (A : Type 0) (laws : OnceLaws A) (net : ℕ) (zones : List (List ℕ)) (sent : List SentDatagram) where
   pub all_in : (P : Sent → Type 0) (xs : List (Option Sent)) (i : ℕ) (s : Sent) → AllSent P xs → packet_at xs i ≡ Some s → P s
   all_in P [] i s all is = absurd (cc)
   all_in P (x ∷ xs) zero s all is = subst (λ (o : Option Sent). IfSome o P) is all.0
@@ -87,17 +87,21 @@ module _ (A : Type 0) (laws : OnceLaws A) (net : ℕ) (sent : List SentDatagram)
       let parts = key_parts s key same in
       record { datagram = posted_packet s; was_sent = is; header = written s.to s.from atp_kind (spelled s.packet); rest = []; begins = begins s ok; packet = s.packet; spells = laws.packet_reads s.packet ok.lawful; sender = parts.0; numbered = parts.1 }
 
-  pub came_so : (which : ℕ) (key : Key) (s : Sent) → slice_get sent which ≡ Some (posted_packet s) → IsLawfullySent s → CameFrom sent which key → same_key (record { from = s.from; tid = number_of s.packet }) key ≡ true
-  came_so which key s is ok c =
+  -- the packet that came at a place is the one that was sent there, from the same address
+  pub came_as : (which : ℕ) (key : Key) (s : Sent) → slice_get sent which ≡ Some (posted_packet s) → IsLawfullySent s → (c : CameFrom sent which key) → (s.packet ≡ c.packet) × (s.from ≡ key.from)
+  came_as which key s is ok c =
       let one : posted_packet s ≡ c.datagram = some_one (posted_packet s) c.datagram (sym is ∙ c.was_sent) in
       let header : written s.to s.from atp_kind (spelled s.packet) ≡ c.header = (laws.alone (posted_packet s).bytes (written s.to s.from atp_kind (spelled s.packet)) c.header [] c.rest (begins s ok) (subst (λ (d : SentDatagram). BeginsWith d.bytes c.header c.rest) (sym one) c.begins)).0 in
-      let packet : s.packet ≡ c.packet = laws.packet_alone (spelled s.packet) s.packet c.packet (laws.packet_reads s.packet ok.lawful) (subst (λ (d : Datagram). Spells d.data_ c.packet) (sym header) c.spells) in
-      let from : s.from ≡ key.from = ap (λ (d : Datagram). d.from) header ∙ c.sender in
-      let tid : number_of s.packet ≡ key.tid = ap number_of packet ∙ c.numbered in
-      (λ i. same_address (from i) key.from && tid i == key.tid) ∙ (λ i. same_address_itself key.from i && eq-eqb key.tid key.tid refl i)
+      (laws.packet_alone (spelled s.packet) s.packet c.packet (laws.packet_reads s.packet ok.lawful) (subst (λ (d : Datagram). Spells d.data_ c.packet) (sym header) c.spells), ap (λ (d : Datagram). d.from) header ∙ c.sender)
     where
       some_one : (a b : SentDatagram) → Some a ≡ Some b → a ≡ b
       some_one a b h = cc
+
+  pub came_so : (which : ℕ) (key : Key) (s : Sent) → slice_get sent which ≡ Some (posted_packet s) → IsLawfullySent s → CameFrom sent which key → same_key (record { from = s.from; tid = number_of s.packet }) key ≡ true
+  came_so which key s is ok c =
+      let both = came_as which key s is ok c in
+      let tid : number_of s.packet ≡ key.tid = ap number_of both.0 ∙ c.numbered in
+      (λ i. same_address (both.1 i) key.from && tid i == key.tid) ∙ (λ i. same_address_itself key.from i && eq-eqb key.tid key.tid refl i)
 
   -- what the network delivers is what the reports say was delivered
   pub hands_sound : (e : Event A) (r : Report A) (n : Network) (key : Key) → Within sent n → AllSent IsLawfullySent n.sent → reports.Finishes net (node_of e) n (act_of e) r → HandsUpBy sent e r key → reports.handed_up_by n.sent (act_of e) r key ≡ true
@@ -124,7 +128,7 @@ module _ (A : Type 0) (laws : OnceLaws A) (net : ℕ) (sent : List SentDatagram)
   none_go x xs key k false true sound is before = absurd (omega (arith, is))
   none_go x xs key k false false sound is before = ((λ hands. false≢true (sound hands)), before is)
 
-  pub none_of : (past : List (Played A)) (hs : List Happening) (key : Key) → Told A net past hs → Within sent (after A hs) → AllByRecursion IsInRange hs → hand_ups_since A hs key ≡ 0 → NoneHandsUp sent key (since net past key)
+  pub none_of : (past : List (Played A)) (hs : List Happening) (key : Key) → Told A net zones past hs → Within sent (after A hs) → AllByRecursion IsInRange hs → hand_ups_since A hs key ≡ 0 → NoneHandsUp sent key (since net past key)
   none_of [] [] key told within range is = tt
   none_of [] (h ∷ hs) key told within range is = absurd told
   none_of (x ∷ xs) [] key told within range is = absurd told
@@ -142,7 +146,7 @@ module _ (A : Type 0) (laws : OnceLaws A) (net : ℕ) (sent : List SentDatagram)
   most_go x xs key k false true sound few none most = ((λ hands. none (omega (arith, few))), most (omega (arith, few)))
   most_go x xs key k false false sound few none most = ((λ hands. absurd (false≢true (sound hands))), most few)
 
-  pub most_of : (past : List (Played A)) (hs : List Happening) (key : Key) → Told A net past hs → Within sent (after A hs) → AllByRecursion IsInRange hs → hand_ups_since A hs key ≤ 1 → AtMostOneHandsUp sent key (since net past key)
+  pub most_of : (past : List (Played A)) (hs : List Happening) (key : Key) → Told A net zones past hs → Within sent (after A hs) → AllByRecursion IsInRange hs → hand_ups_since A hs key ≤ 1 → AtMostOneHandsUp sent key (since net past key)
   most_of [] [] key told within range few = tt
   most_of [] (h ∷ hs) key told within range few = absurd told
   most_of (x ∷ xs) [] key told within range few = absurd told
@@ -159,7 +163,7 @@ module _ (A : Type 0) (laws : OnceLaws A) (net : ℕ) (sent : List SentDatagram)
   some_go x xs key k false true complete some before = inl (complete refl)
   some_go x xs key k false false complete some before = inr (before some)
 
-  pub some_of : (past : List (Played A)) (hs : List Happening) (key : Key) → Told A net past hs → Within sent (after A hs) → AllByRecursion IsInRange hs → 1 ≤ hand_ups_since A hs key → SomeHandsUp sent key (since net past key)
+  pub some_of : (past : List (Played A)) (hs : List Happening) (key : Key) → Told A net zones past hs → Within sent (after A hs) → AllByRecursion IsInRange hs → 1 ≤ hand_ups_since A hs key → SomeHandsUp sent key (since net past key)
   some_of [] [] key told within range some = absurd (omega (arith, some))
   some_of [] (h ∷ hs) key told within range some = absurd told
   some_of (x ∷ xs) [] key told within range some = absurd told
@@ -173,7 +177,7 @@ module _ (A : Type 0) (laws : OnceLaws A) (net : ℕ) (sent : List SentDatagram)
 
   -- ---- records that live
 
-  pub same_expiry : (past : List (Played A)) (hs : List Happening) (at : Address) (key : Key) → Told A net past hs → record_expired A hs at key ≡ has_expired net past at key
+  pub same_expiry : (past : List (Played A)) (hs : List Happening) (at : Address) (key : Key) → Told A net zones past hs → record_expired A hs at key ≡ has_expired net past at key
   same_expiry [] [] at key told = refl
   same_expiry [] (h ∷ hs) at key told = absurd told
   same_expiry (x ∷ xs) [] at key told = absurd told
@@ -182,13 +186,13 @@ module _ (A : Type 0) (laws : OnceLaws A) (net : ℕ) (sent : List SentDatagram)
       let before = same_expiry xs hs at key told.2 in
       λ i. cond (m.draws_it key i) false (m.expires_it at key i || before i)
 
-  pub lives_in : (e : Event A) (past : List (Played A)) (hs : List Happening) (which node : ℕ) → e ≡ event.Deliver which node → Told A net past hs → Within sent (after A hs) → LivesBy net sent e past →
+  pub lives_in : (e : Event A) (past : List (Played A)) (hs : List Happening) (which node : ℕ) → e ≡ event.Deliver which node → Told A net zones past hs → Within sent (after A hs) → LivesBy net sent e past →
       (s : Sent) (mask : ℕ) (xo : Bool) (timer tid : ℕ) (user bytes : List ℕ) → packet_at (after A hs).sent which ≡ Some s → s.packet ≡ Request mask xo timer tid user bytes → record_expired A hs s.to (record { from = s.from; tid = tid }) ≡ false
   lives_in e past hs which node is told within lives s mask xo timer tid user bytes was_sent packet_is =
       same_expiry past hs s.to (record { from = s.from; tid = tid }) told
       ∙ subst (λ x. LivesBy net sent x past) is lives (posted_packet s) s.to s.from mask xo timer tid user bytes (within which s was_sent) (ap (λ f. canonical s.to s.from atp_kind (spelled f)) packet_is)
 
-  pub all_lived : (past : List (Played A)) (hs : List Happening) → Told A net past hs → Within sent (after A hs) → AllLive net sent past → AllLived A hs
+  pub all_lived : (past : List (Played A)) (hs : List Happening) → Told A net zones past hs → Within sent (after A hs) → AllLive net sent past → AllLived A hs
   all_lived [] [] told within live = tt
   all_lived [] (h ∷ hs) told within live = absurd told
   all_lived (x ∷ xs) [] told within live = absurd told
@@ -197,7 +201,7 @@ module _ (A : Type 0) (laws : OnceLaws A) (net : ℕ) (sent : List SentDatagram)
       earlier : Within sent (after A hs)
       earlier = within_before A sent h hs told.1 within
 
-      lived : (g : Happening) → Matches net (after A hs) g x.event x.report → HandUps.Lives A hs g
+      lived : (g : Happening) → Matches net (table_after zones xs) (after A hs) g x.event x.report → HandUps.Lives A hs g
       lived (Takes which) m = lives_in x.event xs hs which (node_of x.event) (delivered_at x.event which m.takes_in) told.2 earlier live.0
       lived (Serves which packets) m = lives_in x.event xs hs which (node_of x.event) (delivered_at x.event which m.takes_in) told.2 earlier live.0
       lived g m = tt

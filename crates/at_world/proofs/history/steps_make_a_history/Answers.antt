@@ -82,7 +82,7 @@ returns g c s events reports w lawful =
         record {
           timely = atp.timely;
           in_range = atp.in_range;
-          tells = subst (λ before. Tells s.net before events reports atp.history) opened.1 ran.3;
+          tells = subst (λ before. Tells s.net s.zones before events reports atp.history) opened.1 ran.3;
           is_sent = λ which s there. ap (λ l. slice_get l which) cable.sent ∙ stands_at cable.wires (after A atp.history).sent which s atp.sent there;
         },
       ),
