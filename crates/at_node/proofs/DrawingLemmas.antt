@@ -14,21 +14,21 @@ use Rattle.at_name_socket.specs.NameSockets.{SocketState}
 use Rattle.at_name_socket.specs.declared.step.Heard.{Heard}
 use Rattle.at_name_socket.specs.declared.step.Heard.TheVariants as heard
 use Rattle.at_node.specs.declared.drawing.Draw.{Draw}
-use Rattle.at_node.specs.declared.event.Report.TheVariants as report
-use Rattle.at_node.specs.declared.seat.Seat.{Seat}
-use Rattle.at_node.specs.declared.service.Reply.{Reply}
-use Rattle.at_node.specs.declared.service.Reply.TheVariants.{Later}
+use Rattle.at_event.specs.declared.event.Report.TheVariants as report
+use Rattle.at_event.specs.declared.seat.Seat.{Seat}
+use Rattle.at_event.specs.declared.service.Reply.{Reply}
+use Rattle.at_event.specs.declared.service.Reply.TheVariants.{Later}
 use Rattle.at_node.specs.AtpHearing.{HearsAt, HearsAtp, Requester, Service, Zones}
 use Rattle.at_node.specs.AtpParts.{AtpState, atp_kind, tid_of}
 use Rattle.at_node.specs.Drawing.{DrawsHearing, drawn_by}
 use Rattle.at_node.specs.Hearing.{Hears, HearsDatagram, HearsIt, HearsMine}
-use Rattle.at_node.specs.NameCalls.{nbp_kind}
+use Rattle.at_event.specs.Seats.{nbp_kind}
 use Rattle.at_node.specs.NameHearing.{HearsName, HearsNames, HearsNbpFault, told_by}
 use Rattle.at_node.specs.Nodes.{NodeState, with_atp, with_names}
-use Rattle.at_node.specs.Outcomes.{Outcome, Over, idle, over}
+use Rattle.at_event.specs.Outcomes.{Outcome, Over, idle, over}
 use Rattle.at_node.specs.RequesterSocket.{AtRequester}
 use Rattle.at_node.specs.Responders.{released_report}
-use Rattle.at_node.specs.Seats.{is_for_all, is_mine}
+use Rattle.at_event.specs.Seats.{is_for_all, is_mine}
 use Rattle.at_node.specs.ServiceSocket.{AtService, at_service}
 use Rattle.at_node.specs.ZoneSocket.{AtZones, at_zones, page_packet}
 

@@ -12,9 +12,9 @@ use Rattle.at_atp_frame.specs.declared.fault.AtpFault.TheVariants as atps
 use Rattle.at_zip.specs.Fault as zip
 use Rattle.at_zip.specs.declared.fault.ZipFault.{ZipFault}
 use Rattle.at_zip.specs.declared.fault.ZipFault.TheVariants as zips
-use Rattle.at_node.specs.declared.event.Report.{Report}
-use Rattle.at_node.specs.declared.event.Report.TheVariants.{Ignored, Refused}
-use Rattle.at_node.specs.Outcomes.{wants_memory, takes_memory, refused_as, Outcome, Over, over, idle, Exactly, IsStep, Comes}
+use Rattle.at_event.specs.declared.event.Report.{Report}
+use Rattle.at_event.specs.declared.event.Report.TheVariants.{Ignored, Refused}
+use Rattle.at_event.specs.Outcomes.{wants_memory, takes_memory, refused_as, Outcome, Over, over, idle, Exactly, IsStep, Comes}
 
 -- ---- each fault that stands has a number
 

@@ -12,7 +12,7 @@ use Rattle.at_atp_frame.specs.declared.fault.AtpFault.{AtpFault}
 use Rattle.at_atp_responder.specs.declared.reception.Key.{Key}
 use Rattle.at_atp_responder.specs.declared.reception.Reception.{Reception}
 use Rattle.at_node.specs.AtpParts.{atp_kind}
-use Rattle.at_node.specs.Outcomes.{posted, sent_by}
+use Rattle.at_event.specs.Outcomes.{posted, sent_by}
 
 pub posted-sent_by : (from : Address) (kind : ℕ) (pushes : List (Address × List ℕ)) → map (finished from kind) pushes ≡ map posted (sent_by from kind pushes)
 posted-sent_by from kind [] = refl

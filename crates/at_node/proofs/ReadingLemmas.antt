@@ -11,12 +11,12 @@ use Rattle.at_atp_requester.specs.declared.step.Step.{Step}
 use Rattle.at_atp_requester.specs.declared.step.Step.TheVariants as step
 use Rattle.at_node.specs.declared.drawing.Draw.{Draw}
 use Rattle.at_node.specs.declared.drawing.Draw.TheVariants.{Tid}
-use Rattle.at_node.specs.declared.event.Report.{Report}
-use Rattle.at_node.specs.declared.event.Report.TheVariants.{Begun, ZoneFault, Zones}
-use Rattle.at_node.specs.declared.seat.Seat.{Seat}
+use Rattle.at_event.specs.declared.event.Report.{Report}
+use Rattle.at_event.specs.declared.event.Report.TheVariants.{Begun, ZoneFault, Zones}
+use Rattle.at_event.specs.declared.seat.Seat.{Seat}
 use Rattle.at_node.specs.AtpParts.{AtpState, Reading, after_heard, asking, asks, atp_kind, packet_in, tid_of}
 use Rattle.at_node.specs.Drawing.{drawn_by}
-use Rattle.at_node.specs.Outcomes.{Comes, IsStep, Outcome, posted, sent_by, takes_memory}
+use Rattle.at_event.specs.Outcomes.{Comes, IsStep, Outcome, posted, sent_by, takes_memory}
 use Rattle.at_node.specs.RequesterSocket.{AtRequester, reported_other}
 use Rattle.at_node.specs.ZoneReading.{AsksOn, ReadsPage, TakesPage, is_page, is_reading, names_read, page_transaction}
 use Rattle.at_node.proofs.OutcomeLemmas.{comes_wider, comes_with, step_comes}

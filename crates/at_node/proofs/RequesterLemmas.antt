@@ -9,13 +9,13 @@ use Rattle.at_atp_requester.specs.declared.step.Step.TheVariants as step
 use Rattle.at_zip.specs.Fault as zip
 use Rattle.at_zip.specs.Page as pages
 use Rattle.at_zip.specs.declared.fault.ZipFault.{ZipFault}
-use Rattle.at_node.specs.declared.event.Report.{Report}
-use Rattle.at_node.specs.declared.event.Report.TheVariants.{ZoneFault}
-use Rattle.at_node.specs.declared.seat.Seat.{Seat}
-use Rattle.at_node.specs.declared.service.Reply.{Reply}
+use Rattle.at_event.specs.declared.event.Report.{Report}
+use Rattle.at_event.specs.declared.event.Report.TheVariants.{ZoneFault}
+use Rattle.at_event.specs.declared.seat.Seat.{Seat}
+use Rattle.at_event.specs.declared.service.Reply.{Reply}
 use Rattle.at_node.specs.AtpHearing.{AtSocket, Requester}
 use Rattle.at_node.specs.AtpParts.{AtpState, asking, atp_kind, tid_of, packet_in, after_heard}
-use Rattle.at_node.specs.Outcomes.{wants_memory, takes_memory, Outcome, posted, sent_by, Comes, IsStep}
+use Rattle.at_event.specs.Outcomes.{wants_memory, takes_memory, Outcome, posted, sent_by, Comes, IsStep}
 use Rattle.at_node.specs.RequesterSocket.{AtRequester, hears_other, reported_other}
 use Rattle.at_node.specs.ZoneReading.{ReadsPage, TakesPage, is_page, names_read}
 use Rattle.at_node.proofs.OutcomeLemmas.{comes_with, comes_wider, step_comes}

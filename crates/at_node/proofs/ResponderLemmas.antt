@@ -15,15 +15,16 @@ use Rattle.at_atp_responder.specs.declared.reception.Key.{Key}
 use Rattle.at_atp_responder.specs.declared.reception.Reception.{Reception}
 use Rattle.at_atp_responder.specs.declared.reception.Reception.TheVariants as reception
 use Rattle.at_zip.specs.Request.{RequestSpells}
-use Rattle.at_node.specs.declared.event.Report.{Report}
-use Rattle.at_node.specs.declared.event.Report.TheVariants.{Asked, Ignored}
-use Rattle.at_node.specs.declared.seat.Seat.{Seat}
-use Rattle.at_node.specs.declared.service.Reply.{Reply}
+use Rattle.at_event.specs.declared.event.Report.{Report}
+use Rattle.at_event.specs.declared.event.Report.TheVariants.{Asked, Ignored}
+use Rattle.at_event.specs.declared.seat.Seat.{Seat}
+use Rattle.at_event.specs.declared.service.Reply.{Reply}
 use Rattle.at_node.specs.AtpHearing.{HearsAt, HearsAtpFault, AtSocket, Service, Zones}
 use Rattle.at_node.specs.AtpParts.{AtpState, serving, zones_at, atp_kind}
-use Rattle.at_node.specs.Outcomes.{wants_memory, takes_memory, Outcome, idle, posted, sent_by, Comes}
+use Rattle.at_event.specs.Outcomes.{wants_memory, takes_memory, Outcome, idle, posted, sent_by, Comes}
 use Rattle.at_node.specs.Responders.{is_release, released_report}
-use Rattle.at_node.specs.ServiceSocket.{Serves, is_asked, at_service, service_asked, service_released}
+use Rattle.at_event.specs.Services.{Serves, is_asked}
+use Rattle.at_node.specs.ServiceSocket.{at_service, service_asked, service_released}
 use Rattle.at_node.specs.ZoneSocket.{page_packet, at_zones, zone_asked, zone_released}
 use Rattle.at_node.proofs.OutcomeLemmas.{comes_with}
 

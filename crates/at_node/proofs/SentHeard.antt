@@ -17,15 +17,15 @@ use Rattle.at_zip.specs.Page as page
 use Rattle.at_zip.specs.Fault as zip
 use Rattle.at_zip.specs.Request.{RequestSpells, request_user}
 use Rattle.at_zip.specs.declared.fault.ZipFault.{ZipFault}
-use Rattle.at_node.specs.declared.service.Reply.{Reply}
-use Rattle.at_node.specs.declared.event.Report.TheVariants.{Ignored}
-use Rattle.at_node.specs.declared.seat.Seat.{Seat}
+use Rattle.at_event.specs.declared.service.Reply.{Reply}
+use Rattle.at_event.specs.declared.event.Report.TheVariants.{Ignored}
+use Rattle.at_event.specs.declared.seat.Seat.{Seat}
 use Rattle.at_node.specs.AtpHearing.{AtpSocket, AtSocket, HearsAt, atp_socket}
 use Rattle.at_node.specs.AtpParts.{AtpState, atp_kind}
 use Rattle.at_node.specs.Hearing.{HearsIt, HearsMine, Hears, HearsSent}
 use Rattle.at_node.specs.Nodes.{NodeState, with_atp}
-use Rattle.at_node.specs.Outcomes.{Outcome, Over, idle}
-use Rattle.at_node.specs.Seats.{is_mine}
+use Rattle.at_event.specs.Outcomes.{Outcome, Over, idle}
+use Rattle.at_event.specs.Seats.{is_mine}
 use Rattle.at_node.specs.ZoneReading.{ReadsPage, TakesPage}
 use Rattle.at_node.specs.ZoneSocket.{AtZones, zone_asked}
 

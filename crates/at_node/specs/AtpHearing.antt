@@ -5,11 +5,11 @@ use Rattle.at_ddp.specs.declared.address.Address.{Address}
 use Rattle.at_atp_frame.specs.Fault as atp
 use Rattle.at_atp_frame.specs.Frames.{Content, Spells}
 use Rattle.at_atp_frame.specs.declared.fault.AtpFault.{AtpFault}
-use Rattle.at_node.specs.declared.event.Report.TheVariants as report
-use Rattle.at_node.specs.declared.seat.Seat.{Seat}
-use Rattle.at_node.specs.declared.service.Reply.{Reply}
+use Rattle.at_event.specs.declared.event.Report.TheVariants as report
+use Rattle.at_event.specs.declared.seat.Seat.{Seat}
+use Rattle.at_event.specs.declared.service.Reply.{Reply}
 use Rattle.at_node.specs.AtpParts.{AtpState}
-use Rattle.at_node.specs.Outcomes.{Outcome, idle}
+use Rattle.at_event.specs.Outcomes.{Outcome, idle}
 use Rattle.at_node.specs.RequesterSocket.{AtRequester}
 use Rattle.at_node.specs.ServiceSocket.{AtService}
 use Rattle.at_node.specs.ZoneSocket.{AtZones}

@@ -6,10 +6,10 @@ use Rattle.at_atp_frame.specs.Frames.{Content, Request, Response, Release, spell
 use Rattle.at_atp_frame.specs.Packets.{Packet}
 use Rattle.at_atp_responder.specs.Records.{Record}
 use Rattle.at_atp_requester.specs.Requests.{Transaction, Requests, Heard, no_requests, begun, request_by}
-use Rattle.at_node.specs.declared.event.Report.{Report}
-use Rattle.at_node.specs.declared.event.Report.TheVariants as report
-use Rattle.at_node.specs.declared.seat.Seat.{Seat}
-use Rattle.at_node.specs.Outcomes.{Outcome, sent_by}
+use Rattle.at_event.specs.declared.event.Report.{Report}
+use Rattle.at_event.specs.declared.event.Report.TheVariants as report
+use Rattle.at_event.specs.declared.seat.Seat.{Seat}
+use Rattle.at_event.specs.Outcomes.{Outcome, sent_by}
 
 -- a reading of the zone list: the transaction that asks for the next page, and the names of the pages so far
 pub record Reading : Type 0 where

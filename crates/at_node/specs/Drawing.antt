@@ -10,15 +10,15 @@ use Rattle.at_node.specs.declared.drawing.Draw.{Draw}
 use Rattle.at_node.specs.declared.drawing.Draw.TheVariants.{Tid, Lookup}
 use Rattle.at_node.specs.declared.drawing.Input.{Input}
 use Rattle.at_node.specs.declared.drawing.Input.TheVariants as input
-use Rattle.at_node.specs.declared.event.Call.{Call}
-use Rattle.at_node.specs.declared.event.Report.{Report}
-use Rattle.at_node.specs.declared.event.Report.TheVariants as report
-use Rattle.at_node.specs.declared.service.Reply.{Reply}
+use Rattle.at_event.specs.declared.event.Call.{Call}
+use Rattle.at_event.specs.declared.event.Report.{Report}
+use Rattle.at_event.specs.declared.event.Report.TheVariants as report
+use Rattle.at_event.specs.declared.service.Reply.{Reply}
 use Rattle.at_node.specs.AtpParts.{atp_kind}
 use Rattle.at_node.specs.Hearing.{Hears}
-use Rattle.at_node.specs.NameCalls.{nbp_kind}
+use Rattle.at_event.specs.Seats.{nbp_kind}
 use Rattle.at_node.specs.Nodes.{NodeState, called, timed}
-use Rattle.at_node.specs.Outcomes.{Outcome}
+use Rattle.at_event.specs.Outcomes.{Outcome}
 
 -- the number that the node drew, if this is its report
 abbrev pub drawn_by : {A : Type 0} → Report A → Option Draw

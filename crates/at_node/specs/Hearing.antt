@@ -5,15 +5,15 @@ use Rattle.at_ddp.specs.Fault as ddp
 use Rattle.at_ddp.specs.declared.address.Address.{Address}
 use Rattle.at_ddp.specs.declared.fault.DdpFault.{DdpFault}
 use Rattle.at_atp_frame.specs.Frames.{Content}
-use Rattle.at_node.specs.declared.event.Report.TheVariants as report
-use Rattle.at_node.specs.declared.service.Reply.{Reply}
+use Rattle.at_event.specs.declared.event.Report.TheVariants as report
+use Rattle.at_event.specs.declared.service.Reply.{Reply}
 use Rattle.at_node.specs.AtpHearing.{AtSocket, HearsAtp, atp_socket}
 use Rattle.at_node.specs.AtpParts.{atp_kind}
-use Rattle.at_node.specs.NameCalls.{nbp_kind}
+use Rattle.at_event.specs.Seats.{nbp_kind}
 use Rattle.at_node.specs.NameHearing.{HearsNames}
 use Rattle.at_node.specs.Nodes.{NodeState, with_atp, with_names}
-use Rattle.at_node.specs.Outcomes.{Outcome, Over, idle}
-use Rattle.at_node.specs.Seats.{is_for_all, is_mine}
+use Rattle.at_event.specs.Outcomes.{Outcome, Over, idle}
+use Rattle.at_event.specs.Seats.{is_for_all, is_mine}
 
 -- which part a datagram is for, by its protocol; that of a protocol which no part speaks is ignored
 abbrev pub HearsMine : {A : Type 0} → Reply A → NodeState → Datagram → Outcome A NodeState → Type 0

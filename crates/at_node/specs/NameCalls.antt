@@ -13,14 +13,11 @@ use Rattle.at_nbp.specs.declared.names.Registered.{Registered}
 use Rattle.at_name_socket.specs.NameSockets.{SocketState, any_pattern, claim_begun, finish, finish_fault, names_of}
 use Rattle.at_name_socket.specs.declared.step.Finished.{Finished}
 use Rattle.at_name_socket.specs.declared.step.Finished.TheVariants as finished
-use Rattle.at_node.specs.declared.event.Report.{Report}
-use Rattle.at_node.specs.declared.event.Report.TheVariants as report
-use Rattle.at_node.specs.declared.seat.Seat.{Seat}
-use Rattle.at_node.specs.Outcomes.{Outcome, Outgoing, idle, refused_as, sent_by}
-
--- the protocol of NBP's datagrams
-abbrev pub nbp_kind : ℕ
-nbp_kind = 2
+use Rattle.at_event.specs.declared.event.Report.{Report}
+use Rattle.at_event.specs.declared.event.Report.TheVariants as report
+use Rattle.at_event.specs.declared.seat.Seat.{Seat}
+use Rattle.at_event.specs.Seats.{nbp_kind}
+use Rattle.at_event.specs.Outcomes.{Outcome, Outgoing, idle, refused_as, sent_by}
 
 -- what the socket sends
 abbrev pub sent_of : Seat → List (Address × List ℕ) → List Outgoing

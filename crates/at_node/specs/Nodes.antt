@@ -4,20 +4,20 @@ use Rattle.at_atp_requester.specs.Requests.{retried}
 use Rattle.at_name_socket.specs.NameSockets as names
 use Rattle.at_name_socket.specs.NameSockets.{SocketState}
 use Rattle.at_name_socket.specs.declared.neighbour.Neighbour.{Neighbour}
-use Rattle.at_node.specs.declared.event.Call.{Call}
-use Rattle.at_node.specs.declared.event.Call.TheVariants.{Zones, SetZones, Ask, Answer}
-use Rattle.at_node.specs.declared.event.Call.TheVariants.{Find, Claim, Finish, Register, Unregister}
-use Rattle.at_node.specs.declared.event.Timer.{Timer}
-use Rattle.at_node.specs.declared.event.Timer.TheVariants as timer
-use Rattle.at_node.specs.declared.seat.Seat.{Seat}
+use Rattle.at_event.specs.declared.event.Call.{Call}
+use Rattle.at_event.specs.declared.event.Call.TheVariants.{Zones, SetZones, Ask, Answer}
+use Rattle.at_event.specs.declared.event.Call.TheVariants.{Find, Claim, Finish, Register, Unregister}
+use Rattle.at_event.specs.declared.event.Timer.{Timer}
+use Rattle.at_event.specs.declared.event.Timer.TheVariants as timer
+use Rattle.at_event.specs.declared.seat.Seat.{Seat}
 use Rattle.at_node.specs.AtpParts as atp
 use Rattle.at_node.specs.AtpParts.{AtpState}
 use Rattle.at_node.specs.NameCalls.{claim_called, find_called, finish_called, lookup_fired, pattern_asked}
 use Rattle.at_node.specs.NameCalls.{register_called, unregister_called}
-use Rattle.at_node.specs.Outcomes.{Outcome, over}
+use Rattle.at_event.specs.Outcomes.{Outcome, over}
 use Rattle.at_node.specs.RequesterSocket.{ask_called, retry_fired}
 use Rattle.at_node.specs.Responders.{release_fired}
-use Rattle.at_node.specs.Seats.{at_socket}
+use Rattle.at_event.specs.Seats.{at_socket}
 use Rattle.at_node.specs.ServiceSocket.{answer_called}
 use Rattle.at_node.specs.ZoneReading.{zones_called}
 use Rattle.at_node.specs.ZoneSocket.{set_zones_called}

@@ -10,11 +10,11 @@ use Rattle.at_atp_requester.specs.declared.step.Retry.{Retry}
 use Rattle.at_atp_requester.specs.declared.step.Retry.TheVariants as retry
 use Rattle.at_atp_requester.specs.declared.step.Step.{Step}
 use Rattle.at_atp_requester.specs.declared.step.Step.TheVariants as step
-use Rattle.at_node.specs.declared.event.Report.{Report}
-use Rattle.at_node.specs.declared.event.Report.TheVariants as report
-use Rattle.at_node.specs.declared.seat.Seat.{Seat}
+use Rattle.at_event.specs.declared.event.Report.{Report}
+use Rattle.at_event.specs.declared.event.Report.TheVariants as report
+use Rattle.at_event.specs.declared.seat.Seat.{Seat}
 use Rattle.at_node.specs.AtpParts.{AtpState, asking, atp_kind, asks, after_heard, packet_in, tid_of}
-use Rattle.at_node.specs.Outcomes.{Outcome, idle, sent_by, refused_as}
+use Rattle.at_event.specs.Outcomes.{Outcome, idle, sent_by, refused_as}
 use Rattle.at_node.specs.ZoneReading.{ReadsPage, is_page, is_reading, after_failing, names_read}
 
 -- ---- the call

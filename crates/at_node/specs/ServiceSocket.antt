@@ -11,13 +11,13 @@ use Rattle.at_atp_frame.specs.declared.fault.AtpFault.TheVariants.{Full}
 use Rattle.at_atp_responder.specs.declared.reception.Key.{Key}
 use Rattle.at_atp_responder.specs.declared.reception.Reception.{Reception}
 use Rattle.at_atp_responder.specs.declared.reception.Reception.TheVariants as reception
-use Rattle.at_node.specs.declared.event.Report.{Report}
-use Rattle.at_node.specs.declared.event.Report.TheVariants as report
-use Rattle.at_node.specs.declared.seat.Seat.{Seat}
-use Rattle.at_node.specs.declared.service.Reply.{Reply}
-use Rattle.at_node.specs.declared.service.Reply.TheVariants as reply
+use Rattle.at_event.specs.declared.event.Report.{Report}
+use Rattle.at_event.specs.declared.event.Report.TheVariants as report
+use Rattle.at_event.specs.declared.seat.Seat.{Seat}
+use Rattle.at_event.specs.declared.service.Reply.{Reply}
+use Rattle.at_event.specs.declared.service.Reply.TheVariants as reply
 use Rattle.at_node.specs.AtpParts.{AtpState, serving, atp_kind}
-use Rattle.at_node.specs.Outcomes.{Outcome, idle, sent_by, refused_as}
+use Rattle.at_event.specs.Outcomes.{Outcome, idle, sent_by, refused_as}
 use Rattle.at_node.specs.Responders.{released_report}
 
 -- ---- the call
@@ -34,24 +34,6 @@ answered_with s a key packets None = record {
 
 abbrev pub answer_called : {A : Type 0} → Seat → AtpState → Key → List Packet → Outcome A AtpState
 answer_called s a key packets = answered_with s a key packets (answer_fault a.service_responder key packets)
-
--- ---- the service
-
--- a request was delivered to the service
-abbrev pub is_asked : {A : Type 0} → Report A → Bool
-is_asked (report.Asked key user bytes) = true
-is_asked other = false
-
--- If a new request was delivered to the service, it was called once and replied this. Otherwise it stays as it was.
-abbrev pub Serves : {A S : Type 0} → (S → Key → List ℕ → List ℕ → Reply A → S → Type 0) → Report A → Reply A → S → S
-    → Type 0
-Serves serves (report.Asked key user bytes) said before after = serves before key user bytes said after
-Serves serves r said before after = after ≡ before
-
--- an answer that can be sent: 1 to 8 packets of at most 578 bytes each
-abbrev pub IsReply : {A : Type 0} → Reply A → Type 0
-IsReply (reply.Now packets) = (1 ≤ length packets) × (length packets ≤ 8) × (fit packets ≡ true)
-IsReply reply.Later = Unit {0}
 
 -- ---- packets
 

@@ -13,13 +13,13 @@ use Rattle.at_zip.specs.Reading.{place_after}
 use Rattle.at_zip.specs.Request.{request_user}
 use Rattle.at_zip.specs.declared.fault.ZipFault.{ZipFault}
 use Rattle.at_zip.specs.declared.fault.ZipFault.TheVariants.{TooManyZones}
-use Rattle.at_node.specs.declared.event.Report.{Report}
-use Rattle.at_node.specs.declared.event.Report.TheVariants as report
-use Rattle.at_node.specs.declared.fault.NodeFault.TheVariants.{NoRouter, StillReading}
-use Rattle.at_node.specs.declared.seat.Seat.{Seat}
+use Rattle.at_event.specs.declared.event.Report.{Report}
+use Rattle.at_event.specs.declared.event.Report.TheVariants as report
+use Rattle.at_event.specs.declared.fault.NodeFault.TheVariants.{NoRouter, StillReading}
+use Rattle.at_event.specs.declared.seat.Seat.{Seat}
 use Rattle.at_node.specs.AtpParts.{AtpState, Reading, asks, after_heard, tid_of, zones_at}
-use Rattle.at_node.specs.Faults.{number_of}
-use Rattle.at_node.specs.Outcomes.{Outcome, idle, refused_as}
+use Rattle.at_event.specs.Faults.{number_of}
+use Rattle.at_event.specs.Outcomes.{Outcome, idle, refused_as}
 
 -- the transaction by which a reading asks for the page after the names that it has: one packet, at least once, with
 -- three retries

@@ -14,13 +14,13 @@ use Rattle.at_zip.specs.Page.{page_of, page_user, page_data}
 use Rattle.at_zip.specs.Request.{RequestSpells}
 use Rattle.at_zip.specs.Zones.{table_fault}
 use Rattle.at_zip.specs.declared.fault.ZipFault.{ZipFault}
-use Rattle.at_node.specs.declared.event.Report.{Report}
-use Rattle.at_node.specs.declared.event.Report.TheVariants as report
-use Rattle.at_node.specs.declared.fault.NodeFault.TheVariants.{NoRouter}
-use Rattle.at_node.specs.declared.seat.Seat.{Seat}
+use Rattle.at_event.specs.declared.event.Report.{Report}
+use Rattle.at_event.specs.declared.event.Report.TheVariants as report
+use Rattle.at_event.specs.declared.fault.NodeFault.TheVariants.{NoRouter}
+use Rattle.at_event.specs.declared.seat.Seat.{Seat}
 use Rattle.at_node.specs.AtpParts.{AtpState, zones_at, atp_kind}
-use Rattle.at_node.specs.Faults as node
-use Rattle.at_node.specs.Outcomes.{Outcome, idle, sent_by, refused_as}
+use Rattle.at_event.specs.Faults as node
+use Rattle.at_event.specs.Outcomes.{Outcome, idle, sent_by, refused_as}
 use Rattle.at_node.specs.Responders.{released_report}
 
 -- ---- the call

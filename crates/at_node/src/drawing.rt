@@ -9,22 +9,21 @@ ghost use Rattle.at_node.specs.AtpParts.{AtpState, atp_kind};
 ghost use Rattle.at_node.specs.Drawing.{Carries, CarriesLookup, CarriesTid, Draws, DrawsHearing, draw_of, drawn_by};
 ghost use Rattle.at_node.specs.Drawing.{holds};
 ghost use Rattle.at_node.specs.Hearing.{HearsIt};
-ghost use Rattle.at_node.specs.NameCalls.{nbp_kind};
+ghost use Rattle.at_event.specs.Seats.{nbp_kind};
 ghost use Rattle.at_node.specs.Nodes.{NodeState};
-ghost use Rattle.at_node.specs.Outcomes.{Outcome as Result};
+ghost use Rattle.at_event.specs.Outcomes.{Outcome as Result};
 ghost use Rattle.at_node.specs.RequesterSocket.{AtRequester};
 ghost use Rattle.at_node.specs.declared.drawing.Draw.{Draw as Drawn};
 ghost use Rattle.at_node.specs.declared.drawing.Draw.TheVariants.{Lookup, Tid};
-ghost use Rattle.at_node.specs.declared.service.Reply.{Reply as Said};
+ghost use Rattle.at_event.specs.declared.service.Reply.{Reply as Said};
 
 use crate::atp_part::ATP;
-use crate::event::{Call, Timer};
 use crate::incoming::Incoming;
-use crate::name_part::NBP;
 use crate::node::Node;
 use crate::requester_socket::{REQUESTER_SOCKET, tid_of};
 use at_atp::{Frame, MAX_DATA};
 use at_ddp::{Address, Datagram, decode};
+use at_event::{Call, NBP, Timer};
 use at_nbp::is_no_name;
 use std::alloc::{Allocator, Global};
 

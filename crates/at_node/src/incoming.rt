@@ -3,9 +3,9 @@ ghost use Rattle.at_ddp.specs.Datagram.{content as written};
 ghost use Rattle.at_atp_frame.specs.Fault.{IsFirstFault};
 ghost use Rattle.at_atp_frame.specs.Frames.{Content, Spells, content};
 
-use crate::seat::Seat;
 use at_atp::{AtpFault, Frame};
 use at_ddp::{Address, Datagram};
+use at_event::Seat;
 
 // A packet that came to a socket of a node.
 #[derive(Clone, Copy)]

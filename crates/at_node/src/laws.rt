@@ -8,15 +8,15 @@ ghost use Rattle.at_zip.specs.Page.{Page, IsLawful as IsLawfulPage, page_user, p
 ghost use Rattle.at_zip.specs.Request.{request_user};
 ghost use Rattle.at_node.specs.AtpParts.{AtpState, atp_kind};
 ghost use Rattle.at_node.specs.Nodes.{NodeState};
-ghost use Rattle.at_node.specs.Outcomes.{Outcome};
+ghost use Rattle.at_event.specs.Outcomes.{Outcome};
 ghost use Rattle.at_atp_frame.specs.Frames.{owner, number_of};
 ghost use Rattle.at_node.specs.Drawing.{Carries};
 ghost use Rattle.at_node.specs.declared.drawing.Draw.TheVariants.{Tid};
 ghost use Rattle.at_node.specs.Hearing.{Hears, HearsSent};
 ghost use Rattle.at_node.specs.ZoneReading.{ReadsPage, TakesPage};
 ghost use Rattle.at_node.specs.ZoneSocket.{AtZones, zone_asked};
-ghost use Rattle.at_node.specs.declared.seat.Seat.{Seat};
-ghost use Rattle.at_node.specs.declared.service.Reply.{Reply};
+ghost use Rattle.at_event.specs.declared.seat.Seat.{Seat};
+ghost use Rattle.at_event.specs.declared.service.Reply.{Reply};
 
 use std::alloc::Allocator;
 

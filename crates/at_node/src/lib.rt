@@ -3,25 +3,18 @@
 
 mod atp_part;
 mod drawing;
-mod event;
-mod fault;
 mod incoming;
 pub mod laws;
 mod name_calls;
 mod name_part;
 mod node;
-mod packet_count;
+mod page_taking;
 mod requester_socket;
 mod responders;
-mod seat;
-mod service;
 mod service_socket;
 mod zone_reading;
 mod zone_socket;
 
+pub use at_event::{Call, Deferring, NodeFault, PacketCount, Reply, Report, Service, Timer};
 pub use drawing::{Draw, Input, carried};
-pub use event::{Call, Report, Timer};
-pub use fault::NodeFault;
 pub use node::Node;
-pub use packet_count::PacketCount;
-pub use service::{Deferring, Reply, Service};

@@ -3,13 +3,12 @@ ghost use Rattle.std.specs.Prelude.{◌≡◌, List};
 ghost use Rattle.at_ddp.specs.Datagrams.{Posted};
 ghost use Rattle.at_node.specs.NameCalls.{claim_called, find_called, finish_called, lookup_fired, pattern_asked};
 ghost use Rattle.at_node.specs.NameCalls.{register_called, told_of, unregister_called, zone_asked};
-ghost use Rattle.at_node.specs.Outcomes.{IsStep};
+ghost use Rattle.at_event.specs.Outcomes.{IsStep};
 
-use crate::event::Report;
 use crate::name_part::{NamePart, outbox_over};
 use crate::node::refused;
-use crate::seat::Seat;
 use at_ddp::{Datagrams, Pascal};
+use at_event::{Report, Seat};
 use at_name_socket::Finished;
 use at_nbp::{Name, copy_of};
 use std::alloc::Allocator;

@@ -3,22 +3,18 @@ ghost use Rattle.std.specs.Prelude.{◌≡◌, Option, false};
 ghost use Rattle.at_ddp.specs.Datagram.{content};
 ghost use Rattle.at_name_socket.specs.NameSockets.{names_of, opening};
 ghost use Rattle.at_name_socket.specs.declared.neighbour.Neighbour.{Neighbour as Known};
-ghost use Rattle.at_node.specs.NameCalls.{nbp_kind};
+ghost use Rattle.at_event.specs.Seats.{nbp_kind};
 ghost use Rattle.at_node.specs.NameHearing.{HearsNames, told_by};
-ghost use Rattle.at_node.specs.Outcomes.{Comes};
-ghost use Rattle.at_node.specs.ServiceSocket.{is_asked};
+ghost use Rattle.at_event.specs.Outcomes.{Comes};
+ghost use Rattle.at_event.specs.Services.{is_asked};
 
-use crate::event::Report;
 use crate::node::refused;
-use crate::seat::Seat;
 use at_ddp::{Datagram, Datagrams, Listed, Outbox, Pascal};
+use at_event::{NBP, Report, Seat};
 use at_name_socket::{Heard, NAME_SOCKET, NameSocket, Neighbour};
 use std::alloc::Allocator;
 use std::marker::Model;
 use std::mem;
-
-/// The protocol of NBP's datagrams.
-pub(crate) const NBP: u8 = 2;
 
 // The part of a node that speaks NBP.
 #[derive(Drop)]

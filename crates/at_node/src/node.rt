@@ -1,21 +1,19 @@
 ghost use Rattle.std.specs.Prelude.{◌≡◌, ℕ, List, Option, false};
 ghost use Rattle.at_ddp.specs.Datagram.{content};
 ghost use Rattle.at_node.specs.Hearing.{HearsIt, Hears};
-ghost use Rattle.at_node.specs.Kinds.{Nbp, kind_of_call};
+ghost use Rattle.at_event.specs.Kinds.{Nbp, kind_of_call};
 ghost use Rattle.at_node.specs.Nodes.{opening, called, timed};
-ghost use Rattle.at_node.specs.Outcomes.{Comes, IsStep, refused_as};
-ghost use Rattle.at_node.specs.ServiceSocket.{Serves, is_asked};
-ghost use Rattle.at_node.specs.declared.service.Reply.{Reply};
+ghost use Rattle.at_event.specs.Outcomes.{Comes, IsStep, refused_as};
+ghost use Rattle.at_event.specs.Services.{Serves, is_asked};
+ghost use Rattle.at_event.specs.declared.service.Reply.{Reply};
 
 use crate::atp_part::{ATP, AtpPart};
-use crate::event::{Call, Report, Timer};
 use crate::name_calls::pattern_asked;
-use crate::name_part::{NBP, NamePart};
+use crate::name_part::NamePart;
 use crate::requester_socket::Question;
-use crate::seat::Seat;
-use crate::service::Service;
 use at_atp::Key;
 use at_ddp::{Datagram, Datagrams, Listed, Pascal, decode};
+use at_event::{Call, NBP, Report, Seat, Service, Timer};
 use at_name_socket::Neighbour;
 use at_zip::Zones;
 use std::alloc::{Allocator, Global};

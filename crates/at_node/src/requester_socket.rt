@@ -6,19 +6,18 @@ ghost use Rattle.at_atp_requester.specs.Requests.{Retried, next_number, beginnin
 ghost use Rattle.at_atp_requester.specs.Requests.{is_ignored, heard, retried};
 ghost use Rattle.at_node.specs.AtpHearing.{AtSocket, HearsAt, Requester as RequesterSocket};
 ghost use Rattle.at_node.specs.AtpParts.{atp_kind, tid_of};
-ghost use Rattle.at_node.specs.Outcomes.{Comes, IsStep, posted, sent_by};
+ghost use Rattle.at_event.specs.Outcomes.{Comes, IsStep, posted, sent_by};
 ghost use Rattle.at_node.specs.RequesterSocket.{ask_called, retry_fired, reported_other};
-ghost use Rattle.at_node.specs.ServiceSocket.{is_asked};
+ghost use Rattle.at_event.specs.Services.{is_asked};
 ghost use Rattle.at_node.specs.ZoneReading.{is_page};
-ghost use Rattle.at_node.specs.declared.service.Reply.{Reply as Said};
+ghost use Rattle.at_event.specs.declared.service.Reply.{Reply as Said};
 
 use crate::atp_part::{AtpPart, outbox_over};
-use crate::event::Report;
 use crate::incoming::Incoming;
 use crate::node::refused;
-use crate::seat::Seat;
 use at_atp::{AtpFault, Frame, Requester, Retry, Step};
 use at_ddp::{Address, Datagram, Datagrams};
+use at_event::{Report, Seat};
 use std::alloc::{AllocError, Allocator};
 
 /// The socket that asks, for the node's own transactions.

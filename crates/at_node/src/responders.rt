@@ -3,18 +3,18 @@ ghost use Rattle.std.specs.Prelude.{OnErr, IsOk, IsErrOf, false};
 ghost use Rattle.at_atp_frame.specs.Frames.{content, spelled_all};
 ghost use Rattle.at_atp_responder.specs.Records.{taken, finds_no_place, after_answer, answer_fault, is_key, asked_for};
 ghost use Rattle.at_node.specs.AtpParts.{atp_kind};
-ghost use Rattle.at_node.specs.Outcomes.{posted, sent_by};
+ghost use Rattle.at_event.specs.Outcomes.{posted, sent_by};
 ghost use Rattle.at_node.specs.Responders.{is_release, release_fired, released_report};
-ghost use Rattle.at_node.specs.ServiceSocket.{is_asked};
+ghost use Rattle.at_event.specs.Services.{is_asked};
 
 use crate::atp_part::{AtpPart, outbox_over};
-use crate::event::Report;
 use crate::incoming::Incoming;
 use crate::node::refused;
 use crate::service_socket::SERVICE_SOCKET;
 use crate::zone_socket::ZONE_SOCKET;
 use at_atp::{AtpFault, Key, Packet, Reception, Responder};
 use at_ddp::{Address, Datagrams};
+use at_event::Report;
 use std::alloc::Allocator;
 
 impl<A: Allocator + Copy> AtpPart<A> {

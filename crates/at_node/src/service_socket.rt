@@ -6,21 +6,20 @@ ghost use Rattle.at_atp_responder.specs.Records.{record_fault, is_key};
 ghost use Rattle.at_node.specs.AtpHearing as Heard;
 ghost use Rattle.at_node.specs.AtpHearing.{AtSocket, HearsAt};
 ghost use Rattle.at_node.specs.AtpParts.{AtpState, atp_kind};
-ghost use Rattle.at_node.specs.Outcomes.{Comes, IsStep, posted, sent_by};
-ghost use Rattle.at_node.specs.ServiceSocket.{Serves, answer_called, service_asked, after_reply, sent_by_reply};
-ghost use Rattle.at_node.specs.declared.seat.Seat.{Seat as Place};
-ghost use Rattle.at_node.specs.declared.service.Reply.{Reply as Said};
+ghost use Rattle.at_event.specs.Outcomes.{Comes, IsStep, posted, sent_by};
+ghost use Rattle.at_event.specs.Services.{Serves};
+ghost use Rattle.at_node.specs.ServiceSocket.{answer_called, service_asked, after_reply, sent_by_reply};
+ghost use Rattle.at_event.specs.declared.seat.Seat.{Seat as Place};
+ghost use Rattle.at_event.specs.declared.service.Reply.{Reply as Said};
 ghost use Rattle.at_node.specs.AtpParts.{serving};
 
 use crate::atp_part::{AtpPart, outbox_over};
-use crate::event::Report;
 use crate::incoming::Incoming;
 use crate::node::refused;
 use crate::responders::{answer, release, take};
-use crate::seat::Seat;
-use crate::service::{Reply, Service};
 use at_atp::{Frame, Key, Packet, Reception, Responder};
 use at_ddp::{Address, Bytes, Datagram, Datagrams, Outbox};
+use at_event::{Reply, Report, Seat, Service};
 use std::alloc::{AllocError, Allocator};
 
 /// The socket of the node's service.

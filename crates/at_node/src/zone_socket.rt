@@ -7,21 +7,19 @@ ghost use Rattle.at_atp_responder.specs.Records.{record_fault, is_key, after_ans
 ghost use Rattle.at_ddp.specs.Tables.{without_first};
 ghost use Rattle.at_node.specs.AtpHearing.{AtSocket, HearsAt, Zones as ZoneSocket};
 ghost use Rattle.at_node.specs.AtpParts.{AtpState, atp_kind, zones_at};
-ghost use Rattle.at_node.specs.Outcomes.{Comes, IsStep, posted, sent_by};
-ghost use Rattle.at_node.specs.ServiceSocket.{is_asked};
+ghost use Rattle.at_event.specs.Outcomes.{Comes, IsStep, posted, sent_by};
+ghost use Rattle.at_event.specs.Services.{is_asked};
 ghost use Rattle.at_node.specs.ZoneSocket.{page_packet, set_zones_called, zone_asked};
-ghost use Rattle.at_node.specs.declared.seat.Seat.{Seat as Place};
-ghost use Rattle.at_node.specs.declared.service.Reply.{Reply as Said};
+ghost use Rattle.at_event.specs.declared.seat.Seat.{Seat as Place};
+ghost use Rattle.at_event.specs.declared.service.Reply.{Reply as Said};
 
 use crate::atp_part::AtpPart;
-use crate::event::Report;
-use crate::fault::NodeFault;
 use crate::incoming::Incoming;
 use crate::node::refused;
 use crate::responders::{answer, release, take};
-use crate::seat::Seat;
 use at_atp::{AtpFault, Frame, Key, Packet, Reception, Responder};
 use at_ddp::{Address, Datagram, Datagrams, Pascal};
+use at_event::{NodeFault, Report, Seat};
 use at_zip::{Zones, page, read_request};
 use std::alloc::{AllocError, Allocator};
 

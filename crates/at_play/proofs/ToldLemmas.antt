@@ -1,6 +1,6 @@
 -- What is told of a play goes on by one event, and is told of the play that it follows.
 use Rattle.std.proofs.Common.{◌≡◌, ℕ, List, [], ◌∷◌, ◌++◌, length, Err, Result, Bool, true, false, ◌<◌, None, Some, Ok, IfOk, IfSome, MatchResult, IfErr, OnOk, refl, sym, ap, subst, ◌∙◌, append-nil, append_assoc}
-use Rattle.at_node.specs.declared.event.Report.{Report}
+use Rattle.at_event.specs.declared.event.Report.{Report}
 use Rattle.at_world.specs.declared.event.Event.{Event}
 use Rattle.at_world.specs.declared.event.Fault.{Fault}
 use Rattle.at_world.specs.declared.event.Fault.TheVariants as fault

@@ -6,8 +6,8 @@ use Rattle.std.specs.Fmt.{decimal}
 use Rattle.at_atp_frame.specs.Packets.{Packet}
 use Rattle.at_atp_responder.specs.declared.reception.Key.{Key}
 use Rattle.at_nbp.specs.declared.find.Find.{Find}
-use Rattle.at_node.specs.declared.event.Report.{Report}
-use Rattle.at_node.specs.declared.event.Report.TheVariants as report
+use Rattle.at_event.specs.declared.event.Report.{Report}
+use Rattle.at_event.specs.declared.event.Report.TheVariants as report
 use Rattle.at_world.specs.Sents.{SentDatagram}
 use Rattle.at_print.specs.Lines.{hex_text, pairs}
 

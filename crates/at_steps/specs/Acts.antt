@@ -1,10 +1,10 @@
 -- What happens at a node, whose report it is, and which reports there are.
 use Rattle.std.specs.Prelude.{ℕ, Bool, true, false}
-use Rattle.at_node.specs.Kinds.{Kind, Nobody, Atp, Nbp, kind_of_call, kind_of_timer, reporter_of}
-use Rattle.at_node.specs.declared.event.Call.{Call}
-use Rattle.at_node.specs.declared.event.Report.{Report}
-use Rattle.at_node.specs.declared.event.Report.TheVariants as report
-use Rattle.at_node.specs.declared.event.Timer.{Timer}
+use Rattle.at_event.specs.Kinds.{Kind, Nobody, Atp, Nbp, kind_of_call, kind_of_timer, reporter_of}
+use Rattle.at_event.specs.declared.event.Call.{Call}
+use Rattle.at_event.specs.declared.event.Report.{Report}
+use Rattle.at_event.specs.declared.event.Report.TheVariants as report
+use Rattle.at_event.specs.declared.event.Timer.{Timer}
 
 -- a call, a timer, or the datagram at a place of all that were sent
 pub data Act (A : Type 0) : Type 0 where

@@ -13,11 +13,11 @@ use Rattle.at_zip.specs.Zones.{IsTable}
 use Rattle.at_node.specs.AtpParts.{AtpState, Reading, asking, serving, zones_at, atp_kind}
 use Rattle.at_node.specs.Drawing.{drawn_by}
 use Rattle.at_node.specs.Nodes.{NodeState}
-use Rattle.at_node.specs.Outcomes.{Outcome, Outgoing}
+use Rattle.at_event.specs.Outcomes.{Outcome, Outgoing}
 use Rattle.at_node.specs.declared.drawing.Draw.{Draw}
 use Rattle.at_node.specs.declared.drawing.Draw.TheVariants.{Tid}
-use Rattle.at_node.specs.declared.event.Report.{Report}
-use Rattle.at_node.specs.declared.event.Report.TheVariants as report
+use Rattle.at_event.specs.declared.event.Report.{Report}
+use Rattle.at_event.specs.declared.event.Report.TheVariants as report
 use Rattle.at_steps.specs.Acts.{Act, owner_of, is_atp, IsSaid}
 use Rattle.at_steps.specs.AtpReports.{Matches}
 use Rattle.at_steps.specs.AtpSteps.{Change, IsStep}

@@ -15,10 +15,10 @@ use Rattle.at_atp.specs.Network.{done}
 use Rattle.at_atp.specs.Transactions.{answered}
 use Rattle.at_zip.specs.Request.{RequestSpells}
 use Rattle.at_node.specs.AtpParts.{asking}
-use Rattle.at_node.specs.declared.event.Call.TheVariants.{Zones, Ask, Answer}
-use Rattle.at_node.specs.declared.event.Report.{Report}
-use Rattle.at_node.specs.declared.event.Report.TheVariants as report
-use Rattle.at_node.specs.declared.event.Timer.TheVariants as timer
+use Rattle.at_event.specs.declared.event.Call.TheVariants.{Zones, Ask, Answer}
+use Rattle.at_event.specs.declared.event.Report.{Report}
+use Rattle.at_event.specs.declared.event.Report.TheVariants as report
+use Rattle.at_event.specs.declared.event.Timer.TheVariants as timer
 use Rattle.at_steps.specs.Acts.{Act, Calls, Fires, Gets}
 use Rattle.at_steps.specs.AtpSteps.{page_answer}
 

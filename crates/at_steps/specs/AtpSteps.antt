@@ -14,11 +14,11 @@ use Rattle.at_zip.specs.Zones.{IsTable}
 use Rattle.at_zip.specs.declared.fault.ZipFault.{ZipFault}
 use Rattle.at_node.specs.AtpParts.{AtpState, Reading, asking, serving, zones_at}
 use Rattle.at_node.specs.ZoneSocket.{page_packet}
-use Rattle.at_node.specs.declared.event.Call.TheVariants.{Zones, SetZones, Ask, Answer}
-use Rattle.at_node.specs.declared.event.Report.{Report}
-use Rattle.at_node.specs.declared.event.Report.TheVariants as report
-use Rattle.at_node.specs.declared.event.Timer.{Timer}
-use Rattle.at_node.specs.declared.event.Timer.TheVariants as timer
+use Rattle.at_event.specs.declared.event.Call.TheVariants.{Zones, SetZones, Ask, Answer}
+use Rattle.at_event.specs.declared.event.Report.{Report}
+use Rattle.at_event.specs.declared.event.Report.TheVariants as report
+use Rattle.at_event.specs.declared.event.Timer.{Timer}
+use Rattle.at_event.specs.declared.event.Timer.TheVariants as timer
 use Rattle.at_steps.specs.Acts.{Act, Calls, Fires, Gets}
 
 -- a node's transaction, without answers

@@ -13,9 +13,9 @@ use Rattle.at_name_socket.specs.NameSockets.{names_of}
 use Rattle.at_name_socket.specs.Sockets.{IsSocket}
 use Rattle.at_name_socket.specs.Steps as sockets
 use Rattle.at_node.specs.Drawing.{drawn_by}
-use Rattle.at_node.specs.NameCalls.{nbp_kind}
+use Rattle.at_event.specs.Seats.{nbp_kind}
 use Rattle.at_node.specs.Nodes.{NodeState}
-use Rattle.at_node.specs.Outcomes.{Outcome, Outgoing}
+use Rattle.at_event.specs.Outcomes.{Outcome, Outgoing}
 use Rattle.at_node.specs.declared.drawing.Draw.{Draw}
 use Rattle.at_node.specs.declared.drawing.Draw.TheVariants.{Lookup}
 use Rattle.at_steps.specs.Acts.{Act, is_nbp, owner_of}

@@ -5,7 +5,7 @@ use Rattle.std.proofs.lemmas.Bool.{eqb-true}
 use Rattle.at_ddp.specs.Datagram.{canonical}
 use Rattle.at_ddp.specs.declared.address.Address.{Address}
 use Rattle.at_node.specs.Nodes.{NodeState}
-use Rattle.at_node.specs.Outcomes.{Outcome, Outgoing, posted}
+use Rattle.at_event.specs.Outcomes.{Outcome, Outgoing, posted}
 use Rattle.at_world.specs.Cables.{Cable}
 use Rattle.at_world.specs.Sents.{SentDatagram, stamp}
 use Rattle.at_world.specs.Worlds.{WorldState, is_numbered, node_at, recorded}

@@ -1,11 +1,11 @@
 -- All that a world sends is spelled canonically.
 use Rattle.std.proofs.Common.{ℕ, List, [], ◌∷◌, ◌++◌, map, take, Result, Ok, Err, refl, sym, subst}
 use Rattle.at_ddp.specs.Datagrams.{Posted}
-use Rattle.at_node.specs.declared.event.Report.{Report}
-use Rattle.at_node.specs.declared.event.Report.TheVariants.{NoMemory}
+use Rattle.at_event.specs.declared.event.Report.{Report}
+use Rattle.at_event.specs.declared.event.Report.TheVariants.{NoMemory}
 use Rattle.at_node.specs.Hearing.{Hears}
 use Rattle.at_node.specs.Nodes.{NodeState, called, timed}
-use Rattle.at_node.specs.Outcomes.{Outcome, Outgoing, posted, IsStep, Comes}
+use Rattle.at_event.specs.Outcomes.{Outcome, Outgoing, posted, IsStep, Comes}
 use Rattle.at_world.specs.Sents.{SentDatagram, stamp, AreCanonical}
 use Rattle.at_world.specs.declared.event.Event.{Event}
 use Rattle.at_world.specs.declared.event.Event.TheVariants as event

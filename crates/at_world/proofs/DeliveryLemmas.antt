@@ -9,7 +9,7 @@ use Rattle.at_node.specs.Drawing.{Carries, DrawsHearing}
 use Rattle.at_node.specs.Nodes.{NodeState}
 use Rattle.at_node.specs.declared.drawing.Draw.{Draw}
 use Rattle.at_node.specs.declared.drawing.Input.TheVariants as input
-use Rattle.at_node.specs.declared.event.Report.{Report}
+use Rattle.at_event.specs.declared.event.Report.{Report}
 use Rattle.at_world.specs.Draws.{Draws, last_of, is_no_later}
 use Rattle.at_world.specs.Sents.{SentDatagram}
 use Rattle.at_world.specs.declared.event.Event.{Event}

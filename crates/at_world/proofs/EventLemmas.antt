@@ -1,12 +1,12 @@
 -- Events of each kind: why they are refused, and what they do.
 use Rattle.std.proofs.Common.{Bor, ◌≡◌, ℕ, false, None, Some, sym, subst}
 use Rattle.std.specs.Prelude.{Result, Ok, Err, IfOk, IfErr}
-use Rattle.at_node.specs.Calls.{IsCall}
+use Rattle.at_event.specs.Calls.{IsCall}
 use Rattle.at_node.specs.Drawing.{Draws as DrawsFor}
 use Rattle.at_node.specs.declared.drawing.Input.TheVariants as input
-use Rattle.at_node.specs.declared.event.Call.{Call}
-use Rattle.at_node.specs.declared.event.Report.{Report}
-use Rattle.at_node.specs.declared.event.Timer.{Timer}
+use Rattle.at_event.specs.declared.event.Call.{Call}
+use Rattle.at_event.specs.declared.event.Report.{Report}
+use Rattle.at_event.specs.declared.event.Timer.{Timer}
 use Rattle.at_world.specs.declared.event.Event.{Event}
 use Rattle.at_world.specs.declared.event.Event.TheVariants as event
 use Rattle.at_world.specs.declared.event.Refusal.TheVariants.{Limit, NoDatagram, NotForNode, Untimely}

@@ -3,7 +3,7 @@ use Rattle.std.proofs.Common.{◌≡◌, ℕ, ◌+◌, ◌<◌, List, [], ◌∷
 use Rattle.std.proofs.lemmas.List.{take_more}
 use Rattle.std.proofs.lemmas.Option.{slice_get-get_or}
 use Rattle.std.specs.Prelude.{slice_get, IsSome}
-use Rattle.at_node.specs.declared.event.Report.{Report}
+use Rattle.at_event.specs.declared.event.Report.{Report}
 use Rattle.at_world.specs.declared.event.Event.{Event}
 use Rattle.at_world.specs.declared.event.Fault.{Fault}
 use Rattle.at_world.specs.declared.event.Fault.TheVariants.{Refused, NoMemory}

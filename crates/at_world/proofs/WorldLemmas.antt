@@ -11,12 +11,12 @@ use Rattle.at_ddp.proofs.TableLemmas.{Found}
 use Rattle.at_node.specs.declared.drawing.Draw.{Draw}
 use Rattle.at_node.specs.declared.drawing.Input.{Input}
 use Rattle.at_node.specs.declared.drawing.Input.TheVariants as input
-use Rattle.at_node.specs.declared.event.Report.{Report}
-use Rattle.at_node.specs.declared.event.Report.TheVariants.{NoMemory}
+use Rattle.at_event.specs.declared.event.Report.{Report}
+use Rattle.at_event.specs.declared.event.Report.TheVariants.{NoMemory}
 use Rattle.at_node.specs.Drawing.{drawn_by, Draws as DrawsFor}
 use Rattle.at_node.specs.Hearing.{Hears}
 use Rattle.at_node.specs.Nodes.{NodeState, called, timed}
-use Rattle.at_node.specs.Outcomes.{Outcome, posted, IsStep, Comes}
+use Rattle.at_event.specs.Outcomes.{Outcome, posted, IsStep, Comes}
 use Rattle.at_world.specs.Draws.{Draws, noted}
 use Rattle.at_world.specs.Sents.{SentDatagram, stamp, stamped}
 use Rattle.at_world.specs.declared.event.Refusal.TheVariants.{NotForNode}

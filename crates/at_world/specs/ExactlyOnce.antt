@@ -10,9 +10,9 @@ use Rattle.at_atp_responder.specs.Once.{same_key}
 use Rattle.at_atp_frame.specs.Packets.{Packet}
 use Rattle.at_atp_responder.specs.declared.reception.Key.{Key}
 use Rattle.at_node.specs.AtpParts.{asking, atp_kind}
-use Rattle.at_node.specs.declared.event.Call.TheVariants.{Answer}
-use Rattle.at_node.specs.declared.event.Report.{Report}
-use Rattle.at_node.specs.declared.event.Report.TheVariants as report
+use Rattle.at_event.specs.declared.event.Call.TheVariants.{Answer}
+use Rattle.at_event.specs.declared.event.Report.{Report}
+use Rattle.at_event.specs.declared.event.Report.TheVariants as report
 use Rattle.at_steps.specs.AtpReports.{AsksFrom}
 use Rattle.at_steps.specs.AtpSteps.{page_answer}
 use Rattle.at_world.specs.Sents.{SentDatagram}

@@ -1,7 +1,7 @@
 -- The abstract machine: what the nodes' users may be told. It has no packet, no record, no window and no timer. It is
 -- the cable and a part for each protocol.
 use Rattle.std.specs.Prelude.{◌≡◌, List, [], ◌∷◌, take, Result, Ok, Err}
-use Rattle.at_node.specs.declared.event.Report.{Report}
+use Rattle.at_event.specs.declared.event.Report.{Report}
 use Rattle.at_world.specs.AtpGuards as atp
 use Rattle.at_world.specs.AtpGuards.{AtpMachine}
 use Rattle.at_world.specs.Cables as cables

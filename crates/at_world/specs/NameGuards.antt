@@ -12,12 +12,12 @@ use Rattle.at_nbp.specs.declared.name.Name.{Name}
 use Rattle.at_nbp.specs.declared.names.Registered.{Registered}
 use Rattle.at_name_socket.specs.NameSockets.{any_pattern, names_of, own_zone}
 use Rattle.at_name_socket.specs.declared.claim.Claim.{Claim as Claimed}
-use Rattle.at_node.specs.Kinds.{Kind, Nbp}
+use Rattle.at_event.specs.Kinds.{Kind, Nbp}
 use Rattle.at_node.specs.NameCalls.{pattern_asked}
-use Rattle.at_node.specs.declared.event.Call.{Call}
-use Rattle.at_node.specs.declared.event.Call.TheVariants.{Claim, Find, Finish, Register, Unregister}
-use Rattle.at_node.specs.declared.event.Report.{Report}
-use Rattle.at_node.specs.declared.event.Report.TheVariants as report
+use Rattle.at_event.specs.declared.event.Call.{Call}
+use Rattle.at_event.specs.declared.event.Call.TheVariants.{Claim, Find, Finish, Register, Unregister}
+use Rattle.at_event.specs.declared.event.Report.{Report}
+use Rattle.at_event.specs.declared.event.Report.TheVariants as report
 use Rattle.at_world.specs.declared.event.Event.{Event}
 use Rattle.at_world.specs.declared.event.Event.TheVariants as event
 use Rattle.at_world.specs.declared.setup.NodeSetup.{NodeSetup}

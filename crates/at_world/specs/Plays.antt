@@ -2,7 +2,7 @@
 use Rattle.std.specs.Prelude.{◌≡◌, ℕ, false, if◌then◌else◌, List, [], ◌∷◌, map, take, find, slice_get, option_map}
 use Rattle.std.specs.Prelude.{IsSome, ◌⊎◌, Option, Some, None, Result, Ok, Err}
 use Rattle.at_name_socket.specs.declared.neighbour.Neighbour.{Neighbour}
-use Rattle.at_node.specs.declared.event.Report.{Report}
+use Rattle.at_event.specs.declared.event.Report.{Report}
 use Rattle.at_node.specs.Nodes.{NodeState, opening}
 use Rattle.at_world.specs.declared.event.Event.{Event}
 use Rattle.at_world.specs.declared.event.Refusal.{Refusal}

@@ -9,8 +9,8 @@ use Rattle.at_atp_responder.specs.declared.reception.Key.{Key}
 use Rattle.at_atp.specs.Lawfully.{IsInRange}
 use Rattle.at_atp.specs.Network.{Network, Sent, Happening, AllTimely, packet_at, after, done}
 use Rattle.at_node.specs.AtpParts.{atp_kind}
-use Rattle.at_node.specs.declared.event.Call.TheVariants.{SetZones}
-use Rattle.at_node.specs.declared.event.Report.{Report}
+use Rattle.at_event.specs.declared.event.Call.TheVariants.{SetZones}
+use Rattle.at_event.specs.declared.event.Report.{Report}
 use Rattle.at_steps.specs.AtpHappenings.{sets_table}
 use Rattle.at_steps.specs.AtpReports as reports
 use Rattle.at_world.specs.Events.{act_of, node_of}

@@ -7,16 +7,16 @@ use Rattle.at_ddp.specs.Tables.{replaced}
 use Rattle.at_node.specs.declared.drawing.Draw.{Draw}
 use Rattle.at_node.specs.declared.drawing.Input.{Input}
 use Rattle.at_node.specs.declared.drawing.Input.TheVariants as input
-use Rattle.at_node.specs.declared.event.Report.{Report}
-use Rattle.at_node.specs.declared.service.Reply.{Reply}
-use Rattle.at_node.specs.declared.service.Reply.TheVariants as reply
-use Rattle.at_node.specs.Calls.{IsCall}
+use Rattle.at_event.specs.declared.event.Report.{Report}
+use Rattle.at_event.specs.declared.service.Reply.{Reply}
+use Rattle.at_event.specs.declared.service.Reply.TheVariants as reply
+use Rattle.at_event.specs.Calls.{IsCall}
 use Rattle.at_node.specs.Drawing.{Carries, DrawsHearing, drawn_by, draw_of, holds}
 use Rattle.at_node.specs.Drawing.{Draws as DrawsFor}
 use Rattle.at_node.specs.Hearing.{Hears}
 use Rattle.at_node.specs.Nodes.{NodeState, called, timed}
-use Rattle.at_node.specs.Outcomes.{IsStep, Comes}
-use Rattle.at_node.specs.ServiceSocket.{is_asked}
+use Rattle.at_event.specs.Outcomes.{IsStep, Comes}
+use Rattle.at_event.specs.Services.{is_asked}
 use Rattle.at_world.specs.Draws.{Draws, last_of, noted, is_no_later}
 use Rattle.at_world.specs.Sents.{SentDatagram, stamp}
 use Rattle.at_world.specs.declared.event.Event.{Event}

@@ -1,7 +1,7 @@
 //! A service of your own: it answers each request at once with the sum of the request's bytes.
 ghost use Rattle.std.specs.Prelude.{◌≡◌, List};
 ghost use Rattle.at_atp_frame.specs.Packets.{Packet as Parts};
-ghost use Rattle.at_node.specs.declared.service.Reply.TheVariants.{Now};
+ghost use Rattle.at_event.specs.declared.service.Reply.TheVariants.{Now};
 
 use at_atp::{Key, Packet};
 use at_ddp::{Bytes, Listed};

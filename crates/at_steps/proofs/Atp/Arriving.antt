@@ -11,17 +11,18 @@ use Rattle.at_node.specs.AtpHearing.{AtSocket, Requester, Service, Zones, atp_so
 use Rattle.at_node.specs.AtpParts.{AtpState, asking, atp_kind}
 use Rattle.at_node.specs.Drawing.{drawn_by}
 use Rattle.at_node.specs.Hearing.{Hears, HearsSent}
-use Rattle.at_node.specs.Seats.{at_socket, is_mine}
+use Rattle.at_event.specs.Seats.{at_socket, is_mine}
 use Rattle.at_node.specs.Nodes.{with_atp, NodeState}
-use Rattle.at_node.specs.Outcomes.{Over, over, Outcome, idle}
+use Rattle.at_event.specs.Outcomes.{Over, over, Outcome, idle}
 use Rattle.at_node.specs.RequesterSocket.{AtRequester}
-use Rattle.at_node.specs.ServiceSocket.{AtService, is_asked}
+use Rattle.at_event.specs.Services.{is_asked}
+use Rattle.at_node.specs.ServiceSocket.{AtService}
 use Rattle.at_node.specs.ZoneSocket.{AtZones}
 use Rattle.at_node.specs.ZoneReading.{is_reading}
 use Rattle.at_node.specs.declared.drawing.Draw.TheVariants.{Tid}
-use Rattle.at_node.specs.declared.event.Report.TheVariants as report
-use Rattle.at_node.specs.declared.service.Reply.{Reply}
-use Rattle.at_node.specs.declared.service.Reply.TheVariants as reply
+use Rattle.at_event.specs.declared.event.Report.TheVariants as report
+use Rattle.at_event.specs.declared.service.Reply.{Reply}
+use Rattle.at_event.specs.declared.service.Reply.TheVariants as reply
 use Rattle.at_steps.specs.Acts.{Gets}
 use Rattle.at_steps.specs.AtpHappenings.{Stands}
 use Rattle.at_steps.proofs.Atp.Below.{HearingLaws}

@@ -16,19 +16,19 @@ use Rattle.at_zip.specs.Reading.{place_after}
 use Rattle.at_zip.specs.Request.{request_user}
 use Rattle.at_zip.specs.Zones.{table_fault}
 use Rattle.at_zip.specs.declared.fault.ZipFault.{ZipFault}
-use Rattle.at_node.specs.Calls.{IsCall}
+use Rattle.at_event.specs.Calls.{IsCall}
 use Rattle.at_node.specs.Drawing.{drawn_by}
 use Rattle.at_node.specs.AtpParts.{Reading, asking, zones_at}
 use Rattle.at_node.specs.Nodes.{with_atp, NodeState}
-use Rattle.at_node.specs.Outcomes.{over, idle, refused_as}
+use Rattle.at_event.specs.Outcomes.{over, idle, refused_as}
 use Rattle.at_node.specs.RequesterSocket.{asked_as}
-use Rattle.at_node.specs.Seats.{at_socket}
+use Rattle.at_event.specs.Seats.{at_socket}
 use Rattle.at_node.specs.ZoneReading.{reading_begins, zones_called, page_transaction}
 use Rattle.at_node.specs.ZoneSocket.{set_zones_called, table_set}
 use Rattle.at_node.specs.declared.drawing.Draw.TheVariants.{Tid}
-use Rattle.at_node.specs.declared.event.Call.TheVariants.{Zones, SetZones, Ask}
-use Rattle.at_node.specs.declared.event.Report.{Report}
-use Rattle.at_node.specs.declared.event.Report.TheVariants as report
+use Rattle.at_event.specs.declared.event.Call.TheVariants.{Zones, SetZones, Ask}
+use Rattle.at_event.specs.declared.event.Report.{Report}
+use Rattle.at_event.specs.declared.event.Report.TheVariants as report
 use Rattle.at_steps.specs.Acts.{Calls}
 use Rattle.at_steps.specs.AtpHappenings.{Stands, IsOpen}
 use Rattle.at_steps.specs.AtpSteps.{Begins, Reads, Sets}

@@ -18,8 +18,8 @@ use Rattle.at_zip.specs.Zones.{IsTable, table_fault}
 use Rattle.at_node.specs.AtpParts.{atp_kind}
 use Rattle.at_node.specs.Hearing.{Hears, HearsSent}
 use Rattle.at_node.specs.Nodes.{NodeState}
-use Rattle.at_node.specs.Outcomes.{Outcome}
-use Rattle.at_node.specs.declared.service.Reply.{Reply}
+use Rattle.at_event.specs.Outcomes.{Outcome}
+use Rattle.at_event.specs.declared.service.Reply.{Reply}
 
 -- of calls
 pub record CallLaws (A : Type 0) : Type 0 where

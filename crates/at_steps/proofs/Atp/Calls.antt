@@ -13,16 +13,16 @@ use Rattle.at_atp_responder.specs.declared.reception.Key.{Key}
 use Rattle.at_atp.specs.Network as network
 use Rattle.at_atp.specs.Network.{Network, Happening, after, done, put, stamped}
 use Rattle.at_atp.specs.Transactions.{Asked}
-use Rattle.at_node.specs.Calls.{IsCall}
+use Rattle.at_event.specs.Calls.{IsCall}
 use Rattle.at_node.specs.AtpParts.{serving}
-use Rattle.at_node.specs.Kinds.{kind_of_call}
+use Rattle.at_event.specs.Kinds.{kind_of_call}
 use Rattle.at_node.specs.Nodes.{with_atp, NodeState, called}
-use Rattle.at_node.specs.Outcomes.{over, idle, refused_as}
-use Rattle.at_node.specs.Seats.{at_socket}
+use Rattle.at_event.specs.Outcomes.{over, idle, refused_as}
+use Rattle.at_event.specs.Seats.{at_socket}
 use Rattle.at_node.specs.ServiceSocket.{answered_with}
-use Rattle.at_node.specs.declared.event.Call.{Call}
-use Rattle.at_node.specs.declared.event.Call.TheVariants.{Zones, SetZones, Ask, Answer, Find, Claim, Finish, Register, Unregister}
-use Rattle.at_node.specs.declared.event.Report.TheVariants as report
+use Rattle.at_event.specs.declared.event.Call.{Call}
+use Rattle.at_event.specs.declared.event.Call.TheVariants.{Zones, SetZones, Ask, Answer, Find, Claim, Finish, Register, Unregister}
+use Rattle.at_event.specs.declared.event.Report.TheVariants as report
 use Rattle.at_steps.specs.Acts.{Act, Calls, is_atp}
 use Rattle.at_steps.specs.AtpSteps as steps
 use Rattle.at_steps.specs.AtpHappenings.{Stands}

@@ -19,23 +19,24 @@ use Rattle.at_name_socket.specs.declared.step.Finished.TheVariants as finished
 use Rattle.at_name_socket.specs.declared.step.Heard.{Heard}
 use Rattle.at_name_socket.specs.declared.step.Heard.TheVariants as heard
 use Rattle.at_node.specs.AtpHearing.{HearsAtp}
-use Rattle.at_node.specs.NameCalls.{nbp_kind, sent_of, becomes, refused_by, looks_up, found_as, find_called, claimed_as, claim_called, told_of, finished_as, finish_called, asked_again, lookup_fired}
+use Rattle.at_event.specs.Seats.{nbp_kind}
+use Rattle.at_node.specs.NameCalls.{sent_of, becomes, refused_by, looks_up, found_as, find_called, claimed_as, claim_called, told_of, finished_as, finish_called, asked_again, lookup_fired}
 use Rattle.at_node.specs.NameCalls.{pattern_asked, registered_as, register_called, unregistered_as, unregister_called}
 use Rattle.at_node.specs.NameHearing.{HearsName, HearsNames, HearsNbpFault, told_by}
 use Rattle.at_node.specs.AtpParts.{atp_kind}
 use Rattle.at_node.specs.Hearing.{Hears, HearsIt, HearsMine}
-use Rattle.at_node.specs.Kinds.{kind_of_call, kind_of_timer}
+use Rattle.at_event.specs.Kinds.{kind_of_call, kind_of_timer}
 use Rattle.at_node.specs.Nodes.{NodeState, with_atp, with_names, called, timed}
-use Rattle.at_node.specs.Outcomes.{Outcome, Over, idle, over, refused_as, sent_by}
-use Rattle.at_node.specs.Seats.{is_for_all, is_mine}
-use Rattle.at_node.specs.declared.event.Call.{Call}
-use Rattle.at_node.specs.declared.event.Call.TheVariants.{Zones, SetZones, Ask, Answer, Find, Claim, Finish, Register, Unregister}
-use Rattle.at_node.specs.declared.event.Report.{Report}
-use Rattle.at_node.specs.declared.event.Report.TheVariants as report
-use Rattle.at_node.specs.declared.event.Timer.{Timer}
-use Rattle.at_node.specs.declared.event.Timer.TheVariants as timer
-use Rattle.at_node.specs.declared.seat.Seat.{Seat}
-use Rattle.at_node.specs.declared.service.Reply.{Reply}
+use Rattle.at_event.specs.Outcomes.{Outcome, Over, idle, over, refused_as, sent_by}
+use Rattle.at_event.specs.Seats.{is_for_all, is_mine}
+use Rattle.at_event.specs.declared.event.Call.{Call}
+use Rattle.at_event.specs.declared.event.Call.TheVariants.{Zones, SetZones, Ask, Answer, Find, Claim, Finish, Register, Unregister}
+use Rattle.at_event.specs.declared.event.Report.{Report}
+use Rattle.at_event.specs.declared.event.Report.TheVariants as report
+use Rattle.at_event.specs.declared.event.Timer.{Timer}
+use Rattle.at_event.specs.declared.event.Timer.TheVariants as timer
+use Rattle.at_event.specs.declared.seat.Seat.{Seat}
+use Rattle.at_event.specs.declared.service.Reply.{Reply}
 use Rattle.at_steps.specs.Acts.{Act, Calls, Fires, Gets, IsSaid, is_atp, owner_of}
 use Rattle.at_steps.specs.AtpHappenings.{IsForeign}
 

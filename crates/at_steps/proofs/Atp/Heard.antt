@@ -21,12 +21,12 @@ use Rattle.at_node.specs.AtpParts.{AtpState, Reading, asking, after_heard}
 use Rattle.at_node.specs.AtpParts.{asks as asks_page}
 use Rattle.at_node.specs.Drawing.{drawn_by}
 use Rattle.at_node.specs.Nodes.{with_atp, NodeState}
-use Rattle.at_node.specs.Outcomes.{over, Outcome}
+use Rattle.at_event.specs.Outcomes.{over, Outcome}
 use Rattle.at_node.specs.RequesterSocket.{AtRequester, reported_other}
 use Rattle.at_node.specs.ZoneReading.{AsksOn, ReadsPage, is_page, is_reading, names_read, page_transaction}
 use Rattle.at_node.specs.declared.drawing.Draw.TheVariants.{Tid}
-use Rattle.at_node.specs.declared.event.Report.{Report}
-use Rattle.at_node.specs.declared.event.Report.TheVariants as report
+use Rattle.at_event.specs.declared.event.Report.{Report}
+use Rattle.at_event.specs.declared.event.Report.TheVariants as report
 use Rattle.at_steps.specs.Acts.{Gets}
 use Rattle.at_steps.specs.AtpReports.{Matches}
 use Rattle.at_steps.specs.AtpHappenings.{Stands, IsOpen}

@@ -19,10 +19,10 @@ use Rattle.at_zip.specs.Zones.{IsTable}
 use Rattle.at_node.specs.AtpParts.{AtpState, Reading, asking, serving, zones_at, atp_kind}
 use Rattle.at_node.specs.Drawing.{drawn_by}
 use Rattle.at_node.specs.Nodes.{NodeState, with_atp}
-use Rattle.at_node.specs.Outcomes.{Outcome, Outgoing, idle, sent_by}
-use Rattle.at_node.specs.declared.event.Report.{Report}
-use Rattle.at_node.specs.declared.event.Report.TheVariants as report
-use Rattle.at_node.specs.declared.event.Timer.TheVariants as timer
+use Rattle.at_event.specs.Outcomes.{Outcome, Outgoing, idle, sent_by}
+use Rattle.at_event.specs.declared.event.Report.{Report}
+use Rattle.at_event.specs.declared.event.Report.TheVariants as report
+use Rattle.at_event.specs.declared.event.Timer.TheVariants as timer
 use Rattle.at_steps.specs.Acts.{Act, Calls, Fires, Gets, owner_of, is_atp}
 use Rattle.at_steps.specs.AtpReports.{Matches}
 use Rattle.at_steps.specs.AtpHappenings.{Stands, IsOn, IsOpen, AreEntries, IsHappening, IsForeign, Passes, SendsAtp, numbers_drawn}

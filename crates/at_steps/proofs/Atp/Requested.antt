@@ -13,13 +13,14 @@ use Rattle.at_atp.specs.Transactions.{Asked, transaction_of}
 use Rattle.at_node.specs.AtpParts.{AtpState, serving}
 use Rattle.at_node.specs.Drawing.{drawn_by}
 use Rattle.at_node.specs.Nodes.{with_atp, NodeState}
-use Rattle.at_node.specs.Outcomes.{over, Outcome, idle}
+use Rattle.at_event.specs.Outcomes.{over, Outcome, idle}
 use Rattle.at_node.specs.Responders.{released_report}
-use Rattle.at_node.specs.ServiceSocket.{is_asked, service_taken, handed_up, at_service, service_asked, service_released}
-use Rattle.at_node.specs.declared.event.Report.{Report}
-use Rattle.at_node.specs.declared.event.Report.TheVariants as report
-use Rattle.at_node.specs.declared.service.Reply.{Reply}
-use Rattle.at_node.specs.declared.service.Reply.TheVariants as reply
+use Rattle.at_event.specs.Services.{is_asked}
+use Rattle.at_node.specs.ServiceSocket.{service_taken, handed_up, at_service, service_asked, service_released}
+use Rattle.at_event.specs.declared.event.Report.{Report}
+use Rattle.at_event.specs.declared.event.Report.TheVariants as report
+use Rattle.at_event.specs.declared.service.Reply.{Reply}
+use Rattle.at_event.specs.declared.service.Reply.TheVariants as reply
 use Rattle.at_steps.specs.Acts.{Gets}
 use Rattle.at_steps.specs.AtpSteps as steps
 use Rattle.at_steps.specs.AtpHappenings.{Stands}

@@ -17,11 +17,11 @@ use Rattle.at_atp_responder.specs.declared.reception.Reception.{Reception}
 use Rattle.at_atp_responder.specs.declared.reception.Reception.TheVariants as reception
 use Rattle.at_node.specs.AtpParts.{asking}
 use Rattle.at_node.specs.Responders.{released_report}
-use Rattle.at_node.specs.declared.event.Call.{Call}
-use Rattle.at_node.specs.declared.event.Call.TheVariants.{Answer}
-use Rattle.at_node.specs.declared.event.Report.{Report}
-use Rattle.at_node.specs.declared.event.Report.TheVariants as report
-use Rattle.at_node.specs.declared.event.Timer.TheVariants as timer
+use Rattle.at_event.specs.declared.event.Call.{Call}
+use Rattle.at_event.specs.declared.event.Call.TheVariants.{Answer}
+use Rattle.at_event.specs.declared.event.Report.{Report}
+use Rattle.at_event.specs.declared.event.Report.TheVariants as report
+use Rattle.at_event.specs.declared.event.Timer.TheVariants as timer
 use Rattle.at_steps.specs.Acts.{Act, Calls, Fires, Gets}
 use Rattle.at_steps.specs.AtpReports.{IsPageAsked, Matches, Joins, Finishes, Ends, asks_once, asks_for, began_under, expired_at, handed_up_by, came_under}
 

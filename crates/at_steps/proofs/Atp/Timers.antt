@@ -16,16 +16,16 @@ use Rattle.at_atp_responder.specs.declared.reception.Key.{Key}
 use Rattle.at_atp.specs.Network as network
 use Rattle.at_atp.specs.Network.{Network, Happening, Expires, Retries, after, done, put, with_requester, with_responder}
 use Rattle.at_node.specs.AtpParts.{AtpState, Reading, serving, zones_at, asking}
-use Rattle.at_node.specs.Kinds.{kind_of_timer}
+use Rattle.at_event.specs.Kinds.{kind_of_timer}
 use Rattle.at_node.specs.Nodes.{with_atp, NodeState, timed}
-use Rattle.at_node.specs.Outcomes.{over, Outcome, idle, refused_as}
+use Rattle.at_event.specs.Outcomes.{over, Outcome, idle, refused_as}
 use Rattle.at_node.specs.RequesterSocket.{after_retry, retry_fired}
 use Rattle.at_node.specs.Responders.{records_at}
-use Rattle.at_node.specs.Seats.{at_socket}
+use Rattle.at_event.specs.Seats.{at_socket}
 use Rattle.at_node.specs.ZoneReading.{is_reading, after_failing}
-use Rattle.at_node.specs.declared.event.Report.TheVariants as report
-use Rattle.at_node.specs.declared.event.Timer.{Timer}
-use Rattle.at_node.specs.declared.event.Timer.TheVariants as timer
+use Rattle.at_event.specs.declared.event.Report.TheVariants as report
+use Rattle.at_event.specs.declared.event.Timer.{Timer}
+use Rattle.at_event.specs.declared.event.Timer.TheVariants as timer
 use Rattle.at_steps.specs.Acts.{Fires, is_atp}
 use Rattle.at_steps.specs.AtpReports.{Matches}
 use Rattle.at_steps.specs.AtpHappenings.{Stands, IsOpen}

@@ -17,14 +17,15 @@ use Rattle.at_name_socket.specs.declared.step.Heard.{Heard}
 use Rattle.at_name_socket.specs.declared.step.Heard.TheVariants as heard
 use Rattle.at_node.specs.Drawing.{drawn_by}
 use Rattle.at_node.specs.Hearing.{Hears, HearsIt}
-use Rattle.at_node.specs.NameCalls.{nbp_kind, sent_of}
+use Rattle.at_event.specs.Seats.{nbp_kind}
+use Rattle.at_node.specs.NameCalls.{sent_of}
 use Rattle.at_node.specs.NameHearing.{HearsName, HearsNames, HearsNbpFault, told_by}
 use Rattle.at_node.specs.Nodes.{NodeState, with_names}
-use Rattle.at_node.specs.Outcomes.{Outcome, Over, idle, over}
-use Rattle.at_node.specs.Seats.{is_for_all, is_mine}
-use Rattle.at_node.specs.declared.event.Report.{Report}
-use Rattle.at_node.specs.declared.event.Report.TheVariants as report
-use Rattle.at_node.specs.declared.service.Reply.{Reply}
+use Rattle.at_event.specs.Outcomes.{Outcome, Over, idle, over}
+use Rattle.at_event.specs.Seats.{is_for_all, is_mine}
+use Rattle.at_event.specs.declared.event.Report.{Report}
+use Rattle.at_event.specs.declared.event.Report.TheVariants as report
+use Rattle.at_event.specs.declared.service.Reply.{Reply}
 use Rattle.at_steps.specs.Acts.{Gets}
 use Rattle.at_steps.specs.NameHappenings.{Stands, is_names_socket}
 use Rattle.at_steps.specs.NameSteps.{Plain, is_plain}

@@ -18,15 +18,15 @@ use Rattle.at_name_socket.specs.Steps.{StandsLawfully}
 use Rattle.at_name_socket.specs.declared.claim.Claim.{Claim as Claimed}
 use Rattle.at_name_socket.specs.declared.step.Finished.{Finished}
 use Rattle.at_name_socket.specs.declared.step.Finished.TheVariants as finished
-use Rattle.at_node.specs.Calls.{IsCall, IsZone}
+use Rattle.at_event.specs.Calls.{IsCall, IsZone}
 use Rattle.at_node.specs.Drawing.{drawn_by}
-use Rattle.at_node.specs.Kinds.{kind_of_call}
+use Rattle.at_event.specs.Kinds.{kind_of_call}
 use Rattle.at_node.specs.NameCalls.{claimed_as, finished_as, found_as, pattern_asked, refused_by, registered_as, told_of, unregistered_as, without_name, zone_asked}
 use Rattle.at_node.specs.Nodes.{NodeState, called, with_names}
-use Rattle.at_node.specs.Outcomes.{over}
-use Rattle.at_node.specs.declared.event.Call.{Call}
-use Rattle.at_node.specs.declared.event.Call.TheVariants.{Zones, SetZones, Ask, Answer, Find, Claim, Finish, Register, Unregister}
-use Rattle.at_node.specs.declared.event.Report.TheVariants as report
+use Rattle.at_event.specs.Outcomes.{over}
+use Rattle.at_event.specs.declared.event.Call.{Call}
+use Rattle.at_event.specs.declared.event.Call.TheVariants.{Zones, SetZones, Ask, Answer, Find, Claim, Finish, Register, Unregister}
+use Rattle.at_event.specs.declared.event.Report.TheVariants as report
 use Rattle.at_steps.specs.Acts.{Calls, is_nbp}
 use Rattle.at_steps.specs.NameHappenings.{Stands}
 use Rattle.at_steps.specs.NameSteps.{Claims, Finds, HasClaimed, HasLost, Looks, Registers, Unregisters}

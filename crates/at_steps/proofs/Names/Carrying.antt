@@ -8,7 +8,7 @@ use Rattle.at_nbp.specs.Packets.{BeginsWith, spelling}
 use Rattle.at_nbp.specs.declared.function.Function.TheVariants as function
 use Rattle.at_name_socket.specs.Carrying.{owner_by}
 use Rattle.at_node.specs.Drawing.{Carries}
-use Rattle.at_node.specs.NameCalls.{nbp_kind}
+use Rattle.at_event.specs.Seats.{nbp_kind}
 use Rattle.at_node.specs.declared.drawing.Draw.TheVariants.{Lookup}
 use Rattle.at_steps.proofs.Names.Below.{ReadingLaws}
 

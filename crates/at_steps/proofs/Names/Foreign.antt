@@ -26,25 +26,25 @@ use Rattle.at_zip.specs.declared.fault.ZipFault.{ZipFault}
 use Rattle.at_node.specs.AtpHearing.{AtSocket, AtpSocket, HearsAt, HearsAtp, Requester, Service, Zones as ZoneSocket, atp_socket}
 use Rattle.at_node.specs.AtpParts.{AtpState, Reading, after_heard, asking as asker, asks, atp_kind, packet_in, serving, tid_of, zones_at}
 use Rattle.at_node.specs.Hearing.{Hears, HearsIt, HearsMine}
-use Rattle.at_node.specs.Kinds.{kind_of_call, kind_of_timer}
-use Rattle.at_node.specs.NameCalls.{nbp_kind}
+use Rattle.at_event.specs.Kinds.{kind_of_call, kind_of_timer}
+use Rattle.at_event.specs.Seats.{nbp_kind}
 use Rattle.at_node.specs.NameHearing.{HearsNames}
 use Rattle.at_node.specs.Nodes.{NodeState, called, timed, with_atp, with_names}
-use Rattle.at_node.specs.Outcomes.{Outcome, Over, idle, over, refused_as, sent_by}
+use Rattle.at_event.specs.Outcomes.{Outcome, Over, idle, over, refused_as, sent_by}
 use Rattle.at_node.specs.RequesterSocket.{AtRequester, after_retry, ask_called, asked_as, hears_other, reported_other, retry_fired}
 use Rattle.at_node.specs.Responders.{expired, release_fired, released_report, records_at}
-use Rattle.at_node.specs.Seats.{at_socket, is_for_all, is_mine}
+use Rattle.at_event.specs.Seats.{at_socket, is_for_all, is_mine}
 use Rattle.at_node.specs.ServiceSocket.{AtService, answer_called, answered_with, at_service, sent_by_reply, service_taken}
 use Rattle.at_node.specs.ZoneReading.{AsksOn, ReadsPage, TakesPage, after_failing, is_page, is_reading, names_read, page_transaction, reading_begins, zones_called}
 use Rattle.at_node.specs.ZoneSocket.{AtZones, at_zones, page_packet, set_zones_called, table_set, zone_taken}
-use Rattle.at_node.specs.declared.event.Call.{Call}
-use Rattle.at_node.specs.declared.event.Call.TheVariants.{Zones, SetZones, Ask, Answer, Find, Claim, Finish, Register, Unregister}
-use Rattle.at_node.specs.declared.event.Report.{Report}
-use Rattle.at_node.specs.declared.event.Report.TheVariants as report
-use Rattle.at_node.specs.declared.event.Timer.{Timer}
-use Rattle.at_node.specs.declared.event.Timer.TheVariants as timer
-use Rattle.at_node.specs.declared.seat.Seat.{Seat}
-use Rattle.at_node.specs.declared.service.Reply.{Reply}
+use Rattle.at_event.specs.declared.event.Call.{Call}
+use Rattle.at_event.specs.declared.event.Call.TheVariants.{Zones, SetZones, Ask, Answer, Find, Claim, Finish, Register, Unregister}
+use Rattle.at_event.specs.declared.event.Report.{Report}
+use Rattle.at_event.specs.declared.event.Report.TheVariants as report
+use Rattle.at_event.specs.declared.event.Timer.{Timer}
+use Rattle.at_event.specs.declared.event.Timer.TheVariants as timer
+use Rattle.at_event.specs.declared.seat.Seat.{Seat}
+use Rattle.at_event.specs.declared.service.Reply.{Reply}
 use Rattle.at_steps.specs.Acts.{Act, Calls, Fires, Gets, is_nbp, owner_of}
 use Rattle.at_steps.specs.NameHappenings.{IsForeign}
 

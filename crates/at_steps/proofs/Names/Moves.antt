@@ -14,12 +14,13 @@ use Rattle.at_name_socket.specs.Sockets.{Stays}
 use Rattle.at_name_socket.specs.Steps as steps
 use Rattle.at_name_socket.specs.Steps.{StandsLawfully, begun_with, spelled}
 use Rattle.at_node.specs.Drawing.{drawn_by}
-use Rattle.at_node.specs.NameCalls.{nbp_kind, sent_of}
+use Rattle.at_event.specs.Seats.{nbp_kind}
+use Rattle.at_node.specs.NameCalls.{sent_of}
 use Rattle.at_node.specs.Nodes.{NodeState, with_names}
-use Rattle.at_node.specs.Outcomes.{Outcome, idle, refused_as, sent_by}
+use Rattle.at_event.specs.Outcomes.{Outcome, idle, refused_as, sent_by}
 use Rattle.at_node.specs.declared.drawing.Draw.{Draw}
-use Rattle.at_node.specs.declared.event.Report.{Report}
-use Rattle.at_node.specs.declared.event.Report.TheVariants as report
+use Rattle.at_event.specs.declared.event.Report.{Report}
+use Rattle.at_event.specs.declared.event.Report.TheVariants as report
 use Rattle.at_steps.specs.Acts.{Act}
 use Rattle.at_steps.specs.NameHappenings.{AreEntries, BeginsBy, Happens, IsHappening, Stands, is_names_socket}
 use Rattle.at_steps.specs.NameSteps.{IsStep, Plain, is_plain}

@@ -10,11 +10,11 @@ use Rattle.at_nbp.specs.Network.{Begun, Happening, Other, Setting, after, put}
 use Rattle.at_name_socket.specs.NameSockets.{SocketState, names_of}
 use Rattle.at_name_socket.specs.Sockets.{IsSocket}
 use Rattle.at_node.specs.Drawing.{drawn_by}
-use Rattle.at_node.specs.NameCalls.{nbp_kind}
+use Rattle.at_event.specs.Seats.{nbp_kind}
 use Rattle.at_node.specs.Nodes.{NodeState}
-use Rattle.at_node.specs.Outcomes.{Outcome, Outgoing}
-use Rattle.at_node.specs.declared.event.Report.{Report}
-use Rattle.at_node.specs.declared.event.Report.TheVariants as report
+use Rattle.at_event.specs.Outcomes.{Outcome, Outgoing}
+use Rattle.at_event.specs.declared.event.Report.{Report}
+use Rattle.at_event.specs.declared.event.Report.TheVariants as report
 use Rattle.at_steps.specs.Acts.{Act, Calls, Fires, Gets, is_nbp, owner_of}
 use Rattle.at_steps.specs.NameHappenings.{AreEntries, BeginsBy, Happens, IsForeign, Stands}
 

@@ -6,13 +6,13 @@ use Rattle.at_nbp.specs.Network.{Happening, Setting, after}
 use Rattle.at_nbp.specs.declared.fault.NbpFault.TheVariants.{NoSuchLookup}
 use Rattle.at_name_socket.specs.NameSockets.{names_of}
 use Rattle.at_name_socket.specs.Sockets.{Stays}
-use Rattle.at_node.specs.Kinds.{kind_of_timer}
+use Rattle.at_event.specs.Kinds.{kind_of_timer}
 use Rattle.at_node.specs.NameCalls.{asked_again}
 use Rattle.at_node.specs.Nodes.{NodeState, timed, with_names}
-use Rattle.at_node.specs.Outcomes.{over}
-use Rattle.at_node.specs.declared.event.Report.TheVariants as report
-use Rattle.at_node.specs.declared.event.Timer.{Timer}
-use Rattle.at_node.specs.declared.event.Timer.TheVariants as timer
+use Rattle.at_event.specs.Outcomes.{over}
+use Rattle.at_event.specs.declared.event.Report.TheVariants as report
+use Rattle.at_event.specs.declared.event.Timer.{Timer}
+use Rattle.at_event.specs.declared.event.Timer.TheVariants as timer
 use Rattle.at_steps.specs.Acts.{Fires, is_nbp}
 use Rattle.at_steps.specs.NameHappenings.{Stands}
 use Rattle.at_steps.specs.NameSteps.{Plain}

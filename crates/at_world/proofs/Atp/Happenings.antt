@@ -5,19 +5,19 @@ use Rattle.at_atp.specs.Network.{NoneHolds, after, done}
 use Rattle.at_atp.specs.Transactions.{Transaction, transaction_of}
 use Rattle.at_zip.specs.Zones.{IsTable}
 use Rattle.at_node.specs.AtpParts.{asking, serving, zones_at}
-use Rattle.at_node.specs.Calls.{IsCall}
+use Rattle.at_event.specs.Calls.{IsCall}
 use Rattle.at_node.specs.Drawing.{DrawsHearing, draw_of}
 use Rattle.at_node.specs.Hearing.{Hears}
-use Rattle.at_node.specs.Kinds.{Kind, Atp, kind_of_call, kind_of_timer}
+use Rattle.at_event.specs.Kinds.{Kind, Atp, kind_of_call, kind_of_timer}
 use Rattle.at_node.specs.Nodes.{NodeState, called, timed}
-use Rattle.at_node.specs.Outcomes.{Outcome}
-use Rattle.at_node.specs.ServiceSocket.{is_asked}
+use Rattle.at_event.specs.Outcomes.{Outcome}
+use Rattle.at_event.specs.Services.{is_asked}
 use Rattle.at_node.specs.declared.drawing.Draw.TheVariants.{Tid}
-use Rattle.at_node.specs.declared.event.Call.{Call}
-use Rattle.at_node.specs.declared.event.Report.{Report}
-use Rattle.at_node.specs.declared.event.Timer.{Timer}
-use Rattle.at_node.specs.declared.service.Reply.{Reply}
-use Rattle.at_node.specs.declared.service.Reply.TheVariants.{Later}
+use Rattle.at_event.specs.declared.event.Call.{Call}
+use Rattle.at_event.specs.declared.event.Report.{Report}
+use Rattle.at_event.specs.declared.event.Timer.{Timer}
+use Rattle.at_event.specs.declared.service.Reply.{Reply}
+use Rattle.at_event.specs.declared.service.Reply.TheVariants.{Later}
 use Rattle.at_steps.specs.Acts.{is_atp}
 use Rattle.at_steps.specs.AtpHappenings.{IsForeign, IsHappening, IsOn, Passes, ReadsAtLeastOnce, Stands}
 use Rattle.at_steps.specs.AtpSteps.{IsStep}

@@ -8,9 +8,9 @@ use Rattle.std.proofs.lemmas.List.{length-append}
 use Rattle.at_zip.specs.Reading.{BeginsTable}
 use Rattle.at_node.specs.AtpParts.{Reading as ZoneReading, asking, zones_at}
 use Rattle.at_node.specs.Nodes.{NodeState}
-use Rattle.at_node.specs.declared.event.Call.TheVariants.{Zones}
-use Rattle.at_node.specs.declared.event.Report.{Report}
-use Rattle.at_node.specs.declared.event.Report.TheVariants as report
+use Rattle.at_event.specs.declared.event.Call.TheVariants.{Zones}
+use Rattle.at_event.specs.declared.event.Report.{Report}
+use Rattle.at_event.specs.declared.event.Report.TheVariants as report
 use Rattle.at_steps.specs.AtpHappenings.{sets_table}
 use Rattle.at_steps.specs.AtpSteps.{Change, ComesToReading, BeginsReading, TurnsPage, EndsReading, FailsReading, Tells, All, TooMany, Faulty, page_asked}
 use Rattle.at_world.specs.AtpGuards.{AtpMachine, Reading, StoodSince, since_of, without_reading}

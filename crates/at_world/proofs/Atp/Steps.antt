@@ -8,9 +8,9 @@ use Rattle.at_atp.specs.Transactions.{Transaction, transaction_of, answered}
 use Rattle.at_zip.specs.Request.{RequestSpells}
 use Rattle.at_node.specs.AtpParts.{AtpState, asking, zones_at}
 use Rattle.at_node.specs.Nodes.{NodeState}
-use Rattle.at_node.specs.declared.event.Call.TheVariants.{SetZones, Ask, Answer}
-use Rattle.at_node.specs.declared.event.Report.{Report}
-use Rattle.at_node.specs.declared.event.Report.TheVariants as report
+use Rattle.at_event.specs.declared.event.Call.TheVariants.{SetZones, Ask, Answer}
+use Rattle.at_event.specs.declared.event.Report.{Report}
+use Rattle.at_event.specs.declared.event.Report.TheVariants as report
 use Rattle.at_steps.specs.AtpHappenings.{sets_table}
 use Rattle.at_steps.specs.AtpSteps as steps
 use Rattle.at_steps.specs.AtpSteps.{Change, ComesToReading, IsPlain, BeginsAsking, BeginsReading, SetsTable, GivesAnswer, ServesPage, HandsUp, Finishes, TurnsPage, EndsReading, FailsReading, IsStep, Tells, All, TooMany, Faulty, is_plain, page_answer, page_asked}

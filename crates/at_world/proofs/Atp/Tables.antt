@@ -1,10 +1,10 @@
 -- The machine's zone table after a step is the one that the event and its report say.
 use Rattle.std.proofs.Common.{◌≡◌, ℕ, true, cond, List, refl, sym, ap, ◌∙◌}
-use Rattle.at_node.specs.Kinds.{Kind, Nobody, Atp, Nbp}
-use Rattle.at_node.specs.declared.event.Call.{Call}
-use Rattle.at_node.specs.declared.event.Call.TheVariants.{Zones, SetZones, Ask, Answer}
-use Rattle.at_node.specs.declared.event.Report.{Report}
-use Rattle.at_node.specs.declared.event.Report.TheVariants as report
+use Rattle.at_event.specs.Kinds.{Kind, Nobody, Atp, Nbp}
+use Rattle.at_event.specs.declared.event.Call.{Call}
+use Rattle.at_event.specs.declared.event.Call.TheVariants.{Zones, SetZones, Ask, Answer}
+use Rattle.at_event.specs.declared.event.Report.{Report}
+use Rattle.at_event.specs.declared.event.Report.TheVariants as report
 use Rattle.at_world.specs.AtpGuards.{AtpMachine, Says, StepBy}
 use Rattle.at_world.specs.Cables.{Cable, owner_of}
 use Rattle.at_world.specs.Stories.{table_by}

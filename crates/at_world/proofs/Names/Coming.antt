@@ -5,7 +5,7 @@ use Rattle.std.specs.List.{AllByRecursion}
 use Rattle.at_nbp.specs.Lawfully.{IsLawfullySent}
 use Rattle.at_nbp.specs.Network.{Sent, after, is_fresh, packet_at}
 use Rattle.at_nbp.specs.declared.function.Function.TheVariants as function
-use Rattle.at_node.specs.NameCalls.{nbp_kind}
+use Rattle.at_event.specs.Seats.{nbp_kind}
 use Rattle.at_node.specs.declared.drawing.Draw.TheVariants.{Lookup as Identifier}
 use Rattle.at_world.specs.Cables.{Cable}
 use Rattle.at_world.specs.NameGuards.{NameMachine}

@@ -1,17 +1,17 @@
 -- How the machine follows each event of a node in its names and lookups, by the laws of the node's steps.
 use Rattle.std.proofs.Common.{◌≡◌, inl, inr, ℕ, Bool, true, false, Some, refl, sym, subst, ◌∙◌}
 use Rattle.at_name_socket.specs.Sockets.{Stays, open_at}
-use Rattle.at_node.specs.Calls.{IsCall}
+use Rattle.at_event.specs.Calls.{IsCall}
 use Rattle.at_node.specs.Drawing.{drawn_by}
 use Rattle.at_node.specs.Hearing.{Hears}
-use Rattle.at_node.specs.Kinds.{Kind, Nbp, kind_of_call, kind_of_timer}
+use Rattle.at_event.specs.Kinds.{Kind, Nbp, kind_of_call, kind_of_timer}
 use Rattle.at_node.specs.Nodes.{NodeState, called, timed}
-use Rattle.at_node.specs.Outcomes.{Outcome}
-use Rattle.at_node.specs.declared.event.Call.{Call}
-use Rattle.at_node.specs.declared.event.Report.{Report}
-use Rattle.at_node.specs.declared.event.Report.TheVariants as report
-use Rattle.at_node.specs.declared.event.Timer.{Timer}
-use Rattle.at_node.specs.declared.service.Reply.{Reply}
+use Rattle.at_event.specs.Outcomes.{Outcome}
+use Rattle.at_event.specs.declared.event.Call.{Call}
+use Rattle.at_event.specs.declared.event.Report.{Report}
+use Rattle.at_event.specs.declared.event.Report.TheVariants as report
+use Rattle.at_event.specs.declared.event.Timer.{Timer}
+use Rattle.at_event.specs.declared.service.Reply.{Reply}
 use Rattle.at_steps.specs.Acts.{Act, Calls, Fires, Gets, is_nbp}
 use Rattle.at_steps.specs.Acts as acts
 use Rattle.at_steps.specs.NameHappenings.{Happens, IsForeign, IsHappening, Stands}

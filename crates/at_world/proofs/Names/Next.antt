@@ -11,7 +11,7 @@ use Rattle.at_name_socket.specs.NameSockets.{names_of}
 use Rattle.at_name_socket.specs.Sockets.{open_at}
 use Rattle.at_node.specs.Drawing.{drawn_by}
 use Rattle.at_node.specs.Nodes.{NodeState}
-use Rattle.at_node.specs.Outcomes.{Outcome, posted}
+use Rattle.at_event.specs.Outcomes.{Outcome, posted}
 use Rattle.at_steps.specs.NameHappenings.{Happens, is_names_socket}
 use Rattle.at_world.specs.Cables.{Cable, owner_of}
 use Rattle.at_world.specs.Events.{act_of, node_of}

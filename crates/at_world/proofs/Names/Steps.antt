@@ -19,10 +19,10 @@ use Rattle.at_name_socket.specs.declared.claim.Claim.{Claim as Claimed}
 use Rattle.at_node.specs.Drawing.{drawn_by}
 use Rattle.at_node.specs.NameCalls.{pattern_asked}
 use Rattle.at_node.specs.Nodes.{NodeState}
-use Rattle.at_node.specs.declared.event.Call.TheVariants.{Claim, Find, Finish, Register, Unregister}
-use Rattle.at_node.specs.declared.event.Report.{Report}
-use Rattle.at_node.specs.declared.event.Report.TheVariants as report
-use Rattle.at_node.specs.declared.event.Timer.TheVariants as timer
+use Rattle.at_event.specs.declared.event.Call.TheVariants.{Claim, Find, Finish, Register, Unregister}
+use Rattle.at_event.specs.declared.event.Report.{Report}
+use Rattle.at_event.specs.declared.event.Report.TheVariants as report
+use Rattle.at_event.specs.declared.event.Timer.TheVariants as timer
 use Rattle.at_steps.specs.NameSteps as steps
 use Rattle.at_steps.specs.NameSteps.{Change, IsOpen, IsPlain, IsStep, is_plain}
 use Rattle.at_world.specs.Cables.{Cable, owner_of}

@@ -16,18 +16,18 @@ use Rattle.at_name_socket.specs.NameSockets.{names_of, own_zone}
 use Rattle.at_name_socket.specs.Sockets.{Change, IsSocket, changed, open_at}
 use Rattle.at_name_socket.specs.Steps as socket_steps
 use Rattle.at_name_socket.specs.declared.neighbour.Neighbour.{Neighbour}
-use Rattle.at_node.specs.Calls.{IsCall}
+use Rattle.at_event.specs.Calls.{IsCall}
 use Rattle.at_node.specs.Drawing.{Carries, drawn_by}
 use Rattle.at_node.specs.Hearing.{Hears}
-use Rattle.at_node.specs.Kinds.{kind_of_call, kind_of_timer}
-use Rattle.at_node.specs.NameCalls.{nbp_kind}
+use Rattle.at_event.specs.Kinds.{kind_of_call, kind_of_timer}
+use Rattle.at_event.specs.Seats.{nbp_kind}
 use Rattle.at_node.specs.Nodes.{NodeState, called, timed}
-use Rattle.at_node.specs.Outcomes.{Outcome, Outgoing}
+use Rattle.at_event.specs.Outcomes.{Outcome, Outgoing}
 use Rattle.at_node.specs.declared.drawing.Draw.TheVariants.{Lookup as Identifier}
-use Rattle.at_node.specs.declared.event.Call.{Call}
-use Rattle.at_node.specs.declared.event.Report.{Report}
-use Rattle.at_node.specs.declared.event.Timer.{Timer}
-use Rattle.at_node.specs.declared.service.Reply.{Reply}
+use Rattle.at_event.specs.declared.event.Call.{Call}
+use Rattle.at_event.specs.declared.event.Report.{Report}
+use Rattle.at_event.specs.declared.event.Timer.{Timer}
+use Rattle.at_event.specs.declared.service.Reply.{Reply}
 use Rattle.at_steps.specs.Acts.{Act, Calls, Fires, Gets, is_nbp}
 use Rattle.at_steps.specs.NameHappenings.{AreEntries, Happens, IsForeign, IsHappening, Stands, is_names_socket}
 use Rattle.at_world.specs.Cables.{Cable, owner_of}

@@ -2,7 +2,7 @@ use Rattle.std.proofs.Common.{◌≡◌, inl, inr, sym, ap, subst, ◌∙◌}
 use Rattle.at_ddp.specs.Datagram.{Content as Datagram}
 use Rattle.at_node.specs.AtpParts.{atp_kind}
 use Rattle.at_node.specs.Drawing.{CarriesLookup, CarriesTid}
-use Rattle.at_node.specs.NameCalls.{nbp_kind}
+use Rattle.at_event.specs.Seats.{nbp_kind}
 use Rattle.at_node.proofs.drawing.owned.Goals as goal
 
 pub returns-in_default-clause-only : goal.returns-in_default-clause-only

@@ -5,8 +5,8 @@ use Rattle.at_atp_frame.specs.Frames.{content, spelled_all}
 use Rattle.at_atp_responder.specs.Records.{Record, is_key, finds_no_place, record_fault, taken}
 use Rattle.at_ddp.specs.Tables.{without_first}
 use Rattle.at_node.specs.AtpParts.{atp_kind}
-use Rattle.at_node.specs.Outcomes.{posted, sent_by}
-use Rattle.at_node.specs.declared.service.Reply.TheVariants.{Later}
+use Rattle.at_event.specs.Outcomes.{posted, sent_by}
+use Rattle.at_event.specs.declared.service.Reply.TheVariants.{Later}
 use Rattle.at_node.proofs.OutcomeLemmas.{when_ok}
 use Rattle.at_node.proofs.ResponderLemmas.{service_takes}
 use Rattle.at_node.proofs.ServingLemmas.{is_new, waits, undone}

@@ -1,7 +1,7 @@
 use Rattle.std.proofs.Common.{◌≡◌, ◌++◌, map, ap, sym, ◌∙◌, List}
 use Rattle.std.proofs.lemmas.List.{append-nil}
 use Rattle.at_node.specs.AtpParts.{atp_kind}
-use Rattle.at_node.specs.Outcomes.{posted, sent_by}
+use Rattle.at_event.specs.Outcomes.{posted, sent_by}
 use Rattle.std.specs.Prelude.{find}
 use Rattle.at_atp_frame.specs.Frames.{content, spelled_all}
 use Rattle.at_atp_responder.specs.Records.{finds_no_place, taken, is_key, record_fault, Record}

@@ -4,7 +4,7 @@ use Rattle.at_atp_requester.specs.Requests.{beginning, begun, heard, next_number
 use Rattle.at_zip.specs.Reading.{kept, place_after}
 use Rattle.at_zip.specs.Request.{request_user}
 use Rattle.at_node.specs.AtpParts.{AtpState, asking, atp_kind}
-use Rattle.at_node.specs.Outcomes.{posted, sent_by}
+use Rattle.at_event.specs.Outcomes.{posted, sent_by}
 use Rattle.at_node.specs.Readings.{reading_of}
 use Rattle.at_node.specs.ZoneReading.{page_transaction}
 use Rattle.at_node.proofs.ReadingLemmas.{asks_next, next_wanted}

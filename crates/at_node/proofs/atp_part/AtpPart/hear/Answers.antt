@@ -4,8 +4,8 @@ use Rattle.std.proofs.lemmas.Bool.{eq-eqb, ne_eqb}
 use Rattle.at_ddp.specs.Datagram.{content}
 use Rattle.at_node.specs.AtpHearing.{HearsAt, HearsAtp, Requester, Service, Zones, atp_socket}
 use Rattle.at_node.specs.AtpParts.{AtpState}
-use Rattle.at_node.specs.Outcomes.{Comes}
-use Rattle.at_node.specs.declared.service.Reply.TheVariants.{Later}
+use Rattle.at_event.specs.Outcomes.{Comes}
+use Rattle.at_event.specs.declared.service.Reply.TheVariants.{Later}
 use Rattle.at_node.proofs.OutcomeLemmas.{comes_ignored}
 use Rattle.at_node.proofs.ResponderLemmas.{not_served}
 use Rattle.at_node.proofs.atp_part.AtpPart.hear.Goals as goal

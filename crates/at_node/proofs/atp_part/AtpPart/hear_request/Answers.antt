@@ -2,7 +2,7 @@ use Rattle.std.proofs.Common.{Some, inl, inr, refl, ◌∙◌}
 use Rattle.at_ddp.specs.Datagram.{content as written}
 use Rattle.at_atp_frame.specs.Frames.{content}
 use Rattle.at_node.specs.AtpHearing.{AtSocket, HearsAt, Service}
-use Rattle.at_node.specs.declared.service.Reply.TheVariants.{Later}
+use Rattle.at_event.specs.declared.service.Reply.TheVariants.{Later}
 use Rattle.at_node.proofs.OutcomeLemmas.{atp_number, comes_refused, comes_wider}
 use Rattle.at_node.proofs.ResponderLemmas.{not_served}
 use Rattle.at_node.proofs.atp_part.AtpPart.hear_request.Goals as goal

@@ -2,7 +2,7 @@ use Rattle.std.proofs.Common.{Some, inl, inr, refl, ◌∙◌}
 use Rattle.at_ddp.specs.Datagram.{content as written}
 use Rattle.at_atp_frame.specs.Frames.{content}
 use Rattle.at_node.specs.AtpHearing.{AtSocket, HearsAt, Requester}
-use Rattle.at_node.specs.Outcomes.{Comes}
+use Rattle.at_event.specs.Outcomes.{Comes}
 use Rattle.at_node.proofs.OutcomeLemmas.{atp_number, comes_refused, comes_wider}
 use Rattle.at_node.proofs.atp_part.AtpPart.hear_response.Goals as goal
 

@@ -3,7 +3,7 @@ use Rattle.at_atp_frame.specs.Frames.{content}
 use Rattle.std.specs.Prelude.{option_map}
 use Rattle.at_node.specs.AtpHearing.{AtSocket, Zones}
 use Rattle.at_node.specs.AtpParts.{AtpState}
-use Rattle.at_node.specs.Outcomes.{Comes}
+use Rattle.at_event.specs.Outcomes.{Comes}
 use Rattle.at_node.specs.ZoneSocket.{zone_asked}
 use Rattle.at_node.proofs.OutcomeLemmas.{comes_ignored, step_comes}
 use Rattle.at_node.proofs.ResponderLemmas.{no_request, not_frame, not_release, bad_request, good_request, zone_release}

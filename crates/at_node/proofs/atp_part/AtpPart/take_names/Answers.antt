@@ -4,11 +4,11 @@ use Rattle.at_atp_frame.specs.Frames.{content}
 use Rattle.at_atp_requester.specs.Requests.{heard}
 use Rattle.at_zip.specs.Fault as zip
 use Rattle.at_node.specs.AtpParts.{AtpState, after_heard}
-use Rattle.at_node.specs.Outcomes.{IsStep}
+use Rattle.at_event.specs.Outcomes.{IsStep}
 use Rattle.at_node.specs.Readings.{reading_of}
 use Rattle.at_node.specs.ZoneReading.{names_read}
-use Rattle.at_node.specs.declared.event.Report.{Report}
-use Rattle.at_node.specs.declared.event.Report.TheVariants.{ZoneFault}
+use Rattle.at_event.specs.declared.event.Report.{Report}
+use Rattle.at_event.specs.declared.event.Report.TheVariants.{ZoneFault}
 use Rattle.at_node.proofs.OutcomeLemmas.{when_some}
 use Rattle.at_node.proofs.ReadingLemmas.{ends_with_all, is_too_long, page_wanted}
 use Rattle.at_node.proofs.atp_part.AtpPart.take_names.Goals as goal

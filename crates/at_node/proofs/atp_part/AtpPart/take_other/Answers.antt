@@ -2,7 +2,7 @@ use Rattle.std.proofs.Common.{ap, ◌∙◌, ◌≡◌, ◌++◌, map}
 use Rattle.at_atp_frame.specs.Frames.{content, spelled_all}
 use Rattle.at_atp_requester.specs.Requests.{heard}
 use Rattle.at_node.specs.AtpParts.{AtpState, asking, atp_kind}
-use Rattle.at_node.specs.Outcomes.{posted, sent_by}
+use Rattle.at_event.specs.Outcomes.{posted, sent_by}
 use Rattle.at_node.proofs.RequesterLemmas.{comes_other, other_wanted}
 use Rattle.at_node.proofs.atp_part.AtpPart.take_other.Goals as goal
 

@@ -2,9 +2,9 @@ use Rattle.std.proofs.Common.{Some, refl, sym, ap, subst}
 use Rattle.at_atp_frame.specs.Frames.{content}
 use Rattle.at_node.specs.AtpHearing.{AtSocket, Service}
 use Rattle.at_node.specs.AtpParts.{AtpState}
-use Rattle.at_node.specs.Outcomes.{Comes}
+use Rattle.at_event.specs.Outcomes.{Comes}
 use Rattle.at_node.specs.ServiceSocket.{service_asked}
-use Rattle.at_node.specs.declared.service.Reply.TheVariants.{Later}
+use Rattle.at_event.specs.declared.service.Reply.TheVariants.{Later}
 use Rattle.at_node.proofs.OutcomeLemmas.{comes_ignored, step_comes}
 use Rattle.at_node.proofs.ResponderLemmas.{no_question, not_frame, not_release, not_served, service_release}
 use Rattle.at_node.proofs.atp_part.AtpPart.take_packet.Goals as goal

@@ -5,7 +5,7 @@ use Rattle.std.proofs.lemmas.List.{append-nil}
 use Rattle.at_ddp.specs.Datagram.{content}
 use Rattle.at_name_socket.specs.NameSockets.{SocketState}
 use Rattle.at_node.specs.NameHearing.{HearsNames, told_by}
-use Rattle.at_node.specs.Outcomes.{Comes}
+use Rattle.at_event.specs.Outcomes.{Comes}
 use Rattle.at_node.proofs.NameLemmas.{HearsData, fault_comes, heard_comes}
 use Rattle.at_node.proofs.OutcomeLemmas.{comes_ignored}
 use Rattle.at_node.proofs.name_part.NamePart.hear.Goals as goal

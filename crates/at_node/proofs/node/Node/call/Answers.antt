@@ -1,9 +1,9 @@
 use Rattle.std.proofs.Common.{refl, rules, subst}
 use Rattle.at_node.specs.Nodes.{NodeState, called, with_atp}
-use Rattle.at_node.specs.Outcomes.{IsStep}
+use Rattle.at_event.specs.Outcomes.{IsStep}
 use Rattle.at_node.specs.ZoneSocket.{set_zones_called}
-use Rattle.at_node.specs.declared.event.Call.{Call}
-use Rattle.at_node.specs.declared.event.Call.TheVariants.{SetZones}
+use Rattle.at_event.specs.declared.event.Call.{Call}
+use Rattle.at_event.specs.declared.event.Call.TheVariants.{SetZones}
 use Rattle.at_node.proofs.OutcomeLemmas.{step_over}
 use Rattle.at_node.proofs.node.Node.call.Goals as goal
 

@@ -1,9 +1,9 @@
 use Rattle.std.proofs.Common.{refl, subst}
 use Rattle.at_node.specs.NameCalls.{finish_called, register_called, unregister_called}
 use Rattle.at_node.specs.Nodes.{NodeState, called, with_names}
-use Rattle.at_node.specs.Outcomes.{IsStep}
-use Rattle.at_node.specs.declared.event.Call.{Call}
-use Rattle.at_node.specs.declared.event.Call.TheVariants.{Finish, Register, Unregister}
+use Rattle.at_event.specs.Outcomes.{IsStep}
+use Rattle.at_event.specs.declared.event.Call.{Call}
+use Rattle.at_event.specs.declared.event.Call.TheVariants.{Finish, Register, Unregister}
 use Rattle.at_node.proofs.OutcomeLemmas.{step_over}
 use Rattle.at_node.proofs.node.Node.call_names.Goals as goal
 

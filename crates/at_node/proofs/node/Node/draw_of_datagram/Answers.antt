@@ -6,10 +6,10 @@ use Rattle.at_atp_frame.specs.Frames.{Content, content}
 use Rattle.at_node.specs.AtpParts.{atp_kind}
 use Rattle.at_node.specs.Drawing.{drawn_by}
 use Rattle.at_node.specs.Nodes.{NodeState}
-use Rattle.at_node.specs.Outcomes.{Outcome}
+use Rattle.at_event.specs.Outcomes.{Outcome}
 use Rattle.at_node.specs.RequesterSocket.{AtRequester}
-use Rattle.at_node.specs.Seats.{is_for_all, is_mine}
-use Rattle.at_node.specs.declared.seat.Seat.{Seat}
+use Rattle.at_event.specs.Seats.{is_for_all, is_mine}
+use Rattle.at_event.specs.declared.seat.Seat.{Seat}
 use Rattle.at_node.proofs.DrawingLemmas.{by_packet, found_by_packet}
 use Rattle.at_node.proofs.node.Node.draw_of_datagram.Goals as goal
 

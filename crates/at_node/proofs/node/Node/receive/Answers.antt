@@ -1,7 +1,7 @@
 use Rattle.std.proofs.Common.{inl, inr, refl, ◌∙◌}
 use Rattle.at_ddp.specs.Datagram.{content}
 use Rattle.at_node.specs.Hearing.{Hears, HearsIt}
-use Rattle.at_node.specs.declared.service.Reply.TheVariants.{Later}
+use Rattle.at_event.specs.declared.service.Reply.TheVariants.{Later}
 use Rattle.at_node.proofs.OutcomeLemmas.{ddp_number, comes_refused, comes_wider}
 use Rattle.at_node.proofs.ResponderLemmas.{not_served}
 use Rattle.at_node.proofs.node.Node.receive.Goals as goal

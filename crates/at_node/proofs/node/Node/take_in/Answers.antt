@@ -5,12 +5,12 @@ use Rattle.at_ddp.specs.Datagram.{content}
 use Rattle.at_node.specs.AtpHearing.{HearsAtp}
 use Rattle.at_node.specs.AtpParts.{atp_kind}
 use Rattle.at_node.specs.Hearing.{HearsIt}
-use Rattle.at_node.specs.NameCalls.{nbp_kind}
+use Rattle.at_event.specs.Seats.{nbp_kind}
 use Rattle.at_node.specs.NameHearing.{HearsNames}
 use Rattle.at_node.specs.Nodes.{NodeState, with_atp, with_names}
-use Rattle.at_node.specs.Outcomes.{Comes, Over}
-use Rattle.at_node.specs.Seats.{is_for_all, is_mine}
-use Rattle.at_node.specs.declared.service.Reply.TheVariants.{Later}
+use Rattle.at_event.specs.Outcomes.{Comes, Over}
+use Rattle.at_event.specs.Seats.{is_for_all, is_mine}
+use Rattle.at_event.specs.declared.service.Reply.TheVariants.{Later}
 use Rattle.at_node.proofs.OutcomeLemmas.{comes_ignored, comes_over, comes_wider}
 use Rattle.at_node.proofs.ResponderLemmas.{not_served}
 use Rattle.at_node.proofs.node.Node.take_in.Goals as goal

@@ -1,10 +1,11 @@
 ghost use Rattle.std.specs.Prelude.{◌<◌};
 ghost use Rattle.std.specs.List.{AllByRecursion};
 ghost use Rattle.at_nbp.specs.Tuples.{IsString};
-ghost use Rattle.at_node.specs.Calls.{IsCall, IsZone};
+ghost use Rattle.at_event.specs.Calls.{IsCall, IsZone};
 
 use crate::packet_count::PacketCount;
-use at_atp::{Key, Packet, ranges_of, ranges_of_bytes};
+use at_atp_frame::{Packet, ranges_of, ranges_of_bytes};
+use at_atp_responder::Key;
 use at_ddp::{Bytes, Listed, Pascal};
 use at_nbp::Find;
 use std::alloc::{Allocator, Global};

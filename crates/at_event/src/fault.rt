@@ -1,5 +1,5 @@
 ghost use Rattle.std.specs.Prelude.{◌≡◌};
-ghost use Rattle.at_node.specs.Faults.{number_of};
+ghost use Rattle.at_event.specs.Faults.{number_of};
 
 use thiserror::Error;
 

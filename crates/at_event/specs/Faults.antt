@@ -1,7 +1,7 @@
 -- The numbers by which a node's own refusals are reported.
 use Rattle.std.specs.Prelude.{ℕ}
-use Rattle.at_node.specs.declared.fault.NodeFault.{NodeFault}
-use Rattle.at_node.specs.declared.fault.NodeFault.TheVariants.{NoRouter, StillReading}
+use Rattle.at_event.specs.declared.fault.NodeFault.{NodeFault}
+use Rattle.at_event.specs.declared.fault.NodeFault.TheVariants.{NoRouter, StillReading}
 
 abbrev pub number_of : NodeFault → ℕ
 number_of NoRouter = 60

@@ -1,10 +1,11 @@
 ghost use Rattle.std.specs.Prelude.{◌≡◌, ℕ, List, IfOk, OnErr};
 ghost use Rattle.at_atp_responder.specs.declared.reception.Key.{Key as Asker};
-ghost use Rattle.at_node.specs.ServiceSocket.{IsReply};
-ghost use Rattle.at_node.specs.declared.service.Reply.{Reply as Said};
-ghost use Rattle.at_node.specs.declared.service.Reply.TheVariants.{Later};
+ghost use Rattle.at_event.specs.Services.{IsReply};
+ghost use Rattle.at_event.specs.declared.service.Reply.{Reply as Said};
+ghost use Rattle.at_event.specs.declared.service.Reply.TheVariants.{Later};
 
-use at_atp::{Key, Packet};
+use at_atp_frame::Packet;
+use at_atp_responder::Key;
 use at_ddp::Listed;
 use std::alloc::{AllocError, Allocator, Global};
 

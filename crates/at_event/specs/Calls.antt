@@ -4,9 +4,9 @@ use Rattle.std.specs.List.{AllByRecursion}
 use Rattle.at_ddp.specs.Datagram.{AreBytes}
 use Rattle.at_atp_frame.specs.Packets.{AreWords}
 use Rattle.at_nbp.specs.Tuples.{IsString}
-use Rattle.at_node.specs.declared.event.Call.{Call}
-use Rattle.at_node.specs.declared.event.Call.TheVariants.{SetZones, Ask, Answer}
-use Rattle.at_node.specs.declared.event.Call.TheVariants.{Find, Claim, Finish, Register, Unregister}
+use Rattle.at_event.specs.declared.event.Call.{Call}
+use Rattle.at_event.specs.declared.event.Call.TheVariants.{SetZones, Ask, Answer}
+use Rattle.at_event.specs.declared.event.Call.TheVariants.{Find, Claim, Finish, Register, Unregister}
 
 -- the zone of a pattern, if it has one
 abbrev pub IsZone : Option (List ℕ) → Type 0

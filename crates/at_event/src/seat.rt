@@ -1,30 +1,35 @@
 ghost use Rattle.std.specs.Prelude.{◌≡◌, ◌||◌};
-ghost use Rattle.at_node.specs.Seats.{at_socket, is_for_all, is_mine};
+ghost use Rattle.at_event.specs.Seats.{at_socket, is_for_all, is_mine};
 
-use crate::name_part::NBP;
 use at_ddp::Address;
+
+/// The protocol of NBP's datagrams, which alone may go to every node.
+pub const NBP: u8 = 2;
 
 /// The node number that means every node.
 const EVERY_NODE: u8 = 255;
 
-// Where a node stands: its network, its number, and the number of the cable's router, if there is one.
+/// Where a node stands.
 #[derive(Clone, Copy)]
-pub(crate) struct Seat {
-    pub(crate) net: u16,
-    pub(crate) number: u8,
-    pub(crate) router: Option<u8>,
+pub struct Seat {
+    /// The number of its network.
+    pub net: u16,
+    /// Its own number, 1 to 254.
+    pub number: u8,
+    /// The number of the cable's router, if there is one.
+    pub router: Option<u8>,
 }
 
 impl Seat {
-    // The address of a socket of this node.
-    pub(crate) fn at(self, socket: u8) -> Address
+    /// The address of a socket of this node.
+    pub fn at(self, socket: u8) -> Address
         ensures { result ≡ record { net = self.net; node = self.number; socket = socket } }
     {
         self.there(self.number, socket)
     }
 
-    // The address of a socket of a node on this node's network.
-    pub(crate) fn there(self, node: u8, socket: u8) -> Address
+    /// The address of a socket of a node on this node's network.
+    pub fn there(self, node: u8, socket: u8) -> Address
         ensures { result ≡ at_socket self node socket }
     {
         Address {
@@ -34,14 +39,13 @@ impl Seat {
         }
     }
 
-    // Whether a datagram of a protocol to this address is for the node.
-    pub(crate) fn is_for(self, kind: u8, to: Address) -> bool
+    /// Whether a datagram of a protocol to this address is for the node.
+    pub fn is_for(self, kind: u8, to: Address) -> bool
         ensures { result ≡ (is_for_all self kind to || is_mine self to) }
     {
         self.is_for_all(kind, to) || self.is_mine(to)
     }
 
-    // NBP alone sends to every node.
     fn is_for_all(self, kind: u8, to: Address) -> bool
         ensures { result ≡ is_for_all self kind to }
     {

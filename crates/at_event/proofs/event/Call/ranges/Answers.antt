@@ -2,8 +2,8 @@ use Rattle.std.proofs.Common.{sym, subst, arith}
 use Rattle.std.specs.List.{AllByRecursion}
 use Rattle.at_ddp.specs.Datagram.{AreBytes}
 use Rattle.at_atp_frame.specs.Packets.{AreWords}
-use Rattle.at_node.specs.Calls.{IsCall}
-use Rattle.at_node.proofs.event.Call.ranges.Goals as goal
+use Rattle.at_event.specs.Calls.{IsCall}
+use Rattle.at_event.proofs.event.Call.ranges.Goals as goal
 
 pub returns-in-Ask : goal.returns-in-Ask
 returns-in-Ask g c =

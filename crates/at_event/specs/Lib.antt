@@ -1,0 +1,6 @@
+pub mod Calls
+pub mod Faults
+pub mod Kinds
+pub mod Outcomes
+pub mod Seats
+pub mod Services

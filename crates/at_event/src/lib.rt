@@ -1,0 +1,14 @@
+//! What happens at a node of a cable: calls, timers and reports. Where a node stands, and what a service is.
+#![tactic(auto)]
+
+mod event;
+mod fault;
+mod packet_count;
+mod seat;
+mod service;
+
+pub use event::{Call, Report, Timer};
+pub use fault::NodeFault;
+pub use packet_count::PacketCount;
+pub use seat::{NBP, Seat};
+pub use service::{Deferring, Reply, Service};

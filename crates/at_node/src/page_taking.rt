@@ -1,0 +1,211 @@
+//! What becomes of the page that a reading of the zone list asked for.
+ghost use Rattle.std.specs.Prelude.{◌≡◌, ◌+◌, ◌++◌, ◌∷◌, [], map, None, Some, IfOk};
+ghost use Rattle.std.specs.Prelude.{IfSome, IsSome, OnErr, true, false};
+ghost use Rattle.at_atp_frame.specs.Frames.{content, spelled};
+ghost use Rattle.at_atp_requester.specs.Requests.{beginning, begun, finishes, heard, next_number, request_by};
+ghost use Rattle.at_node.specs.AtpHearing.{AtSocket, Requester as RequesterSocket};
+ghost use Rattle.at_node.specs.AtpParts.{after_heard, atp_kind, packet_in};
+ghost use Rattle.at_event.specs.Outcomes.{Comes, IsStep, posted, sent_by, takes_memory, wants_memory};
+ghost use Rattle.at_node.specs.Readings.{reading_of};
+ghost use Rattle.at_event.specs.Services.{is_asked};
+ghost use Rattle.at_node.specs.ZoneReading.{AsksOn, TakesPage, is_page, names_read};
+ghost use Rattle.at_event.specs.declared.service.Reply.{Reply as Said};
+ghost use Rattle.at_zip.specs.Fault.{number_of as zip_number};
+ghost use Rattle.at_zip.specs.Reading.{HasRoomFor};
+ghost use Rattle.at_zip.specs.Request.{request_user};
+
+use crate::atp_part::{AtpPart, outbox_over};
+use crate::incoming::Incoming;
+use crate::node::refused;
+use crate::requester_socket::{REQUESTER_SOCKET, hear};
+use crate::zone_reading::{RETRIES, ZoneReading};
+use at_atp::Requester;
+use at_ddp::{Address, Datagrams};
+use at_event::Report;
+use at_zip::{PageView, Taken, ZipFault, read_page, request_user};
+use std::alloc::{AllocError, Allocator};
+
+impl<A: Allocator + Copy> AtpPart<A> {
+    // Takes the page that the reading asked for.
+    pub(crate) fn take_page(
+        &mut self,
+        packet: &Incoming<'_>,
+        user: [u8; 4],
+        bytes: &[u8],
+        out: &mut Datagrams<A>,
+    ) -> Report<A>
+        requires page { is_page A self.old packet.now.from (content packet.now.frame) ≡ true }
+        requires free { IsSome (next_number
+            (heard {A = A} self.old.requester packet.now.from (content packet.now.frame)).after) }
+        requires packet { packet_in (content packet.now.frame) ≡ record { user = user; data_ = bytes.now } }
+        ensures comes { (said : Said A)
+            → Comes (AtSocket said packet.now.seat self.old packet.now.from (Some RequesterSocket)
+            (content packet.now.frame)) self.old out.old.items result self.new out.new.items }
+        ensures not_asked { is_asked result ≡ false }
+    {
+        match read_page(user, bytes) {
+            Ok(page) => self.take_names(packet, &page, out),
+            Err(fault) => self.end_reading(packet, zone_fault(fault), out),
+        }
+    }
+
+    // Takes the names of a page: the reading ends with them, or asks for the next page.
+    fn take_names(
+        &mut self,
+        packet: &Incoming<'_>,
+        page: &PageView<'_>,
+        out: &mut Datagrams<A>,
+    ) -> Report<A>
+        requires page { is_page A self.old packet.now.from (content packet.now.frame) ≡ true }
+        requires free { IsSome (next_number
+            (heard {A = A} self.old.requester packet.now.from (content packet.now.frame)).after) }
+        ensures comes { Comes (TakesPage packet.now.seat self.old
+            (heard self.old.requester packet.now.from (content packet.now.frame)) packet.now.from
+            (names_read self.old.reading) page.now) self.old out.old.items result self.new out.new.items }
+        ensures not_asked { is_asked result ≡ false }
+    {
+        let Some(mut reading) = self.reading.take() else {
+            unreachable!();
+        };
+        let fault = match reading.reader.room(page) {
+            Ok(()) if page.is_last() => return self.finish(packet, reading, page, out),
+            Ok(()) => return self.ask_on(packet, reading, page, out),
+            Err(fault) => fault,
+        };
+        self.reading = Some(reading);
+        match fault {
+            ZipFault::NoMemory => Report::NoMemory,
+            fault => self.end_reading(packet, zone_fault(fault), out),
+        }
+    }
+
+    // Takes the packet with the last page of a reading, and tells all names.
+    fn finish(
+        &mut self,
+        packet: &Incoming<'_>,
+        mut reading: ZoneReading<A>,
+        page: &PageView<'_>,
+        out: &mut Datagrams<A>,
+    ) -> Report<A>
+        requires room { HasRoomFor reading.reader page.now }
+        requires last { page.now.last ≡ true }
+        ensures step { let before = record self.old { reading = Some (reading_of reading) } in
+            IsStep (after_heard packet.now.seat before
+            (heard self.old.requester packet.now.from (content packet.now.frame))
+            (Report.Zones (reading.reader.names ++ page.now.names)) None) before out.old.items result self.new
+            out.new.items }
+        ensures not_asked { is_asked result ≡ false }
+    {
+        let own = packet.seat.at(REQUESTER_SOCKET);
+        if let Err(AllocError) = hear(self.alloc, &mut self.requester, own, packet, out) {
+            self.reading = Some(reading);
+            return Report::NoMemory;
+        }
+        self.reading = None;
+        match reading.reader.take(page) {
+            Taken::Done(names) => Report::Zones(names),
+            Taken::Ask(_) => unreachable!(),
+        }
+    }
+
+    // Takes the packet with a page of a reading, and asks for the next one.
+    fn ask_on(
+        &mut self,
+        packet: &Incoming<'_>,
+        mut reading: ZoneReading<A>,
+        page: &PageView<'_>,
+        out: &mut Datagrams<A>,
+    ) -> Report<A>
+        requires room { HasRoomFor reading.reader page.now }
+        requires goes_on { page.now.last ≡ false }
+        requires finishes { finishes A self.old.requester packet.now.from (content packet.now.frame) ≡ true }
+        requires free { IsSome (next_number
+            (heard {A = A} self.old.requester packet.now.from (content packet.now.frame)).after) }
+        ensures comes { let before = record self.old { reading = Some (reading_of reading) } in
+            Comes (AsksOn packet.now.seat before (heard self.old.requester packet.now.from (content packet.now.frame))
+            packet.now.from (reading.reader.names ++ page.now.names)) before out.old.items result self.new
+            out.new.items }
+        ensures not_asked { is_asked result ≡ false }
+    {
+        let own = packet.seat.at(REQUESTER_SOCKET);
+        let user = request_user(reading.reader.after(page));
+        match turn(self.alloc, &mut self.requester, own, packet, user, out) {
+            Ok(tid) => {
+                reading.reader.take(page);
+                reading.tid = tid;
+                self.reading = Some(reading);
+                Report::Begun(tid)
+            }
+            Err(AllocError) => {
+                self.reading = Some(reading);
+                Report::NoMemory
+            }
+        }
+    }
+
+    // The reading ends by its page, and this is told of it.
+    fn end_reading(
+        &mut self,
+        packet: &Incoming<'_>,
+        told: Report<A>,
+        out: &mut Datagrams<A>,
+    ) -> Report<A>
+        requires some { wants_memory told ≡ false }
+        requires takes { takes_memory told ≡ true }
+        ensures step { IsStep (after_heard packet.now.seat self.old
+            (heard self.old.requester packet.now.from (content packet.now.frame)) told None) self.old out.old.items
+            result self.new out.new.items }
+        ensures not_asked { is_asked told ≡ false → is_asked result ≡ false }
+    {
+        let own = packet.seat.at(REQUESTER_SOCKET);
+        match hear(self.alloc, &mut self.requester, own, packet, out) {
+            Ok(_) => {
+                self.reading = None;
+                told
+            }
+            Err(AllocError) => Report::NoMemory,
+        }
+    }
+}
+
+// Ends a transaction by a packet, and begins the next one with these user bytes. Returns the new number.
+fn turn<A: Allocator + Copy>(
+    alloc: A,
+    requester: &mut Requester<A>,
+    own: Address,
+    packet: &Incoming<'_>,
+    user: [u8; 4],
+    out: &mut Datagrams<A>,
+) -> Result<u16, AllocError>
+    requires { finishes A requester.old packet.now.from (content packet.now.frame) ≡ true }
+    ensures drawn { IfOk result (λ tid. next_number
+        (heard {A = A} requester.old packet.now.from (content packet.now.frame)).after ≡ Some tid) }
+    ensures state { IfOk result (λ tid. requester.new ≡ begun
+        (heard {A = A} requester.old packet.now.from (content packet.now.frame)).after
+        (beginning tid packet.now.from user [] 1 false 3)) }
+    ensures sent { IfOk result
+        (λ tid. out.new.items ≡ out.old.items ++ map posted
+        (sent_by own atp_kind
+        ((packet.now.from, spelled (request_by (beginning tid packet.now.from user [] 1 false 3))) ∷ []))) }
+    ensures unchanged { OnErr result (requester.new ≡ requester.old) }
+    ensures nothing_sent { OnErr result (out.new.items ≡ out.old.items) }
+{
+    let mut outbox = outbox_over(alloc, own, out);
+    let turned = requester.turn(packet.from, &packet.frame, user, RETRIES, &mut outbox);
+    *out = outbox.into_list();
+    match turned {
+        Ok((_, tid)) => Ok(tid),
+        Err(AllocError) => Err(AllocError),
+    }
+}
+
+// The report of a page that is refused.
+fn zone_fault<A: Allocator>(fault: ZipFault) -> Report<A>
+    ensures fault { IfSome (zip_number fault) (λ n. result ≡ Report.ZoneFault n) }
+    ensures not_asked { is_asked result ≡ false }
+{
+    match fault.number() {
+        Some(number) => Report::ZoneFault(number),
+        None => Report::NoMemory,
+    }
+}
