@@ -6,10 +6,12 @@ pub mod laws;
 mod order;
 mod reading;
 mod segment;
+mod sending;
 mod writing;
 
 pub use fault::AdspFault;
 pub use order::before;
 pub use reading::decode;
-pub use segment::{Body, HEADER_LEN, MAX_DATA, OpenKind, Segment};
+pub use segment::{Body, HEADER_LEN, MAX_DATA, OpenKind, SEGMENT_LEN, Segment};
+pub use sending::send;
 pub use writing::encode;

@@ -37,6 +37,9 @@ pub const HEADER_LEN: usize = 13;
 /// The most data that a segment carries, in bytes.
 pub const MAX_DATA: usize = 572;
 
+/// The greatest length of a segment in bytes.
+pub const SEGMENT_LEN: usize = HEADER_LEN + MAX_DATA;
+
 /// The length in bytes of the fields of an opening.
 pub(crate) const OPENING_LEN: usize = 8;
 

@@ -65,7 +65,7 @@ fn push_fields<A: Allocator>(out: &mut Vec<u8, A>, body: &Body<'_>)
 }
 
 // The fields of an opening to this destination.
-fn opening_to(dest: u16) -> [u8; OPENING_LEN]
+pub(crate) fn opening_to(dest: u16) -> [u8; OPENING_LEN]
     ensures { result ≡ opening dest 0 }
 {
     let [version, minor] = VERSION.to_be_bytes();
@@ -73,7 +73,7 @@ fn opening_to(dest: u16) -> [u8; OPENING_LEN]
     [version, minor, high, low, 0, 0, 0, 0]
 }
 
-fn header_of(segment: &Segment<'_>) -> [u8; HEADER_LEN]
+pub(crate) fn header_of(segment: &Segment<'_>) -> [u8; HEADER_LEN]
     ensures { result ≡ header (content segment.now) (64 * bit segment.now.ack + bits_of (part segment.now.body)) }
 {
     let [s0, s1] = segment.source.to_be_bytes();
