@@ -1,0 +1,5 @@
+mod ArrivalLemmas
+mod CutLemmas
+mod HearingLemmas
+mod QueueLemmas
+mod SentLemmas

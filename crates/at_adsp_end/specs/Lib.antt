@@ -1,0 +1,9 @@
+pub mod Calls
+pub mod Cuts
+pub mod Ends
+pub mod Fault
+pub mod Hearing
+pub mod Moves
+pub mod Outgoings
+pub mod Positions
+pub mod Sending

@@ -1,0 +1,268 @@
+//! What segments do at an open end.
+ghost use Rattle.std.specs.Prelude.{◌≡◌, ◌≢◌, ◌&&◌, ◌==◌, ◌∷◌, ◌++◌, [], length, true, false, IfOk, OnErr, OnOk};
+ghost use Rattle.at_ddp.specs.Outbox.{Sends, HasRoomFor};
+ghost use Rattle.at_adsp_frame.specs.Segments.{content};
+ghost use Rattle.at_adsp_end.specs.Cuts.{items_in};
+ghost use Rattle.at_adsp_end.specs.Ends.{SendsTo, confirming, free, next_unsent};
+ghost use Rattle.at_adsp_end.specs.Hearing.{advice_came, answer_came, close_came, forward, heard, heard_only, if_asked};
+ghost use Rattle.at_adsp_end.specs.Hearing.{items_came, reset_came, taken, taking, told};
+ghost use Rattle.at_adsp_end.specs.Moves.{IsOutcome};
+ghost use Rattle.at_adsp_end.specs.Outgoings.{IsWithin};
+ghost use Rattle.at_adsp_end.specs.Positions.{wire};
+ghost use Rattle.at_adsp_end.specs.Sending.{acks, hearing, shut};
+
+use crate::advance::Advance;
+use crate::arrival::{Arrival, keep, new_items};
+use crate::end::End;
+use crate::forward::Forward;
+use crate::phase::Phase;
+use crate::positions::{ahead, number_after};
+use crate::step::Step;
+use at_adsp_frame::{Body, Segment};
+use at_ddp::Outbox;
+use std::alloc::{AllocError, Allocator};
+
+impl<A: Allocator> End<A> {
+    /// Takes a segment that is for this open end. The error is out of memory.
+    pub fn hear(&mut self, segment: &Segment<'_>, out: &mut Outbox<A>) -> Result<Step, AllocError>
+        ensures ok { IfOk result (λ step. IsOutcome (heard wire self.old (told wire self.old (content segment.now)))
+            self.old.asked step self.new out.old out.new) }
+        ensures unchanged { OnErr result (self.new ≡ self.old) }
+        ensures nothing_sent { OnErr result (Sends out.old out.new []) }
+    {
+        let advance = self.advance_of(segment);
+        match segment.body {
+            Body::Data { end, data_ } => {
+                let arrival = new_items(end, data_, ahead(segment.first, self.received));
+                self.hear_data(advance, segment.ack, &arrival, out)
+            }
+            Body::Probe => self.hear_probe(advance, segment.ack, out),
+            Body::Open { .. } => self.hear_only(advance, out),
+            Body::Close => self.hear_close(advance, out),
+            Body::Reset => self.hear_reset(advance, self.forward_to(segment.first), out),
+            Body::ResetAck => self.hear_reset_ack(advance, segment.next, out),
+            Body::Advice => self.hear_advice(advance, out),
+        }
+    }
+
+    fn hear_only(&mut self, advance: Advance, out: &mut Outbox<A>) -> Result<Step, AllocError>
+        requires within { IsWithin self.old.sender advance.acks }
+        ensures ok { IfOk result (λ step. IsOutcome
+            (heard_only (hearing wire self.old advance.window advance.acks) []) self.old.asked step self.new out.old
+            out.new) }
+        ensures unchanged { OnErr result (self.new ≡ self.old) }
+        ensures nothing_sent { OnErr result (Sends out.old out.new []) }
+    {
+        self.make_room(advance, 0, out)?;
+        self.note(advance, out);
+        Ok(Step::Heard {
+            id: self.id,
+            items: 0,
+        })
+    }
+
+    fn hear_data(
+        &mut self,
+        advance: Advance,
+        ack: bool,
+        arrival: &Arrival<'_>,
+        out: &mut Outbox<A>,
+    ) -> Result<Step, AllocError>
+        requires within { IsWithin self.old.sender advance.acks }
+        ensures ok { IfOk result (λ step. IsOutcome
+            (items_came wire (hearing wire self.old advance.window advance.acks) ack
+            (items_in arrival.now.end arrival.now.bytes.now)) self.old.asked step self.new out.old out.new) }
+        ensures unchanged { OnErr result (self.new ≡ self.old) }
+        ensures nothing_sent { OnErr result (Sends out.old out.new []) }
+    {
+        self.make_room(advance, u32::from(ack), out)?;
+        self.note(advance, out);
+        let items = self.take(arrival);
+        self.acknowledge_if(ack, out);
+        Ok(Step::Heard { id: self.id, items })
+    }
+
+    fn hear_probe(
+        &mut self,
+        advance: Advance,
+        ack: bool,
+        out: &mut Outbox<A>,
+    ) -> Result<Step, AllocError>
+        requires within { IsWithin self.old.sender advance.acks }
+        ensures ok { IfOk result (λ step. let c = hearing wire self.old advance.window advance.acks in IsOutcome
+            (heard_only c (if_asked wire ack c.after)) self.old.asked step self.new out.old out.new) }
+        ensures unchanged { OnErr result (self.new ≡ self.old) }
+        ensures nothing_sent { OnErr result (Sends out.old out.new []) }
+    {
+        self.make_room(advance, u32::from(ack), out)?;
+        self.note(advance, out);
+        self.acknowledge_if(ack, out);
+        Ok(Step::Heard {
+            id: self.id,
+            items: 0,
+        })
+    }
+
+    fn hear_close(&mut self, advance: Advance, out: &mut Outbox<A>) -> Result<Step, AllocError>
+        requires within { IsWithin self.old.sender advance.acks }
+        ensures ok { IfOk result (λ step. IsOutcome
+            (close_came wire (hearing wire self.old advance.window advance.acks)) self.old.asked step self.new out.old
+            out.new) }
+        ensures unchanged { OnErr result (self.new ≡ self.old) }
+        ensures nothing_sent { OnErr result (Sends out.old out.new []) }
+    {
+        self.make_room(advance, 0, out)?;
+        self.note(advance, out);
+        self.shut();
+        Ok(Step::Closed(self.id))
+    }
+
+    fn hear_reset(
+        &mut self,
+        advance: Advance,
+        forward: Forward,
+        out: &mut Outbox<A>,
+    ) -> Result<Step, AllocError>
+        requires within { IsWithin self.old.sender advance.acks }
+        ensures ok { IfOk result (λ step. IsOutcome
+            (reset_came wire (hearing wire self.old advance.window advance.acks) forward) self.old.asked step self.new
+            out.old out.new) }
+        ensures unchanged { OnErr result (self.new ≡ self.old) }
+        ensures nothing_sent { OnErr result (Sends out.old out.new []) }
+    {
+        if let Forward::Beyond = forward {
+            return self.hear_only(advance, out);
+        }
+        self.make_room(advance, 1, out)?;
+        self.note(advance, out);
+        let step = self.jump(forward);
+        self.send_control(false, Body::ResetAck, out).unwrap();
+        Ok(step)
+    }
+
+    fn hear_reset_ack(
+        &mut self,
+        advance: Advance,
+        next: u32,
+        out: &mut Outbox<A>,
+    ) -> Result<Step, AllocError>
+        requires within { IsWithin self.old.sender advance.acks }
+        ensures ok { IfOk result (λ step. IsOutcome
+            (answer_came wire (hearing wire self.old advance.window advance.acks)
+            (self.old.sender.resetting && (next == next_unsent wire self.old.sender)))
+            self.old.asked step self.new out.old out.new) }
+        ensures unchanged { OnErr result (self.new ≡ self.old) }
+        ensures nothing_sent { OnErr result (Sends out.old out.new []) }
+    {
+        if !self.is_answered_by(next) {
+            return self.hear_only(advance, out);
+        }
+        let waiting = self.count_unreset(advance);
+        let segments = self.count_segments(self.outgoing.sent(), waiting);
+        self.make_room(advance, segments, out)?;
+        self.note(advance, out);
+        self.unreset();
+        self.send_on(out);
+        Ok(Step::Heard {
+            id: self.id,
+            items: 0,
+        })
+    }
+
+    // Whether the forward reset of this end is answered by this next expected number.
+    fn is_answered_by(&self, next: u32) -> bool
+        ensures { result ≡ (self.now.sender.resetting && (next == next_unsent wire self.now.sender)) }
+    {
+        self.outgoing.is_resetting() && next == self.outgoing.next_unsent()
+    }
+
+    fn unreset(&mut self)
+        ensures { self.new ≡ record self.old { sender = record self.old.sender { resetting = false } } }
+    {
+        self.outgoing.set_resetting(false);
+    }
+
+    fn hear_advice(&mut self, advance: Advance, out: &mut Outbox<A>) -> Result<Step, AllocError>
+        requires within { IsWithin self.old.sender advance.acks }
+        ensures ok { IfOk result (λ step. IsOutcome
+            (advice_came wire (hearing wire self.old advance.window advance.acks)) self.old.asked step self.new out.old
+            out.new) }
+        ensures unchanged { OnErr result (self.new ≡ self.old) }
+        ensures nothing_sent { OnErr result (Sends out.old out.new []) }
+    {
+        let k = advance.acks.unwrap_or(0);
+        let count = self.outgoing.sent() - k + self.count_going_after(advance);
+        let segments = self.count_segments(k, count);
+        self.make_room(advance, segments, out)?;
+        self.note(advance, out);
+        self.send_again(out);
+        if self.outgoing.sent() == 0 {
+            Ok(Step::Heard {
+                id: self.id,
+                items: 0,
+            })
+        } else {
+            Ok(Step::Again)
+        }
+    }
+
+    // Acknowledges what came, if that is wanted.
+    fn acknowledge_if(&self, ack: bool, out: &mut Outbox<A>)
+        requires { ack ≡ true → HasRoomFor out.old 1 585 }
+        ensures { SendsTo out.old out.new self.now.asked (if_asked wire ack self.now) }
+    {
+        if ack {
+            self.acknowledge(out).unwrap();
+        }
+    }
+
+    // Keeps the items for which there is room, and returns how many they are.
+    fn take(&mut self, arrival: &Arrival<'_>) -> u16
+        ensures count { result ≡ length (taken self.old (items_in arrival.now.end arrival.now.bytes.now)) }
+        ensures state { self.new ≡ taking wire self.old (items_in arrival.now.end arrival.now.bytes.now) }
+    {
+        let count = keep(&mut self.unread, arrival);
+        self.received = number_after(self.received, count as u32);
+        count
+    }
+
+    // Where a forward reset to this number leads.
+    fn forward_to(&self, first: u32) -> Forward
+        ensures { result ≡ forward wire self.now first }
+    {
+        match ahead(self.received, first) {
+            Some(distance) if distance <= self.free() as u32 => Forward::Jump(distance),
+            _ => match ahead(first, self.received) {
+                Some(_) => Forward::Older,
+                None => Forward::Beyond,
+            },
+        }
+    }
+
+    // Takes a forward reset, if it leads ahead.
+    fn jump(&mut self, forward: Forward) -> Step
+        requires { forward ≢ Forward.Beyond }
+        ensures step { result ≡ (reset_came wire (record { after = self.old; sent = [] }) forward).step }
+        ensures state { self.new ≡ (reset_came wire (record { after = self.old; sent = [] }) forward).after }
+    {
+        if let Forward::Jump(distance) = forward {
+            self.received = number_after(self.received, distance);
+            self.unread.clear();
+            Step::Dropped(self.id)
+        } else {
+            Step::Heard {
+                id: self.id,
+                items: 0,
+            }
+        }
+    }
+
+    // Closes this end. It sends nothing any more.
+    pub(crate) fn shut(&mut self)
+        ensures { self.new ≡ shut wire self.old }
+    {
+        self.phase = Phase::Closed;
+        self.outgoing.clear();
+        self.outgoing.set_resetting(false);
+    }
+}

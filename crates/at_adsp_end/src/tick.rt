@@ -1,0 +1,8 @@
+/// Which timer of an end fired.
+#[derive(Clone, Copy, Debug, PartialEq, Eq)]
+pub enum Tick {
+    /// What was sent last was not answered in time.
+    Retransmit,
+    /// Nothing was heard for a while.
+    Probe,
+}
