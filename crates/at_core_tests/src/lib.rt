@@ -1,10 +1,12 @@
-//! Tests of datagrams, transactions, segments, names, lookups and zone lists: each public call once over ample memory,
-//! against written values. A body that always told that memory is out would meet its contract, and so would one under a
+//! Tests of datagrams, transactions, segments, streams, names, lookups and zone lists: each public call once over ample
+//! memory, against written values. A body that always told that memory is out would meet its contract, and so would one under a
 //! wrong definition.
 #![tactic(auto)]
 
 #[cfg(test)]
 mod datagrams;
+#[cfg(test)]
+mod ends;
 #[cfg(test)]
 mod frames;
 #[cfg(test)]

@@ -1,0 +1,4 @@
+mod DistinctLemmas
+mod IdLemmas
+mod MoveLemmas
+mod TableLaws

@@ -1,0 +1,5 @@
+pub mod Calls
+pub mod Moves
+pub mod Openings
+pub mod Receiving
+pub mod Tables

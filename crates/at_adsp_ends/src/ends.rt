@@ -1,0 +1,100 @@
+ghost use Rattle.std.specs.Prelude.{◌≡◌, ◌≢◌, ◌≤◌, ◌<◌, ◌↔◌, find, length, is_some};
+ghost use Rattle.std.specs.Prelude.{IfOk, IfErr, IfSome, OnErr, IsOk, None, Err};
+ghost use Rattle.std.specs.List.{position_from, list_any};
+ghost use Rattle.std.specs.Option.{option_copied};
+ghost use Rattle.at_ddp.specs.Outbox.{Sends};
+ghost use Rattle.at_adsp_end.specs.Ends.{EndState, has_remote};
+ghost use Rattle.at_adsp_end.specs.Positions.{wire};
+ghost use Rattle.at_adsp_ends.specs.Calls.{connected, listened};
+ghost use Rattle.at_adsp_ends.specs.Tables.{AreRooms, by_remote, has_id, next_id, no_ends};
+
+use crate::identifiers::{FIRST, free_id};
+use at_adsp_end::{End, Remote, Rooms};
+use at_ddp::Address;
+use std::alloc::{Allocator, Global};
+use std::marker::Model;
+
+/// The most ends of a node.
+pub const MAX_ENDS: usize = 16;
+
+/// The ends of a node's streams, at most 16. Each is named by its connection identifier.
+#[derive(Drop)]
+pub struct Ends<A: Allocator = Global> {
+    pub(crate) alloc: A,
+    pub(crate) listening: bool,
+    pub(crate) next: u16,
+    pub(crate) rooms: Rooms,
+    pub(crate) ends: Vec<End<A>, A>,
+}
+
+impl<A: Allocator> Model for Ends<A> {
+    ghost use Rattle.at_adsp_ends.specs.Tables.{EndTable, AreEnds};
+
+    ghost Value = { EndTable };
+
+    ghost view = { λ t. record { listening = t.listening; next = t.next; rooms = t.rooms; ends = t.ends.items } };
+
+    ghost invariant = { λ t. AreEnds
+        (record { listening = t.listening; next = t.next; rooms = t.rooms; ends = t.ends.items }) };
+}
+
+impl<A: Allocator + Copy> Ends<A> {
+    /// A table without ends, which does not listen. Its ends will have queues of these rooms, at least 1 each.
+    pub fn new(alloc: A, rooms: Rooms) -> Ends<A>
+        requires { AreRooms rooms }
+        ensures { result ≡ no_ends rooms }
+    {
+        Ends {
+            alloc,
+            listening: false,
+            next: FIRST,
+            rooms,
+            ends: Vec::new(alloc),
+        }
+    }
+
+    /// Sets whether requests for connections are answered. This needs no memory.
+    pub fn listen(&mut self, on: bool)
+        ensures { self.new ≡ listened self.old on }
+    {
+        self.listening = on;
+    }
+
+    /// The identifier that the next end will get; none if 16 stand.
+    pub fn next_id(&self) -> Option<u16>
+        ensures id { result ≡ next_id self.now }
+        ensures none { (result ≡ None) ↔ (16 ≤ length self.now.ends) }
+    {
+        let count = self.ends.len();
+        if count < MAX_ENDS {
+            free_id(&self.ends, self.next, count + 1)
+        } else {
+            None
+        }
+    }
+
+    /// Whether an end is connected to the end of this address and identifier, or is about to be.
+    pub fn has_remote(&self, address: Address, id: u16) -> bool
+        ensures { result ≡ is_some (by_remote self.now (record { address = address; id = id })) }
+    {
+        end_of(&self.ends, Remote { address, id }).is_some()
+    }
+}
+
+pub(crate) fn end_of<A: Allocator>(ends: &[End<A>], remote: Remote) -> Option<&End<A>>
+    ensures { option_copied result ≡ find (has_remote remote) ends.now }
+{
+    ends.iter().find(|end| end.has_remote(remote))
+}
+
+pub(crate) fn index_of_remote<A: Allocator>(ends: &[End<A>], remote: Remote) -> Option<usize>
+    ensures { result ≡ position_from (has_remote remote) 0 ends.now }
+{
+    ends.iter().position(|end| end.has_remote(remote))
+}
+
+pub(crate) fn index_of<A: Allocator>(ends: &[End<A>], id: u16) -> Option<usize>
+    ensures { result ≡ position_from (has_id id) 0 ends.now }
+{
+    ends.iter().position(|end| end.id() == id)
+}

@@ -1,0 +1,11 @@
+//! The ends of the streams of a node, by the AppleTalk Data Stream Protocol (ADSP).
+#![tactic(auto)]
+
+mod calls;
+mod ends;
+mod identifiers;
+mod openings;
+mod receiving;
+
+pub use at_adsp_end::{Item, Phase, Remote, Rooms, Step, StreamFault, Tick};
+pub use ends::{Ends, MAX_ENDS};

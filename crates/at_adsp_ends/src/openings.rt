@@ -1,0 +1,165 @@
+//! The packets that open a connection.
+ghost use Rattle.std.specs.Prelude.{◌≡◌, ◌==◌, ◌&&◌, ◌∷◌, [], not, IsOk, OnErr, OnOk, if◌then◌else◌, None};
+ghost use Rattle.at_ddp.specs.Address.{same_address};
+ghost use Rattle.at_ddp.specs.Outbox.{Sends};
+ghost use Rattle.at_adsp_frame.specs.Segments.{content, spelled};
+ghost use Rattle.at_adsp_end.specs.Ends.{denying, is_opening};
+ghost use Rattle.at_adsp_end.specs.Positions.{wire};
+ghost use Rattle.at_adsp_ends.specs.Moves.{IsTaken};
+ghost use Rattle.at_adsp_ends.specs.Openings.{ack_came, answer_came, denial_came, room_for};
+ghost use Rattle.at_adsp_ends.specs.Receiving.{any_request_came};
+ghost use Rattle.at_adsp_ends.specs.Tables.{by_id, by_remote, next_id};
+
+use crate::ends::{Ends, end_of, index_of};
+use crate::identifiers::following;
+use at_adsp_end::{End, Remote, Step};
+use at_adsp_frame::{Body, OpenKind, Segment, send};
+use at_ddp::{Address, Outbox};
+use std::alloc::{AllocError, Allocator};
+
+impl<A: Allocator + Copy> Ends<A> {
+    // A request of this end.
+    pub(crate) fn take_request(
+        &mut self,
+        remote: Remote,
+        out: &mut Outbox<A>,
+    ) -> Result<Step, AllocError>
+        ensures taken { IsTaken (any_request_came wire self.old remote (remote.id == 0)) result self.old self.new
+            out.old out.new }
+        ensures ignored { (any_request_came wire self.old remote (remote.id == 0)).answer ≡ Step.Ignored
+            → IsOk result }
+    {
+        if remote.id == 0 {
+            return Ok(Step::Ignored);
+        }
+        match end_of(&self.ends, remote) {
+            None => self.answer_new(remote, out),
+            Some(end) if end.answers_again() => {
+                end.answer(out)?;
+                Ok(Step::Again)
+            }
+            Some(_) => Ok(Step::Ignored),
+        }
+    }
+
+    // A request of an end that no end here has as its remote.
+    fn answer_new(&mut self, remote: Remote, out: &mut Outbox<A>) -> Result<Step, AllocError>
+        requires { by_remote self.old remote ≡ None }
+        ensures { IsTaken (room_for wire self.old remote (if self.old.listening then next_id self.old else None)) result
+            self.old self.new out.old out.new }
+    {
+        let Some(id) = self.listening_id() else {
+            deny(remote, out)?;
+            return Ok(Step::Turned);
+        };
+        let end = End::half(self.alloc, self.rooms, id, remote)?;
+        self.ends.reserve(1)?;
+        end.answer(out)?;
+        self.ends.push(end).unwrap();
+        self.next = following(id);
+        Ok(Step::Made(id))
+    }
+
+    // The identifier that an end gets whose request is answered.
+    fn listening_id(&self) -> Option<u16>
+        ensures { result ≡ (if self.now.listening then next_id self.now else None) }
+    {
+        if self.listening { self.next_id() } else { None }
+    }
+
+    // An answer to the request of the end with this identifier.
+    pub(crate) fn take_answer(
+        &mut self,
+        remote: Remote,
+        dest: u16,
+        segment: &Segment<'_>,
+        out: &mut Outbox<A>,
+    ) -> Result<Step, AllocError>
+        ensures taken { IsTaken (answer_came wire self.old remote (content segment.now) (by_remote self.old remote)
+            (by_id self.old dest)) result self.old self.new out.old out.new }
+        ensures ignored { (answer_came wire self.old remote (content segment.now) (by_remote self.old remote)
+            (by_id self.old dest)).answer ≡ Step.Ignored → IsOk result }
+    {
+        let is_taken = self.has_remote(remote.address, remote.id);
+        let Some(index) = index_of(&self.ends, dest) else {
+            return Ok(Step::Ignored);
+        };
+        let end = &self.ends[index];
+        if is_answered(end, remote.address, is_taken) {
+            let end = &mut self.ends[index];
+            return end.open(remote, segment, out);
+        }
+        let end = &self.ends[index];
+        if !end.confirms_again(remote) {
+            return Ok(Step::Ignored);
+        }
+        end.confirm(out)?;
+        Ok(Step::Again)
+    }
+
+    // An acknowledgement of the answer of the end with this identifier.
+    pub(crate) fn take_ack(
+        &mut self,
+        remote: Remote,
+        dest: u16,
+        segment: &Segment<'_>,
+        out: &mut Outbox<A>,
+    ) -> Result<Step, AllocError>
+        ensures taken { IsTaken (ack_came wire self.old remote (content segment.now) (by_id self.old dest)) result
+            self.old self.new out.old out.new }
+        ensures ignored { (ack_came wire self.old remote (content segment.now) (by_id self.old dest)).answer
+            ≡ Step.Ignored → IsOk result }
+    {
+        let Some(index) = index_of(&self.ends, dest) else {
+            return Ok(Step::Ignored);
+        };
+        let end = &self.ends[index];
+        if !end.waits_for(remote) {
+            return Ok(Step::Ignored);
+        }
+        let end = &mut self.ends[index];
+        end.open_half(segment, out)
+    }
+
+    // A denial of the request of the end with this identifier.
+    pub(crate) fn take_denial(&mut self, from: Address, dest: u16) -> Step
+        ensures answer { result ≡ (denial_came self.old from (by_id self.old dest)).answer }
+        ensures state { self.new ≡ (denial_came self.old from (by_id self.old dest)).after }
+    {
+        let Some(index) = index_of(&self.ends, dest) else {
+            return Step::Ignored;
+        };
+        let end = &self.ends[index];
+        if !end.asks(from) {
+            return Step::Ignored;
+        }
+        drop(self.ends.remove(index));
+        Step::Denied(dest)
+    }
+}
+
+// Whether this end asked there, and no end has the remote yet that answers.
+fn is_answered<A: Allocator>(end: &End<A>, address: Address, is_taken: bool) -> bool
+    ensures { result ≡ (is_opening end.now.phase && same_address end.now.asked address && not is_taken) }
+{
+    end.asks(address) && !is_taken
+}
+
+// Denies the request of an end.
+fn deny<A: Allocator>(remote: Remote, out: &mut Outbox<A>) -> Result<(), AllocError>
+    ensures ok { OnOk result (Sends out.old out.new ((remote.address, spelled (denying remote.id)) ∷ [])) }
+    ensures err { OnErr result (Sends out.old out.new []) }
+{
+    let segment = Segment {
+        source: 0,
+        first: 0,
+        next: 0,
+        window: 0,
+        ack: false,
+        body: Body::Open {
+            kind: OpenKind::Denial,
+            dest: remote.id,
+        },
+    };
+    send(out, remote.address, &segment)
+}

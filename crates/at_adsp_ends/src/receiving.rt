@@ -1,0 +1,64 @@
+ghost use Rattle.std.specs.Prelude.{◌≡◌, IsOk};
+ghost use Rattle.at_adsp_frame.specs.Segments.{content};
+ghost use Rattle.at_adsp_end.specs.Positions.{wire};
+ghost use Rattle.at_adsp_ends.specs.Moves.{IsTaken};
+ghost use Rattle.at_adsp_ends.specs.Receiving.{received, segment_came};
+ghost use Rattle.at_adsp_ends.specs.Tables.{by_remote};
+
+use crate::ends::{Ends, index_of_remote};
+use at_adsp_end::{Remote, Step};
+use at_adsp_frame::{Body, OpenKind, Segment};
+use at_ddp::{Address, Outbox};
+use std::alloc::{AllocError, Allocator};
+
+impl<A: Allocator + Copy> Ends<A> {
+    /// Takes a segment that came from this address. If it has no effect, this needs no memory. The error is out of
+    /// memory.
+    pub fn receive(
+        &mut self,
+        from: Address,
+        segment: &Segment<'_>,
+        out: &mut Outbox<A>,
+    ) -> Result<Step, AllocError>
+        ensures taken { IsTaken (received wire self.old from (content segment.now)) result self.old self.new out.old
+            out.new }
+        ensures ignored { (received wire self.old from (content segment.now)).answer ≡ Step.Ignored → IsOk result }
+    {
+        let remote = Remote {
+            address: from,
+            id: segment.source,
+        };
+        let Body::Open { kind, dest } = segment.body else {
+            return self.take_segment(remote, segment, out);
+        };
+        match kind {
+            OpenKind::Request => self.take_request(remote, out),
+            OpenKind::Acknowledgement => self.take_ack(remote, dest, segment, out),
+            OpenKind::RequestAndAcknowledgement => self.take_answer(remote, dest, segment, out),
+            OpenKind::Denial => Ok(self.take_denial(from, dest)),
+        }
+    }
+
+    // A segment that opens nothing.
+    fn take_segment(
+        &mut self,
+        remote: Remote,
+        segment: &Segment<'_>,
+        out: &mut Outbox<A>,
+    ) -> Result<Step, AllocError>
+        ensures taken { IsTaken (segment_came wire self.old (content segment.now) (by_remote self.old remote)) result
+            self.old self.new out.old out.new }
+        ensures ignored { (segment_came wire self.old (content segment.now) (by_remote self.old remote)).answer
+            ≡ Step.Ignored → IsOk result }
+    {
+        let Some(index) = index_of_remote(&self.ends, remote) else {
+            return Ok(Step::Ignored);
+        };
+        let end = &self.ends[index];
+        if !end.is_open() {
+            return Ok(Step::Ignored);
+        }
+        let end = &mut self.ends[index];
+        end.hear(segment, out)
+    }
+}
