@@ -1,0 +1,16 @@
+mod Finds
+mod Distinct
+mod Growth
+mod Sound
+mod Sayings
+mod Changes
+mod Openings
+mod Beginnings
+mod EndMoves
+mod Steps
+mod CallLemmas
+mod Receptions
+mod Histories
+mod StreamHistories
+mod Ranges
+mod RangeHistories
