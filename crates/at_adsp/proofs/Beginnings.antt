@@ -13,6 +13,7 @@ use Rattle.at_adsp_end.specs.declared.remote.Remote.{Remote}
 use Rattle.at_adsp_ends.specs.Tables.{by_id, has_id, made, with_end}
 use Rattle.at_adsp.specs.Connections.{streams}
 use Rattle.at_adsp.specs.Network.{Setting, Made, Sent, Network, NoneNames, beginning, birth_of, dest_of, does, is_kept, is_no_later, joined, named, newest, noted, stamped}
+use Rattle.at_adsp.specs.Streams.{Nothing}
 use Rattle.at_adsp.proofs.Distinct.{IdsApart, IsDrawn, Others, apart, differ_more}
 use Rattle.at_adsp.proofs.Finds.{none_any, none_finds}
 use Rattle.at_adsp.proofs.Growth.{born_more, itself}
@@ -77,7 +78,7 @@ module _ (setting : Setting) (n : Network) (at : Address) (e : EndState) (sound 
 
   -- ---- segments that were sent before
 
-  kept_before : (event : ℕ) (a : Address) (id : ℕ) → event < n.event → is_kept later event a id ≡ true → (is_kept n.made event a id ≡ true) × ((same_address at a && (e.id == id)) ≡ false)
+  pub kept_before : (event : ℕ) (a : Address) (id : ℕ) → event < n.event → is_kept later event a id ≡ true → (is_kept n.made event a id ≡ true) × ((same_address at a && (e.id == id)) ≡ false)
   kept_before event a id lt h = go (id == 0) refl h
     where
       other : (c : Bool) → (e.id == 0) ≡ c → c ≡ false
@@ -156,10 +157,10 @@ module _ (setting : Setting) (n : Network) (at : Address) (e : EndState) (sound 
   made_sound answer sent says =
       subst (λ (l : List Made). Sound setting (n.event + 1) (record (does setting n at (made (n.tables at) answer e sent)) { made = l })) (sym made_is) (made_so answer sent says)
     where
-      made_is : joined setting n.event n.made at e (by_id (n.tables at) e.id) ≡ later
-      made_is = ap (joined setting n.event n.made at e) (none_finds (has_id e.id) (n.tables at).ends b.drawn.free)
+      made_is : joined Nothing setting n.event n.made at e (by_id (n.tables at) e.id) ≡ later
+      made_is = ap (joined Nothing setting n.event n.made at e) (none_finds (has_id e.id) (n.tables at).ends b.drawn.free)
 
 -- its users see one end more
 pub made_streams : {X : Type 0} (setting : Setting) (n : Network) (at : Address) (e : EndState) (answer : X) (sent : List Content) → list_any (has_id e.id) (n.tables at).ends ≡ false →
     streams (does setting n at (made (n.tables at) answer e sent)) ≡ (noted setting (beginning n.event at e ∷ n.made) e (beginning n.event at e)).stream ∷ streams n
-made_streams setting n at e answer sent free = ap (λ o. map (λ (m : Made). m.stream) (joined setting n.event n.made at e o)) (none_finds (has_id e.id) (n.tables at).ends free)
+made_streams setting n at e answer sent free = ap (λ o. map (λ (m : Made). m.stream) (joined Nothing setting n.event n.made at e o)) (none_finds (has_id e.id) (n.tables at).ends free)

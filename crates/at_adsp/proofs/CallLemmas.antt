@@ -15,12 +15,13 @@ use Rattle.at_adsp_end.specs.declared.tick.Tick.TheVariants.{Retransmit, Probe}
 use Rattle.at_adsp_ends.specs.Calls.{closed_at, connected, finds_no_room, frees, read_at, reset_at, ticked_at, wrote, wrote_some}
 use Rattle.at_adsp_ends.specs.Receiving.{settled}
 use Rattle.at_adsp_ends.specs.Tables.{by_id, freed, has_id, moved, next_id}
-use Rattle.at_adsp.specs.Network.{Setting, Network, NoneNames, calls, does}
+use Rattle.at_adsp.specs.Network.{Setting, Network, NoneNames, calls, calls_with, does, does_with, gave_up, wrote_first}
+use Rattle.at_adsp.specs.Streams.{GaveUp, Read}
 use Rattle.at_adsp.proofs.Beginnings.{made_sound}
 use Rattle.at_adsp.proofs.Distinct.{drawn}
 use Rattle.at_adsp.proofs.EndMoves.{again_says, open_is, plain_says, probes_says, reading_plain, sending_plain}
 use Rattle.at_adsp.proofs.Sound.{Sound}
-use Rattle.at_adsp.proofs.Steps.{found_stands, freed_sound, later, quiet_sound, stands_known}
+use Rattle.at_adsp.proofs.Steps.{deed_sound, found_stands, freed_sound, later, quiet_sound, stands_known}
 
 pub connects_sound : (setting : Setting) (n : Network) (at to : Address) → Sound setting n.event n → ((id : ℕ) → next_id (n.tables at) ≡ Some id → NoneNames n at id) →
     Sound setting (n.event + 1) (calls setting n at (connected (n.tables at) to (next_id (n.tables at))))
@@ -48,51 +49,51 @@ module _ (setting : Setting) (n : Network) (at : Address) (id : ℕ) (sound : So
       go None is = sound
       go (Some e) is = which e is (is_open e.phase) refl
 
-  pub writes_sound : (items : List Item) → Sound setting (n.event + 1) (calls setting n at (wrote setting.numbers (n.tables at) items (by_id (n.tables at) id)))
+  pub writes_sound : (items : List Item) → Sound setting (n.event + 1) (calls_with (wrote_first items) setting n at (wrote setting.numbers (n.tables at) items (by_id (n.tables at) id)))
   writes_sound items = go (by_id (n.tables at) id) refl
     where
-      done : (e : EndState) → by_id (n.tables at) id ≡ Some e → Sound setting (n.event + 1) (does setting n at (wrote_some setting.numbers (n.tables at) items e))
+      done : (e : EndState) → by_id (n.tables at) id ≡ Some e → Sound setting (n.event + 1) (does_with (wrote_first items (length (take (places e) items))) setting n at (wrote_some setting.numbers (n.tables at) items e))
       done e is =
-          quiet_sound setting n at (has_id id) e (writing setting.numbers e items).after (length (take (places e) items)) (writing setting.numbers e items).sent sound is
+          deed_sound (wrote_first items (length (take (places e) items))) setting n at (has_id id) e (writing setting.numbers e items).after (length (take (places e) items)) (writing setting.numbers e items).sent sound is
           (record { id = refl; listener = refl; asked = refl; remote = refl; phase = inl refl })
           (plain_says (writing setting.numbers e items).after (writing setting.numbers e items).sent (sending_plain setting.numbers (record e { sender = record e.sender { waiting = e.sender.waiting ++ take (places e) items } })))
 
       which : (e : EndState) → by_id (n.tables at) id ≡ Some e → (b c : Bool) →
-          Sound setting (n.event + 1) (calls setting n at (cond b (cond c (Err NoRoom) (Ok (wrote_some setting.numbers (n.tables at) items e))) (Err NotOpen)))
+          Sound setting (n.event + 1) (calls_with (wrote_first items) setting n at (cond b (cond c (Err NoRoom) (Ok (wrote_some setting.numbers (n.tables at) items e))) (Err NotOpen)))
       which e is true true = sound
       which e is true false = done e is
       which e is false c = sound
 
-      go : (o : Option EndState) → by_id (n.tables at) id ≡ o → Sound setting (n.event + 1) (calls setting n at (wrote setting.numbers (n.tables at) items o))
+      go : (o : Option EndState) → by_id (n.tables at) id ≡ o → Sound setting (n.event + 1) (calls_with (wrote_first items) setting n at (wrote setting.numbers (n.tables at) items o))
       go None is = sound
       go (Some e) is = which e is (is_open e.phase) (finds_no_room e items)
 
-  pub reads_sound : (count : ℕ) → Sound setting (n.event + 1) (calls setting n at (read_at setting.numbers (n.tables at) count (by_id (n.tables at) id)))
+  pub reads_sound : (count : ℕ) → Sound setting (n.event + 1) (calls_with Read setting n at (read_at setting.numbers (n.tables at) count (by_id (n.tables at) id)))
   reads_sound count = go (by_id (n.tables at) id) refl
     where
       which : (e : EndState) → by_id (n.tables at) id ≡ Some e → (b : Bool) →
-          Sound setting (n.event + 1) (calls setting n at (cond b (Ok (moved (n.tables at) (take count e.receiver.unread) (reading setting.numbers e count).after (reading setting.numbers e count).sent)) (Err NotOpen)))
+          Sound setting (n.event + 1) (calls_with Read setting n at (cond b (Ok (moved (n.tables at) (take count e.receiver.unread) (reading setting.numbers e count).after (reading setting.numbers e count).sent)) (Err NotOpen)))
       which e is true =
-          quiet_sound setting n at (has_id id) e (reading setting.numbers e count).after (take count e.receiver.unread) (reading setting.numbers e count).sent sound is
+          deed_sound (Read (take count e.receiver.unread)) setting n at (has_id id) e (reading setting.numbers e count).after (take count e.receiver.unread) (reading setting.numbers e count).sent sound is
           (record { id = refl; listener = refl; asked = refl; remote = refl; phase = inl refl })
           (plain_says (reading setting.numbers e count).after (reading setting.numbers e count).sent (reading_plain setting.numbers e count))
       which e is false = sound
 
-      go : (o : Option EndState) → by_id (n.tables at) id ≡ o → Sound setting (n.event + 1) (calls setting n at (read_at setting.numbers (n.tables at) count o))
+      go : (o : Option EndState) → by_id (n.tables at) id ≡ o → Sound setting (n.event + 1) (calls_with Read setting n at (read_at setting.numbers (n.tables at) count o))
       go None is = sound
       go (Some e) is = which e is (has_opened e.phase)
 
-  pub resets_sound : Sound setting (n.event + 1) (calls setting n at (reset_at setting.numbers (n.tables at) (by_id (n.tables at) id)))
+  pub resets_sound : Sound setting (n.event + 1) (calls_with gave_up setting n at (reset_at setting.numbers (n.tables at) (by_id (n.tables at) id)))
   resets_sound = go (by_id (n.tables at) id) refl
     where
       which : (e : EndState) → by_id (n.tables at) id ≡ Some e → (b : Bool) →
-          Sound setting (n.event + 1) (calls setting n at (cond b (Ok (moved {X = Unit {0}} (n.tables at) tt (resetting_now setting.numbers e).after (resetting_now setting.numbers e).sent)) (Err NotOpen)))
+          Sound setting (n.event + 1) (calls_with gave_up setting n at (cond b (Ok (moved {X = Unit {0}} (n.tables at) tt (resetting_now setting.numbers e).after (resetting_now setting.numbers e).sent)) (Err NotOpen)))
       which e is true =
-          quiet_sound {X = Unit {0}} setting n at (has_id id) e (resetting_now setting.numbers e).after tt (resetting_now setting.numbers e).sent sound is
+          deed_sound {X = Unit {0}} GaveUp setting n at (has_id id) e (resetting_now setting.numbers e).after tt (resetting_now setting.numbers e).sent sound is
           (record { id = refl; listener = refl; asked = refl; remote = refl; phase = inl refl }) (tt, tt)
       which e is false = sound
 
-      go : (o : Option EndState) → by_id (n.tables at) id ≡ o → Sound setting (n.event + 1) (calls setting n at (reset_at setting.numbers (n.tables at) o))
+      go : (o : Option EndState) → by_id (n.tables at) id ≡ o → Sound setting (n.event + 1) (calls_with gave_up setting n at (reset_at setting.numbers (n.tables at) o))
       go None is = sound
       go (Some e) is = which e is (is_open e.phase)
 

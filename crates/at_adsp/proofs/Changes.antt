@@ -11,7 +11,8 @@ use Rattle.at_adsp_frame.specs.Segments.{Content}
 use Rattle.at_adsp_end.specs.Ends.{EndState, addressed, has_opened}
 use Rattle.at_adsp_end.specs.declared.remote.Remote.{Remote}
 use Rattle.at_adsp_ends.specs.Tables.{by_id, moved, with_changed}
-use Rattle.at_adsp.specs.Network.{Setting, Made, Sent, Network, changed, dest_of, does, is_end, is_fresh, is_no_later, joined, named, names_now, newest, noted, stamped}
+use Rattle.at_adsp.specs.Network.{Setting, Made, Sent, Network, changed, dest_of, does_with, is_end, is_fresh, is_no_later, joined, named, names_now, newest, noted_with, stamped}
+use Rattle.at_adsp.specs.Streams.{Deed}
 use Rattle.at_adsp.proofs.Distinct.{IdsApart, all_moved, apart, differ_replaced}
 use Rattle.at_adsp.proofs.Finds.{all_same, apart_in, replaced_found}
 use Rattle.at_adsp.proofs.Growth.{Grows, born_kept, fall_kept, itself, named_kept, newest_kept}
@@ -36,12 +37,12 @@ left_false a b e = ap (λ c. c && b) e
 
 -- ---- the end that was made, and what is noted of it now
 
-module _ (setting : Setting) (n : Network) (at : Address) (e f : EndState) (sound : Sound setting (n.event + 1) n) (s : Stands setting n.made at e) (moves : Moves e f) where
+module _ (deed : Deed) (setting : Setting) (n : Network) (at : Address) (e f : EndState) (sound : Sound setting (n.event + 1) n) (s : Stands setting n.made at e) (moves : Moves e f) where
   abbrev new : Made
-  new = noted setting n.made f s.it
+  new = noted_with deed setting n.made f s.it
 
   abbrev later : List Made
-  later = replaced (is_end at f.id) (noted setting n.made f s.it) n.made
+  later = replaced (is_end at f.id) (noted_with deed setting n.made f s.it) n.made
 
   pub there : find (is_end at f.id) n.made ≡ Some s.it
   there = ap (newest n.made at) moves.id ∙ s.newest
@@ -93,15 +94,18 @@ module _ (setting : Setting) (n : Network) (at : Address) (e f : EndState) (soun
       go None h = refl
       go (Some r) h = s.names ∙ ap (named setting n.made) (still r h ∙ sym (moves.remote r (still r h)))
 
+  pub newest_now : newest (replaced (is_end at f.id) (noted_with deed setting n.made f s.it) n.made) at f.id ≡ Some (noted_with deed setting n.made f s.it)
+  newest_now = replaced_found (is_end at f.id) s.it new n.made there (all_found (Lawful setting.ours) (is_end at f.id) n.made s.it sound.lawful there).1
+
   stands_now : Stands setting later at f
   stands_now = record {
     it = new;
-    newest = replaced_found (is_end at f.id) s.it new n.made there (all_found (Lawful setting.ours) (is_end at f.id) n.made s.it sound.lawful there).1;
+    newest = newest_now;
     last = refl;
     names = names_still ∙ sym (named_kept setting (is_end at f.id) s.it new n.made grows there f.remote);
   }
 
-  fresh_same : (x : Sent) → is_fresh later x ≡ true → is_fresh n.made x ≡ true
+  pub fresh_same : (x : Sent) → is_fresh later x ≡ true → is_fresh n.made x ≡ true
   fresh_same x h = sym (λ i. ((x.segment.source == 0) || one i) && ((dest_of x.segment.body == 0) || two i)) ∙ h
     where
       one : list_all (is_no_later x.event x.from x.segment.source) later ≡ list_all (is_no_later x.event x.from x.segment.source) n.made
@@ -134,7 +138,7 @@ module _ (setting : Setting) (n : Network) (at : Address) (e f : EndState) (soun
   peer_kept m h = λ b is. mutual_kept n.made later m m b (born_kept (is_end at f.id) s.it new n.made grows there b) (itself m) (h b is)
 
   changed_so : {X : Type 0} (answer : X) (sent : List Content) → Finds → HasPeer n.made new → AllByRecursion (Says f) sent →
-      Sound setting (n.event + 1) (record (does setting n at (moved (n.tables at) answer f sent)) { made = later })
+      Sound setting (n.event + 1) (record (does_with deed setting n at (moved (n.tables at) answer f sent)) { made = later })
   changed_so answer sent finds peers says = record {
     births = fall_kept (is_end at f.id) s.it new n.made (n.event + 1) refl there sound.births;
     past = sent_both (λ x. x.event < n.event + 1) n.sent (stamped n.event at (addressed f.asked sent)) sound.past (stamped_past n.event at (addressed f.asked sent));
@@ -158,10 +162,10 @@ module _ (setting : Setting) (n : Network) (at : Address) (e f : EndState) (soun
       lawful_later : AllByRecursion (Lawful setting.ours) later
       lawful_later = all_replaced (Lawful setting.ours) (is_end at f.id) new n.made sound.lawful (lawful_now finds)
 
-  pub made_is : (old : EndState) → by_id (n.tables at) f.id ≡ Some old → joined setting n.event n.made at f (by_id (n.tables at) f.id) ≡ later
-  made_is old found = ap (joined setting n.event n.made at f) found ∙ ap (changed setting n.made at f) there
+  pub made_is : (old : EndState) → by_id (n.tables at) f.id ≡ Some old → joined deed setting n.event n.made at f (by_id (n.tables at) f.id) ≡ later
+  made_is old found = ap (joined deed setting n.event n.made at f) found ∙ ap (changed deed setting n.made at f) there
 
   pub changed_sound : {X : Type 0} (answer : X) (sent : List Content) (old : EndState) → by_id (n.tables at) f.id ≡ Some old → Finds → HasPeer n.made new → AllByRecursion (Says f) sent →
-      Sound setting (n.event + 1) (does setting n at (moved (n.tables at) answer f sent))
+      Sound setting (n.event + 1) (does_with deed setting n at (moved (n.tables at) answer f sent))
   changed_sound answer sent old found finds peers says =
-      subst (λ (l : List Made). Sound setting (n.event + 1) (record (does setting n at (moved (n.tables at) answer f sent)) { made = l })) (sym (made_is old found)) (changed_so answer sent finds peers says)
+      subst (λ (l : List Made). Sound setting (n.event + 1) (record (does_with deed setting n at (moved (n.tables at) answer f sent)) { made = l })) (sym (made_is old found)) (changed_so answer sent finds peers says)

@@ -33,7 +33,7 @@ module _ (p : Made → Bool) (m u : Made) (made : List Made) (grows : Grows m u)
   born_kept b w is = kept_in Grows itself p (has_birth b) m u made grows (ap (λ k. k == b) grows.birth) there w is
 
 -- the births of what is found
-births_kept : (p q : Made → Bool) (m u : Made) (made : List Made) → u.stream.birth ≡ m.stream.birth → q u ≡ q m → find p made ≡ Some m → birth_of (find q (replaced p u made)) ≡ birth_of (find q made)
+pub births_kept : (p q : Made → Bool) (m u : Made) (made : List Made) → u.stream.birth ≡ m.stream.birth → q u ≡ q m → find p made ≡ Some m → birth_of (find q (replaced p u made)) ≡ birth_of (find q made)
 births_kept p q m u [] birth same is = refl
 births_kept p q m u (z ∷ zs) birth same is = go (λ f. births_kept p q m u zs birth same f) (p z) is
   where
@@ -87,7 +87,7 @@ found_below q w (z ∷ zs) bound h is = go (λ f. found_below q w zs z.stream.bi
     go ih true f = subst (λ (x : Made). x.stream.birth < bound) (some_same z w f) h.0
     go ih false f = let lt = ih f in let less = h.0 in omega (arith, lt, less)
 
-unequal : (a b : ℕ) → a < b → (b == a) ≡ false
+pub unequal : (a b : ℕ) → a < b → (b == a) ≡ false
 unequal a b lt = go (b == a) refl
   where
     go : (c : Bool) → (b == a) ≡ c → c ≡ false

@@ -10,7 +10,8 @@ use Rattle.at_adsp_end.specs.declared.fault.StreamFault.{StreamFault}
 use Rattle.at_adsp_ends.specs.Calls.{closed_at, connected, read_at, reset_at, ticked_at, wrote}
 use Rattle.at_adsp_ends.specs.Tables.{Done, by_id, has_id, next_id}
 use Rattle.at_adsp.specs.Network.{Setting, Made, Sent, Network, Happening, Connects, Listens, Closes, Writes, Reads, Resets, Ticks, Takes, Strange, Other}
-use Rattle.at_adsp.specs.Network.{birth_of, born, has_birth, is_end, named, newest, packet_at, calls, takes, done, tick, after, IsTimely, AllTimely}
+use Rattle.at_adsp.specs.Network.{birth_of, born, has_birth, is_end, named, newest, packet_at, calls_with, gave_up, wrote_first, takes, done, tick, after, IsTimely, AllTimely}
+use Rattle.at_adsp.specs.Streams.{Deed, Nothing, Read}
 use Rattle.at_adsp.specs.Pairs.{AreConnected, Asked, GivesPairs, IsPaired, number_of}
 use Rattle.at_adsp.proofs.CallLemmas.{closes_sound, connects_sound, reads_sound, resets_sound, ticks_sound, writes_sound}
 use Rattle.at_adsp.proofs.Growth.{found_born}
@@ -48,17 +49,17 @@ done_sound setting n (Other count) sound timely = foreign_sound setting n count 
 -- ---- histories
 
 -- no happening counts events but the tick
-same_call : {X : Type 0} (setting : Setting) (n : Network) (at : Address) (r : Result (Done X) StreamFault) → (calls setting n at r).event ≡ n.event
-same_call setting n at (Err fault) = refl
-same_call setting n at (Ok d) = refl
+same_call : {X : Type 0} (deed : X → Deed) (setting : Setting) (n : Network) (at : Address) (r : Result (Done X) StreamFault) → (calls_with deed setting n at r).event ≡ n.event
+same_call deed setting n at (Err fault) = refl
+same_call deed setting n at (Ok d) = refl
 
-same_event : (setting : Setting) (n : Network) (h : Happening) → (done setting n h).event ≡ n.event
-same_event setting n (Connects at to) = same_call setting n at (connected (n.tables at) to (next_id (n.tables at)))
-same_event setting n (Closes at id) = same_call setting n at (closed_at setting.numbers (n.tables at) (by_id (n.tables at) id))
-same_event setting n (Writes at id items) = same_call setting n at (wrote setting.numbers (n.tables at) items (by_id (n.tables at) id))
-same_event setting n (Reads at id count) = same_call setting n at (read_at setting.numbers (n.tables at) count (by_id (n.tables at) id))
-same_event setting n (Resets at id) = same_call setting n at (reset_at setting.numbers (n.tables at) (by_id (n.tables at) id))
-same_event setting n (Ticks at id tick) = same_call setting n at (ticked_at setting.numbers (n.tables at) tick (by_id (n.tables at) id))
+pub same_event : (setting : Setting) (n : Network) (h : Happening) → (done setting n h).event ≡ n.event
+same_event setting n (Connects at to) = same_call (λ answer. Nothing) setting n at (connected (n.tables at) to (next_id (n.tables at)))
+same_event setting n (Closes at id) = same_call (λ answer. Nothing) setting n at (closed_at setting.numbers (n.tables at) (by_id (n.tables at) id))
+same_event setting n (Writes at id items) = same_call (wrote_first items) setting n at (wrote setting.numbers (n.tables at) items (by_id (n.tables at) id))
+same_event setting n (Reads at id count) = same_call Read setting n at (read_at setting.numbers (n.tables at) count (by_id (n.tables at) id))
+same_event setting n (Resets at id) = same_call gave_up setting n at (reset_at setting.numbers (n.tables at) (by_id (n.tables at) id))
+same_event setting n (Ticks at id tick) = same_call (λ answer. Nothing) setting n at (ticked_at setting.numbers (n.tables at) tick (by_id (n.tables at) id))
 same_event setting n (Takes which) = go (packet_at n.sent which)
   where
     go : (o : Option Sent) → (takes setting n o).event ≡ n.event

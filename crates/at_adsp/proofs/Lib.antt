@@ -1,3 +1,10 @@
+mod Logs
+mod Slices
+mod Readers
+mod Senders
+mod Carries
+mod Writing
+mod Hears
 mod Finds
 mod Distinct
 mod Growth
@@ -12,5 +19,12 @@ mod CallLemmas
 mod Receptions
 mod Histories
 mod StreamHistories
+mod Flows
+mod FlowCalls
+mod FlowReceptions
+mod FlowHistories
+mod PlainHistories
 mod Ranges
 mod RangeHistories
+mod Rounds
+mod Wires

@@ -13,7 +13,7 @@ use Rattle.at_adsp_end.specs.declared.remote.Remote.{Remote}
 use Rattle.at_adsp_ends.specs.Tables.{by_id, moved}
 use Rattle.at_adsp.specs.Connections.{streams}
 use Rattle.at_adsp.specs.Network.{Setting, Made, Network, birth_of, does, is_end, named, names_now, newest, noted}
-use Rattle.at_adsp.specs.Streams.{with_peer}
+use Rattle.at_adsp.specs.Streams.{Nothing, with_peer}
 use Rattle.at_adsp.proofs.Changes.{Moves, changed_sound, law, made_is, names_still, own, there}
 use Rattle.at_adsp.proofs.Finds.{some_same}
 use Rattle.at_adsp.proofs.Growth.{found_born}
@@ -34,7 +34,7 @@ map_peer at id peer m u (z ∷ zs) same is = go (λ g. map_peer at id peer m u z
 
 module _ (setting : Setting) (n : Network) (at : Address) (e f : EndState) (sound : Sound setting (n.event + 1) n) (s : Stands setting n.made at e) (moves : Moves e f) (r : Remote) (names : f.remote ≡ Some r) where
   now_named : names_now setting n.made f s.it ≡ named setting n.made (Some r)
-  now_named = names_still setting n at e f sound s moves ∙ ap (named setting n.made) names
+  now_named = names_still Nothing setting n at e f sound s moves ∙ ap (named setting n.made) names
 
   -- at an address that is ours or not
   now_ours : (b : Bool) → setting.ours r.address ≡ b → names_now setting n.made f s.it ≡ cond b (birth_of (newest n.made r.address r.id)) None
@@ -47,7 +47,7 @@ module _ (setting : Setting) (n : Network) (at : Address) (e f : EndState) (soun
     names = names ∙ ap Some (λ i. record { address = sym number.0 i; id = sym number.1 i });
     named = t.remote ∙ ap Some (λ i. record { address = sym here.0 i; id = sym (here.1 ∙ moves.id) i });
     known = known;
-    turned = t.listens ∙ ap not (ap (λ (x : EndState). x.listener) (sym s.last) ∙ (law setting n at e f sound s moves).listener);
+    turned = t.listens ∙ ap not (ap (λ (x : EndState). x.listener) (sym s.last) ∙ (law Nothing setting n at e f sound s moves).listener);
     back = λ listens. (found.0).peer ∙ ap (λ c. cond c t.it.names None) (opened listens) ∙ known;
   }
     where
@@ -58,7 +58,7 @@ module _ (setting : Setting) (n : Network) (at : Address) (e f : EndState) (soun
       number = same_both t.it.stream.owner r.address t.it.stream.id r.id found.1
 
       here : (s.it.stream.owner ≡ at) × (s.it.stream.id ≡ f.id)
-      here = own setting n at e f sound s moves
+      here = own Nothing setting n at e f sound s moves
 
       known : t.it.names ≡ Some s.it.stream.birth
       known = t.names ∙ ap (λ c. cond c (birth_of (newest n.made at e.id)) None) ours ∙ ap birth_of s.newest
@@ -66,14 +66,14 @@ module _ (setting : Setting) (n : Network) (at : Address) (e f : EndState) (soun
       opened : s.it.stream.listener ≡ true → has_opened t.it.last.phase ≡ true
       opened listens =
           let asks : t.it.last.listener ≡ false =
-          (found.0).listener ∙ t.listens ∙ ap not (ap (λ (x : EndState). x.listener) (sym s.last) ∙ (law setting n at e f sound s moves).listener ∙ listens) in
+          (found.0).listener ∙ t.listens ∙ ap not (ap (λ (x : EndState). x.listener) (sym s.last) ∙ (law Nothing setting n at e f sound s moves).listener ∙ listens) in
           connector_opened t.it.last.phase t.it.last.listener t.it.last.asked t.it.last.remote (record { address = at; id = e.id }) (found.0).known asks t.remote
 
   -- what opens it comes from a strange address, or is an answer or an acknowledgement for it
   pub opened_sound : {X : Type 0} (answer : X) (sent : List Content) (old : EndState) → by_id (n.tables at) f.id ≡ Some old → setting.ours at ≡ true →
       (setting.ours r.address ≡ false) ⊎ ((setting.ours r.address ≡ true) × Told setting n.made r.address at (not e.listener) r.id e.id) → AllByRecursion (Says f) sent →
       Sound setting (n.event + 1) (does setting n at (moved (n.tables at) answer f sent))
-  opened_sound answer sent old found here by says = changed_sound setting n at e f sound s moves answer sent old found (finds by) (peers by) says
+  opened_sound answer sent old found here by says = changed_sound Nothing setting n at e f sound s moves answer sent old found (finds by) (peers by) says
     where
       finds : (setting.ours r.address ≡ false) ⊎ ((setting.ours r.address ≡ true) × Told setting n.made r.address at (not e.listener) r.id e.id) → has_opened f.phase ≡ true → setting.ours f.asked ≡ true →
           (b : ℕ) × (names_now setting n.made f s.it ≡ Some b)
@@ -98,5 +98,5 @@ module _ (setting : Setting) (n : Network) (at : Address) (e f : EndState) (soun
 pub opened_streams : {X : Type 0} (setting : Setting) (n : Network) (at : Address) (e f : EndState) (sound : Sound setting (n.event + 1) n) (s : Stands setting n.made at e) (moves : Moves e f) (answer : X) (sent : List Content) (old : EndState) →
     by_id (n.tables at) f.id ≡ Some old → streams (does setting n at (moved (n.tables at) answer f sent)) ≡ with_peer at f.id (noted setting n.made f s.it).stream.peer (streams n)
 opened_streams setting n at e f sound s moves answer sent old found =
-    ap (map (λ (m : Made). m.stream)) (made_is setting n at e f sound s moves old found)
-    ∙ map_peer at f.id (noted setting n.made f s.it).stream.peer s.it (noted setting n.made f s.it) n.made refl (there setting n at e f sound s moves)
+    ap (map (λ (m : Made). m.stream)) (made_is Nothing setting n at e f sound s moves old found)
+    ∙ map_peer at f.id (noted setting n.made f s.it).stream.peer s.it (noted setting n.made f s.it) n.made refl (there Nothing setting n at e f sound s moves)

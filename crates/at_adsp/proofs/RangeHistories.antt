@@ -1,6 +1,6 @@
 -- All that is sent in a network of ends of streams is in range, if what is called is.
 use Rattle.std.proofs.Common.{◌≡◌, ℕ, zero, suc, ◌+◌, ◌^◌, ◌<◌, Bool, true, false, cond, List, [], ◌∷◌, ◌++◌, length, take, replicate, Option, Some, None, refl, subst, arith, lit<}
-use Rattle.std.specs.Prelude.{find, nat_lt, Ok, Err, ◌==◌, ◌&&◌}
+use Rattle.std.specs.Prelude.{find, nat_lt, Result, Ok, Err, ◌==◌, ◌&&◌}
 use Rattle.std.specs.List.{AllByRecursion, list_any}
 use Rattle.at_ddp.specs.Address.{same_address}
 use Rattle.at_ddp.specs.Datagram.{IsAddress}
@@ -14,6 +14,7 @@ use Rattle.at_adsp_end.specs.Ends.{EndState, addressed, answering, asking, confi
 use Rattle.at_adsp_end.specs.Hearing.{heard, told}
 use Rattle.at_adsp_end.specs.Positions.{Numbers}
 use Rattle.at_adsp_end.specs.Sending.{acks, closing, resetting_now}
+use Rattle.at_adsp_end.specs.declared.fault.StreamFault.{StreamFault}
 use Rattle.at_adsp_end.specs.declared.fault.StreamFault.TheVariants.{NoRoom, NotOpen}
 use Rattle.at_adsp_end.specs.declared.item.Item.{Item}
 use Rattle.at_adsp_end.specs.declared.phase.Phase.TheVariants as phase
@@ -26,7 +27,8 @@ use Rattle.at_adsp_ends.specs.Openings.{ack_came, answer_came, answers_again, co
 use Rattle.at_adsp_ends.specs.Receiving.{any_request_came, opening_came, part_came, segment_came, settled}
 use Rattle.at_adsp_ends.specs.Tables.{Done, EndTable, by_id, by_remote, following, free_id, freed, has_id, made, moved, next_id, stayed}
 use Rattle.at_adsp.specs.Lawfully.{IsInRange, IsLawfulSetting, IsLawfullySent}
-use Rattle.at_adsp.specs.Network.{AllSent, Closes, Connects, Happening, Listens, Network, Other, Reads, Resets, Sent, Setting, Strange, Takes, Ticks, Writes, after, calls, does, done, packet_at, put, stamped, takes}
+use Rattle.at_adsp.specs.Network.{AllSent, Closes, Connects, Happening, Listens, Network, Other, Reads, Resets, Sent, Setting, Strange, Takes, Ticks, Writes, after, calls, calls_with, does, done, gave_up, packet_at, put, stamped, takes, wrote_first}
+use Rattle.at_adsp.specs.Streams.{Deed, Read}
 use Rattle.at_adsp.proofs.Ranges.{AllLawful, AreItems, EndFits, Fits, again_fits, answering_fits, asking_fits, closing_fits, confirming_fits, denying_fits, heard_fits, hearing_fits, probes_fits, reading_fits, resetting_fits, shuts_fits, writing_fits}
 use Rattle.at_adsp.proofs.Sayings.{none_sent, put_elsewhere, sent_at, sent_both}
 
@@ -75,6 +77,11 @@ module _ (setting : Setting) (n : Network) (at : Address) (here : IsAddress at) 
     tables = put_elsewhere (λ a t. TableFits t) n.tables at d.after (λ a other. f.tables a) table;
     sent = sent_both IsLawfullySent n.sent (stamped n.event at d.sent) f.sent (stamped_fits n.event at d.sent here sent);
   }
+
+  -- what the user did is of no account
+  deed_fits : {X : Type 0} (deed : X → Deed) (r : Result (Done X) StreamFault) → NetworkFits (calls setting n at r) → NetworkFits (calls_with deed setting n at r)
+  deed_fits deed (Err fault) h = h
+  deed_fits deed (Ok d) h = record { tables = h.tables; sent = h.sent }
 
   moved_fits : {X : Type 0} (answer : X) (e : EndState) (sent : List Content) → Fits e sent → NetworkFits (does setting n at (moved (n.tables at) answer e sent))
   moved_fits answer e sent fits =
@@ -282,9 +289,12 @@ done_fits : (setting : Setting) (n : Network) (h : Happening) → IsLawfulSettin
 done_fits setting n (Connects at to) l f is = connects_fits setting n at is.0 f to is.1 (next_id (n.tables at)) refl
 done_fits setting n (Listens at on) l f is = listens_fits n at on f
 done_fits setting n (Closes at id) l f is = closes_fits setting n at is f setting.numbers l.numbers id (by_id (n.tables at) id) refl
-done_fits setting n (Writes at id items) l f is = writes_fits setting n at is.0 f setting.numbers l.numbers items is.1 id (by_id (n.tables at) id) refl
-done_fits setting n (Reads at id count) l f is = reads_fits setting n at is f setting.numbers l.numbers count id (by_id (n.tables at) id) refl
-done_fits setting n (Resets at id) l f is = resets_fits setting n at is f setting.numbers l.numbers id (by_id (n.tables at) id) refl
+done_fits setting n (Writes at id items) l f is =
+    deed_fits setting n at is.0 f (wrote_first items) (wrote setting.numbers (n.tables at) items (by_id (n.tables at) id)) (writes_fits setting n at is.0 f setting.numbers l.numbers items is.1 id (by_id (n.tables at) id) refl)
+done_fits setting n (Reads at id count) l f is =
+    deed_fits setting n at is f Read (read_at setting.numbers (n.tables at) count (by_id (n.tables at) id)) (reads_fits setting n at is f setting.numbers l.numbers count id (by_id (n.tables at) id) refl)
+done_fits setting n (Resets at id) l f is =
+    deed_fits setting n at is f gave_up (reset_at setting.numbers (n.tables at) (by_id (n.tables at) id)) (resets_fits setting n at is f setting.numbers l.numbers id (by_id (n.tables at) id) refl)
 done_fits setting n (Ticks at id tick) l f is = ticks_fits setting n at is f setting.numbers l.numbers tick id (by_id (n.tables at) id) refl
 done_fits setting n (Takes which) l f is = go (packet_at n.sent which) refl
   where

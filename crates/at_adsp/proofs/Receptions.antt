@@ -30,7 +30,7 @@ use Rattle.at_adsp.proofs.Sound.{IsKnown, Knows, Reaches, Sound, Tells, TellsKin
 use Rattle.at_adsp.proofs.Steps.{found_id, found_passes, found_stands, freed_sound, ignored_sound, later, quiet_sound, stands_known, stayed_sound, turned_sound}
 
 -- an end whose remote is known has this remote
-own_remote : (r : Remote) (asked : Address) (o : Option Remote) → Reaches asked o → is_remote r o ≡ true → o ≡ Some r
+pub own_remote : (r : Remote) (asked : Address) (o : Option Remote) → Reaches asked o → is_remote r o ≡ true → o ≡ Some r
 own_remote r asked None h is = h.1 ∙ absurd (let none = h.1 in cc)
 own_remote r asked (Some q) h is =
     let both = same_both r.address q.address r.id q.id is in

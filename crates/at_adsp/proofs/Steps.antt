@@ -1,8 +1,9 @@
 -- What an end that moves quietly, sends or is freed leaves true of a network.
-use Rattle.std.proofs.Common.{◌≡◌, ℕ, ◌+◌, ◌<◌, ◌≤◌, Bool, true, cond, List, [], ◌∷◌, ◌++◌, Option, Some, None, refl, sym, ap, subst, ◌∙◌, arith}
+use Rattle.std.proofs.Common.{◌≡◌, ℕ, ◌+◌, ◌<◌, ◌≤◌, Bool, true, false, cond, List, [], ◌∷◌, ◌++◌, Option, Some, None, refl, sym, ap, subst, ◌∙◌, arith}
 use Rattle.std.specs.Prelude.{find, map, replicate}
 use Rattle.std.specs.List.{AllByRecursion}
 use Rattle.std.proofs.lemmas.Bool.{eq-eqb}
+use Rattle.at_ddp.specs.Tables.{replaced}
 use Rattle.at_ddp.specs.declared.address.Address.{Address}
 use Rattle.at_ddp.proofs.Alls.{all_found, all_without}
 use Rattle.at_adsp_frame.specs.Segments.{Content}
@@ -11,11 +12,12 @@ use Rattle.at_adsp_ends.specs.Calls.{listened}
 use Rattle.at_adsp_ends.specs.Openings.{ignored}
 use Rattle.at_adsp_ends.specs.Tables.{EndTable, by_id, freed, has_id, moved, stayed, without_end}
 use Rattle.at_adsp.specs.Connections.{streams}
-use Rattle.at_adsp.specs.Network.{Setting, Made, Sent, Network, AllSent, does, is_end, listens, named, names_now, noted, put, stamped}
+use Rattle.at_adsp.specs.Network.{Setting, Made, Sent, Network, AllSent, does, does_with, is_end, listens, named, names_now, newest, noted_with, put, stamped}
+use Rattle.at_adsp.specs.Streams.{Stream, Deed, Nothing, has_number, read_after, with_deed, written_after}
 use Rattle.at_adsp.proofs.Changes.{Moves, changed_sound, grows, law, made_is, names_still, there}
 use Rattle.at_adsp.proofs.Distinct.{IdsApart, differ_without}
 use Rattle.at_adsp.proofs.EndMoves.{Quiet, quiet_known, quiet_opened}
-use Rattle.at_adsp.proofs.Finds.{found_too, map_same}
+use Rattle.at_adsp.proofs.Finds.{found_too, some_same}
 use Rattle.at_adsp.proofs.Growth.{fall_more, itself}
 use Rattle.at_adsp.proofs.Sayings.{Says, none_sent, put_elsewhere, said_fresh, sent_both, sent_implied, stamped_past}
 use Rattle.at_adsp.proofs.Sound.{Fresh, HasPeer, IsKnown, Lawful, Sound, Stands, mutual_kept}
@@ -50,13 +52,27 @@ found_id n at q e id same is =
     let more = found_too (has_id e.id) q e (n.tables at).ends is (eq-eqb e.id e.id refl) in
     (more.0, ap (by_id (n.tables at)) same ∙ more.1)
 
+-- ---- what the user of an end does
+
+-- its users see that one of them did this
+map_deed : (at : Address) (id : ℕ) (deed : Deed) (m u : Made) (made : List Made) → u.stream ≡ record m.stream { written = written_after deed m.stream.written; read = read_after deed m.stream.read } → newest made at id ≡ Some m →
+    map (λ (x : Made). x.stream) (replaced (is_end at id) u made) ≡ with_deed at id deed (map (λ (x : Made). x.stream) made)
+map_deed at id deed m u [] same is = refl
+map_deed at id deed m u (z ∷ zs) same is = go (λ g. map_deed at id deed m u zs same g) (is_end at id z) is
+  where
+    go : (newest zs at id ≡ Some m → map (λ (x : Made). x.stream) (replaced (is_end at id) u zs) ≡ with_deed at id deed (map (λ (x : Made). x.stream) zs)) → (b : Bool) →
+        cond b (Some z) (newest zs at id) ≡ Some m → map (λ (x : Made). x.stream) (cond b (u ∷ zs) (z ∷ replaced (is_end at id) u zs))
+        ≡ cond b (record z.stream { written = written_after deed z.stream.written; read = read_after deed z.stream.read } ∷ map (λ (x : Made). x.stream) zs) (z.stream ∷ with_deed at id deed (map (λ (x : Made). x.stream) zs))
+    go ih true g = ap (λ v. v ∷ map (λ (x : Made). x.stream) zs) (same ∙ ap (λ (x : Made). record x.stream { written = written_after deed x.stream.written; read = read_after deed x.stream.read }) (sym (some_same z m g)))
+    go ih false g = ap (λ l. z.stream ∷ l) (ih g)
+
 -- ---- an end that moves quietly
 
-module _ (setting : Setting) (n : Network) (at : Address) (q : EndState → Bool) (e f : EndState) (sound : Sound setting (n.event + 1) n) (is : find q (n.tables at).ends ≡ Some e) (quiet : Quiet e f) where
-  s : Stands setting n.made at e
+module _ (deed : Deed) (setting : Setting) (n : Network) (at : Address) (q : EndState → Bool) (e f : EndState) (sound : Sound setting (n.event + 1) n) (is : find q (n.tables at).ends ≡ Some e) (quiet : Quiet e f) where
+  pub s : Stands setting n.made at e
   s = found_stands setting (n.event + 1) n at q e sound is
 
-  moves : Moves e f
+  pub moves : Moves e f
   moves = record {
     id = quiet.id;
     listener = quiet.listener;
@@ -67,15 +83,15 @@ module _ (setting : Setting) (n : Network) (at : Address) (q : EndState → Bool
   }
 
   same : names_now setting n.made f s.it ≡ s.it.names
-  same = names_still setting n at e f sound s moves ∙ ap (named setting n.made) quiet.remote ∙ sym s.names
+  same = names_still deed setting n at e f sound s moves ∙ ap (named setting n.made) quiet.remote ∙ sym s.names
 
   was : Lawful setting.ours s.it
-  was = law setting n at e f sound s moves
+  was = law deed setting n at e f sound s moves
 
-  open_too : has_opened f.phase ≡ has_opened s.it.last.phase
+  pub open_too : has_opened f.phase ≡ has_opened s.it.last.phase
   open_too = quiet_opened e f quiet ∙ ap (λ (x : EndState). has_opened x.phase) (sym s.last)
 
-  same_peer : cond (has_opened f.phase) (names_now setting n.made f s.it) None ≡ s.it.stream.peer
+  pub same_peer : cond (has_opened f.phase) (names_now setting n.made f s.it) None ≡ s.it.stream.peer
   same_peer = (λ i. cond (open_too i) (same i) None) ∙ sym was.peer
 
   finds : has_opened f.phase ≡ true → setting.ours f.asked ≡ true → (b : ℕ) × (names_now setting n.made f s.it ≡ Some b)
@@ -83,26 +99,44 @@ module _ (setting : Setting) (n : Network) (at : Address) (q : EndState → Bool
       let more = was.found (sym open_too ∙ opened) (ap setting.ours (ap (λ (x : EndState). x.asked) s.last ∙ sym quiet.asked) ∙ ours) in
       (more.0, same ∙ more.1)
 
-  peers : HasPeer n.made (noted setting n.made f s.it)
+  peers : HasPeer n.made (noted_with deed setting n.made f s.it)
   peers b h =
-      mutual_kept n.made n.made s.it (noted setting n.made f s.it) b (λ w found. (w, found, itself w)) (grows setting n at e f sound s moves)
-      ((all_found (HasPeer n.made) (is_end at f.id) n.made s.it sound.peers (there setting n at e f sound s moves)).0 b (sym same_peer ∙ h))
+      mutual_kept n.made n.made s.it (noted_with deed setting n.made f s.it) b (λ w found. (w, found, itself w)) (grows deed setting n at e f sound s moves)
+      ((all_found (HasPeer n.made) (is_end at f.id) n.made s.it sound.peers (there deed setting n at e f sound s moves)).0 b (sym same_peer ∙ h))
 
-  old : (o : EndState) × (by_id (n.tables at) f.id ≡ Some o)
+  pub old : (o : EndState) × (by_id (n.tables at) f.id ≡ Some o)
   old = found_id n at q e f.id quiet.id is
 
-  pub quiet_so : {X : Type 0} (answer : X) (sent : List Content) → AllByRecursion (Says f) sent → Sound setting (n.event + 1) (does setting n at (moved (n.tables at) answer f sent))
-  quiet_so answer sent says = changed_sound setting n at e f sound s moves answer sent old.0 old.1 finds peers says
+  pub quiet_so : {X : Type 0} (answer : X) (sent : List Content) → AllByRecursion (Says f) sent → Sound setting (n.event + 1) (does_with deed setting n at (moved (n.tables at) answer f sent))
+  quiet_so answer sent says = changed_sound deed setting n at e f sound s moves answer sent old.0 old.1 finds peers says
 
-  -- its users see no change
-  pub quiet_streams : {X : Type 0} (answer : X) (sent : List Content) → streams (does setting n at (moved (n.tables at) answer f sent)) ≡ streams n
-  quiet_streams answer sent =
-      ap (map (λ (m : Made). m.stream)) (made_is setting n at e f sound s moves old.0 old.1)
-      ∙ map_same (λ (m : Made). m.stream) (is_end at f.id) s.it (noted setting n.made f s.it) n.made (λ i. record s.it.stream { peer = same_peer i }) (there setting n at e f sound s moves)
+  -- its users see what one of them did
+  pub deed_streams : {X : Type 0} (answer : X) (sent : List Content) → streams (does_with deed setting n at (moved (n.tables at) answer f sent)) ≡ with_deed at f.id deed (streams n)
+  deed_streams answer sent =
+      ap (map (λ (m : Made). m.stream)) (made_is deed setting n at e f sound s moves old.0 old.1)
+      ∙ map_deed at f.id deed s.it (noted_with deed setting n.made f s.it) n.made
+      (λ i. record s.it.stream { peer = same_peer i; written = written_after deed s.it.stream.written; read = read_after deed s.it.stream.read }) (there deed setting n at e f sound s moves)
+
+pub no_deed : (at : Address) (id : ℕ) (ss : List Stream) → with_deed at id Nothing ss ≡ ss
+no_deed at id [] = refl
+no_deed at id (s ∷ ss) = go (no_deed at id ss) (has_number at id s)
+  where
+    go : with_deed at id Nothing ss ≡ ss → (b : Bool) → cond b (s ∷ ss) (s ∷ with_deed at id Nothing ss) ≡ s ∷ ss
+    go ih true = refl
+    go ih false = ap (λ l. s ∷ l) ih
+
+-- its users see no change
+pub quiet_streams : {X : Type 0} (setting : Setting) (n : Network) (at : Address) (q : EndState → Bool) (e f : EndState) → Sound setting (n.event + 1) n → find q (n.tables at).ends ≡ Some e → Quiet e f →
+    (answer : X) (sent : List Content) → streams (does setting n at (moved (n.tables at) answer f sent)) ≡ streams n
+quiet_streams setting n at q e f sound is quiet answer sent = deed_streams Nothing setting n at q e f sound is quiet answer sent ∙ no_deed at f.id (streams n)
+
+pub deed_sound : {X : Type 0} (deed : Deed) (setting : Setting) (n : Network) (at : Address) (q : EndState → Bool) (e f : EndState) (answer : X) (sent : List Content) → Sound setting (n.event + 1) n →
+    find q (n.tables at).ends ≡ Some e → Quiet e f → AllByRecursion (Says f) sent → Sound setting (n.event + 1) (does_with deed setting n at (moved (n.tables at) answer f sent))
+deed_sound deed setting n at q e f answer sent sound is quiet says = quiet_so deed setting n at q e f sound is quiet answer sent says
 
 pub quiet_sound : {X : Type 0} (setting : Setting) (n : Network) (at : Address) (q : EndState → Bool) (e f : EndState) (answer : X) (sent : List Content) → Sound setting (n.event + 1) n →
     find q (n.tables at).ends ≡ Some e → Quiet e f → AllByRecursion (Says f) sent → Sound setting (n.event + 1) (does setting n at (moved (n.tables at) answer f sent))
-quiet_sound setting n at q e f answer sent sound is quiet says = quiet_so setting n at q e f sound is quiet answer sent says
+quiet_sound setting n at q e f answer sent sound is quiet says = quiet_so Nothing setting n at q e f sound is quiet answer sent says
 
 -- ---- an end that sends, and does not change
 

@@ -1,7 +1,7 @@
 -- What each happening does to the ends of streams as their users see them.
 use Rattle.std.proofs.Common.{◌≡◌, ℕ, ◌+◌, Bool, true, false, cond, List, [], ◌∷◌, ◌++◌, ◌≤◌, length, take, Option, Some, None, inl, inr, refl, ap, ◌∙◌}
 use Rattle.std.specs.Prelude.{not, Ok, Err, ◌==◌, ◌&&◌}
-use Rattle.std.proofs.lemmas.Bool.{true≢false}
+use Rattle.std.proofs.lemmas.Bool.{true≢false, eqb-true}
 use Rattle.at_ddp.specs.Address.{same_address}
 use Rattle.at_ddp.specs.declared.address.Address.{Address}
 use Rattle.at_adsp_frame.specs.Segments.{Content, Open, Part}
@@ -25,9 +25,9 @@ use Rattle.at_adsp_ends.specs.Calls.{closed_at, connected, finds_no_room, frees,
 use Rattle.at_adsp_ends.specs.Openings.{ack_came, answer_came, answers_again, confirms_again, connected_to, denial_came, heard_opening, ignored, is_answered, opened, request_came, room_for}
 use Rattle.at_adsp_ends.specs.Receiving.{any_request_came, opening_came, part_came, segment_came, settled}
 use Rattle.at_adsp_ends.specs.Tables.{Done, EndTable, by_id, by_remote, freed, has_id, moved, next_id, stayed}
-use Rattle.at_adsp.specs.Connections.{AfterConnecting, AfterSegment, AfterStep, ChangesStreams, streams}
-use Rattle.at_adsp.specs.Network.{AllTimely, Closes as closes, Connects, Happening, Listens, Network, Other, Reads, Resets as resets, Sent, Setting, Strange, Takes, Ticks, Writes, after, calls, does, noted, packet_at, takes}
-use Rattle.at_adsp.specs.Streams.{with_peer}
+use Rattle.at_adsp.specs.Connections.{AfterCall, AfterConnecting, AfterSegment, AfterStep, ChangesStreams, streams}
+use Rattle.at_adsp.specs.Network.{AllTimely, Closes as closes, Connects, Happening, Listens, Network, Other, Reads, Resets as resets, Sent, Setting, Strange, Takes, Ticks, Writes, after, calls, calls_with, does, gave_up, wrote_first, noted, packet_at, takes}
+use Rattle.at_adsp.specs.Streams.{GaveUp, Read, with_deed, with_peer}
 use Rattle.at_adsp.proofs.Beginnings.{made_streams}
 use Rattle.at_adsp.proofs.Changes.{Moves}
 use Rattle.at_adsp.proofs.Distinct.{drawn}
@@ -36,7 +36,7 @@ use Rattle.at_adsp.proofs.Histories.{history_sound}
 use Rattle.at_adsp.proofs.Openings.{opened_streams}
 use Rattle.at_adsp.proofs.Receptions.{ack_moves, answer_moves}
 use Rattle.at_adsp.proofs.Sound.{Sound}
-use Rattle.at_adsp.proofs.Steps.{found_id, found_stands, later, quiet_streams}
+use Rattle.at_adsp.proofs.Steps.{deed_streams, found_id, found_passes, found_stands, later, quiet_streams}
 
 -- ---- steps that make and open nothing
 
@@ -90,35 +90,42 @@ module _ (setting : Setting) (n : Network) (at : Address) (id : ℕ) (sound : So
           (record { id = refl; listener = refl; asked = refl; remote = refl; phase = inr (open_is e.phase h, refl) }) (step.Closed e.id) (closing N e).sent
       go false h = refl
 
-  writes_streams : (items : List Item) (o : Option EndState) → by_id t id ≡ o → streams (calls setting n at (wrote N t items o)) ≡ streams n
+  -- an end that is found has the identifier
+  own : (e : EndState) → by_id t id ≡ Some e → e.id ≡ id
+  own e is = eqb-true e.id id (found_passes setting (n.event + 1) n at (has_id id) e sound is)
+
+  writes_streams : (items : List Item) (o : Option EndState) → by_id t id ≡ o → AfterCall n (calls_with (wrote_first items) setting n at (wrote N t items o)) at id (wrote_first items) (wrote N t items o)
   writes_streams items None is = refl
   writes_streams items (Some e) is = go (is_open e.phase) (finds_no_room e items)
     where
-      go : (b c : Bool) → streams (calls setting n at (cond b (cond c (Err NoRoom) (Ok (wrote_some N t items e))) (Err NotOpen))) ≡ streams n
+      go : (b c : Bool) → AfterCall n (calls_with (wrote_first items) setting n at (cond b (cond c (Err NoRoom) (Ok (wrote_some N t items e))) (Err NotOpen))) at id (wrote_first items) (cond b (cond c (Err NoRoom) (Ok (wrote_some N t items e))) (Err NotOpen))
       go true true = refl
       go true false =
-          quiet_streams setting n at (has_id id) e (writing N e items).after sound is (record { id = refl; listener = refl; asked = refl; remote = refl; phase = inl refl })
-          (length (take (places e) items)) (writing N e items).sent
+          deed_streams (wrote_first items (length (take (places e) items))) setting n at (has_id id) e (writing N e items).after sound is
+          (record { id = refl; listener = refl; asked = refl; remote = refl; phase = inl refl }) (length (take (places e) items)) (writing N e items).sent
+          ∙ ap (λ k. with_deed at k (wrote_first items (length (take (places e) items))) (streams n)) (own e is)
       go false c = refl
 
-  reads_streams : (count : ℕ) (o : Option EndState) → by_id t id ≡ o → streams (calls setting n at (read_at N t count o)) ≡ streams n
+  reads_streams : (count : ℕ) (o : Option EndState) → by_id t id ≡ o → AfterCall n (calls_with Read setting n at (read_at N t count o)) at id Read (read_at N t count o)
   reads_streams count None is = refl
   reads_streams count (Some e) is = go (has_opened e.phase)
     where
-      go : (b : Bool) → streams (calls setting n at (cond b (Ok (moved t (take count e.receiver.unread) (reading N e count).after (reading N e count).sent)) (Err NotOpen))) ≡ streams n
+      go : (b : Bool) → AfterCall n (calls_with Read setting n at (cond b (Ok (moved t (take count e.receiver.unread) (reading N e count).after (reading N e count).sent)) (Err NotOpen))) at id Read (cond b (Ok (moved t (take count e.receiver.unread) (reading N e count).after (reading N e count).sent)) (Err NotOpen))
       go true =
-          quiet_streams setting n at (has_id id) e (reading N e count).after sound is (record { id = refl; listener = refl; asked = refl; remote = refl; phase = inl refl })
+          deed_streams (Read (take count e.receiver.unread)) setting n at (has_id id) e (reading N e count).after sound is (record { id = refl; listener = refl; asked = refl; remote = refl; phase = inl refl })
           (take count e.receiver.unread) (reading N e count).sent
+          ∙ ap (λ k. with_deed at k (Read (take count e.receiver.unread)) (streams n)) (own e is)
       go false = refl
 
-  resets_streams : (o : Option EndState) → by_id t id ≡ o → streams (calls setting n at (reset_at N t o)) ≡ streams n
+  resets_streams : (o : Option EndState) → by_id t id ≡ o → AfterCall n (calls_with gave_up setting n at (reset_at N t o)) at id gave_up (reset_at N t o)
   resets_streams None is = refl
   resets_streams (Some e) is = go (is_open e.phase)
     where
-      go : (b : Bool) → streams (calls setting n at (cond b (Ok (moved {X = Unit {0}} t tt (resetting_now N e).after (resetting_now N e).sent)) (Err NotOpen))) ≡ streams n
+      go : (b : Bool) → AfterCall n (calls_with gave_up setting n at (cond b (Ok (moved {X = Unit {0}} t tt (resetting_now N e).after (resetting_now N e).sent)) (Err NotOpen))) at id gave_up (cond b (Ok (moved {X = Unit {0}} t tt (resetting_now N e).after (resetting_now N e).sent)) (Err NotOpen))
       go true =
-          quiet_streams setting n at (has_id id) e (resetting_now N e).after sound is (record { id = refl; listener = refl; asked = refl; remote = refl; phase = inl refl }) {X = Unit {0}} tt
+          deed_streams GaveUp setting n at (has_id id) e (resetting_now N e).after sound is (record { id = refl; listener = refl; asked = refl; remote = refl; phase = inl refl }) {X = Unit {0}} tt
           (resetting_now N e).sent
+          ∙ ap (λ k. with_deed at k GaveUp (streams n)) (own e is)
       go false = refl
 
   tick_streams : (e : EndState) (tick : Tick) → by_id t id ≡ Some e → frees e tick ≡ false → streams (does setting n at (settled t (ticked N e tick))) ≡ streams n

@@ -1,13 +1,16 @@
 -- What happens to the ends of streams as their users see them: one is made, one opens, or all stay (Inside AppleTalk,
 -- ADSP, "Opening a connection").
-use Rattle.std.specs.Prelude.{◌≡◌, ℕ, Bool, true, false, List, ◌∷◌, map, Option, Some, None}
+use Rattle.std.specs.Prelude.{◌≡◌, ℕ, Bool, true, false, List, [], ◌∷◌, map, Option, Some, None, Result, Ok, Err}
 use Rattle.at_ddp.specs.declared.address.Address.{Address}
+use Rattle.at_adsp_end.specs.declared.fault.StreamFault.{StreamFault}
 use Rattle.at_adsp_end.specs.declared.step.Step.{Step}
 use Rattle.at_adsp_end.specs.declared.step.Step.TheVariants as step
+use Rattle.at_adsp_ends.specs.Calls.{wrote, read_at, reset_at}
 use Rattle.at_adsp_ends.specs.Receiving.{received}
-use Rattle.at_adsp_ends.specs.Tables.{next_id}
-use Rattle.at_adsp.specs.Network.{Setting, Made, Sent, Network, Happening, Connects, Takes, Strange, done, packet_at}
-use Rattle.at_adsp.specs.Streams.{Stream, with_peer}
+use Rattle.at_adsp_ends.specs.Tables.{Done, by_id, next_id}
+use Rattle.at_adsp.specs.Network.{Setting, Made, Sent, Network, Happening, Connects, Writes, Reads, Resets, Takes}
+use Rattle.at_adsp.specs.Network.{Strange, done, packet_at, wrote_first, gave_up}
+use Rattle.at_adsp.specs.Streams.{Stream, Deed, Read, with_peer, with_deed}
 
 -- all ends that were ever made, newest first
 abbrev pub streams : Network → List Stream
@@ -22,6 +25,8 @@ begun event at id listener asked = record {
   listener = listener;
   asked = asked;
   peer = None;
+  written = [];
+  read = [];
 }
 
 -- an end that asked is made under this identifier, if there is one
@@ -42,10 +47,25 @@ AfterSegment setting old new None = streams new ≡ streams old
 AfterSegment setting old new (Some s) =
     AfterStep old new s.to s.from (received setting.numbers (old.tables s.to) s.from s.segment).answer
 
+-- the user of an end did something with it, or the call was refused
+abbrev pub AfterCall : {X : Type 0} → Network → Network → Address → ℕ → (X → Deed) → Result (Done X) StreamFault
+    → Type 0
+AfterCall old new at id deed (Err fault) = streams new ≡ streams old
+AfterCall old new at id deed (Ok d) = streams new ≡ with_deed at id (deed d.answer) (streams old)
+
 -- what each happening does
 abbrev pub ChangesStreams : Setting → Network → Happening → Type 0
 ChangesStreams setting n (Connects at to) =
     AfterConnecting n (done setting n (Connects at to)) at to (next_id (n.tables at))
+ChangesStreams setting n (Writes at id items) =
+    AfterCall n (done setting n (Writes at id items)) at id (wrote_first items)
+    (wrote setting.numbers (n.tables at) items (by_id (n.tables at) id))
+ChangesStreams setting n (Reads at id count) =
+    AfterCall n (done setting n (Reads at id count)) at id Read
+    (read_at setting.numbers (n.tables at) count (by_id (n.tables at) id))
+ChangesStreams setting n (Resets at id) =
+    AfterCall n (done setting n (Resets at id)) at id gave_up
+    (reset_at setting.numbers (n.tables at) (by_id (n.tables at) id))
 ChangesStreams setting n (Takes which) =
     AfterSegment setting n (done setting n (Takes which)) (packet_at n.sent which)
 ChangesStreams setting n (Strange at from segment) =

@@ -1,7 +1,7 @@
 -- A network of nodes with ends of streams, which open and close connections with each other. Each segment may come
 -- late, again or never (Inside AppleTalk, ADSP, "Opening a connection").
 use Rattle.std.specs.Prelude.{◌≡◌, ℕ, ◌+◌, ◌==◌, ◌&&◌, ◌||◌, not, nat_le, is_none, if◌then◌else◌, Bool, true, false}
-use Rattle.std.specs.Prelude.{List, [], ◌∷◌, ◌++◌, map, find, replicate, slice_get, IfSome, Option, Some, None}
+use Rattle.std.specs.Prelude.{List, [], ◌∷◌, ◌++◌, map, find, take, replicate, slice_get, IfSome, Option, Some, None}
 use Rattle.std.specs.Prelude.{Result, Ok, Err}
 use Rattle.std.specs.List.{AllByRecursion, list_all}
 use Rattle.at_ddp.specs.Address.{same_address}
@@ -19,7 +19,7 @@ use Rattle.at_adsp_end.specs.declared.tick.Tick.{Tick}
 use Rattle.at_adsp_ends.specs.Calls.{listened, connected, closed_at, ticked_at, read_at, reset_at, wrote}
 use Rattle.at_adsp_ends.specs.Receiving.{received}
 use Rattle.at_adsp_ends.specs.Tables.{EndTable, Done, no_ends, by_id, by_remote, next_id}
-use Rattle.at_adsp.specs.Streams.{Stream, has_number}
+use Rattle.at_adsp.specs.Streams.{Stream, Deed, Nothing, Wrote, Read, GaveUp, has_number, written_after, read_after}
 
 -- What never changes: what the numbers of segments are, the rooms of the ends at each address, and the addresses that
 -- segments come to here. Whoever sends from other addresses may send anything.
@@ -93,13 +93,21 @@ named setting made (Some r) = if setting.ours r.address then birth_of (newest ma
 abbrev pub names_now : Setting → List Made → EndState → Made → Option ℕ
 names_now setting made e m = if is_none m.last.remote then named setting made e.remote else m.names
 
--- The end as it is now. Once it is open, whom it names is its peer.
-abbrev pub noted : Setting → List Made → EndState → Made → Made
-noted setting made e m = record {
-  stream = record m.stream { peer = if has_opened e.phase then names_now setting made e m else None };
+-- The end as it is now, and what its user did. Once it is open, whom it names is its peer.
+abbrev pub noted_with : Deed → Setting → List Made → EndState → Made → Made
+noted_with deed setting made e m = record {
+  stream =
+      record m.stream {
+        peer = if has_opened e.phase then names_now setting made e m else None;
+        written = written_after deed m.stream.written;
+        read = read_after deed m.stream.read;
+      };
   last = e;
   names = names_now setting made e m;
 }
+
+abbrev pub noted : Setting → List Made → EndState → Made → Made
+noted setting made e m = noted_with Nothing setting made e m
 
 -- an end that this event makes, before it has a remote
 abbrev pub beginning : ℕ → Address → EndState → Made
@@ -112,26 +120,28 @@ beginning event at e = record {
         listener = e.listener;
         asked = e.asked;
         peer = None;
+        written = [];
+        read = [];
       };
   last = record e { remote = None };
   names = None;
 }
 
 -- the newest end with this number is now so
-abbrev pub changed : Setting → List Made → Address → EndState → Option Made → List Made
-changed setting made at e None = made
-changed setting made at e (Some m) = replaced (is_end at e.id) (noted setting made e m) made
+abbrev pub changed : Deed → Setting → List Made → Address → EndState → Option Made → List Made
+changed deed setting made at e None = made
+changed deed setting made at e (Some m) = replaced (is_end at e.id) (noted_with deed setting made e m) made
 
 -- Such an end is new where no end stands under its identifier. It may have its own number as its remote.
-abbrev pub joined : Setting → ℕ → List Made → Address → EndState → Option EndState → List Made
-joined setting event made at e None =
+abbrev pub joined : Deed → Setting → ℕ → List Made → Address → EndState → Option EndState → List Made
+joined deed setting event made at e None =
     noted setting (beginning event at e ∷ made) e (beginning event at e) ∷ made
-joined setting event made at e (Some old) = changed setting made at e (newest made at e.id)
+joined deed setting event made at e (Some old) = changed deed setting made at e (newest made at e.id)
 
 -- an end of this table was made or changed, or none
-abbrev pub with_end : Setting → ℕ → List Made → Address → EndTable → Option EndState → List Made
-with_end setting event made at t None = made
-with_end setting event made at t (Some e) = joined setting event made at e (by_id t e.id)
+abbrev pub with_end : Deed → Setting → ℕ → List Made → Address → EndTable → Option EndState → List Made
+with_end deed setting event made at t None = made
+with_end deed setting event made at t (Some e) = joined deed setting event made at e (by_id t e.id)
 
 -- ---- what happens
 
@@ -165,18 +175,33 @@ abbrev pub stamped : ℕ → Address → List (Address × Content) → List (Opt
 stamped event from sent =
     map (λ (s : Address × Content). Some (record { event = event; from = from; to = s.0; segment = s.1 })) sent
 
--- what a call, a tick or a segment does at an address
-abbrev pub does : {X : Type 0} → Setting → Network → Address → Done X → Network
-does setting n at d = record n {
+-- what a call does at an address, and what the user of the end did
+abbrev pub does_with : {X : Type 0} → Deed → Setting → Network → Address → Done X → Network
+does_with deed setting n at d = record n {
   tables = put n.tables at d.after;
-  made = with_end setting n.event n.made at (n.tables at) d.changed;
+  made = with_end deed setting n.event n.made at (n.tables at) d.changed;
   sent = n.sent ++ stamped n.event at d.sent;
 }
 
--- a call that is refused does nothing
+-- what another call, a tick or a segment does at an address
+abbrev pub does : {X : Type 0} → Setting → Network → Address → Done X → Network
+does setting n at d = does_with Nothing setting n at d
+
+-- A call that is refused does nothing. The answer of another tells what the user did.
+abbrev pub calls_with : {X : Type 0} → (X → Deed) → Setting → Network → Address → Result (Done X) StreamFault → Network
+calls_with deed setting n at (Err fault) = n
+calls_with deed setting n at (Ok d) = does_with (deed d.answer) setting n at d
+
 abbrev pub calls : {X : Type 0} → Setting → Network → Address → Result (Done X) StreamFault → Network
-calls setting n at (Err fault) = n
-calls setting n at (Ok d) = does setting n at d
+calls setting n at r = calls_with (λ answer. Nothing) setting n at r
+
+-- as many of these items are written as the answer says
+abbrev pub wrote_first : List Item → ℕ → Deed
+wrote_first items count = Wrote (take count items)
+
+-- a reset has no answer
+abbrev pub gave_up : Unit {0} → Deed
+gave_up answer = GaveUp
 
 abbrev pub listens : Network → Address → Bool → Network
 listens n at on = record n { tables = put n.tables at (listened (n.tables at) on) }
@@ -194,10 +219,11 @@ done setting n (Connects at to) = calls setting n at (connected (n.tables at) to
 done setting n (Listens at on) = listens n at on
 done setting n (Closes at id) = calls setting n at (closed_at setting.numbers (n.tables at) (by_id (n.tables at) id))
 done setting n (Writes at id items) =
-    calls setting n at (wrote setting.numbers (n.tables at) items (by_id (n.tables at) id))
+    calls_with (wrote_first items) setting n at (wrote setting.numbers (n.tables at) items (by_id (n.tables at) id))
 done setting n (Reads at id count) =
-    calls setting n at (read_at setting.numbers (n.tables at) count (by_id (n.tables at) id))
-done setting n (Resets at id) = calls setting n at (reset_at setting.numbers (n.tables at) (by_id (n.tables at) id))
+    calls_with Read setting n at (read_at setting.numbers (n.tables at) count (by_id (n.tables at) id))
+done setting n (Resets at id) =
+    calls_with gave_up setting n at (reset_at setting.numbers (n.tables at) (by_id (n.tables at) id))
 done setting n (Ticks at id tick) =
     calls setting n at (ticked_at setting.numbers (n.tables at) tick (by_id (n.tables at) id))
 done setting n (Takes which) = takes setting n (packet_at n.sent which)

@@ -1,10 +1,15 @@
 //! The laws of a network of ends of streams. The functions do nothing: each contract is a law.
-ghost use Rattle.std.specs.Prelude.{List};
+ghost use Rattle.std.specs.Prelude.{◌≡◌, ℕ, ◌+◌, ◌<◌, ◌^◌, List, Some, None};
 ghost use Rattle.std.specs.List.{AllByRecursion};
 ghost use Rattle.at_adsp.specs.Connections.{ChangesStreams};
 ghost use Rattle.at_adsp.specs.Lawfully.{IsInRange, IsLawfulSetting, IsLawfullySent};
 ghost use Rattle.at_adsp.specs.Network.{Setting, Happening, AllSent, AllTimely, after};
+ghost use Rattle.at_adsp.specs.Orders.{IsNoReset, ReadsBeginnings, ReadsInOrder, whole_numbered};
 ghost use Rattle.at_adsp.specs.Pairs.{GivesPairs};
+ghost use Rattle.at_adsp.specs.Wires.{wired, wired_number, wired_outcome};
+ghost use Rattle.at_adsp_end.specs.Ends.{EndState};
+ghost use Rattle.at_adsp_end.specs.Hearing.{Told, heard};
+ghost use Rattle.at_adsp_end.specs.Positions.{whole, wire};
 
 pub use at_adsp_frame::laws::{what_is_written_fits, what_is_written_is_read};
 
@@ -30,4 +35,32 @@ pub fn what_is_sent_is_lawful()
 pub fn streams_change_by_one()
     ensures { (setting : Setting) (history : List Happening) (h : Happening) → AllTimely setting history
         → ChangesStreams setting (after setting history) h }
+{}
+
+/// What is read from an end that has a peer was written at the peer, in this order. Only a reset of the writer may be
+/// passed, with what was written before it. All this holds where segments are lost, repeated or reordered, whatever
+/// comes from other addresses, and also of ends that are closed or freed, and of two ends at one address. The numbers
+/// of segments are as large as they need to be.
+pub fn what_is_read_was_written_in_order()
+    ensures { (setting : Setting) (history : List Happening) → AllTimely (whole_numbered setting) history
+        → ReadsInOrder (after (whole_numbered setting) history) }
+{}
+
+/// Where no stream is reset, what is read from an end that has a peer begins what was written at the peer.
+pub fn what_is_read_begins_what_was_written()
+    ensures { (setting : Setting) (history : List Happening) → AllTimely (whole_numbered setting) history
+        → AllByRecursion IsNoReset history → ReadsBeginnings (after (whole_numbered setting) history) }
+{}
+
+/// Once it is known how far the numbers of a segment lie from those of an end, hearing it is the same with the numbers
+/// of the cable as with numbers of any size.
+pub fn what_is_heard_is_the_same_on_the_cable()
+    ensures { (e : EndState) (t : Told) → heard wire (wired e) t ≡ wired_outcome (heard whole e t) }
+{}
+
+/// Numbers that are less than 2^31 apart are told apart on the cable: one that lies ahead is ahead by as much, and one
+/// that lies behind is not ahead.
+pub fn near_numbers_are_told_apart_on_the_cable()
+    ensures ahead { (a d : ℕ) → d < 2 ^ 31 → wire.ahead (wired_number a) (wired_number (a + d)) ≡ Some d }
+    ensures behind { (b d : ℕ) → 0 < d → d < 2 ^ 31 → wire.ahead (wired_number (b + d)) (wired_number b) ≡ None }
 {}
