@@ -118,7 +118,7 @@ repeated_carry w l e h = cut_carry e l e.sender.front e.sender.unacknowledged (r
 
 -- ---- acknowledgements
 
-at_most_within : (n : ℕ) (o : Option ℕ) → IfSome (at_most n o) (λ k. k ≤ n)
+pub at_most_within : (n : ℕ) (o : Option ℕ) → IfSome (at_most n o) (λ k. k ≤ n)
 at_most_within n None = tt
 at_most_within n (Some k) = go (nat_le k n) refl
   where

@@ -85,7 +85,7 @@ below_apart P Q b bound (x ∷ xs) le h stays all =
     apart true e = let same = eqb-true x.stream.birth b e in let lt = h.0 in absurd (omega (arith, same, lt, le))
 
 -- what holds of the end that takes another's place, and stays of all others
-all_born : (P Q : Made → Type 0) (p : Made → Bool) (m u : Made) (made : List Made) (bound : ℕ) → Fall bound made → find p made ≡ Some m → ((x : Made) → (x.stream.birth == m.stream.birth) ≡ false → P x → Q x) → Q u →
+pub all_born : (P Q : Made → Type 0) (p : Made → Bool) (m u : Made) (made : List Made) (bound : ℕ) → Fall bound made → find p made ≡ Some m → ((x : Made) → (x.stream.birth == m.stream.birth) ≡ false → P x → Q x) → Q u →
     AllByRecursion P made → AllByRecursion Q (replaced p u made)
 all_born P Q p m u [] bound h is stays now all = tt
 all_born P Q p m u (z ∷ zs) bound h is stays now all = go (λ f. all_born P Q p m u zs z.stream.birth h.1 f stays now all.1) (p z) is

@@ -48,7 +48,7 @@ rest_slice items all first r h none = go (nat_le first r) refl
 
 -- ---- resets
 
-ahead_far : (a b d : ℕ) → whole.ahead a b ≡ Some d → b ≡ a + d
+pub ahead_far : (a b d : ℕ) → whole.ahead a b ≡ Some d → b ≡ a + d
 ahead_far a b d is = go (nat_le a b) refl is
   where
     go : (c : Bool) → nat_le a b ≡ c → cond c (Some (b - a)) None ≡ Some d → b ≡ a + d

@@ -13,7 +13,7 @@ use Rattle.at_adsp_ends.specs.Receiving.{received}
 use Rattle.at_adsp_ends.specs.Tables.{Done, EndTable, by_id, next_id}
 use Rattle.at_adsp.specs.Network.{Setting, Made, Sent, Network, Happening, Connects, Listens, Closes, Writes, Reads, Resets, Ticks, Takes, Strange, Other}
 use Rattle.at_adsp.specs.Network.{AllTimely, after, calls_with, changed, done, has_birth, is_end, joined, newest, noted_with, packet_at, takes, with_end, wrote_first}
-use Rattle.at_adsp.specs.Orders.{IsNoReset, ReadsBeginnings, whole_numbered}
+use Rattle.at_adsp.specs.Orders.{IsNoReset, ReadsBeginnings, ReadsInOrder, whole_numbered}
 use Rattle.at_adsp.specs.Reading.{NoReset, Put, ReadsFrom, Reset, Written, is_put, nothing, same, passes}
 use Rattle.at_adsp.specs.Streams.{Deed, Nothing, Wrote, Read, GaveUp, written_after}
 use Rattle.at_adsp.proofs.FlowHistories.{reads_in_order}
@@ -92,11 +92,15 @@ history_plain setting (h ∷ hs) calm = done_plain setting (after setting hs) h 
 
 -- ---- the law
 
-pub reads_beginnings : (setting : Setting) (history : List Happening) → AllTimely (whole_numbered setting) history → AllByRecursion IsNoReset history → ReadsBeginnings (after (whole_numbered setting) history)
-reads_beginnings setting history timely calm = record {
+-- where no stream is reset
+pub plain_begins : (setting : Setting) (history : List Happening) → ReadsInOrder (after setting history) → AllByRecursion IsNoReset history → ReadsBeginnings (after setting history)
+plain_begins setting history order calm = record {
   reads = λ birth m other is peer.
-      let r = (reads_in_order setting history timely).reads birth m other is peer in
-      let none = (all_found IsPlain (has_birth other) (after (whole_numbered setting) history).made r.0 (history_plain (whole_numbered setting) history calm) r.1).0 in
+      let r = order.reads birth m other is peer in
+      let none = (all_found IsPlain (has_birth other) (after setting history).made r.0 (history_plain setting history calm) r.1).0 in
       let p = plain r.2 none in
       (r.0, r.1, p.0, p.1);
 }
+
+pub reads_beginnings : (setting : Setting) (history : List Happening) → AllTimely (whole_numbered setting) history → AllByRecursion IsNoReset history → ReadsBeginnings (after (whole_numbered setting) history)
+reads_beginnings setting history timely calm = plain_begins (whole_numbered setting) history (reads_in_order setting history timely) calm

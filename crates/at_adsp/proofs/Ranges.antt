@@ -19,7 +19,7 @@ use Rattle.at_adsp_end.specs.declared.item.Item.{Item}
 use Rattle.at_adsp_end.specs.declared.item.Item.TheVariants.{Byte, End}
 use Rattle.at_adsp_end.specs.declared.phase.Phase.{Phase}
 use Rattle.at_adsp_end.specs.declared.phase.Phase.TheVariants as phase
-use Rattle.at_adsp.specs.Lawfully.{IsItem}
+use Rattle.at_adsp_end.specs.Items.{IsItem}
 
 -- ---- lists of items
 

@@ -4,7 +4,7 @@ use Rattle.std.proofs.Math.Nat.{mod-mod}
 use Rattle.at_adsp_frame.specs.Segments.{Content, Data, Part, Probe, ResetAck}
 use Rattle.at_adsp_end.specs.Cuts.{Piece, items_of, numbered, pieces}
 use Rattle.at_adsp_end.specs.Ends.{Change, EndState, control, packet}
-use Rattle.at_adsp_end.specs.Hearing.{Advises, Answers, Asks, Brings, Closes, Outcome, Resets, Saying, Told, after_hearing, heard, if_asked, jumped, taken, taking}
+use Rattle.at_adsp_end.specs.Hearing.{Advises, Answers, Asks, Brings, Closes, Resets, Saying, Told, after_hearing, heard, if_asked, jumped, taken, taking}
 use Rattle.at_adsp_end.specs.declared.forward.Forward.TheVariants.{Jump, Older, Beyond}
 use Rattle.at_adsp_end.specs.declared.step.Step.TheVariants.{Heard, Dropped, Closed}
 use Rattle.at_adsp_end.specs.Positions.{whole, wire}

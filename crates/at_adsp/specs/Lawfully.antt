@@ -5,18 +5,13 @@ use Rattle.std.specs.List.{AllByRecursion}
 use Rattle.at_ddp.specs.Datagram.{IsAddress}
 use Rattle.at_ddp.specs.declared.address.Address.{Address}
 use Rattle.at_adsp_frame.specs.Segments.{IsLawful}
-use Rattle.at_adsp_end.specs.declared.item.Item.{Item}
-use Rattle.at_adsp_end.specs.declared.item.Item.TheVariants.{Byte, End}
+use Rattle.at_adsp_end.specs.Items.{IsItem}
 use Rattle.at_adsp.specs.Network.{Setting, Sent, Happening, Connects, Closes, Writes, Reads, Resets, Ticks, Strange}
 
 -- the numbers of segments have four bytes, and a window has two
 pub record IsLawfulSetting (setting : Setting) : Type 0 where
   pub numbers : (p : ℕ) → setting.numbers.at p < 2 ^ 32
   pub rooms : (at : Address) → (setting.rooms at).receive < 2 ^ 16
-
-abbrev pub IsItem : Item → Type 0
-IsItem (Byte b) = b < 256
-IsItem End = Unit {0}
 
 -- what is asked, written or called by it is in range, and so is the sender of a segment from another address
 abbrev pub IsInRange : Happening → Type 0

@@ -1,8 +1,10 @@
 //! The laws of a network of ends of streams. The functions do nothing: each contract is a law.
-ghost use Rattle.std.specs.Prelude.{◌≡◌, ℕ, ◌+◌, ◌<◌, ◌^◌, List, Some, None};
+ghost use Rattle.std.specs.Prelude.{◌≡◌, ℕ, ◌+◌, ◌<◌, ◌≤◌, ◌^◌, List, length, Some, None};
 ghost use Rattle.std.specs.List.{AllByRecursion};
+ghost use Rattle.at_adsp.specs.Cables.{IsFromHere, few_segments, wire_numbered};
 ghost use Rattle.at_adsp.specs.Connections.{ChangesStreams};
 ghost use Rattle.at_adsp.specs.Lawfully.{IsInRange, IsLawfulSetting, IsLawfullySent};
+ghost use Rattle.at_adsp.specs.Nearness.{AllNear, HasWindows};
 ghost use Rattle.at_adsp.specs.Network.{Setting, Happening, AllSent, AllTimely, after};
 ghost use Rattle.at_adsp.specs.Orders.{IsNoReset, ReadsBeginnings, ReadsInOrder, whole_numbered};
 ghost use Rattle.at_adsp.specs.Pairs.{GivesPairs};
@@ -50,6 +52,39 @@ pub fn what_is_read_was_written_in_order()
 pub fn what_is_read_begins_what_was_written()
     ensures { (setting : Setting) (history : List Happening) → AllTimely (whole_numbered setting) history
         → AllByRecursion IsNoReset history → ReadsBeginnings (after (whole_numbered setting) history) }
+{}
+
+/// On the cable numbers come round. There, too, what is read from an end that has a peer was written at the peer, in
+/// this order, if few segments are sent. Resets may be passed as above. All this holds whatever comes from other
+/// addresses, with any numbers.
+pub fn what_is_read_on_the_cable_was_written_in_order()
+    ensures { (setting : Setting) (history : List Happening) → AllTimely (wire_numbered setting) history
+        → length (after (wire_numbered setting) history).sent ≤ few_segments
+        → ReadsInOrder (after (wire_numbered setting) history) }
+{}
+
+/// Where no stream is reset and few segments are sent, what is read from an end that has a peer begins what was written
+/// at the peer.
+pub fn what_is_read_on_the_cable_begins_what_was_written()
+    ensures { (setting : Setting) (history : List Happening) → AllTimely (wire_numbered setting) history
+        → length (after (wire_numbered setting) history).sent ≤ few_segments → AllByRecursion IsNoReset history
+        → ReadsBeginnings (after (wire_numbered setting) history) }
+{}
+
+/// Streams may be of any length on the cable. What is read from an end that has a peer was written at the peer, in this
+/// order. But each segment comes before its sender has passed it by 2^31 items. And nothing comes from other addresses,
+/// where numbers need not be those of any stream. Resets may be passed as above.
+pub fn what_is_read_of_long_streams_was_written_in_order()
+    ensures { (setting : Setting) (history : List Happening) → HasWindows setting
+        → AllTimely (wire_numbered setting) history → AllByRecursion IsFromHere history → AllNear setting history
+        → ReadsInOrder (after (wire_numbered setting) history) }
+{}
+
+/// Where no stream is reset, what is read of long streams, too, begins what was written.
+pub fn what_is_read_of_long_streams_begins_what_was_written()
+    ensures { (setting : Setting) (history : List Happening) → HasWindows setting
+        → AllTimely (wire_numbered setting) history → AllByRecursion IsFromHere history → AllNear setting history
+        → AllByRecursion IsNoReset history → ReadsBeginnings (after (wire_numbered setting) history) }
 {}
 
 /// Once it is known how far the numbers of a segment lie from those of an end, hearing it is the same with the numbers

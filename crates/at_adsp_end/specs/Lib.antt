@@ -3,6 +3,7 @@ pub mod Cuts
 pub mod Ends
 pub mod Fault
 pub mod Hearing
+pub mod Items
 pub mod Moves
 pub mod Outgoings
 pub mod Positions
