@@ -138,6 +138,13 @@ impl<A: Allocator> End<A> {
         Ok(count)
     }
 
+    /// How many items can be read.
+    pub fn unread(&self) -> usize
+        ensures { result ≡ length self.now.receiver.unread }
+    {
+        self.unread.len()
+    }
+
     // Whether the end can take nothing, and can once so many items are read.
     fn reading_opens(&self, count: usize) -> bool
         ensures { result ≡ read_opens self.now count }

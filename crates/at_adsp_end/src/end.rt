@@ -98,6 +98,13 @@ impl<A: Allocator> End<A> {
         self.id
     }
 
+    /// The end that it is connected to, or is about to be.
+    pub fn remote(&self) -> Option<Remote>
+        ensures { result ≡ self.now.remote }
+    {
+        self.remote
+    }
+
     /// Whether it is connected to this end, or is about to be.
     pub fn has_remote(&self, remote: Remote) -> bool
         ensures { result ≡ has_remote remote self.now }

@@ -1,7 +1,7 @@
 use at_ddp::Address;
 
 /// The end at the other side of a connection.
-#[derive(Clone, Copy, Debug, PartialEq, Eq)]
+#[derive(Clone, Copy, PartialEq, Eq)]
 pub struct Remote {
     /// The socket where it stands.
     pub address: Address,

@@ -1,5 +1,5 @@
 /// Which timer of an end fired.
-#[derive(Clone, Copy, Debug, PartialEq, Eq)]
+#[derive(Clone, Copy, PartialEq, Eq)]
 pub enum Tick {
     /// What was sent last was not answered in time.
     Retransmit,

@@ -54,6 +54,11 @@ read_at N t count (Some e) =
     then Ok (moved t (take count e.receiver.unread) (reading N e count).after (reading N e count).sent)
     else Err NotOpen
 
+-- how many items can be read of an end that is open or was
+abbrev pub unread_at : Option EndState → Result ℕ StreamFault
+unread_at None = Err NoSuchEnd
+unread_at (Some e) = if has_opened e.phase then Ok (length e.receiver.unread) else Err NotOpen
+
 -- the stream of an open end is reset
 abbrev pub reset_at : Numbers → EndTable → Option EndState → Result (Done (Unit {0})) StreamFault
 reset_at N t None = Err NoSuchEnd

@@ -10,6 +10,7 @@ use Rattle.at_adsp_end.specs.Ends.{EndState, is_open}
 use Rattle.at_adsp_end.specs.Hearing.{Outcome, told, heard}
 use Rattle.at_adsp_end.specs.declared.remote.Remote.{Remote}
 use Rattle.at_adsp_end.specs.declared.step.Step.{Step}
+use Rattle.at_adsp_end.specs.declared.step.Step.TheVariants.{Made}
 use Rattle.at_adsp_ends.specs.Tables.{EndTable, Done, by_id, by_remote, moved}
 use Rattle.at_adsp_ends.specs.Openings.{ignored, sender_of, request_came, answer_came, ack_came, denial_came}
 
@@ -42,3 +43,8 @@ part_came N t r s other = segment_came N t s (by_remote t r)
 -- a segment came from this address
 abbrev pub received : Numbers → EndTable → Address → Content → Done Step
 received N t from s = part_came N t (sender_of from s) s s.body
+
+-- the identifier of the end that a segment made, if it made one
+abbrev pub made_id : Step → Option ℕ
+made_id (Made id) = Some id
+made_id other = None

@@ -1,6 +1,6 @@
 -- The ends of a node's streams (Inside AppleTalk, ADSP, "Connection identifiers").
-use Rattle.std.specs.Prelude.{ℕ, zero, suc, ◌+◌, ◌%◌, ◌≤◌, ◌<◌, ◌==◌, nat_lt, if◌then◌else◌, Bool, false, List}
-use Rattle.std.specs.Prelude.{[], ◌∷◌, ◌++◌, length, find, Option, Some, None}
+use Rattle.std.specs.Prelude.{ℕ, zero, suc, ◌+◌, ◌%◌, ◌≤◌, ◌<◌, ◌==◌, ◌&&◌, nat_lt, if◌then◌else◌, Bool, false}
+use Rattle.std.specs.Prelude.{List, [], ◌∷◌, ◌++◌, length, find, Option, Some, None}
 use Rattle.std.specs.List.{AllByRecursion, IsDistinct, list_any}
 use Rattle.at_ddp.specs.Tables.{replaced, without_first}
 use Rattle.at_ddp.specs.declared.address.Address.{Address}
@@ -30,6 +30,14 @@ by_id t id = find (has_id id) t.ends
 -- the end that is connected to this one, or is about to be
 abbrev pub by_remote : EndTable → Remote → Option EndState
 by_remote t r = find (has_remote r) t.ends
+
+-- the remote has this identifier at a node with this number
+abbrev pub is_at : ℕ → ℕ → Option Remote → Bool
+is_at node id None = false
+is_at node id (Some r) = (r.address.node == node) && (r.id == id)
+
+abbrev pub has_remote_at : ℕ → ℕ → EndState → Bool
+has_remote_at node id e = is_at node id e.remote
 
 -- ---- identifiers
 

@@ -5,11 +5,11 @@ ghost use Rattle.std.specs.Option.{option_copied};
 ghost use Rattle.at_ddp.specs.Outbox.{Sends};
 ghost use Rattle.at_adsp_end.specs.Ends.{EndState, has_remote};
 ghost use Rattle.at_adsp_end.specs.Positions.{wire};
-ghost use Rattle.at_adsp_ends.specs.Calls.{connected, listened};
-ghost use Rattle.at_adsp_ends.specs.Tables.{AreRooms, by_remote, has_id, next_id, no_ends};
+ghost use Rattle.at_adsp_ends.specs.Calls.{connected, listened, unread_at};
+ghost use Rattle.at_adsp_ends.specs.Tables.{AreRooms, by_id, by_remote, has_id, has_remote_at, next_id, no_ends};
 
 use crate::identifiers::{FIRST, free_id};
-use at_adsp_end::{End, Remote, Rooms};
+use at_adsp_end::{End, Remote, Rooms, StreamFault};
 use at_ddp::Address;
 use std::alloc::{Allocator, Global};
 use std::marker::Model;
@@ -79,6 +79,41 @@ impl<A: Allocator + Copy> Ends<A> {
     {
         end_of(&self.ends, Remote { address, id }).is_some()
     }
+
+    /// Whether an end is connected to one with this identifier at a node with this number, whatever its network and its
+    /// socket, or is about to be.
+    pub fn holds_number(&self, node: u8, id: u16) -> bool
+        ensures { result ≡ list_any (has_remote_at node id) self.now.ends }
+    {
+        self.ends.iter().any(|end| has_remote_at(end, node, id))
+    }
+
+    /// How many items can be read of an end that is open or was.
+    pub fn unread(&self, id: u16) -> Result<usize, StreamFault>
+        ensures { result ≡ unread_at (by_id self.now id) }
+    {
+        match end_named(&self.ends, id) {
+            None => Err(StreamFault::NoSuchEnd),
+            Some(end) if end.has_opened() => Ok(end.unread()),
+            Some(_) => Err(StreamFault::NotOpen),
+        }
+    }
+}
+
+// Whether the remote of an end has this identifier at a node with this number.
+fn has_remote_at<A: Allocator + Copy>(end: &End<A>, node: u8, id: u16) -> bool
+    ensures { result ≡ has_remote_at node id end.now }
+{
+    match end.remote() {
+        None => false,
+        Some(remote) => remote.address.node == node && remote.id == id,
+    }
+}
+
+fn end_named<A: Allocator>(ends: &[End<A>], id: u16) -> Option<&End<A>>
+    ensures { option_copied result ≡ find (has_id id) ends.now }
+{
+    ends.iter().find(|end| end.id() == id)
 }
 
 pub(crate) fn end_of<A: Allocator>(ends: &[End<A>], remote: Remote) -> Option<&End<A>>

@@ -7,7 +7,7 @@ ghost use Rattle.at_adsp_end.specs.Ends.{denying, is_opening};
 ghost use Rattle.at_adsp_end.specs.Positions.{wire};
 ghost use Rattle.at_adsp_ends.specs.Moves.{IsTaken};
 ghost use Rattle.at_adsp_ends.specs.Openings.{ack_came, answer_came, denial_came, room_for};
-ghost use Rattle.at_adsp_ends.specs.Receiving.{any_request_came};
+ghost use Rattle.at_adsp_ends.specs.Receiving.{any_request_came, made_id};
 ghost use Rattle.at_adsp_ends.specs.Tables.{by_id, by_remote, next_id};
 
 use crate::ends::{Ends, end_of, index_of};
@@ -39,6 +39,17 @@ impl<A: Allocator + Copy> Ends<A> {
                 Ok(Step::Again)
             }
             Some(_) => Ok(Step::Ignored),
+        }
+    }
+
+    // The identifier of the end that a request of this end will make.
+    pub(crate) fn made_by_request(&self, remote: Remote) -> Option<u16>
+        ensures { result ≡ made_id (any_request_came wire self.now remote (remote.id == 0)).answer }
+    {
+        if remote.id == 0 || self.has_remote(remote.address, remote.id) {
+            None
+        } else {
+            self.listening_id()
         }
     }
 

@@ -2,7 +2,7 @@ ghost use Rattle.std.specs.Prelude.{◌≡◌, IsOk};
 ghost use Rattle.at_adsp_frame.specs.Segments.{content};
 ghost use Rattle.at_adsp_end.specs.Positions.{wire};
 ghost use Rattle.at_adsp_ends.specs.Moves.{IsTaken};
-ghost use Rattle.at_adsp_ends.specs.Receiving.{received, segment_came};
+ghost use Rattle.at_adsp_ends.specs.Receiving.{made_id, received, segment_came};
 ghost use Rattle.at_adsp_ends.specs.Tables.{by_remote};
 
 use crate::ends::{Ends, index_of_remote};
@@ -36,6 +36,23 @@ impl<A: Allocator + Copy> Ends<A> {
             OpenKind::Acknowledgement => self.take_ack(remote, dest, segment, out),
             OpenKind::RequestAndAcknowledgement => self.take_answer(remote, dest, segment, out),
             OpenKind::Denial => Ok(self.take_denial(from, dest)),
+        }
+    }
+
+    /// The identifier of the end that a segment from this address will make, if memory does not run out.
+    pub fn made_by(&self, from: Address, segment: &Segment<'_>) -> Option<u16>
+        ensures { result ≡ made_id (received wire self.now from (content segment.now)).answer }
+    {
+        let remote = Remote {
+            address: from,
+            id: segment.source,
+        };
+        match segment.body {
+            Body::Open {
+                kind: OpenKind::Request,
+                ..
+            } => self.made_by_request(remote),
+            _ => None,
         }
     }
 
