@@ -4,9 +4,11 @@ use Rattle.std.specs.List.{AllByRecursion}
 use Rattle.at_ddp.specs.Datagram.{AreBytes}
 use Rattle.at_atp_frame.specs.Packets.{AreWords}
 use Rattle.at_nbp.specs.Tuples.{IsString}
+use Rattle.at_adsp_end.specs.Items.{IsItem}
 use Rattle.at_event.specs.declared.event.Call.{Call}
 use Rattle.at_event.specs.declared.event.Call.TheVariants.{SetZones, Ask, Answer}
 use Rattle.at_event.specs.declared.event.Call.TheVariants.{Find, Claim, Finish, Register, Unregister}
+use Rattle.at_event.specs.declared.event.Call.TheVariants.{Connect, Write, Read, Reset, Close}
 
 -- the zone of a pattern, if it has one
 abbrev pub IsZone : Option (List ℕ) → Type 0
@@ -25,4 +27,9 @@ IsCall (Claim object kind socket) = IsString object × IsString kind × (socket 
 IsCall (Finish id) = id < 256
 IsCall (Register object kind socket) = IsString object × IsString kind × (socket < 256)
 IsCall (Unregister object kind) = IsString object × IsString kind
+IsCall (Connect node socket) = (node < 256) × (socket < 256)
+IsCall (Write id items) = (id < 65536) × AllByRecursion IsItem items
+IsCall (Read id count) = (id < 65536) × (count < 65536)
+IsCall (Reset id) = id < 65536
+IsCall (Close id) = id < 65536
 IsCall call = Unit {0}

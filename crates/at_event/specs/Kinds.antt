@@ -2,6 +2,7 @@
 use Rattle.at_event.specs.declared.event.Call.{Call}
 use Rattle.at_event.specs.declared.event.Call.TheVariants.{Zones, SetZones, Ask, Answer}
 use Rattle.at_event.specs.declared.event.Call.TheVariants.{Find, Claim, Finish, Register, Unregister}
+use Rattle.at_event.specs.declared.event.Call.TheVariants.{Listen, Connect, Write, Read, Reset, Close}
 use Rattle.at_event.specs.declared.event.Report.{Report}
 use Rattle.at_event.specs.declared.event.Report.TheVariants as report
 use Rattle.at_event.specs.declared.event.Timer.{Timer}
@@ -12,6 +13,7 @@ pub data Kind : Type 0 where
   Nobody : Kind
   Atp : Kind
   Nbp : Kind
+  Adsp : Kind
 
 abbrev pub kind_of_call : {A : Type 0} → Call A → Kind
 kind_of_call Zones = Atp
@@ -23,11 +25,19 @@ kind_of_call (Claim object kind socket) = Nbp
 kind_of_call (Finish id) = Nbp
 kind_of_call (Register object kind socket) = Nbp
 kind_of_call (Unregister object kind) = Nbp
+kind_of_call (Listen on) = Adsp
+kind_of_call (Connect node socket) = Adsp
+kind_of_call (Write id items) = Adsp
+kind_of_call (Read id count) = Adsp
+kind_of_call (Reset id) = Adsp
+kind_of_call (Close id) = Adsp
 
 abbrev pub kind_of_timer : Timer → Kind
 kind_of_timer (timer.Retry tid) = Atp
 kind_of_timer (timer.Release own node socket tid) = Atp
 kind_of_timer (timer.Lookup id) = Nbp
+kind_of_timer (timer.Resend id) = Adsp
+kind_of_timer (timer.Probe id) = Adsp
 
 -- which part alone reports this; nobody, if several do, or none
 abbrev pub reporter_of : {A : Type 0} → Report A → Kind
@@ -51,4 +61,17 @@ reporter_of report.Registered = Nbp
 reporter_of report.Relayed = Nbp
 reporter_of (report.Names count) = Nbp
 reporter_of (report.Finds count) = Nbp
+reporter_of (report.Opening id) = Adsp
+reporter_of (report.Made id) = Adsp
+reporter_of (report.Opened id) = Adsp
+reporter_of report.Turned = Adsp
+reporter_of (report.Denied id) = Adsp
+reporter_of (report.Wrote count) = Adsp
+reporter_of (report.Read items) = Adsp
+reporter_of report.StreamReset = Adsp
+reporter_of (report.Heard id items) = Adsp
+reporter_of (report.Dropped id) = Adsp
+reporter_of (report.Closed id) = Adsp
+reporter_of (report.Freed id) = Adsp
+reporter_of report.Idle = Adsp
 reporter_of other = Nobody

@@ -1,9 +1,10 @@
-ghost use Rattle.std.specs.Prelude.{◌<◌};
-ghost use Rattle.std.specs.List.{AllByRecursion};
-ghost use Rattle.at_nbp.specs.Tuples.{IsString};
-ghost use Rattle.at_event.specs.Calls.{IsCall, IsZone};
+ghost use Rattle.at_event.specs.Calls.{IsCall};
 
 use crate::packet_count::PacketCount;
+use crate::ranges::{
+    ranges_of_name, ranges_of_own, ranges_of_texts, ranges_of_written, ranges_of_zone,
+};
+use at_adsp_end::Item;
 use at_atp_frame::{Packet, ranges_of, ranges_of_bytes};
 use at_atp_responder::Key;
 use at_ddp::{Bytes, Listed, Pascal};
@@ -69,6 +70,34 @@ pub enum Call<A: Allocator = Global> {
         object: Pascal,
         kind: Pascal,
     },
+    /// Sets whether requests for connections are answered.
+    Listen {
+        on: bool,
+    },
+    /// Asks a socket of the cable for a connection.
+    Connect {
+        node: u8,
+        socket: u8,
+    },
+    /// Writes items to the end of a stream.
+    Write {
+        /// The identifier of the end.
+        id: u16,
+        items: Listed<Item, A>,
+    },
+    /// Reads items from the end of a stream, at most so many.
+    Read {
+        id: u16,
+        count: u16,
+    },
+    /// Drops all that the end of a stream has queued for sending, and tells the other end to pass over it.
+    Reset {
+        id: u16,
+    },
+    /// Closes the end of a stream, or frees one that is closed already or never opened.
+    Close {
+        id: u16,
+    },
 }
 
 impl<A: Allocator> Call<A> {
@@ -118,50 +147,20 @@ impl<A: Allocator> Call<A> {
                 let _id = *id;
             }
             Call::SetZones { names } => ranges_of_texts(names.as_slice()),
+            Call::Connect { node, socket } => {
+                let _who = (*node, *socket);
+            }
+            Call::Write { id, items } => ranges_of_written(*id, items.as_slice()),
+            Call::Read { id, count } => {
+                let _what = (*id, *count);
+            }
+            Call::Reset { id } | Call::Close { id } => {
+                let _id = *id;
+            }
+            Call::Listen { on: _ } => {}
             Call::Zones => {}
         }
     }
-}
-
-// A name of a socket.
-fn ranges_of_own(object: &Pascal, kind: &Pascal, socket: u8)
-    ensures object { IsString object.now }
-    ensures kind { IsString kind.now }
-    ensures socket { socket < 256 }
-{
-    let _socket = socket;
-    ranges_of_name(object, kind);
-}
-
-fn ranges_of_name(object: &Pascal, kind: &Pascal)
-    ensures object { IsString object.now }
-    ensures kind { IsString kind.now }
-{
-    ranges_of_text(object);
-    ranges_of_text(kind);
-}
-
-fn ranges_of_zone(zone: &Option<Pascal>)
-    ensures { IsZone zone.now }
-{
-    if let Some(zone) = zone {
-        ranges_of_text(zone);
-    }
-}
-
-fn ranges_of_texts(texts: &[Pascal])
-    ensures { AllByRecursion IsString texts.now }
-{
-    if let [text, rest @ ..] = texts {
-        ranges_of_text(text);
-        ranges_of_texts(rest);
-    }
-}
-
-fn ranges_of_text(text: &Pascal)
-    ensures { IsString text.now }
-{
-    ranges_of_bytes(text.bytes());
 }
 
 /// A timer that fires.
@@ -182,6 +181,15 @@ pub enum Timer {
     /// A lookup is to be asked again.
     Lookup {
         id: u8,
+    },
+    /// What the end of a stream sent last was not answered in time.
+    Resend {
+        /// The identifier of the end.
+        id: u16,
+    },
+    /// The end of a stream heard nothing for a while.
+    Probe {
+        id: u16,
     },
 }
 
@@ -235,6 +243,35 @@ pub enum Report<A: Allocator = Global> {
     Names(usize),
     /// So many finds of a reply are new.
     Finds(usize),
+    /// An end of a stream asks for its connection, under this identifier.
+    Opening(u16),
+    /// A request for a connection made this end of a stream.
+    Made(u16),
+    /// This end of a stream is open.
+    Opened(u16),
+    /// A request for a connection was denied.
+    Turned,
+    /// The request of this end was denied, and the end is freed.
+    Denied(u16),
+    /// So many items were written.
+    Wrote(usize),
+    /// These items were read.
+    Read(Listed<Item, A>),
+    /// A stream was reset.
+    StreamReset,
+    /// An end of a stream heard a segment, and took so many items of it.
+    Heard {
+        id: u16,
+        items: u16,
+    },
+    /// This end took a reset of the other end: what it had not read is dropped.
+    Dropped(u16),
+    /// This end of a stream is closed. What it received stays readable.
+    Closed(u16),
+    /// This end of a stream is freed.
+    Freed(u16),
+    /// An end of a stream had nothing to send again.
+    Idle,
     /// Something was sent again, or a request that still waits came again.
     Again,
     /// The answer to an exactly-once request arrived complete, and is no longer kept.

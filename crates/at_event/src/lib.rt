@@ -4,6 +4,7 @@
 mod event;
 mod fault;
 mod packet_count;
+mod ranges;
 mod seat;
 mod service;
 

@@ -28,6 +28,14 @@ impl<T: Drop> From<AllocFailed<T>> for LineFault {
     }
 }
 
+impl From<AllocError> for LineFault {
+    ghost from_gives = { λ _ e. e ≡ of_line.NoMemory };
+
+    fn from(_error: AllocError) -> LineFault {
+        LineFault::NoMemory
+    }
+}
+
 /// Why a schedule can't be read.
 #[derive(Clone, Copy, Debug, PartialEq, Eq, Error)]
 pub enum Unreadable {

@@ -27,8 +27,8 @@ pub enum Rule {
     #[error("`zones` wants names of 1 to 32 bytes, as in \"zones Lab Office\"")]
     Zones,
     /// `call N CALL ..`
-    #[error("`call` wants a node and `zones`, `setzones`, `ask`, `answer`, `find`, `claim`, `finish`, `register` or \
-        `unregister`, as in \"call 5 zones\"")]
+    #[error("`call` wants a node and `zones`, `setzones`, `ask`, `answer`, `find`, `claim`, `finish`, `register`, \
+        `unregister`, `listen`, `connect`, `write`, `read`, `reset` or `close`, as in \"call 5 zones\"")]
     Call,
     /// `call N zones`
     #[error("`zones` wants nothing after it in a call, as in \"call 5 zones\"")]
@@ -63,6 +63,25 @@ pub enum Rule {
     #[error("`unregister` wants an object and a type of at most 32 bytes each, \
         as in \"call 7 unregister Printer LaserWriter\"")]
     Unregister,
+    /// `call N listen on|off`
+    #[error("`listen` wants `on` or `off`, as in \"call 7 listen on\"")]
+    Listen,
+    /// `call N connect NODE SOCKET`
+    #[error("`connect` wants a node and a socket, 1 to 254 each, as in \"call 5 connect 7 130\"")]
+    Connect,
+    /// `call N write ID ITEM ..`
+    #[error("`write` wants an end's identifier, 0 to 65535, and items, each pairs of hexadecimal digits, `-` for no \
+        bytes, or `end`, as in \"call 5 write 1 6162 end\"")]
+    Write,
+    /// `call N read ID COUNT`
+    #[error("`read` wants an end's identifier and how many items, 0 to 65535 each, as in \"call 7 read 1 10\"")]
+    Read,
+    /// `call N reset ID`
+    #[error("`reset` wants an end's identifier, 0 to 65535, as in \"call 5 reset 1\"")]
+    Reset,
+    /// `call N close ID`
+    #[error("`close` wants an end's identifier, 0 to 65535, as in \"call 5 close 1\"")]
+    Close,
     /// Pairs of hexadecimal digits, or `-`.
     #[error("data is pairs of hexadecimal digits, or `-` for no bytes")]
     Data,
@@ -70,7 +89,7 @@ pub enum Rule {
     #[error("`deliver` wants a datagram's number and a node, as in \"deliver 0 1\"")]
     Deliver,
     /// `timer N TIMER ..`
-    #[error("`timer` wants a node and `retry`, `release` or `lookup`, as in \"timer 5 retry 0\"")]
+    #[error("`timer` wants a node and `retry`, `release`, `lookup`, `resend` or `probe`, as in \"timer 5 retry 0\"")]
     Timer,
     /// `timer N retry T`
     #[error("`retry` wants a transaction's number, 0 to 65535, as in \"timer 5 retry 0\"")]
@@ -82,6 +101,12 @@ pub enum Rule {
     /// `timer N lookup ID`
     #[error("`lookup` wants a lookup's identifier, 0 to 255, as in \"timer 5 lookup 0\"")]
     Lookup,
+    /// `timer N resend ID`
+    #[error("`resend` wants an end's identifier, 0 to 65535, as in \"timer 5 resend 1\"")]
+    Resend,
+    /// `timer N probe ID`
+    #[error("`probe` wants an end's identifier, 0 to 65535, as in \"timer 5 probe 1\"")]
+    Probe,
     /// `net` comes before all other lines.
     #[error("`net` comes first, as in \"net 10\"")]
     NetFirst,

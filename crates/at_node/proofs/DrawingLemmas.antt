@@ -1,6 +1,6 @@
 -- The numbers that packets carry.
-use Rattle.std.proofs.Common.{◌≡◌, ◌⊎◌, ℕ, zero, suc, Bool, true, false, cond, List, [], ◌∷◌, Option, Some, None, inl, inr, refl, sym, ap, subst, ◌∙◌, arith}
-use Rattle.std.specs.Prelude.{IfSome, MatchBool, ◌==◌, ◌||◌, option_map}
+use Rattle.std.proofs.Common.{lit<, ◌≡◌, ◌⊎◌, ℕ, zero, suc, Bool, true, false, cond, List, [], ◌∷◌, Option, Some, None, inl, inr, refl, sym, ap, subst, ◌∙◌, arith}
+use Rattle.std.specs.Prelude.{IfSome, MatchBool, ◌==◌, ◌||◌, ◌↔◌, option_map}
 use Rattle.std.specs.List.{Contains}
 use Rattle.at_ddp.specs.Datagram.{Content as Datagram}
 use Rattle.at_ddp.specs.declared.address.Address.{Address}
@@ -20,11 +20,21 @@ use Rattle.at_event.specs.declared.service.Reply.{Reply}
 use Rattle.at_event.specs.declared.service.Reply.TheVariants.{Later}
 use Rattle.at_node.specs.AtpHearing.{HearsAt, HearsAtp, Requester, Service, Zones}
 use Rattle.at_node.specs.AtpParts.{AtpState, atp_kind, tid_of}
-use Rattle.at_node.specs.Drawing.{DrawsHearing, drawn_by}
+use Rattle.at_node.specs.Drawing.{CarriesConn, CarriesOne, DrawsHearing, drawn_by, end_drawn}
+use Rattle.at_node.specs.declared.drawing.Draw.TheVariants.{Conn}
 use Rattle.at_node.specs.Hearing.{Hears, HearsDatagram, HearsIt, HearsMine}
 use Rattle.at_event.specs.Seats.{nbp_kind}
 use Rattle.at_node.specs.NameHearing.{HearsName, HearsNames, HearsNbpFault, told_by}
-use Rattle.at_node.specs.Nodes.{NodeState, with_atp, with_names}
+use Rattle.at_node.specs.Nodes.{NodeState, with_atp, with_names, with_streams}
+use Rattle.at_adsp_end.specs.Positions.{wire}
+use Rattle.at_adsp_end.specs.declared.step.Step.{Step}
+use Rattle.at_adsp_end.specs.declared.step.Step.TheVariants as step
+use Rattle.at_adsp_ends.specs.Receiving.{made_id, received}
+use Rattle.at_adsp_ends.specs.Tables.{EndTable}
+use Rattle.at_stream_socket.specs.Carrying as streams
+use Rattle.at_stream_socket.specs.Hearing.{HearsAdspFault, HearsSegment, HearsStreams, Makes, segment_heard}
+use Rattle.at_stream_socket.specs.Sockets.{adsp_kind}
+use Rattle.at_stream_socket.specs.Sockets.{told_by as told_as}
 use Rattle.at_event.specs.Outcomes.{Outcome, Over, idle, over}
 use Rattle.at_node.specs.RequesterSocket.{AtRequester}
 use Rattle.at_node.specs.Responders.{released_report}
@@ -36,6 +46,12 @@ pub numbers_alike : (f : Content) → tid_of f ≡ number_of f
 numbers_alike (Request mask xo timer tid user bytes) = refl
 numbers_alike (Response place eom sts tid user bytes) = refl
 numbers_alike (Release tid) = refl
+
+-- nothing stands in a list of two nothings
+pub is_nowhere : {X : Type 0} (x : X) → ¬ Contains (None ∷ None ∷ []) (Some x)
+is_nowhere x (zero, within, is) = absurd (cc)
+is_nowhere x (suc zero, within, is) = absurd (cc)
+is_nowhere x (suc (suc k), within, is) = absurd (omega arith)
 
 -- what stands in a list of two of which the second is nothing
 pub is_first : {X : Type 0} (o : Option X) (x : X) → Contains (o ∷ None ∷ []) (Some x) → o ≡ Some x
@@ -49,7 +65,60 @@ some_same x y h = cc
 pub same_pair : (a b c d : ℕ) → ◌≡◌ {A = Option (ℕ × ℕ)} (Some (a, b)) (Some (c, d)) → (a ≡ c) × (b ≡ d)
 same_pair a b c d h = let same = some_same (a, b) (c, d) h in (ap (λ (p : ℕ × ℕ). p.0) same, ap (λ (p : ℕ × ℕ). p.1) same)
 
+-- ---- the identifiers of ends
+
+draw_same : (x y : Draw) → Some x ≡ Some y → x ≡ y
+draw_same x y h = cc
+
+pub nat_same : (x y : ℕ) → Some x ≡ Some y → x ≡ y
+nat_same x y h = cc
+
+pair_same : (x y : ℕ × Draw) → Some x ≡ Some y → x ≡ y
+pair_same x y h = cc
+
+end_is : (o : Option (ℕ × ℕ)) (node : ℕ) (draw : Draw) → end_drawn o ≡ Some (node, draw) → (id : ℕ) × (o ≡ Some (node, id)) × (draw ≡ Conn id)
+end_is None node draw h = absurd (cc)
+end_is (Some p) node draw h =
+    let same = pair_same (p.0, Conn p.1) (node, draw) h in
+    (p.1, ap (λ n. Some (n, p.1)) (ap (λ (x : ℕ × Draw). x.0) same), sym (ap (λ (x : ℕ × Draw). x.1) same))
+
+module _ (source dest : Option (ℕ × ℕ)) (d : Datagram) (node : ℕ) (draw : Draw) (kind : d.kind ≡ adsp_kind) (both : (node id : ℕ) → Contains (source ∷ dest ∷ []) (Some (node, id)) ↔ streams.Carries d.from d.to d.data_ node id) where
+  pub end_found : Contains (end_drawn source ∷ end_drawn dest ∷ []) (Some (node, draw)) → CarriesConn d node draw
+  end_found (zero, within, is) =
+      let e = end_is source node draw is in
+      record { is_adsp = kind; id = e.0; carries = (both node e.0).0 (0, lit< tt, e.1); is_draw = e.2 }
+  end_found (suc zero, within, is) =
+      let e = end_is dest node draw is in
+      record { is_adsp = kind; id = e.0; carries = (both node e.0).0 (1, lit< tt, e.1); is_draw = e.2 }
+  end_found (suc (suc k), within, is) = absurd (omega arith)
+
+  end_at : (id : ℕ) → draw ≡ Conn id → Contains (source ∷ dest ∷ []) (Some (node, id)) → Contains (end_drawn source ∷ end_drawn dest ∷ []) (Some (node, draw))
+  end_at id is (zero, within, at) = (0, lit< tt, ap end_drawn at ∙ ap (λ x. Some (node, x)) (sym is))
+  end_at id is (suc zero, within, at) = (1, lit< tt, ap end_drawn at ∙ ap (λ x. Some (node, x)) (sym is))
+  end_at id is (suc (suc k), within, at) = absurd (omega arith)
+
+  pub end_stands : CarriesConn d node draw → Contains (end_drawn source ∷ end_drawn dest ∷ []) (Some (node, draw))
+  end_stands c = end_at c.id c.is_draw ((both node c.id).1 c.carries)
+
+-- by its protocol, which number a datagram carries
+pub conn_of : (d : Datagram) (node : ℕ) (draw : Draw) → d.kind ≡ adsp_kind → CarriesOne d node draw ⊎ CarriesConn d node draw → CarriesConn d node draw
+conn_of d node draw its (inl (inl tid)) = let both : adsp_kind ≡ atp_kind = sym its ∙ tid.is_atp in absurd (cc)
+conn_of d node draw its (inl (inr id)) = let both : adsp_kind ≡ nbp_kind = sym its ∙ id.is_nbp in absurd (cc)
+conn_of d node draw its (inr c) = c
+
+pub one_of : (d : Datagram) (node : ℕ) (draw : Draw) → ((d.kind ≡ adsp_kind) → ⊥) → CarriesOne d node draw ⊎ CarriesConn d node draw → CarriesOne d node draw
+one_of d node draw other (inl one) = one
+one_of d node draw other (inr c) = absurd (other c.is_adsp)
+
 -- ---- which datagrams draw a number
+
+-- a datagram for the socket for streams, whose segment makes an end
+pub record BySegment (n : NodeState) (d : Datagram) (draw : Draw) : Type 0 where
+  pub mine : (is_for_all n.seat d.kind d.to || is_mine n.seat d.to) ≡ true
+  pub kind : (d.kind == adsp_kind) ≡ true
+  pub id : ℕ
+  pub makes : Makes n.streams d id
+  pub is : draw ≡ Conn id
 
 -- a datagram for the socket that asks, whose packet does this there
 pub record ByPacket {A : Type 0} (n : NodeState) (d : Datagram) (o : Outcome A NodeState) : Type 0 where
@@ -65,7 +134,37 @@ pub record ByPacket {A : Type 0} (n : NodeState) (d : Datagram) (o : Outcome A N
 pub comes_by : {A : Type 0} (said : Reply A) (n : NodeState) (d : Datagram) (o : Outcome A NodeState) → ByPacket n d o → HearsIt said n d o
 comes_by said n d o b = rw (b.mine, b.kind) (b.part, rw b.socket (inl (record { packet = b.packet; spelled = b.spelled; outcome = b.at })), b.is)
 
+-- a number is drawn by a packet or by a segment
+abbrev pub Drawing : {A : Type 0} → NodeState → Datagram → Outcome A NodeState → Draw → Type 0
+Drawing n d o draw = ByPacket n d o ⊎ BySegment n d draw
+
 module _ (A : Type 0) where
+  told_draws : (s : Step) (draw : Draw) → drawn_by {A = A} (told_as s) ≡ Some draw → (id : ℕ) × (made_id s ≡ Some id) × (draw ≡ Conn id)
+  told_draws step.Ignored draw h = absurd (cc)
+  told_draws (step.Made id) draw h = (id, refl, sym (draw_same (Conn id) draw h))
+  told_draws (step.Opened id) draw h = absurd (cc)
+  told_draws step.Turned draw h = absurd (cc)
+  told_draws (step.Denied id) draw h = absurd (cc)
+  told_draws step.Again draw h = absurd (cc)
+  told_draws step.Idle draw h = absurd (cc)
+  told_draws (step.Heard id items) draw h = absurd (cc)
+  told_draws (step.Dropped id) draw h = absurd (cc)
+  told_draws (step.Closed id) draw h = absurd (cc)
+  told_draws (step.Freed id) draw h = absurd (cc)
+
+  pub made_draws : (s : Step) (id : ℕ) → made_id s ≡ Some id → drawn_by {A = A} (told_as s) ≡ Some (Conn id)
+  made_draws (step.Made k) id h = ap (λ x. Some (Conn x)) (nat_same k id h)
+  made_draws step.Ignored id h = absurd (cc)
+  made_draws (step.Opened k) id h = absurd (cc)
+  made_draws step.Turned id h = absurd (cc)
+  made_draws (step.Denied k) id h = absurd (cc)
+  made_draws step.Again id h = absurd (cc)
+  made_draws step.Idle id h = absurd (cc)
+  made_draws (step.Heard k items) id h = absurd (cc)
+  made_draws (step.Dropped k) id h = absurd (cc)
+  made_draws (step.Closed k) id h = absurd (cc)
+  made_draws (step.Freed k) id h = absurd (cc)
+
   released_none : (r : Reception) → drawn_by {A = A} (released_report r) ≡ None
   released_none reception.Ignored = refl
   released_none (reception.Again count) = refl
@@ -119,50 +218,79 @@ module _ (A : Type 0) where
       go true (inr h) = told_none o _ h.outcome refl
 
   module _ (said : Reply A) (n : NodeState) (d : Datagram) (o : Outcome A NodeState) (draw : Draw) (draws : drawn_by o.report ≡ Some draw) where
-    nothing : drawn_by o.report ≡ None → ByPacket n d o
+    nothing : drawn_by o.report ≡ None → Drawing n d o draw
     nothing none = let both : None ≡ Some draw = sym none ∙ draws in absurd (cc)
 
-    at_socket : (is_for_all n.seat d.kind d.to || is_mine n.seat d.to) ≡ true → (d.kind == atp_kind) ≡ true → (p : Outcome A AtpState) → o ≡ over (with_atp n) p → HearsAtp said n.seat n.atp d p → ByPacket n d o
+    at_socket : (is_for_all n.seat d.kind d.to || is_mine n.seat d.to) ≡ true → (d.kind == atp_kind) ≡ true → (p : Outcome A AtpState) → o ≡ over (with_atp n) p → HearsAtp said n.seat n.atp d p → Drawing n d o draw
     at_socket mine kind p is h = asking (d.to.socket == 128) refl h
       where
-        none_of : drawn_by p.report ≡ None → ByPacket n d o
+        none_of : drawn_by p.report ≡ None → Drawing n d o draw
         none_of none = nothing (ap (λ (y : Outcome A NodeState). drawn_by y.report) is ∙ none)
 
-        served : (t : Option (List (List ℕ))) → HearsAt said n.seat n.atp d (option_map Zones t) p → ByPacket n d o
+        served : (t : Option (List (List ℕ))) → HearsAt said n.seat n.atp d (option_map Zones t) p → Drawing n d o draw
         served None g = none_of (told_none p _ g refl)
         served (Some table) (inl g) = none_of (at_zones_none n.seat n.atp d.from table g.packet p g.outcome)
         served (Some table) (inr g) = none_of (told_none p _ g.outcome refl)
 
-        serves : (b : Bool) → HearsAt said n.seat n.atp d (cond b (option_map Zones n.atp.table) None) p → ByPacket n d o
+        serves : (b : Bool) → HearsAt said n.seat n.atp d (cond b (option_map Zones n.atp.table) None) p → Drawing n d o draw
         serves true g = served n.atp.table g
         serves false g = none_of (told_none p _ g refl)
 
-        answering : (b : Bool) → HearsAt said n.seat n.atp d (cond b (Some Service) (cond (d.to.socket == 6) (option_map Zones n.atp.table) None)) p → ByPacket n d o
+        answering : (b : Bool) → HearsAt said n.seat n.atp d (cond b (Some Service) (cond (d.to.socket == 6) (option_map Zones n.atp.table) None)) p → Drawing n d o draw
         answering true (inl g) = none_of (at_service_none said n.seat n.atp d.from g.packet p g.outcome)
         answering true (inr g) = none_of (told_none p _ g.outcome refl)
         answering false g = serves (d.to.socket == 6) g
 
-        asking : (b : Bool) → (d.to.socket == 128) ≡ b → HearsAt said n.seat n.atp d (cond b (Some Requester) (cond (d.to.socket == 129) (Some Service) (cond (d.to.socket == 6) (option_map Zones n.atp.table) None))) p → ByPacket n d o
-        asking true e (inl g) = record { mine = mine; kind = kind; socket = e; packet = g.packet; spelled = g.spelled; part = p; at = g.outcome; is = is }
+        asking : (b : Bool) → (d.to.socket == 128) ≡ b → HearsAt said n.seat n.atp d (cond b (Some Requester) (cond (d.to.socket == 129) (Some Service) (cond (d.to.socket == 6) (option_map Zones n.atp.table) None))) p → Drawing n d o draw
+        asking true e (inl g) = inl (record { mine = mine; kind = kind; socket = e; packet = g.packet; spelled = g.spelled; part = p; at = g.outcome; is = is })
         asking true e (inr g) = none_of (told_none p _ g.outcome refl)
         asking false e g = answering (d.to.socket == 129) g
 
-    -- only a packet for the socket that asks draws a number
-    pub by_packet : HearsIt said n d o → ByPacket n d o
+    at_streams : (is_for_all n.seat d.kind d.to || is_mine n.seat d.to) ≡ true → (d.kind == adsp_kind) ≡ true → (p : Outcome A EndTable) → o ≡ over (with_streams n) p → HearsStreams n.seat n.streams d p → Drawing n d o draw
+    at_streams mine kind p is = go (d.to.socket == 130) refl
+      where
+        same : drawn_by p.report ≡ Some draw
+        same = sym (ap (λ (y : Outcome A NodeState). drawn_by y.report) is) ∙ draws
+
+        none_of : drawn_by p.report ≡ None → Drawing n d o draw
+        none_of none = nothing (ap (λ (y : Outcome A NodeState). drawn_by y.report) is ∙ none)
+
+        go : (b : Bool) → (d.to.socket == 130) ≡ b → MatchBool b (HearsSegment n.seat n.streams d p ⊎ HearsAdspFault n.streams d.data_ p) (p ≡ idle n.streams report.Ignored) → Drawing n d o draw
+        go false e h = none_of (told_none p _ h refl)
+        go true e (inl h) =
+            let told = told_draws (received wire n.streams d.from h.segment).answer draw (sym (ap (λ (y : Outcome A EndTable). drawn_by y.report) h.outcome) ∙ same) in
+            inr (record { mine = mine; kind = kind; id = told.0; makes = record { socket = e; segment = h.segment; spelled = h.spelled; makes = told.1 }; is = told.2 })
+        go true e (inr h) = none_of (told_none p _ h.outcome refl)
+
+    -- only a packet for the socket that asks draws a number, or a segment for the socket for streams
+    pub by_packet : HearsIt said n d o → Drawing n d o draw
     by_packet = for_me (is_for_all n.seat d.kind d.to || is_mine n.seat d.to) refl
       where
-        nbp : (b : Bool) → MatchBool b (Over (with_names n) (HearsNames n.seat n.names d) o) (o ≡ idle n report.Ignored) → ByPacket n d o
-        nbp true h = nothing (ap (λ (y : Outcome A NodeState). drawn_by y.report) h.2 ∙ names_none n.seat n.names d h.0 h.1)
-        nbp false h = nothing (told_none o _ h refl)
+        adsp : (is_for_all n.seat d.kind d.to || is_mine n.seat d.to) ≡ true → (b : Bool) → (d.kind == adsp_kind) ≡ b → MatchBool b (Over (with_streams n) (HearsStreams n.seat n.streams d) o) (o ≡ idle n report.Ignored) → Drawing n d o draw
+        adsp mine true e h = at_streams mine e h.0 h.2 h.1
+        adsp mine false e h = nothing (told_none o _ h refl)
+
+        nbp : (is_for_all n.seat d.kind d.to || is_mine n.seat d.to) ≡ true → (b : Bool) → MatchBool b (Over (with_names n) (HearsNames n.seat n.names d) o) (MatchBool (d.kind == adsp_kind) (Over (with_streams n) (HearsStreams n.seat n.streams d) o) (o ≡ idle n report.Ignored)) → Drawing n d o draw
+        nbp mine true h = nothing (ap (λ (y : Outcome A NodeState). drawn_by y.report) h.2 ∙ names_none n.seat n.names d h.0 h.1)
+        nbp mine false h = adsp mine (d.kind == adsp_kind) refl h
 
         spoken : (is_for_all n.seat d.kind d.to || is_mine n.seat d.to) ≡ true → (b : Bool) → (d.kind == atp_kind) ≡ b →
-            MatchBool b (Over (with_atp n) (HearsAtp said n.seat n.atp d) o) (MatchBool (d.kind == nbp_kind) (Over (with_names n) (HearsNames n.seat n.names d) o) (o ≡ idle n report.Ignored)) → ByPacket n d o
+            MatchBool b (Over (with_atp n) (HearsAtp said n.seat n.atp d) o) (MatchBool (d.kind == nbp_kind) (Over (with_names n) (HearsNames n.seat n.names d) o) (MatchBool (d.kind == adsp_kind) (Over (with_streams n) (HearsStreams n.seat n.streams d) o) (o ≡ idle n report.Ignored))) → Drawing n d o draw
         spoken mine true e h = at_socket mine e h.0 h.2 h.1
-        spoken mine false e h = nbp (d.kind == nbp_kind) h
+        spoken mine false e h = nbp mine (d.kind == nbp_kind) h
 
-        for_me : (b : Bool) → (is_for_all n.seat d.kind d.to || is_mine n.seat d.to) ≡ b → MatchBool b (HearsMine said n d o) (o ≡ idle n report.Ignored) → ByPacket n d o
+        for_me : (b : Bool) → (is_for_all n.seat d.kind d.to || is_mine n.seat d.to) ≡ b → MatchBool b (HearsMine said n d o) (o ≡ idle n report.Ignored) → Drawing n d o draw
         for_me true e h = spoken e (d.kind == atp_kind) refl h
         for_me false e h = nothing (told_none o _ h refl)
+
+-- by its protocol, which of both
+pub packet_of : (A : Type 0) (n : NodeState) (d : Datagram) (o : Outcome A NodeState) (draw : Draw) → Drawing n d o draw → (d.kind == adsp_kind) ≡ false → ByPacket n d o
+packet_of A n d o draw (inl b) other = b
+packet_of A n d o draw (inr b) other = let both : true ≡ false = sym b.kind ∙ other in absurd (cc)
+
+pub segment_of : (A : Type 0) (n : NodeState) (d : Datagram) (o : Outcome A NodeState) (draw : Draw) → Drawing n d o draw → d.kind ≡ adsp_kind → BySegment n d draw
+segment_of A n d o draw (inl b) its = let both : true ≡ (adsp_kind == atp_kind) = sym b.kind ∙ ap (λ k. k == atp_kind) its in absurd (cc)
+segment_of A n d o draw (inr b) its = b
 
 pub found_by_packet : (A : Type 0) (n : NodeState) (d : Datagram) (f : Content) (s : Seat) (from : Address) (r : Option Draw) → s ≡ n.seat → from ≡ d.from → (is_for_all n.seat d.kind d.to || is_mine n.seat d.to) ≡ true → (d.kind == atp_kind) ≡ true → (d.to.socket == 128) ≡ true → Spells d.data_ f →
     IfSome r (λ draw. (o : Outcome A AtpState) × AtRequester s n.atp from f o × (drawn_by o.report ≡ Some draw)) → IfSome r (λ draw. (said : Reply A) × (o : Outcome A NodeState) × HearsIt said n d o × (drawn_by o.report ≡ Some draw))
@@ -171,6 +299,23 @@ found_by_packet A n d f s from (Some draw) seat sender mine kind socket spelled 
     let o : Outcome A NodeState = over (with_atp n) h.0 in
     let at : AtRequester n.seat n.atp d.from f h.0 = subst (λ x. AtRequester n.seat n.atp x f h.0) sender (subst (λ x. AtRequester x n.atp from f h.0) seat h.1) in
     (Later, o, comes_by Later n d o (record { mine = mine; kind = kind; socket = socket; packet = f; spelled = spelled; part = h.0; at = at; is = refl }), h.2)
+
+-- a segment that makes an end is heard so
+module _ (A : Type 0) (n : NodeState) (d : Datagram) (mine : (is_for_all n.seat d.kind d.to || is_mine n.seat d.to) ≡ true) (kind : d.kind ≡ adsp_kind) where
+  pub made_hears : (id : ℕ) → Makes n.streams d id → (said : Reply A) × (o : Outcome A NodeState) × HearsIt said n d o × (drawn_by o.report ≡ Some (Conn id))
+  made_hears id m =
+      let part : Outcome A EndTable = segment_heard n.seat n.streams d.from m.segment in
+      let heard_ : HearsStreams n.seat n.streams d part = rw m.socket (inl (record { segment = m.segment; spelled = m.spelled; outcome = refl })) in
+      let atp : (d.kind == atp_kind) ≡ false = ap (λ k. k == atp_kind) kind in
+      let nbp : (d.kind == nbp_kind) ≡ false = ap (λ k. k == nbp_kind) kind in
+      let adsp : (d.kind == adsp_kind) ≡ true = ap (λ k. k == adsp_kind) kind in
+      (Later, over (with_streams n) part, rw (mine, atp, nbp, adsp) (part, heard_, refl), made_draws A (received wire n.streams d.from m.segment).answer id m.makes)
+
+  pub found_by_segment : (r : Option Draw) → IfSome r (λ draw. (id : ℕ) × Makes n.streams d id × (draw ≡ Conn id)) → IfSome r (λ draw. (said : Reply A) × (o : Outcome A NodeState) × HearsIt said n d o × (drawn_by o.report ≡ Some draw))
+  found_by_segment None h = tt
+  found_by_segment (Some draw) h =
+      let x = made_hears h.0 h.1 in
+      (x.0, x.1, x.2, x.3 ∙ ap Some (sym h.2))
 
 -- a fault draws nothing
 pub only_datagrams : (A : Type 0) (n : NodeState) (bytes : List ℕ) (draw : Draw) → DrawsHearing A n bytes draw → (said : Reply A) × (o : Outcome A NodeState) × HearsDatagram said n bytes o × (drawn_by o.report ≡ Some draw)

@@ -65,7 +65,7 @@ carries to from f laws reads to_fits from_fits ok = record {
   datagram = written to from atp_kind (spelled f);
   rest = [];
   begins = begins laws to from f to_fits from_fits ok;
-  number = inl (record { is_atp = refl; packet = f; spelled = reads f ok; is_owner = refl; is_draw = refl });
+  number = inl (inl (record { is_atp = refl; packet = f; spelled = reads f ok; is_owner = refl; is_draw = refl }));
 }
 
 -- what its part does with a datagram of ATP that was written for a packet

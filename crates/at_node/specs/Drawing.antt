@@ -5,9 +5,12 @@ use Rattle.at_ddp.specs.Datagram.{Content as Datagram, BeginsWith}
 use Rattle.at_atp_frame.specs.Frames.{Content, Spells}
 use Rattle.at_atp_frame.specs.Frames.{owner, number_of}
 use Rattle.at_atp_responder.specs.Records.{is_from}
+use Rattle.at_adsp_ends.specs.Tables.{has_remote_at}
 use Rattle.at_name_socket.specs.Carrying as names
+use Rattle.at_stream_socket.specs.Carrying as streams
+use Rattle.at_stream_socket.specs.Sockets.{adsp_kind}
 use Rattle.at_node.specs.declared.drawing.Draw.{Draw}
-use Rattle.at_node.specs.declared.drawing.Draw.TheVariants.{Tid, Lookup}
+use Rattle.at_node.specs.declared.drawing.Draw.TheVariants.{Tid, Lookup, Conn}
 use Rattle.at_node.specs.declared.drawing.Input.{Input}
 use Rattle.at_node.specs.declared.drawing.Input.TheVariants as input
 use Rattle.at_event.specs.declared.event.Call.{Call}
@@ -24,6 +27,8 @@ use Rattle.at_event.specs.Outcomes.{Outcome}
 abbrev pub drawn_by : {A : Type 0} → Report A → Option Draw
 drawn_by (report.Begun tid) = Some (Tid tid)
 drawn_by (report.Looking id) = Some (Lookup id)
+drawn_by (report.Opening id) = Some (Conn id)
+drawn_by (report.Made id) = Some (Conn id)
 drawn_by other = None
 
 -- the number that a call will draw, if memory does not run out
@@ -38,17 +43,19 @@ pub record DrawsHearing (A : Type 0) (n : NodeState) (bytes : List ℕ) (draw : 
   pub tells : drawn_by outcome.report ≡ Some draw
 
 -- The same for any input: this is the number that its outcome tells of. A page that makes the next one be asked for
--- draws a number too.
+-- draws a number too, and so does a request for a connection that makes an end.
 abbrev pub Draws : {A : Type 0} → NodeState → Input A → Draw → Type 0
 Draws n (input.Call call) draw = draw_of n call.now ≡ Some draw
 Draws {A} n (input.Timer timer) draw = drawn_by (timed {A = A} n timer).report ≡ Some draw
 Draws {A} n (input.Received bytes) draw = DrawsHearing A n bytes.now draw
 
--- does the node hold a record of a request of that node with this number? nobody holds the identifier of a lookup
+-- does the node hold a record of a request of that node with this number, or an end that is connected to one there
+-- with this identifier? nobody holds the identifier of a lookup
 abbrev pub holds : NodeState → ℕ → Draw → Bool
 holds n node (Tid tid) =
     list_any (is_from node tid) n.atp.zone_responder || list_any (is_from node tid) n.atp.service_responder
 holds n node (Lookup id) = false
+holds n node (Conn id) = list_any (has_remote_at node id) n.streams.ends
 
 -- the datagram has a packet with this transaction number of the node
 pub record CarriesTid (datagram : Datagram) (node : ℕ) (draw : Draw) : Type 0 where
@@ -65,9 +72,25 @@ pub record CarriesLookup (datagram : Datagram) (node : ℕ) (draw : Draw) : Type
   pub carries : names.Carries datagram.to datagram.data_ node id
   pub is_draw : draw ≡ Lookup id
 
+-- it has a segment with the identifier of an end of the node
+pub record CarriesConn (datagram : Datagram) (node : ℕ) (draw : Draw) : Type 0 where
+  pub is_adsp : datagram.kind ≡ adsp_kind
+  pub id : ℕ
+  pub carries : streams.Carries datagram.from datagram.to datagram.data_ node id
+  pub is_draw : draw ≡ Conn id
+
+-- the datagram carries this one number of the node
+abbrev pub CarriesOne : Datagram → ℕ → Draw → Type 0
+CarriesOne datagram node draw = CarriesTid datagram node draw ⊎ CarriesLookup datagram node draw
+
 -- the bytes begin with a datagram that carries this number of the node
 pub record Carries (bytes : List ℕ) (node : ℕ) (draw : Draw) : Type 0 where
   pub datagram : Datagram
   pub rest : List ℕ
   pub begins : BeginsWith bytes datagram rest
-  pub number : CarriesTid datagram node draw ⊎ CarriesLookup datagram node draw
+  pub number : CarriesOne datagram node draw ⊎ CarriesConn datagram node draw
+
+-- the identifier of an end, as a number that its node draws
+abbrev pub end_drawn : Option (ℕ × ℕ) → Option (ℕ × Draw)
+end_drawn None = None
+end_drawn (Some p) = Some (p.0, Conn p.1)

@@ -1,12 +1,16 @@
 -- A node: its seat and its parts, and which part has each call and each timer.
 use Rattle.std.specs.Prelude.{ℕ, List, Option}
 use Rattle.at_atp_requester.specs.Requests.{retried}
+use Rattle.at_adsp_end.specs.declared.rooms.Rooms.{Rooms}
+use Rattle.at_adsp_end.specs.declared.tick.Tick.TheVariants as tick
+use Rattle.at_adsp_ends.specs.Tables.{EndTable, no_ends}
 use Rattle.at_name_socket.specs.NameSockets as names
 use Rattle.at_name_socket.specs.NameSockets.{SocketState}
 use Rattle.at_name_socket.specs.declared.neighbour.Neighbour.{Neighbour}
 use Rattle.at_event.specs.declared.event.Call.{Call}
 use Rattle.at_event.specs.declared.event.Call.TheVariants.{Zones, SetZones, Ask, Answer}
 use Rattle.at_event.specs.declared.event.Call.TheVariants.{Find, Claim, Finish, Register, Unregister}
+use Rattle.at_event.specs.declared.event.Call.TheVariants.{Listen, Connect, Write, Read, Reset, Close}
 use Rattle.at_event.specs.declared.event.Timer.{Timer}
 use Rattle.at_event.specs.declared.event.Timer.TheVariants as timer
 use Rattle.at_event.specs.declared.seat.Seat.{Seat}
@@ -21,18 +25,23 @@ use Rattle.at_event.specs.Seats.{at_socket}
 use Rattle.at_node.specs.ServiceSocket.{answer_called}
 use Rattle.at_node.specs.ZoneReading.{zones_called}
 use Rattle.at_node.specs.ZoneSocket.{set_zones_called}
+use Rattle.at_stream_socket.specs.Calls.{close_called, connect_called, listen_called, read_called, reset_called}
+use Rattle.at_stream_socket.specs.Calls.{tick_fired, write_called}
 
 pub record NodeState : Type 0 where
   pub seat : Seat
   pub atp : AtpState
   pub names : SocketState
+  pub streams : EndTable
 
 -- the zone table and the nodes of the cable are the router's alone
-abbrev pub opening : ℕ → ℕ → Option ℕ → Option (List ℕ) → Option (List (List ℕ)) → Option (List Neighbour) → NodeState
-opening net number router zone table neighbours = record {
+abbrev pub opening : ℕ → ℕ → Option ℕ → Option (List ℕ) → Option (List (List ℕ)) → Option (List Neighbour) → Rooms
+    → NodeState
+opening net number router zone table neighbours rooms = record {
   seat = record { net = net; number = number; router = router };
   atp = atp.opening table;
   names = names.opening net number router zone neighbours;
+  streams = no_ends rooms;
 }
 
 -- a new state of one part
@@ -41,6 +50,9 @@ with_atp n part = record n { atp = part }
 
 abbrev pub with_names : NodeState → SocketState → NodeState
 with_names n part = record n { names = part }
+
+abbrev pub with_streams : NodeState → EndTable → NodeState
+with_streams n part = record n { streams = part }
 
 abbrev pub called : {A : Type 0} → NodeState → Call A → Outcome A NodeState
 called n Zones = over (with_atp n) (zones_called n.seat n.atp n.seat.router n.atp.reading)
@@ -55,9 +67,18 @@ called n (Claim object kind socket) = over (with_names n) (claim_called n.seat n
 called n (Finish id) = over (with_names n) (finish_called n.names id)
 called n (Register object kind socket) = over (with_names n) (register_called n.names object kind socket)
 called n (Unregister object kind) = over (with_names n) (unregister_called n.names object kind)
+called n (Listen on) = over (with_streams n) (listen_called n.streams on)
+called n (Connect node socket) =
+    over (with_streams n) (connect_called n.seat n.streams (at_socket n.seat node socket))
+called n (Write id items) = over (with_streams n) (write_called n.seat n.streams id items)
+called n (Read id count) = over (with_streams n) (read_called n.seat n.streams id count)
+called n (Reset id) = over (with_streams n) (reset_called n.seat n.streams id)
+called n (Close id) = over (with_streams n) (close_called n.seat n.streams id)
 
 abbrev pub timed : {A : Type 0} → NodeState → Timer → Outcome A NodeState
 timed n (timer.Retry tid) = over (with_atp n) (retry_fired n.seat n.atp tid (retried n.atp.requester tid))
 timed n (timer.Release own node socket tid) =
     over (with_atp n) (release_fired n.atp own (record { from = at_socket n.seat node socket; tid = tid }))
 timed n (timer.Lookup id) = over (with_names n) (lookup_fired n.seat n.names id)
+timed n (timer.Resend id) = over (with_streams n) (tick_fired n.seat n.streams id tick.Retransmit)
+timed n (timer.Probe id) = over (with_streams n) (tick_fired n.seat n.streams id tick.Probe)

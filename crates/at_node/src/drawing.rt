@@ -6,15 +6,18 @@ ghost use Rattle.at_atp_requester.specs.Requests.{next_number};
 ghost use Rattle.at_ddp.specs.Datagram.{content as written};
 ghost use Rattle.at_nbp.specs.Lookups.{next_id};
 ghost use Rattle.at_node.specs.AtpParts.{AtpState, atp_kind};
-ghost use Rattle.at_node.specs.Drawing.{Carries, CarriesLookup, CarriesTid, Draws, DrawsHearing, draw_of, drawn_by};
-ghost use Rattle.at_node.specs.Drawing.{holds};
+ghost use Rattle.at_adsp_ends.specs.Tables.{next_id as next_end};
+ghost use Rattle.at_node.specs.Drawing.{Carries, CarriesConn, CarriesLookup, CarriesOne, CarriesTid, Draws};
+ghost use Rattle.at_node.specs.Drawing.{DrawsHearing, draw_of, drawn_by, end_drawn, holds};
 ghost use Rattle.at_node.specs.Hearing.{HearsIt};
 ghost use Rattle.at_event.specs.Seats.{nbp_kind};
 ghost use Rattle.at_node.specs.Nodes.{NodeState};
 ghost use Rattle.at_event.specs.Outcomes.{Outcome as Result};
 ghost use Rattle.at_node.specs.RequesterSocket.{AtRequester};
 ghost use Rattle.at_node.specs.declared.drawing.Draw.{Draw as Drawn};
-ghost use Rattle.at_node.specs.declared.drawing.Draw.TheVariants.{Lookup, Tid};
+ghost use Rattle.at_node.specs.declared.drawing.Draw.TheVariants.{Conn, Lookup, Tid};
+ghost use Rattle.at_stream_socket.specs.Hearing.{Makes};
+ghost use Rattle.at_stream_socket.specs.Sockets.{adsp_kind};
 ghost use Rattle.at_event.specs.declared.service.Reply.{Reply as Said};
 
 use crate::atp_part::ATP;
@@ -25,15 +28,19 @@ use at_atp::{Frame, MAX_DATA};
 use at_ddp::{Address, Datagram, decode};
 use at_event::{Call, NBP, Timer};
 use at_nbp::is_no_name;
+use at_stream_socket::ADSP;
 use std::alloc::{Allocator, Global};
 
-/// A number that a node draws. It is not to be drawn again while a packet or a record has it.
+/// A number that a node draws. It is not to be drawn again while a packet or a record has it, or an end that is
+/// connected there.
 #[derive(Clone, Copy, Debug, PartialEq, Eq, Hash)]
 pub enum Draw {
     /// The number of a transaction.
     Tid(u16),
     /// The identifier of a lookup, which no record has.
     Lookup(u8),
+    /// The connection identifier of the end of a stream.
+    Conn(u16),
 }
 
 /// What comes to a node next.
@@ -57,7 +64,8 @@ impl<A: Allocator + Copy> Node<A> {
         }
     }
 
-    /// Whether this node holds a record of a request that has this number and came from `node`.
+    /// Whether this node holds a record of a request that has this number and came from `node`, or an end that is
+    /// connected to the one with this identifier there.
     pub fn holds(&self, node: u8, draw: Draw) -> bool
         ensures { result ≡ holds self.now node draw }
     {
@@ -67,6 +75,7 @@ impl<A: Allocator + Copy> Node<A> {
                     || self.atp.service_responder.holds_number(node, tid)
             }
             Draw::Lookup(_) => false,
+            Draw::Conn(id) => self.streams.holds_number(node, id),
         }
     }
 
@@ -87,6 +96,7 @@ impl<A: Allocator + Copy> Node<A> {
                 self.next_draw()
             }
             Call::Find { .. } => self.next_lookup(),
+            Call::Connect { .. } => self.next_end(),
             Call::Claim { object, kind, .. } => {
                 if is_no_name(object, kind) {
                     return None;
@@ -107,7 +117,8 @@ impl<A: Allocator + Copy> Node<A> {
         }
     }
 
-    // A page that makes the next one be asked for draws a number, and no other datagram does.
+    // A page that makes the next one be asked for draws a number, and so does a request for a connection that makes an
+    // end. No other datagram does.
     fn draw_of_datagram(&self, datagram: &Datagram<'_>) -> Option<Draw>
         ensures found { IfSome result (λ draw. (said : Said A) × (o : Result A NodeState)
             × HearsIt said self.now (written datagram.now) o × (drawn_by o.report ≡ Some draw)) }
@@ -116,6 +127,9 @@ impl<A: Allocator + Copy> Node<A> {
     {
         if !self.seat.is_for(datagram.kind, datagram.to) {
             return None;
+        }
+        if datagram.kind == ADSP {
+            return self.draw_of_segment(datagram);
         }
         if datagram.kind != ATP {
             return None;
@@ -126,6 +140,17 @@ impl<A: Allocator + Copy> Node<A> {
         match Incoming::in_datagram(self.seat, datagram) {
             Ok(packet) => self.draw_of_packet(&packet),
             Err(_) => None,
+        }
+    }
+
+    fn draw_of_segment(&self, datagram: &Datagram<'_>) -> Option<Draw>
+        ensures found { IfSome result (λ draw. (id : ℕ) × Makes self.now.streams (written datagram.now) id
+            × (draw ≡ Conn id)) }
+        ensures only { (id : ℕ) → Makes self.now.streams (written datagram.now) id → result ≡ Some (Conn id) }
+    {
+        match self.streams.made_by(datagram) {
+            Some(id) => Some(Draw::Conn(id)),
+            None => None,
         }
     }
 
@@ -150,6 +175,13 @@ impl<A: Allocator + Copy> Node<A> {
         Some(Draw::Tid(tid))
     }
 
+    fn next_end(&self) -> Option<Draw>
+        ensures { result ≡ option_map (λ id. Conn id) (next_end self.now.streams) }
+    {
+        let id = self.streams.next_id()?;
+        Some(Draw::Conn(id))
+    }
+
     fn next_lookup(&self) -> Option<Draw>
         ensures { result ≡ option_map (λ id. Lookup id) (next_id self.now.names.lookups) }
     {
@@ -163,24 +195,46 @@ impl<A: Allocator + Copy> Node<A> {
 pub fn carried(bytes: &[u8]) -> [Option<(u8, Draw)>; 2]
     ensures { (node : ℕ) (draw : Drawn) → Contains result (Some (node, draw)) ↔ Carries bytes.now node draw }
 {
-    [owned(bytes), None]
+    let Ok((datagram, _)) = decode(bytes) else {
+        return [None, None];
+    };
+    if datagram.kind == ADSP {
+        return ends_in(&datagram);
+    }
+    [owned(&datagram), None]
 }
 
-// The number in a datagram, and the node that draws it.
-fn owned(bytes: &[u8]) -> Option<(u8, Draw)>
-    ensures found { IfSome result (λ r. Carries bytes.now r.0 r.1) }
-    ensures only { (node : ℕ) (draw : Drawn) → Carries bytes.now node draw → result ≡ Some (node, draw) }
+// The number in a datagram of another protocol than ADSP, and the node that draws it.
+fn owned(datagram: &Datagram<'_>) -> Option<(u8, Draw)>
+    ensures found { IfSome result (λ r. CarriesOne (written datagram.now) r.0 r.1) }
+    ensures only { (node : ℕ) (draw : Drawn) → CarriesOne (written datagram.now) node draw
+        → result ≡ Some (node, draw) }
 {
-    let Ok((datagram, _)) = decode(bytes) else {
-        return None;
-    };
     if datagram.kind == ATP {
-        return tid_in(&datagram);
+        return tid_in(datagram);
     }
     if datagram.kind == NBP {
-        return lookup_in(&datagram);
+        return lookup_in(datagram);
     }
     None
+}
+
+// The identifiers in a datagram of ADSP, and the nodes that draw them.
+fn ends_in(datagram: &Datagram<'_>) -> [Option<(u8, Draw)>; 2]
+    requires { datagram.now.kind ≡ adsp_kind }
+    ensures { (node : ℕ) (draw : Drawn) → Contains result (Some (node, draw))
+        ↔ CarriesConn (written datagram.now) node draw }
+{
+    let (source, dest) = at_stream_socket::carried(datagram.from, datagram.to, datagram.data_);
+    [end_drawn(source), end_drawn(dest)]
+}
+
+// The identifier of an end as a number that its node draws.
+fn end_drawn(id: Option<(u8, u16)>) -> Option<(u8, Draw)>
+    ensures { result ≡ end_drawn id }
+{
+    let (node, id) = id?;
+    Some((node, Draw::Conn(id)))
 }
 
 // The transaction number in a datagram of ATP.

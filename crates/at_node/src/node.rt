@@ -1,7 +1,8 @@
 ghost use Rattle.std.specs.Prelude.{◌≡◌, ℕ, List, Option, false};
 ghost use Rattle.at_ddp.specs.Datagram.{content};
 ghost use Rattle.at_node.specs.Hearing.{HearsIt, Hears};
-ghost use Rattle.at_event.specs.Kinds.{Nbp, kind_of_call};
+ghost use Rattle.at_adsp_ends.specs.Tables.{AreRooms};
+ghost use Rattle.at_event.specs.Kinds.{Adsp, Atp, Nbp, kind_of_call};
 ghost use Rattle.at_node.specs.Nodes.{opening, called, timed};
 ghost use Rattle.at_event.specs.Outcomes.{Comes, IsStep, refused_as};
 ghost use Rattle.at_event.specs.Services.{Serves, is_asked};
@@ -11,10 +12,12 @@ use crate::atp_part::{ATP, AtpPart};
 use crate::name_calls::pattern_asked;
 use crate::name_part::NamePart;
 use crate::requester_socket::Question;
+use at_adsp_ends::{Rooms, Tick};
 use at_atp::Key;
 use at_ddp::{Datagram, Datagrams, Listed, Pascal, decode};
 use at_event::{Call, NBP, Report, Seat, Service, Timer};
 use at_name_socket::Neighbour;
+use at_stream_socket::{ADSP, StreamSocket};
 use at_zip::Zones;
 use std::alloc::{Allocator, Global};
 use std::marker::Model;
@@ -25,6 +28,7 @@ pub struct Node<A: Allocator = Global> {
     pub(crate) seat: Seat,
     pub(crate) atp: AtpPart<A>,
     pub(crate) names: NamePart<A>,
+    pub(crate) streams: StreamSocket<A>,
 }
 
 impl<A: Allocator> Model for Node<A> {
@@ -32,13 +36,13 @@ impl<A: Allocator> Model for Node<A> {
 
     ghost Value = { NodeState };
 
-    ghost view = { λ n. record { seat = n.seat; atp = n.atp; names = n.names } };
+    ghost view = { λ n. record { seat = n.seat; atp = n.atp; names = n.names; streams = n.streams } };
 }
 
 impl<A: Allocator + Copy> Node<A> {
     /// A node with a number from 1 to 254 on a network from 1 to 65,535. `router` is the number of the cable's router,
     /// if it has one, and `zone` the node's zone. `zones` is the zone table and `neighbours` are the nodes of the
-    /// cable, if this node is the router.
+    /// cable, if this node is the router. The ends of the node's streams have these rooms, 1 to 65,535 items each.
     pub fn new(
         alloc: A,
         net: u16,
@@ -47,8 +51,10 @@ impl<A: Allocator + Copy> Node<A> {
         zone: Option<Pascal>,
         zones: Option<Zones<A>>,
         neighbours: Option<Listed<Neighbour, A>>,
+        rooms: Rooms,
     ) -> Node<A>
-        ensures { result ≡ opening net number router zone zones neighbours }
+        requires { AreRooms rooms }
+        ensures { result ≡ opening net number router zone zones neighbours rooms }
     {
         let seat = Seat {
             net,
@@ -59,6 +65,7 @@ impl<A: Allocator + Copy> Node<A> {
             seat,
             atp: AtpPart::new(alloc, zones),
             names: NamePart::new(alloc, seat, zone, neighbours),
+            streams: StreamSocket::new(alloc, rooms),
         }
     }
 
@@ -71,6 +78,25 @@ impl<A: Allocator + Copy> Node<A> {
 
     /// Plays a call by the node's user. What the node sends goes to the end of the list.
     pub fn call(&mut self, call: &Call<A>, out: &mut Datagrams<A>) -> Report<A>
+        ensures { IsStep (called self.old call.now) self.old out.old.items result self.new out.new.items }
+    {
+        match call {
+            Call::Zones | Call::SetZones { .. } | Call::Ask { .. } | Call::Answer { .. } => {
+                self.call_atp(call, out)
+            }
+            Call::Listen { .. }
+            | Call::Connect { .. }
+            | Call::Write { .. }
+            | Call::Read { .. }
+            | Call::Reset { .. }
+            | Call::Close { .. } => self.call_streams(call, out),
+            _ => self.call_names(call, out),
+        }
+    }
+
+    // Plays a call of the sockets for requests.
+    fn call_atp(&mut self, call: &Call<A>, out: &mut Datagrams<A>) -> Report<A>
+        requires { kind_of_call call.now ≡ Atp }
         ensures { IsStep (called self.old call.now) self.old out.old.items result self.new out.new.items }
     {
         match call {
@@ -105,7 +131,7 @@ impl<A: Allocator + Copy> Node<A> {
                 let key = Key { from, tid: *tid };
                 self.atp.answer(self.seat, key, packets.as_slice(), out)
             }
-            _ => self.call_names(call, out),
+            _ => unreachable!(),
         }
     }
 
@@ -135,6 +161,27 @@ impl<A: Allocator + Copy> Node<A> {
         }
     }
 
+    // Plays a call of the socket for streams.
+    fn call_streams(&mut self, call: &Call<A>, out: &mut Datagrams<A>) -> Report<A>
+        requires { kind_of_call call.now ≡ Adsp }
+        ensures { IsStep (called self.old call.now) self.old out.old.items result self.new out.new.items }
+    {
+        match call {
+            Call::Listen { on } => self.streams.listen(*on),
+            Call::Connect { node, socket } => {
+                let to = self.seat.there(*node, *socket);
+                self.streams.connect(self.seat, to, out)
+            }
+            Call::Write { id, items } => {
+                self.streams.write(self.seat, *id, items.as_slice(), out)
+            }
+            Call::Read { id, count } => self.streams.read(self.seat, *id, *count, out),
+            Call::Reset { id } => self.streams.reset(self.seat, *id, out),
+            Call::Close { id } => self.streams.close(self.seat, *id, out),
+            _ => unreachable!(),
+        }
+    }
+
     /// Plays a timer that fires. What the node sends goes to the end of the list.
     pub fn timer(&mut self, timer: Timer, out: &mut Datagrams<A>) -> Report<A>
         ensures { IsStep (timed self.old timer) self.old out.old.items result self.new out.new.items }
@@ -151,6 +198,8 @@ impl<A: Allocator + Copy> Node<A> {
                 self.atp.expire(own, Key { from, tid })
             }
             Timer::Lookup { id } => self.names.ask_again(self.seat, id, out),
+            Timer::Resend { id } => self.streams.tick(self.seat, id, Tick::Retransmit, out),
+            Timer::Probe { id } => self.streams.tick(self.seat, id, Tick::Probe, out),
         }
     }
 
@@ -191,6 +240,9 @@ impl<A: Allocator + Copy> Node<A> {
         }
         if datagram.kind == NBP {
             return self.names.hear(self.seat, datagram, out);
+        }
+        if datagram.kind == ADSP {
+            return self.streams.hear(self.seat, datagram, out);
         }
         Report::Ignored
     }

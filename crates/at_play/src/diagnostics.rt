@@ -67,11 +67,11 @@ impl<'a, W: Write> Diagnostics<'a, W> {
             (at_world::Fault::Refused(Refusal::Untimely), Some(which)) => writeln!(
                 self.printer,
                 "a number in datagram {which} has been drawn again since, \
-                    or a node still holds a record under the number that it would draw (refusal 72)"
+                    or a node still holds a record or an end under the number that it would draw (refusal 72)"
             ),
             (at_world::Fault::Refused(Refusal::Untimely), None) => writeln!(
                 self.printer,
-                "a node still holds a record under the number that would be drawn (refusal 72)"
+                "a node still holds a record or an end under the number that would be drawn (refusal 72)"
             ),
             (at_world::Fault::Refused(refusal), _) => {
                 writeln!(self.printer, "{refusal} (refusal {})", refusal.number());

@@ -1,3 +1,4 @@
 mod NameLineLemmas
 mod PrintLemmas
 mod ReportLemmas
+mod StreamLemmas

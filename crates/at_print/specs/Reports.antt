@@ -1,5 +1,5 @@
 -- What is printed of an event that was played: its report, and the datagrams that it sent.
-use Rattle.std.specs.Prelude.{ℕ, ◌+◌, ◌==◌, ◌||◌, if◌then◌else◌, Bool, List, [], ◌∷◌, ◌++◌, drop, codes}
+use Rattle.std.specs.Prelude.{ℕ, ◌+◌, ◌==◌, ◌||◌, if◌then◌else◌, Bool, false, List, [], ◌∷◌, ◌++◌, drop, codes}
 use Rattle.std.specs.List.{flat_map}
 use Rattle.std.specs.Char.{is_ascii_alphanumeric}
 use Rattle.std.specs.Fmt.{decimal}
@@ -9,6 +9,7 @@ use Rattle.at_nbp.specs.declared.find.Find.{Find}
 use Rattle.at_event.specs.declared.event.Report.{Report}
 use Rattle.at_event.specs.declared.event.Report.TheVariants as report
 use Rattle.at_world.specs.Sents.{SentDatagram}
+use Rattle.at_print.specs.Items.{items_text}
 use Rattle.at_print.specs.Lines.{hex_text, pairs}
 
 -- `-`, `_`, `.`, `=` and `*`
@@ -79,6 +80,19 @@ report_text (report.Taken f) = codes "taken " ++ find_text f
 report_text report.Relayed = codes "relayed"
 report_text (report.Names count) = codes "names " ++ decimal count
 report_text (report.Finds count) = codes "finds " ++ decimal count
+report_text (report.Opening id) = codes "opening " ++ decimal id
+report_text (report.Made id) = codes "made " ++ decimal id
+report_text (report.Opened id) = codes "opened " ++ decimal id
+report_text report.Turned = codes "turned"
+report_text (report.Denied id) = codes "denied " ++ decimal id
+report_text (report.Wrote count) = codes "wrote " ++ decimal count
+report_text (report.Read items) = codes "read" ++ items_text false items
+report_text report.StreamReset = codes "done"
+report_text (report.Heard id count) = codes "heard " ++ (decimal id ++ (codes " " ++ decimal count))
+report_text (report.Dropped id) = codes "dropped " ++ decimal id
+report_text (report.Closed id) = codes "closed " ++ decimal id
+report_text (report.Freed id) = codes "freed " ++ decimal id
+report_text report.Idle = codes "idle"
 report_text report.Ignored = codes "ignored"
 report_text (report.Refused number) = codes "refused " ++ decimal number
 report_text report.NoMemory = codes "nomemory"

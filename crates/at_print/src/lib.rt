@@ -9,6 +9,7 @@ mod print;
 mod printer;
 mod segment_lines;
 mod status;
+mod stream_reports;
 
 pub use name_lines::write_names;
 pub use packet_lines::{write_frame, write_header, write_raw};

@@ -10,6 +10,7 @@ ghost use Rattle.at_print.specs.Reports.{glyph, is_sign, stands_for_itself, text
 use crate::digits::{write_hex, write_pairs};
 use crate::name_reports::{write_found, write_taken};
 use crate::printer::Printer;
+use crate::stream_reports::write_stream_report;
 use at_atp::{Key, Packet};
 use at_ddp::Pascal;
 use at_node::Report;
@@ -71,6 +72,7 @@ fn write_report<A: Allocator, W: Write>(printer: &mut Printer<W>, report: &Repor
         Report::Ignored => printer.write_all(b"ignored"),
         Report::Refused(number) => write!(printer, "refused {number}"),
         Report::NoMemory => printer.write_all(b"nomemory"),
+        _ => write_stream_report(printer, report),
     }
 }
 

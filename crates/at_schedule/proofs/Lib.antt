@@ -1,2 +1,3 @@
+mod ItemLemmas
 mod TextLemmas
 mod WordLemmas

@@ -1,3 +1,4 @@
+pub mod Items
 pub mod Says
 pub mod Schedules
 pub mod Texts

@@ -9,6 +9,7 @@ use Rattle.at_event.specs.declared.event.Timer.{Timer}
 use Rattle.at_event.specs.declared.event.Timer.TheVariants as timer
 use Rattle.at_world.specs.declared.event.Event.{Event}
 use Rattle.at_world.specs.declared.event.Event.TheVariants as event
+use Rattle.at_schedule.specs.Items.{AreItems}
 use Rattle.at_schedule.specs.Schedules.{is_event_line}
 use Rattle.at_schedule.specs.Texts.{AreZone, IsText}
 use Rattle.at_words.specs.Hexes.{IsHex}
@@ -19,6 +20,11 @@ use Rattle.at_words.specs.Words.{HasWords}
 abbrev pub IsMode : List ℕ → Bool → Type 0
 IsMode word false = word ≡ codes "alo"
 IsMode word true = word ≡ codes "xo"
+
+-- `on` or `off`
+abbrev pub IsSwitch : List ℕ → Bool → Type 0
+IsSwitch word true = word ≡ codes "on"
+IsSwitch word false = word ≡ codes "off"
 
 -- user bytes and data with a colon between them
 abbrev pub IsPacketWord : List ℕ → Packet → Type 0
@@ -60,6 +66,15 @@ SaysCall ws (call.Register object kind socket) =
     (ns : List (List ℕ)) × (ws ≡ codes "register" ∷ ns) × SocketSays ns object kind socket
 SaysCall ws (call.Unregister object kind) =
     (o k : List ℕ) × (ws ≡ codes "unregister" ∷ o ∷ k ∷ []) × IsText o object × IsText k kind
+SaysCall ws (call.Listen on) = (s : List ℕ) × (ws ≡ codes "listen" ∷ s ∷ []) × IsSwitch s on
+SaysCall ws (call.Connect node socket) =
+    (n s : List ℕ) × (ws ≡ codes "connect" ∷ n ∷ s ∷ []) × IsNumber n node × IsNumber s socket
+SaysCall ws (call.Write id items) =
+    (i : List ℕ) × (is : List (List ℕ)) × (ws ≡ codes "write" ∷ i ∷ is) × IsNumber i id × AreItems is items
+SaysCall ws (call.Read id count) =
+    (i c : List ℕ) × (ws ≡ codes "read" ∷ i ∷ c ∷ []) × IsNumber i id × IsNumber c count
+SaysCall ws (call.Reset id) = (i : List ℕ) × (ws ≡ codes "reset" ∷ i ∷ []) × IsNumber i id
+SaysCall ws (call.Close id) = (i : List ℕ) × (ws ≡ codes "close" ∷ i ∷ []) × IsNumber i id
 
 -- the words of a timer, after its node
 abbrev pub SaysTimer : List (List ℕ) → Timer → Type 0
@@ -68,6 +83,8 @@ SaysTimer ws (timer.Release own node socket tid) =
     (o n s t : List ℕ) × (ws ≡ codes "release" ∷ o ∷ n ∷ s ∷ t ∷ [])
     × IsNumber o own × IsNumber n node × IsNumber s socket × IsNumber t tid
 SaysTimer ws (timer.Lookup id) = (i : List ℕ) × (ws ≡ codes "lookup" ∷ i ∷ []) × IsNumber i id
+SaysTimer ws (timer.Resend id) = (i : List ℕ) × (ws ≡ codes "resend" ∷ i ∷ []) × IsNumber i id
+SaysTimer ws (timer.Probe id) = (i : List ℕ) × (ws ≡ codes "probe" ∷ i ∷ []) × IsNumber i id
 
 -- the words of an event
 abbrev pub SaysEvent : {A : Type 0} → List (List ℕ) → Event A → Type 0

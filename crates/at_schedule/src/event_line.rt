@@ -7,6 +7,7 @@ ghost use Rattle.at_words.specs.Words.{HasWords};
 
 use crate::call_words::{AnswerWords, AskWords, packet_words};
 use crate::name_words::{lookup, name_call};
+use crate::stream_words::{probe, resend};
 use crate::table_words::set_zones;
 use at_atp::Packet;
 use at_ddp::{Bytes, Listed};
@@ -16,7 +17,7 @@ use at_words::{HexFault, Words, byte, bytes_of, node_number, number, two_bytes};
 use at_world::Event;
 use std::alloc::Allocator;
 
-/// `call N` and a call: `zones`, `setzones ..`, `ask ..`, `answer ..`, or one for names
+/// `call N` and a call: `zones`, `setzones ..`, `ask ..`, `answer ..`, or one for names or streams
 pub(crate) fn call_of<A: Allocator + Copy>(
     alloc: A,
     mut words: Words<'_>,
@@ -42,7 +43,7 @@ fn call_words<A: Allocator + Copy>(alloc: A, mut words: Words<'_>) -> Result<Cal
     } else if is_word(word, b"answer") {
         answer(alloc, words)
     } else {
-        name_call(word, words)
+        name_call(alloc, word, words)
     }
 }
 
@@ -63,7 +64,7 @@ pub(crate) fn delivery_of<A: Allocator>(mut words: Words<'_>) -> Option<Event<A>
     Some(Event::Deliver { which, node })
 }
 
-/// `timer N` and `retry T`, `release OWN NODE SOCKET T` or `lookup ID`
+/// `timer N` and `retry T`, `release OWN NODE SOCKET T`, `lookup ID`, `resend ID` or `probe ID`
 pub(crate) fn timer_of<A: Allocator>(mut words: Words<'_>) -> Result<Event<A>, LineFault>
     ensures { IfOk result (λ event. After (codes "timer") words.entry.rest.now (λ ws. SaysEvent ws event)) }
 {
@@ -83,6 +84,10 @@ fn timer_words(mut words: Words<'_>) -> Result<Timer, LineFault>
         release(words).ok_or(LineFault::Unlawful(Rule::Release))
     } else if is_word(word, b"lookup") {
         lookup(words).ok_or(LineFault::Unlawful(Rule::Lookup))
+    } else if is_word(word, b"resend") {
+        resend(words).ok_or(LineFault::Unlawful(Rule::Resend))
+    } else if is_word(word, b"probe") {
+        probe(words).ok_or(LineFault::Unlawful(Rule::Probe))
     } else {
         Err(LineFault::Unlawful(Rule::Timer))
     }

@@ -4,10 +4,12 @@
 mod call_words;
 mod draft;
 mod event_line;
+mod item_words;
 mod name_words;
 mod node_line;
 mod nodes;
 mod schedule;
+mod stream_words;
 mod table_words;
 mod text_word;
 

@@ -5,6 +5,7 @@ ghost use Rattle.at_schedule.specs.Texts.{AreZone};
 ghost use Rattle.at_words.specs.Words.{HasWords};
 
 use crate::event_line::is_word;
+use crate::stream_words::stream_call;
 use crate::text_word::text;
 use at_ddp::Pascal;
 use at_faults::{LineFault, Rule};
@@ -12,8 +13,13 @@ use at_node::{Call, Timer};
 use at_words::{Words, byte, node_number};
 use std::alloc::Allocator;
 
-/// A call for names, after its first word: `find ..`, `claim ..`, `finish ..`, `register ..` or `unregister ..`
-pub(crate) fn name_call<A: Allocator>(word: &[u8], words: Words<'_>) -> Result<Call<A>, LineFault>
+/// A call for names, after its first word: `find ..`, `claim ..`, `finish ..`, `register ..` or `unregister ..`. Any
+/// other is for streams.
+pub(crate) fn name_call<A: Allocator>(
+    alloc: A,
+    word: &[u8],
+    words: Words<'_>,
+) -> Result<Call<A>, LineFault>
     ensures { IfOk result (λ call. After word.now words.entry.rest.now (λ ws. SaysCall ws call)) }
 {
     if is_word(word, b"find") {
@@ -27,7 +33,7 @@ pub(crate) fn name_call<A: Allocator>(word: &[u8], words: Words<'_>) -> Result<C
     } else if is_word(word, b"unregister") {
         unregister(words).ok_or(LineFault::Unlawful(Rule::Unregister))
     } else {
-        Err(LineFault::Unlawful(Rule::Call))
+        stream_call(alloc, word, words)
     }
 }
 

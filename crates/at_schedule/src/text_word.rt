@@ -60,8 +60,8 @@ fn text_byte(text: &[u8]) -> Option<(u8, &[u8])>
     }
 }
 
-// The byte that two hexadecimal digits spell.
-fn any_byte(digits: &[u8]) -> Option<u8>
+/// The byte that two hexadecimal digits spell.
+pub(crate) fn any_byte(digits: &[u8]) -> Option<u8>
     ensures { IfSome result (λ byte. decode_of digits.now ≡ Ok (byte ∷ [])) }
 {
     let bytes = <[u8; 1] as FromHex>::from_hex(digits).ok()?;

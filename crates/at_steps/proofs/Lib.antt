@@ -1,2 +1,3 @@
 mod Atp
 mod Names
+mod StreamOutcomes

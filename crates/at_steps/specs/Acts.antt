@@ -1,6 +1,6 @@
 -- What happens at a node, whose report it is, and which reports there are.
 use Rattle.std.specs.Prelude.{ℕ, Bool, true, false}
-use Rattle.at_event.specs.Kinds.{Kind, Nobody, Atp, Nbp, kind_of_call, kind_of_timer, reporter_of}
+use Rattle.at_event.specs.Kinds.{Kind, Nobody, Atp, Nbp, Adsp, kind_of_call, kind_of_timer, reporter_of}
 use Rattle.at_event.specs.declared.event.Call.{Call}
 use Rattle.at_event.specs.declared.event.Report.{Report}
 use Rattle.at_event.specs.declared.event.Report.TheVariants as report
@@ -25,6 +25,10 @@ is_atp other = false
 abbrev pub is_nbp : Kind → Bool
 is_nbp Nbp = true
 is_nbp other = false
+
+abbrev pub is_adsp : Kind → Bool
+is_adsp Adsp = true
+is_adsp other = false
 
 abbrev pub IsSomebodys : Kind → Type 0
 IsSomebodys Nobody = ⊥

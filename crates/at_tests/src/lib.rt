@@ -17,6 +17,8 @@ mod refusals;
 #[cfg(test)]
 mod refused_memory;
 #[cfg(test)]
+mod streams;
+#[cfg(test)]
 mod transcripts;
 #[cfg(test)]
 mod writes;

@@ -1,9 +1,16 @@
 //! What a node reports of bytes that no schedule delivers, as it is printed.
+use at_adsp_end::Rooms;
 use at_ddp::{Datagrams, Listed};
 use at_node::{Call, Deferring, Node};
 use at_print::{Printer, write_event};
 use at_zip::Zones;
 use std::alloc::Global;
+
+// The rooms of the ends of streams.
+const ROOMS: Rooms = Rooms {
+    receive: 64,
+    send: 64,
+};
 
 // What is printed of a node that is given steps: bytes that come, or a call for the zone list.
 fn told(alloc: Global, node: &mut Node, steps: &[Option<&[u8]>]) -> Vec<u8> {
@@ -68,7 +75,7 @@ const REPORTED: &str = "0 ignored
 #[test]
 fn a_router_ignores_or_refuses_what_does_not_ask_it_for_zones(rt: HostRuntime) {
     let zones = Zones::new(Listed::from_vec(Vec::new(rt.alloc())));
-    let mut router = Node::new(rt.alloc(), 10, 1, Some(1), None, zones.ok(), None);
+    let mut router = Node::new(rt.alloc(), 10, 1, Some(1), None, zones.ok(), None, ROOMS);
     let text = told(rt.alloc(), &mut router, &HEARD);
     assert!(rt; text.as_slice() == REPORTED.as_bytes());
 }
@@ -116,7 +123,7 @@ const READ: &str = "0 begun 0
 
 #[test]
 fn a_reading_ends_with_its_last_page_or_with_the_fault_of_a_page(rt: HostRuntime) {
-    let mut node = Node::new(rt.alloc(), 10, 5, Some(1), None, None, None);
+    let mut node = Node::new(rt.alloc(), 10, 5, Some(1), None, None, None, ROOMS);
     let text = told(rt.alloc(), &mut node, &STEPS);
     assert!(rt; text.as_slice() == READ.as_bytes());
 }

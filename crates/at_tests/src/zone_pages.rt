@@ -1,5 +1,6 @@
 //! Readings of zone lists of several pages: without memory, of a table that changes, and of too many names.
 use crate::refused_memory::plays_with_a_refusal;
+use at_adsp_end::Rooms;
 use at_ddp::Datagrams;
 use at_node::{Call, Deferring, Node};
 use at_play::{Diagnostics, Printer, play_text};
@@ -12,6 +13,12 @@ use std::process::Abort;
 const SMALL: &[u8] = b"abcdefghijklmnopqr";
 
 const LARGE: &[u8] = b"ABCDEFGHIJKLMNOPQR";
+
+// The rooms of the ends of streams.
+const ROOMS: Rooms = Rooms {
+    receive: 64,
+    send: 64,
+};
 
 // Appends a line: these words, and a name of 32 bytes for each letter.
 fn push_line(rt: &impl Abort, text: &mut Vec<u8>, words: &[u8], letters: &[u8]) {
@@ -103,7 +110,7 @@ fn page_of(rt: &impl Abort, alloc: Global, tid: u8, count: u16) -> Vec<u8> {
 
 #[test]
 fn a_reading_of_more_than_1024_names_ends_with_a_fault(rt: HostRuntime) {
-    let mut node = Node::new(rt.alloc(), 10, 5, Some(1), None, None, None);
+    let mut node = Node::new(rt.alloc(), 10, 5, Some(1), None, None, None, ROOMS);
     let mut out = Datagrams::new(rt.alloc());
     let mut text = Vec::new(rt.alloc());
     let mut printer = Printer::new(&mut text);

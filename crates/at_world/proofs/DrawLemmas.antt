@@ -4,16 +4,32 @@ use Rattle.std.specs.Prelude.{◌==◌, ◌&&◌}
 use Rattle.std.specs.Map.{lookup}
 use Rattle.indexmap.specs.IndexMap.{insert_entry}
 use Rattle.at_node.specs.declared.drawing.Draw.{Draw}
-use Rattle.at_node.specs.declared.drawing.Draw.TheVariants.{Lookup, Tid}
+use Rattle.at_node.specs.declared.drawing.Draw.TheVariants.{Conn, Lookup, Tid}
 use Rattle.at_world.specs.Draws.{Draws, same_draw, is_number, last_of, drawn_at}
 
-module _ (eq_node : ℕ → ℕ → Bool) (eq_draw : Draw → Draw → Bool) (nodes : (a b : ℕ) → eq_node a b ≡ (a == b)) (tids : (a b : ℕ) → eq_draw (Tid a) (Tid b) ≡ (a == b)) (lookups : (a b : ℕ) → eq_draw (Lookup a) (Lookup b) ≡ (a == b))
-    (apart : (a b : ℕ) → eq_draw (Tid a) (Lookup b) ≡ false) (parted : (a b : ℕ) → eq_draw (Lookup a) (Tid b) ≡ false) where
+-- an equality of draws that tells numbers of one kind apart, and kinds
+pub record TellsApart (eq : Draw → Draw → Bool) : Type 0 where
+  pub tids : (a b : ℕ) → eq (Tid a) (Tid b) ≡ (a == b)
+  pub lookups : (a b : ℕ) → eq (Lookup a) (Lookup b) ≡ (a == b)
+  pub conns : (a b : ℕ) → eq (Conn a) (Conn b) ≡ (a == b)
+  pub tid_lookup : (a b : ℕ) → eq (Tid a) (Lookup b) ≡ false
+  pub tid_conn : (a b : ℕ) → eq (Tid a) (Conn b) ≡ false
+  pub lookup_tid : (a b : ℕ) → eq (Lookup a) (Tid b) ≡ false
+  pub lookup_conn : (a b : ℕ) → eq (Lookup a) (Conn b) ≡ false
+  pub conn_tid : (a b : ℕ) → eq (Conn a) (Tid b) ≡ false
+  pub conn_lookup : (a b : ℕ) → eq (Conn a) (Lookup b) ≡ false
+
+module _ (eq_node : ℕ → ℕ → Bool) (eq_draw : Draw → Draw → Bool) (nodes : (a b : ℕ) → eq_node a b ≡ (a == b)) (tells : TellsApart eq_draw) where
   draws : (x y : Draw) → eq_draw x y ≡ same_draw x y
-  draws (Tid a) (Tid b) = tids a b
-  draws (Lookup a) (Lookup b) = lookups a b
-  draws (Tid a) (Lookup b) = apart a b
-  draws (Lookup a) (Tid b) = parted a b
+  draws (Tid a) (Tid b) = tells.tids a b
+  draws (Lookup a) (Lookup b) = tells.lookups a b
+  draws (Conn a) (Conn b) = tells.conns a b
+  draws (Tid a) (Lookup b) = tells.tid_lookup a b
+  draws (Tid a) (Conn b) = tells.tid_conn a b
+  draws (Lookup a) (Tid b) = tells.lookup_tid a b
+  draws (Lookup a) (Conn b) = tells.lookup_conn a b
+  draws (Conn a) (Tid b) = tells.conn_tid a b
+  draws (Conn a) (Lookup b) = tells.conn_lookup a b
 
   pub alike : (node : ℕ) (draw : Draw) (number : ℕ × Draw) → (eq_node node number.0 && eq_draw draw number.1) ≡ is_number node draw number
   alike node draw number = λ i. nodes node number.0 i && draws draw number.1 i

@@ -13,6 +13,7 @@ mod Nodes
 mod NotedLemmas
 mod Runs
 mod Seats
+mod Seeking
 mod SentLemmas
 mod SetupLemmas
 mod Tied

@@ -3,7 +3,7 @@ use Rattle.std.proofs.Common.{◌≡◌, ℕ, ◌+◌, ◌<◌, ◌≤◌, Bool,
 use Rattle.std.specs.Prelude.{◌==◌, ◌&&◌}
 use Rattle.std.proofs.lemmas.Bool.{true≢false, false≢true, and_parts, eq-eqb, eqb-true, leb-true}
 use Rattle.at_node.specs.declared.drawing.Draw.{Draw}
-use Rattle.at_node.specs.declared.drawing.Draw.TheVariants.{Lookup, Tid}
+use Rattle.at_node.specs.declared.drawing.Draw.TheVariants.{Conn, Lookup, Tid}
 use Rattle.at_world.specs.Draws.{Draws, is_number, same_draw, last_of, drawn_at, noted, is_no_later}
 
 -- the world's list has a number that an event drew, with that event or a later one, and no event to come
@@ -44,8 +44,13 @@ last_after (e ∷ ds) node draw event j d = go (last_after ds node draw event j 
     same_as : (x y : Draw) → same_draw x y ≡ true → x ≡ y
     same_as (Tid a) (Tid b) h = ap Tid (eqb-true a b h)
     same_as (Lookup a) (Lookup b) h = ap Lookup (eqb-true a b h)
+    same_as (Conn a) (Conn b) h = ap Conn (eqb-true a b h)
     same_as (Tid a) (Lookup b) h = absurd (cc)
+    same_as (Tid a) (Conn b) h = absurd (cc)
     same_as (Lookup a) (Tid b) h = absurd (cc)
+    same_as (Lookup a) (Conn b) h = absurd (cc)
+    same_as (Conn a) (Tid b) h = absurd (cc)
+    same_as (Conn a) (Lookup b) h = absurd (cc)
 
     here : is_number node draw e.0 ≡ true → e.0 ≡ (node, draw)
     here h =
@@ -55,8 +60,13 @@ last_after (e ∷ ds) node draw event j d = go (last_after ds node draw event j 
     draws_alike : (x y : Draw) → x ≡ y → same_draw x y ≡ true
     draws_alike (Tid a) (Tid b) h = let e : a ≡ b = cc in eq-eqb a b e
     draws_alike (Lookup a) (Lookup b) h = let e : a ≡ b = cc in eq-eqb a b e
+    draws_alike (Conn a) (Conn b) h = let e : a ≡ b = cc in eq-eqb a b e
     draws_alike (Tid a) (Lookup b) h = absurd (cc)
+    draws_alike (Tid a) (Conn b) h = absurd (cc)
     draws_alike (Lookup a) (Tid b) h = absurd (cc)
+    draws_alike (Lookup a) (Conn b) h = absurd (cc)
+    draws_alike (Conn a) (Tid b) h = absurd (cc)
+    draws_alike (Conn a) (Lookup b) h = absurd (cc)
 
     both_true : node ≡ e.0.0 → draw ≡ e.0.1 → is_number node draw e.0 ≡ true
     both_true num dr = λ i. eq-eqb node e.0.0 num i && draws_alike draw e.0.1 dr i
@@ -99,6 +109,7 @@ stays_noted last events k (Some draw) node d event is = go (is_number node d (k,
 same_itself : (d : Draw) → same_draw d d ≡ true
 same_itself (Tid t) = eq-eqb t t refl
 same_itself (Lookup id) = eq-eqb id id refl
+same_itself (Conn id) = eq-eqb id id refl
 
 -- a number that is drawn now is noted
 pub noted_now : (last : Draws) (events k : ℕ) (d : Draw) → Noted (noted last k events (Some d)) (events + 1) k d events

@@ -3,7 +3,7 @@ use Rattle.std.proofs.Common.{◌≡◌, Bool, true, false, List, ℕ, inl, inr,
 use Rattle.std.specs.Prelude.{MatchBool, ◌==◌, ◌||◌}
 use Rattle.at_ddp.specs.Datagram.{Content as Datagram}
 use Rattle.at_event.specs.declared.event.Call.{Call}
-use Rattle.at_event.specs.declared.event.Call.TheVariants.{Zones, SetZones, Ask, Answer, Find, Claim, Finish, Register, Unregister}
+use Rattle.at_event.specs.declared.event.Call.TheVariants.{Zones, SetZones, Ask, Answer, Find, Claim, Finish, Register, Unregister, Listen, Connect, Write, Read, Reset, Close}
 use Rattle.at_event.specs.declared.event.Report.TheVariants as report
 use Rattle.at_event.specs.declared.event.Timer.{Timer}
 use Rattle.at_event.specs.declared.event.Timer.TheVariants as timer
@@ -13,8 +13,10 @@ use Rattle.at_node.specs.AtpParts.{atp_kind}
 use Rattle.at_node.specs.Hearing.{Hears, HearsIt, HearsMine}
 use Rattle.at_event.specs.Seats.{nbp_kind}
 use Rattle.at_node.specs.NameHearing.{HearsNames}
-use Rattle.at_node.specs.Nodes.{NodeState, with_atp, with_names, called, timed}
+use Rattle.at_node.specs.Nodes.{NodeState, with_atp, with_names, with_streams, called, timed}
 use Rattle.at_event.specs.Outcomes.{Outcome, Over, idle}
+use Rattle.at_stream_socket.specs.Hearing.{HearsStreams}
+use Rattle.at_stream_socket.specs.Sockets.{adsp_kind}
 use Rattle.at_event.specs.Seats.{is_for_all, is_mine}
 
 abbrev pub KeepsSeat : {A : Type 0} → NodeState → Outcome A NodeState → Type 0
@@ -30,20 +32,32 @@ call_keeps_seat A n (Claim object kind socket) = refl
 call_keeps_seat A n (Finish id) = refl
 call_keeps_seat A n (Register object kind socket) = refl
 call_keeps_seat A n (Unregister object kind) = refl
+call_keeps_seat A n (Listen on) = refl
+call_keeps_seat A n (Connect node socket) = refl
+call_keeps_seat A n (Write id items) = refl
+call_keeps_seat A n (Read id count) = refl
+call_keeps_seat A n (Reset id) = refl
+call_keeps_seat A n (Close id) = refl
 
 pub timer_keeps_seat : (A : Type 0) (n : NodeState) (time : Timer) → KeepsSeat {A = A} n (timed n time)
 timer_keeps_seat A n (timer.Retry tid) = refl
 timer_keeps_seat A n (timer.Release own node socket tid) = refl
 timer_keeps_seat A n (timer.Lookup id) = refl
+timer_keeps_seat A n (timer.Resend id) = refl
+timer_keeps_seat A n (timer.Probe id) = refl
 
 mine_keeps_seat : (A : Type 0) (said : Reply A) (n : NodeState) (d : Datagram) (o : Outcome A NodeState) → HearsMine said n d o → KeepsSeat n o
 mine_keeps_seat A said n d o = go (d.kind == atp_kind)
   where
-    other : (b : Bool) → MatchBool b (Over (with_names n) (HearsNames n.seat n.names d) o) (o ≡ idle n report.Ignored) → KeepsSeat n o
-    other true h = ap (λ (x : Outcome A NodeState). x.state.seat) h.2
-    other false h = ap (λ (x : Outcome A NodeState). x.state.seat) h
+    streams : (b : Bool) → MatchBool b (Over (with_streams n) (HearsStreams n.seat n.streams d) o) (o ≡ idle n report.Ignored) → KeepsSeat n o
+    streams true h = ap (λ (x : Outcome A NodeState). x.state.seat) h.2
+    streams false h = ap (λ (x : Outcome A NodeState). x.state.seat) h
 
-    go : (b : Bool) → MatchBool b (Over (with_atp n) (HearsAtp said n.seat n.atp d) o) (MatchBool (d.kind == nbp_kind) (Over (with_names n) (HearsNames n.seat n.names d) o) (o ≡ idle n report.Ignored)) → KeepsSeat n o
+    other : (b : Bool) → MatchBool b (Over (with_names n) (HearsNames n.seat n.names d) o) (MatchBool (d.kind == adsp_kind) (Over (with_streams n) (HearsStreams n.seat n.streams d) o) (o ≡ idle n report.Ignored)) → KeepsSeat n o
+    other true h = ap (λ (x : Outcome A NodeState). x.state.seat) h.2
+    other false h = streams (d.kind == adsp_kind) h
+
+    go : (b : Bool) → MatchBool b (Over (with_atp n) (HearsAtp said n.seat n.atp d) o) (MatchBool (d.kind == nbp_kind) (Over (with_names n) (HearsNames n.seat n.names d) o) (MatchBool (d.kind == adsp_kind) (Over (with_streams n) (HearsStreams n.seat n.streams d) o) (o ≡ idle n report.Ignored))) → KeepsSeat n o
     go true h = ap (λ (x : Outcome A NodeState). x.state.seat) h.2
     go false h = other (d.kind == nbp_kind) h
 

@@ -2,7 +2,7 @@
 use Rattle.std.specs.Prelude.{ℕ, ◌==◌, ◌&&◌, nat_le, if◌then◌else◌, Bool, true, false, List, [], ◌∷◌, Option, Some}
 use Rattle.std.specs.Prelude.{None}
 use Rattle.at_node.specs.declared.drawing.Draw.{Draw}
-use Rattle.at_node.specs.declared.drawing.Draw.TheVariants.{Tid, Lookup}
+use Rattle.at_node.specs.declared.drawing.Draw.TheVariants.{Tid, Lookup, Conn}
 
 -- each number of each node that was ever drawn, with the event of its last draw
 abbrev pub Draws : Type 0
@@ -11,6 +11,7 @@ Draws = List ((ℕ × Draw) × ℕ)
 abbrev pub same_draw : Draw → Draw → Bool
 same_draw (Tid a) (Tid b) = a == b
 same_draw (Lookup a) (Lookup b) = a == b
+same_draw (Conn a) (Conn b) = a == b
 same_draw a b = false
 
 abbrev pub is_number : ℕ → Draw → ℕ × Draw → Bool

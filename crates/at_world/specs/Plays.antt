@@ -1,6 +1,7 @@
 -- A whole play: each event by the world's step, with one report for each event.
-use Rattle.std.specs.Prelude.{◌≡◌, ℕ, false, if◌then◌else◌, List, [], ◌∷◌, map, take, find, slice_get, option_map}
+use Rattle.std.specs.Prelude.{◌≡◌, ℕ, max, false, if◌then◌else◌, List, [], ◌∷◌, map, take, find, slice_get, option_map}
 use Rattle.std.specs.Prelude.{IsSome, ◌⊎◌, Option, Some, None, Result, Ok, Err}
+use Rattle.at_adsp_end.specs.declared.rooms.Rooms.{Rooms}
 use Rattle.at_name_socket.specs.declared.neighbour.Neighbour.{Neighbour}
 use Rattle.at_event.specs.declared.event.Report.{Report}
 use Rattle.at_node.specs.Nodes.{NodeState, opening}
@@ -29,11 +30,15 @@ abbrev pub neighbours_of : List NodeSetup → List Neighbour
 neighbours_of [] = []
 neighbours_of (n ∷ ns) = joined n.node n.zone (neighbours_of ns)
 
+-- the rooms of a node's ends, where one place is the least
+abbrev pub rooms_of : NodeSetup → Rooms
+rooms_of n = record { receive = max n.receive_room 1; send = max n.send_room 1 }
+
 -- only the router has the table, and knows the zones of the other nodes
 abbrev pub opening_node : {A : Type 0} → Setup A → NodeSetup → NodeState
 opening_node s n =
     opening s.net n.node (router_of s.nodes) n.zone (if n.router then Some s.zones else None)
-    (if n.router then Some (neighbours_of s.nodes) else None)
+    (if n.router then Some (neighbours_of s.nodes) else None) (rooms_of n)
 
 -- the world before anything happened
 abbrev pub opening_world : {A : Type 0} → Setup A → WorldState

@@ -71,12 +71,12 @@ abbrev pub IsFresh : WorldState → SentDatagram → Type 0
 IsFresh w s =
     (node : ℕ) (draw : Draw) → Carries s.bytes node draw → is_no_later (last_of w.last node draw) s.event ≡ true
 
--- does some node hold a record under this number of a node? not if there is no number
+-- does some node hold a record or an end under this number of a node? not if there is no number
 abbrev pub holds_some : List NodeState → ℕ → Option Draw → Bool
 holds_some nodes k None = false
 holds_some nodes k (Some draw) = list_any (λ n. holds n k draw) nodes
 
--- no node holds a record under this number of a node
+-- no node holds a record or an end under this number of a node
 abbrev pub IsFree : WorldState → ℕ → Draw → Type 0
 IsFree w k draw = holds_some w.nodes k (Some draw) ≡ false
 

@@ -27,10 +27,10 @@ pub enum Refusal {
     /// The setup has no such node, or the datagram goes to another.
     #[error("the setup has no such node, or the datagram goes to another")]
     NotForNode,
-    /// A number that the datagram carries was drawn again since it was sent. Or a node still holds a record under the
-    /// number to be drawn.
+    /// A number that the datagram carries was drawn again since it was sent. Or a node still holds a record or an end
+    /// under the number to be drawn.
     #[error("a number was drawn again since the datagram was sent, \
-        or a node still holds a record under the number to be drawn")]
+        or a node still holds a record or an end under the number to be drawn")]
     Untimely,
 }
 

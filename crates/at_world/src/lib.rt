@@ -7,6 +7,7 @@ mod history;
 pub mod laws;
 mod looking;
 mod opening;
+mod places;
 mod player;
 mod sent;
 mod setup;

@@ -1,7 +1,9 @@
 ghost use Rattle.std.specs.Prelude.{◌≡◌, IfOk, Some, None, map, if◌then◌else◌};
-ghost use Rattle.at_world.specs.Plays.{neighbours_of, opening_node, router_of};
+ghost use Rattle.at_adsp_ends.specs.Tables.{AreRooms};
+ghost use Rattle.at_world.specs.Plays.{neighbours_of, opening_node, rooms_of, router_of};
 
 use crate::setup::{NodeSetup, Setup};
+use at_adsp_ends::Rooms;
 use at_ddp::{Listed, Pascal};
 use at_name_socket::Neighbour;
 use at_nbp::copy_of;
@@ -23,9 +25,23 @@ pub(crate) fn opening_nodes<A: Allocator + Copy>(
         let zone = zone_of(n);
         let zones = table_of(alloc, n.router, setup.zones.as_slice())?;
         let neighbours = neighbours_for(alloc, n.router, setups)?;
-        nodes.push(Node::new(alloc, setup.net, n.node, router, zone, zones, neighbours))?;
+        let rooms = rooms_of(n);
+        nodes.push(Node::new(
+            alloc, setup.net, n.node, router, zone, zones, neighbours, rooms,
+        ))?;
     }
     Ok(nodes)
+}
+
+// The rooms of a node's ends. One place is the least with which anything can be sent.
+fn rooms_of(node: &NodeSetup) -> Rooms
+    ensures value { result ≡ rooms_of node.now }
+    ensures lawful { AreRooms result }
+{
+    Rooms {
+        receive: node.receive_room.max(1),
+        send: node.send_room.max(1),
+    }
 }
 
 fn zone_of(node: &NodeSetup) -> Option<Pascal>

@@ -1,17 +1,17 @@
 ghost use Rattle.std.specs.Prelude.{◌≡◌, Err, ◌==◌, ◌||◌, IfOk, IfErr, IsOk, IsErr, OnOk, OnErr, None, false, true};
 ghost use Rattle.std.specs.Prelude.{◌≤◌, ◌-◌, ◌++◌, length, replicate, ℕ};
-ghost use Rattle.std.specs.List.{position_from, list_any};
-ghost use Rattle.at_node.specs.Drawing.{Carries, Draws, drawn_by, holds};
+ghost use Rattle.at_node.specs.Drawing.{Carries, Draws, drawn_by};
 ghost use Rattle.at_node.specs.declared.drawing.Draw.{Draw as Drawn};
 ghost use Rattle.at_world.specs.Draws.{last_of, noted, is_no_later};
 ghost use Rattle.at_world.specs.Plays.{opening_world};
-ghost use Rattle.at_world.specs.Worlds.{DrawsFree, IsNotTaken, holds_some, is_in_time, IsPlayable, Plays, PlaysAt};
+ghost use Rattle.at_world.specs.Worlds.{DrawsFree, IsNotTaken, is_in_time, IsPlayable, Plays, PlaysAt};
 ghost use Rattle.at_world.specs.Worlds.{PlaysDelivery, Takes, IsFault, Refuses, refusal, refusal_at, node_refusal};
-ghost use Rattle.at_world.specs.Worlds.{node_at, is_over, is_numbered};
+ghost use Rattle.at_world.specs.Worlds.{node_at, is_over};
 
 use crate::draws::LastDraws;
 use crate::event::{Event, Fault, Refusal};
 use crate::opening::opening_nodes;
+use crate::places::{is_held, place_of};
 use crate::sent::{SentList, stamp_all};
 use crate::setup::Setup;
 use at_ddp::{Bytes, Datagrams};
@@ -109,7 +109,7 @@ impl<A: Allocator + Copy> World<A> {
         self.events >= MAX_EVENTS || self.stamps.len() > MAX_DATAGRAMS
     }
 
-    // A node takes an input, unless it would draw a number under which some node still holds a record.
+    // A node takes an input, unless it would draw a number under which some node still holds a record or an end.
     fn play(&mut self, node: u8, input: &Input<'_, A>) -> Result<Report<A>, Fault>
         requires whole { self.old.failed ≡ false }
         requires runs { is_over self.old ≡ false }
@@ -139,7 +139,7 @@ impl<A: Allocator + Copy> World<A> {
         kept(booked, report)
     }
 
-    // Whether a node would draw a number under which some node still holds a record.
+    // Whether a node would draw a number under which some node still holds a record or an end.
     fn draws_held(&self, node: u8, input: &Input<'_, A>) -> bool
         ensures held { result ≡ true → ¬ DrawsFree self.now node (λ n draw. Draws n input.now draw) }
         ensures free { result ≡ false → DrawsFree self.now node (λ n draw. Draws n input.now draw) }
@@ -206,6 +206,7 @@ fn drawn_by<A: Allocator>(report: &Report<A>) -> Option<Draw>
     match report {
         Report::Begun(tid) => Some(Draw::Tid(*tid)),
         Report::Looking(id) => Some(Draw::Lookup(*id)),
+        Report::Opening(id) | Report::Made(id) => Some(Draw::Conn(*id)),
         _ => None,
     }
 }
@@ -249,22 +250,6 @@ fn is_for(to: u8, node: u8) -> bool
     to == node || to == 255
 }
 
-// Whether some node holds a record under the number that a node would draw.
-fn is_held<A: Allocator + Copy>(nodes: &[Node<A>], node: u8, draw: Option<Draw>) -> bool
-    ensures { result ≡ holds_some nodes.now node draw }
-{
-    match draw {
-        None => false,
-        Some(draw) => is_held_by_some(nodes, node, draw),
-    }
-}
-
-fn is_held_by_some<A: Allocator + Copy>(nodes: &[Node<A>], node: u8, draw: Draw) -> bool
-    ensures { result ≡ list_any (λ n. holds n node draw) nodes.now }
-{
-    nodes.iter().any(|n| n.holds(node, draw))
-}
-
 // Whether no event after this one drew a number that these bytes carry.
 fn is_fresh<A: Allocator + Copy>(last: &LastDraws<A>, bytes: &[u8], event: u32) -> bool
     ensures fresh { result ≡ true → (node : ℕ) (draw : Drawn) → Carries bytes.now node draw
@@ -291,10 +276,4 @@ fn is_no_later<A: Allocator + Copy>(
         None => true,
         Some(drawn) => drawn <= event,
     }
-}
-
-fn place_of<A: Allocator + Copy>(nodes: &[Node<A>], number: u8) -> Option<usize>
-    ensures { result ≡ position_from (is_numbered number) 0 nodes.now }
-{
-    nodes.iter().position(|n| n.number() == number)
 }

@@ -5,6 +5,7 @@ mod adding;
 mod telling;
 
 use adding::Adding;
+use at_adsp_end::Rooms;
 use at_ddp::{Bytes, Datagrams};
 use at_node::{Call, Deferring, Node, PacketCount};
 use std::alloc::{AllocError, Global};
@@ -15,13 +16,19 @@ const CLIENT: u8 = 5;
 
 const SERVER: u8 = 7;
 
+/// The rooms of the ends of streams, which this example does without.
+const ROOMS: Rooms = Rooms {
+    receive: 64,
+    send: 64,
+};
+
 /// A loop must be proved to end, so it has a bound. This exchange ends after three rounds.
 const MOST_ROUNDS: u32 = 10;
 
 fn main(rt: HostRuntime) -> io::Result<()> {
     // Both nodes are on network 10, which has no router.
-    let mut client = Node::new(rt.alloc(), 10, CLIENT, None, None, None, None);
-    let mut server = Node::new(rt.alloc(), 10, SERVER, None, None, None, None);
+    let mut client = Node::new(rt.alloc(), 10, CLIENT, None, None, None, None, ROOMS);
+    let mut server = Node::new(rt.alloc(), 10, SERVER, None, None, None, None, ROOMS);
     let mut sent = Datagrams::new(rt.alloc());
     let report = client.call(&request(rt.alloc())?, &mut sent);
     tell(&rt, CLIENT, &report)?;

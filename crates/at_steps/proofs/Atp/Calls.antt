@@ -21,7 +21,7 @@ use Rattle.at_event.specs.Outcomes.{over, idle, refused_as}
 use Rattle.at_event.specs.Seats.{at_socket}
 use Rattle.at_node.specs.ServiceSocket.{answered_with}
 use Rattle.at_event.specs.declared.event.Call.{Call}
-use Rattle.at_event.specs.declared.event.Call.TheVariants.{Zones, SetZones, Ask, Answer, Find, Claim, Finish, Register, Unregister}
+use Rattle.at_event.specs.declared.event.Call.TheVariants.{Zones, SetZones, Ask, Answer, Find, Claim, Finish, Register, Unregister, Listen, Connect, Write, Read, Reset, Close}
 use Rattle.at_event.specs.declared.event.Report.TheVariants as report
 use Rattle.at_steps.specs.Acts.{Act, Calls, is_atp}
 use Rattle.at_steps.specs.AtpSteps as steps
@@ -109,3 +109,9 @@ module _ (A : Type 0) (laws : CallLaws A) (history : List Happening) (n : NodeSt
   call_happens (Finish id) range own free = absurd (cc)
   call_happens (Register object kind socket) range own free = absurd (cc)
   call_happens (Unregister object kind) range own free = absurd (cc)
+  call_happens (Listen on) range own free = absurd (cc)
+  call_happens (Connect node socket) range own free = absurd (cc)
+  call_happens (Write id items) range own free = absurd (cc)
+  call_happens (Read id count) range own free = absurd (cc)
+  call_happens (Reset id) range own free = absurd (cc)
+  call_happens (Close id) range own free = absurd (cc)

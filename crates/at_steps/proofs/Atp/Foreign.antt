@@ -25,12 +25,12 @@ use Rattle.at_node.specs.NameCalls.{pattern_asked, registered_as, register_calle
 use Rattle.at_node.specs.NameHearing.{HearsName, HearsNames, HearsNbpFault, told_by}
 use Rattle.at_node.specs.AtpParts.{atp_kind}
 use Rattle.at_node.specs.Hearing.{Hears, HearsIt, HearsMine}
-use Rattle.at_event.specs.Kinds.{kind_of_call, kind_of_timer}
-use Rattle.at_node.specs.Nodes.{NodeState, with_atp, with_names, called, timed}
-use Rattle.at_event.specs.Outcomes.{Outcome, Over, idle, over, refused_as, sent_by}
+use Rattle.at_event.specs.Kinds.{Kind, Adsp, Atp, Nbp, Nobody, kind_of_call, kind_of_timer}
+use Rattle.at_node.specs.Nodes.{NodeState, with_atp, with_names, with_streams, called, timed}
+use Rattle.at_event.specs.Outcomes.{Outcome, Outgoing, Over, idle, over, refused_as, sent_by}
 use Rattle.at_event.specs.Seats.{is_for_all, is_mine}
 use Rattle.at_event.specs.declared.event.Call.{Call}
-use Rattle.at_event.specs.declared.event.Call.TheVariants.{Zones, SetZones, Ask, Answer, Find, Claim, Finish, Register, Unregister}
+use Rattle.at_event.specs.declared.event.Call.TheVariants.{Zones, SetZones, Ask, Answer, Find, Claim, Finish, Register, Unregister, Listen, Connect, Write, Read, Reset, Close}
 use Rattle.at_event.specs.declared.event.Report.{Report}
 use Rattle.at_event.specs.declared.event.Report.TheVariants as report
 use Rattle.at_event.specs.declared.event.Timer.{Timer}
@@ -39,6 +39,9 @@ use Rattle.at_event.specs.declared.seat.Seat.{Seat}
 use Rattle.at_event.specs.declared.service.Reply.{Reply}
 use Rattle.at_steps.specs.Acts.{Act, Calls, Fires, Gets, IsSaid, is_atp, owner_of}
 use Rattle.at_steps.specs.AtpHappenings.{IsForeign}
+use Rattle.at_stream_socket.specs.Hearing.{HearsStreams}
+use Rattle.at_stream_socket.specs.Sockets.{adsp_kind}
+use Rattle.at_steps.proofs.StreamOutcomes.{ComesOfStreams, IsOfAdsp, call_of_streams, datagram_of_streams, timer_of_streams}
 
 -- what comes of an event at the socket for names is not of this protocol
 abbrev pub IsOfNames : (A : Type 0) → Act A → Outcome A SocketState → Type 0
@@ -46,6 +49,21 @@ IsOfNames A act o = AllByRecursion (λ p. (p.kind == atp_kind) ≡ false) o.out 
 
 names_foreign : (A : Type 0) (n : NodeState) (act : Act A) (o : Outcome A SocketState) → IsOfNames A act o → IsForeign n act (over (with_names n) o)
 names_foreign A n act o h = record { same = refl; sends = h.0; reports = h.1; said = h.2 }
+
+-- ---- streams
+
+apart_adsp : (k : Kind) → IsOfAdsp k → is_atp k ≡ false
+apart_adsp Adsp h = refl
+apart_adsp Nobody h = refl
+apart_adsp Atp h = absurd h
+apart_adsp Nbp h = absurd h
+
+none_sent : (out : List Outgoing) → AllByRecursion (λ p. p.kind ≡ adsp_kind) out → AllByRecursion (λ p. (p.kind == atp_kind) ≡ false) out
+none_sent [] h = tt
+none_sent (o ∷ out) h = (ap (λ k. k == atp_kind) h.0, none_sent out h.1)
+
+streams_foreign : (A : Type 0) (n : NodeState) (act : Act A) (o : Outcome A NodeState) → ComesOfStreams A n act o → IsForeign n act o
+streams_foreign A n act o h = subst (IsForeign n act) (sym h.is) (record { same = refl; sends = none_sent h.part.out h.its.sends; reports = apart_adsp (owner_of act h.part.report) h.its.reports; said = h.its.said })
 
 -- ---- calls and timers
 
@@ -100,6 +118,12 @@ call_is_foreign A n (Register object kind socket) h =
     names_foreign A n (Calls (Register object kind socket)) (register_called n.names object kind socket) (registering A (Register object kind socket) n.names object kind socket (register_fault n.names.table.names object kind))
 call_is_foreign A n (Unregister object kind) h =
     names_foreign A n (Calls (Unregister object kind)) (unregister_called n.names object kind) (unregistering A n.names object kind (find (is_called object kind) n.names.table.names))
+call_is_foreign A n (Listen on) h = streams_foreign A n (Calls (Listen on)) (called n (Listen on)) (call_of_streams A n (Listen on) refl)
+call_is_foreign A n (Connect node socket) h = streams_foreign A n (Calls (Connect node socket)) (called n (Connect node socket)) (call_of_streams A n (Connect node socket) refl)
+call_is_foreign A n (Write id items) h = streams_foreign A n (Calls (Write id items)) (called n (Write id items)) (call_of_streams A n (Write id items) refl)
+call_is_foreign A n (Read id count) h = streams_foreign A n (Calls (Read id count)) (called n (Read id count)) (call_of_streams A n (Read id count) refl)
+call_is_foreign A n (Reset id) h = streams_foreign A n (Calls (Reset id)) (called n (Reset id)) (call_of_streams A n (Reset id) refl)
+call_is_foreign A n (Close id) h = streams_foreign A n (Calls (Close id)) (called n (Close id)) (call_of_streams A n (Close id) refl)
 
 asked : (A : Type 0) (s : Seat) (n : SocketState) (id : ℕ) (o : Option Search) → IsOfNames A (Fires (timer.Lookup id)) (asked_again s n o)
 asked A s n id None = (tt, refl, tt)
@@ -109,6 +133,8 @@ pub timer_is_foreign : (A : Type 0) (n : NodeState) (time : Timer) → is_atp (k
 timer_is_foreign A n (timer.Retry tid) h = absurd (true≢false h)
 timer_is_foreign A n (timer.Release own node socket tid) h = absurd (true≢false h)
 timer_is_foreign A n (timer.Lookup id) h = names_foreign A n (Fires (timer.Lookup id)) (lookup_fired n.seat n.names id) (asked A n.seat n.names id (search_of n.names.lookups id))
+timer_is_foreign A n (timer.Resend id) h = streams_foreign A n (Fires (timer.Resend id)) (timed n (timer.Resend id)) (timer_of_streams A n (timer.Resend id) refl)
+timer_is_foreign A n (timer.Probe id) h = streams_foreign A n (Fires (timer.Probe id)) (timed n (timer.Probe id)) (timer_of_streams A n (timer.Probe id) refl)
 
 -- ---- datagrams
 
@@ -150,11 +176,15 @@ module _ (A : Type 0) (n : NodeState) (which : ℕ) (said : Reply A) (o : Outcom
   mine_is_foreign : (d : Datagram) → (d.kind == atp_kind) ≡ false → HearsMine said n d o → IsForeign n (Gets which) o
   mine_is_foreign d apart = go (d.kind == atp_kind) apart
     where
-      other : (b : Bool) → MatchBool b (Over (with_names n) (HearsNames n.seat n.names d) o) (o ≡ idle n report.Ignored) → IsForeign n (Gets which) o
-      other true h = named_is_foreign d h
-      other false h = ignored_is_foreign h
+      streams : (b : Bool) → MatchBool b (Over (with_streams n) (HearsStreams n.seat n.streams d) o) (o ≡ idle n report.Ignored) → IsForeign n (Gets which) o
+      streams true h = streams_foreign A n (Gets which) o (record { part = h.0; is = h.2; its = datagram_of_streams A n.seat n.streams which d h.0 h.1 })
+      streams false h = ignored_is_foreign h
 
-      go : (b : Bool) → b ≡ false → MatchBool b (Over (with_atp n) (HearsAtp said n.seat n.atp d) o) (MatchBool (d.kind == nbp_kind) (Over (with_names n) (HearsNames n.seat n.names d) o) (o ≡ idle n report.Ignored)) → IsForeign n (Gets which) o
+      other : (b : Bool) → MatchBool b (Over (with_names n) (HearsNames n.seat n.names d) o) (MatchBool (d.kind == adsp_kind) (Over (with_streams n) (HearsStreams n.seat n.streams d) o) (o ≡ idle n report.Ignored)) → IsForeign n (Gets which) o
+      other true h = named_is_foreign d h
+      other false h = streams (d.kind == adsp_kind) h
+
+      go : (b : Bool) → b ≡ false → MatchBool b (Over (with_atp n) (HearsAtp said n.seat n.atp d) o) (MatchBool (d.kind == nbp_kind) (Over (with_names n) (HearsNames n.seat n.names d) o) (MatchBool (d.kind == adsp_kind) (Over (with_streams n) (HearsStreams n.seat n.streams d) o) (o ≡ idle n report.Ignored))) → IsForeign n (Gets which) o
       go true e h = absurd (true≢false e)
       go false e h = other (d.kind == nbp_kind) h
 

@@ -53,6 +53,8 @@ no_expiry A net number (Fires (timer.Retry tid)) r at key q = refl
 no_expiry A net number (Fires (timer.Release own k' socket tid')) report.Done at key q = absurd (false≢true q)
 no_expiry A net number (Fires (timer.Release own k' socket tid')) r at key q = refl
 no_expiry A net number (Fires (timer.Lookup id)) r at key q = refl
+no_expiry A net number (Fires (timer.Resend id)) r at key q = refl
+no_expiry A net number (Fires (timer.Probe id)) r at key q = refl
 
 no_end : (A : Type 0) (net number : ℕ) (n : Network) (act : Act A) (r : Report A) → is_quiet r act ≡ true → Finishes net number n act r
 no_end A net number n (Calls call) r q = tt

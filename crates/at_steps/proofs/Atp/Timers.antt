@@ -147,3 +147,5 @@ timer_happens A stays history n st (timer.Retry tid) its = retry_happens A stays
 timer_happens A stays history n st (timer.Release own node socket tid) its =
     release_happens A history n st own node socket tid (own == 129) (own == 6) (expiry_fault (find (is_key (record { from = at_socket n.seat node socket; tid = tid })) (records_at n.atp own))) refl refl refl
 timer_happens A stays history n st (timer.Lookup id) its = absurd (cc)
+timer_happens A stays history n st (timer.Resend id) its = absurd (cc)
+timer_happens A stays history n st (timer.Probe id) its = absurd (cc)

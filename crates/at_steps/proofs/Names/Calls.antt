@@ -25,7 +25,7 @@ use Rattle.at_node.specs.NameCalls.{claimed_as, finished_as, found_as, pattern_a
 use Rattle.at_node.specs.Nodes.{NodeState, called, with_names}
 use Rattle.at_event.specs.Outcomes.{over}
 use Rattle.at_event.specs.declared.event.Call.{Call}
-use Rattle.at_event.specs.declared.event.Call.TheVariants.{Zones, SetZones, Ask, Answer, Find, Claim, Finish, Register, Unregister}
+use Rattle.at_event.specs.declared.event.Call.TheVariants.{Zones, SetZones, Ask, Answer, Find, Claim, Finish, Register, Unregister, Listen, Connect, Write, Read, Reset, Close}
 use Rattle.at_event.specs.declared.event.Report.TheVariants as report
 use Rattle.at_steps.specs.Acts.{Calls, is_nbp}
 use Rattle.at_steps.specs.NameHappenings.{Stands}
@@ -159,3 +159,9 @@ module _ (A : Type 0) (laws : CallLaws A) (setting : Setting) (history : List Ha
   call_happens (Finish id) range its = finishing id (finish_fault n.names id) refl
   call_happens (Register object kind socket) range its = registering object kind socket range.0 range.1 range.2 (register_fault n.names.table.names object kind) refl
   call_happens (Unregister object kind) range its = unregistering object kind (find (is_called object kind) n.names.table.names) refl
+  call_happens (Listen on) range its = absurd (cc)
+  call_happens (Connect node socket) range its = absurd (cc)
+  call_happens (Write id items) range its = absurd (cc)
+  call_happens (Read id count) range its = absurd (cc)
+  call_happens (Reset id) range its = absurd (cc)
+  call_happens (Close id) range its = absurd (cc)

@@ -26,11 +26,11 @@ use Rattle.at_zip.specs.declared.fault.ZipFault.{ZipFault}
 use Rattle.at_node.specs.AtpHearing.{AtSocket, AtpSocket, HearsAt, HearsAtp, Requester, Service, Zones as ZoneSocket, atp_socket}
 use Rattle.at_node.specs.AtpParts.{AtpState, Reading, after_heard, asking as asker, asks, atp_kind, packet_in, serving, tid_of, zones_at}
 use Rattle.at_node.specs.Hearing.{Hears, HearsIt, HearsMine}
-use Rattle.at_event.specs.Kinds.{kind_of_call, kind_of_timer}
+use Rattle.at_event.specs.Kinds.{Kind, Adsp, Atp, Nbp, Nobody, kind_of_call, kind_of_timer}
 use Rattle.at_event.specs.Seats.{nbp_kind}
 use Rattle.at_node.specs.NameHearing.{HearsNames}
-use Rattle.at_node.specs.Nodes.{NodeState, called, timed, with_atp, with_names}
-use Rattle.at_event.specs.Outcomes.{Outcome, Over, idle, over, refused_as, sent_by}
+use Rattle.at_node.specs.Nodes.{NodeState, called, timed, with_atp, with_names, with_streams}
+use Rattle.at_event.specs.Outcomes.{Outcome, Outgoing, Over, idle, over, refused_as, sent_by}
 use Rattle.at_node.specs.RequesterSocket.{AtRequester, after_retry, ask_called, asked_as, hears_other, reported_other, retry_fired}
 use Rattle.at_node.specs.Responders.{expired, release_fired, released_report, records_at}
 use Rattle.at_event.specs.Seats.{at_socket, is_for_all, is_mine}
@@ -38,7 +38,7 @@ use Rattle.at_node.specs.ServiceSocket.{AtService, answer_called, answered_with,
 use Rattle.at_node.specs.ZoneReading.{AsksOn, ReadsPage, TakesPage, after_failing, is_page, is_reading, names_read, page_transaction, reading_begins, zones_called}
 use Rattle.at_node.specs.ZoneSocket.{AtZones, at_zones, page_packet, set_zones_called, table_set, zone_taken}
 use Rattle.at_event.specs.declared.event.Call.{Call}
-use Rattle.at_event.specs.declared.event.Call.TheVariants.{Zones, SetZones, Ask, Answer, Find, Claim, Finish, Register, Unregister}
+use Rattle.at_event.specs.declared.event.Call.TheVariants.{Zones, SetZones, Ask, Answer, Find, Claim, Finish, Register, Unregister, Listen, Connect, Write, Read, Reset, Close}
 use Rattle.at_event.specs.declared.event.Report.{Report}
 use Rattle.at_event.specs.declared.event.Report.TheVariants as report
 use Rattle.at_event.specs.declared.event.Timer.{Timer}
@@ -47,6 +47,9 @@ use Rattle.at_event.specs.declared.seat.Seat.{Seat}
 use Rattle.at_event.specs.declared.service.Reply.{Reply}
 use Rattle.at_steps.specs.Acts.{Act, Calls, Fires, Gets, is_nbp, owner_of}
 use Rattle.at_steps.specs.NameHappenings.{IsForeign}
+use Rattle.at_stream_socket.specs.Hearing.{HearsStreams}
+use Rattle.at_stream_socket.specs.Sockets.{adsp_kind}
+use Rattle.at_steps.proofs.StreamOutcomes.{ComesOfStreams, IsOfAdsp, call_of_streams, datagram_of_streams, timer_of_streams}
 
 -- what comes of an event at the sockets of transactions is not of this protocol
 abbrev pub IsOfAtp : (A : Type 0) → Act A → Outcome A AtpState → Type 0
@@ -62,6 +65,21 @@ atp_foreign A n act o h = record { same = refl; sends = h.0; reports = h.1 }
 all_atp : (own : Address) (pushes : List (Address × List ℕ)) → AllByRecursion (λ p. (p.kind == nbp_kind) ≡ false) (sent_by own atp_kind pushes)
 all_atp own [] = tt
 all_atp own (push ∷ pushes) = (refl, all_atp own pushes)
+
+-- ---- streams
+
+apart_adsp : (k : Kind) → IsOfAdsp k → is_nbp k ≡ false
+apart_adsp Adsp h = refl
+apart_adsp Nobody h = refl
+apart_adsp Atp h = absurd h
+apart_adsp Nbp h = absurd h
+
+none_sent : (out : List Outgoing) → AllByRecursion (λ p. p.kind ≡ adsp_kind) out → AllByRecursion (λ p. (p.kind == nbp_kind) ≡ false) out
+none_sent [] h = tt
+none_sent (o ∷ out) h = (ap (λ k. k == nbp_kind) h.0, none_sent out h.1)
+
+streams_foreign : (A : Type 0) (n : NodeState) (act : Act A) (o : Outcome A NodeState) → ComesOfStreams A n act o → IsForeign n act o
+streams_foreign A n act o h = subst (IsForeign n act) (sym h.is) (record { same = refl; sends = none_sent h.part.out h.its.sends; reports = apart_adsp (owner_of act h.part.report) h.its.reports })
 
 -- ---- calls and timers
 
@@ -113,6 +131,12 @@ call_is_foreign A n (Claim object kind socket) h = absurd (true≢false h)
 call_is_foreign A n (Finish id) h = absurd (true≢false h)
 call_is_foreign A n (Register object kind socket) h = absurd (true≢false h)
 call_is_foreign A n (Unregister object kind) h = absurd (true≢false h)
+call_is_foreign A n (Listen on) h = streams_foreign A n (Calls (Listen on)) (called n (Listen on)) (call_of_streams A n (Listen on) refl)
+call_is_foreign A n (Connect node socket) h = streams_foreign A n (Calls (Connect node socket)) (called n (Connect node socket)) (call_of_streams A n (Connect node socket) refl)
+call_is_foreign A n (Write id items) h = streams_foreign A n (Calls (Write id items)) (called n (Write id items)) (call_of_streams A n (Write id items) refl)
+call_is_foreign A n (Read id count) h = streams_foreign A n (Calls (Read id count)) (called n (Read id count)) (call_of_streams A n (Read id count) refl)
+call_is_foreign A n (Reset id) h = streams_foreign A n (Calls (Reset id)) (called n (Reset id)) (call_of_streams A n (Reset id) refl)
+call_is_foreign A n (Close id) h = streams_foreign A n (Calls (Close id)) (called n (Close id)) (call_of_streams A n (Close id) refl)
 
 module _ (A : Type 0) (a : AtpState) where
   timer_refused : (time : Timer) (number : Option ℕ) → IsOfAtp A (Fires time) (idle a (refused_as number))
@@ -141,6 +165,8 @@ timer_is_foreign A n (timer.Release own node socket tid) h =
     atp_foreign A n (Fires (timer.Release own node socket tid)) (release_fired n.atp own (record { from = at_socket n.seat node socket; tid = tid }))
     (expiring A n.atp own node socket tid (record { from = at_socket n.seat node socket; tid = tid }) (expiry_fault (find (is_key (record { from = at_socket n.seat node socket; tid = tid })) (records_at n.atp own))))
 timer_is_foreign A n (timer.Lookup id) h = absurd (true≢false h)
+timer_is_foreign A n (timer.Resend id) h = streams_foreign A n (Fires (timer.Resend id)) (timed n (timer.Resend id)) (timer_of_streams A n (timer.Resend id) refl)
+timer_is_foreign A n (timer.Probe id) h = streams_foreign A n (Fires (timer.Probe id)) (timed n (timer.Probe id)) (timer_of_streams A n (timer.Probe id) refl)
 
 -- ---- datagrams
 
@@ -241,11 +267,15 @@ module _ (A : Type 0) (n : NodeState) (which : ℕ) (said : Reply A) (o : Outcom
   mine_is_foreign : (d : Datagram) → (d.kind == nbp_kind) ≡ false → HearsMine said n d o → IsForeign n (Gets which) o
   mine_is_foreign d apart = go (d.kind == atp_kind)
     where
-      other : (b : Bool) → b ≡ false → MatchBool b (Over (with_names n) (HearsNames n.seat n.names d) o) (o ≡ idle n report.Ignored) → IsForeign n (Gets which) o
-      other true e h = absurd (true≢false e)
-      other false e h = idle_is_foreign report.Ignored refl h
+      streams : (b : Bool) → MatchBool b (Over (with_streams n) (HearsStreams n.seat n.streams d) o) (o ≡ idle n report.Ignored) → IsForeign n (Gets which) o
+      streams true h = streams_foreign A n (Gets which) o (record { part = h.0; is = h.2; its = datagram_of_streams A n.seat n.streams which d h.0 h.1 })
+      streams false h = idle_is_foreign report.Ignored refl h
 
-      go : (b : Bool) → MatchBool b (Over (with_atp n) (HearsAtp said n.seat n.atp d) o) (MatchBool (d.kind == nbp_kind) (Over (with_names n) (HearsNames n.seat n.names d) o) (o ≡ idle n report.Ignored)) → IsForeign n (Gets which) o
+      other : (b : Bool) → b ≡ false → MatchBool b (Over (with_names n) (HearsNames n.seat n.names d) o) (MatchBool (d.kind == adsp_kind) (Over (with_streams n) (HearsStreams n.seat n.streams d) o) (o ≡ idle n report.Ignored)) → IsForeign n (Gets which) o
+      other true e h = absurd (true≢false e)
+      other false e h = streams (d.kind == adsp_kind) h
+
+      go : (b : Bool) → MatchBool b (Over (with_atp n) (HearsAtp said n.seat n.atp d) o) (MatchBool (d.kind == nbp_kind) (Over (with_names n) (HearsNames n.seat n.names d) o) (MatchBool (d.kind == adsp_kind) (Over (with_streams n) (HearsStreams n.seat n.streams d) o) (o ≡ idle n report.Ignored))) → IsForeign n (Gets which) o
       go true h = subst (IsForeign n (Gets which)) (sym h.2) (atp_foreign A n (Gets which) h.0 (heard_at A n.seat n.atp which said d (atp_socket n.atp d.to.socket) h.0 h.1))
       go false h = other (d.kind == nbp_kind) apart h
 

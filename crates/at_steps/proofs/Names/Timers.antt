@@ -33,3 +33,5 @@ module _ (A : Type 0) (laws : TimerLaws) (setting : Setting) (history : List Hap
   timer_happens (timer.Retry tid) its = absurd (cc)
   timer_happens (timer.Release own node socket tid) its = absurd (cc)
   timer_happens (timer.Lookup id) its = asking id (search_of n.names.lookups id) refl
+  timer_happens (timer.Resend id) its = absurd (cc)
+  timer_happens (timer.Probe id) its = absurd (cc)

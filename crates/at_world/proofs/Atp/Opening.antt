@@ -11,7 +11,7 @@ use Rattle.at_world.specs.declared.setup.NodeSetup.{NodeSetup}
 use Rattle.at_world.specs.declared.setup.Setup.{Setup}
 use Rattle.at_world.specs.AtpGuards as atp
 use Rattle.at_world.specs.Cables as cables
-use Rattle.at_world.specs.Plays.{neighbours_of, router_of, opening_node, opening_world}
+use Rattle.at_world.specs.Plays.{neighbours_of, router_of, opening_node, opening_world, rooms_of}
 use Rattle.at_world.specs.Setups.{is_lawful}
 use Rattle.at_world.specs.Worlds.{is_numbered}
 use Rattle.at_world.proofs.Atp.Places.{requester_of, requester_at, service_of, served_of, records_at}
@@ -39,7 +39,7 @@ module _ (A : Type 0) (s : Setup A) where
   router_is (x ∷ ns) few k n h t has = go (λ less g. router_is ns less k n g t has) x.router (x.node == k) refl (subst (λ m. m ≤ 1) (routers-cons x ns) few) h
     where
       opened : Bool → NodeState
-      opened b = opening s.net x.node (router_of s.nodes) x.zone (cond b (Some s.zones) None) (cond b (Some (neighbours_of s.nodes)) None)
+      opened b = opening s.net x.node (router_of s.nodes) x.zone (cond b (Some s.zones) None) (cond b (Some (neighbours_of s.nodes)) None) (rooms_of x)
 
       go : (count_by (λ n. n.router) ns ≤ 1 → find (is_numbered k) (map (opening_node s) ns) ≡ Some n → router_of ns ≡ Some k) → (b c : Bool) → (x.node == k) ≡ c → cond b 1 0 + count_by (λ n. n.router) ns ≤ 1 → cond c (Some (opened b)) (find (is_numbered k) (map (opening_node s) ns)) ≡ Some n
           → option_map (λ (n : NodeSetup). n.node) (cond b (Some x) (find (λ n. n.router) ns)) ≡ Some k
@@ -54,7 +54,7 @@ module _ (A : Type 0) (s : Setup A) where
   table_is (x ∷ ns) k n h t has = go (λ g. table_is ns k n g t has) x.router (x.node == k) h
     where
       opened : Bool → NodeState
-      opened b = opening s.net x.node (router_of s.nodes) x.zone (cond b (Some s.zones) None) (cond b (Some (neighbours_of s.nodes)) None)
+      opened b = opening s.net x.node (router_of s.nodes) x.zone (cond b (Some s.zones) None) (cond b (Some (neighbours_of s.nodes)) None) (rooms_of x)
 
       of_one : (b : Bool) → opened b ≡ n → t ≡ s.zones
       of_one true same = let some : Some s.zones ≡ Some t = ap (λ (y : NodeState). y.atp.table) same ∙ has in cc

@@ -13,7 +13,7 @@ use Rattle.at_node.specs.Drawing.{holds}
 use Rattle.at_node.specs.AtpParts.{asking}
 use Rattle.at_node.specs.Nodes.{NodeState}
 use Rattle.at_node.specs.declared.drawing.Draw.{Draw}
-use Rattle.at_node.specs.declared.drawing.Draw.TheVariants.{Lookup, Tid}
+use Rattle.at_node.specs.declared.drawing.Draw.TheVariants.{Conn, Lookup, Tid}
 use Rattle.at_steps.specs.AtpHappenings.{HoldsNo, numbers_drawn}
 use Rattle.at_world.specs.Draws.{Draws, last_of, noted, is_no_later}
 use Rattle.at_world.specs.Worlds.{is_numbered, holds_some}
@@ -51,6 +51,7 @@ all_noted last events k o (x ∷ drawn) all = (stays_noted last events k o (x.wh
 pub drawn_too : (last : Draws) (events event net k : ℕ) (d : Option Draw) (drawn : List Drawn) → events ≡ event → AllByRecursion (IsNoted (noted last k events d) (events + 1)) drawn → AllByRecursion (IsNoted (noted last k events d) (events + 1)) (drawn ++ numbers_drawn event (asking net k) d)
 drawn_too last events event net k None [] same all = tt
 drawn_too last events event net k (Some (Lookup id)) [] same all = tt
+drawn_too last events event net k (Some (Conn id)) [] same all = tt
 drawn_too last events event net k (Some (Tid tid)) [] same all = (subst (λ i. IsNoted (noted last k events (Some (Tid tid))) (events + 1) (record { event = i; who = asking net k; tid = tid })) same (noted_now last events k (Tid tid)), tt)
 drawn_too last events event net k d (x ∷ drawn) same all = (all.0, drawn_too last events event net k d drawn same all.1)
 

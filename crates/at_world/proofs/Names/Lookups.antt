@@ -10,7 +10,7 @@ use Rattle.at_name_socket.specs.NameSockets.{names_of}
 use Rattle.at_name_socket.specs.Sockets.{Change, Closes, Open, Opens, Stays, changed}
 use Rattle.at_name_socket.specs.declared.claim.Claim.{Claim}
 use Rattle.at_node.specs.declared.drawing.Draw.{Draw}
-use Rattle.at_node.specs.declared.drawing.Draw.TheVariants.{Lookup as Identifier, Tid}
+use Rattle.at_node.specs.declared.drawing.Draw.TheVariants.{Conn, Lookup as Identifier, Tid}
 use Rattle.at_steps.specs.NameHappenings.{BeginsBy}
 use Rattle.at_world.specs.NameGuards.{Lookup, is_lookup, lookup_of, without_lookup}
 
@@ -101,15 +101,18 @@ same_sockets net k j = ap (λ b. b && (k == j) && true) (eq-eqb net net refl) �
 newest_kept : (net event k j id : ℕ) (change : Change) (d : Option Draw) (before now : List Begun) → IsDrawn change d → BeginsBy event (names_of net k) d before now → IsAnother change k j id → newest now (names_of net j) id ≡ newest before (names_of net j) id
 newest_kept net event k j id (Opens drawn pattern claim) None before now is begins another = absurd cc
 newest_kept net event k j id (Opens drawn pattern claim) (Some (Tid t)) before now is begins another = absurd cc
+newest_kept net event k j id (Opens drawn pattern claim) (Some (Conn t)) before now is begins another = absurd cc
 newest_kept net event k j id (Opens drawn pattern claim) (Some (Identifier i)) before now is begins another =
     let same : i ≡ drawn = cc in
     let fails : (same_address (names_of net k) (names_of net j) && (i == id)) ≡ false = (λ x. same_sockets net k j x && (same x == id)) ∙ another in
     ap (λ (l : List Begun). newest l (names_of net j) id) begins.1 ∙ (rw fails refl)
 newest_kept net event k j id Stays None before now is begins another = ap (λ (l : List Begun). newest l (names_of net j) id) begins
 newest_kept net event k j id Stays (Some (Tid t)) before now is begins another = ap (λ (l : List Begun). newest l (names_of net j) id) begins
+newest_kept net event k j id Stays (Some (Conn t)) before now is begins another = ap (λ (l : List Begun). newest l (names_of net j) id) begins
 newest_kept net event k j id Stays (Some (Identifier i)) before now is begins another = absurd is
 newest_kept net event k j id (Closes ended) None before now is begins another = ap (λ (l : List Begun). newest l (names_of net j) id) begins
 newest_kept net event k j id (Closes ended) (Some (Tid t)) before now is begins another = ap (λ (l : List Begun). newest l (names_of net j) id) begins
+newest_kept net event k j id (Closes ended) (Some (Conn t)) before now is begins another = ap (λ (l : List Begun). newest l (names_of net j) id) begins
 newest_kept net event k j id (Closes ended) (Some (Identifier i)) before now is begins another = absurd is
 
 module _ (net event since : ℕ) (ls : List Lookup) (k : ℕ) (change : Change) (d : Option Draw) (before now : List Begun) (drawn : IsDrawn change d) (begins : BeginsBy event (names_of net k) d before now) where
@@ -140,6 +143,7 @@ opens : (net event since : ℕ) (ls : List Lookup) (k id : ℕ) (pattern : Name)
     IsKnown net (lookups_after ls since k (Opens id pattern claim)) now k id (record { pattern = asked pattern; claim = claim })
 opens net event since ls k id pattern claim None before now is drawn begins = absurd cc
 opens net event since ls k id pattern claim (Some (Tid t)) before now is drawn begins = absurd cc
+opens net event since ls k id pattern claim (Some (Conn t)) before now is drawn begins = absurd cc
 opens net event since ls k id pattern claim (Some (Identifier i)) before now is drawn begins =
     let same : i ≡ id = cc in
     let here : (same_address (names_of net k) (names_of net k) && (i == id)) ≡ true = λ x. (same_sockets net k k ∙ eq-eqb k k refl) x && eq-eqb i id same x in

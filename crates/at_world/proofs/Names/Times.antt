@@ -10,7 +10,7 @@ use Rattle.at_nbp.specs.Network as network
 use Rattle.at_nbp.specs.Network.{Begun}
 use Rattle.at_name_socket.specs.NameSockets.{names_of}
 use Rattle.at_node.specs.declared.drawing.Draw.{Draw}
-use Rattle.at_node.specs.declared.drawing.Draw.TheVariants.{Lookup, Tid}
+use Rattle.at_node.specs.declared.drawing.Draw.TheVariants.{Conn, Lookup, Tid}
 use Rattle.at_steps.specs.NameHappenings.{BeginsBy}
 use Rattle.at_world.specs.Draws.{Draws, last_of, noted, is_no_later}
 use Rattle.at_world.proofs.NotedLemmas.{Noted, not_later, noted_now, stays_noted}
@@ -43,6 +43,7 @@ pub all_noted_then : (last : Draws) (events event net k : ℕ) (d : Option Draw)
     AllByRecursion (IsNoted (noted last k events d) (events + 1)) now
 all_noted_then last events event net k None before now same is all = subst (AllByRecursion (IsNoted last (events + 1))) (sym is) (all_noted last events k None before all)
 all_noted_then last events event net k (Some (Tid tid)) before now same is all = subst (AllByRecursion (IsNoted (noted last k events (Some (Tid tid))) (events + 1))) (sym is) (all_noted last events k (Some (Tid tid)) before all)
+all_noted_then last events event net k (Some (Conn id)) before now same is all = subst (AllByRecursion (IsNoted (noted last k events (Some (Conn id))) (events + 1))) (sym is) (all_noted last events k (Some (Conn id)) before all)
 all_noted_then last events event net k (Some (Lookup id)) before now same is all =
     let last' = noted last k events (Some (Lookup id)) in
     subst (AllByRecursion (IsNoted last' (events + 1))) (sym is.1)

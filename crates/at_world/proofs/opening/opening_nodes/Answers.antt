@@ -15,7 +15,7 @@ loop-n-preserved g c =
     let router = c.router_of-router.ensures ∙ ap router_of same in
     let zones = c.in_ok-zones.ensures ∙ ap (λ (z : List (List ℕ)). cond n.router (Some z) None) c.as_slice.ensures in
     let known = c.in_ok-neighbours.ensures ∙ ap (λ (l : List NodeSetup). cond n.router (Some (neighbours_of l)) None) same in
-    let node : c.new.result ≡ opening_node s n = c.new.ensures ∙ (λ k. opening s.net n.node (router k) (c.zone_of-zone.ensures k) (zones k) (known k)) in
+    let node : c.new.result ≡ opening_node s n = c.new.ensures ∙ (λ k. opening s.net n.node (router k) (c.zone_of-zone.ensures k) (zones k) (known k) (c.rooms_of-rooms.ensures.value k)) in
     let name : get_or setups i n ≡ n = sym c.n-item.is in
     c.in_ok-push.ensures.items ∙ (λ k. c.loop-n.invariant k ++ node k ∷ [])
     ∙ sym (ap (map (opening_node s)) (take_more setups i n c.loop-n-test.true) ∙ map-append (opening_node s) (take i setups) (get_or setups i n ∷ []) ∙ ap (λ x. map (opening_node s) (take i setups) ++ opening_node s x ∷ []) name)

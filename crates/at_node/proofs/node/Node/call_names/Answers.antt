@@ -9,8 +9,8 @@ use Rattle.at_node.proofs.node.Node.call_names.Goals as goal
 
 pub returns-in-Finish : goal.returns-in-Finish
 returns-in-Finish g c =
-    let inside : NodeState = record { seat = c.self.inside.seat; atp = c.self.inside.atp; names = c.self.inside.names } in
-    let new : NodeState = record { seat = c.self.inside.seat; atp = c.self.inside.atp; names = c.finish.new.self } in
+    let inside : NodeState = record { seat = c.self.inside.seat; atp = c.self.inside.atp; names = c.self.inside.names; streams = c.self.inside.streams } in
+    let new : NodeState = record { seat = c.self.inside.seat; atp = c.self.inside.atp; names = c.finish.new.self; streams = c.self.inside.streams } in
     let items = c.args.out.now.items in
     let call : Call g.row.A.Denot = Finish c.in-Finish.id in
     rw c.in-Finish.is
@@ -19,8 +19,8 @@ returns-in-Finish g c =
 
 pub returns-in-Register : goal.returns-in-Register
 returns-in-Register g c =
-    let inside : NodeState = record { seat = c.self.inside.seat; atp = c.self.inside.atp; names = c.self.inside.names } in
-    let new : NodeState = record { seat = c.self.inside.seat; atp = c.self.inside.atp; names = c.register.new.self } in
+    let inside : NodeState = record { seat = c.self.inside.seat; atp = c.self.inside.atp; names = c.self.inside.names; streams = c.self.inside.streams } in
+    let new : NodeState = record { seat = c.self.inside.seat; atp = c.self.inside.atp; names = c.register.new.self; streams = c.self.inside.streams } in
     let items = c.args.out.now.items in
     let i = c.in-Register in
     let call : Call g.row.A.Denot = Register i.object i.kind i.socket in
@@ -30,8 +30,8 @@ returns-in-Register g c =
 
 pub returns-in-Unregister : goal.returns-in-Unregister
 returns-in-Unregister g c =
-    let inside : NodeState = record { seat = c.self.inside.seat; atp = c.self.inside.atp; names = c.self.inside.names } in
-    let new : NodeState = record { seat = c.self.inside.seat; atp = c.self.inside.atp; names = c.unregister.new.self } in
+    let inside : NodeState = record { seat = c.self.inside.seat; atp = c.self.inside.atp; names = c.self.inside.names; streams = c.self.inside.streams } in
+    let new : NodeState = record { seat = c.self.inside.seat; atp = c.self.inside.atp; names = c.unregister.new.self; streams = c.self.inside.streams } in
     let items = c.args.out.now.items in
     let i = c.in-Unregister in
     let call : Call g.row.A.Denot = Unregister i.object i.kind in

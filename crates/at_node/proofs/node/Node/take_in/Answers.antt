@@ -7,7 +7,9 @@ use Rattle.at_node.specs.AtpParts.{atp_kind}
 use Rattle.at_node.specs.Hearing.{HearsIt}
 use Rattle.at_event.specs.Seats.{nbp_kind}
 use Rattle.at_node.specs.NameHearing.{HearsNames}
-use Rattle.at_node.specs.Nodes.{NodeState, with_atp, with_names}
+use Rattle.at_node.specs.Nodes.{NodeState, with_atp, with_names, with_streams}
+use Rattle.at_stream_socket.specs.Hearing.{HearsStreams}
+use Rattle.at_stream_socket.specs.Sockets.{adsp_kind}
 use Rattle.at_event.specs.Outcomes.{Comes, Over}
 use Rattle.at_event.specs.Seats.{is_for_all, is_mine}
 use Rattle.at_event.specs.declared.service.Reply.TheVariants.{Later}
@@ -27,13 +29,14 @@ returns g c =
     let mine : (is_for_all c.args.self.now.seat d.kind d.to || is_mine c.args.self.now.seat d.to) ≡ true = search rules in
     let not_atp : (d.kind == atp_kind) ≡ false = ne_eqb d.kind atp_kind c.if-datagram-eq-ATP.false in
     let not_nbp : (d.kind == nbp_kind) ≡ false = ne_eqb d.kind nbp_kind c.if-datagram-eq-NBP.false in
-    (Later, comes_ignored (HearsIt Later c.args.self.now d) c.args.self.now c.args.out.now.items (rw (mine, not_atp, not_nbp) refl), refl)
+    let not_adsp : (d.kind == adsp_kind) ≡ false = ne_eqb d.kind adsp_kind c.if-datagram-eq-ADSP.false in
+    (Later, comes_ignored (HearsIt Later c.args.self.now d) c.args.self.now c.args.out.now.items (rw (mine, not_atp, not_nbp, not_adsp) refl), refl)
 
 pub returns-then-datagram-eq-ATP : goal.returns-then-datagram-eq-ATP
 returns-then-datagram-eq-ATP g c =
     let r = c.hear.ensures in
-    let inside : NodeState = record { seat = c.self.inside.seat; atp = c.self.inside.atp; names = c.self.inside.names } in
-    let new : NodeState = record { seat = c.self.inside.seat; atp = c.hear.new.self; names = c.self.inside.names } in
+    let inside : NodeState = record { seat = c.self.inside.seat; atp = c.self.inside.atp; names = c.self.inside.names; streams = c.self.inside.streams } in
+    let new : NodeState = record { seat = c.self.inside.seat; atp = c.hear.new.self; names = c.self.inside.names; streams = c.self.inside.streams } in
     let d = content c.args.datagram.now in
     let before = c.args.out.now.items in
     let after = c.hear.new.out.items in
@@ -50,8 +53,8 @@ returns-then-datagram-eq-ATP g c =
 pub returns-then-datagram-eq-NBP : goal.returns-then-datagram-eq-NBP
 returns-then-datagram-eq-NBP g c =
     let h = c.hear-then-datagram-eq-NBP in
-    let inside : NodeState = record { seat = c.self.inside.seat; atp = c.self.inside.atp; names = c.self.inside.names } in
-    let new : NodeState = record { seat = c.self.inside.seat; atp = c.self.inside.atp; names = h.new.self } in
+    let inside : NodeState = record { seat = c.self.inside.seat; atp = c.self.inside.atp; names = c.self.inside.names; streams = c.self.inside.streams } in
+    let new : NodeState = record { seat = c.self.inside.seat; atp = c.self.inside.atp; names = h.new.self; streams = c.self.inside.streams } in
     let d = content c.args.datagram.now in
     let before = c.args.out.now.items in
     let after = h.new.out.items in
@@ -63,5 +66,25 @@ returns-then-datagram-eq-NBP g c =
           (comes_wider (Over (with_names inside) (HearsNames c.self.inside.seat c.self.inside.names d)) (HearsIt Later inside d) inside before h.result new after
           (λ o p. rw (mine, not_atp, its) p)
           (comes_over (with_names inside) inside c.self.inside.names refl before h.result h.new.self after (HearsNames c.self.inside.seat c.self.inside.names d) h.ensures.comes)),
+      not_served _ h.result Later c.args.service.now h.ensures.not_asked,
+    )
+
+pub returns-then-datagram-eq-ADSP : goal.returns-then-datagram-eq-ADSP
+returns-then-datagram-eq-ADSP g c =
+    let h = c.hear-then-datagram-eq-ADSP in
+    let inside : NodeState = record { seat = c.self.inside.seat; atp = c.self.inside.atp; names = c.self.inside.names; streams = c.self.inside.streams } in
+    let new : NodeState = record { seat = c.self.inside.seat; atp = c.self.inside.atp; names = c.self.inside.names; streams = h.new.self } in
+    let d = content c.args.datagram.now in
+    let before = c.args.out.now.items in
+    let after = h.new.out.items in
+    let mine : (is_for_all c.self.inside.seat d.kind d.to || is_mine c.self.inside.seat d.to) ≡ true = search rules in
+    let not_atp : (d.kind == atp_kind) ≡ false = ne_eqb d.kind atp_kind c.if-datagram-eq-ATP.false in
+    let not_nbp : (d.kind == nbp_kind) ≡ false = ne_eqb d.kind nbp_kind c.if-datagram-eq-NBP.false in
+    let its : (d.kind == adsp_kind) ≡ true = eq-eqb d.kind adsp_kind c.if-datagram-eq-ADSP.true in (
+      Later,
+      subst (λ (n : NodeState). Comes (HearsIt Later n d) n before h.result new after) c.self.view_is
+          (comes_wider (Over (with_streams inside) (HearsStreams c.self.inside.seat c.self.inside.streams d)) (HearsIt Later inside d) inside before h.result new after
+          (λ o p. rw (mine, not_atp, not_nbp, its) p)
+          (comes_over (with_streams inside) inside c.self.inside.streams refl before h.result h.new.self after (HearsStreams c.self.inside.seat c.self.inside.streams d) h.ensures.comes)),
       not_served _ h.result Later c.args.service.now h.ensures.not_asked,
     )

@@ -1,0 +1,58 @@
+-- What a segment does at the socket, and faults of datagrams without one.
+use Rattle.std.proofs.Common.{◌≡◌, ℕ, true, false, List, Some, Result, Ok, Err, inl, inr, refl, sym, ap}
+use Rattle.std.specs.Prelude.{◌==◌}
+use Rattle.std.proofs.lemmas.List.{append-nil}
+use Rattle.at_ddp.specs.Datagram.{Content as Datagram}
+use Rattle.at_ddp.specs.Datagrams.{Posted}
+use Rattle.at_ddp.specs.Outbox.{Outbox}
+use Rattle.at_adsp_frame.specs.Fault.{IsFirstFault, number_of}
+use Rattle.at_adsp_frame.specs.Segments.{Content, Spells}
+use Rattle.at_adsp_frame.specs.declared.fault.AdspFault.{AdspFault}
+use Rattle.at_adsp_frame.specs.declared.fault.AdspFault.TheVariants as faults
+use Rattle.at_adsp_end.specs.Ends.{spelled_all}
+use Rattle.at_adsp_end.specs.Positions.{wire}
+use Rattle.at_adsp_end.specs.declared.step.Step.{Step}
+use Rattle.at_adsp_ends.specs.Moves.{IsTaken}
+use Rattle.at_adsp_ends.specs.Receiving.{received}
+use Rattle.at_adsp_ends.specs.Tables.{EndTable}
+use Rattle.at_event.specs.Outcomes.{Comes, idle, refused_as}
+use Rattle.at_event.specs.declared.event.Report.{Report}
+use Rattle.at_event.specs.declared.event.Report.TheVariants.{Ignored, NoMemory, Refused}
+use Rattle.at_event.specs.declared.seat.Seat.{Seat}
+use Rattle.at_stream_socket.specs.Hearing.{HearsStreams, segment_heard}
+use Rattle.at_stream_socket.specs.Sockets.{told_by}
+use Rattle.at_stream_socket.proofs.CallLemmas.{IsBox, nothing_posted, posts, told_some, told_takes}
+
+-- each fault that stands has a number
+adsp_number : (f : AdspFault) (input : List ℕ) → IsFirstFault f input → (n : ℕ) × (number_of f ≡ Some n)
+adsp_number faults.ShortAdsp input h = (40, refl)
+adsp_number faults.BadControl input h = (41, refl)
+adsp_number faults.BadVersion input h = (42, refl)
+adsp_number faults.Attention input h = (43, refl)
+adsp_number faults.AdspTooLong input h = (44, refl)
+adsp_number faults.NoMemory input h = let stands = h.stands in let opening = stands.1 in absurd opening.1
+
+-- the report of what came of a segment
+abbrev pub reported : {A E : Type 0} → Result Step E → Report A
+reported (Ok step) = told_by step
+reported (Err e) = NoMemory
+
+module _ (A : Type 0) (s : Seat) (old : EndTable) (d : Datagram) (before : List Posted) where
+  -- at another socket
+  pub other_ignored : (d.to.socket == 130) ≡ false → Comes (HearsStreams {A = A} s old d) old before Ignored old before
+  other_ignored other = (idle old Ignored, rw other refl, (refl, refl, sym (append-nil before)))
+
+  module _ (its : (d.to.socket == 130) ≡ true) where
+    pub fault_comes : (fault : AdspFault) (r : Report A) → IsFirstFault fault d.data_ → r ≡ refused_as (number_of fault) → Comes (HearsStreams {A = A} s old d) old before r old before
+    fault_comes fault r first is =
+        let n = adsp_number fault d.data_ first in
+        rw (is, n.1)
+        (idle old (Refused n.0), rw its (inr (record { fault = fault; number = n.0; first = first; numbered = n.1; outcome = refl })), (refl, refl, sym (append-nil before)))
+
+    pub taken_comes : {E : Type 0} (new : EndTable) (segment : Content) (tried : Result Step E) (box boxed : Outbox) (after : List Posted) →
+        Spells d.data_ segment → IsBox s box boxed before after → IsTaken (received wire old d.from segment) tried old new box boxed → Comes (HearsStreams {A = A} s old d) old before (reported tried) new after
+    taken_comes new segment (Ok step) box boxed after spelled b h =
+        rw (told_some A step)
+        (segment_heard s old d.from segment, rw its (inl (record { segment = segment; spelled = spelled; outcome = refl })), (ap told_by h.answer_is, h.state, posts s box boxed before after (spelled_all (received wire old d.from segment).sent) b h.sent))
+    taken_comes new segment (Err e) box boxed after spelled b h =
+        (h.state, nothing_posted s box boxed before after b h.sent, (segment_heard s old d.from segment, rw its (inl (record { segment = segment; spelled = spelled; outcome = refl })), told_takes A (received wire old d.from segment).answer))

@@ -1,0 +1,63 @@
+//! What segments do at the socket for streams.
+ghost use Rattle.std.specs.Prelude.{◌≡◌, ◌≢◌, ℕ, IfSome, Some, false};
+ghost use Rattle.at_ddp.specs.Datagram.{content};
+ghost use Rattle.at_adsp_frame.specs.Fault.{number_of};
+ghost use Rattle.at_adsp_frame.specs.declared.fault.AdspFault.TheVariants.{NoMemory};
+ghost use Rattle.at_event.specs.Outcomes.{Comes, refused_as};
+ghost use Rattle.at_event.specs.Services.{is_asked};
+ghost use Rattle.at_stream_socket.specs.Hearing.{HearsStreams, Makes};
+
+use crate::socket::{STREAM_SOCKET, StreamSocket, outbox_over, told_by};
+use at_adsp_frame::{AdspFault, decode};
+use at_ddp::{Datagram, Datagrams};
+use at_event::{Report, Seat};
+use std::alloc::{AllocError, Allocator};
+
+impl<A: Allocator + Copy> StreamSocket<A> {
+    /// Takes a datagram of ADSP that is for this node.
+    pub fn hear(&mut self, seat: Seat, datagram: &Datagram<'_>, out: &mut Datagrams<A>) -> Report<A>
+        ensures comes { Comes (HearsStreams seat self.old (content datagram.now)) self.old out.old.items result self.new
+            out.new.items }
+        ensures not_asked { is_asked result ≡ false }
+    {
+        if datagram.to.socket != STREAM_SOCKET {
+            return Report::Ignored;
+        }
+        let segment = match decode(datagram.data_) {
+            Ok(segment) => segment,
+            Err(fault) => return faulty(fault),
+        };
+        let mut outbox = outbox_over(self.alloc, seat, out);
+        let heard = self.ends.receive(datagram.from, &segment, &mut outbox);
+        *out = outbox.into_list();
+        match heard {
+            Ok(step) => told_by(step),
+            Err(AllocError) => Report::NoMemory,
+        }
+    }
+
+    /// The identifier of the end that a datagram of ADSP for this node will make, if memory does not run out.
+    pub fn made_by(&self, datagram: &Datagram<'_>) -> Option<u16>
+        ensures found { IfSome result (λ id. Makes self.now (content datagram.now) id) }
+        ensures only { (id : ℕ) → Makes self.now (content datagram.now) id → result ≡ Some id }
+    {
+        if datagram.to.socket != STREAM_SOCKET {
+            return None;
+        }
+        match decode(datagram.data_) {
+            Ok(segment) => self.ends.made_by(datagram.from, &segment),
+            Err(_) => None,
+        }
+    }
+}
+
+// The report of a datagram without a segment.
+fn faulty<A: Allocator>(fault: AdspFault) -> Report<A>
+    ensures report { result ≡ refused_as (number_of fault) }
+    ensures not_asked { is_asked result ≡ false }
+{
+    match fault.number() {
+        Some(number) => Report::Refused(number),
+        None => Report::NoMemory,
+    }
+}

@@ -1,0 +1,11 @@
+//! The socket of a node for streams: its calls, its timers, and what segments do there.
+#![tactic(auto)]
+
+mod calls;
+mod carrying;
+mod hearing;
+mod reading;
+mod socket;
+
+pub use carrying::carried;
+pub use socket::{ADSP, STREAM_SOCKET, StreamSocket};

@@ -1,0 +1,106 @@
+ghost use Rattle.std.specs.Prelude.{◌≡◌, Some, false, option_map};
+ghost use Rattle.std.specs.List.{list_any};
+ghost use Rattle.at_adsp_end.specs.Fault.{number_of};
+ghost use Rattle.at_adsp_ends.specs.Tables.{AreRooms, has_remote_at, next_id, no_ends};
+ghost use Rattle.at_event.specs.Outcomes.{refused_as};
+ghost use Rattle.at_event.specs.Services.{is_asked};
+ghost use Rattle.at_stream_socket.specs.Sockets.{adsp_kind, streams_at, told_by};
+
+use at_adsp_ends::{Ends, Rooms, Step, StreamFault};
+use at_ddp::{Datagrams, Outbox};
+use at_event::{Report, Seat};
+use std::alloc::{Allocator, Global};
+use std::marker::Model;
+use std::mem;
+
+/// The socket of a node for streams.
+pub const STREAM_SOCKET: u8 = 130;
+
+/// The protocol of ADSP's datagrams.
+pub const ADSP: u8 = 7;
+
+/// The socket of a node for streams, with all its ends.
+#[derive(Drop)]
+pub struct StreamSocket<A: Allocator = Global> {
+    pub(crate) alloc: A,
+    pub(crate) ends: Ends<A>,
+}
+
+impl<A: Allocator> Model for StreamSocket<A> {
+    ghost use Rattle.at_adsp_ends.specs.Tables.{EndTable};
+
+    ghost Value = { EndTable };
+
+    ghost view = { λ s. s.ends };
+}
+
+impl<A: Allocator + Copy> StreamSocket<A> {
+    /// A socket without ends, where nobody listens. The rooms of its ends hold 1 to 65,535 items each.
+    pub fn new(alloc: A, rooms: Rooms) -> StreamSocket<A>
+        requires { AreRooms rooms }
+        ensures { result ≡ no_ends rooms }
+    {
+        StreamSocket {
+            alloc,
+            ends: Ends::new(alloc, rooms),
+        }
+    }
+
+    /// The identifier that the next end will get; none if 16 stand. This needs no memory.
+    pub fn next_id(&self) -> Option<u16>
+        ensures { result ≡ next_id self.now }
+    {
+        self.ends.next_id()
+    }
+
+    /// Whether an end is connected to one with this identifier at a node with this number, or is about to be.
+    pub fn holds_number(&self, node: u8, id: u16) -> bool
+        ensures { result ≡ list_any (has_remote_at node id) self.now.ends }
+    {
+        self.ends.holds_number(node, id)
+    }
+}
+
+// An outbox of the socket for streams, over a list that is empty until the outbox gives it back.
+pub(crate) fn outbox_over<A: Allocator + Copy>(
+    alloc: A,
+    seat: Seat,
+    list: &mut Datagrams<A>,
+) -> Outbox<A>
+    ensures items { result.items ≡ list.old.items }
+    ensures from { result.from ≡ streams_at seat.net seat.number }
+    ensures kind { result.kind ≡ adsp_kind }
+{
+    let own = seat.at(STREAM_SOCKET);
+    Outbox::over(mem::replace(list, Datagrams::new(alloc)), own, ADSP)
+}
+
+// The report of a step.
+pub(crate) fn told_by<A: Allocator>(step: Step) -> Report<A>
+    ensures report { result ≡ told_by step }
+    ensures not_asked { is_asked result ≡ false }
+{
+    match step {
+        Step::Ignored => Report::Ignored,
+        Step::Made(id) => Report::Made(id),
+        Step::Opened(id) => Report::Opened(id),
+        Step::Turned => Report::Turned,
+        Step::Denied(id) => Report::Denied(id),
+        Step::Again => Report::Again,
+        Step::Idle => Report::Idle,
+        Step::Heard { id, items } => Report::Heard { id, items },
+        Step::Dropped(id) => Report::Dropped(id),
+        Step::Closed(id) => Report::Closed(id),
+        Step::Freed(id) => Report::Freed(id),
+    }
+}
+
+// The report of a refused call.
+pub(crate) fn refused_by<A: Allocator>(fault: StreamFault) -> Report<A>
+    ensures { result ≡ refused_as (number_of fault) }
+{
+    match fault.number() {
+        Some(number) => Report::Refused(number),
+        None => Report::NoMemory,
+    }
+}
