@@ -52,3 +52,9 @@ mod StrangeSegments
 mod StrangeWires
 mod Homes
 mod HomeHistories
+mod Ours
+mod OurHistories
+mod Members
+mod Opens
+mod Meets
+mod Sources

@@ -40,7 +40,7 @@ use Rattle.at_adsp.proofs.Steps.{deed_streams, found_id, found_passes, found_sta
 
 -- ---- steps that make and open nothing
 
-abbrev IsQuiet : Step → Type 0
+abbrev pub IsQuiet : Step → Type 0
 IsQuiet (step.Made id) = ⊥
 IsQuiet (step.Opened id) = ⊥
 IsQuiet other = Unit {0}
@@ -50,7 +50,7 @@ after_quiet old new at from (step.Made id) quiet same = absurd quiet
 after_quiet old new at from (step.Opened id) quiet same = absurd quiet
 after_quiet old new at from other quiet same = same
 
-heard_step : (N : Numbers) (c : Change) (ack : Bool) (s : Saying) → IsQuiet (after_hearing N c ack s).step
+pub heard_step : (N : Numbers) (c : Change) (ack : Bool) (s : Saying) → IsQuiet (after_hearing N c ack s).step
 heard_step N c ack (Brings items) = tt
 heard_step N c ack Asks = tt
 heard_step N c ack Closes = tt

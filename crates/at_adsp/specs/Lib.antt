@@ -1,6 +1,7 @@
 pub mod Cables
 pub mod Connections
 pub mod Lawfully
+pub mod Meetings
 pub mod Nearness
 pub mod Network
 pub mod Orders

@@ -4,7 +4,8 @@ use Rattle.at_ddp.specs.declared.address.Address.{Address}
 use Rattle.at_adsp_end.specs.Ends.{EndState, has_opened}
 use Rattle.at_adsp_end.specs.declared.remote.Remote.{Remote}
 use Rattle.at_adsp_ends.specs.Tables.{by_id}
-use Rattle.at_adsp.specs.Network.{Setting, Made, Network, born, newest}
+use Rattle.at_adsp.specs.Network.{Setting, Made, Network, Happening, born, newest}
+use Rattle.at_adsp.specs.Network.{Connects, Listens, Closes, Writes, Reads, Resets, Ticks, Strange}
 
 -- the number of an end: its address, and its identifier there
 abbrev pub number_of : Made → Remote
@@ -60,3 +61,16 @@ pub record GivesPairs (setting : Setting) (n : Network) : Type 0 where
   -- two ends with one peer are one
   pub sole : (birth : ℕ) (m : Made) (second : ℕ) (q : Made) (other : ℕ) → born n.made birth ≡ Some m
       → born n.made second ≡ Some q → m.stream.peer ≡ Some other → q.stream.peer ≡ Some other → birth ≡ second
+
+-- All that is called, or fires, is at one of our addresses, and nothing comes from another network. Segments may go to
+-- other addresses: there no end stands, and every request is denied.
+abbrev pub HappensHere : Setting → Happening → Type 0
+HappensHere setting (Connects at to) = setting.ours at ≡ true
+HappensHere setting (Listens at on) = setting.ours at ≡ true
+HappensHere setting (Closes at id) = setting.ours at ≡ true
+HappensHere setting (Writes at id items) = setting.ours at ≡ true
+HappensHere setting (Reads at id count) = setting.ours at ≡ true
+HappensHere setting (Resets at id) = setting.ours at ≡ true
+HappensHere setting (Ticks at id tick) = setting.ours at ≡ true
+HappensHere setting (Strange at from segment) = ⊥
+HappensHere setting other = Unit {0}

@@ -1,17 +1,25 @@
 //! The laws of a network of ends of streams. The functions do nothing: each contract is a law.
-ghost use Rattle.std.specs.Prelude.{◌≡◌, ℕ, ◌+◌, ◌<◌, ◌≤◌, ◌^◌, List, length, Some, None};
+ghost use Rattle.std.specs.Prelude.{◌≡◌, ℕ, ◌+◌, ◌<◌, ◌≤◌, ◌^◌, true, List, ◌∷◌, length, Some, None, Ok};
 ghost use Rattle.std.specs.List.{AllByRecursion};
 ghost use Rattle.at_adsp.specs.Cables.{IsFromHere, few_segments, wire_numbered};
-ghost use Rattle.at_adsp.specs.Connections.{ChangesStreams};
+ghost use Rattle.at_adsp.specs.Connections.{ChangesStreams, streams};
 ghost use Rattle.at_adsp.specs.Lawfully.{IsInRange, IsLawfulSetting, IsLawfullySent};
+ghost use Rattle.at_adsp.specs.Meetings.{OpensWith, ReadsWith};
 ghost use Rattle.at_adsp.specs.Nearness.{AllNear, HasWindows};
-ghost use Rattle.at_adsp.specs.Network.{Setting, Happening, AllSent, AllTimely, after};
+ghost use Rattle.at_adsp.specs.Network.{Setting, Sent, Happening, Reads, Takes, AllSent, AllTimely, after};
+ghost use Rattle.at_adsp.specs.Network.{done, packet_at};
 ghost use Rattle.at_adsp.specs.Orders.{IsNoReset, ReadsBeginnings, ReadsInOrder, whole_numbered};
-ghost use Rattle.at_adsp.specs.Pairs.{GivesPairs};
+ghost use Rattle.at_adsp.specs.Pairs.{GivesPairs, HappensHere};
 ghost use Rattle.at_adsp.specs.Wires.{wired, wired_number, wired_outcome};
-ghost use Rattle.at_adsp_end.specs.Ends.{EndState};
+ghost use Rattle.at_adsp_end.specs.Ends.{EndState, has_opened};
 ghost use Rattle.at_adsp_end.specs.Hearing.{Told, heard};
 ghost use Rattle.at_adsp_end.specs.Positions.{whole, wire};
+ghost use Rattle.at_adsp_end.specs.declared.step.Step.TheVariants.{Opened};
+ghost use Rattle.at_adsp_end.specs.declared.item.Item.{Item};
+ghost use Rattle.at_adsp_ends.specs.Calls.{read_at};
+ghost use Rattle.at_adsp_ends.specs.Receiving.{received};
+ghost use Rattle.at_adsp_ends.specs.Tables.{Done, by_id};
+ghost use Rattle.at_ddp.specs.declared.address.Address.{Address};
 
 pub use at_adsp_frame::laws::{what_is_written_fits, what_is_written_is_read};
 
@@ -23,6 +31,15 @@ pub use at_adsp_frame::laws::{what_is_written_fits, what_is_written_is_read};
 pub fn ends_that_are_open_are_paired()
     ensures { (setting : Setting) (history : List Happening) → AllTimely setting history
         → GivesPairs setting (after setting history) }
+{}
+
+/// Where all happens at our addresses, an end that is open, or was, asked one of them, or was asked from one. So it is
+/// paired, by the law above, if the history is timely. This law needs no timely one, and holds whatever the numbers of
+/// segments are.
+pub fn an_end_that_opened_asked_one_of_ours()
+    ensures { (setting : Setting) (history : List Happening) → AllByRecursion (HappensHere setting) history
+        → (at : Address) (id : ℕ) (e : EndState) → by_id ((after setting history).tables at) id ≡ Some e
+        → has_opened e.phase ≡ true → setting.ours e.asked ≡ true }
 {}
 
 /// All that is sent can be spelled, if what is called is in range.
@@ -37,6 +54,18 @@ pub fn what_is_sent_is_lawful()
 pub fn streams_change_by_one()
     ensures { (setting : Setting) (history : List Happening) (h : Happening) → AllTimely setting history
         → ChangesStreams setting (after setting history) h }
+{}
+
+/// Where all happens at our addresses, an end that a segment opens had no peer, and has one from then on. If it asked,
+/// listening made the peer where it asked, and no other end has that peer. If listening made it, the peer asked, and
+/// has it as its peer. All this holds of timely histories, whatever the numbers of segments are.
+pub fn an_end_that_opens_has_a_peer()
+    ensures { (setting : Setting) (history : List Happening) (which id : ℕ) (s : Sent)
+        → AllTimely setting (Takes which ∷ history) → AllByRecursion (HappensHere setting) history
+        → packet_at (after setting history).sent which ≡ Some s
+        → (received setting.numbers ((after setting history).tables s.to) s.from s.segment).answer ≡ Opened id
+        → OpensWith (streams (after setting history)) (streams (done setting (after setting history) (Takes which)))
+        s.to id }
 {}
 
 /// What is read from an end that has a peer was written at the peer, in this order. Only a reset of the writer may be
@@ -85,6 +114,18 @@ pub fn what_is_read_of_long_streams_begins_what_was_written()
     ensures { (setting : Setting) (history : List Happening) → HasWindows setting
         → AllTimely (wire_numbered setting) history → AllByRecursion IsFromHere history → AllNear setting history
         → AllByRecursion IsNoReset history → ReadsBeginnings (after (wire_numbered setting) history) }
+{}
+
+/// Where all happens at our addresses, an end that is read has a peer. If what is read from ends that have peers was
+/// written at the peers in order, as by the laws above, all that was read of this end so far, and what is read of it
+/// now, reads from what was written at its peer.
+pub fn what_is_read_reads_from_a_peer()
+    ensures { (setting : Setting) (history : List Happening) (at : Address) (id count : ℕ) (d : Done (List Item))
+        → AllTimely setting history → AllByRecursion (HappensHere setting) history → setting.ours at ≡ true
+        → read_at setting.numbers ((after setting history).tables at) count
+        (by_id ((after setting history).tables at) id) ≡ Ok d
+        → ReadsInOrder (after setting (Reads at id count ∷ history))
+        → ReadsWith (streams (after setting history)) at id d.answer }
 {}
 
 /// Once it is known how far the numbers of a segment lie from those of an end, hearing it is the same with the numbers

@@ -1,3 +1,6 @@
 mod Atp
+mod AtpOutcomes
+mod NameOutcomes
 mod Names
 mod StreamOutcomes
+mod Streams

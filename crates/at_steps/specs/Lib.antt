@@ -4,3 +4,5 @@ pub mod AtpReports
 pub mod AtpSteps
 pub mod NameHappenings
 pub mod NameSteps
+pub mod StreamHappenings
+pub mod StreamSteps

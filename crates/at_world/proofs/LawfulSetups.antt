@@ -7,7 +7,7 @@ use Rattle.std.proofs.lemmas.Bool.{and_parts, false≢true, leb-true, ltb-true}
 use Rattle.at_world.specs.declared.setup.NodeSetup.{NodeSetup}
 use Rattle.at_world.specs.declared.setup.Setup.{Setup}
 use Rattle.at_world.specs.Plays.{router_of}
-use Rattle.at_world.specs.Setups.{is_lawful_node, stands_once, has_router, are_in_zones, are_lawful_nodes, is_lawful_table, is_lawful}
+use Rattle.at_world.specs.Setups.{is_lawful_node, is_room, stands_once, has_router, are_in_zones, are_lawful_nodes, is_lawful_table, is_lawful}
 
 -- what the layer below promises of names and tables
 pub record SetupLaws : Type 0 where
@@ -47,12 +47,22 @@ lawful_has A s ok =
 
 -- ---- numbers of nodes
 
-pub node_fits : (n : NodeSetup) → is_lawful_node n ≡ true → n.node < 255
-node_fits n h =
-    let a = and_parts (nat_lt 0 n.node && nat_lt n.node 255 && nat_lt 0 n.receive_room) (nat_lt 0 n.send_room) h in
-    let b = and_parts (nat_lt 0 n.node && nat_lt n.node 255) (nat_lt 0 n.receive_room) a.0 in
+-- what a lawful node is
+pub record LawfulNode (n : NodeSetup) : Type 0 where
+  pub some : 0 < n.node
+  pub small : n.node < 255
+  pub receives : n.receive_room < 65536
+
+pub lawful_node : (n : NodeSetup) → is_lawful_node n ≡ true → LawfulNode n
+lawful_node n h =
+    let a = and_parts (nat_lt 0 n.node && nat_lt n.node 255 && is_room n.receive_room) (is_room n.send_room) h in
+    let b = and_parts (nat_lt 0 n.node && nat_lt n.node 255) (is_room n.receive_room) a.0 in
     let c = and_parts (nat_lt 0 n.node) (nat_lt n.node 255) b.0 in
-    ltb-true n.node 255 c.1
+    let d = and_parts (nat_lt 0 n.receive_room) (nat_lt n.receive_room 65536) b.1 in
+    record { some = ltb-true 0 n.node c.0; small = ltb-true n.node 255 c.1; receives = ltb-true n.receive_room 65536 d.1 }
+
+pub node_fits : (n : NodeSetup) → is_lawful_node n ≡ true → n.node < 255
+node_fits n h = (lawful_node n h).small
 
 -- the router's number is that of a node
 pub router_fits : (ns : List NodeSetup) (r : ℕ) → list_all is_lawful_node ns ≡ true → router_of ns ≡ Some r → r < 256

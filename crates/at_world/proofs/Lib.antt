@@ -16,6 +16,7 @@ mod Seats
 mod Seeking
 mod SentLemmas
 mod SetupLemmas
+mod Streams
 mod Tied
 mod TiedAtOpening
 mod WorldLemmas

@@ -1,5 +1,5 @@
 -- Every play is a run of the machine.
-use Rattle.std.proofs.Common.{◌≡◌, ◌⊎◌, inl, inr, ⊎_elim, false, List, [], ◌∷◌, map, take, Some, Result, Ok, Err, refl, sym, ap, subst, ◌∙◌}
+use Rattle.std.proofs.Common.{◌≡◌, ◌⊎◌, inl, inr, ⊎_elim, Bool, true, false, cond, List, [], ◌∷◌, map, take, Some, None, Result, Ok, Err, refl, sym, ap, subst, ◌∙◌}
 use Rattle.at_ddp.specs.Datagrams.{Posted}
 use Rattle.at_event.specs.declared.event.Report.{Report}
 use Rattle.at_event.specs.declared.event.Report.TheVariants.{NoMemory}
@@ -12,13 +12,13 @@ use Rattle.at_world.specs.declared.event.Event.TheVariants as event
 use Rattle.at_world.specs.declared.setup.Setup.{Setup}
 use Rattle.at_world.specs.declared.transcript.Transcript.{Transcript}
 use Rattle.at_world.specs.declared.transcript.PlayFault.{PlayFault}
-use Rattle.at_steps.specs.Acts.{is_atp, is_nbp}
+use Rattle.at_steps.specs.Acts.{is_adsp, is_atp, is_nbp}
 use Rattle.at_world.specs.Cables.{Cable, owner_of}
 use Rattle.at_world.specs.Events.{node_of}
 use Rattle.at_world.specs.Machine.{Machine, opening_machine, Step, Run, IsRun}
 use Rattle.at_world.specs.Plays.{opening_world, Follows, IsPlay}
 use Rattle.at_world.specs.Stories.{Tells, table_by}
-use Rattle.at_world.specs.Worlds.{WorldState, node_at, recorded, IsTimely, Plays}
+use Rattle.at_world.specs.Worlds.{WorldState, IsPlayable, Plays, is_over, node_at, recorded, refusal, refusal_at}
 use Rattle.at_world.proofs.Atp.Happenings.{Follows as FollowsAtp, call_follows, datagram_follows, passed, timer_follows}
 use Rattle.at_world.proofs.Atp.Tables.{table_follows}
 use Rattle.at_world.proofs.Atp.Tie.{Laws, AtpTie, Grown}
@@ -29,16 +29,22 @@ use Rattle.at_world.proofs.Names.Coming as names_coming
 use Rattle.at_world.proofs.Names.Happenings as named
 use Rattle.at_world.proofs.Names.Next.{Good as GoodNames}
 use Rattle.at_world.proofs.Names.Tie.{NameLaws, NameTie}
+use Rattle.at_world.proofs.Streams.Coming as streams_coming
+use Rattle.at_world.proofs.Streams.Happenings as streamed
+use Rattle.at_world.proofs.Streams.Next.{Good as GoodStreams}
+use Rattle.at_world.proofs.Streams.Tie.{StreamLaws, StreamTie}
 use Rattle.at_world.proofs.Tied.{Tied}
+use Rattle.at_world.specs.declared.event.Refusal.TheVariants.{Limit}
 
 -- the machine may answer an event so, and is tied to the world after it
 abbrev pub Follow : (A : Type 0) (w : WorldState) (m : Machine) → Tied A w m → Event A → Report A → WorldState → Type 0
 Follow A w m t e r w' = (m' : Machine) × Step m e r m' × (now : Tied A w' m') × Grown A m.cable (m.atp).table (t.atp).history (now.atp).history e r × (m'.cable ≡ m.cable)
 
 -- what the layers below promise of each part
-pub record BothLaws (A : Type 0) : Type 0 where
+pub record PartLaws (A : Type 0) : Type 0 where
   pub atp : Laws A
   pub names : NameLaws A
+  pub streams : StreamLaws A
 
 -- ---- the two ends of a step
 
@@ -60,15 +66,21 @@ either_coming A P n r after out h = inr h
 module _ (A : Type 0) (w : WorldState) (m : Machine) (t : Tied A w m) (e : Event A) (n : NodeState) (stands : node_at w (node_of e) ≡ Some n) where
   -- each part follows an outcome
   abbrev EachFollows : Outcome A NodeState → Type 0
-  EachFollows o = FollowsAtp A w m.cable m.atp t.cable t.atp e o × GoodNames A w m.cable m.names (t.cable).wires e o
+  EachFollows o = FollowsAtp A w m.cable m.atp t.cable t.atp e o × GoodNames A w m.cable m.names (t.cable).wires e o × GoodStreams A w m.cable m.streams (t.cable).wires e o
 
   -- the parts and the cable follow an outcome together
   together : (o : Outcome A NodeState) → KeepsSeat n o → EachFollows o → Follow A w m t e o.report (recorded w (node_of e) o.report o.state (map posted o.out))
-  together o seat ((said, good), names) =
+  together o seat ((said, good), names, streams) =
       let cable = cable_next A w m.cable (node_of e) n o t.cable stands seat in
       let both = subst (λ l. (x : AtpTie A (recorded w (node_of e) o.report o.state (map posted o.out)) m.cable l good.0) × Grown A m.cable (m.atp).table (t.atp).history x.history e o.report) (sym cable.1) (good.2, good.3) in
       let tied_names = subst (λ l. NameTie (recorded w (node_of e) o.report o.state (map posted o.out)) m.cable l names.0) (sym cable.1) names.2 in
-      (record { cable = m.cable; atp = good.0; names = names.0 }, record { cable = record { said = said; becomes = refl }; atp = good.1; names = names.1 }, record { cable = cable.0; atp = both.0; names = tied_names }, both.1, refl)
+      let tied_streams = subst (λ l. StreamTie (recorded w (node_of e) o.report o.state (map posted o.out)) m.cable l streams.0) (sym cable.1) streams.2 in (
+        record { cable = m.cable; atp = good.0; names = names.0; streams = streams.0 },
+        record { cable = record { said = said; becomes = refl }; atp = good.1; names = names.1; streams = streams.1 },
+        record { cable = cable.0; atp = both.0; names = tied_names; streams = tied_streams },
+        both.1,
+        refl,
+      )
 
   module _ (r : Report A) (after : NodeState) (out : List Posted) (w' : WorldState) (is : w' ≡ recorded w (node_of e) r after out) where
     of_good : (o : Outcome A NodeState) → KeepsSeat n o → EachFollows o → Its o r after out → Follow A w m t e r w'
@@ -76,49 +88,67 @@ module _ (A : Type 0) (w : WorldState) (m : Machine) (t : Tied A w m) (e : Event
         subst (Follow A w m t e r) (sym (is ∙ (λ i. recorded w (node_of e) (l.0 i) (l.1 i) (l.2 i))))
         (subst (λ x. Follow A w m t e x (recorded w (node_of e) o.report o.state (map posted o.out))) (sym l.0) (together o seat good))
 
-    of_nothing : BothLaws A → is_atp (owner_of {A = A} e NoMemory) ≡ false → is_nbp (owner_of {A = A} e NoMemory) ≡ false → Nothing r n after out → Follow A w m t e r w'
-    of_nothing laws not_atp not_nbp l = of_good (idle n NoMemory) refl (
+    of_nothing : PartLaws A → is_over w ≡ false → is_atp (owner_of {A = A} e NoMemory) ≡ false → is_nbp (owner_of {A = A} e NoMemory) ≡ false → is_adsp (owner_of {A = A} e NoMemory) ≡ false → Nothing r n after out → Follow A w m t e r w'
+    of_nothing laws runs not_atp not_nbp not_adsp l = of_good (idle n NoMemory) refl (
       passed A laws.atp w m.cable m.atp t.cable t.atp e n stands (idle n NoMemory) refl (record { same = refl; sends = tt; reports = not_atp; said = tt }),
       named.passed A laws.names w m.cable m.names t.cable t.names e n stands (idle n NoMemory) refl (record { same = refl; sends = tt; reports = not_nbp }),
+      streamed.passed A laws.streams w m.cable m.streams t.cable t.streams runs e n stands (idle n NoMemory) refl (record { same = refl; sends = tt; reports = not_adsp }),
     ) l
 
 -- ---- one event
 
-followed : (A : Type 0) → BothLaws A → (w : WorldState) (m : Machine) (e : Event A) (r : Report A) (w' : WorldState) (t : Tied A w m) → IsTimely w e → Plays w e r w' → Follow A w m t e r w'
-followed A laws w m (event.Call k call) r w' t timely both =
+-- an event that nothing refuses comes before the end of the play
+still_runs : {A : Type 0} (w : WorldState) (e : Event A) → refusal w e ≡ None → is_over w ≡ false
+still_runs w e allowed = go (is_over w) refl allowed
+  where
+    go : (b : Bool) → is_over w ≡ b → cond b (Some Limit) (refusal_at w e) ≡ None → is_over w ≡ false
+    go true is h = absurd (cc)
+    go false is h = is
+
+followed : (A : Type 0) → PartLaws A → (w : WorldState) (m : Machine) (e : Event A) (r : Report A) (w' : WorldState) (t : Tied A w m) → IsPlayable w e → Plays w e r w' → Follow A w m t e r w'
+followed A laws w m (event.Call k call) r w' t playable both =
+    let timely = playable.timely in
+    let runs = still_runs {A = A} w (event.Call k call) playable.allowed in
     let p = both.0 in
     let n = p.node in
     let seat = call_keeps_seat A n call in
     ⊎_elim
-    (of_nothing A w m t (event.Call k call) n p.stands r p.after p.out w' p.booked laws refl refl)
+    (of_nothing A w m t (event.Call k call) n p.stands r p.after p.out w' p.booked laws runs refl refl refl)
     (of_good A w m t (event.Call k call) n p.stands r p.after p.out w' p.booked (called n call) seat (
       call_follows A laws.atp w m.cable m.atp t.cable t.atp k n p.stands call both.1 timely seat,
       named.call_follows A laws.names w m.cable m.names t.cable t.names k n p.stands call both.1 seat,
+      streamed.call_follows A laws.streams w m.cable m.streams t.cable t.streams runs k n p.stands call both.1 timely seat,
     ))
     (either A (called n call) n r p.after p.out p.steps)
-followed A laws w m (event.Timer k time) r w' t timely p =
+followed A laws w m (event.Timer k time) r w' t playable p =
+    let runs = still_runs {A = A} w (event.Timer k time) playable.allowed in
     let n = p.node in
     let seat = timer_keeps_seat A n time in
     ⊎_elim
-    (of_nothing A w m t (event.Timer k time) n p.stands r p.after p.out w' p.booked laws refl refl)
+    (of_nothing A w m t (event.Timer k time) n p.stands r p.after p.out w' p.booked laws runs refl refl refl)
     (of_good A w m t (event.Timer k time) n p.stands r p.after p.out w' p.booked (timed n time) seat (
       timer_follows A laws.atp w m.cable m.atp t.cable t.atp k n p.stands time seat,
       named.timer_follows A laws.names w m.cable m.names t.cable t.names k n p.stands time seat,
+      streamed.timer_follows A laws.streams w m.cable m.streams t.cable t.streams runs k n p.stands time seat,
     ))
     (either A (timed n time) n r p.after p.out p.steps)
-followed A laws w m (event.Deliver which k) r w' t timely d =
+followed A laws w m (event.Deliver which k) r w' t playable d =
+    let timely = playable.timely in
+    let runs = still_runs {A = A} w (event.Deliver which k) playable.allowed in
     let p = d.plays in
     let n = p.node in
     let in_time = timely d.datagram d.was_sent in
     let c = comes A laws.atp w m.cable m.atp t.cable t.atp which d.datagram d.was_sent in_time.fresh in
     let c' = names_coming.comes A laws.names w m.cable m.names t.cable t.names which d.datagram d.was_sent in_time.fresh in
+    let c'' = streams_coming.comes A laws.streams w m.cable m.streams t.cable t.streams which d.datagram d.was_sent in_time.fresh in
     let said = p.steps.0 in
     let later = p.steps.2 in
     ⊎_elim
-    (of_nothing A w m t (event.Deliver which k) n p.stands r p.after p.out w' p.booked laws refl refl)
+    (of_nothing A w m t (event.Deliver which k) n p.stands r p.after p.out w' p.booked laws runs refl refl refl)
     (λ (x : (o : Outcome A NodeState) × Hears said n (d.datagram).bytes o × Its o r p.after p.out). let seat = hearing_keeps_seat A said n (d.datagram).bytes x.0 x.1 in of_good A w m t (event.Deliver which k) n p.stands r p.after p.out w' p.booked x.0 seat (
       datagram_follows A laws.atp w m.cable m.atp t.cable t.atp k n p.stands which d.datagram c in_time.free said x.0 (λ asked. later (ap is_asked (x.2).0 ∙ asked)) x.1 seat,
       named.datagram_follows A laws.names w m.cable m.names t.cable t.names k n p.stands which d.datagram c' said x.0 x.1 seat,
+      streamed.datagram_follows A laws.streams w m.cable m.streams t.cable t.streams runs k n p.stands which d.datagram c'' in_time.free said x.0 x.1 seat,
     ) x.2)
     (either_coming A (Hears said n (d.datagram).bytes) n r p.after p.out p.steps.1)
 
@@ -128,11 +158,11 @@ followed A laws w m (event.Deliver which k) r w' t timely d =
 abbrev pub Ran : (A : Type 0) (w : WorldState) (m : Machine) → Tied A w m → List (Event A) → List (Report A) → WorldState → Type 0
 Ran A w m t es rs w' = (m' : Machine) × Run m es rs m' × (now : Tied A w' m') × Tells (m.cable).net (m.atp).table (t.atp).history es rs (now.atp).history
 
-pub runs : (A : Type 0) → BothLaws A → (w : WorldState) (m : Machine) (es : List (Event A)) (rs : List (Report A)) (w' : WorldState) (t : Tied A w m) → Follows w es rs w' → Ran A w m t es rs w'
+pub runs : (A : Type 0) → PartLaws A → (w : WorldState) (m : Machine) (es : List (Event A)) (rs : List (Report A)) (w' : WorldState) (t : Tied A w m) → Follows w es rs w' → Ran A w m t es rs w'
 runs A laws w m [] [] w' t h = let same = subst (λ x. (now : Tied A x m) × ((now.atp).history ≡ (t.atp).history)) (sym h) (t, refl) in (m, refl, same.0, same.1)
 runs A laws w m (e ∷ es) (r ∷ rs) w' t h =
     let playable = h.1 in
-    let one = followed A laws w m e r h.0 t playable.timely h.2 in
+    let one = followed A laws w m e r h.0 t playable h.2 in
     let rest = runs A laws h.0 one.0 es rs w' one.2 h.3 in
     let grown = one.3 in
     let step = one.1 in

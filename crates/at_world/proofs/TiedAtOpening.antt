@@ -9,6 +9,7 @@ use Rattle.at_world.specs.declared.setup.Setup.{Setup}
 use Rattle.at_world.specs.AtpGuards as atp
 use Rattle.at_world.specs.Cables as cables
 use Rattle.at_world.specs.NameGuards as names
+use Rattle.at_world.specs.StreamGuards as streams
 use Rattle.at_world.specs.Machine.{opening_machine}
 use Rattle.at_world.specs.Plays.{opening_node, opening_world}
 use Rattle.at_world.specs.Setups.{is_lawful_node, is_lawful}
@@ -19,6 +20,8 @@ use Rattle.at_world.proofs.CableTie.{CableTie, SeatTie}
 use Rattle.at_world.proofs.LawfulSetups.{SetupLaws, lawful_has, node_fits, router_fits}
 use Rattle.at_world.proofs.Names.Opening.{names_at_opening}
 use Rattle.at_world.proofs.Names.Tie.{NameLaws, NameTie}
+use Rattle.at_world.proofs.Streams.Opening.{streams_at_opening}
+use Rattle.at_world.proofs.Streams.Tie.{StreamTie}
 use Rattle.at_world.proofs.Tied.{Tied}
 
 module _ (A : Type 0) (s : Setup A) where
@@ -49,4 +52,5 @@ module _ (A : Type 0) (s : Setup A) where
       let cable = cable_at_opening ok in
       let both = subst (λ l. (t : AtpTie A (opening_world s) (cables.opening s) l (atp.opening s)) × (t.history ≡ [])) (sym cable.1) (atp_at_opening A s setups ok) in
       let named = subst (λ l. NameTie (opening_world s) (cables.opening s) l (names.opening s)) (sym cable.1) (names_at_opening A laws s setups ok) in
-      (record { cable = cable.0; atp = both.0; names = named }, both.1)
+      let streamed = subst (λ l. StreamTie (opening_world s) (cables.opening s) l streams.opening) (sym cable.1) (streams_at_opening A s ok) in
+      (record { cable = cable.0; atp = both.0; names = named; streams = streamed }, both.1)

@@ -10,4 +10,5 @@ pub mod Refusals
 pub mod Sents
 pub mod Setups
 pub mod Stories
+pub mod StreamGuards
 pub mod Worlds

@@ -8,6 +8,8 @@ use Rattle.at_world.specs.Cables as cables
 use Rattle.at_world.specs.Cables.{Cable, owner_of}
 use Rattle.at_world.specs.NameGuards as names
 use Rattle.at_world.specs.NameGuards.{NameMachine}
+use Rattle.at_world.specs.StreamGuards as streams
+use Rattle.at_world.specs.StreamGuards.{StreamMachine}
 use Rattle.at_world.specs.declared.event.Event.{Event}
 use Rattle.at_world.specs.declared.setup.Setup.{Setup}
 use Rattle.at_world.specs.declared.transcript.Transcript.{Transcript}
@@ -17,15 +19,22 @@ pub record Machine : Type 0 where
   pub cable : Cable
   pub atp : AtpMachine
   pub names : NameMachine
+  pub streams : StreamMachine
 
 abbrev pub opening_machine : {A : Type 0} → Setup A → Machine
-opening_machine s = record { cable = cables.opening s; atp = atp.opening s; names = names.opening s }
+opening_machine s = record {
+  cable = cables.opening s;
+  atp = atp.opening s;
+  names = names.opening s;
+  streams = streams.opening;
+}
 
 -- one step: of the cable, and of each part, by whose report it is
 pub record Step {A : Type 0} (m : Machine) (e : Event A) (r : Report A) (m' : Machine) : Type 0 where
   pub cable : cables.Step m.cable e r m'.cable
   pub atp : atp.StepBy m.cable m.atp e r m'.atp (owner_of e r)
   pub names : names.StepBy m.names e r m'.names (owner_of e r)
+  pub streams : streams.StepBy m.cable m.streams e r m'.streams (owner_of e r)
 
 -- the machine may give these reports to these events, one step after another
 abbrev pub Run : {A : Type 0} → Machine → List (Event A) → List (Report A) → Machine → Type 0

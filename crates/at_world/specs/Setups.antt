@@ -11,9 +11,13 @@ abbrev pub is_zone : Option (List ℕ) → Bool
 is_zone None = false
 is_zone (Some name) = is_name name
 
--- a node by itself: its number is 1 to 254, and its rooms are not 0
+-- a room of the ends of a node holds 1 to 65,535 items
+abbrev pub is_room : ℕ → Bool
+is_room places = nat_lt 0 places && nat_lt places 65536
+
+-- a node by itself: its number is 1 to 254, and its rooms are lawful
 abbrev pub is_lawful_node : NodeSetup → Bool
-is_lawful_node n = nat_lt 0 n.node && nat_lt n.node 255 && nat_lt 0 n.receive_room && nat_lt 0 n.send_room
+is_lawful_node n = nat_lt 0 n.node && nat_lt n.node 255 && is_room n.receive_room && is_room n.send_room
 
 -- just one of these nodes has this node's number
 abbrev pub stands_once : List NodeSetup → NodeSetup → Bool

@@ -32,6 +32,14 @@ pub(crate) fn steps_make_a_history<A: Allocator>()
     at_steps::laws::names::another_protocols_step_passes::<A>();
     at_steps::laws::names::another_protocols_event_is_foreign::<A>();
     at_steps::laws::names::a_reply_carries_its_identifier();
+    at_steps::laws::streams::a_call_is_a_happening::<A>();
+    at_steps::laws::streams::a_timer_is_a_happening::<A>();
+    at_steps::laws::streams::a_packet_is_a_happening::<A>();
+    at_steps::laws::streams::another_protocols_step_passes::<A>();
+    at_steps::laws::streams::another_protocols_event_is_foreign::<A>();
+    at_steps::laws::streams::a_segment_carries_its_identifiers();
+    at_steps::laws::streams::an_identifier_that_is_not_held_has_no_end();
+    at_steps::laws::streams::what_is_read_reads_from_a_peer::<A>();
     at_atp::laws::what_is_sent_is_lawful::<A>();
     at_node::laws::what_is_sent_carries_its_number();
     at_zip::laws::what_is_written_is_read();
@@ -42,4 +50,6 @@ pub(crate) fn steps_make_a_history<A: Allocator>()
     at_nbp::laws::finds_stood_since_their_lookup_began();
     at_nbp::laws::what_is_sent_is_lawful();
     at_name_socket::laws::a_new_socket_is_lawful();
+    at_adsp::laws::what_is_sent_is_lawful();
+    at_adsp::laws::what_is_read_on_the_cable_was_written_in_order();
 }

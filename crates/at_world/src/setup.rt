@@ -1,6 +1,6 @@
 ghost use Rattle.std.specs.Prelude.{◌≡◌, count_by, is_none};
 ghost use Rattle.std.specs.List.{list_all};
-ghost use Rattle.at_world.specs.Setups.{is_lawful_node, is_zone, stands_once, has_router, are_in_zones};
+ghost use Rattle.at_world.specs.Setups.{is_lawful_node, is_room, is_zone, stands_once, has_router, are_in_zones};
 ghost use Rattle.at_world.specs.Setups.{are_lawful_nodes, is_lawful_table};
 
 use at_ddp::{Listed, Pascal};
@@ -58,7 +58,13 @@ fn is_zone(zone: &Option<Pascal>) -> bool
 fn is_lawful_node(node: &NodeSetup) -> bool
     ensures { result ≡ is_lawful_node node.now }
 {
-    node.node > 0 && node.node < 255 && node.receive_room > 0 && node.send_room > 0
+    node.node > 0 && node.node < 255 && is_room(node.receive_room) && is_room(node.send_room)
+}
+
+fn is_room(places: u16) -> bool
+    ensures { result ≡ is_room places }
+{
+    places > 0
 }
 
 fn stands_once(nodes: &[NodeSetup], node: &NodeSetup) -> bool

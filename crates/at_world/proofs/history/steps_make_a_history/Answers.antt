@@ -8,7 +8,8 @@ use Rattle.at_world.proofs.Atp.Tie.{Laws, Entries}
 use Rattle.at_world.proofs.CableTie.{Wire, spelled_wire}
 use Rattle.at_world.proofs.LawfulSetups.{SetupLaws}
 use Rattle.at_world.proofs.Names.Tie.{NameLaws}
-use Rattle.at_world.proofs.Runs.{BothLaws, runs}
+use Rattle.at_world.proofs.Runs.{PartLaws, runs}
+use Rattle.at_world.proofs.Streams.Tie.{StreamLaws, read_in_order}
 use Rattle.at_world.proofs.TiedAtOpening.{tied_at_opening}
 use Rattle.at_world.proofs.history.steps_make_a_history.Goals as goal
 
@@ -69,7 +70,24 @@ returns g c s events reports w lawful =
       found = found.stood;
       opens = c.a_new_socket_is_lawful.ensures;
     } in
-    let both : BothLaws A = record { atp = laws; names = names } in
+    let its_streams = c.another_protocols_event_is_foreign-3.ensures in
+    let carried = c.a_segment_carries_its_identifiers.ensures in
+    let streams : StreamLaws A = record {
+      foreign_call = its_streams.call;
+      foreign_timer = its_streams.timer;
+      foreign_datagram = its_streams.datagram;
+      called = c.a_call_is_a_happening-2.ensures;
+      timed = c.a_timer_is_a_happening-2.ensures;
+      heard = c.a_packet_is_a_happening-2.ensures;
+      passes = c.another_protocols_step_passes-2.ensures;
+      carries_source = carried.source;
+      carries_dest = carried.dest;
+      lawful_sent = c.what_is_sent_is_lawful-3.ensures;
+      unheld = c.an_identifier_that_is_not_held_has_no_end.ensures;
+      reads = c.what_is_read_reads_from_a_peer.ensures;
+      in_order = λ setting history numbers timely few. read_in_order c.what_is_read_on_the_cable_was_written_in_order.ensures setting history numbers timely few;
+    } in
+    let both : PartLaws A = record { atp = laws; names = names; streams = streams } in
     λ follows.
     let opened = tied_at_opening A s setups names lawful in
     let ran = runs A both (opening_world s) (opening_machine s) events reports w opened.0 follows in

@@ -1,0 +1,14 @@
+-- How each step of a node's part for streams is a happening of its network.
+pub mod Arriving
+pub mod Below
+pub mod Calls
+pub mod Carrying
+pub mod Ends
+pub mod Foreign
+pub mod Holding
+pub mod Moves
+pub mod OnNet
+pub mod Ours
+pub mod Passing
+pub mod Reading
+pub mod Timers

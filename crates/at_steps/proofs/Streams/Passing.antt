@@ -1,0 +1,60 @@
+-- A step of another protocol leaves all streams as they were.
+use Rattle.std.proofs.Common.{◌≡◌, inr, ℕ, Bool, true, false, cond, List, [], ◌∷◌, ◌++◌, None, refl, sym, ap, ◌∙◌}
+use Rattle.std.specs.Prelude.{◌==◌, length, replicate}
+use Rattle.std.specs.List.{AllByRecursion}
+use Rattle.std.proofs.lemmas.Bool.{true≢false}
+use Rattle.at_ddp.specs.Address.{same_address}
+use Rattle.at_ddp.specs.declared.address.Address.{Address}
+use Rattle.at_ddp.proofs.Octets.{same_address-true}
+use Rattle.at_adsp.specs.Connections.{streams}
+use Rattle.at_adsp.specs.Network.{Happening, Other, Setting, after, put}
+use Rattle.at_event.specs.Outcomes.{Outcome, Outgoing}
+use Rattle.at_event.specs.declared.event.Report.{Report}
+use Rattle.at_event.specs.declared.event.Report.TheVariants as report
+use Rattle.at_node.specs.Drawing.{drawn_by}
+use Rattle.at_node.specs.Nodes.{NodeState}
+use Rattle.at_stream_socket.specs.Sockets.{adsp_kind, streams_at}
+use Rattle.at_steps.specs.Acts.{Act, Calls, Fires, Gets, is_adsp, owner_of}
+use Rattle.at_steps.specs.StreamHappenings.{AreEntries, Drawn, IsForeign, Passes, Stands, identifiers, numbers_drawn}
+
+-- putting what is there changes nothing
+pub put_itself : {X : Type 0} (f : Address → X) (at : Address) (x : X) → f at ≡ x → (a : Address) → f a ≡ put f at x a
+put_itself f at x is a = go (same_address at a) refl
+  where
+    go : (b : Bool) → same_address at a ≡ b → f a ≡ cond b x (f a)
+    go true e = ap f (sym (same_address-true at a e)) ∙ is
+    go false e = refl
+
+entries_foreign : (event : ℕ) (out : List Outgoing) → AllByRecursion (λ (o : Outgoing). (o.kind == adsp_kind) ≡ false) out → AreEntries event out (replicate (length out) None)
+entries_foreign event [] all = tt
+entries_foreign event (o ∷ out) all = (all.0, entries_foreign event out all.1)
+
+-- the report of another protocol draws no identifier
+foreign_draws : (A : Type 0) (act : Act A) (r : Report A) (event : ℕ) (who : Address) → is_adsp (owner_of act r) ≡ false → numbers_drawn event who (drawn_by r) ≡ []
+foreign_draws A (Calls call) (report.Opening id) event who h = absurd (true≢false h)
+foreign_draws A (Gets which) (report.Opening id) event who h = absurd (true≢false h)
+foreign_draws A (Fires time) (report.Opening id) event who h = absurd (true≢false h)
+foreign_draws A (Calls call) (report.Made id) event who h = absurd (true≢false h)
+foreign_draws A (Gets which) (report.Made id) event who h = absurd (true≢false h)
+foreign_draws A (Fires time) (report.Made id) event who h = absurd (true≢false h)
+foreign_draws A act (report.Begun tid) event who h = refl
+foreign_draws A act (report.Looking id) event who h = refl
+foreign_draws A act r event who h = refl
+
+pub foreign_passes : (A : Type 0) (setting : Setting) (history : List Happening) (n : NodeState) (act : Act A) → Stands setting history n.seat.net n.seat.number n → (o : Outcome A NodeState) → IsForeign n act o → Passes setting history n.seat.net n.seat.number n act o
+foreign_passes A setting history n act st o foreign = (
+  record {
+    happening = Other (length o.out);
+    timely = tt;
+    in_range = tt;
+    here = tt;
+    is_of = inr (length o.out, refl);
+    same_event = refl;
+    tables = put_itself (after setting history).tables (streams_at n.seat.net n.seat.number) o.state.streams (st.stands ∙ sym foreign.same);
+    more = replicate (length o.out) None;
+    sent = refl;
+    posts = entries_foreign (after setting history).event o.out foreign.sends;
+    drawn = ap (λ (l : List Drawn). l ++ identifiers (streams (after setting history))) (sym (foreign_draws A act o.report (after setting history).event (streams_at n.seat.net n.seat.number) foreign.reports));
+  },
+  refl,
+)

@@ -1,0 +1,18 @@
+use Rattle.at_steps.proofs.Streams.Arriving.{datagram_happens}
+use Rattle.at_steps.proofs.Streams.Below.{HearingLaws, ReadingLaws}
+use Rattle.at_steps.proofs.laws.streams.a_packet_is_a_happening.Goals as goal
+
+pub returns : goal.returns
+returns g c =
+    let datagrams = c.what_is_written_is_read.ensures in
+    let segments = c.what_is_written_is_read-2.ensures in
+    let reading : ReadingLaws = record { reads = datagrams.read; alone = datagrams.alone; spells = segments.read; fits = c.what_is_written_fits.ensures } in
+    let laws : HearingLaws = record {
+      changes = c.streams_change_by_one.ensures;
+      paired = c.ends_that_are_open_are_paired.ensures;
+      opens = c.an_end_that_opens_has_a_peer.ensures;
+      reading = reading;
+      segment = segments.alone;
+      lawful = c.what_is_sent_is_lawful.ensures;
+    } in
+    λ setting history n which s said o st was_sent fresh free heard. datagram_happens g.row.A.Denot laws setting history n st which s was_sent fresh said o heard free

@@ -1,0 +1,136 @@
+-- What a step of a node is in words of streams alone (Inside AppleTalk, ADSP, "Opening a connection", "Data flow").
+-- Positions, windows and timers play no part. Of the segment that comes only its sender plays one.
+use Rattle.std.specs.Prelude.{◌≡◌, ℕ, ◌≤◌, ◌==◌, Bool, true, false, List, ◌∷◌, find, length, take, Option, Some}
+use Rattle.std.specs.Prelude.{None}
+use Rattle.at_ddp.specs.declared.address.Address.{Address}
+use Rattle.at_adsp_end.specs.declared.item.Item.{Item}
+use Rattle.at_adsp.specs.Connections.{begun}
+use Rattle.at_adsp.specs.Meetings.{OpensWith}
+use Rattle.at_adsp.specs.Network.{Sent, packet_at}
+use Rattle.at_adsp.specs.Streams.{Stream, GaveUp, Read as ReadItems, Wrote as WroteItems, has_number, with_deed}
+use Rattle.at_event.specs.declared.event.Call.TheVariants.{Close, Connect, Listen, Read, Reset, Write}
+use Rattle.at_event.specs.declared.event.Report.{Report}
+use Rattle.at_event.specs.declared.event.Report.TheVariants as report
+use Rattle.at_event.specs.declared.event.Timer.TheVariants as timer
+use Rattle.at_steps.specs.Acts.{Act, Calls, Fires, Gets}
+
+-- A report that says nothing new of streams as their users see them. The end that closes or is freed by a call or a
+-- timer is the one that it names.
+abbrev pub is_plain : {A : Type 0} → Act A → Report A → Bool
+is_plain act (report.Refused number) = true
+is_plain act report.NoMemory = true
+is_plain (Calls (Listen on)) report.Done = true
+is_plain (Calls (Close id)) (report.Closed it) = it == id
+is_plain (Calls (Close id)) (report.Freed it) = it == id
+is_plain (Fires (timer.Resend id)) report.Idle = true
+is_plain (Fires (timer.Resend id)) report.Again = true
+is_plain (Fires (timer.Probe id)) report.Again = true
+is_plain (Fires (timer.Probe id)) (report.Closed it) = it == id
+is_plain (Fires (timer.Probe id)) (report.Freed it) = it == id
+is_plain (Gets which) report.Ignored = true
+is_plain (Gets which) report.Turned = true
+is_plain (Gets which) (report.Denied id) = true
+is_plain (Gets which) report.Again = true
+is_plain (Gets which) (report.Heard id items) = true
+is_plain (Gets which) (report.Dropped id) = true
+is_plain (Gets which) (report.Closed id) = true
+is_plain act r = false
+
+-- All ends that were ever made, before and after, newest first; the number of the event, the node's socket, and all
+-- that was sent before; what happened, and its report
+pub record Change (A : Type 0) : Type 0 where
+  pub part : List Stream
+  pub now : List Stream
+  pub event : ℕ
+  pub at : Address
+  pub sent : List (Option Sent)
+  pub act : Act A
+  pub report : Report A
+
+-- an end got this identifier at the node
+pub record HasEnd {A : Type 0} (c : Change A) (id : ℕ) : Type 0 where
+  pub stream : Stream
+  pub made : find (has_number c.at id) c.part ≡ Some stream
+
+-- the end that such a report names, if it names one
+abbrev pub named_by : {A : Type 0} → Report A → Option ℕ
+named_by (report.Denied id) = Some id
+named_by (report.Heard id items) = Some id
+named_by (report.Dropped id) = Some id
+named_by (report.Closed id) = Some id
+named_by (report.Freed id) = Some id
+named_by other = None
+
+-- nothing but what the report says
+pub record IsPlain {A : Type 0} (c : Change A) : Type 0 where
+  pub plain : is_plain c.act c.report ≡ true
+  pub stands : (id : ℕ) → named_by c.report ≡ Some id → HasEnd c id
+  pub streams : c.now ≡ c.part
+
+-- the node's user asks for a connection, and an end is made
+pub record AsksFor {A : Type 0} (c : Change A) : Type 0 where
+  pub id : ℕ
+  pub node : ℕ
+  pub socket : ℕ
+  pub act : c.act ≡ Calls (Connect node socket)
+  pub report : c.report ≡ report.Opening id
+  pub streams : c.now
+      ≡ begun c.event c.at id false (record { net = c.at.net; node = node; socket = socket }) ∷ c.part
+
+-- a request comes, and listening makes an end
+pub record Answers {A : Type 0} (c : Change A) : Type 0 where
+  pub which : ℕ
+  pub id : ℕ
+  pub request : Sent
+  pub act : c.act ≡ Gets which
+  pub report : c.report ≡ report.Made id
+  pub came : packet_at c.sent which ≡ Some request
+  pub streams : c.now ≡ begun c.event c.at id true request.from ∷ c.part
+
+-- an end opens, and has a peer from then on
+pub record Opens {A : Type 0} (c : Change A) : Type 0 where
+  pub which : ℕ
+  pub id : ℕ
+  pub act : c.act ≡ Gets which
+  pub report : c.report ≡ report.Opened id
+  pub opens : OpensWith c.part c.now c.at id
+
+-- the user of an end writes: so many of the items are taken
+pub record Writes {A : Type 0} (c : Change A) : Type 0 where
+  pub id : ℕ
+  pub items : List Item
+  pub count : ℕ
+  pub act : c.act ≡ Calls (Write id items)
+  pub report : c.report ≡ report.Wrote count
+  pub stands : HasEnd c id
+  pub fits : count ≤ length items
+  pub streams : c.now ≡ with_deed c.at id (WroteItems (take count items)) c.part
+
+-- the user of an end reads: at most so many items come
+pub record Reads {A : Type 0} (c : Change A) : Type 0 where
+  pub id : ℕ
+  pub count : ℕ
+  pub items : List Item
+  pub act : c.act ≡ Calls (Read id count)
+  pub report : c.report ≡ report.Read items
+  pub stands : HasEnd c id
+  pub fits : length items ≤ count
+  pub streams : c.now ≡ with_deed c.at id (ReadItems items) c.part
+
+-- the user of an end resets its stream
+pub record Resets {A : Type 0} (c : Change A) : Type 0 where
+  pub id : ℕ
+  pub act : c.act ≡ Calls (Reset id)
+  pub report : c.report ≡ report.StreamReset
+  pub stands : HasEnd c id
+  pub streams : c.now ≡ with_deed c.at id GaveUp c.part
+
+-- the kinds of steps of a node
+pub data IsStep {A : Type 0} (c : Change A) : Type 0 where
+  Plain : IsPlain c → IsStep c
+  HasAsked : AsksFor c → IsStep c
+  HasAnswered : Answers c → IsStep c
+  HasOpened : Opens c → IsStep c
+  HasWritten : Writes c → IsStep c
+  HasRead : Reads c → IsStep c
+  HasReset : Resets c → IsStep c

@@ -1,0 +1,213 @@
+-- What each kind of step of a node is to the machine of streams.
+use Rattle.std.proofs.Common.{◌≡◌, ℕ, ◌+◌, ◌≤◌, Bool, true, false, cond, List, [], ◌∷◌, ◌++◌, length, map, Option, Some, None, Result, Ok, Err, refl, sym, ap, subst, ◌∙◌, arith}
+use Rattle.std.specs.Prelude.{find, nat_le, nat_lt, ◌==◌, ◌||◌, take}
+use Rattle.std.proofs.lemmas.Bool.{false≢true, ltb-false}
+use Rattle.std.proofs.lemmas.List.{length-append, length-map}
+use Rattle.at_ddp.specs.declared.address.Address.{Address}
+use Rattle.at_adsp.specs.Cables.{few_segments}
+use Rattle.at_adsp.specs.Connections.{begun, streams}
+use Rattle.at_adsp.specs.Meetings.{OpensWith, ReadsWith}
+use Rattle.at_adsp.specs.Network.{Network, Reads, Setting, after, calls_with, done, stamped}
+use Rattle.at_adsp.specs.Orders.{ReadsInOrder}
+use Rattle.at_adsp.specs.Streams.{Deed, GaveUp, Read as HasRead, Stream, Wrote, has_number, with_deed}
+use Rattle.at_adsp_frame.specs.Segments.{Content}
+use Rattle.at_adsp_end.specs.Calls.{after_read, read_opens, reading}
+use Rattle.at_adsp_end.specs.Ends.{EndState, acknowledging, addressed, has_opened}
+use Rattle.at_adsp_end.specs.declared.fault.StreamFault.{StreamFault}
+use Rattle.at_adsp_end.specs.declared.fault.StreamFault.TheVariants.{NotOpen}
+use Rattle.at_adsp_end.specs.declared.item.Item.{Item}
+use Rattle.at_adsp_end.specs.Positions.{Numbers}
+use Rattle.at_adsp_ends.specs.Calls.{read_at}
+use Rattle.at_adsp_ends.specs.Tables as ends
+use Rattle.at_adsp_ends.specs.Tables.{Done, EndTable, by_id}
+use Rattle.at_event.specs.Outcomes.{Outcome}
+use Rattle.at_event.specs.declared.event.Call.TheVariants.{Close, Connect, Listen, Read, Reset, Write}
+use Rattle.at_event.specs.declared.event.Report.{Report}
+use Rattle.at_event.specs.declared.event.Report.TheVariants as report
+use Rattle.at_event.specs.declared.event.Timer.TheVariants as timer
+use Rattle.at_node.specs.Nodes.{NodeState}
+use Rattle.at_steps.specs.StreamHappenings.{Happens, change}
+use Rattle.at_steps.specs.StreamSteps as steps
+use Rattle.at_steps.specs.StreamSteps.{IsStep, is_plain}
+use Rattle.at_stream_socket.specs.Sockets.{streams_at}
+use Rattle.at_world.specs.Cables.{Cable, at_net, owner_of}
+use Rattle.at_world.specs.Events.{act_of, node_of}
+use Rattle.at_world.specs.StreamGuards.{Does, MakesEnd, StepBy, StreamMachine, next}
+use Rattle.at_world.specs.Worlds.{WorldState, is_over}
+use Rattle.at_world.specs.declared.event.Event.{Event}
+use Rattle.at_world.specs.declared.event.Event.TheVariants as event
+use Rattle.at_world.proofs.Acts.{called_at, delivered_at}
+use Rattle.at_world.proofs.CableTie.{CableTie, spelled_wire}
+use Rattle.at_world.proofs.Streams.Next.{moved}
+use Rattle.at_world.proofs.Streams.Tie.{StreamLaws, StreamTie, as_many}
+
+-- the machine says this of an event
+abbrev pub Allows : {A : Type 0} → Cable → StreamMachine → Event A → Report A → StreamMachine → Type 0
+Allows c m e r m' = StepBy c m e r m' (owner_of e r)
+
+so_at : (A : Type 0) (c : Cable) (m m' : StreamMachine) (e e' : Event A) (r r' : Report A) → e ≡ e' → r ≡ r' → Allows c m e' r' m' → Allows c m e r m'
+so_at A c m m' e e' r r' same told allows = subst (λ x. Allows c m x r m') (sym same) (subst (λ x. Allows c m e' x m') (sym told) allows)
+
+-- a report that says nothing new of streams leaves them as they were
+plainly : (A : Type 0) (c : Cable) (m : StreamMachine) (e : Event A) (r : Report A) → is_plain (act_of e) r ≡ true → Allows c m e r (next m)
+plainly A c m (event.Call node call) (report.Refused number) h = refl
+plainly A c m (event.Call node call) report.NoMemory h = refl
+plainly A c m (event.Deliver which node) (report.Refused number) h = refl
+plainly A c m (event.Deliver which node) report.NoMemory h = refl
+plainly A c m (event.Timer node time) (report.Refused number) h = refl
+plainly A c m (event.Timer node time) report.NoMemory h = refl
+plainly A c m (event.Call node (Listen on)) report.Done h = refl
+plainly A c m (event.Call node (Close id)) (report.Closed it) h = refl
+plainly A c m (event.Call node (Close id)) (report.Freed it) h = refl
+plainly A c m (event.Timer node (timer.Resend id)) report.Idle h = refl
+plainly A c m (event.Timer node (timer.Resend id)) report.Again h = refl
+plainly A c m (event.Timer node (timer.Probe id)) report.Again h = refl
+plainly A c m (event.Timer node (timer.Probe id)) (report.Closed it) h = refl
+plainly A c m (event.Timer node (timer.Probe id)) (report.Freed it) h = refl
+plainly A c m (event.Deliver which node) report.Ignored h = refl
+plainly A c m (event.Deliver which node) report.Turned h = refl
+plainly A c m (event.Deliver which node) (report.Denied id) h = refl
+plainly A c m (event.Deliver which node) report.Again h = refl
+plainly A c m (event.Deliver which node) report.Idle h = refl
+plainly A c m (event.Deliver which node) (report.Heard id items) h = refl
+plainly A c m (event.Deliver which node) (report.Dropped id) h = refl
+plainly A c m (event.Deliver which node) (report.Closed id) h = refl
+plainly A c m (event.Deliver which node) (report.Freed id) h = refl
+plainly A c m e r h = absurd (false≢true h)
+
+-- ---- how much a read sends
+
+acks_once : (to : Address) (b : Bool) (x : Content) → length (addressed to (cond b (x ∷ []) [])) ≤ 1
+acks_once to true x = omega arith
+acks_once to false x = omega arith
+
+ok_same : (x y : Done (List Item)) → ◌≡◌ {A = Result (Done (List Item)) StreamFault} (Ok x) (Ok y) → x ≡ y
+ok_same x y h = cc
+
+reads_little : (N : Numbers) (t : EndTable) (count : ℕ) (o : Option EndState) (d : Done (List Item)) → read_at N t count o ≡ Ok d → length d.sent ≤ 1
+reads_little N t count None d is = absurd (cc)
+reads_little N t count (Some e) d is = go (has_opened e.phase) is
+  where
+    read : Done (List Item)
+    read = ends.moved t (take count e.receiver.unread) (reading N e count).after (reading N e count).sent
+
+    go : (b : Bool) → ◌≡◌ {A = Result (Done (List Item)) StreamFault} (cond b (Ok read) (Err NotOpen)) (Ok d) → length d.sent ≤ 1
+    go true h = subst (λ (x : Done (List Item)). length x.sent ≤ 1) (ok_same read d h) (acks_once e.asked (read_opens e count) (acknowledging N (after_read e count)))
+    go false h = absurd (cc)
+
+-- a read sends one segment at most
+reads_one : (setting : Setting) (n : Network) (at : Address) (id count : ℕ) → length (done setting n (Reads at id count)).sent ≤ length n.sent + 1
+reads_one setting n at id count = go (read_at setting.numbers (n.tables at) count (by_id (n.tables at) id)) refl
+  where
+    go : (r : Result (Done (List Item)) StreamFault) → read_at setting.numbers (n.tables at) count (by_id (n.tables at) id) ≡ r → length (calls_with HasRead setting n at r).sent ≤ length n.sent + 1
+    go (Err fault) e = omega arith
+    go (Ok d) e =
+        let little = reads_little setting.numbers (n.tables at) count (by_id (n.tables at) id) d e in
+        let all : length (n.sent ++ stamped n.event at d.sent) ≡ length n.sent + length (stamped n.event at d.sent) = length-append n.sent (stamped n.event at d.sent) in
+        let more : length (stamped n.event at d.sent) ≡ length d.sent = length-map d.sent _ in
+        omega (arith, little, all, more)
+
+-- fewer datagrams were sent than would end the play
+few_sent : (w : WorldState) → is_over w ≡ false → length w.sent ≤ 868928
+few_sent w runs = go (nat_le 200000 w.events) (nat_lt 868928 (length w.sent)) refl runs
+  where
+    go : (a b : Bool) → nat_lt 868928 (length w.sent) ≡ b → (a || b) ≡ false → length w.sent ≤ 868928
+    go true b e h = absurd (cc)
+    go false true e h = absurd (cc)
+    go false false e h = ltb-false 868928 (length w.sent) e
+
+-- what this event reads reads from a peer, once all that was read was written in order
+abbrev pub ReadsAt : (A : Type 0) (w : WorldState) (c : Cable) (m : StreamMachine) (ct : CableTie w c) → StreamTie w c ct.wires m → Event A → NodeState → Outcome A NodeState → Type 0
+ReadsAt A w c m ct t e n o = (id count : ℕ) (items : List Item) → e ≡ event.Call (node_of e) (Read id count) → o.report ≡ report.Read items → ReadsInOrder (after t.setting (Reads (streams_at c.net (node_of e)) id count ∷ t.history))
+    → ReadsWith (streams (after t.setting t.history)) (streams_at c.net (node_of e)) id items
+
+module _ (A : Type 0) (laws : StreamLaws A) (w : WorldState) (c : Cable) (m : StreamMachine) (ct : CableTie w c) (e : Event A) (n : NodeState) (o : Outcome A NodeState) (t : StreamTie w c ct.wires m) (runs : is_over w ≡ false)
+    (h : Happens t.setting t.history c.net (node_of e) n (act_of e) o) (its_reads : ReadsAt A w c m ct t e n o) where
+  abbrev old : List Stream
+  old = streams (after t.setting t.history)
+
+  abbrev now : List Stream
+  now = streams (done t.setting (after t.setting t.history) h.happening)
+
+  abbrev at : Address
+  at = streams_at c.net (node_of e)
+
+  -- the machine's streams are those of the network
+  same : m.streams ≡ old
+  same = t.streams_are
+
+  becomes : (ss : List Stream) → now ≡ ss → moved m now ≡ next (record m { streams = ss })
+  becomes ss is i = moved m (is i)
+
+  abbrev its_change : steps.Change A
+  its_change = change h
+
+  abbrev Row : Type 0
+  Row = Allows c m e o.report (moved m now)
+
+  plain_step : steps.IsPlain its_change → Row
+  plain_step s = subst (Allows c m e o.report) (sym (becomes m.streams (s.streams ∙ sym same))) (plainly A c m e o.report s.plain)
+
+  makes : (id : ℕ) (listener : Bool) (asked : Address) → now ≡ begun (after t.setting t.history).event at id listener asked ∷ old → MakesEnd c m (node_of e) id listener asked (moved m now)
+  makes id listener asked is = becomes (begun m.events at id listener asked ∷ m.streams) (is ∙ (λ i. begun (sym t.count i) at id listener asked ∷ sym same i))
+
+  asks_step : steps.AsksFor its_change → Row
+  asks_step s =
+      so_at A c m (moved m now) e (event.Call (node_of e) (Connect s.node s.socket)) o.report (report.Opening s.id) (called_at e (Connect s.node s.socket) s.act) s.report
+      (makes s.id false (at_net c s.node s.socket) s.streams)
+
+  answers_step : steps.Answers its_change → Row
+  answers_step s =
+      so_at A c m (moved m now) e (event.Deliver s.which (node_of e)) o.report (report.Made s.id) (delivered_at e s.which s.act) s.report
+      ((s.request).from, makes s.id true (s.request).from s.streams)
+
+  opens_step : steps.Opens its_change → Row
+  opens_step s =
+      so_at A c m (moved m now) e (event.Deliver s.which (node_of e)) o.report (report.Opened s.id) (delivered_at e s.which s.act) s.report
+      (record { now = now; opens = subst (λ ss. OpensWith ss now at s.id) (sym same) s.opens; becomes = refl })
+
+  does : (id : ℕ) (deed : Deed) → steps.HasEnd its_change id → now ≡ with_deed at id deed old → Does c m (node_of e) id deed (moved m now)
+  does id deed has is = record {
+    end = has.stream;
+    stands = ap (find (has_number at id)) same ∙ has.made;
+    becomes = becomes (with_deed at id deed m.streams) (is ∙ ap (with_deed at id deed) (sym same));
+  }
+
+  writes_step : steps.Writes its_change → Row
+  writes_step s =
+      so_at A c m (moved m now) e (event.Call (node_of e) (Write s.id s.items)) o.report (report.Wrote s.count) (called_at e (Write s.id s.items) s.act) s.report
+      (does s.id (Wrote (take s.count s.items)) s.stands s.streams)
+
+  resets_step : steps.Resets its_change → Row
+  resets_step s =
+      so_at A c m (moved m now) e (event.Call (node_of e) (Reset s.id)) o.report report.StreamReset (called_at e (Reset s.id) s.act) s.report
+      (does s.id GaveUp s.stands s.streams)
+
+  -- what is read is in order: few segments were sent, and a read sends one at most
+  in_order : (id count : ℕ) → ReadsInOrder (after t.setting (Reads at id count ∷ t.history))
+  in_order id count =
+      let one = reads_one t.setting (after t.setting t.history) at id count in
+      let before = few_sent w runs in
+      let wires : length w.sent ≡ length ct.wires = ap length ct.sent ∙ length-map ct.wires spelled_wire in
+      let entries = as_many ct.wires (after t.setting t.history).sent t.sent in
+      let few : length (done t.setting (after t.setting t.history) (Reads at id count)).sent ≤ few_segments = omega (arith, one, before, wires, entries) in
+      laws.in_order t.setting (Reads at id count ∷ t.history) t.numbers (tt, t.timely) few
+
+  reads_step : steps.Reads its_change → Row
+  reads_step s =
+      let called_ = called_at e (Read s.id s.count) s.act in
+      let with_peer : ReadsWith old at s.id s.items = its_reads s.id s.count s.items called_ s.report (in_order s.id s.count) in
+      so_at A c m (moved m now) e (event.Call (node_of e) (Read s.id s.count)) o.report (report.Read s.items) called_ s.report
+      (record {
+        reads = subst (λ ss. ReadsWith ss at s.id s.items) (sym same) with_peer;
+        becomes = becomes (with_deed at s.id (HasRead s.items) m.streams) (s.streams ∙ ap (with_deed at s.id (HasRead s.items)) (sym same));
+      })
+
+  pub step_allows : IsStep its_change → Row
+  step_allows (steps.Plain s) = plain_step s
+  step_allows (steps.HasAsked s) = asks_step s
+  step_allows (steps.HasAnswered s) = answers_step s
+  step_allows (steps.HasOpened s) = opens_step s
+  step_allows (steps.HasWritten s) = writes_step s
+  step_allows (steps.HasRead s) = reads_step s
+  step_allows (steps.HasReset s) = resets_step s

@@ -1,0 +1,89 @@
+-- What the machine knows of the ends of streams, and which reports of them it allows (Inside AppleTalk, ADSP, "Opening a
+-- connection", "Data flow", "Forward resets"). It has no segment, no sequence number and no window.
+use Rattle.std.specs.Prelude.{◌≡◌, ℕ, ◌+◌, Bool, true, false, List, [], ◌∷◌, find, take, Option, Some}
+use Rattle.at_ddp.specs.declared.address.Address.{Address}
+use Rattle.at_adsp_end.specs.declared.item.Item.{Item}
+use Rattle.at_adsp.specs.Connections.{begun}
+use Rattle.at_adsp.specs.Meetings.{OpensWith, ReadsWith}
+use Rattle.at_adsp.specs.Streams.{Stream, Deed, Wrote, Read as HasRead, GaveUp, has_number, with_deed}
+use Rattle.at_event.specs.Kinds.{Kind, Adsp}
+use Rattle.at_event.specs.declared.event.Call.TheVariants.{Listen, Connect, Write, Read, Reset, Close}
+use Rattle.at_event.specs.declared.event.Report.{Report}
+use Rattle.at_event.specs.declared.event.Report.TheVariants as report
+use Rattle.at_event.specs.declared.event.Timer.TheVariants as timer
+use Rattle.at_stream_socket.specs.Sockets.{streams_at}
+use Rattle.at_world.specs.Cables.{Cable, at_net}
+use Rattle.at_world.specs.declared.event.Event.{Event}
+use Rattle.at_world.specs.declared.event.Event.TheVariants as event
+
+-- how many events there were, and all ends that were ever made, newest first
+pub record StreamMachine : Type 0 where
+  pub events : ℕ
+  pub streams : List Stream
+
+abbrev pub opening : StreamMachine
+opening = record { events = 0; streams = [] }
+
+-- the same after one event more
+abbrev pub next : StreamMachine → StreamMachine
+next m = record m { events = m.events + 1 }
+
+-- the newest end of a node with this identifier
+abbrev pub end_of : Cable → StreamMachine → ℕ → ℕ → Option Stream
+end_of c m node id = find (has_number (streams_at c.net node) id) m.streams
+
+-- ---- the steps, one for each report
+
+-- an end is made, without a peer, at which nothing was written and nothing was read
+abbrev pub MakesEnd : Cable → StreamMachine → ℕ → ℕ → Bool → Address → StreamMachine → Type 0
+MakesEnd c m node id listener asked m' =
+    m' ≡ next (record m { streams = begun m.events (streams_at c.net node) id listener asked ∷ m.streams })
+
+-- an end opens, and has a peer from now on
+pub record OpensEnd (c : Cable) (m : StreamMachine) (node id : ℕ) (m' : StreamMachine) : Type 0 where
+  pub now : List Stream
+  pub opens : OpensWith m.streams now (streams_at c.net node) id
+  pub becomes : m' ≡ next (record m { streams = now })
+
+-- the user of an end did this with it
+pub record Does (c : Cable) (m : StreamMachine) (node id : ℕ) (deed : Deed) (m' : StreamMachine) : Type 0 where
+  pub end : Stream
+  pub stands : end_of c m node id ≡ Some end
+  pub becomes : m' ≡ next (record m { streams = with_deed (streams_at c.net node) id deed m.streams })
+
+-- All that was read from an end so far, these items included, reads from all that was written at its peer.
+pub record ReadsEnd (c : Cable) (m : StreamMachine) (node id : ℕ) (items : List Item) (m' : StreamMachine)
+    : Type 0 where
+  pub reads : ReadsWith m.streams (streams_at c.net node) id items
+  pub becomes : m' ≡ next (record m { streams = with_deed (streams_at c.net node) id (HasRead items) m.streams })
+
+-- the reports of this protocol, row by row
+abbrev pub Says : {A : Type 0} → Cable → StreamMachine → Event A → Report A → StreamMachine → Type 0
+Says c m (event.Call node (Connect to socket)) (report.Opening id) m' =
+    MakesEnd c m node id false (at_net c to socket) m'
+Says c m (event.Deliver which node) (report.Made id) m' =
+    (asked : Address) × MakesEnd c m node id true asked m'
+Says c m (event.Deliver which node) (report.Opened id) m' = OpensEnd c m node id m'
+Says c m (event.Call node (Write id items)) (report.Wrote count) m' =
+    Does c m node id (Wrote (take count items)) m'
+Says c m (event.Call node (Read id count)) (report.Read items) m' = ReadsEnd c m node id items m'
+Says c m (event.Call node (Reset id)) report.StreamReset m' = Does c m node id GaveUp m'
+Says c m (event.Call node (Listen on)) report.Done m' = m' ≡ next m
+Says c m (event.Call node (Close id)) (report.Closed closed) m' = m' ≡ next m
+Says c m (event.Call node (Close id)) (report.Freed freed) m' = m' ≡ next m
+Says c m (event.Timer node time) (report.Closed id) m' = m' ≡ next m
+Says c m (event.Timer node time) (report.Freed id) m' = m' ≡ next m
+Says c m (event.Timer node time) report.Idle m' = m' ≡ next m
+Says c m (event.Deliver which node) report.Turned m' = m' ≡ next m
+Says c m (event.Deliver which node) (report.Denied id) m' = m' ≡ next m
+Says c m (event.Deliver which node) (report.Heard id items) m' = m' ≡ next m
+Says c m (event.Deliver which node) (report.Dropped id) m' = m' ≡ next m
+Says c m (event.Deliver which node) (report.Closed id) m' = m' ≡ next m
+Says c m (event.Deliver which node) (report.Freed id) m' = m' ≡ next m
+Says c m (event.Deliver which node) report.Idle m' = m' ≡ next m
+Says c m e r m' = ⊥
+
+-- at a report of another protocol, or of nobody, nothing changes
+abbrev pub StepBy : {A : Type 0} → Cable → StreamMachine → Event A → Report A → StreamMachine → Kind → Type 0
+StepBy c m e r m' Adsp = Says c m e r m'
+StepBy c m e r m' other = m' ≡ next m
