@@ -32,7 +32,7 @@ use Rattle.at_event.specs.declared.event.Report.TheVariants as report
 use Rattle.at_event.specs.declared.event.Timer.{Timer}
 use Rattle.at_event.specs.declared.event.Timer.TheVariants as timer
 use Rattle.at_event.specs.declared.seat.Seat.{Seat}
-use Rattle.at_steps.specs.Acts.{Act, Calls, Fires, Gets, is_nbp, owner_of}
+use Rattle.at_steps.specs.Acts.{Act, Calls, Fires, Gets, IsSaid, is_nbp, owner_of}
 
 -- a report of names, or nobody's
 abbrev pub IsOfNbp : Kind → Type 0
@@ -40,8 +40,9 @@ IsOfNbp Nbp = Unit {0}
 IsOfNbp Nobody = Unit {0}
 IsOfNbp other = ⊥
 
+-- a report that may be said
 abbrev pub SaidOfNames : (A : Type 0) → Act A → Report A → Type 0
-SaidOfNames A act r = IsOfNbp (owner_of act r)
+SaidOfNames A act r = IsOfNbp (owner_of act r) × IsSaid act r
 
 abbrev pub IsOfLookups : (A : Type 0) → Act A → Outcome A SocketState → Type 0
 IsOfLookups A act o = AllByRecursion (λ p. p.kind ≡ nbp_kind) o.out × SaidOfNames A act o.report
@@ -60,11 +61,11 @@ all_nbp own (push ∷ pushes) = (refl, all_nbp own pushes)
 
 module _ (A : Type 0) (call : Call A) (n : SocketState) where
   call_refused : (number : Option ℕ) → IsOfLookups A (Calls call) (idle n (refused_as number))
-  call_refused None = (tt, tt)
-  call_refused (Some k) = (tt, tt)
+  call_refused None = (tt, (tt, tt))
+  call_refused (Some k) = (tt, (tt, tt))
 
   begun : (s : Seat) (id : ℕ) (pattern : Name) (new : SocketState) → IsOfLookups A (Calls call) (looks_up s n id pattern new)
-  begun s id pattern new = ((refl, tt), tt)
+  begun s id pattern new = ((refl, tt), (tt, tt))
 
   found : (s : Seat) (pattern : Name) (o : Option ℕ) → IsOfLookups A (Calls call) (found_as s n pattern o)
   found s pattern None = call_refused (number_of LookupsFull)
@@ -79,21 +80,21 @@ module _ (A : Type 0) (call : Call A) (n : SocketState) where
   claiming s object kind socket false = claimed s object kind socket (lookups.next_id n.lookups)
 
   told : (f : Finished A) (new : SocketState) → IsOfLookups A (Calls call) (becomes (told_of f) new)
-  told (finished.Found finds) new = (tt, tt)
-  told finished.Claimed new = (tt, tt)
-  told (finished.Taken f) new = (tt, tt)
+  told (finished.Found finds) new = (tt, (tt, tt))
+  told finished.Claimed new = (tt, (tt, tt))
+  told (finished.Taken f) new = (tt, (tt, tt))
 
   ended : (id : ℕ) (o : Option NbpFault) → IsOfLookups A (Calls call) (finished_as n id o)
   ended id None = told (finish {A = A} n id).finished (finish {A = A} n id).state
   ended id (Some fault) = call_refused (number_of fault)
 
   registering : (object kind : List ℕ) (socket : ℕ) (o : Option NbpFault) → IsOfLookups A (Calls call) (registered_as n object kind socket o)
-  registering object kind socket None = (tt, tt)
+  registering object kind socket None = (tt, (tt, tt))
   registering object kind socket (Some fault) = call_refused (number_of fault)
 
 unregistering : (A : Type 0) (n : SocketState) (object kind : List ℕ) (o : Option Registered) → IsOfLookups A (Calls (Unregister object kind)) (unregistered_as n object kind o)
 unregistering A n object kind None = call_refused A (Unregister object kind) n (number_of NoSuchName)
-unregistering A n object kind (Some name) = (tt, tt)
+unregistering A n object kind (Some name) = (tt, (tt, tt))
 
 pub call_of_names : (A : Type 0) (n : NodeState) (call : Call A) → is_nbp (kind_of_call call) ≡ true → ComesOfNames A n (Calls call) (called n call)
 call_of_names A n Zones h = absurd (true≢false (sym h))
@@ -129,8 +130,8 @@ call_of_names A n (Reset id) h = absurd (true≢false (sym h))
 call_of_names A n (Close id) h = absurd (true≢false (sym h))
 
 asked : (A : Type 0) (s : Seat) (n : SocketState) (id : ℕ) (o : Option Search) → IsOfLookups A (Fires (timer.Lookup id)) (asked_again s n o)
-asked A s n id None = (tt, tt)
-asked A s n id (Some search) = ((refl, tt), tt)
+asked A s n id None = (tt, (tt, tt))
+asked A s n id (Some search) = ((refl, tt), (tt, tt))
 
 pub timer_of_names : (A : Type 0) (n : NodeState) (time : Timer) → is_nbp (kind_of_timer time) ≡ true → ComesOfNames A n (Fires time) (timed n time)
 timer_of_names A n (timer.Retry tid) h = absurd (true≢false (sym h))
@@ -141,10 +142,10 @@ timer_of_names A n (timer.Probe id) h = absurd (true≢false (sym h))
 
 module _ (A : Type 0) (s : Seat) (n : SocketState) (which : ℕ) where
   step_told : (h : Heard) → SaidOfNames A (Gets which) (told_by h)
-  step_told heard.Ignored = tt
-  step_told heard.Relayed = tt
-  step_told (heard.Answered count) = tt
-  step_told (heard.Kept count) = tt
+  step_told heard.Ignored = (tt, tt)
+  step_told heard.Relayed = (tt, tt)
+  step_told (heard.Answered count) = (tt, tt)
+  step_told (heard.Kept count) = (tt, tt)
 
   -- what a datagram does at the socket for names
   pub datagram_of_names : (d : Datagram) (p : Outcome A SocketState) → HearsNames s n d p → IsOfLookups A (Gets which) p
@@ -155,5 +156,5 @@ module _ (A : Type 0) (s : Seat) (n : SocketState) (which : ℕ) where
 
       go : (b : Bool) → MatchBool b (HearsName s n d.data_ p ⊎ HearsNbpFault n d.data_ p) (p ≡ idle n report.Ignored) → IsOfLookups A (Gets which) p
       go true (inl h) = by (record { report = told_by h.step; state = h.new; out = sent_of s h.pushes }) h.outcome (all_nbp (names_of s.net s.number) h.pushes, step_told h.step)
-      go true (inr h) = by (idle n (report.Refused h.number)) h.outcome (tt, tt)
-      go false h = by (idle n report.Ignored) h (tt, tt)
+      go true (inr h) = by (idle n (report.Refused h.number)) h.outcome (tt, (tt, tt))
+      go false h = by (idle n report.Ignored) h (tt, (tt, tt))
