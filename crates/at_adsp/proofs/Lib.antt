@@ -58,3 +58,7 @@ mod Members
 mod Opens
 mod Meets
 mod Sources
+mod Moving
+mod MovingTables
+mod MovingHears
+mod MovingSegments

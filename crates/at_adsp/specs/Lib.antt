@@ -2,6 +2,7 @@ pub mod Cables
 pub mod Connections
 pub mod Lawfully
 pub mod Meetings
+pub mod Moving
 pub mod Nearness
 pub mod Network
 pub mod Orders

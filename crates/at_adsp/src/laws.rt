@@ -5,6 +5,7 @@ ghost use Rattle.at_adsp.specs.Cables.{IsFromHere, few_segments, wire_numbered};
 ghost use Rattle.at_adsp.specs.Connections.{ChangesStreams, streams};
 ghost use Rattle.at_adsp.specs.Lawfully.{IsInRange, IsLawfulSetting, IsLawfullySent};
 ghost use Rattle.at_adsp.specs.Meetings.{OpensWith, ReadsWith};
+ghost use Rattle.at_adsp.specs.Moving.{NeverMovesBack};
 ghost use Rattle.at_adsp.specs.Nearness.{AllNear, HasWindows};
 ghost use Rattle.at_adsp.specs.Network.{Setting, Sent, Happening, Reads, Takes, AllSent, AllTimely, after};
 ghost use Rattle.at_adsp.specs.Network.{done, packet_at};
@@ -18,7 +19,7 @@ ghost use Rattle.at_adsp_end.specs.declared.step.Step.TheVariants.{Opened};
 ghost use Rattle.at_adsp_end.specs.declared.item.Item.{Item};
 ghost use Rattle.at_adsp_ends.specs.Calls.{read_at};
 ghost use Rattle.at_adsp_ends.specs.Receiving.{received};
-ghost use Rattle.at_adsp_ends.specs.Tables.{Done, by_id};
+ghost use Rattle.at_adsp_ends.specs.Tables.{Done, EndTable, IdsDiffer, by_id};
 ghost use Rattle.at_ddp.specs.declared.address.Address.{Address};
 
 pub use at_adsp_frame::laws::{what_is_written_fits, what_is_written_is_read};
@@ -139,4 +140,13 @@ pub fn what_is_heard_is_the_same_on_the_cable()
 pub fn near_numbers_are_told_apart_on_the_cable()
     ensures ahead { (a d : ℕ) → d < 2 ^ 31 → wire.ahead (wired_number a) (wired_number (a + d)) ≡ Some d }
     ensures behind { (b d : ℕ) → 0 < d → d < 2 ^ 31 → wire.ahead (wired_number (b + d)) (wired_number b) ≡ None }
+{}
+
+/// No segment, call or tick moves the numbers of an end back: the number of the first item that is not acknowledged,
+/// that of the first that may not be sent yet, and that of the next that is expected. On the cable numbers come round;
+/// but none goes on by more than was queued, than the segment's window, and than was free. A new end may have the
+/// identifier of one that was freed.
+pub fn ends_never_move_back()
+    ensures whole { (t : EndTable) → IdsDiffer t.ends → NeverMovesBack whole t }
+    ensures cable { (t : EndTable) → IdsDiffer t.ends → NeverMovesBack wire t }
 {}

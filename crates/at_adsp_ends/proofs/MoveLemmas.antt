@@ -9,7 +9,7 @@ use Rattle.at_ddp.specs.Outbox.{Outbox, Sends}
 use Rattle.at_ddp.specs.declared.address.Address.{Address}
 use Rattle.at_ddp.proofs.OutboxLemmas.{sends_nothing}
 use Rattle.at_adsp_frame.specs.Segments.{Content}
-use Rattle.at_adsp_end.specs.Calls.{is_last, probed, reading, ticked, writing}
+use Rattle.at_adsp_end.specs.Calls.{is_idle, is_last, probed, reading, ticked, writing}
 use Rattle.at_adsp_end.specs.Ends.{Change, EndState, SendsTo, addressed, confirming, has_opened, has_remote, is_closed, is_half, is_open, is_opening, spelled_all}
 use Rattle.at_adsp_end.specs.Hearing.{Brings, Asks, Closes, Resets, Answers, Advises, Outcome, Saying, Told, after_hearing, heard, is_empty, told}
 use Rattle.at_adsp_end.specs.Moves.{IsChange, IsOutcome, closed, opened}
@@ -21,7 +21,7 @@ use Rattle.at_adsp_end.specs.declared.forward.Forward.TheVariants.{Jump, Older, 
 use Rattle.at_adsp_end.specs.declared.item.Item.{Item}
 use Rattle.at_adsp_end.specs.declared.remote.Remote.{Remote}
 use Rattle.at_adsp_end.specs.declared.step.Step.{Step}
-use Rattle.at_adsp_end.specs.declared.step.Step.TheVariants.{Again, Closed, Denied, Freed, Heard, Ignored}
+use Rattle.at_adsp_end.specs.declared.step.Step.TheVariants.{Again, Closed, Denied, Freed, Heard, Idle, Ignored}
 use Rattle.at_adsp_end.specs.declared.phase.Phase.TheVariants as phase
 use Rattle.at_adsp_end.specs.declared.tick.Tick.{Tick}
 use Rattle.at_adsp_end.specs.declared.tick.Tick.TheVariants.{Retransmit, Probe}
@@ -339,6 +339,19 @@ denial_frees t from id e found live = rw (found, live) refl
 
 pub free_state : (t : EndTable) (i : ℕ) (e : EndState) (ends : List EndState) → AreEnds t → Stands t.ends i e → ends ≡ remove t.ends i → record t { ends = ends } ≡ without_end t e.id
 free_state t i e ends h s gone = ap (λ (l : List EndState). record t { ends = l }) (gone ∙ sym (removed_in t.ends i e h.ids_differ s))
+
+probed_stands : (e : EndState) (b : Bool) (id : ℕ) → (probed wire e b).step ≡ Freed id → ⊥
+probed_stands e true id h = cc
+probed_stands e false id h = cc
+
+idle_stands : (b : Bool) (id : ℕ) → cond b Idle Again ≡ Freed id → ⊥
+idle_stands true id h = cc
+idle_stands false id h = cc
+
+-- a timer of an end that stays frees none
+pub ticked_stands : (e : EndState) (tick : Tick) (id : ℕ) → (ticked wire e tick).step ≡ Freed id → ⊥
+ticked_stands e Retransmit id h = idle_stands (is_idle e) id h
+ticked_stands e Probe id h = probed_stands e (is_last e Probe) id h
 
 pub closed_frees : (a b : ℕ) → Closed a ≡ Freed b → ⊥
 closed_frees a b h = cc

@@ -1,5 +1,5 @@
 //! The calls and the timers.
-ghost use Rattle.std.specs.Prelude.{◌≡◌, ◌≤◌, length, IfOk, IsOk, OnErr};
+ghost use Rattle.std.specs.Prelude.{◌≡◌, ◌≤◌, length, drop, IfOk, IsOk, OnErr};
 ghost use Rattle.at_adsp_end.specs.Positions.{wire};
 ghost use Rattle.at_adsp_ends.specs.Calls.{closed_at, connected, finds_no_room, frees, read_at, reset_at, ticked_at};
 ghost use Rattle.at_adsp_ends.specs.Calls.{wrote};
@@ -47,9 +47,12 @@ impl<A: Allocator + Copy> Ends<A> {
     }
 
     /// Takes a tick of a timer of an end that is not closed. The fourth probe tick without a word from the other end
-    /// closes an open end, and frees one that never opened.
+    /// closes an open end, and frees one that never opened, which needs no memory.
     pub fn tick(&mut self, id: u16, tick: Tick, out: &mut Outbox<A>) -> Result<Step, StreamFault>
-        ensures { IsCalled (ticked_at wire self.old tick (by_id self.old id)) result self.old self.new out.old out.new }
+        ensures call { IsCalled (ticked_at wire self.old tick (by_id self.old id)) result self.old self.new out.old
+            out.new }
+        ensures frees { IfOk (ticked_at wire self.old tick (by_id self.old id)) (λ d. d.answer ≡ Step.Freed id
+            → IsOk result) }
     {
         let Some(index) = index_of(&self.ends, id) else {
             return Err(StreamFault::NoSuchEnd);
@@ -66,7 +69,8 @@ impl<A: Allocator + Copy> Ends<A> {
         or_memory(end.tick(tick, out))
     }
 
-    /// Reads items of an end that is open or was: as many as there are, and as fit. Returns how many.
+    /// Reads items of an end that is open or was: as many as there are, and as fit. Returns how many. What stands behind
+    /// them stays.
     pub fn read(
         &mut self,
         id: u16,
@@ -76,6 +80,7 @@ impl<A: Allocator + Copy> Ends<A> {
         ensures call { IsCalled (read_at wire self.old (length items.old) (by_id self.old id))
             (read_of result items.new) self.old self.new out.old out.new }
         ensures within { IfOk result (λ count. count ≤ length items.old) }
+        ensures rest { IfOk result (λ count. drop count items.new ≡ drop count items.old) }
         ensures unread { OnErr result (items.new ≡ items.old) }
     {
         let Some(index) = index_of(&self.ends, id) else {
