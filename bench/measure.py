@@ -1,10 +1,12 @@
 #!/usr/bin/env python3
-"""Plays six kinds of schedules at two sizes, and prints how fast they were played and the memory that it took.
+"""Plays eight kinds of schedules at two sizes, and one schedule of many datagrams, and prints how fast they were played
+and the memory that it took.
 
     python3 bench/measure.py [PROGRAM]
 
-PROGRAM is the built `atnode`; without it, the one that `rt ci` or the script `atnode` leaves in crates/atnode/out. Beside
-each play stands a plain sum over the same bytes, those of the schedule and of what was printed, in the same run.
+PROGRAM is the built `atnode`; without it, the one that `rt ci` or the script `atnode` leaves in crates/atnode/out. Each
+schedule is played some times, of which the fastest counts. Beside each play stands a plain sum over the same bytes,
+those of the schedule and of what was printed; of these too the fastest counts.
 """
 
 import pathlib
@@ -14,6 +16,9 @@ import tempfile
 import time
 
 SMALL, LARGE = 20_000, 196_000
+
+# How often each schedule is played, and its bytes are summed.
+PLAYS = 5
 
 # How often each packet of an answer comes, so that the large schedule stays under the 64 megabytes that one may have.
 COMINGS = 4
@@ -95,6 +100,46 @@ def lookups(events):
         yield f"call {NODES} finish {number % 256}"
 
 
+def opened(room):
+    """Opens a stream from node 5 to node 7, whose ends have these rooms: 5 events, and datagrams 0 to 2."""
+    yield from ("net 10", f"node 5 rooms {room}", f"node 7 rooms {room}")
+    yield from ("call 7 listen on", "call 5 connect 7 130", "deliver 0 7", "deliver 1 5", "deliver 2 7")
+
+
+def stream_writes(events):
+    yield from opened("1000 1000")
+    for number in range((events - 5) // 4):
+        yield "call 5 write 1 " + f"{number % 256:02X}" * 500
+        yield f"deliver {3 + 2 * number} 7"
+        yield f"deliver {4 + 2 * number} 5"
+        yield "call 7 read 1 500"
+
+
+def tiny_rooms(events):
+    yield from opened("1 4")
+    for number in range((events - 5) // 17):
+        first = 3 + 12 * number
+        yield "call 5 write 1 616263 end"
+        for item in range(4):
+            # The item, the answer that there is no room for another, and the one that there is room again.
+            yield f"deliver {first + 3 * item} 7"
+            yield f"deliver {first + 3 * item + 1} 5"
+            yield "call 7 read 1 1"
+            yield f"deliver {first + 3 * item + 2} 5"
+
+
+# An end of a message is a segment of its own. So many of them are sent, and sent again so often.
+ENDS, RESENDS = 65_535, 13
+
+
+def ends_of_messages():
+    yield from ("net 10", "node 5 rooms 65535 65535", "node 7 rooms 65535 65535")
+    yield from ("call 7 listen on", "call 5 connect 7 130", "deliver 0 7", "deliver 1 5")
+    yield "call 5 write 1" + " end" * ENDS
+    for _ in range(RESENDS):
+        yield "timer 5 resend 1"
+
+
 KINDS = (
     ("zone requests", zone_requests),
     ("zone lists of 1,024 names", zone_lists),
@@ -102,6 +147,8 @@ KINDS = (
     ("all numbers in turn", numbers),
     ("sixteen nodes that ask each other", sixteen_nodes),
     ("lookups", lookups),
+    ("stream of 500-byte writes", stream_writes),
+    ("stream in tiny rooms", tiny_rooms),
 )
 
 
@@ -149,25 +196,47 @@ def count(printed):
     return events, datagrams, size
 
 
-def plain_sum(paths):
+def plain_sum(schedule, printed):
     """Seconds of the processor that a sum over all bytes of these files takes."""
-    bytes_ = b"".join(pathlib.Path(path).read_bytes() for path in paths)
+    bytes_ = schedule.read_bytes() + printed.read_bytes()
     begun = time.process_time()
     sum(bytes_)
     return time.process_time() - begun
 
 
-def measure(program, folder, name, lines, size):
-    schedule, printed = folder / "schedule.txt", folder / "printed.txt"
-    write_schedule(schedule, lines(size))
-    seconds, peak = play(program, schedule, printed)
-    events, datagrams, sent = count(printed)
-    summed = plain_sum((schedule, printed))
-    bound = sent + 48 * datagrams + 20_000_000
-    print(
-        f"| {name} | {events:,} | {events / seconds:,.0f} | {seconds / summed:.2f} | {peak / 1e6:.1f} | {bound / 1e6:.1f} |"
-    )
-    return seconds / events
+class Measured:
+    """A schedule, and what its plays took."""
+
+    def __init__(self, schedule, lines):
+        self.schedule, self.printed = schedule, schedule.with_suffix(".out")
+        self.seconds, self.peaks, self.sums = [], [], []
+        write_schedule(schedule, lines)
+
+    def play(self, program):
+        seconds, peak = play(program, self.schedule, self.printed)
+        self.seconds.append(seconds)
+        self.peaks.append(peak)
+        self.sums.append(plain_sum(self.schedule, self.printed))
+
+    def show(self, name):
+        """Prints a row, and returns the seconds of an event."""
+        events, datagrams, sent = count(self.printed)
+        seconds, peak = min(self.seconds), max(self.peaks)
+        bound = sent + 48 * datagrams + 20_000_000
+        print(
+            f"| {name} | {events:,} | {events / seconds:,.0f} | {seconds / min(self.sums):.2f} |"
+            f" {peak / 1e6:.1f} | {bound / 1e6:.1f} |"
+        )
+        return seconds / events
+
+
+def measure(program, folder, name, schedules):
+    """Plays these schedules in turn, so that other work is beside each alike. Returns the seconds by event of each."""
+    measured = [Measured(folder / f"{number}.txt", lines) for number, lines in enumerate(schedules)]
+    for _ in range(PLAYS):
+        for one in measured:
+            one.play(program)
+    return [one.show(name) for one in measured]
 
 
 def main():
@@ -178,9 +247,9 @@ def main():
     with tempfile.TemporaryDirectory() as name:
         folder = pathlib.Path(name)
         for kind, lines in KINDS:
-            small = measure(program, folder, kind, lines, SMALL)
-            large = measure(program, folder, kind, lines, LARGE)
+            small, large = measure(program, folder, kind, (lines(SMALL), lines(LARGE)))
             print(f"| {kind}, by event | | {large / small:.2f} of the smaller | | | |")
+        measure(program, folder, "ends of messages, sent again", (ends_of_messages(),))
 
 
 main()

@@ -244,3 +244,31 @@ fn a_reset_passes_over_what_was_not_read(rt: HostRuntime) {
     assert!(rt; step == Step::Heard { id: 1, items: 0 });
     read(&rt, alloc, &mut host, &[Item::Byte(0x64)], &[]);
 }
+
+#[test]
+fn the_ends_tell_what_a_request_will_make_whom_they_know_and_what_is_unread(rt: HostRuntime) {
+    let alloc = rt.alloc();
+    let mut host = ends(alloc);
+    let request = decode(ASKED).expect(&rt, "no segment");
+    assert!(rt; host.made_by(CLIENT, &request) == None);
+    host.listen(true);
+    assert!(rt; host.made_by(CLIENT, &request) == Some(1));
+    assert!(rt; !host.holds_number(5, 1));
+    assert!(rt; take(&rt, alloc, &mut host, CLIENT, ASKED, &[ANSWERED]) == Step::Made(1));
+    assert!(rt; host.made_by(CLIENT, &request) == None);
+    assert!(rt; host.made_by(HOST, &request) == Some(2));
+    assert!(rt; host.holds_number(5, 1));
+    assert!(rt; !host.holds_number(5, 2) && !host.holds_number(7, 1));
+    assert!(rt; host.unread(1) == Err(StreamFault::NotOpen));
+    assert!(rt; host.unread(2) == Err(StreamFault::NoSuchEnd));
+    assert!(rt; take(&rt, alloc, &mut host, CLIENT, CONFIRMED, &[]) == Step::Opened(1));
+    let data: &[u8] = b"\0\x01\0\0\0\0\0\0\0\0\0\x40\x40abc";
+    let ack: &[u8] = b"\0\x01\0\0\0\0\0\0\0\x03\0\x3D\x80";
+    let step = take(&rt, alloc, &mut host, CLIENT, data, &[ack]);
+    assert!(rt; step == Step::Heard { id: 1, items: 3 });
+    assert!(rt; host.unread(1) == Ok(3));
+    let mut buffer = [Item::End; 2];
+    let mut out = outbox(alloc, HOST);
+    assert!(rt; host.read(1, &mut buffer, &mut out) == Ok(2));
+    assert!(rt; host.unread(1) == Ok(1));
+}

@@ -26,4 +26,6 @@ mod segments;
 #[cfg(test)]
 mod sent;
 #[cfg(test)]
+mod stream_sockets;
+#[cfg(test)]
 mod texts;

@@ -5,6 +5,8 @@
 #[cfg(test)]
 mod allocator;
 #[cfg(test)]
+mod connections;
+#[cfg(test)]
 mod failing;
 #[cfg(test)]
 mod lookups;
