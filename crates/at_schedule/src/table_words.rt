@@ -1,5 +1,5 @@
 //! The words of a zone table that a call gives the router.
-ghost use Rattle.std.specs.Prelude.{List, ℕ, codes, IfOk};
+ghost use Rattle.std.specs.Prelude.{◌≡◌, ◌⊎◌, List, ℕ, codes, IfErr, IfOk};
 ghost use Rattle.std.specs.List.{AllZip};
 ghost use Rattle.at_schedule.specs.Says.{After, SaysCall};
 ghost use Rattle.at_schedule.specs.Texts.{IsText};
@@ -14,7 +14,8 @@ use std::alloc::Allocator;
 
 /// `setzones TEXT ..`, after its first word. The node tells whether the texts are a zone table.
 pub(crate) fn set_zones<A: Allocator>(alloc: A, words: Words<'_>) -> Result<Call<A>, LineFault>
-    ensures { IfOk result (λ call. After (codes "setzones") words.entry.rest.now (λ ws. SaysCall ws call)) }
+    ensures said { IfOk result (λ call. After (codes "setzones") words.entry.rest.now (λ ws. SaysCall ws call)) }
+    ensures rule { IfErr result (λ fault. (fault ≡ LineFault.NoMemory) ⊎ (fault ≡ LineFault.Unlawful Rule.SetZones)) }
 {
     let names = names_of(alloc, words)?;
     Ok(Call::SetZones { names })
@@ -22,8 +23,9 @@ pub(crate) fn set_zones<A: Allocator>(alloc: A, words: Words<'_>) -> Result<Call
 
 // The text of each word.
 fn names_of<A: Allocator>(alloc: A, words: Words<'_>) -> Result<Listed<Pascal, A>, LineFault>
-    ensures { IfOk result (λ names. (ws : List (List ℕ))
+    ensures said { IfOk result (λ names. (ws : List (List ℕ))
         × HasWords words.entry.rest.now ws × AllZip IsText ws names) }
+    ensures rule { IfErr result (λ fault. (fault ≡ LineFault.NoMemory) ⊎ (fault ≡ LineFault.Unlawful Rule.SetZones)) }
 {
     let mut names = Vec::new(alloc);
     for word in words {

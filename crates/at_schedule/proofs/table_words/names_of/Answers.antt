@@ -15,4 +15,4 @@ loop-word-preserved g c =
 pub returns : goal.returns
 returns g c =
     let all = all_said IsText c.args.words.rest.now c.loop-word.word-iterator.rest.now c.loop-word.names.items c.loop-word.invariant c.in-None.ensures.steps in
-    rw c.from_vec.ensures all
+    record { said = rw c.from_vec.ensures all; rule = tt }
