@@ -1,6 +1,6 @@
-//! Tests of datagrams, transactions, segments, streams, names, lookups and zone lists: each public call once over ample
-//! memory, against written values. A body that always told that memory is out would meet its contract, and so would one under a
-//! wrong definition.
+//! Tests of datagrams, transactions, segments, streams, names, lookups, zone lists and sessions: each public call once
+//! over ample memory, against written values. A body that always told that memory is out would meet its contract, and
+//! so would one under a wrong definition.
 #![tactic(auto)]
 
 #[cfg(test)]
@@ -25,6 +25,8 @@ mod responder;
 mod segments;
 #[cfg(test)]
 mod sent;
+#[cfg(test)]
+mod sessions;
 #[cfg(test)]
 mod stream_sockets;
 #[cfg(test)]

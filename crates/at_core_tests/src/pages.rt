@@ -16,7 +16,7 @@ fn names(rt: &impl Abort, alloc: Global, texts: &[&[u8]]) -> Vec<Pascal> {
     list
 }
 
-fn table(rt: &impl Abort, alloc: Global, texts: &[&[u8]]) -> Zones {
+pub(crate) fn table(rt: &impl Abort, alloc: Global, texts: &[&[u8]]) -> Zones {
     Zones::new(Listed::from_vec(names(rt, alloc, texts))).expect(rt, "no table")
 }
 

@@ -6,7 +6,7 @@ use Rattle.at_atp_frame.specs.Packets.{AreWords}
 use Rattle.at_nbp.specs.Tuples.{IsString}
 use Rattle.at_adsp_end.specs.Items.{IsItem}
 use Rattle.at_event.specs.declared.event.Call.{Call}
-use Rattle.at_event.specs.declared.event.Call.TheVariants.{SetZones, Ask, Answer}
+use Rattle.at_event.specs.declared.event.Call.TheVariants.{SetZones, Ask, Answer, Pick}
 use Rattle.at_event.specs.declared.event.Call.TheVariants.{Find, Claim, Finish, Register, Unregister}
 use Rattle.at_event.specs.declared.event.Call.TheVariants.{Connect, Write, Read, Reset, Close}
 
@@ -22,6 +22,7 @@ IsCall (Ask node socket user bytes wanted xo retries) =
 IsCall (Answer node socket tid packets) =
     (node < 256) × (socket < 256) × (tid < 65536) × AllByRecursion AreWords packets
 IsCall (SetZones names) = AllByRecursion IsString names
+IsCall (Pick zone) = IsString zone
 IsCall (Find object kind zone) = IsString object × IsString kind × IsZone zone
 IsCall (Claim object kind socket) = IsString object × IsString kind × (socket < 256)
 IsCall (Finish id) = id < 256

@@ -1,16 +1,17 @@
 -- Of which protocol a call, a timer and a report are.
 use Rattle.at_event.specs.declared.event.Call.{Call}
-use Rattle.at_event.specs.declared.event.Call.TheVariants.{Zones, SetZones, Ask, Answer}
+use Rattle.at_event.specs.declared.event.Call.TheVariants.{Zones, SetZones, Ask, Answer, Pick}
 use Rattle.at_event.specs.declared.event.Call.TheVariants.{Find, Claim, Finish, Register, Unregister}
-use Rattle.at_event.specs.declared.event.Call.TheVariants.{Listen, Connect, Write, Read, Reset, Close}
+use Rattle.at_event.specs.declared.event.Call.TheVariants.{Open, Listen, Connect, Write, Read, Reset, Close}
 use Rattle.at_event.specs.declared.event.Report.{Report}
 use Rattle.at_event.specs.declared.event.Report.TheVariants as report
 use Rattle.at_event.specs.declared.event.Timer.{Timer}
 use Rattle.at_event.specs.declared.event.Timer.TheVariants as timer
 
--- the parts of a node, and nobody
+-- the parts of a node, its user's session, and nobody
 pub data Kind : Type 0 where
   Nobody : Kind
+  Session : Kind
   Atp : Kind
   Nbp : Kind
   Adsp : Kind
@@ -20,11 +21,13 @@ kind_of_call Zones = Atp
 kind_of_call (SetZones names) = Atp
 kind_of_call (Ask node socket user bytes wanted xo retries) = Atp
 kind_of_call (Answer node socket tid packets) = Atp
+kind_of_call (Pick zone) = Session
 kind_of_call (Find object kind _) = Nbp
 kind_of_call (Claim object kind socket) = Nbp
 kind_of_call (Finish id) = Nbp
 kind_of_call (Register object kind socket) = Nbp
 kind_of_call (Unregister object kind) = Nbp
+kind_of_call (Open index) = Adsp
 kind_of_call (Listen on) = Adsp
 kind_of_call (Connect node socket) = Adsp
 kind_of_call (Write id items) = Adsp
@@ -41,6 +44,7 @@ kind_of_timer (timer.Probe id) = Adsp
 
 -- which part alone reports this; nobody, if several do, or none
 abbrev pub reporter_of : {A : Type 0} → Report A → Kind
+reporter_of report.Picked = Session
 reporter_of (report.Begun tid) = Atp
 reporter_of (report.Answered count) = Atp
 reporter_of (report.Served count) = Atp

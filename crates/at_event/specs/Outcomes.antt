@@ -36,6 +36,10 @@ idle s r = record { report = r; state = s; out = [] }
 abbrev pub over : {A S N : Type 0} → (S → N) → Outcome A S → Outcome A N
 over f o = record { report = o.report; state = f o.state; out = o.out }
 
+-- the outcome comes of that of a part, which may come
+abbrev pub Through : {A S N : Type 0} → (Outcome A S → Outcome A N) → (Outcome A S → Type 0) → Outcome A N → Type 0
+Through {A} {S} f May o = (p : Outcome A S) × May p × (o ≡ f p)
+
 -- the outcome is that of a part, which may come
 abbrev pub Over : {A S N : Type 0} → (S → N) → (Outcome A S → Type 0) → Outcome A N → Type 0
 Over {A} {S} f May o = (p : Outcome A S) × May p × (o ≡ over f p)
@@ -44,11 +48,12 @@ abbrev pub Exactly : {A S : Type 0} → Outcome A S → List Posted → Report A
 Exactly o before r new after = (r ≡ o.report) × (new ≡ o.state) × (after ≡ before ++ map posted o.out)
 
 -- can an event with this report run out of memory? A refusal cannot, and neither can the end of a transaction without
--- retries or of a record
+-- retries or of a record, or the picking of a zone
 abbrev pub takes_memory : {A : Type 0} → Report A → Bool
 takes_memory (report.Refused number) = false
 takes_memory (report.Failed tid) = false
 takes_memory report.Done = false
+takes_memory report.Picked = false
 takes_memory report.ZonesFailed = false
 takes_memory other = true
 

@@ -2,7 +2,8 @@ ghost use Rattle.at_event.specs.Calls.{IsCall};
 
 use crate::packet_count::PacketCount;
 use crate::ranges::{
-    ranges_of_name, ranges_of_own, ranges_of_texts, ranges_of_written, ranges_of_zone,
+    ranges_of_name, ranges_of_own, ranges_of_text, ranges_of_texts, ranges_of_written,
+    ranges_of_zone,
 };
 use at_adsp_end::Item;
 use at_atp_frame::{Packet, ranges_of, ranges_of_bytes};
@@ -41,7 +42,12 @@ pub enum Call<A: Allocator = Global> {
         tid: u16,
         packets: Listed<Packet<A>, A>,
     },
-    /// Looks names up: `=` stands for any object or type, and `*` for any zone. Without a zone it asks for any.
+    /// Picks a zone of the zone list that was read last. Lookups that name no zone ask for it from now on.
+    Pick {
+        zone: Pascal,
+    },
+    /// Looks names up: `=` stands for any object or type, and `*` for any zone. Without a zone it asks for the one that
+    /// was picked, or for any if none was.
     Find {
         object: Pascal,
         /// The type of the object.
@@ -69,6 +75,11 @@ pub enum Call<A: Allocator = Global> {
     Unregister {
         object: Pascal,
         kind: Pascal,
+    },
+    /// Asks for a connection with what was found: the address of an entry of the list that a lookup ended with last.
+    Open {
+        /// The place of the entry, from 0.
+        index: u64,
     },
     /// Sets whether requests for connections are answered.
     Listen {
@@ -128,6 +139,7 @@ impl<A: Allocator> Call<A> {
                 let _key = (*node, *socket, *tid);
                 ranges_of(packets.as_slice());
             }
+            Call::Pick { zone } => ranges_of_text(zone),
             Call::Find { object, kind, zone } => {
                 ranges_of_name(object, kind);
                 ranges_of_zone(zone);
@@ -157,7 +169,7 @@ impl<A: Allocator> Call<A> {
             Call::Reset { id } | Call::Close { id } => {
                 let _id = *id;
             }
-            Call::Listen { on: _ } => {}
+            Call::Open { index: _ } | Call::Listen { on: _ } => {}
             Call::Zones => {}
         }
     }
@@ -212,6 +224,8 @@ pub enum Report<A: Allocator = Global> {
     },
     /// The router has another zone table.
     TableSet,
+    /// A zone was picked.
+    Picked,
     /// A reading of the zone list ended with these names.
     Zones(Listed<Pascal, A>),
     /// A reading of the zone list ended, since its page was refused. This is the number of the refusal.

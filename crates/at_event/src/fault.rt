@@ -9,6 +9,12 @@ pub enum NodeFault {
     /// The cable has no router, so there is no zone list.
     #[error("the cable has no router, so there is no zone list to read")]
     NoRouter,
+    /// The zone does not stand in the zone list that the node read last.
+    #[error("the zone does not stand in the zone list that the node read last")]
+    ZoneNotListed,
+    /// The last lookup that ended found no such entry.
+    #[error("the last lookup that ended found no such entry")]
+    NotFound,
     /// The node reads the zone list already.
     #[error("the node reads the zone list already")]
     StillReading,
@@ -21,6 +27,8 @@ impl NodeFault {
     {
         match self {
             NodeFault::NoRouter => 60,
+            NodeFault::ZoneNotListed => 61,
+            NodeFault::NotFound => 62,
             NodeFault::StillReading => 63,
         }
     }

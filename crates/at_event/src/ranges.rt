@@ -70,7 +70,7 @@ pub(crate) fn ranges_of_texts(texts: &[Pascal])
     }
 }
 
-fn ranges_of_text(text: &Pascal)
+pub(crate) fn ranges_of_text(text: &Pascal)
     ensures { IsString text.now }
 {
     ranges_of_bytes(text.bytes());

@@ -27,8 +27,9 @@ pub enum Rule {
     #[error("`zones` wants names of 1 to 32 bytes, as in \"zones Lab Office\"")]
     Zones,
     /// `call N CALL ..`
-    #[error("`call` wants a node and `zones`, `setzones`, `ask`, `answer`, `find`, `claim`, `finish`, `register`, \
-        `unregister`, `listen`, `connect`, `write`, `read`, `reset` or `close`, as in \"call 5 zones\"")]
+    #[error("`call` wants a node and `zones`, `setzones`, `ask`, `answer`, `pick`, `find`, `claim`, `finish`, \
+        `register`, `unregister`, `open`, `listen`, `connect`, `write`, `read`, `reset` or `close`, \
+        as in \"call 5 zones\"")]
     Call,
     /// `call N zones`
     #[error("`zones` wants nothing after it in a call, as in \"call 5 zones\"")]
@@ -44,6 +45,9 @@ pub enum Rule {
     #[error("`answer` wants a node, a socket, a transaction's number and packets, \
         as in \"call 7 answer 5 128 0 00000000:BB\"")]
     Answer,
+    /// `call N pick TEXT`
+    #[error("`pick` wants a zone of at most 32 bytes, as in \"call 5 pick Office\"")]
+    Pick,
     /// `call N find TEXT TEXT [TEXT]`
     #[error("`find` wants an object, a type, and a zone if needed, of at most 32 bytes each, \
         as in \"call 5 find = LaserWriter\"")]
@@ -63,6 +67,9 @@ pub enum Rule {
     #[error("`unregister` wants an object and a type of at most 32 bytes each, \
         as in \"call 7 unregister Printer LaserWriter\"")]
     Unregister,
+    /// `call N open I`
+    #[error("`open` wants the place of what was found, from 0, as in \"call 5 open 0\"")]
+    Open,
     /// `call N listen on|off`
     #[error("`listen` wants `on` or `off`, as in \"call 7 listen on\"")]
     Listen,

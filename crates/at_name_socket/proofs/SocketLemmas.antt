@@ -6,7 +6,7 @@ use Rattle.std.proofs.lemmas.Bool.{eqb-true}
 use Rattle.at_ddp.proofs.TableLemmas.{found, none_by, without_none}
 use Rattle.at_ddp.specs.Outbox.{Outbox, Sends}
 use Rattle.at_ddp.specs.declared.address.Address.{Address}
-use Rattle.at_name_socket.specs.NameSockets.{Ending, IsEnding, SocketState, claim_ended, claim_fault, closing, ended, ending, fault_of, finish, finish_fault, is_claim, relayed_in, taker, zone_of}
+use Rattle.at_name_socket.specs.NameSockets.{Ending, IsEnding, SocketState, claim_ended, claim_fault, closing, ended, ending, fault_of, finish, finds_told, finish_fault, is_claim, relayed_in, taker, told_at_end, zone_of}
 use Rattle.at_name_socket.specs.declared.claim.Claim.{Claim}
 use Rattle.at_name_socket.specs.declared.neighbour.Neighbour.{Neighbour}
 use Rattle.at_name_socket.specs.declared.step.Finished.{Finished}
@@ -141,6 +141,19 @@ plain s id count r given some same is none = go (search_of s.lookups id) refl so
 
 pub plain_fault : (s : SocketState) (id : ℕ) → Plain s id → finish_fault s id ≡ None
 plain_fault s id p = λ i. fault_of s (p.is_search i) (p.none i)
+
+-- the end of such a lookup tells its finds, and that of a claim tells none
+pub plain_told : (s : SocketState) (id : ℕ) → Plain s id → finds_told s id ≡ Some (finds_in (search_of s.lookups id))
+plain_told s id p = (λ i. told_at_end (p.is_search i) (p.none i)) ∙ ap (λ o. Some (finds_in o)) (sym p.is_search)
+
+pub claim_told : (s : SocketState) (id count : ℕ) (r : Option ℕ) (given : List Claim) (index : ℕ) → counted (search_of s.lookups id) ≡ Ok count → given ≡ s.claims → r ≡ position_from (is_claim id) 0 given → r ≡ Some index → finds_told s id ≡ None
+claim_told s id count r given index some same is at = go (search_of s.lookups id) refl some
+  where
+    go : (o : Option Search) → search_of s.lookups id ≡ o → counted o ≡ Ok count → finds_told s id ≡ None
+    go None e g = absurd (cc)
+    go (Some search) e g =
+        let f = found (is_claim id) s.claims index (ap (position_from (is_claim id) 0) (sym same) ∙ sym is ∙ at) in
+        λ i. told_at_end (e i) (f.first i)
 
 pub plain_ends : (A : Type 0) (s new : SocketState) (id : ℕ) (finds : List Find) → Plain s id → finds ≡ finds_in (search_of s.lookups id) → new ≡ record s { lookups = closed s.lookups id } →
     IsEnding {A = A} (finish s id) (finished.Found finds) new

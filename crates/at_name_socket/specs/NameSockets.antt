@@ -120,6 +120,15 @@ ending s id (Some search) = ended s id search.finds (find (is_claim id) s.claims
 abbrev pub finish : {A : Type 0} → SocketState → ℕ → Ending A
 finish s id = ending s id (search_of s.lookups id)
 
+-- what the end of a lookup tells: its finds, if it is open and no claim
+abbrev pub told_at_end : Option Search → Option Claim → Option (List Find)
+told_at_end None claim = None
+told_at_end (Some search) (Some claim) = None
+told_at_end (Some search) None = Some search.finds
+
+abbrev pub finds_told : SocketState → ℕ → Option (List Find)
+finds_told s id = told_at_end (search_of s.lookups id) (find (is_claim id) s.claims)
+
 -- these are the end of a lookup and the socket after it
 pub record IsEnding {A : Type 0} (e : Ending A) (r : Finished A) (new : SocketState) : Type 0 where
   pub finished : r ≡ e.finished

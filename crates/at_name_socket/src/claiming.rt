@@ -4,7 +4,7 @@ ghost use Rattle.std.specs.Prelude.{IfSome, OnErr, IsErrOf, IsOk, IsSome, Some, 
 ghost use Rattle.std.specs.List.{position_from};
 ghost use Rattle.at_ddp.specs.Outbox.{Sends};
 ghost use Rattle.at_name_socket.specs.NameSockets.{IsEnding, any_pattern, claim_begun, closing, finish, taker};
-ghost use Rattle.at_name_socket.specs.NameSockets.{finish_fault, is_claim};
+ghost use Rattle.at_name_socket.specs.NameSockets.{finds_told, finish_fault, is_claim};
 ghost use Rattle.at_name_socket.specs.declared.claim.Claim.{Claim as Claimed};
 ghost use Rattle.at_nbp.specs.Lookups.{beginning, finds_in, next_id, search_of, sent_question};
 ghost use Rattle.at_nbp.specs.NameTables.{is_no_text};
@@ -71,6 +71,23 @@ impl<A: Allocator + Copy> NameSocket<A> {
                 Ok(Finished::Found(finds))
             }
             Some(index) => self.end_claim(index, id, count),
+        }
+    }
+
+    /// A copy of what a lookup found so far, if it is open and no claim. The error is out of memory.
+    pub fn finds_told(&self, id: u8) -> Result<Option<Listed<Find, A>>, AllocError>
+        ensures copy { IfOk result (λ finds. finds ≡ finds_told self.now id) }
+        ensures memory { OnErr result (IsSome (finds_told self.now id)) }
+    {
+        let Ok(count) = self.lookups.count(id) else {
+            return Ok(None);
+        };
+        match index_of(&self.claims, id) {
+            Some(_) => Ok(None),
+            None => {
+                let finds = self.finds(id, count)?;
+                Ok(Some(finds))
+            }
         }
     }
 

@@ -204,3 +204,6 @@ history_fits setting (h ∷ hs) lawful timely ranges =
 
 pub all_lawful : (setting : Setting) (history : List Happening) → IsLawfulSetting setting → AllTimely setting history → AllByRecursion IsInRange history → SentFits (after setting history).sent
 all_lawful setting history lawful timely ranges = (history_fits setting history lawful timely ranges).sent
+
+pub all_named : (setting : Setting) (history : List Happening) → IsLawfulSetting setting → AllTimely setting history → AllByRecursion IsInRange history → (at : Address) → AllByRecursion IsNamed ((after setting history).tables at).names
+all_named setting history lawful timely ranges at = let fits = history_fits setting history lawful timely ranges in (fits.tables at).names

@@ -6,7 +6,7 @@ ghost use Rattle.at_ddp.specs.declared.address.Address.{Address};
 ghost use Rattle.at_nbp.specs.Askers.{IsAskedBy, IsSentFor};
 ghost use Rattle.at_nbp.specs.Packets.{Content, IsLawful, BeginsWith, spelling};
 ghost use Rattle.at_nbp.specs.Fault.{IsFirstFault};
-ghost use Rattle.at_nbp.specs.Lawfully.{IsInRange, IsLawfulSetting, IsLawfullySent};
+ghost use Rattle.at_nbp.specs.Lawfully.{IsInRange, IsLawfulSetting, IsLawfullySent, IsNamed};
 ghost use Rattle.at_nbp.specs.Lookups.{Lookups, next_id, search_of};
 ghost use Rattle.at_nbp.specs.NameTables.{IsRegistered, Table, registered};
 ghost use Rattle.at_nbp.specs.Network.{Setting, Happening, AllAsk, AllTimely, FindsStood, after};
@@ -46,8 +46,8 @@ pub fn a_table_with_one_name_more_is_computed()
         → new ≡ registered old object kind socket }
 {}
 
-/// All that is sent fits a datagram, if what is asked and registered is in range. If lookups are asked at some
-/// addresses alone, replies go to these alone, and all else asks for these.
+/// All that is sent fits a datagram, and each name that stands is in range, if what is asked and registered is. If
+/// lookups are asked at some addresses alone, replies go to these alone, and all else asks for these.
 pub fn what_is_sent_is_lawful()
     ensures lawful { (setting : Setting) (history : List Happening) → IsLawfulSetting setting
         → AllTimely setting history → AllByRecursion IsInRange history
@@ -55,4 +55,7 @@ pub fn what_is_sent_is_lawful()
     ensures asked { (these : Address → Bool) (setting : Setting) (history : List Happening) → AllAsk setting
         → AllTimely setting history → AllByRecursion (IsAskedBy these) history
         → AllByRecursion (λ o. IfSome o (IsSentFor these)) (after setting history).sent }
+    ensures named { (setting : Setting) (history : List Happening) → IsLawfulSetting setting
+        → AllTimely setting history → AllByRecursion IsInRange history → (at : Address)
+        → AllByRecursion IsNamed ((after setting history).tables at).names }
 {}

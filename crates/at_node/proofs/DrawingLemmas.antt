@@ -1,15 +1,11 @@
 -- The numbers that packets carry.
-use Rattle.std.proofs.Common.{lit<, ◌≡◌, ◌⊎◌, ℕ, zero, suc, Bool, true, false, cond, List, [], ◌∷◌, Option, Some, None, inl, inr, refl, sym, ap, subst, ◌∙◌, arith}
-use Rattle.std.specs.Prelude.{IfSome, MatchBool, ◌==◌, ◌||◌, ◌↔◌, option_map}
+use Rattle.std.proofs.Common.{lit<, ◌≡◌, ◌⊎◌, ℕ, zero, suc, Bool, true, false, List, [], ◌∷◌, Option, Some, None, inl, inr, refl, sym, ap, subst, ◌∙◌, arith}
+use Rattle.std.specs.Prelude.{IfSome, MatchBool, ◌==◌, ◌||◌, ◌↔◌}
 use Rattle.std.specs.List.{Contains}
 use Rattle.at_ddp.specs.Datagram.{Content as Datagram}
 use Rattle.at_ddp.specs.declared.address.Address.{Address}
 use Rattle.at_atp_frame.specs.Frames.{Content, Request, Response, Release, Spells}
 use Rattle.at_atp_frame.specs.Frames.{number_of}
-use Rattle.at_atp_frame.specs.Packets.{Packet}
-use Rattle.at_atp_responder.specs.Records.{Taken, finds_no_place, taken}
-use Rattle.at_atp_responder.specs.declared.reception.Reception.{Reception}
-use Rattle.at_atp_responder.specs.declared.reception.Reception.TheVariants as reception
 use Rattle.at_name_socket.specs.NameSockets.{SocketState}
 use Rattle.at_name_socket.specs.declared.step.Heard.{Heard}
 use Rattle.at_name_socket.specs.declared.step.Heard.TheVariants as heard
@@ -18,14 +14,14 @@ use Rattle.at_event.specs.declared.event.Report.TheVariants as report
 use Rattle.at_event.specs.declared.seat.Seat.{Seat}
 use Rattle.at_event.specs.declared.service.Reply.{Reply}
 use Rattle.at_event.specs.declared.service.Reply.TheVariants.{Later}
-use Rattle.at_node.specs.AtpHearing.{HearsAt, HearsAtp, Requester, Service, Zones}
+use Rattle.at_node.specs.AtpHearing.{HearsAtp}
 use Rattle.at_node.specs.AtpParts.{AtpState, atp_kind, tid_of}
 use Rattle.at_node.specs.Drawing.{CarriesConn, CarriesOne, DrawsHearing, drawn_by, end_drawn}
 use Rattle.at_node.specs.declared.drawing.Draw.TheVariants.{Conn}
 use Rattle.at_node.specs.Hearing.{Hears, HearsDatagram, HearsIt, HearsMine}
 use Rattle.at_event.specs.Seats.{nbp_kind}
 use Rattle.at_node.specs.NameHearing.{HearsName, HearsNames, HearsNbpFault, told_by}
-use Rattle.at_node.specs.Nodes.{NodeState, with_atp, with_names, with_streams}
+use Rattle.at_node.specs.Nodes.{NodeState, over_atp, with_names, with_streams}
 use Rattle.at_adsp_end.specs.Positions.{wire}
 use Rattle.at_adsp_end.specs.declared.step.Step.{Step}
 use Rattle.at_adsp_end.specs.declared.step.Step.TheVariants as step
@@ -35,12 +31,10 @@ use Rattle.at_stream_socket.specs.Carrying as streams
 use Rattle.at_stream_socket.specs.Hearing.{HearsAdspFault, HearsSegment, HearsStreams, Makes, segment_heard}
 use Rattle.at_stream_socket.specs.Sockets.{adsp_kind}
 use Rattle.at_stream_socket.specs.Sockets.{told_by as told_as}
-use Rattle.at_event.specs.Outcomes.{Outcome, Over, idle, over}
+use Rattle.at_event.specs.Outcomes.{Outcome, Over, Through, idle, over}
 use Rattle.at_node.specs.RequesterSocket.{AtRequester}
-use Rattle.at_node.specs.Responders.{released_report}
 use Rattle.at_event.specs.Seats.{is_for_all, is_mine}
-use Rattle.at_node.specs.ServiceSocket.{AtService, at_service}
-use Rattle.at_node.specs.ZoneSocket.{AtZones, at_zones, page_packet}
+use Rattle.at_node.proofs.AnsweringLemmas.{TellsNothing, by_asker}
 
 pub numbers_alike : (f : Content) → tid_of f ≡ number_of f
 numbers_alike (Request mask xo timer tid user bytes) = refl
@@ -129,7 +123,7 @@ pub record ByPacket {A : Type 0} (n : NodeState) (d : Datagram) (o : Outcome A N
   pub spelled : Spells d.data_ packet
   pub part : Outcome A AtpState
   pub at : AtRequester n.seat n.atp d.from packet part
-  pub is : o ≡ over (with_atp n) part
+  pub is : o ≡ over_atp n part
 
 pub comes_by : {A : Type 0} (said : Reply A) (n : NodeState) (d : Datagram) (o : Outcome A NodeState) → ByPacket n d o → HearsIt said n d o
 comes_by said n d o b = rw (b.mine, b.kind) (b.part, rw b.socket (inl (record { packet = b.packet; spelled = b.spelled; outcome = b.at })), b.is)
@@ -165,43 +159,11 @@ module _ (A : Type 0) where
   made_draws (step.Closed k) id h = absurd (cc)
   made_draws (step.Freed k) id h = absurd (cc)
 
-  released_none : (r : Reception) → drawn_by {A = A} (released_report r) ≡ None
-  released_none reception.Ignored = refl
-  released_none (reception.Again count) = refl
-  released_none reception.Released = refl
-  released_none (reception.New key) = refl
-
-  service_none : (s : Seat) (a : AtpState) (t : Taken) (user bytes : List ℕ) (said : Reply A) (r : Reception) → drawn_by (at_service s a t user bytes said r).report ≡ None
-  service_none s a t user bytes said reception.Ignored = refl
-  service_none s a t user bytes said (reception.Again count) = refl
-  service_none s a t user bytes said reception.Released = refl
-  service_none s a t user bytes said (reception.New key) = refl
-
-  zones_none : (s : Seat) (a : AtpState) (t : Taken) (p : Packet) (r : Reception) → drawn_by (at_zones {A = A} s a t p r).report ≡ None
-  zones_none s a t p reception.Ignored = refl
-  zones_none s a t p (reception.Again count) = refl
-  zones_none s a t p reception.Released = refl
-  zones_none s a t p (reception.New key) = refl
-
-  either_none : (b : Bool) (x y : Outcome A AtpState) → drawn_by x.report ≡ None → drawn_by y.report ≡ None → drawn_by (cond b x y).report ≡ None
-  either_none true x y h g = h
-  either_none false x y h g = g
+  draws_nothing : TellsNothing A Draw drawn_by
+  draws_nothing = record { ignored = refl; again = refl; released = refl; asked = λ key user bytes. refl; served = λ count. refl; refused = λ number. refl }
 
   told_none : {S : Type 0} (o x : Outcome A S) → o ≡ x → drawn_by x.report ≡ None → drawn_by o.report ≡ None
   told_none o x is none = ap (λ (y : Outcome A _). drawn_by y.report) is ∙ none
-
-  at_service_none : (said : Reply A) (s : Seat) (a : AtpState) (from : Address) (f : Content) (o : Outcome A AtpState) → AtService said s a from f o → drawn_by o.report ≡ None
-  at_service_none said s a from (Request mask xo timer tid user bytes) o h =
-      told_none o _ h (either_none (finds_no_place a.service_responder from (Request mask xo timer tid user bytes)) (idle a (report.Refused 14)) _ refl (service_none s a (taken a.service_responder from (Request mask xo timer tid user bytes)) user bytes said (taken a.service_responder from (Request mask xo timer tid user bytes)).reception))
-  at_service_none said s a from (Response place eom sts tid user bytes) o h = told_none o _ h refl
-  at_service_none said s a from (Release tid) o h = told_none o _ h (released_none (taken a.service_responder from (Release tid)).reception)
-
-  at_zones_none : (s : Seat) (a : AtpState) (from : Address) (table : List (List ℕ)) (f : Content) (o : Outcome A AtpState) → AtZones s a from table f o → drawn_by o.report ≡ None
-  at_zones_none s a from table (Request mask xo timer tid user bytes) o (inl h) =
-      told_none o _ h.outcome (either_none (finds_no_place a.zone_responder from (Request mask xo timer tid user bytes)) (idle a (report.Refused 14)) _ refl (zones_none s a (taken a.zone_responder from (Request mask xo timer tid user bytes)) (page_packet table h.start) (taken a.zone_responder from (Request mask xo timer tid user bytes)).reception))
-  at_zones_none s a from table (Request mask xo timer tid user bytes) o (inr h) = told_none o _ h.1 refl
-  at_zones_none s a from table (Response place eom sts tid user bytes) o h = told_none o _ h refl
-  at_zones_none s a from table (Release tid) o h = told_none o _ h (released_none (taken a.zone_responder from (Release tid)).reception)
 
   names_none : (s : Seat) (n : SocketState) (d : Datagram) (o : Outcome A SocketState) → HearsNames s n d o → drawn_by o.report ≡ None
   names_none s n d o = go (d.to.socket == 2)
@@ -221,30 +183,10 @@ module _ (A : Type 0) where
     nothing : drawn_by o.report ≡ None → Drawing n d o draw
     nothing none = let both : None ≡ Some draw = sym none ∙ draws in absurd (cc)
 
-    at_socket : (is_for_all n.seat d.kind d.to || is_mine n.seat d.to) ≡ true → (d.kind == atp_kind) ≡ true → (p : Outcome A AtpState) → o ≡ over (with_atp n) p → HearsAtp said n.seat n.atp d p → Drawing n d o draw
-    at_socket mine kind p is h = asking (d.to.socket == 128) refl h
-      where
-        none_of : drawn_by p.report ≡ None → Drawing n d o draw
-        none_of none = nothing (ap (λ (y : Outcome A NodeState). drawn_by y.report) is ∙ none)
-
-        served : (t : Option (List (List ℕ))) → HearsAt said n.seat n.atp d (option_map Zones t) p → Drawing n d o draw
-        served None g = none_of (told_none p _ g refl)
-        served (Some table) (inl g) = none_of (at_zones_none n.seat n.atp d.from table g.packet p g.outcome)
-        served (Some table) (inr g) = none_of (told_none p _ g.outcome refl)
-
-        serves : (b : Bool) → HearsAt said n.seat n.atp d (cond b (option_map Zones n.atp.table) None) p → Drawing n d o draw
-        serves true g = served n.atp.table g
-        serves false g = none_of (told_none p _ g refl)
-
-        answering : (b : Bool) → HearsAt said n.seat n.atp d (cond b (Some Service) (cond (d.to.socket == 6) (option_map Zones n.atp.table) None)) p → Drawing n d o draw
-        answering true (inl g) = none_of (at_service_none said n.seat n.atp d.from g.packet p g.outcome)
-        answering true (inr g) = none_of (told_none p _ g.outcome refl)
-        answering false g = serves (d.to.socket == 6) g
-
-        asking : (b : Bool) → (d.to.socket == 128) ≡ b → HearsAt said n.seat n.atp d (cond b (Some Requester) (cond (d.to.socket == 129) (Some Service) (cond (d.to.socket == 6) (option_map Zones n.atp.table) None))) p → Drawing n d o draw
-        asking true e (inl g) = inl (record { mine = mine; kind = kind; socket = e; packet = g.packet; spelled = g.spelled; part = p; at = g.outcome; is = is })
-        asking true e (inr g) = none_of (told_none p _ g.outcome refl)
-        asking false e g = answering (d.to.socket == 129) g
+    at_socket : (is_for_all n.seat d.kind d.to || is_mine n.seat d.to) ≡ true → (d.kind == atp_kind) ≡ true → (p : Outcome A AtpState) → o ≡ over_atp n p → HearsAtp said n.seat n.atp d p → Drawing n d o draw
+    at_socket mine kind p is h =
+        let asks = by_asker A Draw drawn_by draws_nothing said n.seat n.atp d p h draw (sym (ap (λ (y : Outcome A NodeState). drawn_by y.report) is) ∙ draws) in
+        inl (record { mine = mine; kind = kind; socket = asks.socket; packet = asks.packet; spelled = asks.spelled; part = p; at = asks.at; is = is })
 
     at_streams : (is_for_all n.seat d.kind d.to || is_mine n.seat d.to) ≡ true → (d.kind == adsp_kind) ≡ true → (p : Outcome A EndTable) → o ≡ over (with_streams n) p → HearsStreams n.seat n.streams d p → Drawing n d o draw
     at_streams mine kind p is = go (d.to.socket == 130) refl
@@ -275,7 +217,7 @@ module _ (A : Type 0) where
         nbp mine false h = adsp mine (d.kind == adsp_kind) refl h
 
         spoken : (is_for_all n.seat d.kind d.to || is_mine n.seat d.to) ≡ true → (b : Bool) → (d.kind == atp_kind) ≡ b →
-            MatchBool b (Over (with_atp n) (HearsAtp said n.seat n.atp d) o) (MatchBool (d.kind == nbp_kind) (Over (with_names n) (HearsNames n.seat n.names d) o) (MatchBool (d.kind == adsp_kind) (Over (with_streams n) (HearsStreams n.seat n.streams d) o) (o ≡ idle n report.Ignored))) → Drawing n d o draw
+            MatchBool b (Through (over_atp n) (HearsAtp said n.seat n.atp d) o) (MatchBool (d.kind == nbp_kind) (Over (with_names n) (HearsNames n.seat n.names d) o) (MatchBool (d.kind == adsp_kind) (Over (with_streams n) (HearsStreams n.seat n.streams d) o) (o ≡ idle n report.Ignored))) → Drawing n d o draw
         spoken mine true e h = at_socket mine e h.0 h.2 h.1
         spoken mine false e h = nbp mine (d.kind == nbp_kind) h
 
@@ -296,7 +238,7 @@ pub found_by_packet : (A : Type 0) (n : NodeState) (d : Datagram) (f : Content) 
     IfSome r (λ draw. (o : Outcome A AtpState) × AtRequester s n.atp from f o × (drawn_by o.report ≡ Some draw)) → IfSome r (λ draw. (said : Reply A) × (o : Outcome A NodeState) × HearsIt said n d o × (drawn_by o.report ≡ Some draw))
 found_by_packet A n d f s from None seat sender mine kind socket spelled h = tt
 found_by_packet A n d f s from (Some draw) seat sender mine kind socket spelled h =
-    let o : Outcome A NodeState = over (with_atp n) h.0 in
+    let o : Outcome A NodeState = over_atp n h.0 in
     let at : AtRequester n.seat n.atp d.from f h.0 = subst (λ x. AtRequester n.seat n.atp x f h.0) sender (subst (λ x. AtRequester x n.atp from f h.0) seat h.1) in
     (Later, o, comes_by Later n d o (record { mine = mine; kind = kind; socket = socket; packet = f; spelled = spelled; part = h.0; at = at; is = refl }), h.2)
 

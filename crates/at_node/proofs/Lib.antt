@@ -1,4 +1,6 @@
+mod AnsweringLemmas
 mod DrawingLemmas
+mod ListLemmas
 mod NameLemmas
 mod OutcomeLemmas
 mod PostLemmas
@@ -7,3 +9,4 @@ mod RequesterLemmas
 mod ResponderLemmas
 mod ServingLemmas
 mod SentHeard
+mod SessionLemmas

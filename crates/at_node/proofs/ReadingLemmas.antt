@@ -49,7 +49,7 @@ module _ {A : Type 0} (s : Seat) (a : AtpState) (h : Heard A) (from : Address) (
   too_long_at : nat_lt 1024 (length names + length p.names) ≡ true → TakesPage s a h from names p (after_heard s a h (ZoneFault 34) None)
   too_long_at long = rw long refl
 
-  last_at : nat_lt 1024 (length names + length p.names) ≡ false → p.last ≡ true → TakesPage s a h from names p (after_heard s a h (Zones (names ++ p.names)) None)
+  pub last_at : nat_lt 1024 (length names + length p.names) ≡ false → p.last ≡ true → TakesPage s a h from names p (after_heard s a h (Zones (names ++ p.names)) None)
   last_at few last = rw (few, last) refl
 
   on_at : nat_lt 1024 (length names + length p.names) ≡ false → p.last ≡ false → (o : Outcome A AtpState) → AsksOn s a h from (names ++ p.names) o → TakesPage s a h from names p o

@@ -23,8 +23,8 @@ use Rattle.at_event.specs.declared.seat.Seat.{Seat}
 use Rattle.at_node.specs.AtpHearing.{AtpSocket, AtSocket, HearsAt, atp_socket}
 use Rattle.at_node.specs.AtpParts.{AtpState, atp_kind}
 use Rattle.at_node.specs.Hearing.{HearsIt, HearsMine, Hears, HearsSent}
-use Rattle.at_node.specs.Nodes.{NodeState, with_atp}
-use Rattle.at_event.specs.Outcomes.{Outcome, Over, idle}
+use Rattle.at_node.specs.Nodes.{NodeState, over_atp}
+use Rattle.at_event.specs.Outcomes.{Outcome, Through, idle}
 use Rattle.at_event.specs.Seats.{is_mine}
 use Rattle.at_node.specs.ZoneReading.{ReadsPage, TakesPage}
 use Rattle.at_node.specs.ZoneSocket.{AtZones, zone_asked}
@@ -74,7 +74,7 @@ mine_as_sent : (A : Type 0) (said : Reply A) (n : NodeState) (to from : Address)
 mine_as_sent A said n to from f o packets ok = go (is_mine n.seat to)
   where
     go : (b : Bool) → MatchBool b (HearsMine said n (written to from atp_kind (spelled f)) o) (o ≡ idle n Ignored)
-        → MatchBool b (Over (with_atp n) (AtSocket said n.seat n.atp from (atp_socket n.atp to.socket) f) o) (o ≡ idle n Ignored)
+        → MatchBool b (Through (over_atp n) (AtSocket said n.seat n.atp from (atp_socket n.atp to.socket) f) o) (o ≡ idle n Ignored)
     go false h = h
     go true h = (h.0, at_socket A said n.seat n.atp (written to from atp_kind (spelled f)) (atp_socket n.atp to.socket) f h.0 packets ok refl h.1, h.2)
 

@@ -11,8 +11,8 @@ use Rattle.at_node.specs.AtpHearing.{AtSocket, HearsAtp, atp_socket}
 use Rattle.at_node.specs.AtpParts.{atp_kind}
 use Rattle.at_event.specs.Seats.{nbp_kind}
 use Rattle.at_node.specs.NameHearing.{HearsNames}
-use Rattle.at_node.specs.Nodes.{NodeState, with_atp, with_names, with_streams}
-use Rattle.at_event.specs.Outcomes.{Outcome, Over, idle}
+use Rattle.at_node.specs.Nodes.{NodeState, over_atp, with_names, with_streams}
+use Rattle.at_event.specs.Outcomes.{Outcome, Over, Through, idle}
 use Rattle.at_event.specs.Seats.{is_for_all, is_mine}
 use Rattle.at_stream_socket.specs.Hearing.{HearsStreams}
 use Rattle.at_stream_socket.specs.Sockets.{adsp_kind}
@@ -20,7 +20,7 @@ use Rattle.at_stream_socket.specs.Sockets.{adsp_kind}
 -- which part a datagram is for, by its protocol; that of a protocol which no part speaks is ignored
 abbrev pub HearsMine : {A : Type 0} → Reply A → NodeState → Datagram → Outcome A NodeState → Type 0
 HearsMine said n d o =
-    MatchBool (d.kind == atp_kind) (Over (with_atp n) (HearsAtp said n.seat n.atp d) o)
+    MatchBool (d.kind == atp_kind) (Through (over_atp n) (HearsAtp said n.seat n.atp d) o)
     (MatchBool (d.kind == nbp_kind) (Over (with_names n) (HearsNames n.seat n.names d) o)
     (MatchBool (d.kind == adsp_kind) (Over (with_streams n) (HearsStreams n.seat n.streams d) o)
     (o ≡ idle n report.Ignored)))
@@ -52,5 +52,5 @@ Hears said n bytes o = HearsDatagram said n bytes o ⊎ HearsDdpFault n bytes o
 abbrev pub HearsSent : {A : Type 0} → Reply A → NodeState → Address → Address → Content → Outcome A NodeState → Type 0
 HearsSent said n to from f o =
     MatchBool (is_mine n.seat to)
-    (Over (with_atp n) (AtSocket said n.seat n.atp from (atp_socket n.atp to.socket) f) o)
+    (Through (over_atp n) (AtSocket said n.seat n.atp from (atp_socket n.atp to.socket) f) o)
     (o ≡ idle n report.Ignored)

@@ -9,5 +9,6 @@ pub mod Readings
 pub mod RequesterSocket
 pub mod Responders
 pub mod ServiceSocket
+pub mod SessionCalls
 pub mod ZoneReading
 pub mod ZoneSocket

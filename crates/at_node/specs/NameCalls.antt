@@ -45,14 +45,6 @@ found_as s n pattern None = refused_by n LookupsFull
 found_as s n pattern (Some id) =
     looks_up s n id pattern (record n { lookups = begun n.lookups (beginning id pattern) })
 
--- a lookup without a zone asks for every zone
-abbrev pub zone_asked : Option (List ℕ) → List ℕ
-zone_asked None = 0x2A ∷ []
-zone_asked (Some zone) = zone
-
-abbrev pub pattern_asked : List ℕ → List ℕ → Option (List ℕ) → Name
-pattern_asked object kind zone = record { object = object; kind = kind; zone = zone_asked zone }
-
 -- the node's user looks names up that match a pattern
 abbrev pub find_called : {A : Type 0} → Seat → SocketState → Name → Outcome A SocketState
 find_called s n pattern = found_as s n pattern (next_id n.lookups)

@@ -1,4 +1,4 @@
--- A node: its seat and its parts, and which part has each call and each timer.
+-- A node: its seat, its parts and its user's session, and which of them has each call and each timer.
 use Rattle.std.specs.Prelude.{ℕ, List, Option}
 use Rattle.at_atp_requester.specs.Requests.{retried}
 use Rattle.at_adsp_end.specs.declared.rooms.Rooms.{Rooms}
@@ -8,17 +8,19 @@ use Rattle.at_name_socket.specs.NameSockets as names
 use Rattle.at_name_socket.specs.NameSockets.{SocketState}
 use Rattle.at_name_socket.specs.declared.neighbour.Neighbour.{Neighbour}
 use Rattle.at_event.specs.declared.event.Call.{Call}
-use Rattle.at_event.specs.declared.event.Call.TheVariants.{Zones, SetZones, Ask, Answer}
+use Rattle.at_event.specs.declared.event.Call.TheVariants.{Zones, SetZones, Ask, Answer, Pick}
 use Rattle.at_event.specs.declared.event.Call.TheVariants.{Find, Claim, Finish, Register, Unregister}
-use Rattle.at_event.specs.declared.event.Call.TheVariants.{Listen, Connect, Write, Read, Reset, Close}
+use Rattle.at_event.specs.declared.event.Call.TheVariants.{Open, Listen, Connect, Write, Read, Reset, Close}
 use Rattle.at_event.specs.declared.event.Timer.{Timer}
 use Rattle.at_event.specs.declared.event.Timer.TheVariants as timer
 use Rattle.at_event.specs.declared.seat.Seat.{Seat}
 use Rattle.at_node.specs.AtpParts as atp
 use Rattle.at_node.specs.AtpParts.{AtpState}
-use Rattle.at_node.specs.NameCalls.{claim_called, find_called, finish_called, lookup_fired, pattern_asked}
+use Rattle.at_node.specs.NameCalls.{claim_called, find_called, finish_called, lookup_fired}
 use Rattle.at_node.specs.NameCalls.{register_called, unregister_called}
 use Rattle.at_event.specs.Outcomes.{Outcome, over}
+use Rattle.at_session.specs.Sessions.{SessionState, address_at, finds_kept, list_kept, new_session, pattern_asked}
+use Rattle.at_node.specs.SessionCalls.{open_called, pick_called}
 use Rattle.at_node.specs.RequesterSocket.{ask_called, retry_fired}
 use Rattle.at_node.specs.Responders.{release_fired}
 use Rattle.at_event.specs.Seats.{at_socket}
@@ -33,6 +35,7 @@ pub record NodeState : Type 0 where
   pub atp : AtpState
   pub names : SocketState
   pub streams : EndTable
+  pub session : SessionState
 
 -- the zone table and the nodes of the cable are the router's alone
 abbrev pub opening : ℕ → ℕ → Option ℕ → Option (List ℕ) → Option (List (List ℕ)) → Option (List Neighbour) → Rooms
@@ -42,6 +45,7 @@ opening net number router zone table neighbours rooms = record {
   atp = atp.opening table;
   names = names.opening net number router zone neighbours;
   streams = no_ends rooms;
+  session = new_session;
 }
 
 -- a new state of one part
@@ -54,6 +58,25 @@ with_names n part = record n { names = part }
 abbrev pub with_streams : NodeState → EndTable → NodeState
 with_streams n part = record n { streams = part }
 
+abbrev pub with_session : NodeState → SessionState → NodeState
+with_session n part = record n { session = part }
+
+-- what comes of a packet of ATP, of which the session keeps the zone list
+abbrev pub over_atp : {A : Type 0} → NodeState → Outcome A AtpState → Outcome A NodeState
+over_atp n o = record {
+  report = o.report;
+  state = record n { atp = o.state; session = list_kept n.session o.report };
+  out = o.out;
+}
+
+-- what comes of the end of a lookup, of which the session keeps what was found
+abbrev pub over_finish : {A : Type 0} → NodeState → Outcome A SocketState → Outcome A NodeState
+over_finish n o = record {
+  report = o.report;
+  state = record n { names = o.state; session = finds_kept n.session o.report };
+  out = o.out;
+}
+
 abbrev pub called : {A : Type 0} → NodeState → Call A → Outcome A NodeState
 called n Zones = over (with_atp n) (zones_called n.seat n.atp n.seat.router n.atp.reading)
 called n (SetZones names) = over (with_atp n) (set_zones_called n.atp n.atp.table names)
@@ -61,12 +84,15 @@ called n (Ask node socket user bytes wanted xo retries) =
     over (with_atp n) (ask_called n.seat n.atp (at_socket n.seat node socket) user bytes wanted xo retries)
 called n (Answer node socket tid packets) =
     over (with_atp n) (answer_called n.seat n.atp (record { from = at_socket n.seat node socket; tid = tid }) packets)
+called n (Pick zone) = over (with_session n) (pick_called n.session zone)
 called n (Find object kind zone) =
-    over (with_names n) (find_called n.seat n.names (pattern_asked object kind zone))
+    over (with_names n) (find_called n.seat n.names (pattern_asked n.session object kind zone))
 called n (Claim object kind socket) = over (with_names n) (claim_called n.seat n.names object kind socket)
-called n (Finish id) = over (with_names n) (finish_called n.names id)
+called n (Finish id) = over_finish n (finish_called n.names id)
 called n (Register object kind socket) = over (with_names n) (register_called n.names object kind socket)
 called n (Unregister object kind) = over (with_names n) (unregister_called n.names object kind)
+called n (Open index) =
+    over (with_streams n) (open_called n.seat n.streams (address_at n.session index))
 called n (Listen on) = over (with_streams n) (listen_called n.streams on)
 called n (Connect node socket) =
     over (with_streams n) (connect_called n.seat n.streams (at_socket n.seat node socket))

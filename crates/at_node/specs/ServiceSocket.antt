@@ -1,10 +1,10 @@
 -- The socket of a node's service: what its calls and its packets do.
-use Rattle.std.specs.Prelude.{◌≡◌, ℕ, ◌≤◌, if◌then◌else◌, Bool, true, false, List, [], length, find, Option, Some, None}
+use Rattle.std.specs.Prelude.{◌≡◌, ℕ, if◌then◌else◌, List, [], length, find, Option, Some, None}
 use Rattle.at_ddp.specs.declared.address.Address.{Address}
 use Rattle.at_atp_frame.specs.Fault.{number_of}
 use Rattle.at_atp_frame.specs.Frames.{Content, Request, Response, Release, spelled_all}
 use Rattle.at_atp_frame.specs.Packets.{Packet}
-use Rattle.at_atp_responder.specs.Records.{Record, Taken, is_key, taken, fit, finds_no_place, asked_for, answer_fault}
+use Rattle.at_atp_responder.specs.Records.{Record, Taken, is_key, taken, finds_no_place, asked_for, answer_fault}
 use Rattle.at_atp_responder.specs.Records.{after_answer}
 use Rattle.at_atp_frame.specs.declared.fault.AtpFault.{AtpFault}
 use Rattle.at_atp_frame.specs.declared.fault.AtpFault.TheVariants.{Full}

@@ -1,6 +1,5 @@
 ghost use Rattle.std.specs.Prelude.{◌≡◌, ◌↔◌, ℕ, Some, IfSome, option_map};
 ghost use Rattle.std.specs.List.{Contains};
-ghost use Rattle.at_atp_frame.specs.Frames.{owner};
 ghost use Rattle.at_atp_frame.specs.Frames.{content};
 ghost use Rattle.at_atp_requester.specs.Requests.{next_number};
 ghost use Rattle.at_ddp.specs.Datagram.{content as written};
@@ -24,8 +23,9 @@ use crate::atp_part::ATP;
 use crate::incoming::Incoming;
 use crate::node::Node;
 use crate::requester_socket::{REQUESTER_SOCKET, tid_of};
-use at_atp::{Frame, MAX_DATA};
-use at_ddp::{Address, Datagram, decode};
+use at_atp::MAX_DATA;
+use at_atp_frame::owner;
+use at_ddp::{Datagram, decode};
 use at_event::{Call, NBP, Timer};
 use at_nbp::is_no_name;
 use at_stream_socket::ADSP;
@@ -97,6 +97,10 @@ impl<A: Allocator + Copy> Node<A> {
             }
             Call::Find { .. } => self.next_lookup(),
             Call::Connect { .. } => self.next_end(),
+            Call::Open { index } => {
+                self.session.address_at(*index)?;
+                self.next_end()
+            }
             Call::Claim { object, kind, .. } => {
                 if is_no_name(object, kind) {
                     return None;
@@ -260,15 +264,4 @@ fn lookup_in(datagram: &Datagram<'_>) -> Option<(u8, Draw)>
 {
     let (node, id) = at_name_socket::carried(datagram.to, datagram.data_)?;
     Some((node, Draw::Lookup(id)))
-}
-
-// The requester that drew the transaction number of a packet.
-fn owner(from: Address, to: Address, frame: &Frame<'_>) -> Address
-    ensures { result ≡ owner from to (content frame.now) }
-{
-    match frame {
-        Frame::Request { .. } => from,
-        Frame::Response { .. } => to,
-        Frame::Release { .. } => from,
-    }
 }

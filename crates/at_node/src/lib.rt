@@ -12,6 +12,8 @@ mod page_taking;
 mod requester_socket;
 mod responders;
 mod service_socket;
+mod session;
+mod zone_list;
 mod zone_reading;
 mod zone_socket;
 

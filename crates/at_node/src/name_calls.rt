@@ -1,17 +1,18 @@
 //! The calls and the timer of the socket for names.
-ghost use Rattle.std.specs.Prelude.{◌≡◌, List};
+ghost use Rattle.std.specs.Prelude.{◌≡◌, List, IfOk, IsSome, OnErr};
 ghost use Rattle.at_ddp.specs.Datagrams.{Posted};
-ghost use Rattle.at_node.specs.NameCalls.{claim_called, find_called, finish_called, lookup_fired, pattern_asked};
-ghost use Rattle.at_node.specs.NameCalls.{register_called, told_of, unregister_called, zone_asked};
+ghost use Rattle.at_name_socket.specs.NameSockets.{finds_told};
+ghost use Rattle.at_node.specs.NameCalls.{claim_called, find_called, finish_called, lookup_fired};
+ghost use Rattle.at_node.specs.NameCalls.{register_called, told_of, unregister_called};
 ghost use Rattle.at_event.specs.Outcomes.{IsStep};
 
 use crate::name_part::{NamePart, outbox_over};
 use crate::node::refused;
-use at_ddp::{Datagrams, Pascal};
+use at_ddp::{Datagrams, Listed, Pascal};
 use at_event::{Report, Seat};
 use at_name_socket::Finished;
-use at_nbp::{Name, copy_of};
-use std::alloc::Allocator;
+use at_nbp::{Find, Name, copy_of};
+use std::alloc::{AllocError, Allocator};
 
 impl<A: Allocator + Copy> NamePart<A> {
     // Looks up the names that match a pattern.
@@ -60,6 +61,14 @@ impl<A: Allocator + Copy> NamePart<A> {
         }
     }
 
+    // A copy of what a lookup found so far, if it is open and no claim.
+    pub(crate) fn finds_told(&self, id: u8) -> Result<Option<Listed<Find, A>>, AllocError>
+        ensures copy { IfOk result (λ finds. finds ≡ finds_told self.now id) }
+        ensures memory { OnErr result (IsSome (finds_told self.now id)) }
+    {
+        self.socket.finds_told(id)
+    }
+
     // Asks again for an open lookup.
     pub(crate) fn ask_again(&mut self, seat: Seat, id: u8, out: &mut Datagrams<A>) -> Report<A>
         ensures { IsStep (lookup_fired seat self.old id) self.old out.old.items result self.new out.new.items }
@@ -93,26 +102,6 @@ impl<A: Allocator + Copy> NamePart<A> {
             Ok(()) => Report::Done,
             Err(fault) => refused(fault.number()),
         }
-    }
-}
-
-// The pattern of a lookup. Without a zone it asks for any.
-pub(crate) fn pattern_asked(object: &Pascal, kind: &Pascal, zone: &Option<Pascal>) -> Name
-    ensures { result ≡ pattern_asked object.now kind.now zone.now }
-{
-    Name {
-        object: copy_of(object),
-        kind: copy_of(kind),
-        zone: zone_asked(zone),
-    }
-}
-
-fn zone_asked(zone: &Option<Pascal>) -> Pascal
-    ensures { result ≡ zone_asked zone.now }
-{
-    match zone {
-        Some(zone) => copy_of(zone),
-        None => Pascal::new(b"*").unwrap(),
     }
 }
 

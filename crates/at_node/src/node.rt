@@ -1,4 +1,4 @@
-ghost use Rattle.std.specs.Prelude.{◌≡◌, ℕ, List, Option, false};
+ghost use Rattle.std.specs.Prelude.{◌≡◌, ◌≢◌, ℕ, List, Option, false};
 ghost use Rattle.at_ddp.specs.Datagram.{content};
 ghost use Rattle.at_node.specs.Hearing.{HearsIt, Hears};
 ghost use Rattle.at_adsp_ends.specs.Tables.{AreRooms};
@@ -9,7 +9,6 @@ ghost use Rattle.at_event.specs.Services.{Serves, is_asked};
 ghost use Rattle.at_event.specs.declared.service.Reply.{Reply};
 
 use crate::atp_part::{ATP, AtpPart};
-use crate::name_calls::pattern_asked;
 use crate::name_part::NamePart;
 use crate::requester_socket::Question;
 use at_adsp_ends::{Rooms, Tick};
@@ -17,6 +16,7 @@ use at_atp::Key;
 use at_ddp::{Datagram, Datagrams, Listed, Pascal, decode};
 use at_event::{Call, NBP, Report, Seat, Service, Timer};
 use at_name_socket::Neighbour;
+use at_session::Session;
 use at_stream_socket::{ADSP, StreamSocket};
 use at_zip::Zones;
 use std::alloc::{Allocator, Global};
@@ -29,6 +29,8 @@ pub struct Node<A: Allocator = Global> {
     pub(crate) atp: AtpPart<A>,
     pub(crate) names: NamePart<A>,
     pub(crate) streams: StreamSocket<A>,
+    // What the node's user was told.
+    pub(crate) session: Session<A>,
 }
 
 impl<A: Allocator> Model for Node<A> {
@@ -36,7 +38,13 @@ impl<A: Allocator> Model for Node<A> {
 
     ghost Value = { NodeState };
 
-    ghost view = { λ n. record { seat = n.seat; atp = n.atp; names = n.names; streams = n.streams } };
+    ghost view = { λ n. record {
+      seat = n.seat;
+      atp = n.atp;
+      names = n.names;
+      streams = n.streams;
+      session = n.session;
+    } };
 }
 
 impl<A: Allocator + Copy> Node<A> {
@@ -66,6 +74,7 @@ impl<A: Allocator + Copy> Node<A> {
             atp: AtpPart::new(alloc, zones),
             names: NamePart::new(alloc, seat, zone, neighbours),
             streams: StreamSocket::new(alloc, rooms),
+            session: Session::new(alloc),
         }
     }
 
@@ -84,7 +93,10 @@ impl<A: Allocator + Copy> Node<A> {
             Call::Zones | Call::SetZones { .. } | Call::Ask { .. } | Call::Answer { .. } => {
                 self.call_atp(call, out)
             }
-            Call::Listen { .. }
+            Call::Pick { zone } => self.pick(zone),
+            Call::Finish { id } => self.finish(*id),
+            Call::Open { .. }
+            | Call::Listen { .. }
             | Call::Connect { .. }
             | Call::Write { .. }
             | Call::Read { .. }
@@ -135,22 +147,22 @@ impl<A: Allocator + Copy> Node<A> {
         }
     }
 
-    // Plays a call of the socket for names.
+    // Plays a call of the socket for names, but the end of a lookup.
     fn call_names(&mut self, call: &Call<A>, out: &mut Datagrams<A>) -> Report<A>
-        requires { kind_of_call call.now ≡ Nbp }
+        requires kind { kind_of_call call.now ≡ Nbp }
+        requires other { (id : ℕ) → call.now ≢ Call.Finish id }
         ensures { IsStep (called self.old call.now) self.old out.old.items result self.new out.new.items }
     {
         match call {
             Call::Find { object, kind, zone } => {
-                self.names
-                    .find(self.seat, pattern_asked(object, kind, zone), out)
+                let pattern = self.session.pattern(object, kind, zone);
+                self.names.find(self.seat, pattern, out)
             }
             Call::Claim {
                 object,
                 kind,
                 socket,
             } => self.names.claim(self.seat, object, kind, *socket, out),
-            Call::Finish { id } => self.names.finish(*id),
             Call::Register {
                 object,
                 kind,
@@ -167,6 +179,7 @@ impl<A: Allocator + Copy> Node<A> {
         ensures { IsStep (called self.old call.now) self.old out.old.items result self.new out.new.items }
     {
         match call {
+            Call::Open { index } => self.open(*index, out),
             Call::Listen { on } => self.streams.listen(*on),
             Call::Connect { node, socket } => {
                 let to = self.seat.there(*node, *socket);
@@ -236,7 +249,7 @@ impl<A: Allocator + Copy> Node<A> {
             return Report::Ignored;
         }
         if datagram.kind == ATP {
-            return self.atp.hear(self.seat, service, datagram, out);
+            return self.hear_atp(service, datagram, out);
         }
         if datagram.kind == NBP {
             return self.names.hear(self.seat, datagram, out);

@@ -76,6 +76,7 @@ report_text (report.Found finds) = codes "found" ++ flat_map found_text finds
 report_text report.Claimed = codes "claimed"
 report_text report.Registered = codes "done"
 report_text report.TableSet = codes "done"
+report_text report.Picked = codes "done"
 report_text (report.Taken f) = codes "taken " ++ find_text f
 report_text report.Relayed = codes "relayed"
 report_text (report.Names count) = codes "names " ++ decimal count

@@ -65,6 +65,7 @@ fn write_report<A: Allocator, W: Write>(printer: &mut Printer<W>, report: &Repor
         Report::Claimed => printer.write_all(b"claimed"),
         Report::Registered => printer.write_all(b"done"),
         Report::TableSet => printer.write_all(b"done"),
+        Report::Picked => printer.write_all(b"done"),
         Report::Taken(find) => write_taken(printer, find),
         Report::Relayed => printer.write_all(b"relayed"),
         Report::Names(count) => write!(printer, "names {count}"),

@@ -56,6 +56,7 @@ SaysCall ws (call.Ask node socket user bytes wanted exactly_once retries) =
     (d : List ℕ) × AskSays ws node socket user d wanted exactly_once retries × IsHex d bytes
 SaysCall ws (call.Answer node socket tid packets) =
     (ps : List (List ℕ)) × AnswerSays ws node socket tid ps × AllZip IsPacketWord ps packets
+SaysCall ws (call.Pick zone) = (z : List ℕ) × (ws ≡ codes "pick" ∷ z ∷ []) × IsText z zone
 SaysCall ws (call.Find object kind place) =
     (o k : List ℕ) × (zs : List (List ℕ)) × (ws ≡ codes "find" ∷ o ∷ k ∷ zs)
     × IsText o object × IsText k kind × AreZone zs place
@@ -66,6 +67,7 @@ SaysCall ws (call.Register object kind socket) =
     (ns : List (List ℕ)) × (ws ≡ codes "register" ∷ ns) × SocketSays ns object kind socket
 SaysCall ws (call.Unregister object kind) =
     (o k : List ℕ) × (ws ≡ codes "unregister" ∷ o ∷ k ∷ []) × IsText o object × IsText k kind
+SaysCall ws (call.Open index) = (i : List ℕ) × (ws ≡ codes "open" ∷ i ∷ []) × IsCount i index
 SaysCall ws (call.Listen on) = (s : List ℕ) × (ws ≡ codes "listen" ∷ s ∷ []) × IsSwitch s on
 SaysCall ws (call.Connect node socket) =
     (n s : List ℕ) × (ws ≡ codes "connect" ∷ n ∷ s ∷ []) × IsNumber n node × IsNumber s socket

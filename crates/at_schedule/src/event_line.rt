@@ -6,7 +6,8 @@ ghost use Rattle.at_schedule.specs.Says.{After, IsPacketWord, SaysCall, SaysEven
 ghost use Rattle.at_words.specs.Words.{HasWords};
 
 use crate::call_words::{AnswerWords, AskWords, packet_words};
-use crate::name_words::{lookup, name_call};
+use crate::name_words::lookup;
+use crate::session_words::session_call;
 use crate::stream_words::{probe, resend};
 use crate::table_words::set_zones;
 use at_atp::Packet;
@@ -17,7 +18,7 @@ use at_words::{HexFault, Words, byte, bytes_of, node_number, number, two_bytes};
 use at_world::Event;
 use std::alloc::Allocator;
 
-/// `call N` and a call: `zones`, `setzones ..`, `ask ..`, `answer ..`, or one for names or streams
+/// `call N` and a call: `zones`, `setzones ..`, `ask ..`, `answer ..`, or one of a session, for names or for streams
 pub(crate) fn call_of<A: Allocator + Copy>(
     alloc: A,
     mut words: Words<'_>,
@@ -43,7 +44,7 @@ fn call_words<A: Allocator + Copy>(alloc: A, mut words: Words<'_>) -> Result<Cal
     } else if is_word(word, b"answer") {
         answer(alloc, words)
     } else {
-        name_call(alloc, word, words)
+        session_call(alloc, word, words)
     }
 }
 

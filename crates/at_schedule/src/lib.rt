@@ -9,6 +9,7 @@ mod name_words;
 mod node_line;
 mod nodes;
 mod schedule;
+mod session_words;
 mod stream_words;
 mod table_words;
 mod text_word;

@@ -7,6 +7,7 @@ pub mod Coming
 pub mod Foreign
 pub mod Heard
 pub mod Holding
+pub mod Keeping
 pub mod Moves
 pub mod Requested
 pub mod Served

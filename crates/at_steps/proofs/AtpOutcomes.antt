@@ -36,13 +36,16 @@ use Rattle.at_node.specs.ServiceSocket.{AtService, answer_called, answered_with,
 use Rattle.at_node.specs.ZoneReading.{AsksOn, ReadsPage, TakesPage, after_failing, is_page, is_reading, names_read, page_transaction, reading_begins, zones_called}
 use Rattle.at_node.specs.ZoneSocket.{AtZones, at_zones, page_packet, set_zones_called, table_set, zone_taken}
 use Rattle.at_event.specs.declared.event.Call.{Call}
-use Rattle.at_event.specs.declared.event.Call.TheVariants.{Zones, SetZones, Ask, Answer, Find, Claim, Finish, Register, Unregister, Listen, Connect, Write, Read, Reset, Close}
+use Rattle.at_event.specs.declared.event.Call.TheVariants.{Zones, SetZones, Ask, Answer, Pick, Find, Claim, Finish, Register, Unregister, Open, Listen, Connect, Write, Read, Reset, Close}
 use Rattle.at_event.specs.declared.event.Report.{Report}
 use Rattle.at_event.specs.declared.event.Report.TheVariants as report
 use Rattle.at_event.specs.declared.event.Timer.{Timer}
 use Rattle.at_event.specs.declared.event.Timer.TheVariants as timer
 use Rattle.at_event.specs.declared.seat.Seat.{Seat}
 use Rattle.at_event.specs.declared.service.Reply.{Reply}
+use Rattle.at_session.specs.Sessions.{SessionState}
+use Rattle.at_steps.specs.SessionSteps.{after as kept_after}
+use Rattle.at_steps.proofs.Kept.{in_session}
 use Rattle.at_steps.specs.Acts.{Act, Calls, Fires, Gets, is_atp, owner_of}
 
 -- a report of ATP and ZIP, or nobody's
@@ -60,7 +63,9 @@ IsOfTransactions A act o = AllByRecursion (λ p. p.kind ≡ atp_kind) o.out × S
 -- what comes of an event at a node is what comes of it at its sockets for transactions
 pub record ComesOfAtp (A : Type 0) (n : NodeState) (act : Act A) (o : Outcome A NodeState) : Type 0 where
   pub part : Outcome A AtpState
-  pub is : o ≡ over (with_atp n) part
+  pub kept : SessionState
+  pub is : o ≡ in_session kept (over (with_atp n) part)
+  pub keeps : kept ≡ kept_after n.session act part.report
   pub its : IsOfTransactions A act part
 
 all_atp : (own : Address) (pushes : List (Address × List ℕ)) → AllByRecursion (λ p. p.kind ≡ atp_kind) (sent_by own atp_kind pushes)
@@ -106,29 +111,39 @@ module _ (A : Type 0) (call : Call A) (a : AtpState) where
 pub call_of_atp : (A : Type 0) (n : NodeState) (call : Call A) → is_atp (kind_of_call call) ≡ true → ComesOfAtp A n (Calls call) (called n call)
 call_of_atp A n Zones h = record {
   part = zones_called n.seat n.atp n.seat.router n.atp.reading;
+  kept = n.session;
   is = refl;
+  keeps = refl;
   its = reading_zones A Zones n.atp n.seat n.seat.router n.atp.reading;
 }
 call_of_atp A n (SetZones names) h = record {
   part = set_zones_called n.atp n.atp.table names;
+  kept = n.session;
   is = refl;
+  keeps = refl;
   its = setting_zones A (SetZones names) n.atp names n.atp.table;
 }
 call_of_atp A n (Ask node socket user bytes wanted xo retries) h = record {
   part = ask_called n.seat n.atp (at_socket n.seat node socket) user bytes wanted xo retries;
+  kept = n.session;
   is = refl;
+  keeps = refl;
   its = asking_bytes A (Ask node socket user bytes wanted xo retries) n.atp n.seat (at_socket n.seat node socket) user bytes wanted xo retries (nat_lt 578 (length bytes));
 }
 call_of_atp A n (Answer node socket tid packets) h = record {
   part = answer_called n.seat n.atp (record { from = at_socket n.seat node socket; tid = tid }) packets;
+  kept = n.session;
   is = refl;
+  keeps = refl;
   its = answering A (Answer node socket tid packets) n.atp n.seat (record { from = at_socket n.seat node socket; tid = tid }) packets (answer_fault n.atp.service_responder (record { from = at_socket n.seat node socket; tid = tid }) packets);
 }
+call_of_atp A n (Pick zone) h = absurd (true≢false (sym h))
 call_of_atp A n (Find object kind _) h = absurd (true≢false (sym h))
 call_of_atp A n (Claim object kind socket) h = absurd (true≢false (sym h))
 call_of_atp A n (Finish id) h = absurd (true≢false (sym h))
 call_of_atp A n (Register object kind socket) h = absurd (true≢false (sym h))
 call_of_atp A n (Unregister object kind) h = absurd (true≢false (sym h))
+call_of_atp A n (Open index) h = absurd (true≢false (sym h))
 call_of_atp A n (Listen on) h = absurd (true≢false (sym h))
 call_of_atp A n (Connect node socket) h = absurd (true≢false (sym h))
 call_of_atp A n (Write id items) h = absurd (true≢false (sym h))
@@ -160,12 +175,16 @@ module _ (A : Type 0) (a : AtpState) where
 pub timer_of_atp : (A : Type 0) (n : NodeState) (time : Timer) → is_atp (kind_of_timer time) ≡ true → ComesOfAtp A n (Fires time) (timed n time)
 timer_of_atp A n (timer.Retry tid) h = record {
   part = retry_fired n.seat n.atp tid (retried n.atp.requester tid);
+  kept = n.session;
   is = refl;
+  keeps = refl;
   its = firing A n.atp n.seat tid (retried n.atp.requester tid);
 }
 timer_of_atp A n (timer.Release own node socket tid) h = record {
   part = release_fired n.atp own (record { from = at_socket n.seat node socket; tid = tid });
+  kept = n.session;
   is = refl;
+  keeps = refl;
   its = expiring A n.atp own node socket tid (record { from = at_socket n.seat node socket; tid = tid }) (expiry_fault (find (is_key (record { from = at_socket n.seat node socket; tid = tid })) (records_at n.atp own)));
 }
 timer_of_atp A n (timer.Lookup id) h = absurd (true≢false (sym h))

@@ -1,7 +1,9 @@
 mod Atp
 mod AtpOutcomes
+mod Kept
 mod NameOutcomes
 mod Names
 mod Outcomes
+mod Sessions
 mod StreamOutcomes
 mod Streams

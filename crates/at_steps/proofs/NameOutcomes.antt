@@ -20,18 +20,21 @@ use Rattle.at_name_socket.specs.declared.step.Heard.{Heard}
 use Rattle.at_name_socket.specs.declared.step.Heard.TheVariants as heard
 use Rattle.at_event.specs.Seats.{nbp_kind}
 use Rattle.at_node.specs.NameCalls.{sent_of, becomes, refused_by, looks_up, found_as, find_called, claimed_as, claim_called, told_of, finished_as, finish_called, asked_again, lookup_fired}
-use Rattle.at_node.specs.NameCalls.{pattern_asked, registered_as, register_called, unregistered_as, unregister_called}
+use Rattle.at_node.specs.NameCalls.{registered_as, register_called, unregistered_as, unregister_called}
 use Rattle.at_node.specs.NameHearing.{HearsName, HearsNames, HearsNbpFault, told_by}
 use Rattle.at_event.specs.Kinds.{Kind, Nbp, Nobody, kind_of_call, kind_of_timer}
 use Rattle.at_node.specs.Nodes.{NodeState, with_names, called, timed}
 use Rattle.at_event.specs.Outcomes.{Outcome, idle, over, refused_as, sent_by}
 use Rattle.at_event.specs.declared.event.Call.{Call}
-use Rattle.at_event.specs.declared.event.Call.TheVariants.{Zones, SetZones, Ask, Answer, Find, Claim, Finish, Register, Unregister, Listen, Connect, Write, Read, Reset, Close}
+use Rattle.at_event.specs.declared.event.Call.TheVariants.{Zones, SetZones, Ask, Answer, Pick, Find, Claim, Finish, Register, Unregister, Open, Listen, Connect, Write, Read, Reset, Close}
 use Rattle.at_event.specs.declared.event.Report.{Report}
 use Rattle.at_event.specs.declared.event.Report.TheVariants as report
 use Rattle.at_event.specs.declared.event.Timer.{Timer}
 use Rattle.at_event.specs.declared.event.Timer.TheVariants as timer
 use Rattle.at_event.specs.declared.seat.Seat.{Seat}
+use Rattle.at_session.specs.Sessions.{SessionState, finds_kept, pattern_asked}
+use Rattle.at_steps.specs.SessionSteps.{after as kept_after}
+use Rattle.at_steps.proofs.Kept.{in_session}
 use Rattle.at_steps.specs.Acts.{Act, Calls, Fires, Gets, IsSaid, is_nbp, owner_of}
 
 -- a report of names, or nobody's
@@ -50,7 +53,9 @@ IsOfLookups A act o = AllByRecursion (λ p. p.kind ≡ nbp_kind) o.out × SaidOf
 -- what comes of an event at a node is what comes of it at its socket for names
 pub record ComesOfNames (A : Type 0) (n : NodeState) (act : Act A) (o : Outcome A NodeState) : Type 0 where
   pub part : Outcome A SocketState
-  pub is : o ≡ over (with_names n) part
+  pub kept : SessionState
+  pub is : o ≡ in_session kept (over (with_names n) part)
+  pub keeps : kept ≡ kept_after n.session act part.report
   pub its : IsOfLookups A act part
 
 all_nbp : (own : Address) (pushes : List (Address × List ℕ)) → AllByRecursion (λ p. p.kind ≡ nbp_kind) (sent_by own nbp_kind pushes)
@@ -101,27 +106,37 @@ call_of_names A n Zones h = absurd (true≢false (sym h))
 call_of_names A n (SetZones names) h = absurd (true≢false (sym h))
 call_of_names A n (Ask node socket user bytes wanted xo retries) h = absurd (true≢false (sym h))
 call_of_names A n (Answer node socket tid packets) h = absurd (true≢false (sym h))
+call_of_names A n (Pick zone) h = absurd (true≢false (sym h))
 call_of_names A n (Find object kind zone) h = record {
-  part = find_called n.seat n.names (pattern_asked object kind zone);
+  part = find_called n.seat n.names (pattern_asked n.session object kind zone);
+  kept = n.session;
   is = refl;
-  its = found A (Find object kind zone) n.names n.seat (pattern_asked object kind zone) (lookups.next_id n.names.lookups);
+  keeps = refl;
+  its = found A (Find object kind zone) n.names n.seat (pattern_asked n.session object kind zone) (lookups.next_id n.names.lookups);
 }
 call_of_names A n (Claim object kind socket) h = record {
   part = claim_called n.seat n.names object kind socket;
+  kept = n.session;
   is = refl;
+  keeps = refl;
   its = claiming A (Claim object kind socket) n.names n.seat object kind socket (is_no_text object || is_no_text kind);
 }
-call_of_names A n (Finish id) h = record { part = finish_called n.names id; is = refl; its = ended A (Finish id) n.names id (finish_fault n.names id) }
+call_of_names A n (Finish id) h = record { part = finish_called n.names id; kept = finds_kept n.session (finish_called {A = A} n.names id).report; is = refl; keeps = refl; its = ended A (Finish id) n.names id (finish_fault n.names id) }
 call_of_names A n (Register object kind socket) h = record {
   part = register_called n.names object kind socket;
+  kept = n.session;
   is = refl;
+  keeps = refl;
   its = registering A (Register object kind socket) n.names object kind socket (register_fault n.names.table.names object kind);
 }
 call_of_names A n (Unregister object kind) h = record {
   part = unregister_called n.names object kind;
+  kept = n.session;
   is = refl;
+  keeps = refl;
   its = unregistering A n.names object kind (find (is_called object kind) n.names.table.names);
 }
+call_of_names A n (Open index) h = absurd (true≢false (sym h))
 call_of_names A n (Listen on) h = absurd (true≢false (sym h))
 call_of_names A n (Connect node socket) h = absurd (true≢false (sym h))
 call_of_names A n (Write id items) h = absurd (true≢false (sym h))
@@ -136,7 +151,7 @@ asked A s n id (Some search) = ((refl, tt), (tt, tt))
 pub timer_of_names : (A : Type 0) (n : NodeState) (time : Timer) → is_nbp (kind_of_timer time) ≡ true → ComesOfNames A n (Fires time) (timed n time)
 timer_of_names A n (timer.Retry tid) h = absurd (true≢false (sym h))
 timer_of_names A n (timer.Release own node socket tid) h = absurd (true≢false (sym h))
-timer_of_names A n (timer.Lookup id) h = record { part = lookup_fired n.seat n.names id; is = refl; its = asked A n.seat n.names id (search_of n.names.lookups id) }
+timer_of_names A n (timer.Lookup id) h = record { part = lookup_fired n.seat n.names id; kept = n.session; is = refl; keeps = refl; its = asked A n.seat n.names id (search_of n.names.lookups id) }
 timer_of_names A n (timer.Resend id) h = absurd (true≢false (sym h))
 timer_of_names A n (timer.Probe id) h = absurd (true≢false (sym h))
 

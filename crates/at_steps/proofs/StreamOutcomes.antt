@@ -1,5 +1,5 @@
 -- What comes of events at the socket for streams: all that is sent is of ADSP, and the report is of streams, or nobody's.
-use Rattle.std.proofs.Common.{◌≡◌, ◌⊎◌, inl, inr, ℕ, Bool, true, false, cond, List, [], ◌∷◌, Option, Some, None, Result, Ok, Err, refl, sym, ap, subst, ◌∙◌}
+use Rattle.std.proofs.Common.{◌≡◌, ◌⊎◌, inl, inr, ℕ, Bool, true, false, cond, List, [], ◌∷◌, Option, Some, None, Result, Ok, Err, refl, sym, subst}
 use Rattle.std.specs.Prelude.{MatchBool, ◌==◌}
 use Rattle.std.specs.List.{AllByRecursion}
 use Rattle.std.proofs.lemmas.Bool.{true≢false}
@@ -19,20 +19,24 @@ use Rattle.at_adsp_end.specs.declared.tick.Tick.TheVariants as tick
 use Rattle.at_adsp_ends.specs.Calls.{closed_at, connected, frees, read_at, reset_at, ticked_at, wrote}
 use Rattle.at_adsp_ends.specs.Receiving.{received, settled}
 use Rattle.at_adsp_ends.specs.Tables.{Done, EndTable, by_id, freed, moved, next_id}
-use Rattle.at_event.specs.Kinds.{Kind, Adsp, Atp, Nbp, Nobody, kind_of_call, kind_of_timer}
+use Rattle.at_event.specs.Kinds.{Kind, Adsp, Nobody, kind_of_call, kind_of_timer}
 use Rattle.at_event.specs.Outcomes.{Outcome, idle, over, refused_as, sent_by}
 use Rattle.at_event.specs.Seats.{at_socket}
 use Rattle.at_event.specs.declared.event.Call.{Call}
-use Rattle.at_event.specs.declared.event.Call.TheVariants.{Zones, SetZones, Ask, Answer, Find, Claim, Finish, Register, Unregister, Listen, Connect, Write, Read, Reset, Close}
+use Rattle.at_event.specs.declared.event.Call.TheVariants.{Zones, SetZones, Ask, Answer, Pick, Find, Claim, Finish, Register, Unregister, Open, Listen, Connect, Write, Read, Reset, Close}
 use Rattle.at_event.specs.declared.event.Report.{Report}
 use Rattle.at_event.specs.declared.event.Report.TheVariants as report
 use Rattle.at_event.specs.declared.event.Timer.{Timer}
 use Rattle.at_event.specs.declared.event.Timer.TheVariants as timer
 use Rattle.at_event.specs.declared.seat.Seat.{Seat}
 use Rattle.at_node.specs.Nodes.{NodeState, called, timed, with_streams}
+use Rattle.at_node.specs.SessionCalls.{open_called}
 use Rattle.at_stream_socket.specs.Calls as calls
 use Rattle.at_stream_socket.specs.Hearing.{HearsAdspFault, HearsSegment, HearsStreams, segment_heard}
 use Rattle.at_stream_socket.specs.Sockets.{adsp_kind, answered, streams_at, told_by}
+use Rattle.at_session.specs.Sessions.{SessionState, address_at}
+use Rattle.at_steps.specs.SessionSteps.{after as kept_after}
+use Rattle.at_steps.proofs.Kept.{in_session}
 use Rattle.at_steps.specs.Acts.{Act, Calls, Fires, Gets, IsSaid, is_adsp, owner_of}
 
 -- a report of streams, or nobody's
@@ -49,7 +53,9 @@ pub record IsOfStreams (A : Type 0) (act : Act A) (o : Outcome A EndTable) : Typ
 -- what comes of an event at a node is what comes of it at the socket for streams
 pub record ComesOfStreams (A : Type 0) (n : NodeState) (act : Act A) (o : Outcome A NodeState) : Type 0 where
   pub part : Outcome A EndTable
-  pub is : o ≡ over (with_streams n) part
+  pub kept : SessionState
+  pub is : o ≡ in_session kept (over (with_streams n) part)
+  pub keeps : kept ≡ kept_after n.session act part.report
   pub its : IsOfStreams A act part
 
 all_adsp : (own : Address) (pushes : List (Address × List ℕ)) → AllByRecursion (λ p. p.kind ≡ adsp_kind) (sent_by own adsp_kind pushes)
@@ -123,40 +129,66 @@ module _ (A : Type 0) (t : EndTable) (time : Timer) where
 
 -- ---- calls, timers and datagrams
 
+-- a connection is asked for
+connecting : (A : Type 0) (call : Call A) (s : Seat) (t : EndTable) (to : Address) → IsOfStreams A (Calls call) (calls.connect_called s t to)
+connecting A call s t to = called_with A (Calls call) t s report.Opening (connected t to (next_id t)) (λ d is. (tt, tt))
+
+opening : (A : Type 0) (index : ℕ) (s : Seat) (t : EndTable) (o : Option Address) → IsOfStreams A (Calls (Open index)) (open_called s t o)
+opening A index s t None = record { sends = tt; reports = tt; said = tt }
+opening A index s t (Some to) = connecting A (Open index) s t to
+
 pub call_of_streams : (A : Type 0) (n : NodeState) (call : Call A) → is_adsp (kind_of_call call) ≡ true → ComesOfStreams A n (Calls call) (called n call)
 call_of_streams A n Zones h = absurd (true≢false (sym h))
 call_of_streams A n (SetZones names) h = absurd (true≢false (sym h))
 call_of_streams A n (Ask node socket user bytes wanted xo retries) h = absurd (true≢false (sym h))
 call_of_streams A n (Answer node socket tid packets) h = absurd (true≢false (sym h))
+call_of_streams A n (Pick zone) h = absurd (true≢false (sym h))
 call_of_streams A n (Find object kind _) h = absurd (true≢false (sym h))
 call_of_streams A n (Claim object kind socket) h = absurd (true≢false (sym h))
 call_of_streams A n (Finish id) h = absurd (true≢false (sym h))
 call_of_streams A n (Register object kind socket) h = absurd (true≢false (sym h))
 call_of_streams A n (Unregister object kind) h = absurd (true≢false (sym h))
-call_of_streams A n (Listen on) h = record { part = calls.listen_called n.streams on; is = refl; its = record { sends = tt; reports = tt; said = tt } }
+call_of_streams A n (Open index) h = record {
+  part = open_called n.seat n.streams (address_at n.session index);
+  kept = n.session;
+  is = refl;
+  keeps = refl;
+  its = opening A index n.seat n.streams (address_at n.session index);
+}
+call_of_streams A n (Listen on) h = record { part = calls.listen_called n.streams on; kept = n.session; is = refl; keeps = refl; its = record { sends = tt; reports = tt; said = tt } }
 call_of_streams A n (Connect node socket) h = record {
   part = calls.connect_called n.seat n.streams (at_socket n.seat node socket);
+  kept = n.session;
   is = refl;
-  its = called_with A (Calls (Connect node socket)) n.streams n.seat report.Opening (connected n.streams (at_socket n.seat node socket) (next_id n.streams)) (λ d is. (tt, tt));
+  keeps = refl;
+  its = connecting A (Connect node socket) n.seat n.streams (at_socket n.seat node socket);
 }
 call_of_streams A n (Write id items) h = record {
   part = calls.write_called n.seat n.streams id items;
+  kept = n.session;
   is = refl;
+  keeps = refl;
   its = called_with A (Calls (Write id items)) n.streams n.seat report.Wrote (wrote wire n.streams items (by_id n.streams id)) (λ d is. (tt, tt));
 }
 call_of_streams A n (Read id count) h = record {
   part = calls.read_called n.seat n.streams id count;
+  kept = n.session;
   is = refl;
+  keeps = refl;
   its = called_with A (Calls (Read id count)) n.streams n.seat report.Read (read_at wire n.streams count (by_id n.streams id)) (λ d is. (tt, tt));
 }
 call_of_streams A n (Reset id) h = record {
   part = calls.reset_called n.seat n.streams id;
+  kept = n.session;
   is = refl;
+  keeps = refl;
   its = called_with A (Calls (Reset id)) n.streams n.seat (λ answer. report.StreamReset) (reset_at wire n.streams (by_id n.streams id)) (λ d is. (tt, tt));
 }
 call_of_streams A n (Close id) h = record {
   part = calls.close_called n.seat n.streams id;
+  kept = n.session;
   is = refl;
+  keeps = refl;
   its = called_with A (Calls (Close id)) n.streams n.seat told_by (closed_at wire n.streams (by_id n.streams id)) (λ d is. closing A n.streams id id (by_id n.streams id) d is);
 }
 
@@ -166,12 +198,16 @@ timer_of_streams A n (timer.Release own node socket tid) h = absurd (true≢fals
 timer_of_streams A n (timer.Lookup id) h = absurd (true≢false (sym h))
 timer_of_streams A n (timer.Resend id) h = record {
   part = calls.tick_fired n.seat n.streams id tick.Retransmit;
+  kept = n.session;
   is = refl;
+  keeps = refl;
   its = called_with A (Fires (timer.Resend id)) n.streams n.seat told_by (ticked_at wire n.streams tick.Retransmit (by_id n.streams id)) (λ d is. ticking A n.streams (timer.Resend id) tick.Retransmit (by_id n.streams id) d is);
 }
 timer_of_streams A n (timer.Probe id) h = record {
   part = calls.tick_fired n.seat n.streams id tick.Probe;
+  kept = n.session;
   is = refl;
+  keeps = refl;
   its = called_with A (Fires (timer.Probe id)) n.streams n.seat told_by (ticked_at wire n.streams tick.Probe (by_id n.streams id)) (λ d is. ticking A n.streams (timer.Probe id) tick.Probe (by_id n.streams id) d is);
 }
 

@@ -4,5 +4,6 @@ pub mod AtpReports
 pub mod AtpSteps
 pub mod NameHappenings
 pub mod NameSteps
+pub mod SessionSteps
 pub mod StreamHappenings
 pub mod StreamSteps

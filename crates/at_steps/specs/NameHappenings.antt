@@ -13,6 +13,7 @@ use Rattle.at_name_socket.specs.NameSockets.{names_of}
 use Rattle.at_name_socket.specs.Sockets.{IsSocket}
 use Rattle.at_name_socket.specs.Steps as sockets
 use Rattle.at_node.specs.Drawing.{drawn_by}
+use Rattle.at_event.specs.Calls.{IsZone}
 use Rattle.at_event.specs.Seats.{nbp_kind}
 use Rattle.at_node.specs.Nodes.{NodeState}
 use Rattle.at_event.specs.Outcomes.{Outcome, Outgoing}
@@ -28,7 +29,8 @@ abbrev pub is_names_socket : ℕ → Address → Bool
 is_names_socket net at = (at.net == net) && (nat_lt at.node 255 && (at.socket == 2))
 
 -- After this history the node's socket for names is that of its part. No reply outlived its identifier, all that was
--- asked, answered and registered is in range, and only sockets for names asked.
+-- asked, answered and registered is in range, and only sockets for names asked. The zone that the node's user picked is
+-- in range too.
 pub record Stands (setting : Setting) (history : List Happening) (net number : ℕ) (n : NodeState) : Type 0 where
   pub all_ask : AllAsk setting
   pub lawful : IsLawfulSetting setting
@@ -40,6 +42,7 @@ pub record Stands (setting : Setting) (history : List Happening) (net number : �
   pub stands : sockets.Stands (after setting history) (names_of net number) n.names
   pub socket : IsSocket n.names
   pub own : n.names.table.own ≡ names_of net number
+  pub picked : IsZone n.session.picked
 
 -- ---- what is sent and drawn
 
@@ -89,7 +92,13 @@ pub record Happens {A : Type 0} (setting : Setting) (history : List Happening) (
 abbrev pub IsHappening : {A : Type 0} → Setting → List Happening → ℕ → ℕ → NodeState → Act A → Outcome A NodeState
     → Type 0
 IsHappening {A} setting history net number n act o = Happens setting history net number n act o
-    × IsStep {A = A} (record { part = n.names; now = o.state.names; act = act; report = o.report })
+    × IsStep {A = A} (record {
+      part = n.names;
+      now = o.state.names;
+      session = n.session;
+      act = act;
+      report = o.report;
+    })
 
 -- ---- steps of other protocols
 

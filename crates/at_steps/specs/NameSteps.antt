@@ -10,7 +10,7 @@ use Rattle.at_name_socket.specs.NameSockets.{SocketState, any_pattern, taker}
 use Rattle.at_name_socket.specs.Sockets as sockets
 use Rattle.at_name_socket.specs.Sockets.{Closes, Opens, Stays, changed, claim_of, open_at}
 use Rattle.at_name_socket.specs.declared.claim.Claim.{Claim as Claimed}
-use Rattle.at_node.specs.NameCalls.{pattern_asked}
+use Rattle.at_session.specs.Sessions.{SessionState, pattern_asked}
 use Rattle.at_event.specs.declared.event.Call.TheVariants.{Claim, Find, Finish, Register, Unregister}
 use Rattle.at_event.specs.declared.event.Report.{Report}
 use Rattle.at_event.specs.declared.event.Report.TheVariants as report
@@ -28,10 +28,11 @@ is_plain (Gets which) (report.Finds count) = true
 is_plain (Fires (timer.Lookup id)) report.Again = true
 is_plain act r = false
 
--- the socket for names before and after, what happened, and its report
+-- the socket for names before and after, the session of the node's user, what happened, and its report
 pub record Change (A : Type 0) : Type 0 where
   pub part : SocketState
   pub now : SocketState
+  pub session : SessionState
   pub act : Act A
   pub report : Report A
 
@@ -61,7 +62,7 @@ pub record BeginsLookup {A : Type 0} (c : Change A) : Type 0 where
   pub act : c.act ≡ Calls (Find object kind zone)
   pub report : c.report ≡ report.Looking id
   pub table : c.now.table ≡ c.part.table
-  pub lookups : Lookups c (Opens id (pattern_asked object kind zone) None)
+  pub lookups : Lookups c (Opens id (pattern_asked c.session object kind zone) None)
 
 -- the node's user claims a name, which is looked up in every zone
 pub record BeginsClaim {A : Type 0} (c : Change A) : Type 0 where

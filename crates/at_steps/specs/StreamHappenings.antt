@@ -1,7 +1,8 @@
 -- Which happening of the network of ends of streams a step of a node is (Inside AppleTalk, ADSP, "Connection ends").
 use Rattle.std.specs.Prelude.{◌≡◌, ℕ, ◌^◌, ◌<◌, ◌==◌, ◌&&◌, ◌++◌, nat_lt, Bool, true, false, List, [], ◌∷◌, map}
-use Rattle.std.specs.Prelude.{Option, Some, None, ◌⊎◌}
+use Rattle.std.specs.Prelude.{option_map, Option, Some, None, ◌⊎◌}
 use Rattle.std.specs.List.{AllByRecursion}
+use Rattle.at_ddp.specs.Datagram.{IsAddress}
 use Rattle.at_ddp.specs.declared.address.Address.{Address}
 use Rattle.at_adsp_frame.specs.Segments.{spelled}
 use Rattle.at_adsp_end.specs.Positions.{wire}
@@ -11,8 +12,10 @@ use Rattle.at_adsp.specs.Lawfully.{IsInRange, IsLawfulSetting}
 use Rattle.at_adsp.specs.Network.{AllTimely, Closes, Connects, Happening, IsTimely, Listens, Other, Reads, Resets}
 use Rattle.at_adsp.specs.Network.{Sent, Setting, Strange, Takes, Ticks, Writes, after, done, put}
 use Rattle.at_adsp.specs.Streams.{Stream}
+use Rattle.at_nbp.specs.declared.find.Find.{Find as Found}
+use Rattle.at_session.specs.Sessions.{SessionState, address_at}
 use Rattle.at_event.specs.Outcomes.{Outcome, Outgoing}
-use Rattle.at_event.specs.declared.event.Call.TheVariants.{Close, Connect, Listen, Read, Reset, Write}
+use Rattle.at_event.specs.declared.event.Call.TheVariants.{Close, Connect, Listen, Open, Read, Reset, Write}
 use Rattle.at_event.specs.declared.event.Report.{Report}
 use Rattle.at_event.specs.declared.event.Report.TheVariants as report
 use Rattle.at_event.specs.declared.event.Timer.TheVariants as timer
@@ -43,8 +46,13 @@ IsHere net (Ticks at id tick) = is_streams_socket net at ≡ true
 IsHere net (Strange at from segment) = ⊥
 IsHere net other = Unit {0}
 
+-- an address on this network, in range
+abbrev pub IsOpenable : ℕ → Found → Type 0
+IsOpenable net f = (f.address.net ≡ net) × IsAddress f.address
+
 -- After this history the ends at the node's socket are those of its part. No segment outlived its identifiers, all that
--- was asked, called and written is in range, and it all happened at the sockets for streams of this network.
+-- was asked, called and written is in range, and it all happened at the sockets for streams of this network. What the
+-- node's user was told of lies on it too.
 pub record Stands (setting : Setting) (history : List Happening) (net number : ℕ) (n : NodeState) : Type 0 where
   pub lawful : IsLawfulSetting setting
   pub numbers : setting.numbers ≡ wire
@@ -56,6 +64,7 @@ pub record Stands (setting : Setting) (history : List Happening) (net number : �
   pub some_number : 0 < number
   pub small_number : number < 255
   pub stands : (after setting history).tables (streams_at net number) ≡ n.streams
+  pub finds : AllByRecursion (IsOpenable net) n.session.finds
 
 -- ---- what is sent and drawn
 
@@ -90,22 +99,23 @@ numbers_drawn event who other = []
 
 -- The happening of a call, a timer or a datagram at a socket, if it is of this protocol. Only what succeeds resets a
 -- stream.
-abbrev pub happening_of : {A : Type 0} → Address → Act A → Report A → Option Happening
-happening_of at (Calls (Connect node socket)) r =
+abbrev pub happening_of : {A : Type 0} → SessionState → Address → Act A → Report A → Option Happening
+happening_of s at (Calls (Open index)) r = option_map (Connects at) (address_at s index)
+happening_of s at (Calls (Connect node socket)) r =
     Some (Connects at (record { net = at.net; node = node; socket = socket }))
-happening_of at (Calls (Listen on)) r = Some (Listens at on)
-happening_of at (Calls (Close id)) r = Some (Closes at id)
-happening_of at (Calls (Write id items)) r = Some (Writes at id items)
-happening_of at (Calls (Read id count)) r = Some (Reads at id count)
-happening_of at (Calls (Reset id)) report.StreamReset = Some (Resets at id)
-happening_of at (Fires (timer.Resend id)) r = Some (Ticks at id Retransmit)
-happening_of at (Fires (timer.Probe id)) r = Some (Ticks at id Probe)
-happening_of at (Gets which) r = Some (Takes which)
-happening_of at act r = None
+happening_of s at (Calls (Listen on)) r = Some (Listens at on)
+happening_of s at (Calls (Close id)) r = Some (Closes at id)
+happening_of s at (Calls (Write id items)) r = Some (Writes at id items)
+happening_of s at (Calls (Read id count)) r = Some (Reads at id count)
+happening_of s at (Calls (Reset id)) report.StreamReset = Some (Resets at id)
+happening_of s at (Fires (timer.Resend id)) r = Some (Ticks at id Retransmit)
+happening_of s at (Fires (timer.Probe id)) r = Some (Ticks at id Probe)
+happening_of s at (Gets which) r = Some (Takes which)
+happening_of s at act r = None
 
 -- it is this happening, or nothing happens here
-abbrev pub IsOf : {A : Type 0} → Address → Act A → Report A → Happening → Type 0
-IsOf at act r h = (happening_of at act r ≡ Some h) ⊎ ((count : ℕ) × (h ≡ Other count))
+abbrev pub IsOf : {A : Type 0} → SessionState → Address → Act A → Report A → Happening → Type 0
+IsOf s at act r h = (happening_of s at act r ≡ Some h) ⊎ ((count : ℕ) × (h ≡ Other count))
 
 -- A node's step with this outcome is one happening of the network. The ends at the node's socket become what its part
 -- becomes, and all others stay.
@@ -115,7 +125,7 @@ pub record Happens {A : Type 0} (setting : Setting) (history : List Happening) (
   pub timely : IsTimely setting (after setting history) happening
   pub in_range : IsInRange happening
   pub here : IsHere net happening
-  pub is_of : IsOf (streams_at net number) act o.report happening
+  pub is_of : IsOf n.session (streams_at net number) act o.report happening
   pub same_event : (done setting (after setting history) happening).event ≡ (after setting history).event
   pub tables : (at : Address) → (done setting (after setting history) happening).tables at
       ≡ put (after setting history).tables (streams_at net number) o.state.streams at
@@ -134,6 +144,7 @@ change {A} {setting} {history} {net} {number} {n} {act} {o} h = record {
   event = (after setting history).event;
   at = streams_at net number;
   sent = (after setting history).sent;
+  session = n.session;
   act = act;
   report = o.report;
 }

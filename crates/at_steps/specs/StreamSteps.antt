@@ -8,10 +8,11 @@ use Rattle.at_adsp.specs.Connections.{begun}
 use Rattle.at_adsp.specs.Meetings.{OpensWith}
 use Rattle.at_adsp.specs.Network.{Sent, packet_at}
 use Rattle.at_adsp.specs.Streams.{Stream, GaveUp, Read as ReadItems, Wrote as WroteItems, has_number, with_deed}
-use Rattle.at_event.specs.declared.event.Call.TheVariants.{Close, Connect, Listen, Read, Reset, Write}
+use Rattle.at_event.specs.declared.event.Call.TheVariants.{Close, Connect, Listen, Open, Read, Reset, Write}
 use Rattle.at_event.specs.declared.event.Report.{Report}
 use Rattle.at_event.specs.declared.event.Report.TheVariants as report
 use Rattle.at_event.specs.declared.event.Timer.TheVariants as timer
+use Rattle.at_session.specs.Sessions.{SessionState, address_at}
 use Rattle.at_steps.specs.Acts.{Act, Calls, Fires, Gets}
 
 -- A report that says nothing new of streams as their users see them. The end that closes or is freed by a call or a
@@ -36,14 +37,15 @@ is_plain (Gets which) (report.Dropped id) = true
 is_plain (Gets which) (report.Closed id) = true
 is_plain act r = false
 
--- All ends that were ever made, before and after, newest first; the number of the event, the node's socket, and all
--- that was sent before; what happened, and its report
+-- All ends that were ever made, before and after, newest first; the number of the event, the node's socket, all that was
+-- sent before, and the session of the node's user; what happened, and its report
 pub record Change (A : Type 0) : Type 0 where
   pub part : List Stream
   pub now : List Stream
   pub event : ℕ
   pub at : Address
   pub sent : List (Option Sent)
+  pub session : SessionState
   pub act : Act A
   pub report : Report A
 
@@ -67,15 +69,19 @@ pub record IsPlain {A : Type 0} (c : Change A) : Type 0 where
   pub stands : (id : ℕ) → named_by c.report ≡ Some id → HasEnd c id
   pub streams : c.now ≡ c.part
 
+-- the address that a call asks for a connection: one on this network, or that of what was found
+abbrev pub asked_by : {A : Type 0} → SessionState → ℕ → Act A → Option Address
+asked_by s net (Calls (Connect node socket)) = Some (record { net = net; node = node; socket = socket })
+asked_by s net (Calls (Open index)) = address_at s index
+asked_by s net act = None
+
 -- the node's user asks for a connection, and an end is made
 pub record AsksFor {A : Type 0} (c : Change A) : Type 0 where
   pub id : ℕ
-  pub node : ℕ
-  pub socket : ℕ
-  pub act : c.act ≡ Calls (Connect node socket)
+  pub asked : Address
+  pub act : asked_by c.session c.at.net c.act ≡ Some asked
   pub report : c.report ≡ report.Opening id
-  pub streams : c.now
-      ≡ begun c.event c.at id false (record { net = c.at.net; node = node; socket = socket }) ∷ c.part
+  pub streams : c.now ≡ begun c.event c.at id false asked ∷ c.part
 
 -- a request comes, and listening makes an end
 pub record Answers {A : Type 0} (c : Change A) : Type 0 where

@@ -23,6 +23,7 @@ ghost use Rattle.at_steps.specs.AtpHappenings.{HoldsNo, IsForeign, IsHappening, 
 use std::alloc::Allocator;
 
 pub mod names;
+pub mod sessions;
 pub mod streams;
 
 /// A call of ATP or ZIP is one happening among requesters and responders, if no responder holds the number that it

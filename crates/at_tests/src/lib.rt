@@ -19,6 +19,8 @@ mod refusals;
 #[cfg(test)]
 mod refused_memory;
 #[cfg(test)]
+mod session;
+#[cfg(test)]
 mod streams;
 #[cfg(test)]
 mod transcripts;

@@ -15,6 +15,7 @@ mod Runs
 mod Seats
 mod Seeking
 mod SentLemmas
+mod Sessions
 mod SetupLemmas
 mod Streams
 mod Tied

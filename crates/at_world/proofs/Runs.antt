@@ -14,7 +14,7 @@ use Rattle.at_world.specs.declared.transcript.Transcript.{Transcript}
 use Rattle.at_world.specs.declared.transcript.PlayFault.{PlayFault}
 use Rattle.at_steps.specs.Acts.{is_adsp, is_atp, is_nbp}
 use Rattle.at_world.specs.Cables.{Cable, owner_of}
-use Rattle.at_world.specs.Events.{node_of}
+use Rattle.at_world.specs.Events.{act_of, node_of}
 use Rattle.at_world.specs.Machine.{Machine, opening_machine, Step, Run, IsRun}
 use Rattle.at_world.specs.Plays.{opening_world, Follows, IsPlay}
 use Rattle.at_world.specs.Stories.{Tells, table_by}
@@ -29,6 +29,8 @@ use Rattle.at_world.proofs.Names.Coming as names_coming
 use Rattle.at_world.proofs.Names.Happenings as named
 use Rattle.at_world.proofs.Names.Next.{Good as GoodNames}
 use Rattle.at_world.proofs.Names.Tie.{NameLaws, NameTie}
+use Rattle.at_world.proofs.Sessions.Steps as told
+use Rattle.at_world.proofs.Sessions.Steps.{Good as GoodSessions, SessionLaws}
 use Rattle.at_world.proofs.Streams.Coming as streams_coming
 use Rattle.at_world.proofs.Streams.Happenings as streamed
 use Rattle.at_world.proofs.Streams.Next.{Good as GoodStreams}
@@ -45,6 +47,7 @@ pub record PartLaws (A : Type 0) : Type 0 where
   pub atp : Laws A
   pub names : NameLaws A
   pub streams : StreamLaws A
+  pub sessions : SessionLaws A
 
 -- ---- the two ends of a step
 
@@ -66,18 +69,18 @@ either_coming A P n r after out h = inr h
 module _ (A : Type 0) (w : WorldState) (m : Machine) (t : Tied A w m) (e : Event A) (n : NodeState) (stands : node_at w (node_of e) ≡ Some n) where
   -- each part follows an outcome
   abbrev EachFollows : Outcome A NodeState → Type 0
-  EachFollows o = FollowsAtp A w m.cable m.atp t.cable t.atp e o × GoodNames A w m.cable m.names (t.cable).wires e o × GoodStreams A w m.cable m.streams (t.cable).wires e o
+  EachFollows o = FollowsAtp A w m.cable m.atp t.cable t.atp e o × GoodNames A w m.cable m.sessions m.names (t.cable).wires e o × GoodStreams A w m.cable m.sessions m.streams (t.cable).wires e o × GoodSessions A w m.cable m.sessions e n o t.sessions stands
 
   -- the parts and the cable follow an outcome together
   together : (o : Outcome A NodeState) → KeepsSeat n o → EachFollows o → Follow A w m t e o.report (recorded w (node_of e) o.report o.state (map posted o.out))
-  together o seat ((said, good), names, streams) =
+  together o seat ((said, good), names, streams, sessions) =
       let cable = cable_next A w m.cable (node_of e) n o t.cable stands seat in
       let both = subst (λ l. (x : AtpTie A (recorded w (node_of e) o.report o.state (map posted o.out)) m.cable l good.0) × Grown A m.cable (m.atp).table (t.atp).history x.history e o.report) (sym cable.1) (good.2, good.3) in
       let tied_names = subst (λ l. NameTie (recorded w (node_of e) o.report o.state (map posted o.out)) m.cable l names.0) (sym cable.1) names.2 in
       let tied_streams = subst (λ l. StreamTie (recorded w (node_of e) o.report o.state (map posted o.out)) m.cable l streams.0) (sym cable.1) streams.2 in (
-        record { cable = m.cable; atp = good.0; names = names.0; streams = streams.0 },
-        record { cable = record { said = said; becomes = refl }; atp = good.1; names = names.1; streams = streams.1 },
-        record { cable = cable.0; atp = both.0; names = tied_names; streams = tied_streams },
+        record { cable = m.cable; atp = good.0; names = names.0; streams = streams.0; sessions = sessions.0 },
+        record { cable = record { said = said; becomes = refl }; atp = good.1; names = names.1; streams = streams.1; sessions = sessions.1 },
+        record { cable = cable.0; atp = both.0; names = tied_names; streams = tied_streams; sessions = sessions.2 },
         both.1,
         refl,
       )
@@ -89,11 +92,19 @@ module _ (A : Type 0) (w : WorldState) (m : Machine) (t : Tied A w m) (e : Event
         (subst (λ x. Follow A w m t e x (recorded w (node_of e) o.report o.state (map posted o.out))) (sym l.0) (together o seat good))
 
     of_nothing : PartLaws A → is_over w ≡ false → is_atp (owner_of {A = A} e NoMemory) ≡ false → is_nbp (owner_of {A = A} e NoMemory) ≡ false → is_adsp (owner_of {A = A} e NoMemory) ≡ false → Nothing r n after out → Follow A w m t e r w'
-    of_nothing laws runs not_atp not_nbp not_adsp l = of_good (idle n NoMemory) refl (
-      passed A laws.atp w m.cable m.atp t.cable t.atp e n stands (idle n NoMemory) refl (record { same = refl; sends = tt; reports = not_atp; said = tt }),
-      named.passed A laws.names w m.cable m.names t.cable t.names e n stands (idle n NoMemory) refl (record { same = refl; sends = tt; reports = not_nbp }),
-      streamed.passed A laws.streams w m.cable m.streams t.cable t.streams runs e n stands (idle n NoMemory) refl (record { same = refl; sends = tt; reports = not_adsp }),
-    ) l
+    of_nothing laws runs not_atp not_nbp not_adsp l =
+        let has = t.sessions in
+        let its = has.sessions (node_of e) n stands in
+        let fits = its.fits in
+        let seats = t.cable in
+        let seat = seats.seats (node_of e) n stands in
+        let number = seat.number in
+        of_good (idle n NoMemory) refl (
+          passed A laws.atp w m.cable m.atp t.cable t.atp e n stands (idle n NoMemory) refl (record { same = refl; sends = tt; reports = not_atp; said = tt }),
+          named.passed A laws.names w m.cable m.sessions m.names t.cable t.sessions t.names e n stands (idle n NoMemory) refl (record { same = refl; sends = tt; reports = not_nbp }),
+          streamed.passed A laws.streams w m.cable m.sessions m.streams t.cable t.sessions t.streams runs e n stands (idle n NoMemory) refl (record { same = refl; sends = tt; reports = not_adsp }),
+          told.good_next A w m.cable m.sessions e n (idle n NoMemory) t.sessions stands number (told.nothing_steps A n.session (act_of e)) fits,
+        ) l
 
 -- ---- one event
 
@@ -116,8 +127,9 @@ followed A laws w m (event.Call k call) r w' t playable both =
     (of_nothing A w m t (event.Call k call) n p.stands r p.after p.out w' p.booked laws runs refl refl refl)
     (of_good A w m t (event.Call k call) n p.stands r p.after p.out w' p.booked (called n call) seat (
       call_follows A laws.atp w m.cable m.atp t.cable t.atp k n p.stands call both.1 timely seat,
-      named.call_follows A laws.names w m.cable m.names t.cable t.names k n p.stands call both.1 seat,
-      streamed.call_follows A laws.streams w m.cable m.streams t.cable t.streams runs k n p.stands call both.1 timely seat,
+      named.call_follows A laws.names w m.cable m.sessions m.names t.cable t.sessions t.names k n p.stands call both.1 seat,
+      streamed.call_follows A laws.streams w m.cable m.sessions m.streams t.cable t.sessions t.streams runs k n p.stands call both.1 timely seat,
+      told.call_follows A laws.sessions laws.names w m.cable m.sessions m.names t.cable t.sessions t.names k n p.stands call both.1 seat,
     ))
     (either A (called n call) n r p.after p.out p.steps)
 followed A laws w m (event.Timer k time) r w' t playable p =
@@ -128,8 +140,9 @@ followed A laws w m (event.Timer k time) r w' t playable p =
     (of_nothing A w m t (event.Timer k time) n p.stands r p.after p.out w' p.booked laws runs refl refl refl)
     (of_good A w m t (event.Timer k time) n p.stands r p.after p.out w' p.booked (timed n time) seat (
       timer_follows A laws.atp w m.cable m.atp t.cable t.atp k n p.stands time seat,
-      named.timer_follows A laws.names w m.cable m.names t.cable t.names k n p.stands time seat,
-      streamed.timer_follows A laws.streams w m.cable m.streams t.cable t.streams runs k n p.stands time seat,
+      named.timer_follows A laws.names w m.cable m.sessions m.names t.cable t.sessions t.names k n p.stands time seat,
+      streamed.timer_follows A laws.streams w m.cable m.sessions m.streams t.cable t.sessions t.streams runs k n p.stands time seat,
+      told.timer_follows A laws.sessions laws.names w m.cable m.sessions m.names t.cable t.sessions t.names k n p.stands time seat,
     ))
     (either A (timed n time) n r p.after p.out p.steps)
 followed A laws w m (event.Deliver which k) r w' t playable d =
@@ -147,8 +160,9 @@ followed A laws w m (event.Deliver which k) r w' t playable d =
     (of_nothing A w m t (event.Deliver which k) n p.stands r p.after p.out w' p.booked laws runs refl refl refl)
     (λ (x : (o : Outcome A NodeState) × Hears said n (d.datagram).bytes o × Its o r p.after p.out). let seat = hearing_keeps_seat A said n (d.datagram).bytes x.0 x.1 in of_good A w m t (event.Deliver which k) n p.stands r p.after p.out w' p.booked x.0 seat (
       datagram_follows A laws.atp w m.cable m.atp t.cable t.atp k n p.stands which d.datagram c in_time.free said x.0 (λ asked. later (ap is_asked (x.2).0 ∙ asked)) x.1 seat,
-      named.datagram_follows A laws.names w m.cable m.names t.cable t.names k n p.stands which d.datagram c' said x.0 x.1 seat,
-      streamed.datagram_follows A laws.streams w m.cable m.streams t.cable t.streams runs k n p.stands which d.datagram c'' in_time.free said x.0 x.1 seat,
+      named.datagram_follows A laws.names w m.cable m.sessions m.names t.cable t.sessions t.names k n p.stands which d.datagram c' said x.0 x.1 seat,
+      streamed.datagram_follows A laws.streams w m.cable m.sessions m.streams t.cable t.sessions t.streams runs k n p.stands which d.datagram c'' in_time.free said x.0 x.1 seat,
+      told.datagram_follows A laws.sessions laws.names w m.cable m.sessions m.names t.cable t.sessions t.names k n p.stands which (d.datagram).bytes said x.0 x.1 seat,
     ) x.2)
     (either_coming A (Hears said n (d.datagram).bytes) n r p.after p.out p.steps.1)
 

@@ -3,7 +3,7 @@ use Rattle.std.proofs.Common.{◌≡◌, Bool, true, false, List, ℕ, inl, inr,
 use Rattle.std.specs.Prelude.{MatchBool, ◌==◌, ◌||◌}
 use Rattle.at_ddp.specs.Datagram.{Content as Datagram}
 use Rattle.at_event.specs.declared.event.Call.{Call}
-use Rattle.at_event.specs.declared.event.Call.TheVariants.{Zones, SetZones, Ask, Answer, Find, Claim, Finish, Register, Unregister, Listen, Connect, Write, Read, Reset, Close}
+use Rattle.at_event.specs.declared.event.Call.TheVariants.{Zones, SetZones, Ask, Answer, Pick, Find, Claim, Finish, Register, Unregister, Open, Listen, Connect, Write, Read, Reset, Close}
 use Rattle.at_event.specs.declared.event.Report.TheVariants as report
 use Rattle.at_event.specs.declared.event.Timer.{Timer}
 use Rattle.at_event.specs.declared.event.Timer.TheVariants as timer
@@ -13,8 +13,10 @@ use Rattle.at_node.specs.AtpParts.{atp_kind}
 use Rattle.at_node.specs.Hearing.{Hears, HearsIt, HearsMine}
 use Rattle.at_event.specs.Seats.{nbp_kind}
 use Rattle.at_node.specs.NameHearing.{HearsNames}
-use Rattle.at_node.specs.Nodes.{NodeState, with_atp, with_names, with_streams, called, timed}
-use Rattle.at_event.specs.Outcomes.{Outcome, Over, idle}
+use Rattle.at_node.specs.Nodes.{NodeState, over_atp, with_names, with_session, with_streams, called, timed}
+use Rattle.at_event.specs.Outcomes.{Outcome, Over, Through, idle, over}
+use Rattle.at_node.specs.SessionCalls.{picked_as}
+use Rattle.at_session.specs.Sessions.{is_listed}
 use Rattle.at_stream_socket.specs.Hearing.{HearsStreams}
 use Rattle.at_stream_socket.specs.Sockets.{adsp_kind}
 use Rattle.at_event.specs.Seats.{is_for_all, is_mine}
@@ -27,11 +29,17 @@ call_keeps_seat A n Zones = refl
 call_keeps_seat A n (SetZones names) = refl
 call_keeps_seat A n (Ask node socket user bytes wanted xo retries) = refl
 call_keeps_seat A n (Answer node socket tid packets) = refl
+call_keeps_seat A n (Pick zone) = picking (is_listed n.session zone)
+  where
+    picking : (b : Bool) → KeepsSeat {A = A} n (over (with_session n) (picked_as n.session zone b))
+    picking true = refl
+    picking false = refl
 call_keeps_seat A n (Find object kind _) = refl
 call_keeps_seat A n (Claim object kind socket) = refl
 call_keeps_seat A n (Finish id) = refl
 call_keeps_seat A n (Register object kind socket) = refl
 call_keeps_seat A n (Unregister object kind) = refl
+call_keeps_seat A n (Open index) = refl
 call_keeps_seat A n (Listen on) = refl
 call_keeps_seat A n (Connect node socket) = refl
 call_keeps_seat A n (Write id items) = refl
@@ -57,7 +65,7 @@ mine_keeps_seat A said n d o = go (d.kind == atp_kind)
     other true h = ap (λ (x : Outcome A NodeState). x.state.seat) h.2
     other false h = streams (d.kind == adsp_kind) h
 
-    go : (b : Bool) → MatchBool b (Over (with_atp n) (HearsAtp said n.seat n.atp d) o) (MatchBool (d.kind == nbp_kind) (Over (with_names n) (HearsNames n.seat n.names d) o) (MatchBool (d.kind == adsp_kind) (Over (with_streams n) (HearsStreams n.seat n.streams d) o) (o ≡ idle n report.Ignored))) → KeepsSeat n o
+    go : (b : Bool) → MatchBool b (Through (over_atp n) (HearsAtp said n.seat n.atp d) o) (MatchBool (d.kind == nbp_kind) (Over (with_names n) (HearsNames n.seat n.names d) o) (MatchBool (d.kind == adsp_kind) (Over (with_streams n) (HearsStreams n.seat n.streams d) o) (o ≡ idle n report.Ignored))) → KeepsSeat n o
     go true h = ap (λ (x : Outcome A NodeState). x.state.seat) h.2
     go false h = other (d.kind == nbp_kind) h
 

@@ -20,6 +20,7 @@ use Rattle.at_world.proofs.CableTie.{CableTie, SeatTie}
 use Rattle.at_world.proofs.LawfulSetups.{SetupLaws, lawful_has, node_fits, router_fits}
 use Rattle.at_world.proofs.Names.Opening.{names_at_opening}
 use Rattle.at_world.proofs.Names.Tie.{NameLaws, NameTie}
+use Rattle.at_world.proofs.Sessions.Opening.{sessions_at_opening}
 use Rattle.at_world.proofs.Streams.Opening.{streams_at_opening}
 use Rattle.at_world.proofs.Streams.Tie.{StreamTie}
 use Rattle.at_world.proofs.Tied.{Tied}
@@ -53,4 +54,4 @@ module _ (A : Type 0) (s : Setup A) where
       let both = subst (λ l. (t : AtpTie A (opening_world s) (cables.opening s) l (atp.opening s)) × (t.history ≡ [])) (sym cable.1) (atp_at_opening A s setups ok) in
       let named = subst (λ l. NameTie (opening_world s) (cables.opening s) l (names.opening s)) (sym cable.1) (names_at_opening A laws s setups ok) in
       let streamed = subst (λ l. StreamTie (opening_world s) (cables.opening s) l streams.opening) (sym cable.1) (streams_at_opening A s ok) in
-      (record { cable = cable.0; atp = both.0; names = named; streams = streamed }, both.1)
+      (record { cable = cable.0; atp = both.0; names = named; streams = streamed; sessions = sessions_at_opening A s }, both.1)

@@ -8,6 +8,7 @@ pub mod NameGuards
 pub mod Plays
 pub mod Refusals
 pub mod Sents
+pub mod SessionGuards
 pub mod Setups
 pub mod Stories
 pub mod StreamGuards

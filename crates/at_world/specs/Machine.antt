@@ -1,5 +1,5 @@
 -- The abstract machine: what the nodes' users may be told. It has no packet, no record, no window and no timer. It is
--- the cable and a part for each protocol.
+-- the cable, a part for each protocol, and what each node's user was told.
 use Rattle.std.specs.Prelude.{◌≡◌, List, [], ◌∷◌, take, Result, Ok, Err}
 use Rattle.at_event.specs.declared.event.Report.{Report}
 use Rattle.at_world.specs.AtpGuards as atp
@@ -8,6 +8,8 @@ use Rattle.at_world.specs.Cables as cables
 use Rattle.at_world.specs.Cables.{Cable, owner_of}
 use Rattle.at_world.specs.NameGuards as names
 use Rattle.at_world.specs.NameGuards.{NameMachine}
+use Rattle.at_world.specs.SessionGuards as sessions
+use Rattle.at_world.specs.SessionGuards.{Sessions}
 use Rattle.at_world.specs.StreamGuards as streams
 use Rattle.at_world.specs.StreamGuards.{StreamMachine}
 use Rattle.at_world.specs.declared.event.Event.{Event}
@@ -20,6 +22,7 @@ pub record Machine : Type 0 where
   pub atp : AtpMachine
   pub names : NameMachine
   pub streams : StreamMachine
+  pub sessions : Sessions
 
 abbrev pub opening_machine : {A : Type 0} → Setup A → Machine
 opening_machine s = record {
@@ -27,14 +30,16 @@ opening_machine s = record {
   atp = atp.opening s;
   names = names.opening s;
   streams = streams.opening;
+  sessions = sessions.opening;
 }
 
--- one step: of the cable, and of each part, by whose report it is
+-- one step: of the cable, of each part, by whose report it is, and of the session of the node's user
 pub record Step {A : Type 0} (m : Machine) (e : Event A) (r : Report A) (m' : Machine) : Type 0 where
   pub cable : cables.Step m.cable e r m'.cable
   pub atp : atp.StepBy m.cable m.atp e r m'.atp (owner_of e r)
-  pub names : names.StepBy m.names e r m'.names (owner_of e r)
-  pub streams : streams.StepBy m.cable m.streams e r m'.streams (owner_of e r)
+  pub names : names.StepBy m.sessions m.names e r m'.names (owner_of e r)
+  pub streams : streams.StepBy m.cable m.sessions m.streams e r m'.streams (owner_of e r)
+  pub sessions : sessions.Step m.sessions e r m'.sessions
 
 -- the machine may give these reports to these events, one step after another
 abbrev pub Run : {A : Type 0} → Machine → List (Event A) → List (Report A) → Machine → Type 0

@@ -13,11 +13,12 @@ use Rattle.at_nbp.specs.declared.names.Registered.{Registered}
 use Rattle.at_name_socket.specs.NameSockets.{any_pattern, names_of, own_zone}
 use Rattle.at_name_socket.specs.declared.claim.Claim.{Claim as Claimed}
 use Rattle.at_event.specs.Kinds.{Kind, Nbp}
-use Rattle.at_node.specs.NameCalls.{pattern_asked}
 use Rattle.at_event.specs.declared.event.Call.{Call}
 use Rattle.at_event.specs.declared.event.Call.TheVariants.{Claim, Find, Finish, Register, Unregister}
 use Rattle.at_event.specs.declared.event.Report.{Report}
 use Rattle.at_event.specs.declared.event.Report.TheVariants as report
+use Rattle.at_session.specs.Sessions.{pattern_asked}
+use Rattle.at_world.specs.SessionGuards.{Sessions}
 use Rattle.at_world.specs.declared.event.Event.{Event}
 use Rattle.at_world.specs.declared.event.Event.TheVariants as event
 use Rattle.at_world.specs.declared.setup.NodeSetup.{NodeSetup}
@@ -150,29 +151,30 @@ pub record TakesAway (m : NameMachine) (node : ℕ) (object kind : List ℕ) (m'
     names = without_first (is_called object kind) (m.names node).names;
   }))
 
--- a call begins a lookup under this identifier
-abbrev pub Begins : {A : Type 0} → NameMachine → ℕ → Call A → ℕ → NameMachine → Type 0
-Begins m node (Find object kind wanted) id m' = BeginsLookup m node id (pattern_asked object kind wanted) None m'
-Begins m node (Claim object kind socket) id m' =
+-- a call begins a lookup under this identifier, which asks in the zone that was picked if the call names none
+abbrev pub Begins : {A : Type 0} → Sessions → NameMachine → ℕ → Call A → ℕ → NameMachine → Type 0
+Begins ss m node (Find object kind wanted) id m' =
+    BeginsLookup m node id (pattern_asked (ss node) object kind wanted) None m'
+Begins ss m node (Claim object kind socket) id m' =
     BeginsLookup m node id (any_pattern object kind)
     (Some (record { id = id; object = object; kind = kind; socket = socket })) m'
-Begins m node call id m' = ⊥
+Begins ss m node call id m' = ⊥
 
 -- the reports of this protocol, row by row
-abbrev pub Says : {A : Type 0} → NameMachine → Event A → Report A → NameMachine → Type 0
-Says m (event.Call node call) (report.Looking id) m' = Begins m node call id m'
-Says m (event.Call node (Finish id)) (report.Found finds) m' = EndsLookup m node id finds m'
-Says m (event.Call node (Finish id)) report.Claimed m' = EndsClaim m node id m'
-Says m (event.Call node (Finish id)) (report.Taken owner) m' = LosesClaim m node id owner m'
-Says m (event.Call node (Register object kind socket)) report.Registered m' =
+abbrev pub Says : {A : Type 0} → Sessions → NameMachine → Event A → Report A → NameMachine → Type 0
+Says ss m (event.Call node call) (report.Looking id) m' = Begins ss m node call id m'
+Says ss m (event.Call node (Finish id)) (report.Found finds) m' = EndsLookup m node id finds m'
+Says ss m (event.Call node (Finish id)) report.Claimed m' = EndsClaim m node id m'
+Says ss m (event.Call node (Finish id)) (report.Taken owner) m' = LosesClaim m node id owner m'
+Says ss m (event.Call node (Register object kind socket)) report.Registered m' =
     RegistersName m node object kind socket m'
-Says m (event.Call node (Unregister object kind)) report.Done m' = TakesAway m node object kind m'
-Says m (event.Deliver which node) report.Relayed m' = m' ≡ next m
-Says m (event.Deliver which node) (report.Names count) m' = m' ≡ next m
-Says m (event.Deliver which node) (report.Finds count) m' = m' ≡ next m
-Says m e r m' = ⊥
+Says ss m (event.Call node (Unregister object kind)) report.Done m' = TakesAway m node object kind m'
+Says ss m (event.Deliver which node) report.Relayed m' = m' ≡ next m
+Says ss m (event.Deliver which node) (report.Names count) m' = m' ≡ next m
+Says ss m (event.Deliver which node) (report.Finds count) m' = m' ≡ next m
+Says ss m e r m' = ⊥
 
 -- at a report of another protocol, or of nobody, a moment passes
-abbrev pub StepBy : {A : Type 0} → NameMachine → Event A → Report A → NameMachine → Kind → Type 0
-StepBy m e r m' Nbp = Says m e r m'
-StepBy m e r m' other = m' ≡ next m
+abbrev pub StepBy : {A : Type 0} → Sessions → NameMachine → Event A → Report A → NameMachine → Kind → Type 0
+StepBy ss m e r m' Nbp = Says ss m e r m'
+StepBy ss m e r m' other = m' ≡ next m

@@ -7,12 +7,13 @@ use Rattle.at_adsp.specs.Connections.{begun}
 use Rattle.at_adsp.specs.Meetings.{OpensWith, ReadsWith}
 use Rattle.at_adsp.specs.Streams.{Stream, Deed, Wrote, Read as HasRead, GaveUp, has_number, with_deed}
 use Rattle.at_event.specs.Kinds.{Kind, Adsp}
-use Rattle.at_event.specs.declared.event.Call.TheVariants.{Listen, Connect, Write, Read, Reset, Close}
+use Rattle.at_event.specs.declared.event.Call.TheVariants.{Open, Listen, Connect, Write, Read, Reset, Close}
 use Rattle.at_event.specs.declared.event.Report.{Report}
 use Rattle.at_event.specs.declared.event.Report.TheVariants as report
-use Rattle.at_event.specs.declared.event.Timer.TheVariants as timer
 use Rattle.at_stream_socket.specs.Sockets.{streams_at}
+use Rattle.at_session.specs.Sessions.{address_at}
 use Rattle.at_world.specs.Cables.{Cable, at_net}
+use Rattle.at_world.specs.SessionGuards.{Sessions}
 use Rattle.at_world.specs.declared.event.Event.{Event}
 use Rattle.at_world.specs.declared.event.Event.TheVariants as event
 
@@ -39,6 +40,13 @@ abbrev pub MakesEnd : Cable → StreamMachine → ℕ → ℕ → Bool → Addre
 MakesEnd c m node id listener asked m' =
     m' ≡ next (record m { streams = begun m.events (streams_at c.net node) id listener asked ∷ m.streams })
 
+-- an end is made that asks the address of an entry of what the node's last lookup found
+pub record OpensFound (c : Cable) (ss : Sessions) (m : StreamMachine) (node index id : ℕ) (m' : StreamMachine)
+    : Type 0 where
+  pub asked : Address
+  pub found : address_at (ss node) index ≡ Some asked
+  pub makes : MakesEnd c m node id false asked m'
+
 -- an end opens, and has a peer from now on
 pub record OpensEnd (c : Cable) (m : StreamMachine) (node id : ℕ) (m' : StreamMachine) : Type 0 where
   pub now : List Stream
@@ -58,32 +66,33 @@ pub record ReadsEnd (c : Cable) (m : StreamMachine) (node id : ℕ) (items : Lis
   pub becomes : m' ≡ next (record m { streams = with_deed (streams_at c.net node) id (HasRead items) m.streams })
 
 -- the reports of this protocol, row by row
-abbrev pub Says : {A : Type 0} → Cable → StreamMachine → Event A → Report A → StreamMachine → Type 0
-Says c m (event.Call node (Connect to socket)) (report.Opening id) m' =
+abbrev pub Says : {A : Type 0} → Cable → Sessions → StreamMachine → Event A → Report A → StreamMachine → Type 0
+Says c ss m (event.Call node (Connect to socket)) (report.Opening id) m' =
     MakesEnd c m node id false (at_net c to socket) m'
-Says c m (event.Deliver which node) (report.Made id) m' =
+Says c ss m (event.Call node (Open index)) (report.Opening id) m' = OpensFound c ss m node index id m'
+Says c ss m (event.Deliver which node) (report.Made id) m' =
     (asked : Address) × MakesEnd c m node id true asked m'
-Says c m (event.Deliver which node) (report.Opened id) m' = OpensEnd c m node id m'
-Says c m (event.Call node (Write id items)) (report.Wrote count) m' =
+Says c ss m (event.Deliver which node) (report.Opened id) m' = OpensEnd c m node id m'
+Says c ss m (event.Call node (Write id items)) (report.Wrote count) m' =
     Does c m node id (Wrote (take count items)) m'
-Says c m (event.Call node (Read id count)) (report.Read items) m' = ReadsEnd c m node id items m'
-Says c m (event.Call node (Reset id)) report.StreamReset m' = Does c m node id GaveUp m'
-Says c m (event.Call node (Listen on)) report.Done m' = m' ≡ next m
-Says c m (event.Call node (Close id)) (report.Closed closed) m' = m' ≡ next m
-Says c m (event.Call node (Close id)) (report.Freed freed) m' = m' ≡ next m
-Says c m (event.Timer node time) (report.Closed id) m' = m' ≡ next m
-Says c m (event.Timer node time) (report.Freed id) m' = m' ≡ next m
-Says c m (event.Timer node time) report.Idle m' = m' ≡ next m
-Says c m (event.Deliver which node) report.Turned m' = m' ≡ next m
-Says c m (event.Deliver which node) (report.Denied id) m' = m' ≡ next m
-Says c m (event.Deliver which node) (report.Heard id items) m' = m' ≡ next m
-Says c m (event.Deliver which node) (report.Dropped id) m' = m' ≡ next m
-Says c m (event.Deliver which node) (report.Closed id) m' = m' ≡ next m
-Says c m (event.Deliver which node) (report.Freed id) m' = m' ≡ next m
-Says c m (event.Deliver which node) report.Idle m' = m' ≡ next m
-Says c m e r m' = ⊥
+Says c ss m (event.Call node (Read id count)) (report.Read items) m' = ReadsEnd c m node id items m'
+Says c ss m (event.Call node (Reset id)) report.StreamReset m' = Does c m node id GaveUp m'
+Says c ss m (event.Call node (Listen on)) report.Done m' = m' ≡ next m
+Says c ss m (event.Call node (Close id)) (report.Closed closed) m' = m' ≡ next m
+Says c ss m (event.Call node (Close id)) (report.Freed freed) m' = m' ≡ next m
+Says c ss m (event.Timer node time) (report.Closed id) m' = m' ≡ next m
+Says c ss m (event.Timer node time) (report.Freed id) m' = m' ≡ next m
+Says c ss m (event.Timer node time) report.Idle m' = m' ≡ next m
+Says c ss m (event.Deliver which node) report.Turned m' = m' ≡ next m
+Says c ss m (event.Deliver which node) (report.Denied id) m' = m' ≡ next m
+Says c ss m (event.Deliver which node) (report.Heard id items) m' = m' ≡ next m
+Says c ss m (event.Deliver which node) (report.Dropped id) m' = m' ≡ next m
+Says c ss m (event.Deliver which node) (report.Closed id) m' = m' ≡ next m
+Says c ss m (event.Deliver which node) (report.Freed id) m' = m' ≡ next m
+Says c ss m (event.Deliver which node) report.Idle m' = m' ≡ next m
+Says c ss m e r m' = ⊥
 
 -- at a report of another protocol, or of nobody, nothing changes
-abbrev pub StepBy : {A : Type 0} → Cable → StreamMachine → Event A → Report A → StreamMachine → Kind → Type 0
-StepBy c m e r m' Adsp = Says c m e r m'
-StepBy c m e r m' other = m' ≡ next m
+abbrev pub StepBy : {A : Type 0} → Cable → Sessions → StreamMachine → Event A → Report A → StreamMachine → Kind → Type 0
+StepBy c ss m e r m' Adsp = Says c ss m e r m'
+StepBy c ss m e r m' other = m' ≡ next m

@@ -26,6 +26,7 @@ pub(crate) fn steps_make_a_history<A: Allocator>()
     at_steps::laws::another_protocols_step_passes_atp::<A>();
     at_steps::laws::another_protocols_event_is_foreign::<A>();
     at_steps::laws::a_number_that_is_not_held_has_no_record();
+    at_steps::laws::sessions::an_event_is_a_step_of_the_session::<A>();
     at_steps::laws::names::a_call_is_a_happening::<A>();
     at_steps::laws::names::a_timer_is_a_happening::<A>();
     at_steps::laws::names::a_packet_is_a_happening::<A>();

@@ -1,11 +1,11 @@
-ghost use Rattle.std.specs.Prelude.{◌≡◌, ◌↔◌, ◌+◌, ◌<◌, ◌⊎◌, ◌++◌, [], length, nat_lt, OnOk, IfErr, IsErrOf};
+ghost use Rattle.std.specs.Prelude.{◌≡◌, ◌↔◌, ◌+◌, ◌<◌, ◌⊎◌, ◌++◌, [], length, nat_lt, OnOk, IfErr, IfOk, IsErrOf};
 ghost use Rattle.at_zip.specs.Reading.{HasRoomFor, follows, kept, place_after};
 
 use crate::fault::ZipFault;
 use crate::page_view::PageView;
-use crate::zones::MAX_ZONES;
+use crate::zones::{MAX_ZONES, copies_of};
 use at_ddp::{Listed, Pascal};
-use std::alloc::{Allocator, Global};
+use std::alloc::{AllocError, Allocator, Global};
 use std::marker::Model;
 use std::mem;
 
@@ -75,6 +75,16 @@ impl<A: Allocator + Copy> ZoneReader<A> {
         ensures { result ≡ nat_lt 1024 (length self.now.names + length page.now.names) }
     {
         self.names.len() + page.count() > MAX_ZONES
+    }
+
+    /// A list of the names so far, and then those of a page. The error is out of memory.
+    pub fn list_with(&self, page: &PageView<'_>) -> Result<Listed<Pascal, A>, AllocError>
+        ensures { IfOk result (λ list. list ≡ self.now.names ++ page.now.names) }
+    {
+        let mut list = copies_of(self.alloc, &self.names)?;
+        list.reserve(page.count())?;
+        page.push_names(&mut list);
+        Ok(Listed::from_vec(list))
     }
 
     /// The place from which the page after this one is to be asked for.

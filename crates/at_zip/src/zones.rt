@@ -78,7 +78,11 @@ pub fn table_fault(names: &[Pascal]) -> Option<ZipFault>
     None
 }
 
-fn copies_of<A: Allocator>(alloc: A, names: &[Pascal]) -> Result<Vec<Pascal, A>, AllocError>
+// Copies of these names, in order.
+pub(crate) fn copies_of<A: Allocator>(
+    alloc: A,
+    names: &[Pascal],
+) -> Result<Vec<Pascal, A>, AllocError>
     ensures { IfOk result (λ copies. copies.items ≡ names.now) }
 {
     let mut copies = Vec::new(alloc);

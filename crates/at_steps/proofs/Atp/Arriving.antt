@@ -12,8 +12,9 @@ use Rattle.at_node.specs.AtpParts.{AtpState, asking, atp_kind}
 use Rattle.at_node.specs.Drawing.{drawn_by}
 use Rattle.at_node.specs.Hearing.{Hears, HearsSent}
 use Rattle.at_event.specs.Seats.{at_socket, is_mine}
-use Rattle.at_node.specs.Nodes.{with_atp, NodeState}
-use Rattle.at_event.specs.Outcomes.{Over, over, Outcome, idle}
+use Rattle.at_node.specs.Nodes.{over_atp, with_atp, NodeState}
+use Rattle.at_session.specs.Sessions.{list_kept}
+use Rattle.at_event.specs.Outcomes.{Through, over, Outcome, idle}
 use Rattle.at_node.specs.RequesterSocket.{AtRequester}
 use Rattle.at_event.specs.Services.{is_asked}
 use Rattle.at_node.specs.ServiceSocket.{AtService}
@@ -28,6 +29,7 @@ use Rattle.at_steps.specs.AtpHappenings.{Stands}
 use Rattle.at_steps.proofs.Atp.Below.{HearingLaws}
 use Rattle.at_steps.proofs.Atp.Coming.{sent_at, requester_on_net, responder_on_net}
 use Rattle.at_steps.proofs.Atp.Heard.{response_happens}
+use Rattle.at_steps.proofs.Atp.Keeping.{keeping}
 use Rattle.at_steps.proofs.Atp.Moves.{IsIts, idle_happens}
 use Rattle.at_steps.proofs.Atp.Requested.{asks, released_where, service_release, service_request}
 use Rattle.at_steps.proofs.Atp.Served.{zone_release, zone_request}
@@ -100,7 +102,7 @@ module _ (A : Type 0) (laws : HearingLaws A) (history : List Happening) (n : Nod
       here : is_mine n.seat s.to ≡ true → s.to.node ≡ n.seat.number
       here e = let both = and_parts ((s.to.net == n.seat.net) || (s.to.net == 0)) (s.to.node == n.seat.number) e in eqb-true s.to.node n.seat.number both.1
 
-      go : (b : Bool) → is_mine n.seat s.to ≡ b → MatchBool b (Over (with_atp n) (AtSocket said n.seat n.atp s.from (atp_socket n.atp s.to.socket) s.packet) o) (o ≡ idle n report.Ignored) → IsIts A history n (Gets which) o
+      go : (b : Bool) → is_mine n.seat s.to ≡ b → MatchBool b (Through (over_atp n) (AtSocket said n.seat n.atp s.from (atp_socket n.atp s.to.socket) s.packet) o) (o ≡ idle n report.Ignored) → IsIts A history n (Gets which) o
       go false e g = subst (IsIts A history n (Gets which)) (sym g) (idle_happens A history n (Gets which) st report.Ignored refl refl refl)
       go true e g = subst (IsIts A history n (Gets which)) (sym g.2)
-          (at_mine said g.0 (λ k is. free k (ap (λ (x : Outcome A NodeState). drawn_by x.report) g.2 ∙ is)) (λ asked. later (ap (λ (x : Outcome A NodeState). is_asked x.report) g.2 ∙ asked)) (here e) (s.to.socket == 128) (s.to.socket == 129) (s.to.socket == 6) refl refl refl g.1)
+          (keeping A history n (Gets which) (over (with_atp n) g.0) (list_kept n.session g.0.report) (at_mine said g.0 (λ k is. free k (ap (λ (x : Outcome A NodeState). drawn_by x.report) g.2 ∙ is)) (λ asked. later (ap (λ (x : Outcome A NodeState). is_asked x.report) g.2 ∙ asked)) (here e) (s.to.socket == 128) (s.to.socket == 129) (s.to.socket == 6) refl refl refl g.1))

@@ -21,7 +21,7 @@ use Rattle.at_event.specs.Outcomes.{over, idle, refused_as}
 use Rattle.at_event.specs.Seats.{at_socket}
 use Rattle.at_node.specs.ServiceSocket.{answered_with}
 use Rattle.at_event.specs.declared.event.Call.{Call}
-use Rattle.at_event.specs.declared.event.Call.TheVariants.{Zones, SetZones, Ask, Answer, Find, Claim, Finish, Register, Unregister, Listen, Connect, Write, Read, Reset, Close}
+use Rattle.at_event.specs.declared.event.Call.TheVariants.{Zones, SetZones, Ask, Answer, Pick, Find, Claim, Finish, Register, Unregister, Open, Listen, Connect, Write, Read, Reset, Close}
 use Rattle.at_event.specs.declared.event.Report.TheVariants as report
 use Rattle.at_steps.specs.Acts.{Act, Calls, is_atp}
 use Rattle.at_steps.specs.AtpSteps as steps
@@ -104,11 +104,13 @@ module _ (A : Type 0) (laws : CallLaws A) (history : List Happening) (n : NodeSt
   call_happens (SetZones names) range own free = set_zones_call A laws history n st names n.atp.table refl
   call_happens (Ask node socket user bytes wanted xo retries) range own free = ask_call A laws history n st node socket user bytes wanted xo retries range (nat_lt 578 (length bytes)) refl free
   call_happens (Answer node socket tid packets) range own free = answer_call node socket tid packets range (answer_fault n.atp.service_responder (record { from = at_socket n.seat node socket; tid = tid }) packets) refl
+  call_happens (Pick zone) range own free = absurd (cc)
   call_happens (Find object kind _) range own free = absurd (cc)
   call_happens (Claim object kind socket) range own free = absurd (cc)
   call_happens (Finish id) range own free = absurd (cc)
   call_happens (Register object kind socket) range own free = absurd (cc)
   call_happens (Unregister object kind) range own free = absurd (cc)
+  call_happens (Open index) range own free = absurd (cc)
   call_happens (Listen on) range own free = absurd (cc)
   call_happens (Connect node socket) range own free = absurd (cc)
   call_happens (Write id items) range own free = absurd (cc)

@@ -21,25 +21,30 @@ use Rattle.at_name_socket.specs.declared.step.Finished.TheVariants as finished
 use Rattle.at_event.specs.Calls.{IsCall, IsZone}
 use Rattle.at_node.specs.Drawing.{drawn_by}
 use Rattle.at_event.specs.Kinds.{kind_of_call}
-use Rattle.at_node.specs.NameCalls.{claimed_as, finished_as, found_as, pattern_asked, refused_by, registered_as, told_of, unregistered_as, without_name, zone_asked}
+use Rattle.at_node.specs.NameCalls.{claimed_as, finish_called, finished_as, found_as, refused_by, registered_as, told_of, unregistered_as, without_name}
+use Rattle.at_session.specs.Sessions.{SessionState, finds_kept, pattern_asked, zone_asked, zone_picked}
 use Rattle.at_node.specs.Nodes.{NodeState, called, with_names}
 use Rattle.at_event.specs.Outcomes.{over}
 use Rattle.at_event.specs.declared.event.Call.{Call}
-use Rattle.at_event.specs.declared.event.Call.TheVariants.{Zones, SetZones, Ask, Answer, Find, Claim, Finish, Register, Unregister, Listen, Connect, Write, Read, Reset, Close}
+use Rattle.at_event.specs.declared.event.Call.TheVariants.{Zones, SetZones, Ask, Answer, Pick, Find, Claim, Finish, Register, Unregister, Open, Listen, Connect, Write, Read, Reset, Close}
 use Rattle.at_event.specs.declared.event.Report.TheVariants as report
 use Rattle.at_steps.specs.Acts.{Calls, is_nbp}
 use Rattle.at_steps.specs.NameHappenings.{Stands}
 use Rattle.at_steps.specs.NameSteps.{Claims, Finds, HasClaimed, HasLost, Looks, Registers, Unregisters}
 use Rattle.at_steps.proofs.Names.Below.{CallLaws}
-use Rattle.at_steps.proofs.Names.Moves.{IsIts, StepTo, draws_none, moved, refused_moves, stands_lawfully}
+use Rattle.at_steps.proofs.Names.Moves.{IsIts, StepTo, draws_none, keeping, moved, refused_moves, stands_lawfully}
 
 star : IsString (0x2A ∷ [])
 star = record { fits = lit≤ tt; bytes = All-from_recursion (λ b. b < 256) (0x2A ∷ []) (lit< tt, tt) }
 
 -- a lookup without a zone asks for one that is in range
-zone_fits : (zone : Option (List ℕ)) → IsZone zone → IsString (zone_asked zone)
-zone_fits None fits = star
-zone_fits (Some zone) fits = fits
+picked_fits : (picked : Option (List ℕ)) → IsZone picked → IsString (zone_picked picked)
+picked_fits None fits = star
+picked_fits (Some zone) fits = fits
+
+zone_fits : (s : SessionState) (zone : Option (List ℕ)) → IsZone s.picked → IsZone zone → IsString (zone_asked s zone)
+zone_fits s None picked fits = picked_fits s.picked picked
+zone_fits s (Some zone) picked fits = fits
 
 -- the end of a lookup draws no identifier
 ends_without : (A : Type 0) (f : Finished A) → drawn_by (told_of f) ≡ None
@@ -62,14 +67,14 @@ module _ (A : Type 0) (laws : CallLaws A) (setting : Setting) (history : List Ha
   -- ---- lookups begin
 
   finding : (object kind : List ℕ) (zone : Option (List ℕ)) → IsString object → IsString kind → IsZone zone → (o : Option ℕ) → next_id n.names.lookups ≡ o
-      → IsIts A setting history n (Calls (Find object kind zone)) (over (with_names n) (found_as n.seat n.names (pattern_asked object kind zone) o))
+      → IsIts A setting history n (Calls (Find object kind zone)) (over (with_names n) (found_as n.seat n.names (pattern_asked n.session object kind zone) o))
   finding object kind zone object_fits kind_fits fits None e = refusing (Find object kind zone) LookupsFull
   finding object kind zone object_fits kind_fits fits (Some id) e =
-      let h = laws.looks (after setting history) (names_of n.seat.net n.seat.number) n.names id (pattern_asked object kind zone) lawful (record { object = object_fits; kind = kind_fits; zone = zone_fits zone fits }) e in
+      let h = laws.looks (after setting history) (names_of n.seat.net n.seat.number) n.names id (pattern_asked n.session object kind zone) lawful (record { object = object_fits; kind = kind_fits; zone = zone_fits n.session zone st.picked fits }) e in
       let i = h.is in
       let b = i.becomes in (
-        moved A setting history n st (Calls (Find object kind zone)) (report.Looking id) (record n.names { lookups = lookups.begun n.names.lookups (beginning id (pattern_asked object kind zone)) })
-            (Opens id (pattern_asked object kind zone) None) (sent_question n.names.lookups (beginning id (pattern_asked object kind zone)) ∷ []) h (λ now is. (pattern_asked object kind zone, is)),
+        moved A setting history n st (Calls (Find object kind zone)) (report.Looking id) (record n.names { lookups = lookups.begun n.names.lookups (beginning id (pattern_asked n.session object kind zone)) })
+            (Opens id (pattern_asked n.session object kind zone) None) (sent_question n.names.lookups (beginning id (pattern_asked n.session object kind zone)) ∷ []) h (λ now is. (pattern_asked n.session object kind zone, is)),
         Looks (record { id = id; object = object; kind = kind; zone = zone; act = refl; report = refl; table = refl; lookups = b.opened }),
       )
 
@@ -154,11 +159,13 @@ module _ (A : Type 0) (laws : CallLaws A) (setting : Setting) (history : List Ha
   call_happens (SetZones names) range its = absurd (cc)
   call_happens (Ask node socket user bytes wanted xo retries) range its = absurd (cc)
   call_happens (Answer node socket tid packets) range its = absurd (cc)
+  call_happens (Pick zone) range its = absurd (cc)
   call_happens (Find object kind zone) range its = finding object kind zone range.0 range.1 range.2 (next_id n.names.lookups) refl
   call_happens (Claim object kind socket) range its = claiming_name object kind socket range.0 range.1 range.2 (is_no_text object || is_no_text kind)
-  call_happens (Finish id) range its = finishing id (finish_fault n.names id) refl
+  call_happens (Finish id) range its = keeping A setting history n (Calls (Finish id)) (over (with_names n) (finish_called n.names id)) (finds_kept n.session (finish_called {A = A} n.names id).report) (finishing id (finish_fault n.names id) refl)
   call_happens (Register object kind socket) range its = registering object kind socket range.0 range.1 range.2 (register_fault n.names.table.names object kind) refl
   call_happens (Unregister object kind) range its = unregistering object kind (find (is_called object kind) n.names.table.names) refl
+  call_happens (Open index) range its = absurd (cc)
   call_happens (Listen on) range its = absurd (cc)
   call_happens (Connect node socket) range its = absurd (cc)
   call_happens (Write id items) range its = absurd (cc)

@@ -4,7 +4,7 @@ use Rattle.std.specs.Prelude.{◌==◌}
 use Rattle.std.proofs.lemmas.Bool.{true≢false}
 use Rattle.at_ddp.specs.Datagram.{Content as Datagram, BeginsWith, canonical}
 use Rattle.at_ddp.specs.declared.address.Address.{Address}
-use Rattle.at_event.specs.Kinds.{Kind, Adsp, Atp, Nbp, Nobody, kind_of_call, kind_of_timer}
+use Rattle.at_event.specs.Kinds.{Kind, Adsp, Atp, Nbp, Nobody, Session, kind_of_call, kind_of_timer}
 use Rattle.at_event.specs.Outcomes.{Outcome}
 use Rattle.at_event.specs.Seats.{nbp_kind}
 use Rattle.at_event.specs.declared.event.Call.{Call}
@@ -25,18 +25,21 @@ apart_atp Atp h = refl
 apart_atp Nbp h = absurd h
 apart_atp Adsp h = absurd h
 apart_atp Nobody h = refl
+apart_atp Session h = absurd h
 
 apart_adsp : (k : Kind) → IsOfAdsp k → is_nbp k ≡ false
 apart_adsp Atp h = absurd h
 apart_adsp Nbp h = absurd h
 apart_adsp Adsp h = refl
 apart_adsp Nobody h = refl
+apart_adsp Session h = absurd h
 
 apart_nobody : (k : Kind) → IsNobodys k → is_nbp k ≡ false
 apart_nobody Atp h = absurd h
 apart_nobody Nbp h = absurd h
 apart_nobody Adsp h = absurd h
 apart_nobody Nobody h = refl
+apart_nobody Session h = refl
 
 -- what comes of another protocol is foreign
 foreign : (A : Type 0) (n : NodeState) (act : Act A) (o : Outcome A NodeState) (k : Kind) → is_nbp k ≡ false → Comes A n act o k → IsForeign n act o
@@ -51,6 +54,11 @@ foreign A n act o Adsp apart h = subst (IsForeign n act) (sym h.is) (record {
   reports = apart_adsp (owner_of act h.part.report) h.its.reports;
 })
 foreign A n act o Nobody apart h = subst (IsForeign n act) (sym h.is) (record {
+  same = refl;
+  sends = tt;
+  reports = apart_nobody (owner_of act h.report) h.its;
+})
+foreign A n act o Session apart h = subst (IsForeign n act) (sym h.is) (record {
   same = refl;
   sends = tt;
   reports = apart_nobody (owner_of act h.report) h.its;

@@ -21,17 +21,41 @@ use Rattle.at_event.specs.Outcomes.{Outcome, idle, refused_as, sent_by}
 use Rattle.at_node.specs.declared.drawing.Draw.{Draw}
 use Rattle.at_event.specs.declared.event.Report.{Report}
 use Rattle.at_event.specs.declared.event.Report.TheVariants as report
+use Rattle.at_session.specs.Sessions.{SessionState}
 use Rattle.at_steps.specs.Acts.{Act}
 use Rattle.at_steps.specs.NameHappenings.{AreEntries, BeginsBy, Happens, IsHappening, Stands, is_names_socket}
 use Rattle.at_steps.specs.NameSteps.{IsStep, Plain, is_plain}
+use Rattle.at_steps.proofs.Kept.{in_session}
 use Rattle.at_steps.proofs.Names.Below.{NothingHappens}
 
 abbrev pub IsIts : (A : Type 0) (setting : Setting) (history : List Happening) (n : NodeState) → Act A → Outcome A NodeState → Type 0
 IsIts A setting history n act o = IsHappening {A = A} setting history n.seat.net n.seat.number n act o
 
+-- whatever the session keeps, it is the same happening
+pub keeping : (A : Type 0) (setting : Setting) (history : List Happening) (n : NodeState) (act : Act A) (o : Outcome A NodeState) (kept : SessionState) → IsIts A setting history n act o → IsIts A setting history n act (in_session kept o)
+keeping A setting history n act o kept (h, step) = (
+  record {
+    happening = h.happening;
+    timely = h.timely;
+    answered = h.answered;
+    in_range = h.in_range;
+    asked = h.asked;
+    same_event = h.same_event;
+    tables = h.tables;
+    lookups = h.lookups;
+    more = h.more;
+    sent = h.sent;
+    posts = h.posts;
+    begun = h.begun;
+    socket = h.socket;
+    own = h.own;
+  },
+  step,
+)
+
 -- a step of the socket, to this socket
 abbrev pub StepTo : (A : Type 0) (n : NodeState) → Act A → SocketState → Report A → Type 0
-StepTo A n act new r = IsStep {A = A} (record { part = n.names; now = new; act = act; report = r })
+StepTo A n act new r = IsStep {A = A} (record { part = n.names; now = new; session = n.session; act = act; report = r })
 
 -- the values at all addresses, if that at one is new and the others stay
 put_at : {X : Type 0} (g f : Address → X) (at : Address) (x : X) → g at ≡ x → ((a : Address) → same_address at a ≡ false → g a ≡ f a) → (a : Address) → g a ≡ put f at x a

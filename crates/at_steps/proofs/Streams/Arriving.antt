@@ -32,7 +32,7 @@ use Rattle.at_steps.specs.StreamSteps.{HasAnswered, HasOpened, IsStep, is_plain,
 use Rattle.at_steps.proofs.Streams.Below.{HearingLaws}
 use Rattle.at_steps.proofs.Streams.Carrying.{datagram_begins}
 use Rattle.at_steps.proofs.Streams.Ends.{IsCame, received_came}
-use Rattle.at_steps.proofs.Streams.Moves.{Becomes, IsIts, NamesEnd, becomes_done, before, changed, happens, has_end, idles, its_own, own, plain_step}
+use Rattle.at_steps.proofs.Streams.Moves.{Becomes, IsIts, NamesEnd, becomes_done, before, changed, happens, idles, its_own, own, plain_step}
 use Rattle.at_steps.proofs.Streams.OnNet.{IsOn, all_on, sent_at}
 use Rattle.at_steps.proofs.Streams.Ours.{all_ours}
 

@@ -1,8 +1,10 @@
 -- What the calls of the socket for streams are in the network.
 use Rattle.std.proofs.Common.{◌≡◌, inl, ℕ, Bool, true, false, cond, List, Option, Some, None, Result, Ok, Err, refl, sym, ap, subst, ◌∙◌}
+use Rattle.std.specs.Prelude.{option_map, slice_get}
 use Rattle.std.proofs.lemmas.Bool.{true≢false}
 use Rattle.std.specs.List.{AllByRecursion}
 use Rattle.at_ddp.specs.declared.address.Address.{Address}
+use Rattle.at_ddp.proofs.Alls.{all_at}
 use Rattle.at_adsp_end.specs.Ends.{EndState, is_open}
 use Rattle.at_adsp_end.specs.Fault.{number_of}
 use Rattle.at_adsp_end.specs.Items.{IsItem}
@@ -19,22 +21,25 @@ use Rattle.at_adsp.specs.Lawfully.{IsInRange}
 use Rattle.at_adsp.specs.Network.{Closes, Connects, Happening, IsTimely, Listens, Network, NoneNames, Reads, Resets, Setting, Writes, calls, calls_with, done, gave_up, wrote_first}
 use Rattle.at_adsp.specs.Streams.{Deed, Nothing, Stream, has_number}
 use Rattle.at_adsp.specs.Streams as deeds
+use Rattle.at_nbp.specs.declared.find.Find.{Find as Found}
 use Rattle.at_event.specs.Calls.{IsCall}
 use Rattle.at_event.specs.Kinds.{kind_of_call}
 use Rattle.at_event.specs.Outcomes.{over, refused_as}
 use Rattle.at_event.specs.Seats.{at_socket}
 use Rattle.at_event.specs.declared.event.Call.{Call}
-use Rattle.at_event.specs.declared.event.Call.TheVariants.{Zones, SetZones, Ask, Answer, Find, Claim, Finish, Register, Unregister, Listen, Connect, Write, Read, Reset, Close}
+use Rattle.at_event.specs.declared.event.Call.TheVariants.{Zones, SetZones, Ask, Answer, Pick, Find, Claim, Finish, Register, Unregister, Open, Listen, Connect, Write, Read, Reset, Close}
 use Rattle.at_event.specs.declared.event.Report.{Report}
 use Rattle.at_event.specs.declared.event.Report.TheVariants as report
 use Rattle.at_node.specs.Drawing.{drawn_by}
 use Rattle.at_node.specs.Nodes.{NodeState, called, with_streams}
 use Rattle.at_node.specs.declared.drawing.Draw.TheVariants.{Conn}
+use Rattle.at_node.specs.SessionCalls.{open_called}
+use Rattle.at_session.specs.Sessions.{address_at}
 use Rattle.at_stream_socket.specs.Calls as sockets
 use Rattle.at_stream_socket.specs.Sockets.{told_by}
 use Rattle.at_steps.specs.Acts.{Act, Calls, is_adsp}
-use Rattle.at_steps.specs.StreamHappenings.{IsHere, IsOf, Stands}
-use Rattle.at_steps.specs.StreamSteps.{HasAsked, HasRead, HasReset, HasWritten, IsStep}
+use Rattle.at_steps.specs.StreamHappenings.{IsHere, IsOf, IsOpenable, Stands}
+use Rattle.at_steps.specs.StreamSteps.{asked_by, HasAsked, HasRead, HasReset, HasWritten, IsStep}
 use Rattle.at_steps.proofs.Streams.Below.{AllChange, AllPaired}
 use Rattle.at_steps.proofs.Streams.Ends.{finds_it, found_id, read_ok, reset_ok, wrote_ok}
 use Rattle.at_steps.proofs.Streams.Moves.{Becomes, IsIts, becomes_called, becomes_listening, before, changed, fits, happens, has_end, its_own, own, plain_step, refused, refused_step}
@@ -53,7 +58,7 @@ module _ (A : Type 0) (changes : AllChange) (paired : AllPaired) (setting : Sett
   here = its_own A setting history n st
 
   -- a call, by its result
-  calling : {X : Type 0} (h : Happening) (act : Act A) (told : X → Report A) (deed : X → Deed) (r : Result (Done X) StreamFault) → done setting old h ≡ calls_with deed setting old at r → IsTimely setting old h → IsInRange h → IsHere n.seat.net h → IsOf at act (sockets.called n.seat n.streams told r).report h
+  calling : {X : Type 0} (h : Happening) (act : Act A) (told : X → Report A) (deed : X → Deed) (r : Result (Done X) StreamFault) → done setting old h ≡ calls_with deed setting old at r → IsTimely setting old h → IsInRange h → IsHere n.seat.net h → IsOf n.session at act (sockets.called n.seat n.streams told r).report h
       → StepTo act (sockets.called n.seat n.streams told r).report (done setting old h) → IsIts A setting history n act (over (with_streams n) (sockets.called n.seat n.streams told r))
   calling h act told deed r is timely in_range its_here is_of step =
       happens A setting history n st act (sockets.called n.seat n.streams told r) h timely in_range its_here is_of
@@ -64,26 +69,36 @@ module _ (A : Type 0) (changes : AllChange) (paired : AllPaired) (setting : Sett
 
   -- ---- connections are asked for
 
-  connect_step : (node socket : ℕ) (now : Network) (o : Option ℕ) → AfterConnecting old now at (at_socket n.seat node socket) o
-      → StepTo (Calls (Connect node socket)) (sockets.called n.seat n.streams report.Opening (connected n.streams (at_socket n.seat node socket) o)).report now
-  connect_step node socket now None same = refusing (Calls (Connect node socket)) EndsFull now same
-  connect_step node socket now (Some id) is = HasAsked (record { id = id; node = node; socket = socket; act = refl; report = refl; streams = is })
+  -- a call that asks this address for one
+  module _ (act : Act A) (to : Address) (asks : asked_by n.session n.seat.net act ≡ Some to) where
+    connect_step : (now : Network) (o : Option ℕ) → AfterConnecting old now at to o → StepTo act (sockets.called n.seat n.streams report.Opening (connected n.streams to o)).report now
+    connect_step now None same = refusing act EndsFull now same
+    connect_step now (Some id) is = HasAsked (record { id = id; asked = to; act = asks; report = refl; streams = is })
 
-  connecting : (node socket : ℕ) → IsInRange (Connects at (at_socket n.seat node socket)) → IsTimely setting old (Connects at (at_socket n.seat node socket)) → IsIts A setting history n (Calls (Connect node socket)) (called n (Connect node socket))
-  connecting node socket in_range timely =
-      let to = at_socket n.seat node socket in
-      calling (Connects at to) (Calls (Connect node socket)) report.Opening (λ answer. Nothing) (connected n.streams to (next_id n.streams)) (λ i. calls setting old at (connected (st.stands i) to (next_id (st.stands i))))
-      timely in_range (here, refl) (inl refl)
-      (connect_step node socket (done setting old (Connects at to)) (next_id n.streams)
-      (subst (AfterConnecting old (done setting old (Connects at to)) at to) (ap next_id st.stands) (changes setting history (Connects at to) st.timely)))
+    connecting : IsInRange (Connects at to) → to.net ≡ n.seat.net → IsOf n.session at act (sockets.connect_called n.seat n.streams to).report (Connects at to) → IsTimely setting old (Connects at to)
+        → IsIts A setting history n act (over (with_streams n) (sockets.connect_called n.seat n.streams to))
+    connecting in_range on_net is_of timely =
+        calling (Connects at to) act report.Opening (λ answer. Nothing) (connected n.streams to (next_id n.streams)) (λ i. calls setting old at (connected (st.stands i) to (next_id (st.stands i))))
+        timely in_range (here, on_net) is_of
+        (connect_step (done setting old (Connects at to)) (next_id n.streams)
+        (subst (AfterConnecting old (done setting old (Connects at to)) at to) (ap next_id st.stands) (changes setting history (Connects at to) st.timely)))
 
   -- the identifier that the report tells of
-  connects_in_time : (node socket : ℕ) → ((id : ℕ) → drawn_by (called {A = A} n (Connect node socket)).report ≡ Some (Conn id) → NoneNames old at id) → IsTimely setting old (Connects at (at_socket n.seat node socket))
-  connects_in_time node socket free id drawn = free id (tells (next_id n.streams) (ap next_id (sym st.stands) ∙ drawn))
+  connects_in_time : (to : Address) → ((id : ℕ) → drawn_by (sockets.connect_called {A = A} n.seat n.streams to).report ≡ Some (Conn id) → NoneNames old at id) → IsTimely setting old (Connects at to)
+  connects_in_time to free id drawn = free id (tells (next_id n.streams) (ap next_id (sym st.stands) ∙ drawn))
     where
-      tells : (o : Option ℕ) → o ≡ Some id → drawn_by (sockets.called {A = A} n.seat n.streams report.Opening (connected n.streams (at_socket n.seat node socket) o)).report ≡ Some (Conn id)
+      tells : (o : Option ℕ) → o ≡ Some id → drawn_by (sockets.called {A = A} n.seat n.streams report.Opening (connected n.streams to o)).report ≡ Some (Conn id)
       tells None is = absurd (cc)
       tells (Some i) is = let same : i ≡ id = cc in ap (λ k. Some (Conn k)) same
+
+  -- what was found is connected to
+  opening : (index : ℕ) (f : Option Found) → slice_get n.session.finds index ≡ f → ((id : ℕ) → drawn_by {A = A} (open_called n.seat n.streams (option_map (λ (x : Found). x.address) f)).report ≡ Some (Conn id) → NoneNames old at id)
+      → IsIts A setting history n (Calls (Open index)) (over (with_streams n) (open_called n.seat n.streams (option_map (λ (x : Found). x.address) f)))
+  opening index None is free = refused A setting history n st paired (Calls (Open index)) (Some 62)
+  opening index (Some f) is free =
+      let openable = all_at (IsOpenable n.seat.net) n.session.finds index f st.finds is in
+      let asks : address_at n.session index ≡ Some f.address = ap (option_map (λ (x : Found). x.address)) is in
+      connecting (Calls (Open index)) f.address asks (fits A setting history n st, openable.1) openable.0 (inl (ap (option_map (Connects at)) asks)) (connects_in_time f.address free)
 
   -- ---- calls of ends
 
@@ -163,14 +178,17 @@ module _ (A : Type 0) (changes : AllChange) (paired : AllPaired) (setting : Sett
   call_happens (SetZones names) range its free = absurd (true≢false (sym its))
   call_happens (Ask node socket user bytes wanted xo retries) range its free = absurd (true≢false (sym its))
   call_happens (Answer node socket tid packets) range its free = absurd (true≢false (sym its))
+  call_happens (Pick zone) range its free = absurd (true≢false (sym its))
   call_happens (Find object kind _) range its free = absurd (true≢false (sym its))
   call_happens (Claim object kind socket) range its free = absurd (true≢false (sym its))
   call_happens (Finish id) range its free = absurd (true≢false (sym its))
   call_happens (Register object kind socket) range its free = absurd (true≢false (sym its))
   call_happens (Unregister object kind) range its free = absurd (true≢false (sym its))
+  call_happens (Open index) range its free = opening index (slice_get n.session.finds index) refl free
   call_happens (Listen on) range its free = listening on
   call_happens (Connect node socket) range its free =
-      connecting node socket (fits A setting history n st, record { net = st.small_net; node = range.0; socket = range.1 }) (connects_in_time node socket free)
+      let to = at_socket n.seat node socket in
+      connecting (Calls (Connect node socket)) to refl (fits A setting history n st, record { net = st.small_net; node = range.0; socket = range.1 }) refl (inl refl) (connects_in_time to free)
   call_happens (Write id items) range its free = writing_ id items range.1
   call_happens (Read id count) range its free = reading_ id count
   call_happens (Reset id) range its free = resetting id

@@ -141,9 +141,9 @@ module _ (A : Type 0) (setting : Setting) (history : List Happening) (n : NodeSt
 
   -- the streams are these now, at this report
   abbrev pub changed : Act A → Report A → List Stream → Change A
-  changed act r now = record { part = streams before; now = now; event = before.event; at = own; sent = before.sent; act = act; report = r }
+  changed act r now = record { part = streams before; now = now; event = before.event; at = own; sent = before.sent; session = n.session; act = act; report = r }
 
-  pub happens : (act : Act A) (o : Outcome A EndTable) (h : Happening) → IsTimely setting before h → IsInRange h → IsHere n.seat.net h → IsOf own act o.report h → Becomes before (done setting before h) own o.state o.out
+  pub happens : (act : Act A) (o : Outcome A EndTable) (h : Happening) → IsTimely setting before h → IsInRange h → IsHere n.seat.net h → IsOf n.session own act o.report h → Becomes before (done setting before h) own o.state o.out
       → IsStep (changed act o.report (streams (done setting before h))) → IsIts A setting history n act (record { report = o.report; state = with_streams n o.state; out = o.out })
   happens act o h timely in_range here is_of b step = (
     record {

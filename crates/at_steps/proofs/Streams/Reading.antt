@@ -1,14 +1,13 @@
 -- What is read at a node reads from the peer.
-use Rattle.std.proofs.Common.{◌≡◌, ℕ, Bool, true, List, ◌∷◌, Option, Some, None, Result, Ok, Err, refl, sym, ap, subst, ◌∙◌}
+use Rattle.std.proofs.Common.{◌≡◌, ℕ, Bool, true, List, ◌∷◌, Option, Some, None, Result, Ok, Err, refl, ap, subst, ◌∙◌}
 use Rattle.std.specs.List.{AllByRecursion}
-use Rattle.std.proofs.lemmas.Bool.{eq-eqb, lt-ltb}
 use Rattle.at_ddp.specs.declared.address.Address.{Address}
 use Rattle.at_adsp_end.specs.Fault.{number_of}
 use Rattle.at_adsp_end.specs.Positions.{wire}
 use Rattle.at_adsp_end.specs.declared.fault.StreamFault.{StreamFault}
 use Rattle.at_adsp_end.specs.declared.item.Item.{Item}
 use Rattle.at_adsp_ends.specs.Calls.{read_at}
-use Rattle.at_adsp_ends.specs.Tables.{Done, EndTable, by_id}
+use Rattle.at_adsp_ends.specs.Tables.{Done, by_id}
 use Rattle.at_adsp.specs.Connections.{streams}
 use Rattle.at_adsp.specs.Meetings.{ReadsWith}
 use Rattle.at_adsp.specs.Network.{AllTimely, Happening, Reads, Setting, after}

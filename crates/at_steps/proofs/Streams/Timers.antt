@@ -80,7 +80,7 @@ module _ (A : Type 0) (changes : AllChange) (paired : AllPaired) (setting : Sett
       go false true = plain (timer.Probe id) (report.Freed e.id) now (found_id n.streams id e is) (finds_it n.streams (has_id id) e is) same
       go false false = stays (is_last e tick.Probe)
 
-  ticking : (time : Timer) (id : ℕ) (x : Tick) → ((r : Report A) → IsOf at (Fires time) r (Ticks at id x)) → StepTo time (told (ticked_at wire n.streams x (by_id n.streams id))) (done setting old (Ticks at id x)) → IsIts A setting history n (Fires time) (over (with_streams n) (sockets.tick_fired n.seat n.streams id x))
+  ticking : (time : Timer) (id : ℕ) (x : Tick) → ((r : Report A) → IsOf n.session at (Fires time) r (Ticks at id x)) → StepTo time (told (ticked_at wire n.streams x (by_id n.streams id))) (done setting old (Ticks at id x)) → IsIts A setting history n (Fires time) (over (with_streams n) (sockets.tick_fired n.seat n.streams id x))
   ticking time id x is_of step =
       let r = ticked_at wire n.streams x (by_id n.streams id) in
       let same : ticked_at setting.numbers (old.tables at) x (by_id (old.tables at) id) ≡ r = λ i. ticked_at (st.numbers i) (st.stands i) x (by_id (st.stands i) id) in

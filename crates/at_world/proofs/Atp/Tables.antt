@@ -1,7 +1,6 @@
 -- The machine's zone table after a step is the one that the event and its report say.
-use Rattle.std.proofs.Common.{◌≡◌, ℕ, true, cond, List, refl, sym, ap, ◌∙◌}
-use Rattle.at_event.specs.Kinds.{Kind, Nobody, Atp, Nbp, Adsp}
-use Rattle.at_event.specs.declared.event.Call.{Call}
+use Rattle.std.proofs.Common.{◌≡◌, refl, ap}
+use Rattle.at_event.specs.Kinds.{Kind, Nobody, Session, Atp, Nbp, Adsp}
 use Rattle.at_event.specs.declared.event.Call.TheVariants.{Zones, SetZones, Ask, Answer}
 use Rattle.at_event.specs.declared.event.Report.{Report}
 use Rattle.at_event.specs.declared.event.Report.TheVariants as report
@@ -49,3 +48,4 @@ table_follows c m e r m' Atp its h = says_table c m e r m' h
 table_follows c m e r m' Nbp its h = moment_table m e r m' (table_of h) (λ is. cc)
 table_follows c m e r m' Adsp its h = moment_table m e r m' (table_of h) (λ is. cc)
 table_follows c m e r m' Nobody its h = moment_table m e r m' (table_of h) (λ is. cc)
+table_follows c m e r m' Session its h = moment_table m e r m' (table_of h) (λ is. cc)

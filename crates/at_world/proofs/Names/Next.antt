@@ -16,6 +16,7 @@ use Rattle.at_steps.specs.NameHappenings.{Happens, is_names_socket}
 use Rattle.at_world.specs.Cables.{Cable, owner_of}
 use Rattle.at_world.specs.Events.{act_of, node_of}
 use Rattle.at_world.specs.NameGuards.{NameMachine, StepBy}
+use Rattle.at_world.specs.SessionGuards.{Sessions}
 use Rattle.at_world.specs.Worlds.{WorldState, node_at, recorded}
 use Rattle.at_world.specs.declared.event.Event.{Event}
 use Rattle.at_world.proofs.CableTie.{Wire, found_after, wire}
@@ -28,11 +29,11 @@ put_here : {X : Type 0} (f : Address → X) (at : Address) (x : X) → put f at 
 put_here f at x = rw (same_address_itself at) refl
 
 -- the machine follows this outcome of a node's step
-abbrev pub Good : (A : Type 0) (w : WorldState) (c : Cable) (m : NameMachine) (wires : List Wire) → Event A → Outcome A NodeState → Type 0
-Good A w c m wires e o = (m' : NameMachine) × StepBy m e o.report m' (owner_of e o.report) × NameTie (recorded w (node_of e) o.report o.state (map posted o.out)) c (wires ++ map (wire w.events) o.out) m'
+abbrev pub Good : (A : Type 0) (w : WorldState) (c : Cable) (ss : Sessions) (m : NameMachine) (wires : List Wire) → Event A → Outcome A NodeState → Type 0
+Good A w c ss m wires e o = (m' : NameMachine) × StepBy ss m e o.report m' (owner_of e o.report) × NameTie (recorded w (node_of e) o.report o.state (map posted o.out)) c (wires ++ map (wire w.events) o.out) m'
 
-module _ (A : Type 0) (w : WorldState) (c : Cable) (wires : List Wire) (m : NameMachine) (e : Event A) (n : NodeState) (o : Outcome A NodeState) (t : NameTie w c wires m) (stands : node_at w (node_of e) ≡ Some n)
-    (h : Happens t.setting t.history c.net (node_of e) n (act_of e) o) (number : o.state.seat.number ≡ node_of e) (b : Becomes A m e n o.state o.report) where
+module _ (A : Type 0) (w : WorldState) (c : Cable) (ss : Sessions) (wires : List Wire) (m : NameMachine) (e : Event A) (n : NodeState) (o : Outcome A NodeState) (t : NameTie w c wires m) (stands : node_at w (node_of e) ≡ Some n)
+    (h : Happens t.setting t.history c.net (node_of e) n (act_of e) o) (number : o.state.seat.number ≡ node_of e) (b : Becomes A ss m e n o.state o.report) where
   its : HasSocket c.net t.setting t.history m (node_of e) n
   its = t.sockets (node_of e) n stands
 
@@ -86,7 +87,7 @@ module _ (A : Type 0) (w : WorldState) (c : Cable) (wires : List Wire) (m : Name
       go true g = absurd (true≢false (sym is_one ∙ ap (is_names_socket c.net) (same_address-true (names_of c.net (node_of e)) at g) ∙ none))
       go false g = t.elsewhere at none
 
-  pub good_next : Good A w c m wires e o
+  pub good_next : Good A w c ss m wires e o
   good_next = (
     moved m b.names (node_of e) b.change,
     b.allows,

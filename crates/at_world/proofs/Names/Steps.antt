@@ -5,7 +5,7 @@ use Rattle.std.specs.List.{AllByRecursion, IsDistinct}
 use Rattle.std.proofs.lemmas.Bool.{false≢true, eqb-true}
 use Rattle.at_ddp.specs.Tables.{without_first}
 use Rattle.at_ddp.proofs.Alls.{all_found, all_pairs}
-use Rattle.at_nbp.specs.Lookups.{IsSearch, Lookups, Search, has_id, same_find}
+use Rattle.at_nbp.specs.Lookups.{IsSearch, Lookups, Search, asked, has_id, same_find}
 use Rattle.at_nbp.specs.NameTables.{IsRegistered, Table, is_called, own_find, register_fault}
 use Rattle.at_nbp.specs.Names.{is_match}
 use Rattle.at_nbp.specs.Network.{Begun, IsFound, after, newest}
@@ -17,7 +17,7 @@ use Rattle.at_name_socket.specs.Sockets as sockets
 use Rattle.at_name_socket.specs.Sockets.{Closes, Open, Opens, Stays, claim_of, open_at}
 use Rattle.at_name_socket.specs.declared.claim.Claim.{Claim as Claimed}
 use Rattle.at_node.specs.Drawing.{drawn_by}
-use Rattle.at_node.specs.NameCalls.{pattern_asked}
+use Rattle.at_session.specs.Sessions.{pattern_asked}
 use Rattle.at_node.specs.Nodes.{NodeState}
 use Rattle.at_event.specs.declared.event.Call.TheVariants.{Claim, Find, Finish, Register, Unregister}
 use Rattle.at_event.specs.declared.event.Report.{Report}
@@ -28,6 +28,7 @@ use Rattle.at_steps.specs.NameSteps.{Change, IsOpen, IsPlain, IsStep, is_plain}
 use Rattle.at_world.specs.Cables.{Cable, owner_of}
 use Rattle.at_world.specs.Events.{act_of, node_of}
 use Rattle.at_world.specs.NameGuards.{Directory, Finds, IsTaken, Lookup, NameMachine, Stood, StepBy, lookup_of, next, with_names}
+use Rattle.at_world.specs.SessionGuards.{Sessions}
 use Rattle.at_world.specs.Worlds.{WorldState, node_at}
 use Rattle.at_world.specs.declared.event.Event.{Event}
 use Rattle.at_world.specs.declared.event.Event.TheVariants as event
@@ -38,26 +39,26 @@ use Rattle.at_world.proofs.Names.Stood.{all_stood}
 use Rattle.at_world.proofs.Names.Tie.{Becomes, HasSocket, NameLaws, NameTie, moved}
 
 -- the machine says this of an event
-abbrev pub Allows : {A : Type 0} → NameMachine → Event A → Report A → NameMachine → Type 0
-Allows m e r m' = StepBy m e r m' (owner_of e r)
+abbrev pub Allows : {A : Type 0} → Sessions → NameMachine → Event A → Report A → NameMachine → Type 0
+Allows ss m e r m' = StepBy ss m e r m' (owner_of e r)
 
-so_at : (A : Type 0) (m m' : NameMachine) (e e' : Event A) (r r' : Report A) → e ≡ e' → r ≡ r' → Allows m e' r' m' → Allows m e r m'
-so_at A m m' e e' r r' same told allows = subst (λ x. Allows m x r m') (sym same) (subst (λ x. Allows m e' x m') (sym told) allows)
+so_at : (A : Type 0) (ss : Sessions) (m m' : NameMachine) (e e' : Event A) (r r' : Report A) → e ≡ e' → r ≡ r' → Allows ss m e' r' m' → Allows ss m e r m'
+so_at A ss m m' e e' r r' same told allows = subst (λ x. Allows ss m x r m') (sym same) (subst (λ x. Allows ss m e' x m') (sym told) allows)
 
 -- a report that says nothing new of names leaves the machine as it was
-plainly : (A : Type 0) (m : NameMachine) (e : Event A) (r : Report A) → is_plain (act_of e) r ≡ true → Allows m e r (next m)
-plainly A m (event.Call node call) (report.Refused number) h = refl
-plainly A m (event.Call node call) report.NoMemory h = refl
-plainly A m (event.Deliver which node) (report.Refused number) h = refl
-plainly A m (event.Deliver which node) report.NoMemory h = refl
-plainly A m (event.Timer node time) (report.Refused number) h = refl
-plainly A m (event.Timer node time) report.NoMemory h = refl
-plainly A m (event.Deliver which node) report.Ignored h = refl
-plainly A m (event.Deliver which node) report.Relayed h = refl
-plainly A m (event.Deliver which node) (report.Names count) h = refl
-plainly A m (event.Deliver which node) (report.Finds count) h = refl
-plainly A m (event.Timer node (timer.Lookup id)) report.Again h = refl
-plainly A m e r h = absurd (false≢true h)
+plainly : (A : Type 0) (ss : Sessions) (m : NameMachine) (e : Event A) (r : Report A) → is_plain (act_of e) r ≡ true → Allows ss m e r (next m)
+plainly A ss m (event.Call node call) (report.Refused number) h = refl
+plainly A ss m (event.Call node call) report.NoMemory h = refl
+plainly A ss m (event.Deliver which node) (report.Refused number) h = refl
+plainly A ss m (event.Deliver which node) report.NoMemory h = refl
+plainly A ss m (event.Timer node time) (report.Refused number) h = refl
+plainly A ss m (event.Timer node time) report.NoMemory h = refl
+plainly A ss m (event.Deliver which node) report.Ignored h = refl
+plainly A ss m (event.Deliver which node) report.Relayed h = refl
+plainly A ss m (event.Deliver which node) (report.Names count) h = refl
+plainly A ss m (event.Deliver which node) (report.Finds count) h = refl
+plainly A ss m (event.Timer node (timer.Lookup id)) report.Again h = refl
+plainly A ss m e r h = absurd (false≢true h)
 
 -- it draws no identifier
 plain_draws : (A : Type 0) (e : Event A) (r : Report A) → is_plain (act_of e) r ≡ true → IsDrawn Stays (drawn_by r)
@@ -112,7 +113,7 @@ taken_by m k l claim owner s own [] tells is = inr (go (standing s claim) refl i
         let same : own_find s.table name ≡ owner = cc in
         (name, ap (λ (y : Table). find (is_called claim.object claim.kind) y.names) (sym own) ∙ there, sym same ∙ ap (λ (y : Table). own_find y name) own)
 
-module _ (A : Type 0) (laws : NameLaws A) (w : WorldState) (c : Cable) (m : NameMachine) (wires : List Wire) (e : Event A) (n x : NodeState) (r : Report A) (t : NameTie w c wires m) (stands : node_at w (node_of e) ≡ Some n) where
+module _ (A : Type 0) (laws : NameLaws A) (w : WorldState) (c : Cable) (ss : Sessions) (m : NameMachine) (wires : List Wire) (e : Event A) (n x : NodeState) (r : Report A) (t : NameTie w c wires m) (stands : node_at w (node_of e) ≡ Some n) (told : n.session ≡ ss (node_of e)) where
   its : HasSocket c.net t.setting t.history m (node_of e) n
   its = t.sockets (node_of e) n stands
 
@@ -134,14 +135,19 @@ module _ (A : Type 0) (laws : NameLaws A) (w : WorldState) (c : Cable) (m : Name
   abbrev begun : List Begun
   begun = (after t.setting t.history).begun
 
-  open_here : (id : ℕ) (claim : Option Claimed) (finds : List Found) → IsOpen n.names id claim finds → IsOpenHere m (node_of e) id claim finds
-  open_here id claim finds o =
+  -- what a lookup found that is open at the node
+  pub looked_up : (id : ℕ) (claim : Option Claimed) (finds : List Found) (o : IsOpen n.names id claim finds) → (IsSearch o.looked × IsFound t.setting t.history (names_of c.net (node_of e)) o.looked) × (has_id id o.looked ≡ true)
+  looked_up id claim finds o =
       let here = its.stands in
       let stood = laws.found t.setting t.history t.all_ask t.timely in
       let all = stood.lawful (names_of c.net (node_of e)) in
       let there = ap (λ (l : Lookups). find (has_id id) l.searches) here.lookups ∙ o.stands in
-      let both = all_found (λ (s : Search). IsSearch s × IsFound t.setting t.history (names_of c.net (node_of e)) s) (has_id id) ((after t.setting t.history).lookups (names_of c.net (node_of e))).searches o.looked
-      (all_pairs IsSearch (IsFound t.setting t.history (names_of c.net (node_of e))) ((after t.setting t.history).lookups (names_of c.net (node_of e))).searches all.each (stood.found (names_of c.net (node_of e)))) there in
+      all_found (λ (s : Search). IsSearch s × IsFound t.setting t.history (names_of c.net (node_of e)) s) (has_id id) ((after t.setting t.history).lookups (names_of c.net (node_of e))).searches o.looked
+      (all_pairs IsSearch (IsFound t.setting t.history (names_of c.net (node_of e))) ((after t.setting t.history).lookups (names_of c.net (node_of e))).searches all.each (stood.found (names_of c.net (node_of e)))) there
+
+  open_here : (id : ℕ) (claim : Option Claimed) (finds : List Found) → IsOpen n.names id claim finds → IsOpenHere m (node_of e) id claim finds
+  open_here id claim finds o =
+      let both = looked_up id claim finds o in
       let found = both.0.1 in
       let known : IsKnown c.net m.lookups begun (node_of e) id (record { pattern = (o.looked).pattern; claim = claim_of n.names id }) =
       subst (Known c.net m.lookups begun (node_of e) id) (ap (option_map (λ (l : Search). record { pattern = l.pattern; claim = claim_of n.names id })) o.stands) (its.known id) in
@@ -158,19 +164,20 @@ module _ (A : Type 0) (laws : NameLaws A) (w : WorldState) (c : Cable) (m : Name
   -- ---- each kind of step
 
   abbrev Steps : Type 0
-  Steps = Becomes A m e n x r
+  Steps = Becomes A ss m e n x r
 
   abbrev its_change : Change A
-  its_change = record { part = n.names; now = x.names; act = act_of e; report = r }
+  its_change = record { part = n.names; now = x.names; session = n.session; act = act_of e; report = r }
 
   plain_step : IsPlain its_change → Steps
-  plain_step s = record { names = m.names; change = Stays; allows = plainly A m e r s.plain; tables = same_names s.table; opened = s.lookups; drawn = plain_draws A e r s.plain }
+  plain_step s = record { names = m.names; change = Stays; allows = plainly A ss m e r s.plain; tables = same_names s.table; opened = s.lookups; drawn = plain_draws A e r s.plain }
 
   looks_step : steps.BeginsLookup its_change → Steps
   looks_step s = record {
     names = m.names;
-    change = Opens s.id (pattern_asked s.object s.kind s.zone) None;
-    allows = so_at A m (moved m m.names (node_of e) (Opens s.id (pattern_asked s.object s.kind s.zone) None)) e (event.Call (node_of e) (Find s.object s.kind s.zone)) r (report.Looking s.id) (called_at e (Find s.object s.kind s.zone) s.act) s.report (record { becomes = refl });
+    change = Opens s.id (pattern_asked n.session s.object s.kind s.zone) None;
+    allows = so_at A ss m (moved m m.names (node_of e) (Opens s.id (pattern_asked n.session s.object s.kind s.zone) None)) e (event.Call (node_of e) (Find s.object s.kind s.zone)) r (report.Looking s.id) (called_at e (Find s.object s.kind s.zone) s.act) s.report
+        (record { becomes = λ i. next (record m { lookups = record { node = node_of e; id = s.id; pattern = asked (pattern_asked (told i) s.object s.kind s.zone); claim = None; since = length m.past } ∷ m.lookups }) });
     tables = same_names s.table;
     opened = s.lookups;
     drawn = ap drawn_by s.report;
@@ -182,7 +189,7 @@ module _ (A : Type 0) (laws : NameLaws A) (w : WorldState) (c : Cable) (m : Name
       record {
         names = m.names;
         change = Opens s.id (any_pattern s.object s.kind) (Some claim);
-        allows = so_at A m (moved m m.names (node_of e) (Opens s.id (any_pattern s.object s.kind) (Some claim))) e (event.Call (node_of e) (Claim s.object s.kind s.socket)) r (report.Looking s.id) (called_at e (Claim s.object s.kind s.socket) s.act) s.report
+        allows = so_at A ss m (moved m m.names (node_of e) (Opens s.id (any_pattern s.object s.kind) (Some claim))) e (event.Call (node_of e) (Claim s.object s.kind s.socket)) r (report.Looking s.id) (called_at e (Claim s.object s.kind s.socket) s.act) s.report
             (record { becomes = refl });
         tables = same_names s.table;
         opened = s.lookups;
@@ -199,7 +206,7 @@ module _ (A : Type 0) (laws : NameLaws A) (w : WorldState) (c : Cable) (m : Name
       record {
         names = m.names;
         change = Closes s.id;
-        allows = so_at A m (moved m m.names (node_of e) (Closes s.id)) e (event.Call (node_of e) (Finish s.id)) r (report.Found s.finds) (called_at e (Finish s.id) s.act) s.report
+        allows = so_at A ss m (moved m m.names (node_of e) (Closes s.id)) e (event.Call (node_of e) (Finish s.id)) r (report.Found s.finds) (called_at e (Finish s.id) s.act) s.report
             (record { lookup = o.lookup; stands = o.stands; claims = o.claims; tells = o.tells; becomes = refl });
         tables = same_names s.table;
         opened = s.lookups;
@@ -213,7 +220,7 @@ module _ (A : Type 0) (laws : NameLaws A) (w : WorldState) (c : Cable) (m : Name
       record {
         names = named.names;
         change = Closes s.id;
-        allows = so_at A m (moved m named.names (node_of e) (Closes s.id)) e (event.Call (node_of e) (Finish s.id)) r report.Claimed (called_at e (Finish s.id) s.act) s.report
+        allows = so_at A ss m (moved m named.names (node_of e) (Closes s.id)) e (event.Call (node_of e) (Finish s.id)) r report.Claimed (called_at e (Finish s.id) s.act) s.report
             (record {
               lookup = o.lookup;
               stands = o.stands;
@@ -235,7 +242,7 @@ module _ (A : Type 0) (laws : NameLaws A) (w : WorldState) (c : Cable) (m : Name
       record {
         names = m.names;
         change = Closes s.id;
-        allows = so_at A m (moved m m.names (node_of e) (Closes s.id)) e (event.Call (node_of e) (Finish s.id)) r (report.Taken s.owner) (called_at e (Finish s.id) s.act) s.report
+        allows = so_at A ss m (moved m m.names (node_of e) (Closes s.id)) e (event.Call (node_of e) (Finish s.id)) r (report.Taken s.owner) (called_at e (Finish s.id) s.act) s.report
             (record { lookup = o.lookup; stands = o.stands; claim = s.claim; claims = o.claims; taken = taken_by m (node_of e) o.lookup s.claim s.owner n.names own_names s.finds o.tells s.taken; becomes = refl });
         tables = same_names s.table;
         opened = s.lookups;
@@ -248,7 +255,7 @@ module _ (A : Type 0) (laws : NameLaws A) (w : WorldState) (c : Cable) (m : Name
       record {
         names = named.names;
         change = Stays;
-        allows = so_at A m (moved m named.names (node_of e) Stays) e (event.Call (node_of e) (Register s.object s.kind s.socket)) r report.Registered (called_at e (Register s.object s.kind s.socket) s.act) s.report
+        allows = so_at A ss m (moved m named.names (node_of e) Stays) e (event.Call (node_of e) (Register s.object s.kind s.socket)) r report.Registered (called_at e (Register s.object s.kind s.socket) s.act) s.report
             (record {
               allowed = ap (λ (y : Table). register_fault y.names s.object s.kind) (sym own_names) ∙ s.allowed;
               table = x.names.table;
@@ -270,7 +277,7 @@ module _ (A : Type 0) (laws : NameLaws A) (w : WorldState) (c : Cable) (m : Name
       record {
         names = named.names;
         change = Stays;
-        allows = so_at A m (moved m named.names (node_of e) Stays) e (event.Call (node_of e) (Unregister s.object s.kind)) r report.Done (called_at e (Unregister s.object s.kind) s.act) s.report
+        allows = so_at A ss m (moved m named.names (node_of e) Stays) e (event.Call (node_of e) (Unregister s.object s.kind)) r report.Done (called_at e (Unregister s.object s.kind) s.act) s.report
             (record { name = s.name; stood = ap (λ (y : Table). find (is_called s.object s.kind) y.names) (sym own_names) ∙ s.stood; becomes = refl });
         tables = λ k. ap (λ (y : Table). cond (node_of e == k) y (m.names k)) (sym (s.table ∙ ap (without s.object s.kind) own_names));
         opened = s.lookups;

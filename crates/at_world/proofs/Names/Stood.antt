@@ -15,7 +15,7 @@ use Rattle.at_steps.specs.NameHappenings.{is_names_socket}
 use Rattle.at_world.specs.NameGuards.{Directory, Stood}
 use Rattle.at_world.proofs.Names.Moments.{Past, is_socket_of}
 
-none_there : {P : Type 0} (r : Registered) (names : List Registered) → names ≡ [] → Contains names r → P
+pub none_there : {P : Type 0} (r : Registered) (names : List Registered) → names ≡ [] → Contains names r → P
 none_there r [] is (k, within, at) = absurd (omega (arith, within))
 none_there r (x ∷ names) is there = absurd cc
 

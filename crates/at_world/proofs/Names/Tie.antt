@@ -6,7 +6,7 @@ use Rattle.std.specs.List.{AllByRecursion}
 use Rattle.at_ddp.specs.Datagram.{canonical}
 use Rattle.at_ddp.specs.declared.address.Address.{Address}
 use Rattle.at_nbp.specs.Askers.{IsAskedBy}
-use Rattle.at_nbp.specs.Lawfully.{IsInRange, IsLawfulSetting, IsLawfullySent}
+use Rattle.at_nbp.specs.Lawfully.{IsInRange, IsLawfulSetting, IsLawfullySent, IsNamed}
 use Rattle.at_nbp.specs.Network.{AllAsk, AllTimely, FindsStood, Happening, Sent, Setting, after, is_fresh, packet_at}
 use Rattle.at_nbp.specs.Packets.{spelling}
 use Rattle.at_nbp.specs.Tuples.{IsString}
@@ -33,6 +33,7 @@ use Rattle.at_steps.specs.NameHappenings.{AreEntries, Happens, IsForeign, IsHapp
 use Rattle.at_world.specs.Cables.{Cable, owner_of}
 use Rattle.at_world.specs.Events.{node_of}
 use Rattle.at_world.specs.NameGuards.{Directory, NameMachine, StepBy, next}
+use Rattle.at_world.specs.SessionGuards.{Sessions}
 use Rattle.at_world.specs.Worlds.{WorldState, node_at}
 use Rattle.at_world.specs.declared.event.Event.{Event}
 use Rattle.at_world.proofs.CableTie.{Wire, wire}
@@ -52,6 +53,7 @@ pub record NameLaws (A : Type 0) : Type 0 where
   pub passes : (setting : Setting) (history : List Happening) (n : NodeState) (act : Act A) (o : Outcome A NodeState) → Stands setting history n.seat.net n.seat.number n → IsForeign n act o → Happens setting history n.seat.net n.seat.number n act o
   pub carries : (s : Sent) → IsLawfullySent s → s.packet.function ≡ function.Reply → Carries (canonical s.to s.from nbp_kind (spelling s.packet)) s.to.node (Identifier s.packet.id)
   pub lawful_sent : (setting : Setting) (history : List Happening) → IsLawfulSetting setting → AllTimely setting history → AllByRecursion IsInRange history → AllByRecursion (λ o. IfSome o IsLawfullySent) (after setting history).sent
+  pub named : (setting : Setting) (history : List Happening) → IsLawfulSetting setting → AllTimely setting history → AllByRecursion IsInRange history → (at : Address) → AllByRecursion IsNamed ((after setting history).tables at).names
   pub found : (setting : Setting) (history : List Happening) → AllAsk setting → AllTimely setting history → FindsStood setting history
   pub opens : (net node : ℕ) (router : Option ℕ) (zone : Option (List ℕ)) (neighbours : Option (List Neighbour)) → IsString (own_zone zone) → ((ns : List Neighbour) → neighbours ≡ Some ns → AllByRecursion (λ n. IsString n.zone) ns)
       → IsSocket (sockets.opening net node router zone neighbours)
@@ -103,10 +105,10 @@ abbrev pub moved : NameMachine → Directory → ℕ → Change → NameMachine
 moved m names k change = next (record m { names = names; lookups = lookups_after m.lookups (length m.past) k change })
 
 -- What a step does to what the machine knows. The step is of node k, which becomes x.
-pub record Becomes (A : Type 0) (m : NameMachine) (e : Event A) (n x : NodeState) (r : Report A) : Type 0 where
+pub record Becomes (A : Type 0) (ss : Sessions) (m : NameMachine) (e : Event A) (n x : NodeState) (r : Report A) : Type 0 where
   pub names : Directory
   pub change : Change
-  pub allows : StepBy m e r (moved m names (node_of e) change) (owner_of e r)
+  pub allows : StepBy ss m e r (moved m names (node_of e) change) (owner_of e r)
   pub tables : (k : ℕ) → names k ≡ cond (node_of e == k) x.names.table (m.names k)
   pub opened : (id : ℕ) → open_at x.names id ≡ changed change (open_at n.names) id
   pub drawn : IsDrawn change (drawn_by r)

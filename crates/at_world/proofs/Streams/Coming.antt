@@ -1,7 +1,6 @@
 -- What is known of a datagram that comes in time, in words of segments.
 use Rattle.std.proofs.Common.{◌≡◌, ◌⊎◌, inl, inr, ⊎_elim, ℕ, zero, suc, true, false, List, [], ◌∷◌, map, Option, Some, None, refl, sym, ap, subst, ◌∙◌}
 use Rattle.std.specs.Prelude.{slice_get, IfSome, ◌==◌, ◌&&◌}
-use Rattle.std.specs.List.{AllByRecursion}
 use Rattle.at_adsp.specs.Lawfully.{IsLawfullySent}
 use Rattle.at_adsp.specs.Network.{AllSent, Sent, after, dest_of, is_fresh, packet_at}
 use Rattle.at_node.specs.declared.drawing.Draw.TheVariants.{Conn}

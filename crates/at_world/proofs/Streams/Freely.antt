@@ -1,17 +1,15 @@
 -- An identifier that no node holds is no end's remote in the network.
-use Rattle.std.proofs.Common.{◌≡◌, ℕ, Bool, true, false, cond, List, [], ◌∷◌, Option, Some, None, refl, sym, ap, subst, ◌∙◌}
-use Rattle.std.specs.Prelude.{find, is_some, ◌==◌, ◌&&◌, ◌||◌}
+use Rattle.std.proofs.Common.{◌≡◌, ℕ, Bool, true, false, cond, List, [], ◌∷◌, Option, Some, None, refl, sym, ap, ◌∙◌}
+use Rattle.std.specs.Prelude.{find, is_some, ◌&&◌, ◌||◌}
 use Rattle.std.specs.List.{list_any}
 use Rattle.at_ddp.specs.Address.{same_address}
-use Rattle.at_ddp.specs.declared.address.Address.{Address}
 use Rattle.at_ddp.proofs.Octets.{same_address-true}
-use Rattle.at_adsp_end.specs.Ends.{EndState, has_remote}
+use Rattle.at_adsp_end.specs.Ends.{has_remote}
 use Rattle.at_adsp_end.specs.declared.remote.Remote.{Remote}
 use Rattle.at_adsp_ends.specs.Tables.{EndTable, by_remote}
 use Rattle.at_adsp.specs.Network.{NoneNames, after}
 use Rattle.at_node.specs.Drawing.{holds}
 use Rattle.at_node.specs.Nodes.{NodeState}
-use Rattle.at_node.specs.declared.drawing.Draw.{Draw}
 use Rattle.at_node.specs.declared.drawing.Draw.TheVariants.{Conn}
 use Rattle.at_stream_socket.specs.Sockets.{streams_at}
 use Rattle.at_world.specs.Cables.{Cable}

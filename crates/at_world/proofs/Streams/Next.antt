@@ -1,5 +1,5 @@
 -- The tie of streams after a step of one node.
-use Rattle.std.proofs.Common.{◌≡◌, ℕ, ◌+◌, Bool, true, false, cond, List, [], ◌∷◌, ◌++◌, map, Option, Some, None, refl, sym, ap, subst, ◌∙◌}
+use Rattle.std.proofs.Common.{◌≡◌, ℕ, ◌+◌, Bool, true, false, cond, List, [], ◌∷◌, ◌++◌, map, Some, refl, sym, ap, subst, ◌∙◌}
 use Rattle.std.specs.Prelude.{find, is_some, ◌==◌, ◌&&◌}
 use Rattle.std.proofs.lemmas.Bool.{true≢false, eqb-true, eq-eqb}
 use Rattle.at_ddp.specs.Address.{same_address}
@@ -11,14 +11,14 @@ use Rattle.at_adsp.specs.Connections.{streams}
 use Rattle.at_adsp.specs.Network.{after, done, put}
 use Rattle.at_adsp.specs.Streams.{Stream}
 use Rattle.at_event.specs.Outcomes.{Outcome, posted}
-use Rattle.at_event.specs.declared.event.Report.{Report}
 use Rattle.at_node.specs.Drawing.{drawn_by}
 use Rattle.at_node.specs.Nodes.{NodeState}
-use Rattle.at_steps.specs.StreamHappenings.{Drawn, Happens, identifiers, numbers_drawn}
+use Rattle.at_steps.specs.StreamHappenings.{Happens, identifiers}
 use Rattle.at_stream_socket.specs.Sockets.{streams_at}
 use Rattle.at_world.specs.Cables.{Cable, owner_of}
 use Rattle.at_world.specs.Events.{act_of, node_of}
 use Rattle.at_world.specs.StreamGuards.{StepBy, StreamMachine, next}
+use Rattle.at_world.specs.SessionGuards.{Sessions}
 use Rattle.at_world.specs.Worlds.{WorldState, is_numbered, node_at, recorded}
 use Rattle.at_world.specs.declared.event.Event.{Event}
 use Rattle.at_world.proofs.CableTie.{Wire, found_after, wire}
@@ -32,8 +32,8 @@ abbrev pub moved : StreamMachine → List Stream → StreamMachine
 moved m ss = next (record m { streams = ss })
 
 -- the machine follows this outcome of a node's step
-abbrev pub Good : (A : Type 0) (w : WorldState) (c : Cable) (m : StreamMachine) (wires : List Wire) → Event A → Outcome A NodeState → Type 0
-Good A w c m wires e o = (m' : StreamMachine) × StepBy c m e o.report m' (owner_of e o.report) × StreamTie (recorded w (node_of e) o.report o.state (map posted o.out)) c (wires ++ map (wire w.events) o.out) m'
+abbrev pub Good : (A : Type 0) (w : WorldState) (c : Cable) (ss : Sessions) (m : StreamMachine) (wires : List Wire) → Event A → Outcome A NodeState → Type 0
+Good A w c ss m wires e o = (m' : StreamMachine) × StepBy c ss m e o.report m' (owner_of e o.report) × StreamTie (recorded w (node_of e) o.report o.state (map posted o.out)) c (wires ++ map (wire w.events) o.out) m'
 
 -- the sockets of two nodes are apart as the nodes are
 pub same_sockets : (net k j : ℕ) → same_address (streams_at net k) (streams_at net j) ≡ (k == j)
@@ -54,9 +54,9 @@ nodes_stay k j x n nodes same stands = ap is_some (at_after k j x n nodes same s
     go true e = sym (ap (λ i. is_some (find (is_numbered i) nodes)) (sym (eqb-true k j e)) ∙ ap is_some stands)
     go false e = refl
 
-module _ (A : Type 0) (w : WorldState) (c : Cable) (wires : List Wire) (m : StreamMachine) (e : Event A) (n : NodeState) (o : Outcome A NodeState) (t : StreamTie w c wires m) (stands : node_at w (node_of e) ≡ Some n)
+module _ (A : Type 0) (w : WorldState) (c : Cable) (ss : Sessions) (wires : List Wire) (m : StreamMachine) (e : Event A) (n : NodeState) (o : Outcome A NodeState) (t : StreamTie w c wires m) (stands : node_at w (node_of e) ≡ Some n)
     (h : Happens t.setting t.history c.net (node_of e) n (act_of e) o) (number : o.state.seat.number ≡ node_of e)
-    (allows : StepBy c m e o.report (moved m (streams (done t.setting (after t.setting t.history) h.happening))) (owner_of e o.report)) where
+    (allows : StepBy c ss m e o.report (moved m (streams (done t.setting (after t.setting t.history) h.happening))) (owner_of e o.report)) where
   its : HasEnds c.net t.setting t.history (node_of e) n
   its = t.ends (node_of e) n stands
 
@@ -96,7 +96,7 @@ module _ (A : Type 0) (w : WorldState) (c : Cable) (wires : List Wire) (m : Stre
       go true g = absurd (true≢false (sym (its_own g) ∙ before))
       go false g = t.elsewhere at before
 
-  pub good_next : Good A w c m wires e o
+  pub good_next : Good A w c ss m wires e o
   good_next = (
     moved m (streams (done t.setting (after t.setting t.history) h.happening)),
     allows,

@@ -1,10 +1,9 @@
 -- The tie of streams before anything happened.
-use Rattle.std.proofs.Common.{◌≡◌, ℕ, ◌<◌, ◌≤◌, ◌^◌, ◌%◌, Bool, true, false, cond, List, [], ◌∷◌, find, map, Option, Some, None, refl, sym, ap, subst, ◌∙◌, lit<, arith}
-use Rattle.std.specs.Prelude.{max, nat_lt, ◌==◌, ◌&&◌}
+use Rattle.std.proofs.Common.{◌≡◌, ℕ, ◌<◌, ◌^◌, Bool, true, false, cond, List, [], ◌∷◌, find, map, Some, refl, sym, ap, ◌∙◌, lit<, arith}
+use Rattle.std.specs.Prelude.{◌==◌}
 use Rattle.std.specs.List.{list_all}
 use Rattle.std.proofs.Math.Nat.{mod-lt}
-use Rattle.std.proofs.lemmas.Bool.{and_parts, eqb-true, ltb-true}
-use Rattle.at_ddp.specs.declared.address.Address.{Address}
+use Rattle.std.proofs.lemmas.Bool.{and_parts, eqb-true}
 use Rattle.at_adsp_end.specs.Positions.{wire as wire_numbers}
 use Rattle.at_adsp_end.specs.declared.rooms.Rooms.{Rooms}
 use Rattle.at_adsp_ends.specs.Tables.{no_ends}
@@ -12,7 +11,6 @@ use Rattle.at_adsp.specs.Lawfully.{IsLawfulSetting}
 use Rattle.at_adsp.specs.Network.{Setting}
 use Rattle.at_node.specs.Nodes.{NodeState}
 use Rattle.at_steps.specs.StreamHappenings.{is_streams_socket}
-use Rattle.at_stream_socket.specs.Sockets.{streams_at}
 use Rattle.at_world.specs.Cables as cables
 use Rattle.at_world.specs.Plays.{opening_node, opening_world, rooms_of}
 use Rattle.at_world.specs.Setups.{is_lawful, is_lawful_node}
@@ -21,7 +19,7 @@ use Rattle.at_world.specs.Worlds.{is_numbered}
 use Rattle.at_world.specs.declared.setup.NodeSetup.{NodeSetup}
 use Rattle.at_world.specs.declared.setup.Setup.{Setup}
 use Rattle.at_world.proofs.LawfulSetups.{lawful_has, lawful_node}
-use Rattle.at_world.proofs.Streams.Tie.{HasEnds, StreamTie}
+use Rattle.at_world.proofs.Streams.Tie.{StreamTie}
 
 -- ---- rooms
 

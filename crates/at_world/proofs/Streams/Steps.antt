@@ -1,6 +1,6 @@
 -- What each kind of step of a node is to the machine of streams.
-use Rattle.std.proofs.Common.{◌≡◌, ℕ, ◌+◌, ◌≤◌, Bool, true, false, cond, List, [], ◌∷◌, ◌++◌, length, map, Option, Some, None, Result, Ok, Err, refl, sym, ap, subst, ◌∙◌, arith}
-use Rattle.std.specs.Prelude.{find, nat_le, nat_lt, ◌==◌, ◌||◌, take}
+use Rattle.std.proofs.Common.{◌≡◌, ℕ, ◌+◌, ◌≤◌, Bool, true, false, cond, List, [], ◌∷◌, ◌++◌, length, Option, Some, None, Result, Ok, Err, refl, sym, ap, subst, ◌∙◌, arith}
+use Rattle.std.specs.Prelude.{find, nat_le, nat_lt, ◌||◌, take}
 use Rattle.std.proofs.lemmas.Bool.{false≢true, ltb-false}
 use Rattle.std.proofs.lemmas.List.{length-append, length-map}
 use Rattle.at_ddp.specs.declared.address.Address.{Address}
@@ -21,15 +21,17 @@ use Rattle.at_adsp_ends.specs.Calls.{read_at}
 use Rattle.at_adsp_ends.specs.Tables as ends
 use Rattle.at_adsp_ends.specs.Tables.{Done, EndTable, by_id}
 use Rattle.at_event.specs.Outcomes.{Outcome}
-use Rattle.at_event.specs.declared.event.Call.TheVariants.{Close, Connect, Listen, Read, Reset, Write}
+use Rattle.at_event.specs.declared.event.Call.TheVariants.{Close, Connect, Listen, Open, Read, Reset, Write}
 use Rattle.at_event.specs.declared.event.Report.{Report}
 use Rattle.at_event.specs.declared.event.Report.TheVariants as report
 use Rattle.at_event.specs.declared.event.Timer.TheVariants as timer
 use Rattle.at_node.specs.Nodes.{NodeState}
 use Rattle.at_steps.specs.StreamHappenings.{Happens, change}
 use Rattle.at_steps.specs.StreamSteps as steps
-use Rattle.at_steps.specs.StreamSteps.{IsStep, is_plain}
+use Rattle.at_steps.specs.StreamSteps.{IsStep, asked_by, is_plain}
 use Rattle.at_stream_socket.specs.Sockets.{streams_at}
+use Rattle.at_session.specs.Sessions.{SessionState}
+use Rattle.at_world.specs.SessionGuards.{Sessions}
 use Rattle.at_world.specs.Cables.{Cable, at_net, owner_of}
 use Rattle.at_world.specs.Events.{act_of, node_of}
 use Rattle.at_world.specs.StreamGuards.{Does, MakesEnd, StepBy, StreamMachine, next}
@@ -42,38 +44,44 @@ use Rattle.at_world.proofs.Streams.Next.{moved}
 use Rattle.at_world.proofs.Streams.Tie.{StreamLaws, StreamTie, as_many}
 
 -- the machine says this of an event
-abbrev pub Allows : {A : Type 0} → Cable → StreamMachine → Event A → Report A → StreamMachine → Type 0
-Allows c m e r m' = StepBy c m e r m' (owner_of e r)
+abbrev pub Allows : {A : Type 0} → Cable → Sessions → StreamMachine → Event A → Report A → StreamMachine → Type 0
+Allows c ss m e r m' = StepBy c ss m e r m' (owner_of e r)
 
-so_at : (A : Type 0) (c : Cable) (m m' : StreamMachine) (e e' : Event A) (r r' : Report A) → e ≡ e' → r ≡ r' → Allows c m e' r' m' → Allows c m e r m'
-so_at A c m m' e e' r r' same told allows = subst (λ x. Allows c m x r m') (sym same) (subst (λ x. Allows c m e' x m') (sym told) allows)
+so_at : (A : Type 0) (c : Cable) (ss : Sessions) (m m' : StreamMachine) (e e' : Event A) (r r' : Report A) → e ≡ e' → r ≡ r' → Allows c ss m e' r' m' → Allows c ss m e r m'
+so_at A c ss m m' e e' r r' same told allows = subst (λ x. Allows c ss m x r m') (sym same) (subst (λ x. Allows c ss m e' x m') (sym told) allows)
 
 -- a report that says nothing new of streams leaves them as they were
-plainly : (A : Type 0) (c : Cable) (m : StreamMachine) (e : Event A) (r : Report A) → is_plain (act_of e) r ≡ true → Allows c m e r (next m)
-plainly A c m (event.Call node call) (report.Refused number) h = refl
-plainly A c m (event.Call node call) report.NoMemory h = refl
-plainly A c m (event.Deliver which node) (report.Refused number) h = refl
-plainly A c m (event.Deliver which node) report.NoMemory h = refl
-plainly A c m (event.Timer node time) (report.Refused number) h = refl
-plainly A c m (event.Timer node time) report.NoMemory h = refl
-plainly A c m (event.Call node (Listen on)) report.Done h = refl
-plainly A c m (event.Call node (Close id)) (report.Closed it) h = refl
-plainly A c m (event.Call node (Close id)) (report.Freed it) h = refl
-plainly A c m (event.Timer node (timer.Resend id)) report.Idle h = refl
-plainly A c m (event.Timer node (timer.Resend id)) report.Again h = refl
-plainly A c m (event.Timer node (timer.Probe id)) report.Again h = refl
-plainly A c m (event.Timer node (timer.Probe id)) (report.Closed it) h = refl
-plainly A c m (event.Timer node (timer.Probe id)) (report.Freed it) h = refl
-plainly A c m (event.Deliver which node) report.Ignored h = refl
-plainly A c m (event.Deliver which node) report.Turned h = refl
-plainly A c m (event.Deliver which node) (report.Denied id) h = refl
-plainly A c m (event.Deliver which node) report.Again h = refl
-plainly A c m (event.Deliver which node) report.Idle h = refl
-plainly A c m (event.Deliver which node) (report.Heard id items) h = refl
-plainly A c m (event.Deliver which node) (report.Dropped id) h = refl
-plainly A c m (event.Deliver which node) (report.Closed id) h = refl
-plainly A c m (event.Deliver which node) (report.Freed id) h = refl
-plainly A c m e r h = absurd (false≢true h)
+plainly : (A : Type 0) (c : Cable) (ss : Sessions) (m : StreamMachine) (e : Event A) (r : Report A) → is_plain (act_of e) r ≡ true → Allows c ss m e r (next m)
+plainly A c ss m (event.Call node call) (report.Refused number) h = refl
+plainly A c ss m (event.Call node call) report.NoMemory h = refl
+plainly A c ss m (event.Deliver which node) (report.Refused number) h = refl
+plainly A c ss m (event.Deliver which node) report.NoMemory h = refl
+plainly A c ss m (event.Timer node time) (report.Refused number) h = refl
+plainly A c ss m (event.Timer node time) report.NoMemory h = refl
+plainly A c ss m (event.Call node (Listen on)) report.Done h = refl
+plainly A c ss m (event.Call node (Close id)) (report.Closed it) h = refl
+plainly A c ss m (event.Call node (Close id)) (report.Freed it) h = refl
+plainly A c ss m (event.Timer node (timer.Resend id)) report.Idle h = refl
+plainly A c ss m (event.Timer node (timer.Resend id)) report.Again h = refl
+plainly A c ss m (event.Timer node (timer.Probe id)) report.Again h = refl
+plainly A c ss m (event.Timer node (timer.Probe id)) (report.Closed it) h = refl
+plainly A c ss m (event.Timer node (timer.Probe id)) (report.Freed it) h = refl
+plainly A c ss m (event.Deliver which node) report.Ignored h = refl
+plainly A c ss m (event.Deliver which node) report.Turned h = refl
+plainly A c ss m (event.Deliver which node) (report.Denied id) h = refl
+plainly A c ss m (event.Deliver which node) report.Again h = refl
+plainly A c ss m (event.Deliver which node) report.Idle h = refl
+plainly A c ss m (event.Deliver which node) (report.Heard id items) h = refl
+plainly A c ss m (event.Deliver which node) (report.Dropped id) h = refl
+plainly A c ss m (event.Deliver which node) (report.Closed id) h = refl
+plainly A c ss m (event.Deliver which node) (report.Freed id) h = refl
+plainly A c ss m e r h = absurd (false≢true h)
+
+-- a call that asks for a connection makes an end that asks the address
+asks_allowed : (A : Type 0) (c : Cable) (ss : Sessions) (m m' : StreamMachine) (e : Event A) (id : ℕ) (asked : Address) → asked_by (ss (node_of e)) c.net (act_of e) ≡ Some asked → MakesEnd c m (node_of e) id false asked m' → Allows c ss m e (report.Opening id) m'
+asks_allowed A c ss m m' (event.Call node (Connect to socket)) id asked is makes = let same : at_net c to socket ≡ asked = cc in subst (λ (a : Address). MakesEnd c m node id false a m') (sym same) makes
+asks_allowed A c ss m m' (event.Call node (Open index)) id asked is makes = record { asked = asked; found = is; makes = makes }
+asks_allowed A c ss m m' e id asked is makes = absurd (cc)
 
 -- ---- how much a read sends
 
@@ -121,7 +129,7 @@ abbrev pub ReadsAt : (A : Type 0) (w : WorldState) (c : Cable) (m : StreamMachin
 ReadsAt A w c m ct t e n o = (id count : ℕ) (items : List Item) → e ≡ event.Call (node_of e) (Read id count) → o.report ≡ report.Read items → ReadsInOrder (after t.setting (Reads (streams_at c.net (node_of e)) id count ∷ t.history))
     → ReadsWith (streams (after t.setting t.history)) (streams_at c.net (node_of e)) id items
 
-module _ (A : Type 0) (laws : StreamLaws A) (w : WorldState) (c : Cable) (m : StreamMachine) (ct : CableTie w c) (e : Event A) (n : NodeState) (o : Outcome A NodeState) (t : StreamTie w c ct.wires m) (runs : is_over w ≡ false)
+module _ (A : Type 0) (laws : StreamLaws A) (w : WorldState) (c : Cable) (ss : Sessions) (m : StreamMachine) (ct : CableTie w c) (e : Event A) (n : NodeState) (o : Outcome A NodeState) (t : StreamTie w c ct.wires m) (runs : is_over w ≡ false) (told : n.session ≡ ss (node_of e))
     (h : Happens t.setting t.history c.net (node_of e) n (act_of e) o) (its_reads : ReadsAt A w c m ct t e n o) where
   abbrev old : List Stream
   old = streams (after t.setting t.history)
@@ -143,27 +151,27 @@ module _ (A : Type 0) (laws : StreamLaws A) (w : WorldState) (c : Cable) (m : St
   its_change = change h
 
   abbrev Row : Type 0
-  Row = Allows c m e o.report (moved m now)
+  Row = Allows c ss m e o.report (moved m now)
 
   plain_step : steps.IsPlain its_change → Row
-  plain_step s = subst (Allows c m e o.report) (sym (becomes m.streams (s.streams ∙ sym same))) (plainly A c m e o.report s.plain)
+  plain_step s = subst (Allows c ss m e o.report) (sym (becomes m.streams (s.streams ∙ sym same))) (plainly A c ss m e o.report s.plain)
 
   makes : (id : ℕ) (listener : Bool) (asked : Address) → now ≡ begun (after t.setting t.history).event at id listener asked ∷ old → MakesEnd c m (node_of e) id listener asked (moved m now)
   makes id listener asked is = becomes (begun m.events at id listener asked ∷ m.streams) (is ∙ (λ i. begun (sym t.count i) at id listener asked ∷ sym same i))
 
   asks_step : steps.AsksFor its_change → Row
   asks_step s =
-      so_at A c m (moved m now) e (event.Call (node_of e) (Connect s.node s.socket)) o.report (report.Opening s.id) (called_at e (Connect s.node s.socket) s.act) s.report
-      (makes s.id false (at_net c s.node s.socket) s.streams)
+      so_at A c ss m (moved m now) e e o.report (report.Opening s.id) refl s.report
+      (asks_allowed A c ss m (moved m now) e s.id s.asked (ap (λ (x : SessionState). asked_by x c.net (act_of e)) (sym told) ∙ s.act) (makes s.id false s.asked s.streams))
 
   answers_step : steps.Answers its_change → Row
   answers_step s =
-      so_at A c m (moved m now) e (event.Deliver s.which (node_of e)) o.report (report.Made s.id) (delivered_at e s.which s.act) s.report
+      so_at A c ss m (moved m now) e (event.Deliver s.which (node_of e)) o.report (report.Made s.id) (delivered_at e s.which s.act) s.report
       ((s.request).from, makes s.id true (s.request).from s.streams)
 
   opens_step : steps.Opens its_change → Row
   opens_step s =
-      so_at A c m (moved m now) e (event.Deliver s.which (node_of e)) o.report (report.Opened s.id) (delivered_at e s.which s.act) s.report
+      so_at A c ss m (moved m now) e (event.Deliver s.which (node_of e)) o.report (report.Opened s.id) (delivered_at e s.which s.act) s.report
       (record { now = now; opens = subst (λ ss. OpensWith ss now at s.id) (sym same) s.opens; becomes = refl })
 
   does : (id : ℕ) (deed : Deed) → steps.HasEnd its_change id → now ≡ with_deed at id deed old → Does c m (node_of e) id deed (moved m now)
@@ -175,12 +183,12 @@ module _ (A : Type 0) (laws : StreamLaws A) (w : WorldState) (c : Cable) (m : St
 
   writes_step : steps.Writes its_change → Row
   writes_step s =
-      so_at A c m (moved m now) e (event.Call (node_of e) (Write s.id s.items)) o.report (report.Wrote s.count) (called_at e (Write s.id s.items) s.act) s.report
+      so_at A c ss m (moved m now) e (event.Call (node_of e) (Write s.id s.items)) o.report (report.Wrote s.count) (called_at e (Write s.id s.items) s.act) s.report
       (does s.id (Wrote (take s.count s.items)) s.stands s.streams)
 
   resets_step : steps.Resets its_change → Row
   resets_step s =
-      so_at A c m (moved m now) e (event.Call (node_of e) (Reset s.id)) o.report report.StreamReset (called_at e (Reset s.id) s.act) s.report
+      so_at A c ss m (moved m now) e (event.Call (node_of e) (Reset s.id)) o.report report.StreamReset (called_at e (Reset s.id) s.act) s.report
       (does s.id GaveUp s.stands s.streams)
 
   -- what is read is in order: few segments were sent, and a read sends one at most
@@ -197,7 +205,7 @@ module _ (A : Type 0) (laws : StreamLaws A) (w : WorldState) (c : Cable) (m : St
   reads_step s =
       let called_ = called_at e (Read s.id s.count) s.act in
       let with_peer : ReadsWith old at s.id s.items = its_reads s.id s.count s.items called_ s.report (in_order s.id s.count) in
-      so_at A c m (moved m now) e (event.Call (node_of e) (Read s.id s.count)) o.report (report.Read s.items) called_ s.report
+      so_at A c ss m (moved m now) e (event.Call (node_of e) (Read s.id s.count)) o.report (report.Read s.items) called_ s.report
       (record {
         reads = subst (λ ss. ReadsWith ss at s.id s.items) (sym same) with_peer;
         becomes = becomes (with_deed at s.id (HasRead s.items) m.streams) (s.streams ∙ ap (with_deed at s.id (HasRead s.items)) (sym same));

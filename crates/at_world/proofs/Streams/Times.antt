@@ -9,7 +9,6 @@ use Rattle.at_ddp.proofs.Octets.{same_address-true}
 use Rattle.at_adsp.specs.Connections.{streams}
 use Rattle.at_adsp.specs.Network as network
 use Rattle.at_adsp.specs.Network.{Made, Network}
-use Rattle.at_adsp.specs.Streams.{Stream}
 use Rattle.at_node.specs.declared.drawing.Draw.{Draw}
 use Rattle.at_node.specs.declared.drawing.Draw.TheVariants.{Conn, Lookup, Tid}
 use Rattle.at_steps.specs.StreamHappenings.{Drawn, identifiers, numbers_drawn}

@@ -9,6 +9,7 @@ use Rattle.at_world.proofs.CableTie.{Wire, spelled_wire}
 use Rattle.at_world.proofs.LawfulSetups.{SetupLaws}
 use Rattle.at_world.proofs.Names.Tie.{NameLaws}
 use Rattle.at_world.proofs.Runs.{PartLaws, runs}
+use Rattle.at_world.proofs.Sessions.Steps.{SessionLaws}
 use Rattle.at_world.proofs.Streams.Tie.{StreamLaws, read_in_order}
 use Rattle.at_world.proofs.TiedAtOpening.{tied_at_opening}
 use Rattle.at_world.proofs.history.steps_make_a_history.Goals as goal
@@ -67,6 +68,7 @@ returns g c s events reports w lawful =
       passes = c.another_protocols_step_passes.ensures;
       carries = c.a_reply_carries_its_identifier.ensures;
       lawful_sent = sent.lawful;
+      named = sent.named;
       found = found.stood;
       opens = c.a_new_socket_is_lawful.ensures;
     } in
@@ -87,7 +89,9 @@ returns g c s events reports w lawful =
       reads = c.what_is_read_reads_from_a_peer.ensures;
       in_order = λ setting history numbers timely few. read_in_order c.what_is_read_on_the_cable_was_written_in_order.ensures setting history numbers timely few;
     } in
-    let both : PartLaws A = record { atp = laws; names = names; streams = streams } in
+    let told = c.an_event_is_a_step_of_the_session.ensures in
+    let sessions : SessionLaws A = record { called = told.call; timed = told.timer; heard = told.datagram } in
+    let both : PartLaws A = record { atp = laws; names = names; streams = streams; sessions = sessions } in
     λ follows.
     let opened = tied_at_opening A s setups names lawful in
     let ran = runs A both (opening_world s) (opening_machine s) events reports w opened.0 follows in

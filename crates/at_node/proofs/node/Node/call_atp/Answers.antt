@@ -13,8 +13,8 @@ returns-in-Ask g c = search rules
 pub returns-in-SetZones : goal.returns-in-SetZones
 returns-in-SetZones g c =
     let self = c.self in
-    let inside : NodeState = record { seat = self.inside.seat; atp = self.inside.atp; names = self.inside.names; streams = self.inside.streams } in
-    let new : NodeState = record { seat = self.inside.seat; atp = c.set_zones.new.self; names = self.inside.names; streams = self.inside.streams } in
+    let inside : NodeState = record { seat = self.inside.seat; atp = self.inside.atp; names = self.inside.names; streams = self.inside.streams; session = c.self.inside.session } in
+    let new : NodeState = record { seat = self.inside.seat; atp = c.set_zones.new.self; names = self.inside.names; streams = self.inside.streams; session = c.self.inside.session } in
     let items = c.args.out.now.items in
     let call : Call g.row.A.Denot = SetZones c.in-SetZones.names in
     rw c.in-SetZones.is

@@ -1,26 +1,16 @@
 use Rattle.std.proofs.Common.{refl, subst}
-use Rattle.at_node.specs.NameCalls.{finish_called, register_called, unregister_called}
+use Rattle.at_node.specs.NameCalls.{register_called, unregister_called}
 use Rattle.at_node.specs.Nodes.{NodeState, called, with_names}
 use Rattle.at_event.specs.Outcomes.{IsStep}
 use Rattle.at_event.specs.declared.event.Call.{Call}
-use Rattle.at_event.specs.declared.event.Call.TheVariants.{Finish, Register, Unregister}
+use Rattle.at_event.specs.declared.event.Call.TheVariants.{Register, Unregister}
 use Rattle.at_node.proofs.OutcomeLemmas.{step_over}
 use Rattle.at_node.proofs.node.Node.call_names.Goals as goal
 
-pub returns-in-Finish : goal.returns-in-Finish
-returns-in-Finish g c =
-    let inside : NodeState = record { seat = c.self.inside.seat; atp = c.self.inside.atp; names = c.self.inside.names; streams = c.self.inside.streams } in
-    let new : NodeState = record { seat = c.self.inside.seat; atp = c.self.inside.atp; names = c.finish.new.self; streams = c.self.inside.streams } in
-    let items = c.args.out.now.items in
-    let call : Call g.row.A.Denot = Finish c.in-Finish.id in
-    rw c.in-Finish.is
-    (subst (λ (n : NodeState). IsStep (called n call) n items c.finish.result new items) c.self.view_is
-    (step_over (with_names inside) inside inside.names refl items c.finish.result c.finish.new.self items (finish_called inside.names c.in-Finish.id) (c.finish.ensures items)))
-
 pub returns-in-Register : goal.returns-in-Register
 returns-in-Register g c =
-    let inside : NodeState = record { seat = c.self.inside.seat; atp = c.self.inside.atp; names = c.self.inside.names; streams = c.self.inside.streams } in
-    let new : NodeState = record { seat = c.self.inside.seat; atp = c.self.inside.atp; names = c.register.new.self; streams = c.self.inside.streams } in
+    let inside : NodeState = record { seat = c.self.inside.seat; atp = c.self.inside.atp; names = c.self.inside.names; streams = c.self.inside.streams; session = c.self.inside.session } in
+    let new : NodeState = record { seat = c.self.inside.seat; atp = c.self.inside.atp; names = c.register.new.self; streams = c.self.inside.streams; session = c.self.inside.session } in
     let items = c.args.out.now.items in
     let i = c.in-Register in
     let call : Call g.row.A.Denot = Register i.object i.kind i.socket in
@@ -30,8 +20,8 @@ returns-in-Register g c =
 
 pub returns-in-Unregister : goal.returns-in-Unregister
 returns-in-Unregister g c =
-    let inside : NodeState = record { seat = c.self.inside.seat; atp = c.self.inside.atp; names = c.self.inside.names; streams = c.self.inside.streams } in
-    let new : NodeState = record { seat = c.self.inside.seat; atp = c.self.inside.atp; names = c.unregister.new.self; streams = c.self.inside.streams } in
+    let inside : NodeState = record { seat = c.self.inside.seat; atp = c.self.inside.atp; names = c.self.inside.names; streams = c.self.inside.streams; session = c.self.inside.session } in
+    let new : NodeState = record { seat = c.self.inside.seat; atp = c.self.inside.atp; names = c.unregister.new.self; streams = c.self.inside.streams; session = c.self.inside.session } in
     let items = c.args.out.now.items in
     let i = c.in-Unregister in
     let call : Call g.row.A.Denot = Unregister i.object i.kind in

@@ -7,10 +7,10 @@ use Rattle.at_node.specs.AtpParts.{atp_kind}
 use Rattle.at_node.specs.Hearing.{HearsIt}
 use Rattle.at_event.specs.Seats.{nbp_kind}
 use Rattle.at_node.specs.NameHearing.{HearsNames}
-use Rattle.at_node.specs.Nodes.{NodeState, with_atp, with_names, with_streams}
+use Rattle.at_node.specs.Nodes.{NodeState, over_atp, with_names, with_streams}
 use Rattle.at_stream_socket.specs.Hearing.{HearsStreams}
 use Rattle.at_stream_socket.specs.Sockets.{adsp_kind}
-use Rattle.at_event.specs.Outcomes.{Comes, Over}
+use Rattle.at_event.specs.Outcomes.{Comes, Over, Through}
 use Rattle.at_event.specs.Seats.{is_for_all, is_mine}
 use Rattle.at_event.specs.declared.service.Reply.TheVariants.{Later}
 use Rattle.at_node.proofs.OutcomeLemmas.{comes_ignored, comes_over, comes_wider}
@@ -34,27 +34,22 @@ returns g c =
 
 pub returns-then-datagram-eq-ATP : goal.returns-then-datagram-eq-ATP
 returns-then-datagram-eq-ATP g c =
-    let r = c.hear.ensures in
-    let inside : NodeState = record { seat = c.self.inside.seat; atp = c.self.inside.atp; names = c.self.inside.names; streams = c.self.inside.streams } in
-    let new : NodeState = record { seat = c.self.inside.seat; atp = c.hear.new.self; names = c.self.inside.names; streams = c.self.inside.streams } in
+    let r = c.hear_atp.ensures in
+    let n : NodeState = c.args.self.now in
     let d = content c.args.datagram.now in
-    let before = c.args.out.now.items in
-    let after = c.hear.new.out.items in
-    let mine : (is_for_all c.self.inside.seat d.kind d.to || is_mine c.self.inside.seat d.to) ≡ true = search rules in
+    let mine : (is_for_all n.seat d.kind d.to || is_mine n.seat d.to) ≡ true = search rules in
     let its : (d.kind == atp_kind) ≡ true = eq-eqb d.kind atp_kind c.if-datagram-eq-ATP.true in (
       r.0,
-      subst (λ (n : NodeState). Comes (HearsIt r.0 n d) n before c.hear.result new after) c.self.view_is
-          (comes_wider (Over (with_atp inside) (HearsAtp r.0 c.self.inside.seat c.self.inside.atp d)) (HearsIt r.0 inside d) inside before c.hear.result new after
-          (λ o p. rw (mine, its) p)
-          (comes_over (with_atp inside) inside c.self.inside.atp refl before c.hear.result c.hear.new.self after (HearsAtp r.0 c.self.inside.seat c.self.inside.atp d) r.1)),
+      comes_wider (Through (over_atp n) (HearsAtp r.0 n.seat n.atp d)) (HearsIt r.0 n d) n c.args.out.now.items c.hear_atp.result c.hear_atp.new.self c.hear_atp.new.out.items
+          (λ o p. rw (mine, its) p) r.1,
       r.2,
     )
 
 pub returns-then-datagram-eq-NBP : goal.returns-then-datagram-eq-NBP
 returns-then-datagram-eq-NBP g c =
-    let h = c.hear-then-datagram-eq-NBP in
-    let inside : NodeState = record { seat = c.self.inside.seat; atp = c.self.inside.atp; names = c.self.inside.names; streams = c.self.inside.streams } in
-    let new : NodeState = record { seat = c.self.inside.seat; atp = c.self.inside.atp; names = h.new.self; streams = c.self.inside.streams } in
+    let h = c.hear in
+    let inside : NodeState = record { seat = c.self.inside.seat; atp = c.self.inside.atp; names = c.self.inside.names; streams = c.self.inside.streams; session = c.self.inside.session } in
+    let new : NodeState = record { seat = c.self.inside.seat; atp = c.self.inside.atp; names = h.new.self; streams = c.self.inside.streams; session = c.self.inside.session } in
     let d = content c.args.datagram.now in
     let before = c.args.out.now.items in
     let after = h.new.out.items in
@@ -72,8 +67,8 @@ returns-then-datagram-eq-NBP g c =
 pub returns-then-datagram-eq-ADSP : goal.returns-then-datagram-eq-ADSP
 returns-then-datagram-eq-ADSP g c =
     let h = c.hear-then-datagram-eq-ADSP in
-    let inside : NodeState = record { seat = c.self.inside.seat; atp = c.self.inside.atp; names = c.self.inside.names; streams = c.self.inside.streams } in
-    let new : NodeState = record { seat = c.self.inside.seat; atp = c.self.inside.atp; names = c.self.inside.names; streams = h.new.self } in
+    let inside : NodeState = record { seat = c.self.inside.seat; atp = c.self.inside.atp; names = c.self.inside.names; streams = c.self.inside.streams; session = c.self.inside.session } in
+    let new : NodeState = record { seat = c.self.inside.seat; atp = c.self.inside.atp; names = c.self.inside.names; streams = h.new.self; session = c.self.inside.session } in
     let d = content c.args.datagram.now in
     let before = c.args.out.now.items in
     let after = h.new.out.items in

@@ -1,0 +1,117 @@
+ghost use Rattle.std.specs.Prelude.{◌≡◌, List, ℕ, Some, IfErr, OnOk, OnErr, true, false};
+ghost use Rattle.at_nbp.specs.declared.find.Find.{Find as Found};
+ghost use Rattle.at_nbp.specs.Names.{same_text as is_same_text};
+ghost use Rattle.at_session.specs.Sessions.{address_at, finds_kept, is_listed, list_kept, new_session};
+ghost use Rattle.at_session.specs.Sessions.{pattern_asked, picking, zone_asked};
+ghost use Rattle.std.specs.List.{list_any};
+
+use at_ddp::{Address, Listed, Pascal, same_text};
+use at_event::{NodeFault, Report};
+use at_nbp::{Find, Name, copy_of};
+use std::alloc::{Allocator, Global};
+use std::marker::Model;
+
+/// What a node keeps of what its user was told: the zone list that was read last, the zone that was picked last, and
+/// what the last lookup found.
+#[derive(Drop)]
+pub struct Session<A: Allocator = Global> {
+    zones: Listed<Pascal, A>,
+    picked: Option<Pascal>,
+    finds: Listed<Find, A>,
+}
+
+impl<A: Allocator> Model for Session<A> {
+    ghost use Rattle.at_session.specs.Sessions.{SessionState};
+
+    ghost Value = { SessionState };
+
+    ghost view = { λ s. record { zones = s.zones; picked = s.picked; finds = s.finds } };
+}
+
+impl<A: Allocator + Copy> Session<A> {
+    /// A session whose user was told nothing yet. This needs no memory.
+    pub fn new(alloc: A) -> Session<A>
+        ensures { result ≡ new_session }
+    {
+        Session {
+            zones: Listed::from_vec(Vec::new(alloc)),
+            picked: None,
+            finds: Listed::from_vec(Vec::new(alloc)),
+        }
+    }
+
+    /// Picks a zone that stands in the zone list, whatever the case of its letters a to z. Refuses any other. This needs
+    /// no memory.
+    pub fn pick(&mut self, zone: &Pascal) -> Result<(), NodeFault>
+        ensures ok { OnOk result (self.new ≡ picking self.old zone.now) }
+        ensures listed { OnOk result (is_listed self.old zone.now ≡ true) }
+        ensures fault { IfErr result (λ fault. fault ≡ NodeFault.ZoneNotListed) }
+        ensures unlisted { OnErr result (is_listed self.old zone.now ≡ false) }
+        ensures unchanged { OnErr result (self.new ≡ self.old) }
+    {
+        if !stands_in(self.zones.as_slice(), zone) {
+            return Err(NodeFault::ZoneNotListed);
+        }
+        self.picked = Some(copy_of(zone));
+        Ok(())
+    }
+
+    /// The pattern of a lookup. If it names no zone, it asks for the one that was picked, or for any if none was. This
+    /// needs no memory.
+    pub fn pattern(&self, object: &Pascal, kind: &Pascal, zone: &Option<Pascal>) -> Name
+        ensures { result ≡ pattern_asked self.now object.now kind.now zone.now }
+    {
+        Name {
+            object: copy_of(object),
+            kind: copy_of(kind),
+            zone: self.zone_asked(zone),
+        }
+    }
+
+    fn zone_asked(&self, zone: &Option<Pascal>) -> Pascal
+        ensures { result ≡ zone_asked self.now zone.now }
+    {
+        match (zone, &self.picked) {
+            (Some(zone), _) => copy_of(zone),
+            (None, Some(zone)) => copy_of(zone),
+            (None, None) => Pascal::new(b"*").unwrap(),
+        }
+    }
+
+    /// The address of an entry of what the last lookup found, from 0; none if there is no such entry.
+    pub fn address_at(&self, index: u64) -> Option<Address>
+        ensures { result ≡ address_at self.now index }
+    {
+        let find = self.finds.as_slice().get(index as usize)?;
+        Some(find.address)
+    }
+
+    /// Keeps the zone list that a report tells of; `list` is that list, if it tells of one. This needs no memory.
+    pub fn keep_list(&mut self, report: &Report<A>, list: Option<Listed<Pascal, A>>)
+        requires { (names : List (List ℕ)) → report.now ≡ Report.Zones names → list ≡ Some names }
+        ensures { self.new ≡ list_kept self.old report.now }
+    {
+        if let (Report::Zones(_), Some(list)) = (report, list) {
+            self.zones = list;
+        }
+    }
+
+    /// Keeps the finds that a report tells of; `finds` are these finds, if it tells of some. This needs no memory.
+    pub fn keep_finds(&mut self, report: &Report<A>, finds: Option<Listed<Find, A>>)
+        requires { (found : List Found) → report.now ≡ Report.Found found → finds ≡ Some found }
+        ensures { self.new ≡ finds_kept self.old report.now }
+    {
+        if let (Report::Found(_), Some(finds)) = (report, finds) {
+            self.finds = finds;
+        }
+    }
+}
+
+// Whether a zone is one of these, but for the case of letters.
+fn stands_in(zones: &[Pascal], zone: &Pascal) -> bool
+    ensures { result ≡ list_any (is_same_text zone.now) zones.now }
+{
+    zones
+        .iter()
+        .any(|other| same_text(zone.bytes(), other.bytes()))
+}
