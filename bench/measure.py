@@ -1,5 +1,5 @@
 #!/usr/bin/env python3
-"""Plays eight kinds of schedules at two sizes, and one schedule of many datagrams, and prints how fast they were played
+"""Plays nine kinds of schedules at two sizes, and one schedule of many datagrams, and prints how fast they were played
 and the memory that it took.
 
     python3 bench/measure.py [PROGRAM]
@@ -100,6 +100,54 @@ def lookups(events):
         yield f"call {NODES} finish {number % 256}"
 
 
+# The nodes that have a session each, all at once, with the next of them. The first of all nodes is the router.
+USERS = range(2, NODES + 1)
+
+# How many events a session has, and how many datagrams.
+STEPS, SENT = 21, 11
+
+
+def session(turn, place):
+    """The events of one session. Of each step all sessions of its turn play theirs before the next step."""
+    node, peer = USERS[place], USERS[(place + 1) % len(USERS)]
+    first = SENT * len(USERS) * turn + place
+    sent = range(first, first + SENT * len(USERS), len(USERS))
+    own, made = 2 * turn + 1, 2 * turn + 2
+    return (
+        f"call {node} zones",
+        f"deliver {sent[0]} 1",
+        f"deliver {sent[1]} {node}",
+        f"call {node} pick Office",
+        f"call {node} find Chat{peer} Stream",
+        f"deliver {sent[2]} 1",
+        f"deliver {sent[3]} {peer}",
+        f"deliver {sent[4]} {node}",
+        f"call {node} finish {turn % 256}",
+        f"call {node} open 0",
+        f"deliver {sent[5]} {peer}",
+        f"deliver {sent[6]} {node}",
+        f"deliver {sent[7]} {peer}",
+        f"call {node} write {own} 6869 end",
+        f"deliver {sent[8]} {peer}",
+        f"deliver {sent[9]} {node}",
+        f"call {peer} read {made} 10",
+        f"call {node} close {own}",
+        f"deliver {sent[10]} {peer}",
+        f"call {peer} close {made}",
+        f"call {node} close {own}",
+    )
+
+
+def sessions(events):
+    yield from ("net 10", "node 1 router zone Lab", *(f"node {node} zone Office" for node in USERS), "zones Lab Office")
+    for node in USERS:
+        yield f"call {node} listen on"
+        yield f"call {node} register Chat{node} Stream 130"
+    for turn in range((events - 2 * len(USERS)) // (STEPS * len(USERS))):
+        for step in zip(*(session(turn, place) for place in range(len(USERS)))):
+            yield from step
+
+
 def opened(room):
     """Opens a stream from node 5 to node 7, whose ends have these rooms: 5 events, and datagrams 0 to 2."""
     yield from ("net 10", f"node 5 rooms {room}", f"node 7 rooms {room}")
@@ -147,6 +195,7 @@ KINDS = (
     ("all numbers in turn", numbers),
     ("sixteen nodes that ask each other", sixteen_nodes),
     ("lookups", lookups),
+    ("sessions", sessions),
     ("stream of 500-byte writes", stream_writes),
     ("stream in tiny rooms", tiny_rooms),
 )
