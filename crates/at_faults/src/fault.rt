@@ -1,5 +1,6 @@
 //! Why there is no schedule, or why a line of one is not taken.
 ghost use Rattle.std.specs.Prelude.{◌≡◌};
+ghost use Rattle.at_faults.specs.Reads.{IsOfRead, IsOfSystem};
 ghost use Rattle.at_faults.specs.declared.fault.Fault.TheVariants as of_text;
 ghost use Rattle.at_faults.specs.declared.fault.LineFault.TheVariants as of_line;
 
@@ -54,6 +55,8 @@ pub enum Unreadable {
 }
 
 impl From<io::Error> for Unreadable {
+    ghost from_gives = { λ _ e. IsOfSystem e };
+
     fn from(error: io::Error) -> Unreadable {
         match error.raw_os_error() {
             Some(code) => Unreadable::System(code),
@@ -86,6 +89,8 @@ impl From<AllocError> for Fault {
 }
 
 impl From<io::Error> for Fault {
+    ghost from_gives = { λ _ e. IsOfRead e };
+
     fn from(error: io::Error) -> Fault {
         match error.kind() {
             ErrorKind::OutOfMemory => Fault::NoMemory,

@@ -15,9 +15,10 @@ use Rattle.at_world.specs.Plays.{opening_world}
 use Rattle.at_world.specs.declared.setup.Setup.{Setup}
 use Rattle.std.proofs.lemmas.Result.{on_ok_weaker}
 use Rattle.std.specs.Io.BufRead.{DropsThrough, first_piece}
+use Rattle.at_schedule.specs.Drafts.{HoldsSetup}
 use Rattle.at_schedule.specs.Says.{SayAll, Says}
 use Rattle.at_schedule.specs.Schedules.{event_lines, is_event_line}
-use Rattle.at_play.proofs.LineLemmas.{Adds, SaidSoFar, reads_more}
+use Rattle.at_play.proofs.LineLemmas.{Adds, FirstLine, SaidSoFar, reads_more}
 use Rattle.std.specs.Prelude.{Option}
 use Rattle.at_play.specs.declared.stop.Stop.{Stop}
 use Rattle.at_play.specs.declared.stop.Stop.TheVariants as stop
@@ -102,22 +103,27 @@ module _ (A : Type 0) {W : Type 0} (contents : W → Option (List ℕ)) (setup :
       (before.0, subst (λ x. Prints contents a x (before.0).text) (sym same) before.2, rw is (subst (λ x. StopsIn A x s) (sym before.1) stops, begins))
 
   -- one line more of those that are known
-  pub line_played : {X E : Type 0} (bytes : X → List ℕ) (line : Result X E) (first known new : Option (List ℕ)) (byte : ℕ) (w w' : WorldState) (a b c : Printer W)
+  pub line_played : FirstLine → {X E : Type 0} (bytes : X → List ℕ) (line : Result X E) (first known new : Option (List ℕ)) (byte : ℕ) (w w' : WorldState) (a b c : Printer W)
       (before : Sofar A contents setup w a b) → byte ≡ 10 → SaidSoFar first known (before.0).events
       → IfOk line (λ x. IfSome known (λ xs. (0 < length xs) × (bytes x ≡ first_piece byte xs)) × DropsThrough known new byte)
       → MatchResult line (λ x. TellsLine A contents (is_event_line (bytes x)) (bytes x) w w' b c) (λ e. ⊥)
       → (after : Sofar A contents setup w' a c) × SaidSoFar first new (after.0).events
-  line_played bytes (Err e) first known new byte w w' a b c before is reads piece told = absurd told
-  line_played bytes (Ok x) first known new byte w w' a b c before is reads piece told =
+  line_played law bytes (Err e) first known new byte w w' a b c before is reads piece told = absurd told
+  line_played law bytes (Ok x) first known new byte w w' a b c before is reads piece told =
       let after = sofar_line (is_event_line (bytes x)) (bytes x) w w' a b c before told in
       let piece' = rw is at piece in
-      (after.0, reads_more A first known new (before.0).events ((after.0).0).events (bytes x) reads piece'.0 piece'.1 after.1)
+      (after.0, reads_more law A first known new (before.0).events ((after.0).0).events (bytes x) reads piece'.0 piece'.1 after.1)
 
 -- what was read is the text that is known
 begins_read : (A : Type 0) (es : List (Event A)) (known : Option (List ℕ)) (bytes all : List ℕ) → IfSome known (λ text. all ≡ text) → bytes ≡ all → BeginsWith bytes es
     → IfSome known (λ text. BeginsWith text es)
 begins_read A es None bytes all read same h = tt
 begins_read A es (Some text) bytes all read same h = subst (λ t. BeginsWith t es) (same ∙ read) h
+
+-- and so is its setup
+pub held_of : (A : Type 0) (setup : Setup A) (known : Option (List ℕ)) (bytes all : List ℕ) → IfSome known (λ text. all ≡ text) → bytes ≡ all → HoldsSetup (Some bytes) setup → HoldsSetup known setup
+held_of A setup None bytes all read same h = tt
+held_of A setup (Some text) bytes all read same h = subst (λ t. HoldsSetup (Some t) setup) (same ∙ read) h
 
 pub whole_read : (A : Type 0) (setup : Setup A) (known : Option (List ℕ)) (bytes all : List ℕ) (r : Result (Unit {0}) Stop) (p : Played setup) → IfSome known (λ text. all ≡ text) → bytes ≡ all
     → IsWhole A (Some bytes) r p → IsWhole A known r p

@@ -10,6 +10,7 @@ use Rattle.at_world.specs.Setups.{is_lawful}
 use Rattle.at_world.specs.declared.event.Fault.TheVariants as fault
 use Rattle.at_world.specs.declared.setup.Setup.{Setup}
 use Rattle.at_play.specs.Texts.{no_memory_line}
+use Rattle.at_schedule.specs.Drafts.{HoldsSetup}
 use Rattle.at_print.specs.Printers.{Prints}
 use Rattle.at_play.specs.Told.{IsWhole, Played}
 use Rattle.at_print.specs.declared.printer.Printer.{Printer}
@@ -46,10 +47,15 @@ pub record Obeys {A : Type 0} (setup : Setup A) (p : Played setup) : Type 0 wher
 
 -- What a schedule's play prints of its events: nothing if there is no schedule, and else what is told of those that
 -- were played. These are all of them unless it stopped, which is said if the schedule's text is known.
-abbrev pub PlayText : Type 0 → Option (List ℕ) → Result (Unit {0}) Stop → List ℕ → Type 0
-PlayText A known result text =
+abbrev pub PlaysText : (A : Type 0) → Option (List ℕ) → (Setup A → Type 0) → Result (Unit {0}) Stop → List ℕ → Type 0
+PlaysText A known IsRead result text =
     (IsErr result × (text ≡ []))
-    ⊎ ((setup : Setup A) × (p : Played setup) × Obeys setup p × (text ≡ p.text) × IsWhole A known result p)
+    ⊎ ((setup : Setup A) × IsRead setup × (p : Played setup) × Obeys setup p × (text ≡ p.text)
+    × IsWhole A known result p)
+
+-- the same where the setup is the one that the text says
+abbrev pub PlayText : Type 0 → Option (List ℕ) → Result (Unit {0}) Stop → List ℕ → Type 0
+PlayText A known result text = PlaysText A known (HoldsSetup known) result text
 
 -- a file that was sent back to its beginning
 pub record Rewound {F : Type 0} (position : F → Option ℕ) (bytes : F → Option (List ℕ)) : Type 0 where
@@ -58,11 +64,14 @@ pub record Rewound {F : Type 0} (position : F → Option ℕ) (bytes : F → Opt
   pub moved : IfSome (position before) (λ at. position file ≡ Some 0)
   pub kept : Keeps (bytes before) (bytes file)
 
--- the same of a file, whose text is what is read of it from its beginning on
+-- The same of a file, which is read from its beginning on, and again. The setup is what the text said the first time,
+-- and the events are what it said the second time.
 abbrev pub FileText : Type 0 → {F : Type 0} → (F → Option (List ℕ)) → (F → Option ℕ) → (F → Option (List ℕ))
     → Result (Unit {0}) Stop → List ℕ → Type 0
 FileText A remaining position bytes result text =
-    (IsErr result × (text ≡ [])) ⊎ ((again : Rewound position bytes) × PlayText A (remaining again.file) result text)
+    (IsErr result × (text ≡ []))
+    ⊎ ((first again : Rewound position bytes)
+    × PlaysText A (remaining again.file) (HoldsSetup (remaining first.file)) result text)
 
 -- how a play ended, and what is printed of it: its events, and why it stopped if it did
 pub record Ended {W : Type 0} (IsText : Result (Unit {0}) Stop → List ℕ → Type 0) (contents : W → Option (List ℕ))

@@ -10,6 +10,7 @@ ghost use Rattle.at_world.specs.Setups.{is_lawful};
 use crate::stop::Stop;
 use at_faults::{Fault, LineFault, Unreadable};
 use at_print::{Printer, write_event, write_sent};
+use at_schedule::laws::first_line;
 use at_schedule::{Draft, lines_of};
 use at_world::laws::{exactly_once_requests_run_once, steps_are_a_run};
 use at_world::{Event, Setup, World};
@@ -42,6 +43,7 @@ fn play_all<A: Allocator + Copy, R: Read, W: Write>(
     ensures told { (p : Played setup.now)
         × Prints W.contents printer.old printer.new p.text × IsWhole A (R.remaining reader.old) result p }
 {
+    first_line();
     let Ok(mut world) = World::open(alloc, setup) else {
         return Err(Stop::no_memory(0, 0));
     };

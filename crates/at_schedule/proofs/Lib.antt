@@ -1,3 +1,5 @@
-mod ItemLemmas
-mod TextLemmas
-mod WordLemmas
+mod EventLemmas
+mod HeadLemmas
+mod LineLemmas
+mod OrderLemmas
+mod ReadLemmas

@@ -1,4 +1,3 @@
-pub mod Items
+pub mod Drafts
 pub mod Says
 pub mod Schedules
-pub mod Texts

@@ -1,7 +1,7 @@
 -- The lines of a schedule, and which of them are events.
-use Rattle.std.specs.Prelude.{ℕ, ◌==◌, ◌||◌, if◌then◌else◌, Bool, true, false, List, [], ◌∷◌, filter, codes}
+use Rattle.std.specs.Prelude.{◌≡◌, ℕ, ◌==◌, ◌||◌, not, if◌then◌else◌, Bool, true, false, List, [], ◌∷◌, filter, map, codes}
 use Rattle.std.specs.Str.{bytes_eq}
-use Rattle.at_words.specs.Words.{first_word}
+use Rattle.at_words.specs.Words.{words_of}
 
 -- the lines of a text, each up to a line feed or the text's end
 abbrev pub add_first : ℕ → List (List ℕ) → List (List ℕ)
@@ -12,6 +12,7 @@ abbrev pub lines_in : List ℕ → List (List ℕ)
 lines_in [] = []
 lines_in (c ∷ text) = if c == 10 then [] ∷ lines_in text else add_first c (lines_in text)
 
+-- the first word of an event
 abbrev pub is_event_word : List ℕ → Bool
 is_event_word word = bytes_eq word (codes "call") || (bytes_eq word (codes "deliver") || bytes_eq word (codes "timer"))
 
@@ -20,8 +21,25 @@ abbrev pub is_passed_over : List ℕ → Bool
 is_passed_over [] = true
 is_passed_over (c ∷ line) = c == 35
 
+abbrev pub are_event_words : List (List ℕ) → Bool
+are_event_words [] = false
+are_event_words (word ∷ words) = is_event_word word
+
 abbrev pub is_event_line : List ℕ → Bool
-is_event_line line = if is_passed_over line then false else is_event_word (first_word line)
+is_event_line line = if is_passed_over line then false else are_event_words (words_of line)
+
+-- any other line that is not passed over is for the setup
+abbrev pub is_setup_line : List ℕ → Bool
+is_setup_line line = if is_passed_over line then false else not (are_event_words (words_of line))
+
+-- the words of each line that is for the setup
+abbrev pub setup_words : List (List ℕ) → List (List (List ℕ))
+setup_words lines = map words_of (filter is_setup_line lines)
+
+-- after an event no line is for the setup
+abbrev pub AreInOrder : List (List ℕ) → Type 0
+AreInOrder [] = Unit {0}
+AreInOrder (line ∷ lines) = (is_event_line line ≡ true → filter is_setup_line lines ≡ []) × AreInOrder lines
 
 -- the lines of a schedule that are events, in their order
 abbrev pub event_lines : List ℕ → List (List ℕ)

@@ -1,76 +1,66 @@
 //! A schedule of which some lines are read.
-ghost use Rattle.std.specs.Prelude.{◌≡◌, List, [], ℕ, false, true, IfOk, MatchOption};
-ghost use Rattle.at_schedule.specs.Says.{After, Reads, Says, SaysEvent};
+ghost use Rattle.std.specs.Prelude.{◌≡◌, ◌⊎◌, ◌↔◌, ◌++◌, ◌∷◌, [], List, ℕ, false, true, IfOk, OnErr, OnOk};
+ghost use Rattle.at_call_words.specs.Readings.{IfUnlawful, IsFoundInMemory};
+ghost use Rattle.at_setup_lines.specs.Drafts.{IsDraft, IsNoSetup, Refuses, Takes, has_events};
+ghost use Rattle.at_setup_lines.specs.SetupLines.{IsSetup};
+ghost use Rattle.at_world.specs.declared.event.Event.{Event as Happening};
+ghost use Rattle.at_schedule.specs.Drafts.{BeginSchedule, IsRead};
+ghost use Rattle.at_schedule.specs.Says.{Reads, SaysEvent};
 ghost use Rattle.at_schedule.specs.Schedules.{is_event_word, is_passed_over};
-ghost use Rattle.at_words.specs.Words.{HasWords, first_word};
-ghost use Rattle.at_world.specs.Setups.{is_lawful};
+ghost use Rattle.at_words.specs.Words.{words_of};
 
-use crate::event_line::{call_of, delivery_of, timer_of};
-use crate::node_line::{net_of, node_of};
-use crate::nodes::{has_router, lacks_router, rule_broken_by};
-use crate::text_word::zone_name;
-use at_ddp::{Listed, Pascal};
+use crate::event_line::{call_event, delivery_event, timer_event};
 use at_faults::{LineFault, Rule};
+use at_setup_lines::SetupDraft;
 use at_words::Words;
-use at_world::{Event, NodeSetup, Setup};
-use at_zip::MAX_ZONES;
+use at_world::{Event, Setup};
 use std::alloc::{Allocator, Global};
-
-// Which line comes next.
-#[derive(Clone, Copy)]
-enum Stage {
-    Net,
-    /// A node, the zone table or an event.
-    Node,
-    Event,
-}
+use std::marker::Model;
 
 /// What the lines so far say.
 #[derive(Drop)]
 pub struct Draft<A: Allocator = Global> {
     alloc: A,
-    stage: Stage,
-    net: u16,
-    nodes: Vec<NodeSetup, A>,
-    zones: Vec<Pascal, A>,
+    setup: SetupDraft<A>,
+}
+
+impl<A: Allocator> Model for Draft<A> {
+    ghost use Rattle.at_setup_lines.specs.Drafts.{Draft};
+
+    ghost Value = { Draft };
+
+    ghost view = { λ d. d.setup };
 }
 
 impl<A: Allocator + Copy> Draft<A> {
     /// No line is read yet.
     pub fn new(alloc: A) -> Draft<A>
-        ensures net { result.net ≡ 0 }
-        ensures nodes { result.nodes.items ≡ [] }
-        ensures zones { result.zones.items ≡ [] }
+        ensures { IsRead A [] result }
     {
         Draft {
             alloc,
-            stage: Stage::Net,
-            net: 0,
-            nodes: Vec::new(alloc),
-            zones: Vec::new(alloc),
+            setup: SetupDraft::new(alloc),
         }
     }
 
     /// Takes one line more, and gives its event if it has one.
     pub fn take_line(&mut self, line: &[u8]) -> Result<Option<Event<A>>, LineFault>
-        ensures { IfOk result (Reads line.now) }
+        ensures reads { IfOk result (Reads line.now) }
+        ensures taken { OnOk result ((lines : List (List ℕ)) → IsRead A lines self.old
+            → IsRead A (lines ++ line.now ∷ []) self.new) }
+        ensures kept { OnErr result (self.new ≡ self.old) }
+        ensures only { IfUnlawful result ((lines : List (List ℕ)) → IsRead A lines self.old
+            → ¬ BeginSchedule A (lines ++ line.now ∷ [])) }
     {
         if is_passed_over(line) {
             return Ok(None);
         }
-        self.take_words(Words::of(line))
-    }
-
-    fn take_words(&mut self, mut words: Words<'_>) -> Result<Option<Event<A>>, LineFault>
-        ensures { IfOk result (λ event. MatchOption event (is_event_word (first_word words.entry.rest.now) ≡ false)
-            (λ e. (is_event_word (first_word words.entry.rest.now) ≡ true) × Says words.entry.rest.now e)) }
-    {
+        let mut words = Words::of(line);
         let Some(word) = words.next() else {
             return Err(LineFault::Unlawful(Rule::SpacesAlone));
         };
         if is_event_word(word) {
-            let event = self.event_of(word, words)?;
-            let event = self.take_event(event)?;
+            let event = self.take_event(word, words)?;
             Ok(Some(event))
         } else {
             self.take_head(word, words)?;
@@ -78,114 +68,78 @@ impl<A: Allocator + Copy> Draft<A> {
         }
     }
 
-    // A line that comes before the events.
-    fn take_head(&mut self, word: &[u8], words: Words<'_>) -> Result<(), LineFault> {
-        match word {
-            b"net" => self.take_net(words),
-            b"node" => self.take_node(words),
-            b"zones" => self.take_zones(words),
-            _ => Err(LineFault::Unlawful(Rule::FirstWord)),
-        }
-    }
-
-    fn event_of(&self, word: &[u8], words: Words<'_>) -> Result<Event<A>, LineFault>
-        ensures { IfOk result (λ event. After word.now words.entry.rest.now (λ ws. SaysEvent ws event)) }
+    fn take_event(&mut self, word: &[u8], words: Words<'_>) -> Result<Event<A>, LineFault>
+        ensures said { IfOk result (SaysEvent word.now (words_of words.entry.rest.now)) }
+        ensures taken { OnOk result ((has_events self.new ≡ true)
+            × ((lines : List (List (List ℕ))) → IsDraft lines self.old → IsDraft lines self.new)) }
+        ensures kept { OnErr result (self.new ≡ self.old) }
+        ensures only { IfUnlawful result
+            (((e : Happening A) → ¬ SaysEvent word.now (words_of words.entry.rest.now) e) ⊎ IsNoSetup A self.old) }
     {
-        match word {
-            b"call" => call_of(self.alloc, words),
-            b"deliver" => delivery_of(words).ok_or(LineFault::Unlawful(Rule::Deliver)),
-            b"timer" => timer_of(words),
-            _ => Err(LineFault::Unlawful(Rule::FirstWord)),
-        }
+        let event = event_of(self.alloc, word, words)?;
+        self.begin_event()?;
+        Ok(event)
     }
 
-    fn take_net(&mut self, words: Words<'_>) -> Result<(), LineFault> {
-        let net = net_of(words).ok_or(LineFault::Unlawful(Rule::Net))?;
-        match self.stage {
-            Stage::Net => {
-                self.net = net;
-                self.stage = Stage::Node;
-                Ok(())
-            }
-            _ => Err(LineFault::Unlawful(Rule::NetOnce)),
-        }
-    }
-
-    fn take_node(&mut self, words: Words<'_>) -> Result<(), LineFault> {
-        let node = node_of(words).ok_or(LineFault::Unlawful(Rule::Node))?;
-        match self.stage {
-            Stage::Net => return Err(LineFault::Unlawful(Rule::NetFirst)),
-            Stage::Event => return Err(LineFault::Unlawful(Rule::NodesFirst)),
-            Stage::Node => {}
-        }
-        if let Some(rule) = rule_broken_by(&self.nodes, &node) {
+    fn begin_event(&mut self) -> Result<(), LineFault>
+        ensures taken { OnOk result ((has_events self.new ≡ true)
+            × ((lines : List (List (List ℕ))) → IsDraft lines self.old → IsDraft lines self.new)) }
+        ensures kept { OnErr result (self.new ≡ self.old) }
+        ensures only { IfUnlawful result (IsNoSetup A self.old) }
+    {
+        if let Err(rule) = self.setup.take_event() {
             return Err(LineFault::Unlawful(rule));
         }
-        self.nodes.push(node)?;
         Ok(())
     }
 
-    fn take_zones(&mut self, words: Words<'_>) -> Result<(), LineFault> {
-        match self.stage {
-            Stage::Net => return Err(LineFault::Unlawful(Rule::NetFirst)),
-            Stage::Event => return Err(LineFault::Unlawful(Rule::ZonesOnce)),
-            Stage::Node => {}
-        }
-        if !has_router(&self.nodes) {
-            return Err(LineFault::Unlawful(Rule::ZonesOfRouter));
-        }
-        self.stage = Stage::Event;
-        self.take_table(words)
-    }
-
-    fn take_table(&mut self, words: Words<'_>) -> Result<(), LineFault> {
-        for word in words {
-            let name = zone_name(word).ok_or(LineFault::Unlawful(Rule::Zones))?;
-            if self.zones.len() >= MAX_ZONES {
-                return Err(LineFault::Unlawful(Rule::ZonesFitTable));
-            }
-            self.zones.push(name)?;
-        }
-        Ok(())
-    }
-
-    fn take_event(&mut self, event: Event<A>) -> Result<Event<A>, LineFault>
-        ensures { IfOk result (λ taken. taken ≡ event) }
+    // A line that comes before the events.
+    fn take_head(&mut self, word: &[u8], words: Words<'_>) -> Result<(), LineFault>
+        ensures taken { OnOk result ((has_events self.old ≡ false) × (has_events self.new ≡ false)
+            × Takes self.old (word.now ∷ words_of words.entry.rest.now) self.new) }
+        ensures kept { OnErr result (self.new ≡ self.old) }
+        ensures only { IfUnlawful result (Refuses A self.old (word.now ∷ words_of words.entry.rest.now)) }
     {
-        match self.stage {
-            Stage::Net => return Err(LineFault::Unlawful(Rule::NetFirst)),
-            Stage::Node if lacks_router(&self.nodes) => {
-                return Err(LineFault::Unlawful(Rule::RouterMissing));
-            }
-            _ => {}
+        if is_word(word, b"net") {
+            self.setup.take_net(words)
+        } else if is_word(word, b"node") {
+            self.setup.take_node(words)
+        } else if is_word(word, b"zones") {
+            self.setup.take_zones(words)
+        } else {
+            Err(LineFault::Unlawful(Rule::FirstWord))
         }
-        self.stage = Stage::Event;
-        Ok(event)
     }
 
     /// The setup, if the lines so far are a schedule, or what is missing.
     pub(crate) fn finish(self) -> Result<Setup<A>, Rule>
-        ensures { IfOk result (λ s. is_lawful s ≡ true) }
+        ensures said { IfOk result (λ s. (lines : List (List (List ℕ))) → IsDraft lines self → IsSetup lines s) }
+        ensures only { OnErr result (IsNoSetup A self) }
     {
-        let Draft {
-            net,
-            nodes,
-            zones,
-            ..
-        } = self;
-        let setup = Setup {
-            net,
-            nodes: Listed::from_vec(nodes),
-            zones: Listed::from_vec(zones),
-        };
-        if setup.is_lawful() {
-            Ok(setup)
-        } else if net == 0 {
-            Err(Rule::NoNet)
-        } else {
-            Err(Rule::NoRouter)
-        }
+        self.setup.finish()
     }
+}
+
+// The event of a line, after its first word.
+fn event_of<A: Allocator + Copy>(
+    alloc: A,
+    word: &[u8],
+    words: Words<'_>,
+) -> Result<Event<A>, LineFault>
+    ensures { IsFoundInMemory result (SaysEvent word.now (words_of words.entry.rest.now)) }
+{
+    match word {
+        b"call" => call_event(alloc, words),
+        b"deliver" => delivery_event(words).ok_or(LineFault::Unlawful(Rule::Deliver)),
+        b"timer" => timer_event(words),
+        _ => Err(LineFault::Unlawful(Rule::FirstWord)),
+    }
+}
+
+fn is_word(word: &[u8], known: &[u8]) -> bool
+    ensures { result ≡ true ↔ word.now ≡ known.now }
+{
+    word == known
 }
 
 fn is_passed_over(line: &[u8]) -> bool

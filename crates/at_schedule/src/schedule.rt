@@ -1,7 +1,10 @@
 //! The lines of a schedule, and the setup that they begin with.
-ghost use Rattle.std.specs.Prelude.{◌≡◌, true, IfOk};
+ghost use Rattle.std.specs.Prelude.{◌≡◌, true, IfErr, IfOk};
 ghost use Rattle.std.specs.Io.Buffered.{reader_remaining};
 ghost use Rattle.std.specs.Io.Iter.{split_byte, split_known_bytes};
+ghost use Rattle.std.specs.IoError.{error_kind};
+ghost use Rattle.at_faults.specs.declared.rule.Rule.{Rule as Told};
+ghost use Rattle.at_schedule.specs.Drafts.{HoldsSetup, IsLineFault};
 ghost use Rattle.at_world.specs.Setups.{is_lawful};
 
 use crate::draft::Draft;
@@ -9,11 +12,14 @@ use at_faults::{Fault, LineFault, Rule};
 use at_world::Setup;
 use std::alloc::Allocator;
 use std::io;
-use std::io::{BufRead, BufReader, Read, Split};
+use std::io::{BufRead, BufReader, ErrorKind, Read, Split};
 
 /// Reads the lines of a schedule, all of which have to be lawful, and gives the setup that they begin with.
 pub fn read_setup<A: Allocator + Copy, R: Read>(alloc: A, reader: &mut R) -> Result<Setup<A>, Fault>
-    ensures { IfOk result (λ s. is_lawful s ≡ true) }
+    ensures lawful { IfOk result (λ s. is_lawful s ≡ true) }
+    // What the reader holds is said if it is known.
+    ensures said { IfOk result (HoldsSetup (R.remaining reader.old)) }
+    ensures fault { IfErr result (IsLineFault A (R.remaining reader.old)) }
 {
     let mut draft = Draft::new(alloc);
     let mut number = 1usize;
@@ -24,11 +30,17 @@ pub fn read_setup<A: Allocator + Copy, R: Read>(alloc: A, reader: &mut R) -> Res
             Err(fault) => return Err(fault_at(fault, number, &line)),
         }
     }
-    draft.finish().map_err(|rule| Fault::Line { number, rule })
+    match draft.finish() {
+        Ok(setup) => Ok(setup),
+        Err(rule) => Err(Fault::Line { number, rule }),
+    }
 }
 
 // What is wrong with a schedule that has this line, counted from 1.
-fn fault_at(fault: LineFault, number: usize, line: &[u8]) -> Fault {
+fn fault_at(fault: LineFault, number: usize, line: &[u8]) -> Fault
+    ensures unlawful { (rule : Told) → fault ≡ LineFault.Unlawful rule → (r : Told) × (result ≡ Fault.Line number r) }
+    ensures memory { fault ≡ LineFault.NoMemory → result ≡ Fault.NoMemory }
+{
     match fault {
         LineFault::Unlawful(rule) => Fault::Line {
             number,
@@ -54,6 +66,7 @@ pub fn lines_of<A: Allocator + Copy, R: Read>(
     alloc: A,
     reader: &mut R,
 ) -> io::Result<Split<BufReader<&mut R, A>, A>>
+    ensures memory { IfErr result (λ error. error_kind error ≡ ErrorKind.OutOfMemory) }
     ensures byte { IfOk result (λ lines. split_byte lines ≡ 10) }
     ensures known { IfOk result (λ lines.
         split_known_bytes (reader_remaining (λ r. R.remaining r.now)) lines ≡ R.remaining reader.old) }

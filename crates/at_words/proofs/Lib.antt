@@ -1,2 +1,4 @@
+mod HexLemmas
 mod NumberLemmas
+mod TextLemmas
 mod WordLemmas

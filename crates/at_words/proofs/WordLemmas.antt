@@ -1,12 +1,13 @@
 -- The first word of a line, and what it leaves.
-use Rattle.std.proofs.Common.{◌≡◌, ◌≢◌, ℕ, ◌+◌, ◌-◌, ◌<◌, ◌==◌, suc, not, Bool, true, false, cond, List, [], ◌∷◌, ◌++◌, length, take, drop, Some, refl, sym, ap, subst, ◌∙◌, zero-add, arith}
+use Rattle.std.proofs.Common.{◌≡◌, ◌≢◌, ◌⊎◌, inl, inr, ℕ, ◌+◌, ◌-◌, ◌<◌, ◌==◌, suc, not, Bool, true, false, cond, List, [], ◌∷◌, length, filter, take, drop, Some, refl, sym, ap, subst, ◌∙◌, zero-add, arith}
 use Rattle.std.specs.Prelude.{Option}
 use Rattle.std.specs.Option.{unwrap_or}
-use Rattle.std.specs.List.{AllPass, position_from, prefix_len, take_while}
-use Rattle.std.proofs.lemmas.List.{get_or-take, length-drop, length-take-le, take-append-drop, take_all}
+use Rattle.std.specs.List.{onto_first, position_from, prefix_len, slice_split}
+use Rattle.std.proofs.lemmas.List.{length-drop, nil_from_length, take_all}
+use Rattle.std.proofs.lemmas.List.Splits.{slice_split-cons_no, slice_split-cons_yes}
 use Rattle.std.proofs.lemmas.Bool.{eq-eqb, eqb-true}
-use Rattle.std.proofs.lemmas.List.Sums.{prefix_len-le-length, prefix_len_passes}
-use Rattle.at_words.specs.Words.{EndsWord, HasWords, first_word, is_no_space, is_space}
+use Rattle.std.proofs.lemmas.Bool.Decides.{eqb_tells}
+use Rattle.at_words.specs.Words.{has_bytes, is_no_space, is_space, words_of}
 
 stops_at : (b : Bool) (k n m : ℕ) (r : Option ℕ) → unwrap_or r m ≡ k + 1 + n → unwrap_or (cond (not b) (Some k) r) m ≡ k + cond b (1 + n) 0
 stops_at true k n m r h = h ∙ omega arith
@@ -28,15 +29,6 @@ pub not_not : (b : Bool) → b ≡ not (not b)
 not_not true = refl
 not_not false = refl
 
-passes : (p : ℕ → Bool) (xs : List ℕ) → AllPass p (take (prefix_len p xs) xs)
-passes p xs k d lt =
-    let within : k < prefix_len p xs = omega (arith, prefix_len-le-length p xs, length-take-le (prefix_len p xs) xs (prefix_len-le-length p xs)) in
-    ap p (get_or-take (prefix_len p xs) xs k d within) ∙ prefix_len_passes p xs k d within
-
--- a line whose spaces end with it has no words
-pub all_spaces : (xs : List ℕ) → length (drop (prefix_len is_space xs) xs) ≡ 0 → AllPass is_space xs
-all_spaces xs none k d lt = prefix_len_passes is_space xs k d (omega (arith, length-drop (prefix_len is_space xs) xs))
-
 -- after its spaces a text is over, or goes on with another byte
 abbrev pub Begins : List ℕ → Type 0
 Begins [] = Unit {0}
@@ -50,13 +42,30 @@ begins : (xs : List ℕ) → Begins (drop (prefix_len is_space xs) xs)
 begins [] = tt
 begins (x ∷ xs) = begins_by (x == 32) x xs refl (begins xs)
 
-ends_by : (b : Bool) (x : ℕ) (xs : List ℕ) → (x == 32) ≡ b → EndsWord (drop (prefix_len is_no_space xs) xs) → EndsWord (drop (cond (not b) (1 + prefix_len is_no_space xs) 0) (x ∷ xs))
-ends_by true x xs is h = is
-ends_by false x xs is h = let e : 1 + prefix_len is_no_space xs ≡ suc (prefix_len is_no_space xs) = omega arith in subst (λ n. EndsWord (drop n (x ∷ xs))) (sym e) h
+skips_by : (b : Bool) (n x : ℕ) (xs : List ℕ) → (x == 32) ≡ b → words_of xs ≡ words_of (drop n xs) → words_of (x ∷ xs) ≡ words_of (drop (cond b (1 + n) 0) (x ∷ xs))
+skips_by true n x xs is h =
+    let e : 1 + n ≡ suc n = omega arith in
+    ap (filter has_bytes) (slice_split-cons_yes is_space x xs is) ∙ h ∙ ap (λ m. words_of (drop m (x ∷ xs))) (sym e)
+skips_by false n x xs is h = refl
 
-ends : (xs : List ℕ) → EndsWord (drop (prefix_len is_no_space xs) xs)
-ends [] = tt
-ends (x ∷ xs) = ends_by (x == 32) x xs refl (ends xs)
+-- the spaces at the front of a line are in none of its words
+pub skips : (xs : List ℕ) → words_of xs ≡ words_of (drop (prefix_len is_space xs) xs)
+skips [] = refl
+skips (x ∷ xs) = skips_by (x == 32) (prefix_len is_space xs) x xs refl (skips xs)
+
+-- the first part of a line is its front of n bytes, and the other parts have the words of the rest
+abbrev Parts : ℕ → List ℕ → Type 0
+Parts n xs = (parts : List (List ℕ)) × (slice_split is_space xs ≡ take n xs ∷ parts) × (words_of (drop n xs) ≡ filter has_bytes parts)
+
+parts_by : (b : Bool) (n x : ℕ) (xs : List ℕ) → (x == 32) ≡ b → Parts n xs → Parts (cond (not b) (1 + n) 0) (x ∷ xs)
+parts_by true n x xs is h = (slice_split is_space xs, slice_split-cons_yes is_space x xs is, ap (filter has_bytes) (slice_split-cons_yes is_space x xs is))
+parts_by false n x xs is (parts, split, same) =
+    let e : 1 + n ≡ suc n = omega arith in
+    subst (λ m. Parts m (x ∷ xs)) (sym e) (parts, slice_split-cons_no is_space x xs is ∙ ap (onto_first x) split, same)
+
+parts_of : (xs : List ℕ) → Parts (prefix_len is_no_space xs) xs
+parts_of [] = ([], refl, refl)
+parts_of (x ∷ xs) = parts_by (x == 32) (prefix_len is_no_space xs) x xs refl (parts_of xs)
 
 word_by : (b : Bool) (x : ℕ) (xs : List ℕ) → b ≡ false → 0 < length (take (cond (not b) (1 + prefix_len is_no_space xs) 0) (x ∷ xs))
 word_by b x xs is =
@@ -68,43 +77,32 @@ some_word : (xs : List ℕ) → Begins xs → 0 < length xs → 0 < length (take
 some_word [] begin some = absurd (omega arith)
 some_word (x ∷ xs) begin some = word_by (x == 32) x xs begin
 
--- the words of a line are its first one and those of what it leaves
-first_of : (xs r : List ℕ) → r ≡ drop (prefix_len is_space xs) xs → 0 < length r → (ws : List (List ℕ)) → HasWords (drop (prefix_len is_no_space r) r) ws
-    → HasWords xs (take (prefix_len is_no_space r) r ∷ ws)
-first_of xs r is some ws h =
-    let parts : xs ≡ take (prefix_len is_space xs) xs ++ (take (prefix_len is_no_space r) r ++ drop (prefix_len is_no_space r) r) =
-    sym (take-append-drop (prefix_len is_space xs) xs) ∙ ap (λ l. take (prefix_len is_space xs) xs ++ l) (sym is ∙ sym (take-append-drop (prefix_len is_no_space r) r)) in (
-      take (prefix_len is_space xs) xs,
-      drop (prefix_len is_no_space r) r,
-      parts,
-      passes is_space xs,
-      some_word r (subst Begins (sym is) (begins xs)) some,
-      passes is_no_space r,
-      ends r,
-      h,
-    )
+no_zero : (n : ℕ) → 0 < n → (((n == 0) ≡ true) × (n ≡ 0)) ⊎ (((n == 0) ≡ false) × (n ≢ 0)) → (n == 0) ≡ false
+no_zero n some (inl none) = absurd (omega (arith, none.1))
+no_zero n some (inr other) = other.0
 
+kept : (word : List ℕ) (parts : List (List ℕ)) → 0 < length word → filter has_bytes (word ∷ parts) ≡ word ∷ filter has_bytes parts
+kept word parts some = rw (no_zero (length word) some (eqb_tells (length word) 0)) refl
+
+first_of : (r : List ℕ) → Begins r → 0 < length r → words_of r ≡ take (prefix_len is_no_space r) r ∷ words_of (drop (prefix_len is_no_space r) r)
+first_of r begin some =
+    let (parts, split, same) = parts_of r in
+    ap (filter has_bytes) split ∙ kept (take (prefix_len is_no_space r) r) parts (some_word r begin some) ∙ ap (λ ws. take (prefix_len is_no_space r) r ∷ ws) (sym same)
+
+-- the words of a line are its first one and those of what it leaves
 pub next_word : (xs : List ℕ) (s len : ℕ) (r word rest : List ℕ) → s ≡ prefix_len is_space xs → r ≡ drop s xs → 0 < length r → len ≡ prefix_len is_no_space r → word ≡ take len r → rest ≡ drop len r
-    → (word ≡ first_word xs) × ((ws : List (List ℕ)) → HasWords rest ws → HasWords xs (word ∷ ws)) × (0 < length word)
+    → words_of xs ≡ word ∷ words_of rest
 next_word xs s len r word rest es er some el ew erest =
     let is : r ≡ drop (prefix_len is_space xs) xs = er ∙ ap (λ n. drop n xs) es in
     let word_is : word ≡ take (prefix_len is_no_space r) r = ew ∙ ap (λ n. take n r) el in
-    let rest_is : rest ≡ drop (prefix_len is_no_space r) r = erest ∙ ap (λ n. drop n r) el in (
-      word_is ∙ ap (take_while is_no_space) is,
-      λ ws h. subst (λ w. HasWords xs (w ∷ ws)) (sym word_is) (first_of xs r is some ws (subst (λ l. HasWords l ws) rest_is h)),
-      subst (λ w. 0 < length w) (sym word_is) (some_word r (subst Begins (sym is) (begins xs)) some),
-    )
+    let rest_is : rest ≡ drop (prefix_len is_no_space r) r = erest ∙ ap (λ n. drop n r) el in
+    skips xs ∙ ap words_of (sym is) ∙ first_of r (subst Begins (sym is) (begins xs)) some ∙ (λ j. sym word_is j ∷ words_of (sym rest_is j))
 
-left_by : (b : Bool) (x : ℕ) (xs : List ℕ) → b ≡ true → take_while is_no_space (drop (prefix_len is_space xs) xs) ≡ []
-    → take_while is_no_space (drop (cond b (1 + prefix_len is_space xs) 0) (x ∷ xs)) ≡ []
-left_by b x xs is h =
-    let e : 1 + prefix_len is_space xs ≡ suc (prefix_len is_space xs) = omega arith in
-    rw is (subst (λ n. take_while is_no_space (drop n (x ∷ xs)) ≡ []) (sym e) h)
-
--- a line of spaces has no first word
-pub no_first : (xs : List ℕ) → AllPass is_space xs → first_word xs ≡ []
-no_first [] all = refl
-no_first (x ∷ xs) all = left_by (x == 32) x xs (all 0 0 (omega arith)) (no_first xs (λ k d lt. all (suc k) d (omega (arith, lt))))
+-- a line whose spaces end with it has no words
+pub no_words : (xs : List ℕ) (s : ℕ) (r : List ℕ) → s ≡ prefix_len is_space xs → r ≡ drop s xs → length r ≡ 0 → words_of xs ≡ []
+no_words xs s r es er none =
+    let is : r ≡ drop (prefix_len is_space xs) xs = er ∙ ap (λ n. drop n xs) es in
+    skips xs ∙ ap words_of (sym is ∙ nil_from_length r none)
 
 -- all that stands from a place on
 pub rest_from : (n : ℕ) (xs : List ℕ) → take (length xs - n) (drop n xs) ≡ drop n xs

@@ -1,3 +1,5 @@
 pub mod Hexes
 pub mod Numbers
+pub mod Readings
+pub mod Texts
 pub mod Words

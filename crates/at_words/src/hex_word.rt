@@ -1,9 +1,7 @@
 //! Words of hexadecimal digits.
-ghost use Rattle.std.specs.Prelude.{◌≡◌, ◌↔◌, ◌<◌, ◌/◌, List, ℕ, length, vec_capacity};
-ghost use Rattle.std.specs.Prelude.{Ok, OnOk, IfSome, IsSome, IsErrOf};
-ghost use Rattle.std.specs.List.{AllPass};
-ghost use Rattle.hex.specs.Hex.{decode_of, is_hex_digit};
-ghost use Rattle.at_words.specs.Hexes.{IsHex};
+ghost use Rattle.std.specs.Prelude.{◌<◌, ◌/◌, List, ℕ, length, vec_capacity, OnOk, IsErrOf};
+ghost use Rattle.at_words.specs.Hexes.{IsHex, IsUser};
+ghost use Rattle.at_words.specs.Readings.{IsFound};
 
 use hex::FromHex;
 use std::alloc::Allocator;
@@ -42,8 +40,7 @@ pub fn bytes_of<A: Allocator>(word: &[u8], room: &mut Vec<u8, A>) -> Result<(), 
 
 /// The four bytes that a word of eight digits spells.
 pub fn user_of(word: &[u8]) -> Option<[u8; 4]>
-    ensures found { IsSome result ↔ ((length word.now ≡ 8) × AllPass is_hex_digit word.now) }
-    ensures value { IfSome result (λ user. decode_of word.now ≡ Ok user) }
+    ensures { IsFound result (IsUser word.now) }
 {
     <[u8; 4] as FromHex>::from_hex(word).ok()
 }

@@ -1,8 +1,10 @@
-//! The words of a line of text, and what a word says: a number, or bytes as hexadecimal digits.
+//! The words of a line of text, and what a word says: a number, a text, or bytes as hexadecimal digits.
 #![tactic(auto)]
 
 mod hex_word;
+mod text_word;
 mod word;
 
 pub use hex_word::{HexFault, bytes_of, user_of};
+pub use text_word::{any_byte, text, zone_name};
 pub use word::{Words, byte, node_number, number, positive, two_bytes};

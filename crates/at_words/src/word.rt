@@ -1,9 +1,9 @@
 //! The words of a line, and the number that a word says.
-ghost use Rattle.std.specs.Prelude.{◌≡◌, ◌<◌, ◌≤◌, ◌↔◌, ◌∷◌, [], List, ℕ, true, false, length, IsSome, IfSome};
+ghost use Rattle.std.specs.Prelude.{◌≡◌, ◌<◌, ◌≤◌, ◌↔◌, ◌∷◌, [], List, ℕ, true, false, length, IsSome};
 ghost use Rattle.std.specs.List.{position_from, prefix_len};
-ghost use Rattle.std.specs.Str.Parse.{IsNumeral, digits_value};
-ghost use Rattle.at_words.specs.Numbers.{IsCount, IsNumber};
-ghost use Rattle.at_words.specs.Words.{HasWords, first_word, is_no_space, is_space};
+ghost use Rattle.at_words.specs.Numbers.{IsByte, IsCount, IsNode, IsPositive, IsTwoBytes};
+ghost use Rattle.at_words.specs.Readings.{IsFound};
+ghost use Rattle.at_words.specs.Words.{is_no_space, is_space, words_of};
 
 /// The words of a line, parted by spaces.
 #[derive(Clone, Copy)]
@@ -22,10 +22,9 @@ impl<'a> Words<'a> {
 
     /// Takes the next word if it is this one.
     pub fn take_if(&mut self, word: &[u8]) -> bool
-        ensures taken { result ≡ true → (word.now ≡ first_word self.old.rest.now)
-            × ((ws : List (List ℕ)) → HasWords self.new.rest.now ws → HasWords self.old.rest.now (word.now ∷ ws)) }
+        ensures taken { result ≡ true → words_of self.old.rest.now ≡ word.now ∷ words_of self.new.rest.now }
         ensures left { result ≡ false → self.new ≡ self.old }
-        ensures only { result ≡ false → 0 < length word.now → ¬ (word.now ≡ first_word self.old.rest.now) }
+        ensures only { result ≡ false → (ws : List (List ℕ)) → ¬ (words_of self.old.rest.now ≡ word.now ∷ ws) }
     {
         let mut ahead = *self;
         let Some(next) = ahead.next() else {
@@ -41,8 +40,7 @@ impl<'a> Words<'a> {
 
     /// None if a word is left.
     pub fn end(mut self) -> Option<()>
-        ensures over { IfSome result (λ _. HasWords self.entry.rest.now []) }
-        ensures only { HasWords self.entry.rest.now [] → IsSome result }
+        ensures { IsSome result ↔ words_of self.entry.rest.now ≡ [] }
     {
         match self.next() {
             Some(_) => None,
@@ -52,14 +50,11 @@ impl<'a> Words<'a> {
 }
 
 impl<'a> Iterator for Words<'a> {
-    ghost use Rattle.std.specs.Prelude.{MatchOption};
-    ghost use Rattle.std.specs.Iterator.{at_most};
+    ghost use Rattle.std.specs.Iterator.{YieldsFirstRef, at_most};
 
     type Item = &'a [u8];
 
-    ghost next_gives = { λ s r s'. MatchOption r (HasWords s.rest.now []) (λ word. (word.now ≡ first_word s.rest.now)
-        × ((ws : List (List ℕ)) → HasWords s'.rest.now ws → HasWords s.rest.now (word.now ∷ ws))
-        × (0 < length word.now)) };
+    ghost next_gives = { YieldsFirstRef (λ s. words_of s.rest.now) };
 
     ghost remaining = { λ s. at_most (length s.rest.now) };
 
@@ -104,8 +99,7 @@ fn first_space(text: &[u8]) -> Option<usize>
 
 /// The number that a word of digits writes, or the largest if it is larger.
 pub fn number(word: &[u8]) -> Option<u64>
-    ensures digits { IsSome result ↔ IsNumeral 10 word.now }
-    ensures value { IfSome result (λ number. IsCount word.now number) }
+    ensures { IsFound result (IsCount word.now) }
 {
     if word.is_empty() {
         return None;
@@ -124,9 +118,7 @@ pub fn number(word: &[u8]) -> Option<u64>
 
 /// The number of a node or of a socket, 1 to 254.
 pub fn node_number(word: &[u8]) -> Option<u8>
-    ensures taken { IsSome result
-        ↔ (IsNumeral 10 word.now × (0 < digits_value 10 word.now) × (digits_value 10 word.now < 255)) }
-    ensures value { IfSome result (λ node. IsNumber word.now node) }
+    ensures { IsFound result (IsNode word.now) }
 {
     let node = u8::try_from(number(word)?).ok()?;
     if node > 0 && node < 255 {
@@ -138,9 +130,7 @@ pub fn node_number(word: &[u8]) -> Option<u8>
 
 /// A network's number or a room's size, 1 to 65,535.
 pub fn positive(word: &[u8]) -> Option<u16>
-    ensures taken { IsSome result
-        ↔ (IsNumeral 10 word.now × (0 < digits_value 10 word.now) × (digits_value 10 word.now < 65536)) }
-    ensures value { IfSome result (λ value. IsNumber word.now value) }
+    ensures { IsFound result (IsPositive word.now) }
 {
     let value = u16::try_from(number(word)?).ok()?;
     if value > 0 { Some(value) } else { None }
@@ -148,16 +138,14 @@ pub fn positive(word: &[u8]) -> Option<u16>
 
 /// A number of one byte.
 pub fn byte(word: &[u8]) -> Option<u8>
-    ensures taken { IsSome result ↔ (IsNumeral 10 word.now × (digits_value 10 word.now < 256)) }
-    ensures value { IfSome result (λ value. IsNumber word.now value) }
+    ensures { IsFound result (IsByte word.now) }
 {
     u8::try_from(number(word)?).ok()
 }
 
 /// A number of two bytes.
 pub fn two_bytes(word: &[u8]) -> Option<u16>
-    ensures taken { IsSome result ↔ (IsNumeral 10 word.now × (digits_value 10 word.now < 65536)) }
-    ensures value { IfSome result (λ value. IsNumber word.now value) }
+    ensures { IsFound result (IsTwoBytes word.now) }
 {
     u16::try_from(number(word)?).ok()
 }

@@ -37,7 +37,7 @@ pub loop-line-preserved : goal.loop-line-preserved
 loop-line-preserved g c =
     let steps = c.in-Some.ensures.steps in
     let before = c.loop-line.invariant in
-    let after = line_played g.row.A.Denot g.W.Write.contents c.args.setup.now vec_items c.in-Some.line (g.R.Read.remaining c.args.reader.now) _ _ _ c.loop-line.world c.play_line.new.world
+    let after = line_played g.row.A.Denot g.W.Write.contents c.args.setup.now c.first_line.ensures vec_items c.in-Some.line (g.R.Read.remaining c.args.reader.now) _ _ _ c.loop-line.world c.play_line.new.world
     c.args.printer.now c.loop-line.printer c.play_line.new.printer before.0 before.2 before.1 steps.2 c.in_ok-play_line.ensures.told in
     (after.0, after.1, steps.1 ∙ before.2)
 

@@ -11,7 +11,8 @@ returns-clause-told g c =
     let told = c.play_lines.ensures.told in
     let setup = c.in_ok-setup.setup in
     let again : Rewound g.F.Seek.stream_position g.F.Seek.stream_bytes = record { before = c.read_setup.new.reader; file = c.rewind-2.new.self; moved = c.in_ok-rewind-2.ensures.moves; kept = c.rewind-2.ensures.bytes } in
-    (told.0.text, inr (again, inr (setup, told.0, told.1, refl, told.3)), told.2)
+    let first : Rewound g.F.Seek.stream_position g.F.Seek.stream_bytes = record { before = c.check_length.new.reader; file = c.rewind.new.self; moved = c.in_ok-rewind.ensures.moves; kept = c.rewind.ensures.bytes } in
+    (told.0.text, inr (first, again, inr (setup, c.in_ok-setup.ensures.said, told.0, told.1, refl, told.3)), told.2)
 
 pub returns-clause-too_long : goal.returns-clause-too_long
 returns-clause-too_long g c = search rules

@@ -1,11 +1,5 @@
-use Rattle.std.proofs.Common.{sym, ◌∙◌}
-use Rattle.hex.proofs.HexLemmas.{IsOk-decode_sized}
+use Rattle.at_words.proofs.HexLemmas.{user_found}
 use Rattle.at_words.proofs.hex_word.user_of.Goals as goal
 
-pub returns-clause-found : goal.returns-clause-found
-returns-clause-found c =
-    let digits = IsOk-decode_sized c.args.word.now 4 in
-    let sized = c.from_hex.ensures in (
-      λ h. digits.0 (rw sized at (sym c.ok.ensures.variant ∙ h)),
-      λ h. c.ok.ensures.variant ∙ rw sized (digits.1 h),
-    )
+pub returns : goal.returns
+returns c = user_found c.args.word.now c.from_hex.result c.ok.result c.from_hex.ensures c.ok.ensures.value

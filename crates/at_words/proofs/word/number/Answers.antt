@@ -8,8 +8,8 @@ loop-byte-preserved c =
     let digit = rw c.if-not-is_ascii_digit.false at c.is_ascii_digit.ensures.cases in
     Reads-next 18446744073709551615 c.loop-byte.number c.saturating_add-number.result c.args.word.now c.loop-byte.byte-index (omega arith) digit (omega arith) c.loop-byte.invariant
 
-pub returns-clause-value : goal.returns-clause-value
-returns-clause-value c = (
+pub returns : goal.returns
+returns c = (
   (
     is_some (length c.args.word.now) c.is_empty.result c.if-is_empty.false c.is_empty.ensures,
     Reads-digits 18446744073709551615 c.loop-byte.number c.args.word.now c.loop-byte.byte-index (omega arith) c.loop-byte.invariant,

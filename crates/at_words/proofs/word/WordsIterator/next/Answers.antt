@@ -1,5 +1,5 @@
-use Rattle.std.proofs.Common.{refl, sym, ap, ◌∙◌, ◌≡◌, ◌<◌, ◌-◌, length, take, drop}
-use Rattle.at_words.proofs.WordLemmas.{all_spaces, is_some, is_zero, next_word, rest_from}
+use Rattle.std.proofs.Common.{refl, ◌≡◌, ◌<◌, ◌-◌, length, take, drop}
+use Rattle.at_words.proofs.WordLemmas.{is_some, is_zero, next_word, no_words, rest_from}
 use Rattle.at_words.proofs.word.WordsIterator.next.Goals as goal
 
 pub returns-then-is_empty-clause-steps : goal.returns-then-is_empty-clause-steps
@@ -7,8 +7,8 @@ returns-then-is_empty-clause-steps c =
     let xs = c.args.self.now.rest.now in
     let r = take (length xs - c.spaces.result) (drop c.spaces.result xs) in
     let none : length r ≡ 0 = is_zero (length r) c.is_empty.result c.if-is_empty.true c.is_empty.ensures in
-    let left : length (drop c.spaces.result xs) ≡ 0 = ap length (sym (rest_from c.spaces.result xs)) ∙ none in
-    all_spaces xs (ap (λ n. length (drop n xs)) (sym c.spaces.ensures.value) ∙ left)
+    let over = no_words xs c.spaces.result r c.spaces.ensures.value (rest_from c.spaces.result xs) none in
+    (over, over)
 
 pub returns-clause-steps : goal.returns-clause-steps
 returns-clause-steps c =

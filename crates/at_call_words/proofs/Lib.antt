@@ -1,0 +1,4 @@
+mod CallLemmas
+mod ItemLemmas
+mod PacketLemmas
+mod WordLemmas

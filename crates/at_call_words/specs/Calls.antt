@@ -1,0 +1,85 @@
+-- Which call words say.
+use Rattle.std.specs.Prelude.{◌≡◌, ◌<◌, ℕ, Bool, true, false, List, [], ◌∷◌, ◌++◌, Option, codes}
+use Rattle.std.specs.List.{AllZip}
+use Rattle.at_atp_frame.specs.Packets.{Packet}
+use Rattle.at_adsp_end.specs.declared.item.Item.{Item}
+use Rattle.at_event.specs.declared.event.Call.{Call}
+use Rattle.at_event.specs.declared.event.Call.TheVariants as call
+use Rattle.at_call_words.specs.Items.{AreItems}
+use Rattle.at_call_words.specs.Words.{One, Two}
+use Rattle.at_words.specs.Hexes.{IsHex, IsUser}
+use Rattle.at_words.specs.Numbers.{IsByte, IsCount, IsNode, IsNumber, IsTwoBytes}
+use Rattle.at_words.specs.Texts.{AreZone, IsText}
+
+-- `alo`, at least once, or `xo`, exactly once
+abbrev pub IsMode : List ℕ → Bool → Type 0
+IsMode word false = word ≡ codes "alo"
+IsMode word true = word ≡ codes "xo"
+
+-- `on` or `off`
+abbrev pub IsSwitch : List ℕ → Bool → Type 0
+IsSwitch word true = word ≡ codes "on"
+IsSwitch word false = word ≡ codes "off"
+
+-- 1 to 8 packets are wanted
+abbrev pub IsWanted : List ℕ → ℕ → Type 0
+IsWanted word n = IsNumber word n × (0 < n) × (n < 9)
+
+-- user bytes and data with a colon between them
+abbrev pub IsPacketWord : List ℕ → Packet → Type 0
+IsPacketWord word p = (user bytes : List ℕ) × (word ≡ user ++ (58 ∷ bytes)) × IsUser user p.user × IsHex bytes p.data_
+
+-- what an ask says: node, socket, user bytes, data, packets wanted, mode and retries
+abbrev pub AskSays : List (List ℕ) → ℕ → ℕ → List ℕ → List ℕ → ℕ → Bool → ℕ → Type 0
+AskSays ws node socket user bytes wanted exactly_once retries =
+    (n s u d w m r : List ℕ) × (ws ≡ n ∷ s ∷ u ∷ d ∷ w ∷ m ∷ r ∷ [])
+    × IsNode n node × IsNode s socket × IsUser u user × IsHex d bytes × IsWanted w wanted × IsMode m exactly_once
+    × IsByte r retries
+
+-- what an answer says: node, socket and transaction of who asked, and the packets
+abbrev pub AnswerSays : List (List ℕ) → ℕ → ℕ → ℕ → List Packet → Type 0
+AnswerSays ws node socket tid packets =
+    (n s t : List ℕ) × (ps : List (List ℕ)) × (ws ≡ n ∷ s ∷ t ∷ ps)
+    × IsNode n node × IsNode s socket × IsTwoBytes t tid × AllZip IsPacketWord ps packets
+
+-- what a lookup says: an object, a type, and a zone if there is one
+abbrev pub FindSays : List (List ℕ) → List ℕ → List ℕ → Option (List ℕ) → Type 0
+FindSays ws object kind place =
+    (o k : List ℕ) × (zs : List (List ℕ)) × (ws ≡ o ∷ k ∷ zs) × IsText o object × IsText k kind × AreZone zs place
+
+-- an object, a type and a socket
+abbrev pub SocketSays : List (List ℕ) → List ℕ → List ℕ → ℕ → Type 0
+SocketSays ws object kind socket =
+    (o k s : List ℕ) × (ws ≡ o ∷ k ∷ s ∷ []) × IsText o object × IsText k kind × IsNode s socket
+
+-- the end of a stream, and items for it
+abbrev pub WriteSays : List (List ℕ) → ℕ → List Item → Type 0
+WriteSays ws id items =
+    (i : List ℕ) × (is : List (List ℕ)) × (ws ≡ i ∷ is) × IsTwoBytes i id × AreItems is items
+
+-- the word of a call, and what the words after it say
+abbrev pub SaysCall : {A : Type 0} → List ℕ → List (List ℕ) → Call A → Type 0
+SaysCall word ws call.Zones = (word ≡ codes "zones") × (ws ≡ [])
+SaysCall word ws (call.SetZones names) = (word ≡ codes "setzones") × AllZip IsText ws names
+SaysCall word ws (call.Ask node socket user bytes wanted exactly_once retries) =
+    (word ≡ codes "ask") × AskSays ws node socket user bytes wanted exactly_once retries
+SaysCall word ws (call.Answer node socket tid packets) =
+    (word ≡ codes "answer") × AnswerSays ws node socket tid packets
+SaysCall word ws (call.Pick zone) = (word ≡ codes "pick") × One IsText ws zone
+SaysCall word ws (call.Find object kind place) = (word ≡ codes "find") × FindSays ws object kind place
+SaysCall word ws (call.Claim object kind socket) = (word ≡ codes "claim") × SocketSays ws object kind socket
+SaysCall word ws (call.Finish id) = (word ≡ codes "finish") × One IsByte ws id
+SaysCall word ws (call.Register object kind socket) = (word ≡ codes "register") × SocketSays ws object kind socket
+SaysCall word ws (call.Unregister object kind) = (word ≡ codes "unregister") × Two IsText IsText ws object kind
+SaysCall word ws (call.Open index) = (word ≡ codes "open") × One IsCount ws index
+SaysCall word ws (call.Listen on) = (word ≡ codes "listen") × One IsSwitch ws on
+SaysCall word ws (call.Connect node socket) = (word ≡ codes "connect") × Two IsNode IsNode ws node socket
+SaysCall word ws (call.Write id items) = (word ≡ codes "write") × WriteSays ws id items
+SaysCall word ws (call.Read id count) = (word ≡ codes "read") × Two IsTwoBytes IsTwoBytes ws id count
+SaysCall word ws (call.Reset id) = (word ≡ codes "reset") × One IsTwoBytes ws id
+SaysCall word ws (call.Close id) = (word ≡ codes "close") × One IsTwoBytes ws id
+
+-- the words say this call
+abbrev pub AreCall : {A : Type 0} → List (List ℕ) → Call A → Type 0
+AreCall [] call = ⊥
+AreCall (word ∷ ws) call = SaysCall word ws call

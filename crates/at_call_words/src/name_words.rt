@@ -1,0 +1,90 @@
+//! The words of names and lookups.
+ghost use Rattle.std.specs.Prelude.{◌≡◌, ◌∷◌, [], List, ℕ, codes, IfSome, IsNone};
+ghost use Rattle.at_call_words.specs.Calls.{SaysCall, SocketSays};
+ghost use Rattle.at_words.specs.Readings.{IsFound};
+ghost use Rattle.at_words.specs.Numbers.{IsNode};
+ghost use Rattle.at_words.specs.Texts.{AreZone, IsText};
+ghost use Rattle.at_words.specs.Words.{words_of};
+
+use crate::words::{one, three, two};
+use at_ddp::Pascal;
+use at_event::Call;
+use at_words::{Words, byte, node_number, text};
+use std::alloc::Allocator;
+
+/// `TEXT TEXT [TEXT]`
+pub(crate) fn find<A: Allocator>(mut words: Words<'_>) -> Option<Call<A>>
+    ensures { IsFound result (SaysCall (codes "find") (words_of words.entry.rest.now)) }
+{
+    let object = text(words.next()?)?;
+    let kind = text(words.next()?)?;
+    let zone = zone_of(words)?;
+    Some(Call::Find { object, kind, zone })
+}
+
+// The zone that the last word says, if there is one.
+fn zone_of(mut words: Words<'_>) -> Option<Option<Pascal>>
+    ensures { IsFound result (AreZone (words_of words.entry.rest.now)) }
+{
+    let Some(word) = words.next() else {
+        return Some(None);
+    };
+    words.end()?;
+    let zone = text(word)?;
+    Some(Some(zone))
+}
+
+/// `TEXT TEXT SOCKET`
+pub(crate) fn claim<A: Allocator>(words: Words<'_>) -> Option<Call<A>>
+    ensures { IsFound result (SaysCall (codes "claim") (words_of words.entry.rest.now)) }
+{
+    let (object, kind, socket) = socket_name(words)?;
+    Some(Call::Claim {
+        object,
+        kind,
+        socket,
+    })
+}
+
+/// `ID`
+pub(crate) fn finish<A: Allocator>(words: Words<'_>) -> Option<Call<A>>
+    ensures { IsFound result (SaysCall (codes "finish") (words_of words.entry.rest.now)) }
+{
+    let id = byte(one(words)?)?;
+    Some(Call::Finish { id })
+}
+
+/// `TEXT TEXT SOCKET`
+pub(crate) fn register<A: Allocator>(words: Words<'_>) -> Option<Call<A>>
+    ensures { IsFound result (SaysCall (codes "register") (words_of words.entry.rest.now)) }
+{
+    let (object, kind, socket) = socket_name(words)?;
+    Some(Call::Register {
+        object,
+        kind,
+        socket,
+    })
+}
+
+// An object, a type and a socket.
+fn socket_name(words: Words<'_>) -> Option<(Pascal, Pascal, u8)>
+    ensures said { IfSome result (λ r. SocketSays (words_of words.entry.rest.now) r.0 r.1 r.2) }
+    ensures only { IsNone result → (o k s object kind : List ℕ) (socket : ℕ)
+        → words_of words.entry.rest.now ≡ o ∷ k ∷ s ∷ [] → IsText o object → IsText k kind → ¬ IsNode s socket }
+{
+    let (object, kind, socket) = three(words)?;
+    let object = text(object)?;
+    let kind = text(kind)?;
+    let socket = node_number(socket)?;
+    Some((object, kind, socket))
+}
+
+/// `TEXT TEXT`
+pub(crate) fn unregister<A: Allocator>(words: Words<'_>) -> Option<Call<A>>
+    ensures { IsFound result (SaysCall (codes "unregister") (words_of words.entry.rest.now)) }
+{
+    let (object, kind) = two(words)?;
+    let object = text(object)?;
+    let kind = text(kind)?;
+    Some(Call::Unregister { object, kind })
+}

@@ -1,0 +1,77 @@
+//! The words of streams.
+ghost use Rattle.std.specs.Prelude.{codes};
+ghost use Rattle.at_call_words.specs.Calls.{IsSwitch, SaysCall};
+ghost use Rattle.at_call_words.specs.Readings.{IsFoundInMemory};
+ghost use Rattle.at_words.specs.Readings.{IsFound};
+ghost use Rattle.at_words.specs.Words.{words_of};
+
+use crate::item_words::items_of;
+use crate::words::{one, two};
+use at_event::Call;
+use at_faults::{LineFault, Rule};
+use at_words::{Words, node_number, two_bytes};
+use std::alloc::Allocator;
+
+/// `on` or `off`
+pub(crate) fn listen<A: Allocator>(words: Words<'_>) -> Option<Call<A>>
+    ensures { IsFound result (SaysCall (codes "listen") (words_of words.entry.rest.now)) }
+{
+    let on = is_on(one(words)?)?;
+    Some(Call::Listen { on })
+}
+
+fn is_on(word: &[u8]) -> Option<bool>
+    ensures { IsFound result (IsSwitch word.now) }
+{
+    match word {
+        b"on" => Some(true),
+        b"off" => Some(false),
+        _ => None,
+    }
+}
+
+/// `NODE SOCKET`
+pub(crate) fn connect<A: Allocator>(words: Words<'_>) -> Option<Call<A>>
+    ensures { IsFound result (SaysCall (codes "connect") (words_of words.entry.rest.now)) }
+{
+    let (node, socket) = two(words)?;
+    let node = node_number(node)?;
+    let socket = node_number(socket)?;
+    Some(Call::Connect { node, socket })
+}
+
+/// `ID ITEM ..`
+pub(crate) fn write<A: Allocator>(alloc: A, mut words: Words<'_>) -> Result<Call<A>, LineFault>
+    ensures { IsFoundInMemory result (SaysCall (codes "write") (words_of words.entry.rest.now)) }
+{
+    let id = words.next().ok_or(LineFault::Unlawful(Rule::Write))?;
+    let id = two_bytes(id).ok_or(LineFault::Unlawful(Rule::Write))?;
+    let items = items_of(alloc, words)?;
+    Ok(Call::Write { id, items })
+}
+
+/// `ID COUNT`
+pub(crate) fn read<A: Allocator>(words: Words<'_>) -> Option<Call<A>>
+    ensures { IsFound result (SaysCall (codes "read") (words_of words.entry.rest.now)) }
+{
+    let (id, count) = two(words)?;
+    let id = two_bytes(id)?;
+    let count = two_bytes(count)?;
+    Some(Call::Read { id, count })
+}
+
+/// `ID`
+pub(crate) fn reset<A: Allocator>(words: Words<'_>) -> Option<Call<A>>
+    ensures { IsFound result (SaysCall (codes "reset") (words_of words.entry.rest.now)) }
+{
+    let id = two_bytes(one(words)?)?;
+    Some(Call::Reset { id })
+}
+
+/// `ID`
+pub(crate) fn close<A: Allocator>(words: Words<'_>) -> Option<Call<A>>
+    ensures { IsFound result (SaysCall (codes "close") (words_of words.entry.rest.now)) }
+{
+    let id = two_bytes(one(words)?)?;
+    Some(Call::Close { id })
+}

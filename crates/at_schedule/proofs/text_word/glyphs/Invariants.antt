@@ -1,9 +1,0 @@
-use Rattle.std.proofs.Common.{length}
-use Rattle.at_schedule.proofs.TextLemmas.{Spells}
-use Rattle.at_schedule.proofs.text_word.glyphs.Given as goal
-
-abbrev pub invariant-loop-rest : goal.invariant-loop-rest
-invariant-loop-rest l = Spells l.fn.word l.rest l.bytes.items
-
-abbrev pub decreases-loop-rest : goal.decreases-loop-rest
-decreases-loop-rest l = length l.rest

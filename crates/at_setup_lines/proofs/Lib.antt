@@ -1,0 +1,9 @@
+mod DraftLemmas
+mod FitLemmas
+mod HeadLemmas
+mod LineLemmas
+mod NameLemmas
+mod RouterLemmas
+mod RuleLemmas
+mod SaidLemmas
+mod TableLemmas

@@ -1,0 +1,78 @@
+-- A word spells one name, whose bytes are bytes.
+use Rattle.std.proofs.Common.{arith, length, ◌≡◌, ◌<◌, ℕ, List, [], ◌∷◌, ◌++◌, Result, Ok, inl, inr, refl, sym, ap, subst, ◌∙◌}
+use Rattle.std.specs.Prelude.{codes}
+use Rattle.hex.specs.Hex.{decode_of}
+use Rattle.hex.specs.declared.error.FromHexError.{FromHexError}
+use Rattle.hex.proofs.HexLemmas.{decode_of-ok}
+use Rattle.at_words.specs.Texts.{AreGlyphs, IsZoneName, SpellsFirst}
+
+abbrev one_byte : ℕ → Result (List ℕ) FromHexError
+one_byte byte = Ok (byte ∷ [])
+
+same_byte : (byte other : ℕ) → one_byte byte ≡ one_byte other → byte ≡ other
+same_byte byte other same = cc
+
+two_digits : (digits : List ℕ) (byte : ℕ) → decode_of digits ≡ Ok (byte ∷ []) → length digits ≡ 2
+two_digits digits byte decoded = let (even, each, twice, bytes) = decode_of-ok digits (byte ∷ []) decoded in omega (arith, twice)
+
+-- fronts of one length are the same
+fronts : (xs ys us vs : List ℕ) → length xs ≡ length ys → xs ++ us ≡ ys ++ vs → (xs ≡ ys) × (us ≡ vs)
+fronts [] [] us vs long same = (refl, same)
+fronts [] (y ∷ ys) us vs long same = absurd (omega (arith, long))
+fronts (x ∷ xs) [] us vs long same = absurd (omega (arith, long))
+fronts (x ∷ xs) (y ∷ ys) us vs long same =
+    let head : x ≡ y = cc in
+    let tail : xs ++ us ≡ ys ++ vs = cc in
+    let rest = fronts xs ys us vs (omega (arith, long)) tail in
+    ((λ i. head i ∷ rest.0 i), rest.1)
+
+same_first : (word rest left : List ℕ) (byte other : ℕ) → SpellsFirst word byte rest → SpellsFirst word other left → (byte ≡ other) × (rest ≡ left)
+same_first word rest left byte other (p, is, inl (one, seen, apart)) (q, same, inl (two, shown, differs)) =
+    let both : byte ∷ rest ≡ other ∷ left = ap (λ l. l ++ rest) (sym one) ∙ sym is ∙ same ∙ ap (λ l. l ++ left) two in
+    (cc, cc)
+same_first word rest left byte other (p, is, inl (one, seen, apart)) (q, same, inr (digits, two, decoded)) =
+    let both : byte ∷ rest ≡ 37 ∷ (digits ++ left) = ap (λ l. l ++ rest) (sym one) ∙ sym is ∙ same ∙ ap (λ l. l ++ left) two in
+    absurd (apart cc)
+same_first word rest left byte other (p, is, inr (digits, one, decoded)) (q, same, inl (two, shown, differs)) =
+    let both : 37 ∷ (digits ++ rest) ≡ other ∷ left = ap (λ l. l ++ rest) (sym one) ∙ sym is ∙ same ∙ ap (λ l. l ++ left) two in
+    absurd (differs cc)
+same_first word rest left byte other (p, is, inr (digits, one, decoded)) (q, same, inr (pair, two, told)) =
+    let both : 37 ∷ (digits ++ rest) ≡ 37 ∷ (pair ++ left) = ap (λ l. l ++ rest) (sym one) ∙ sym is ∙ same ∙ ap (λ l. l ++ left) two in
+    let tail : digits ++ rest ≡ pair ++ left = cc in
+    let parts = fronts digits pair rest left (two_digits digits byte decoded ∙ sym (two_digits pair other told)) tail in
+    (same_byte byte other (sym decoded ∙ ap decode_of parts.0 ∙ told), parts.1)
+
+none_spelled : (word rest : List ℕ) (byte : ℕ) → word ≡ [] → ¬ SpellsFirst word byte rest
+none_spelled word rest byte none (p, is, inl (one, seen, apart)) = cc (sym none ∙ is ∙ ap (λ l. l ++ rest) one)
+none_spelled word rest byte none (p, is, inr (digits, one, decoded)) = cc (sym none ∙ is ∙ ap (λ l. l ++ rest) one)
+
+same_text : (word a b : List ℕ) → AreGlyphs word a → AreGlyphs word b → a ≡ b
+same_text word [] [] h g = refl
+same_text word [] (y ∷ b) h (left, second, more) = absurd (none_spelled word left y h second)
+same_text word (x ∷ a) [] (rest, first, are) g = absurd (none_spelled word rest x g first)
+same_text word (x ∷ a) (y ∷ b) (rest, first, are) (left, second, more) =
+    let same = same_first word rest left x y first second in
+    let tail = same_text left a b (subst (λ l. AreGlyphs l a) same.1 are) more in
+    λ i. same.0 i ∷ tail i
+
+-- a percent sign alone spells no byte
+not_alone : (a : List ℕ) → 0 < length a → ¬ AreGlyphs (codes "%") a
+not_alone [] some h = omega (arith, some)
+not_alone (x ∷ a) some (rest, (p, is, inl (one, seen, apart)), are) =
+    let both : codes "%" ≡ x ∷ rest = is ∙ ap (λ l. l ++ rest) one in
+    apart cc
+not_alone (x ∷ a) some (rest, (p, is, inr (digits, one, decoded)), are) =
+    let both : codes "%" ≡ 37 ∷ (digits ++ rest) = is ∙ ap (λ l. l ++ rest) one in
+    let tail : [] ≡ digits ++ rest = cc in
+    no_front digits rest (two_digits digits x decoded) tail
+  where
+    no_front : (digits rest : List ℕ) → length digits ≡ 2 → [] ≡ digits ++ rest → ⊥
+    no_front [] rest two same = omega (arith, two)
+    no_front (d ∷ digits) rest two same = cc same
+
+pub glyphs_of : (word name : List ℕ) → IsZoneName word name → AreGlyphs word name
+glyphs_of word name ((inl (percent, none), few), some) = let over : length name ≡ 0 = ap length none in absurd (omega (arith, some, over))
+glyphs_of word name ((inr are, few), some) = are
+
+pub same_name : (word a b : List ℕ) → IsZoneName word a → IsZoneName word b → a ≡ b
+same_name word a b h g = same_text word a b (glyphs_of word a h) (glyphs_of word b g)

@@ -1,0 +1,173 @@
+//! What is read of the lines of a setup.
+ghost use Rattle.std.specs.Prelude.{◌≡◌, ◌≢◌, ◌∷◌, [], List, ℕ, false, true, IsErr, IfErr, IfOk, OnErr, OnOk, codes};
+ghost use Rattle.at_words.specs.Words.{words_of};
+ghost use Rattle.at_setup_lines.specs.Drafts.{Draft, IsDraft, IsNoSetup, Refuses, Takes};
+ghost use Rattle.at_setup_lines.specs.Drafts.{end_rule, event_rule, has_events};
+ghost use Rattle.at_setup_lines.specs.SetupLines.{IsSetup};
+
+use crate::node_line::{net_of, node_of};
+use crate::nodes::{has_router, lacks_router, rule_broken_by};
+use crate::table::table_of;
+use at_ddp::{Listed, Pascal};
+use at_faults::{LineFault, Rule};
+use at_words::Words;
+use at_world::{NodeSetup, Setup};
+use std::alloc::{Allocator, Global};
+use std::marker::Model;
+
+// Which line comes next.
+#[derive(Clone, Copy)]
+enum Stage {
+    /// The network.
+    Net,
+    /// A node, the zone table or an event.
+    Node,
+    /// An event, after the zone table.
+    Table,
+    /// An event, after another one.
+    Event,
+}
+
+/// What the lines so far say.
+#[derive(Drop)]
+pub struct SetupDraft<A: Allocator = Global> {
+    alloc: A,
+    stage: Stage,
+    net: u16,
+    nodes: Vec<NodeSetup, A>,
+    zones: Vec<Pascal, A>,
+}
+
+impl<A: Allocator> Model for SetupDraft<A> {
+    ghost use Rattle.at_setup_lines.specs.Drafts.{Draft};
+
+    ghost Value = { Draft };
+
+    ghost view = { λ d. record { stage = d.stage; net = d.net; nodes = d.nodes.items; zones = d.zones.items } };
+}
+
+impl<A: Allocator + Copy> SetupDraft<A> {
+    /// No line is read yet.
+    pub fn new(alloc: A) -> SetupDraft<A>
+        ensures { IsDraft [] result }
+    {
+        SetupDraft {
+            alloc,
+            stage: Stage::Net,
+            net: 0,
+            nodes: Vec::new(alloc),
+            zones: Vec::new(alloc),
+        }
+    }
+
+    /// Takes the line of the network, after its first word.
+    pub fn take_net(&mut self, words: Words<'_>) -> Result<(), LineFault>
+        ensures taken { OnOk result (Takes self.old (codes "net" ∷ words_of words.entry.rest.now) self.new) }
+        ensures kept { OnErr result (self.new ≡ self.old) }
+        ensures only { IfErr result (λ fault. fault ≢ LineFault.NoMemory
+            → Refuses A self.old (codes "net" ∷ words_of words.entry.rest.now)) }
+        ensures early { OnOk result (has_events self.new ≡ false) }
+        ensures late { has_events self.old ≡ true → IsErr result }
+    {
+        let net = net_of(words).ok_or(LineFault::Unlawful(Rule::Net))?;
+        match self.stage {
+            Stage::Net => {
+                self.net = net;
+                self.stage = Stage::Node;
+                Ok(())
+            }
+            _ => Err(LineFault::Unlawful(Rule::NetOnce)),
+        }
+    }
+
+    /// Takes the line of a node, after its first word.
+    pub fn take_node(&mut self, words: Words<'_>) -> Result<(), LineFault>
+        ensures taken { OnOk result (Takes self.old (codes "node" ∷ words_of words.entry.rest.now) self.new) }
+        ensures kept { OnErr result (self.new ≡ self.old) }
+        ensures only { IfErr result (λ fault. fault ≢ LineFault.NoMemory
+            → Refuses A self.old (codes "node" ∷ words_of words.entry.rest.now)) }
+        ensures early { OnOk result (has_events self.new ≡ false) }
+        ensures late { has_events self.old ≡ true → IsErr result }
+    {
+        let node = node_of(words).ok_or(LineFault::Unlawful(Rule::Node))?;
+        match self.stage {
+            Stage::Net => return Err(LineFault::Unlawful(Rule::NetFirst)),
+            Stage::Table | Stage::Event => return Err(LineFault::Unlawful(Rule::NodesFirst)),
+            Stage::Node => {}
+        }
+        if let Some(rule) = rule_broken_by(&self.nodes, &node) {
+            return Err(LineFault::Unlawful(rule));
+        }
+        self.nodes.push(node)?;
+        Ok(())
+    }
+
+    /// Takes the line of the zone table, after its first word.
+    pub fn take_zones(&mut self, words: Words<'_>) -> Result<(), LineFault>
+        ensures taken { OnOk result (Takes self.old (codes "zones" ∷ words_of words.entry.rest.now) self.new) }
+        ensures kept { OnErr result (self.new ≡ self.old) }
+        ensures only { IfErr result (λ fault. fault ≢ LineFault.NoMemory
+            → Refuses A self.old (codes "zones" ∷ words_of words.entry.rest.now)) }
+        ensures early { OnOk result (has_events self.new ≡ false) }
+        ensures late { has_events self.old ≡ true → IsErr result }
+    {
+        match self.stage {
+            Stage::Net => return Err(LineFault::Unlawful(Rule::NetFirst)),
+            Stage::Table | Stage::Event => return Err(LineFault::Unlawful(Rule::ZonesOnce)),
+            Stage::Node => {}
+        }
+        if !has_router(&self.nodes) {
+            return Err(LineFault::Unlawful(Rule::ZonesOfRouter));
+        }
+        self.zones = table_of(self.alloc, words)?;
+        self.stage = Stage::Table;
+        Ok(())
+    }
+
+    /// Takes the first word of an event's line, after which no line of the setup comes.
+    pub fn take_event(&mut self) -> Result<(), Rule>
+        ensures taken { OnOk result ((lines : List (List (List ℕ))) → IsDraft lines self.old → IsDraft lines self.new) }
+        ensures over { OnOk result (has_events self.new ≡ true) }
+        ensures kept { OnErr result (self.new ≡ self.old) }
+        ensures only { OnErr result (IsNoSetup A self.old) }
+        ensures rule { IfErr result (λ rule. rule ≡ event_rule self.old.stage) }
+    {
+        match self.stage {
+            Stage::Net => return Err(Rule::NetFirst),
+            Stage::Node => {
+                if lacks_router(&self.nodes) {
+                    return Err(Rule::RouterMissing);
+                }
+            }
+            Stage::Table | Stage::Event => {}
+        }
+        self.stage = Stage::Event;
+        Ok(())
+    }
+
+    /// The setup, if the lines so far are one, or what is missing.
+    pub fn finish(self) -> Result<Setup<A>, Rule>
+        ensures said { IfOk result (λ s. (lines : List (List (List ℕ))) → IsDraft lines self → IsSetup lines s) }
+        ensures only { OnErr result (IsNoSetup A self) }
+        ensures rule { IfErr result (λ rule. rule ≡ end_rule self.net) }
+    {
+        let SetupDraft {
+            net,
+            nodes,
+            zones,
+            ..
+        } = self;
+        let setup = Setup {
+            net,
+            nodes: Listed::from_vec(nodes),
+            zones: Listed::from_vec(zones),
+        };
+        if setup.is_lawful() {
+            Ok(setup)
+        } else if net == 0 {
+            Err(Rule::NoNet)
+        } else {
+            Err(Rule::NoRouter)
+        }
+    }
+}

@@ -1,0 +1,10 @@
+//! The lines of a setup: `net`, then a `node` for each node, and `zones` for the router's table. A draft takes one line
+//! after another, and refuses a line with which no setup begins.
+#![tactic(auto)]
+
+mod draft;
+mod node_line;
+mod nodes;
+mod table;
+
+pub use draft::SetupDraft;
