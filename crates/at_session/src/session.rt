@@ -40,8 +40,8 @@ impl<A: Allocator + Copy> Session<A> {
         }
     }
 
-    /// Picks a zone that stands in the zone list, whatever the case of its letters a to z. Refuses any other. This needs
-    /// no memory.
+    /// Picks a zone that stands in the zone list, whatever the case of its letters a to z. Refuses any other. This
+    /// needs no memory.
     pub fn pick(&mut self, zone: &Pascal) -> Result<(), NodeFault>
         ensures ok { OnOk result (self.new ≡ picking self.old zone.now) }
         ensures listed { OnOk result (is_listed self.old zone.now ≡ true) }

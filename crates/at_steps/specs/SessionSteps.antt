@@ -1,5 +1,5 @@
--- What a step of a node is in words of its user's session: which reports the session keeps, and which zone may be picked
--- (Inside AppleTalk, ZIP, "GetZoneList"; NBP, "Name lookup").
+-- What a step of a node is in words of its user's session: which reports the session keeps, and which zone may be
+-- picked (Inside AppleTalk, ZIP, "GetZoneList"; NBP, "Name lookup").
 use Rattle.std.specs.Prelude.{◌≡◌, ℕ, List, true}
 use Rattle.at_event.specs.declared.event.Call.TheVariants.{Finish, Pick}
 use Rattle.at_event.specs.declared.event.Report.{Report}

@@ -37,8 +37,8 @@ is_plain (Gets which) (report.Dropped id) = true
 is_plain (Gets which) (report.Closed id) = true
 is_plain act r = false
 
--- All ends that were ever made, before and after, newest first; the number of the event, the node's socket, all that was
--- sent before, and the session of the node's user; what happened, and its report
+-- All ends that were ever made, before and after, newest first; the number of the event, the node's socket, all that
+-- was sent before, and the session of the node's user; what happened, and its report
 pub record Change (A : Type 0) : Type 0 where
   pub part : List Stream
   pub now : List Stream

@@ -1,4 +1,5 @@
--- What the machine knows of the sessions of the nodes' users (Inside AppleTalk, ZIP, "GetZoneList"; NBP, "Name lookup").
+-- What the machine knows of the sessions of the nodes' users (Inside AppleTalk, ZIP, "GetZoneList"; NBP, "Name
+-- lookup").
 use Rattle.std.specs.Prelude.{◌≡◌, ℕ, ◌==◌, if◌then◌else◌}
 use Rattle.at_event.specs.declared.event.Report.{Report}
 use Rattle.at_session.specs.Sessions.{SessionState, new_session}

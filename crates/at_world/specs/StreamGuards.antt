@@ -1,5 +1,5 @@
--- What the machine knows of the ends of streams, and which reports of them it allows (Inside AppleTalk, ADSP, "Opening a
--- connection", "Data flow", "Forward resets"). It has no segment, no sequence number and no window.
+-- What the machine knows of the ends of streams, and which reports of them it allows (Inside AppleTalk, ADSP, "Opening
+-- a connection", "Data flow", "Forward resets"). It has no segment, no sequence number and no window.
 use Rattle.std.specs.Prelude.{◌≡◌, ℕ, ◌+◌, Bool, true, false, List, [], ◌∷◌, find, take, Option, Some}
 use Rattle.at_ddp.specs.declared.address.Address.{Address}
 use Rattle.at_adsp_end.specs.declared.item.Item.{Item}
