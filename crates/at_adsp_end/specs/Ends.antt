@@ -1,5 +1,5 @@
 -- An end of a stream, and its packets (Inside AppleTalk, ADSP, "Connection ends").
-use Rattle.std.specs.Prelude.{ℕ, ◌+◌, ◌-◌, ◌==◌, ◌&&◌, Bool, true, false, List, [], length, map}
+use Rattle.std.specs.Prelude.{ℕ, ◌+◌, ◌-◌, ◌<◌, ◌≤◌, ◌==◌, ◌&&◌, Bool, true, false, List, [], length, map}
 use Rattle.std.specs.Prelude.{Option, Some, None}
 use Rattle.at_ddp.specs.Address.{same_address}
 use Rattle.at_ddp.specs.Outbox.{Outbox, Sends}
@@ -86,6 +86,13 @@ half_end rooms id from = record {
   receive_room = rooms.receive;
   send_room = rooms.send;
 }
+
+-- the queues of an end fit their rooms, which hold at most 65,535 items
+pub record FitsRooms (e : EndState) : Type 0 where
+  pub unread : length e.receiver.unread ≤ e.receive_room
+  pub queued : length e.sender.unacknowledged + length e.sender.waiting ≤ e.send_room
+  pub receive_room : e.receive_room < 65536
+  pub send_room : e.send_room < 65536
 
 -- ---- what is asked of an end
 

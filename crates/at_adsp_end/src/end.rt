@@ -1,8 +1,8 @@
 ghost use Rattle.std.specs.Prelude.{◌≡◌, ◌&&◌, ◌||◌, not, IfOk, is_none};
 ghost use Rattle.at_ddp.specs.Address.{same_address};
 ghost use Rattle.at_adsp_end.specs.Calls.{is_last};
-ghost use Rattle.at_adsp_end.specs.Ends.{connector, half_end, has_opened, has_remote, is_closed, is_half, is_open};
-ghost use Rattle.at_adsp_end.specs.Ends.{is_opening};
+ghost use Rattle.at_adsp_end.specs.Ends.{FitsRooms, connector, half_end, has_opened, has_remote, is_closed};
+ghost use Rattle.at_adsp_end.specs.Ends.{is_half, is_open, is_opening};
 
 use crate::item::Item;
 use crate::outgoing::Outgoing;
@@ -91,6 +91,14 @@ impl<A: Allocator + Copy> End<A> {
 }
 
 impl<A: Allocator> End<A> {
+    /// Its queues fit their rooms. The body only visits the parts.
+    pub fn limits(&self)
+        ensures { FitsRooms self.now }
+    {
+        self.unread.capacity();
+        self.outgoing.places();
+    }
+
     /// Its connection identifier.
     pub fn id(&self) -> u16
         ensures { result ≡ self.now.id }

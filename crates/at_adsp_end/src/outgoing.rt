@@ -84,8 +84,10 @@ impl<A: Allocator> Outgoing<A> {
 
     // How many more items can be written.
     pub(crate) fn places(&self) -> usize
-        ensures { result
+        ensures count { result
             ≡ self.now.room - (length self.now.sender.unacknowledged + length self.now.sender.waiting) }
+        ensures fits { length self.now.sender.unacknowledged + length self.now.sender.waiting ≤ self.now.room }
+        ensures small { self.now.room < 65536 }
     {
         self.queue.capacity() - self.queue.len()
     }

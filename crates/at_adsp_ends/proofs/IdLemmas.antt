@@ -101,3 +101,14 @@ apart first m n e lt fits h =
 pub below_tries : (tries first : ℕ) (ends : List EndState) → IsId first → tries ≤ 65535 → free_id tries first ends ≡ None → tries ≤ length ends
 below_tries tries first ends fits few none =
     tests_in_use (λ i. has_id (nth first i)) 65535 (λ m n e lt within. apart first m n e lt within) tries ends few (in_use tries first ends fits none)
+
+-- no identifier is left only if 16 ends stand
+pub none_left : (t : EndTable) → IsId t.next → next_id t ≡ None → 16 ≤ length t.ends
+none_left t fits none = go (nat_lt (length t.ends) 16) refl none
+  where
+    go : (b : Bool) → nat_lt (length t.ends) 16 ≡ b → cond b (free_id (length t.ends + 1) t.next t.ends) None ≡ None → 16 ≤ length t.ends
+    go true few h =
+        let less : length t.ends < 16 = grind (arith, nat_tests, few) in
+        let most = below_tries (length t.ends + 1) t.next t.ends fits (omega (arith, less)) h in
+        absurd (omega (arith, most))
+    go false full h = grind (arith, nat_tests, full)

@@ -1,4 +1,6 @@
+mod CountLemmas
 mod DistinctLemmas
 mod IdLemmas
 mod MoveLemmas
+mod SegmentCounts
 mod TableLaws

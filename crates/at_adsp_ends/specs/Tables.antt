@@ -74,6 +74,10 @@ pub record Done (X : Type 0) : Type 0 where
   pub changed : Option EndState
   pub sent : List (Address × Content)
 
+-- no more segments are sent than the queues of one end have room for items, twice
+abbrev pub SendsFew : {X : Type 0} → Done X → Type 0
+SendsFew d = length d.sent ≤ 131070
+
 -- an end was made
 abbrev pub made : {X : Type 0} → EndTable → X → EndState → List Content → Done X
 made t answer e sent =

@@ -1,12 +1,13 @@
 ghost use Rattle.std.specs.Prelude.{◌≡◌, ◌≢◌, ◌≤◌, ◌<◌, ◌↔◌, find, length, is_some};
 ghost use Rattle.std.specs.Prelude.{IfOk, IfErr, IfSome, OnErr, IsOk, None, Err};
-ghost use Rattle.std.specs.List.{position_from, list_any};
+ghost use Rattle.std.specs.List.{AllByRecursion, position_from, list_any};
 ghost use Rattle.std.specs.Option.{option_copied};
 ghost use Rattle.at_ddp.specs.Outbox.{Sends};
-ghost use Rattle.at_adsp_end.specs.Ends.{EndState, has_remote};
+ghost use Rattle.at_adsp_end.specs.Ends.{EndState, FitsRooms, has_remote};
 ghost use Rattle.at_adsp_end.specs.Positions.{wire};
 ghost use Rattle.at_adsp_ends.specs.Calls.{connected, listened, unread_at};
-ghost use Rattle.at_adsp_ends.specs.Tables.{AreRooms, by_id, by_remote, has_id, has_remote_at, next_id, no_ends};
+ghost use Rattle.at_adsp_ends.specs.Tables.{AreEnds, AreRooms, by_id, by_remote, has_id, has_remote_at};
+ghost use Rattle.at_adsp_ends.specs.Tables.{next_id, no_ends};
 
 use crate::identifiers::{FIRST, free_id};
 use at_adsp_end::{End, Remote, Rooms, StreamFault};
@@ -58,6 +59,15 @@ impl<A: Allocator + Copy> Ends<A> {
         ensures { self.new ≡ listened self.old on }
     {
         self.listening = on;
+    }
+
+    /// At most 16 ends stand, whose queues fit their rooms. The body only visits them.
+    pub fn limits(&self)
+        ensures ends { AreEnds self.now }
+        ensures queues { AllByRecursion FitsRooms self.now.ends }
+    {
+        limits_of(&self.ends);
+        let _next = self.next;
     }
 
     /// The identifier that the next end will get; none if 16 stand.
@@ -132,4 +142,13 @@ pub(crate) fn index_of<A: Allocator>(ends: &[End<A>], id: u16) -> Option<usize>
     ensures { result ≡ position_from (has_id id) 0 ends.now }
 {
     ends.iter().position(|end| end.id() == id)
+}
+
+fn limits_of<A: Allocator + Copy>(ends: &[End<A>])
+    ensures { AllByRecursion FitsRooms ends.now }
+{
+    if let [end, rest @ ..] = ends {
+        end.limits();
+        limits_of(rest);
+    }
 }

@@ -4,6 +4,7 @@
 mod calls;
 mod ends;
 mod identifiers;
+pub mod laws;
 mod openings;
 mod receiving;
 

@@ -7,7 +7,7 @@ ghost use Rattle.at_atp_frame.specs.Frames.{Content, content, number_of, spelled
 ghost use Rattle.at_atp_requester.specs.Requests.{no_requests, next_number, closing, beginning, begun, request_by};
 ghost use Rattle.at_atp_requester.specs.Requests.{is_of, is_finished, is_ignored, is_numbered, finishes, heard};
 ghost use Rattle.at_atp_requester.specs.Requests.{retried, IsHeard};
-ghost use Rattle.at_atp_requester.specs.Requests.{IsRetried};
+ghost use Rattle.at_atp_requester.specs.Requests.{IsRequester, IsRetried};
 
 use crate::numbers::next_of;
 use crate::step::{Retry, Step};
@@ -44,6 +44,13 @@ impl<A: Allocator + Copy> Requester<A> {
             next: 0,
             standing: Vec::new(alloc),
         }
+    }
+
+    /// At most 32 transactions are open. The body only visits them.
+    pub fn limits(&self)
+        ensures { IsRequester self.now }
+    {
+        let _next = self.next;
     }
 
     /// The number that the next transaction will get; none if 32 are open. If `closed` is a number, its transaction

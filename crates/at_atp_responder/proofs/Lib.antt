@@ -1,5 +1,6 @@
 mod AnsweringLemmas
 mod CountLemmas
+mod EightLemmas
 mod OnceLemmas
 mod RecordLemmas
 mod ReplyLemmas

@@ -12,13 +12,13 @@ use Rattle.at_atp_responder.specs.declared.reception.Reception.TheVariants.{New}
 
 -- ---- new requests
 
-same_new : (k key : Key) → New k ≡ New key → k ≡ key
+pub same_new : (k key : Key) → New k ≡ New key → k ≡ key
 same_new k key h = cc
 
-its_own : (key : Key) (xo : Bool) (bitmap : ℕ) → is_key key (record { key = key; state = Waiting xo bitmap }) ≡ true
+pub its_own : (key : Key) (xo : Bool) (bitmap : ℕ) → is_key key (record { key = key; state = Waiting xo bitmap }) ≡ true
 its_own key xo bitmap = rw (same_address_itself key.from, eq-eqb key.tid key.tid refl) refl
 
-find_last : (p : Record → Bool) (rs : List Record) (x : Record) → find p rs ≡ None → p x ≡ true → find p (rs ++ x ∷ []) ≡ Some x
+pub find_last : (p : Record → Bool) (rs : List Record) (x : Record) → find p rs ≡ None → p x ≡ true → find p (rs ++ x ∷ []) ≡ Some x
 find_last p [] x none is = rw is refl
 find_last p (r ∷ rs) x none is = go (λ g. find_last p rs x g is) (p r) refl none
   where

@@ -1,6 +1,6 @@
 -- The responder, and what each call does to it (Inside AppleTalk, ATP, "At-least-once and exactly-once transactions").
-use Rattle.std.specs.Prelude.{◌≡◌, ℕ, ◌+◌, ◌/◌, ◌%◌, ◌==◌, ◌&&◌, nat_le, if◌then◌else◌, Bool, false, is_none, List, []}
-use Rattle.std.specs.Prelude.{◌∷◌, ◌++◌, length, find, Option, Some, None}
+use Rattle.std.specs.Prelude.{◌≡◌, ℕ, ◌<◌, ◌+◌, ◌/◌, ◌%◌, ◌==◌, ◌&&◌, nat_le, if◌then◌else◌, Bool, false, is_none}
+use Rattle.std.specs.Prelude.{List, [], ◌∷◌, ◌++◌, length, find, Option, Some, None}
 use Rattle.std.specs.List.{list_all}
 use Rattle.at_ddp.specs.Address.{same_address}
 use Rattle.at_ddp.specs.Outbox.{Outbox, Sends}
@@ -106,6 +106,11 @@ taken rs from (Request bitmap xo timer tid user bytes) =
 taken rs from (Response place eom sts tid user bytes) = passed rs
 taken rs from (Release tid) =
     release_came rs (record { from = from; tid = tid }) (find (is_key (record { from = from; tid = tid })) rs)
+
+-- a bitmap has eight bits, one for each packet that an answer may have
+abbrev pub AsksForEight : Content → Type 0
+AsksForEight (Request bitmap xo timer tid user bytes) = bitmap < 256
+AsksForEight other = Unit {0}
 
 -- a new request that finds no place, since 64 records stand
 abbrev pub is_new_and_full : List Record → Key → Bool

@@ -4,7 +4,8 @@ ghost use Rattle.std.specs.Prelude.{◌≡◌, ◌≤◌, ◌+◌, [], List, ◌
 ghost use Rattle.at_ddp.specs.declared.address.Address.{Address};
 ghost use Rattle.at_atp_frame.specs.Frames.{Content, number_of};
 ghost use Rattle.at_atp_responder.specs.Once.{Event, Expires, Undoes, stands, hand_ups, removes, removals, is_once};
-ghost use Rattle.at_atp_responder.specs.Records.{Record, is_key, taken, record_fault, answer_fault, asked_for};
+ghost use Rattle.at_atp_responder.specs.Records.{AsksForEight, Record, is_key, taken};
+ghost use Rattle.at_atp_responder.specs.Records.{record_fault, answer_fault, asked_for};
 ghost use Rattle.at_atp_responder.specs.Replies.{AllOfAnswer};
 ghost use Rattle.at_atp_responder.specs.declared.reception.Key.{Key};
 ghost use Rattle.at_atp_responder.specs.declared.reception.Reception.TheVariants.{New};
@@ -41,6 +42,15 @@ pub fn what_is_sent_is_of_the_answer()
 pub fn no_more_is_sent_than_answered()
     ensures { (o : Option Record) (key : Key) (packets : List Packet)
         → length (asked_for o key packets) ≤ length packets }
+{}
+
+/// For a packet that came, or an answer to it, at most eight packets are sent.
+pub fn at_most_eight_packets_are_sent()
+    ensures came { (rs : List Record) (from : Address) (f : Content) → AsksForEight f
+        → length (taken rs from f).sent ≤ 8 }
+    ensures replied { (rs : List Record) (from : Address) (f : Content) (key : Key) (packets : List Packet)
+        → AsksForEight f → (taken rs from f).reception ≡ New key
+        → length (asked_for (find (is_key key) (taken rs from f).after) key packets) ≤ 8 }
 {}
 
 /// Only a request that waits is answered.

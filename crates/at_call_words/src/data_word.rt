@@ -7,8 +7,8 @@ use at_faults::{LineFault, Rule};
 use at_words::{HexFault, bytes_of};
 use std::alloc::Allocator;
 
-/// The bytes that a word spells.
-pub(crate) fn data_of<A: Allocator>(alloc: A, word: &[u8]) -> Result<Bytes<A>, LineFault>
+/// The bytes that a word spells. The error is a word that spells none, or out of memory.
+pub fn data_of<A: Allocator>(alloc: A, word: &[u8]) -> Result<Bytes<A>, LineFault>
     ensures { IsFoundInMemory result (IsHex word.now) }
 {
     let mut room = Vec::new(alloc);

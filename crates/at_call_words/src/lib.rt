@@ -14,4 +14,5 @@ mod timer;
 mod words;
 
 pub use call::call_of;
+pub use data_word::data_of;
 pub use timer::timer_of;

@@ -14,7 +14,7 @@ pub enum Rule {
     #[error("the line has spaces alone; an empty line has no bytes at all")]
     SpacesAlone,
     /// The first word says what a line is.
-    #[error("a line begins with `net`, `node`, `zones`, `call`, `deliver`, `timer` or `#`")]
+    #[error("a line begins with `net`, `node`, `zones`, `call`, `deliver`, `timer`, `forge` or `#`")]
     FirstWord,
     /// `net N`
     #[error("`net` wants a network's number, 1 to 65535, as in \"net 10\"")]
@@ -95,6 +95,9 @@ pub enum Rule {
     /// `deliver K N`
     #[error("`deliver` wants a datagram's number and a node, as in \"deliver 0 1\"")]
     Deliver,
+    /// `forge N HEX`
+    #[error("`forge` wants a node and the bytes that come to it, as in \"forge 1 000D0000000A000A0105068003\"")]
+    Forge,
     /// `timer N TIMER ..`
     #[error("`timer` wants a node and `retry`, `release`, `lookup`, `resend` or `probe`, as in \"timer 5 retry 0\"")]
     Timer,

@@ -1,3 +1,4 @@
+mod FewLemmas
 mod OpenLemmas
 mod OwedLemmas
 mod PacketSteps

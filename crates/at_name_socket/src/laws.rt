@@ -1,8 +1,8 @@
 //! Laws of the socket in a network of names and lookups. The functions do nothing: each contract is a law.
-ghost use Rattle.std.specs.Prelude.{◌≡◌, ℕ, ◌<◌, List, [], ◌∷◌, Option, Some, None};
+ghost use Rattle.std.specs.Prelude.{◌≡◌, ℕ, ◌<◌, ◌≤◌, List, [], ◌∷◌, length, Option, Some, None};
 ghost use Rattle.std.specs.List.{AllByRecursion};
 ghost use Rattle.at_ddp.specs.declared.address.Address.{Address};
-ghost use Rattle.at_name_socket.specs.NameSockets.{SocketState, any_pattern, claim_begun, finish, finish_fault};
+ghost use Rattle.at_name_socket.specs.NameSockets.{Hears, SocketState, any_pattern, claim_begun, finish, finish_fault};
 ghost use Rattle.at_name_socket.specs.NameSockets.{opening, own_zone};
 ghost use Rattle.at_name_socket.specs.Sockets.{Closes, IsSocket, Opens, Stays};
 ghost use Rattle.at_name_socket.specs.Steps.{Comes, Happens, StandsLawfully};
@@ -11,7 +11,7 @@ ghost use Rattle.at_name_socket.specs.declared.step.Heard.{Heard};
 ghost use Rattle.at_ddp.specs.Tables.{without_first};
 ghost use Rattle.at_nbp.specs.Lawfully.{IsName};
 ghost use Rattle.at_nbp.specs.Lookups.{Search, begun, beginning, next_id, search_of, sent_question};
-ghost use Rattle.at_nbp.specs.NameTables.{is_called, register_fault, registered};
+ghost use Rattle.at_nbp.specs.NameTables.{AreNames, is_called, register_fault, registered};
 ghost use Rattle.at_nbp.specs.Network.{Network};
 ghost use Rattle.at_nbp.specs.Tuples.{IsString};
 ghost use Rattle.at_nbp.specs.declared.name.Name.{Name};
@@ -55,6 +55,12 @@ pub fn a_packet_is_a_happening()
         → Happens n at s new Stays pushes }
     ensures nothing { (n : Network) (at : Address) (s : SocketState) → StandsLawfully n at s
         → Happens n at s s Stays [] }
+{}
+
+/// A packet is answered by no more replies than there are names, or it is relayed once.
+pub fn few_packets_are_sent()
+    ensures { (s : SocketState) (bytes : List ℕ) (h : Heard) (new : SocketState) (pushes : List (Address × List ℕ))
+        → AreNames s.table.names → Hears s bytes h new pushes → length pushes ≤ 64 }
 {}
 
 /// A new socket has neither claims nor lookups, and its zones are in range if those are that it is given.

@@ -3,8 +3,8 @@ ghost use Rattle.std.specs.Prelude.{OnErr, IsOk, IsSome, IsErrOf, Some, None, Er
 ghost use Rattle.at_ddp.specs.Outbox.{Sends};
 ghost use Rattle.at_ddp.specs.Tables.{without_first};
 ghost use Rattle.at_name_socket.specs.NameSockets.{asked_by, asked_node, opening, own_zone};
-ghost use Rattle.at_nbp.specs.Lookups.{beginning, begun, is_question, next_id, search_of, sent_question};
-ghost use Rattle.at_nbp.specs.NameTables.{is_called, register_fault, registered};
+ghost use Rattle.at_nbp.specs.Lookups.{AreLookups, beginning, begun, is_question, next_id, search_of, sent_question};
+ghost use Rattle.at_nbp.specs.NameTables.{AreNames, is_called, register_fault, registered};
 
 use crate::claim::Claim;
 use crate::neighbour::Neighbour;
@@ -71,6 +71,15 @@ impl<A: Allocator + Copy> NameSocket<A> {
             claims: Vec::new(alloc),
             neighbours,
         }
+    }
+
+    /// At most 64 names stand, and at most 8 lookups are open. The body only visits them.
+    pub fn limits(&self)
+        ensures names { AreNames self.now.table.names }
+        ensures lookups { AreLookups self.now.lookups }
+    {
+        self.names.limits();
+        self.lookups.limits();
     }
 
     /// Registers a name of a socket, with the least enumerator that is free there.

@@ -1,9 +1,11 @@
 -- Packets with one tuple, and the identifiers that they get.
 use Rattle.std.proofs.Common.{◌≡◌, ◌≢◌, ℕ, zero, suc, ◌+◌, ◌-◌, ◌%◌, ◌<◌, ◌≤◌, Bool, true, false, cond, List, [], ◌∷◌, length, Some, None, refl, sym, ap, subst, append-nil, arith}
 use Rattle.std.proofs.lemmas.Bool.{eqb-true, ne_eqb}
+use Rattle.std.proofs.lemmas.Bool.Decides.{nat_tests}
+use Rattle.std.specs.Prelude.{nat_lt}
 use Rattle.std.specs.Prelude.{All, IfErr, IsErrOf, IsOk, Result, Ok, Err}
 use Rattle.std.specs.List.{flat_map, list_any}
-use Rattle.at_nbp.specs.Lookups.{Search, free_id, has_id}
+use Rattle.at_nbp.specs.Lookups.{Lookups, Search, free_id, has_id, next_id}
 use Rattle.at_nbp.specs.Packets.{Content, HasCount, spelling}
 use Rattle.at_nbp.specs.Tuples.{Entry, FitsStrings, tuple_spelling}
 use Rattle.at_nbp.specs.declared.fault.NbpFault.{NbpFault}
@@ -69,3 +71,14 @@ apart first m n s lt fits h =
 pub below_tries : (tries first : ℕ) (searches : List Search) → first < 256 → tries ≤ 256 → free_id tries first searches ≡ None → tries ≤ length searches
 below_tries tries first searches fits few none =
     tests_in_use (λ i. has_id ((first + i) % 256)) 256 (λ m n s lt within. apart first m n s lt within) tries searches few (in_use tries first searches fits none)
+
+-- no identifier is left only if 8 lookups are open
+pub none_left : (l : Lookups) → l.next < 256 → next_id l ≡ None → 8 ≤ length l.searches
+none_left l fits none = go (nat_lt (length l.searches) 8) refl none
+  where
+    go : (b : Bool) → nat_lt (length l.searches) 8 ≡ b → cond b (free_id (length l.searches + 1) l.next l.searches) None ≡ None → 8 ≤ length l.searches
+    go true few h =
+        let less : length l.searches < 8 = grind (arith, nat_tests, few) in
+        let most = below_tries (length l.searches + 1) l.next l.searches fits (omega (arith, less)) h in
+        absurd (omega (arith, most))
+    go false full h = grind (arith, nat_tests, full)

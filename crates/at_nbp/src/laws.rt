@@ -1,5 +1,5 @@
 //! Laws of packets, and of a network of names and lookups. The functions do nothing: each contract is a law.
-ghost use Rattle.std.specs.Prelude.{◌≡◌, ℕ, ◌++◌, Bool, List, [], Some, None, IfSome};
+ghost use Rattle.std.specs.Prelude.{◌≡◌, ℕ, ◌<◌, ◌≤◌, ◌++◌, length, Bool, List, [], Some, None, IfSome};
 ghost use Rattle.std.specs.List.{AllByRecursion};
 ghost use Rattle.at_ddp.specs.Datagram.{AreBytes};
 ghost use Rattle.at_ddp.specs.declared.address.Address.{Address};
@@ -36,6 +36,11 @@ pub fn finds_stood_since_their_lookup_began()
     ensures stood { (setting : Setting) (history : List Happening) → AllAsk setting → AllTimely setting history
         → FindsStood setting history }
     ensures drawn { (l : Lookups) (id : ℕ) → next_id l ≡ Some id → search_of l id ≡ None }
+{}
+
+/// A table of lookups has no identifier to give only if 8 lookups are open.
+pub fn below_8_an_identifier_is_free()
+    ensures { (l : Lookups) → l.next < 256 → next_id l ≡ None → 8 ≤ length l.searches }
 {}
 
 /// A table with one name more is the one that is computed: the name has the least number that is free.

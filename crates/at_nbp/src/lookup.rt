@@ -4,7 +4,7 @@ ghost use Rattle.std.specs.List.{list_any, position_from};
 ghost use Rattle.std.specs.Option.{option_copied};
 ghost use Rattle.at_ddp.specs.Outbox.{Sends};
 ghost use Rattle.at_nbp.specs.Lookups.{begun, beginning, closed, counted, finds_in, free_id, has_id, heard};
-ghost use Rattle.at_nbp.specs.Lookups.{is_question, next_id, search_of, sent_question};
+ghost use Rattle.at_nbp.specs.Lookups.{AreLookups, is_question, next_id, search_of, sent_question};
 ghost use Rattle.at_nbp.specs.Packets.{packet_content};
 ghost use Rattle.at_nbp.specs.Tuples.{FitsStrings, content};
 
@@ -70,6 +70,13 @@ impl<A: Allocator + Copy> Lookup<A> {
             next: 0,
             searches: Vec::new(alloc),
         }
+    }
+
+    /// At most 8 lookups are open, with at most 256 finds each. The body only visits them.
+    pub fn limits(&self)
+        ensures { AreLookups self.now }
+    {
+        let _next = self.next;
     }
 
     /// The identifier that the next lookup will get; none if 8 are open.

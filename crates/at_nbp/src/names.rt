@@ -4,7 +4,7 @@ ghost use Rattle.std.specs.List.{list_any, position_from};
 ghost use Rattle.std.specs.Option.{option_copied};
 ghost use Rattle.at_ddp.specs.Tables.{without_first};
 ghost use Rattle.at_nbp.specs.NameTables.{IsLeastFree, IsRegistered, has_number, is_called, is_no_text, own_find};
-ghost use Rattle.at_nbp.specs.NameTables.{register_fault};
+ghost use Rattle.at_nbp.specs.NameTables.{AreNames, register_fault};
 
 use crate::fault::NbpFault;
 use crate::find::{Find, copy_of};
@@ -17,7 +17,7 @@ use std::marker::Model;
 pub const MAX_NAMES: usize = 64;
 
 /// A name of a node's own.
-#[derive(Debug, Drop, PartialEq, Eq)]
+#[derive(Drop)]
 pub struct Registered {
     pub object: Pascal,
     /// The type of the object.
@@ -63,6 +63,13 @@ impl<A: Allocator + Copy> Names<A> {
             zone,
             list: Vec::new(alloc),
         }
+    }
+
+    /// At most 64 names stand. The body only visits them.
+    pub fn limits(&self)
+        ensures { AreNames self.now.names }
+    {
+        let _count = self.list.len();
     }
 
     /// The socket of the table, and its network and node.

@@ -31,7 +31,7 @@ pub(crate) const HEADER_LEN: usize = 2;
 const COUNTS: u8 = 16;
 
 /// A decoded packet. The strings of its tuples stay in the bytes that it was decoded from.
-#[derive(Debug, Drop)]
+#[derive(Drop)]
 pub struct Packet<'a> {
     pub function: Function,
     /// The identifier of the lookup.

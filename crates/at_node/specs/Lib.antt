@@ -2,6 +2,7 @@ pub mod AtpHearing
 pub mod AtpParts
 pub mod Drawing
 pub mod Hearing
+pub mod Limits
 pub mod NameCalls
 pub mod NameHearing
 pub mod Nodes

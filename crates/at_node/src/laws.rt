@@ -31,20 +31,14 @@ pub fn what_is_sent_is_heard<A: Allocator>()
     at_atp::laws::what_is_written_fits();
 }
 
-/// A request for the page from a place on is answered with that page, and no other.
-pub fn a_page_asked_for_is_served<A: Allocator>()
-    ensures { (s : Seat) (a : AtpState) (from : Address) (table : List (List ℕ)) (mask : ℕ) (xo : Bool)
+/// A request for the page from a place on is answered with that page, and no other. The page that was written is the
+/// page that a reading takes.
+pub fn pages_are_served_and_taken<A: Allocator>()
+    ensures served { (s : Seat) (a : AtpState) (from : Address) (table : List (List ℕ)) (mask : ℕ) (xo : Bool)
         (timer tid start : ℕ) (bytes : List ℕ) (o : Outcome A AtpState) → 1 ≤ start → start < 2 ^ 16
         → AtZones s a from table (Request mask xo timer tid (request_user start) bytes) o
         → o ≡ zone_asked s a from (Request mask xo timer tid (request_user start) bytes) table start }
-{
-    at_zip::laws::what_is_written_is_read();
-    at_zip::laws::one_page_a_spelling();
-}
-
-/// The page that was written is the page that a reading takes.
-pub fn a_page_written_is_taken<A: Allocator>()
-    ensures { (s : Seat) (a : AtpState) (h : Heard A) (from : Address) (names : List (List ℕ)) (p : Page)
+    ensures taken { (s : Seat) (a : AtpState) (h : Heard A) (from : Address) (names : List (List ℕ)) (p : Page)
         (o : Outcome A AtpState) → IsLawfulPage p
         → ReadsPage s a h from names (record { user = page_user p; data_ = page_data p }) o
         → TakesPage s a h from names p o }

@@ -3,6 +3,7 @@ ghost use Rattle.at_ddp.specs.Datagram.{content};
 ghost use Rattle.at_node.specs.Hearing.{HearsIt, Hears};
 ghost use Rattle.at_adsp_ends.specs.Tables.{AreRooms};
 ghost use Rattle.at_event.specs.Kinds.{Adsp, Atp, Nbp, kind_of_call};
+ghost use Rattle.at_node.specs.Limits.{IsWithin};
 ghost use Rattle.at_node.specs.Nodes.{opening, called, timed};
 ghost use Rattle.at_event.specs.Outcomes.{Comes, IsStep, refused_as};
 ghost use Rattle.at_event.specs.Services.{Serves, is_asked};
@@ -13,6 +14,7 @@ use crate::name_part::NamePart;
 use crate::requester_socket::Question;
 use at_adsp_ends::{Rooms, Tick};
 use at_atp::Key;
+use at_atp::laws::at_most_64_records_stand;
 use at_ddp::{Datagram, Datagrams, Listed, Pascal, decode};
 use at_event::{Call, NBP, Report, Seat, Service, Timer};
 use at_name_socket::Neighbour;
@@ -76,6 +78,20 @@ impl<A: Allocator + Copy> Node<A> {
             streams: StreamSocket::new(alloc, rooms),
             session: Session::new(alloc),
         }
+    }
+
+    /// The node keeps to its limits. The body only visits its parts.
+    pub fn limits(&self)
+        ensures { IsWithin self.now }
+    {
+        self.atp.requester.limits();
+        at_most_64_records_stand(&self.atp.zone_responder);
+        at_most_64_records_stand(&self.atp.service_responder);
+        if let Some(zones) = &self.atp.zones {
+            zones.names();
+        }
+        self.names.socket.limits();
+        self.streams.limits();
     }
 
     /// The node's number, 1 to 254.

@@ -1,9 +1,10 @@
 -- What is told of a play goes on by one event, and is told of the play that it follows.
-use Rattle.std.proofs.Common.{◌≡◌, ℕ, List, [], ◌∷◌, ◌++◌, length, Err, Result, Bool, true, false, ◌<◌, None, Some, Ok, IfOk, IfSome, MatchResult, IfErr, OnOk, refl, sym, ap, subst, ◌∙◌, append-nil, append_assoc}
+use Rattle.std.proofs.Common.{◌≡◌, ℕ, List, [], ◌∷◌, ◌++◌, length, Err, Result, Bool, true, false, ◌<◌, ◌≤◌, None, Some, Ok, IfOk, IfSome, MatchResult, IfErr, OnOk, refl, sym, ap, subst, ◌∙◌, append-nil, append_assoc}
 use Rattle.at_event.specs.declared.event.Report.{Report}
-use Rattle.at_world.specs.declared.event.Event.{Event}
-use Rattle.at_world.specs.declared.event.Fault.{Fault}
-use Rattle.at_world.specs.declared.event.Fault.TheVariants as fault
+use Rattle.at_setup.specs.declared.event.Event.{Event}
+use Rattle.at_world.specs.declared.refusal.Fault.{Fault}
+use Rattle.at_world.specs.declared.refusal.Fault.TheVariants as fault
+use Rattle.at_world.specs.Safety.{IsSafe, Safely}
 use Rattle.at_world.specs.Worlds.{WorldState, IsFault, IsPlayable, Plays}
 use Rattle.at_world.specs.Plays.{Follows}
 use Rattle.at_print.specs.Reports.{event_text}
@@ -12,7 +13,7 @@ use Rattle.at_play.specs.Told.{BeginsWith, IsStopped, IsUnread, IsWhole, Played,
 use Rattle.at_print.specs.declared.printer.Printer.{Printer}
 use Rattle.at_play.proofs.PrintedLemmas.{Prints-nothing, Prints-trans}
 use Rattle.at_world.specs.Plays.{opening_world}
-use Rattle.at_world.specs.declared.setup.Setup.{Setup}
+use Rattle.at_setup.specs.declared.setup.Setup.{Setup}
 use Rattle.std.proofs.lemmas.Result.{on_ok_weaker}
 use Rattle.std.specs.Io.BufRead.{DropsThrough, first_piece}
 use Rattle.at_schedule.specs.Drafts.{HoldsSetup}
@@ -23,30 +24,53 @@ use Rattle.std.specs.Prelude.{Option}
 use Rattle.at_play.specs.declared.stop.Stop.{Stop}
 use Rattle.at_play.specs.declared.stop.Stop.TheVariants as stop
 
-pub told_more : (A : Type 0) (w : WorldState) (es : List (Event A)) (rs : List (Report A)) (mid : WorldState) (text : List ℕ) (e : Event A) (r : Report A) (w' : WorldState)
-    → Told w es rs mid text → IsPlayable mid e → Plays mid e r w' → Told w (es ++ e ∷ []) (rs ++ r ∷ []) w' (text ++ event_text mid.events r w'.sent (length mid.sent))
-told_more A w [] [] mid text e r w' h fine plays =
+pub told_more : (A : Type 0) (w : WorldState) (es : List (Event A)) (rs : List (Report A)) (mid : WorldState)
+    (text : List ℕ) (e : Event A) (r : Report A) (w' : WorldState) → Told w es rs mid text → IsPlayable mid e
+    → Plays mid e r w' → IsSafe mid e r w'
+    → Told w (es ++ e ∷ []) (rs ++ r ∷ []) w' (text ++ event_text mid.events r w'.sent (length mid.sent))
+told_more A w [] [] mid text e r w' h fine plays safe =
     let same = h.0 in
     let more : List ℕ = event_text w.events r w'.sent (length w.sent) in (
       w',
       [],
       subst (λ x. IsPlayable x e) same fine,
       subst (λ x. Plays x e r w') same plays,
+      subst (λ x. IsSafe x e r w') same safe,
       (refl, refl),
-      ap (λ l. l ++ event_text mid.events r w'.sent (length mid.sent)) h.1 ∙ ap (λ (x : WorldState). event_text x.events r w'.sent (length x.sent)) same ∙ sym (append-nil more),
+      ap (λ l. l ++ event_text mid.events r w'.sent (length mid.sent)) h.1
+          ∙ ap (λ (x : WorldState). event_text x.events r w'.sent (length x.sent)) same ∙ sym (append-nil more),
     )
-told_more A w (a ∷ es) (b ∷ rs) mid text e r w' h fine plays =
+told_more A w (a ∷ es) (b ∷ rs) mid text e r w' h fine plays safe =
     let more : List ℕ = event_text mid.events r w'.sent (length mid.sent) in
-    let first : List ℕ = event_text w.events b (h.0).sent (length w.sent) in
-    (h.0, h.1 ++ more, h.2, h.3, told_more A h.0 es rs mid h.1 e r w' h.4 fine plays, ap (λ l. l ++ more) h.5 ∙ append_assoc first h.1 more)
-told_more A w [] (b ∷ rs) mid text e r w' h fine plays = absurd h
-told_more A w (a ∷ es) [] mid text e r w' h fine plays = absurd h
+    let first : List ℕ = event_text w.events b (h.0).sent (length w.sent) in (
+      h.0,
+      h.1 ++ more,
+      h.2,
+      h.3,
+      h.4,
+      told_more A h.0 es rs mid h.1 e r w' h.5 fine plays safe,
+      ap (λ l. l ++ more) h.6 ∙ append_assoc first h.1 more,
+    )
+told_more A w [] (b ∷ rs) mid text e r w' h fine plays safe = absurd h
+told_more A w (a ∷ es) [] mid text e r w' h fine plays safe = absurd h
 
-pub follows_told : (A : Type 0) (w : WorldState) (es : List (Event A)) (rs : List (Report A)) (w' : WorldState) (text : List ℕ) → Told w es rs w' text → Follows w es rs w'
+pub follows_told : (A : Type 0) (w : WorldState) (es : List (Event A)) (rs : List (Report A)) (w' : WorldState)
+    (text : List ℕ) → Told w es rs w' text → Follows w es rs w'
 follows_told A w [] [] w' text h = h.0
-follows_told A w (e ∷ es) (r ∷ rs) w' text h = (h.0, h.2, h.3, follows_told A h.0 es rs w' h.1 h.4)
+follows_told A w (e ∷ es) (r ∷ rs) w' text h = (h.0, h.2, h.3, follows_told A h.0 es rs w' h.1 h.5)
 follows_told A w [] (r ∷ rs) w' text h = absurd h
 follows_told A w (e ∷ es) [] w' text h = absurd h
+
+-- from at most 16 nodes on, each event leaves a world that keeps to its limits
+pub safely_told : (A : Type 0) (w : WorldState) (es : List (Event A)) (rs : List (Report A)) (w' : WorldState)
+    (text : List ℕ) → length w.nodes ≤ 16 → Told w es rs w' text → Safely w es rs w'
+safely_told A w [] [] w' text few h = h.0
+safely_told A w (e ∷ es) (r ∷ rs) w' text few h =
+    let safe = h.4 in
+    let keeps = safe.limits few in
+    (h.0, h.3, safe, keeps, safely_told A h.0 es rs w' h.1 keeps.few_nodes h.5)
+safely_told A w [] (r ∷ rs) w' text few h = absurd h
+safely_told A w (e ∷ es) [] w' text few h = absurd h
 
 refused : (A : Type 0) (w : WorldState) (e : Event A) (w' : WorldState) (f : Fault) (line : ℕ) (which : Option ℕ) → IsFault w e f w' → StopsIn A w (stop.Event f w.events line which)
 refused A w e w' (fault.Refused r) line which h = (refl, (e, h.0))
@@ -81,7 +105,7 @@ module _ (A : Type 0) {W : Type 0} (contents : W → Option (List ℕ)) (setup :
       let p = before.0 in
       let more : List ℕ = event_text w.events t.report w'.sent (length w.sent) in
       let told = told_more A (opening_world setup) p.events p.reports w p.text e t.report w'
-      (subst (λ x. Told (opening_world setup) p.events p.reports x p.text) before.1 p.told) t.playable t.plays in (
+      (subst (λ x. Told (opening_world setup) p.events p.reports x p.text) before.1 p.told) t.playable t.plays t.safe in (
         (
           record { events = p.events ++ e ∷ []; reports = p.reports ++ t.report ∷ []; world = w'; text = p.text ++ more; told = told },
           refl,

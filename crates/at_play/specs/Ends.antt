@@ -3,12 +3,15 @@ use Rattle.std.specs.Prelude.{◌≡◌, ◌⊎◌, ℕ, List, [], ◌++◌, Opt
 use Rattle.std.specs.Prelude.{true, codes}
 use Rattle.std.specs.Fmt.{decimal}
 use Rattle.std.specs.Io.KnownBytes.{Keeps}
+use Rattle.at_world.specs.Events.{NoForge}
 use Rattle.at_world.specs.ExactlyOnce.{AllLive, RunsOnce, onto}
 use Rattle.at_world.specs.Machine.{Machine, Run, opening_machine}
+use Rattle.at_world.specs.Plays.{opening_world}
 use Rattle.at_world.specs.Refusals.{number_of}
-use Rattle.at_world.specs.Setups.{is_lawful}
-use Rattle.at_world.specs.declared.event.Fault.TheVariants as fault
-use Rattle.at_world.specs.declared.setup.Setup.{Setup}
+use Rattle.at_world.specs.Safety.{Safely}
+use Rattle.at_setup.specs.Setups.{is_lawful}
+use Rattle.at_world.specs.declared.refusal.Fault.TheVariants as fault
+use Rattle.at_setup.specs.declared.setup.Setup.{Setup}
 use Rattle.at_play.specs.Texts.{no_memory_line}
 use Rattle.at_schedule.specs.Drafts.{HoldsSetup}
 use Rattle.at_print.specs.Printers.{Prints}
@@ -38,11 +41,13 @@ abbrev pub end_text : Result (Unit {0}) Stop → List ℕ
 end_text (Ok u) = []
 end_text (Err s) = stop_line s
 
--- the setup is lawful, the reports of a play are a run of its machine, and exactly-once requests run once
+-- The setup is lawful, and each event was safe. If nothing was forged, the reports are a run of the machine, and
+-- exactly-once requests run once.
 pub record Obeys {A : Type 0} (setup : Setup A) (p : Played setup) : Type 0 where
   pub lawful : is_lawful setup ≡ true
-  pub run : (m : Machine) × Run (opening_machine setup) p.events p.reports m
-  pub once : AllLive setup.net (p.world).sent (onto [] p.events p.reports)
+  pub safe : Safely (opening_world setup) p.events p.reports p.world
+  pub run : NoForge p.events → (m : Machine) × Run (opening_machine setup) p.events p.reports m
+  pub once : NoForge p.events → AllLive setup.net (p.world).sent (onto [] p.events p.reports)
       → RunsOnce setup.net setup.zones (p.world).sent (onto [] p.events p.reports)
 
 -- What a schedule's play prints of its events: nothing if there is no schedule, and else what is told of those that

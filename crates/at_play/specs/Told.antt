@@ -1,11 +1,12 @@
 -- What is printed of a play: each event that was played, in its order.
 use Rattle.std.specs.Prelude.{◌≡◌, ℕ, Bool, true, false, List, [], ◌∷◌, ◌++◌, length, IfSome, Option, Result, Ok, Err}
 use Rattle.at_event.specs.declared.event.Report.{Report}
-use Rattle.at_world.specs.declared.event.Event.{Event}
-use Rattle.at_world.specs.declared.event.Fault.{Fault}
-use Rattle.at_world.specs.declared.event.Fault.TheVariants as fault
-use Rattle.at_world.specs.declared.setup.Setup.{Setup}
+use Rattle.at_setup.specs.declared.event.Event.{Event}
+use Rattle.at_world.specs.declared.refusal.Fault.{Fault}
+use Rattle.at_world.specs.declared.refusal.Fault.TheVariants as fault
+use Rattle.at_setup.specs.declared.setup.Setup.{Setup}
 use Rattle.at_world.specs.Plays.{opening_world}
+use Rattle.at_world.specs.Safety.{IsSafe}
 use Rattle.at_world.specs.Worlds.{WorldState, IsPlayable, IsFault, Plays, Refuses}
 use Rattle.at_print.specs.Printers.{Prints}
 use Rattle.at_print.specs.Reports.{event_text}
@@ -15,12 +16,12 @@ use Rattle.at_print.specs.declared.printer.Printer.{Printer}
 use Rattle.at_play.specs.declared.stop.Stop.{Stop}
 use Rattle.at_play.specs.declared.stop.Stop.TheVariants as stop
 
--- From the first world these events, none of them refused, give these reports and the last world. This is printed of
--- them.
+-- From the first world these events, none of them refused, give these reports and the last world, and each is safe.
+-- This is printed of them.
 abbrev pub Told : {A : Type 0} → WorldState → List (Event A) → List (Report A) → WorldState → List ℕ → Type 0
 Told w [] [] w' text = (w' ≡ w) × (text ≡ [])
 Told w (e ∷ es) (r ∷ rs) w' text =
-    (mid : WorldState) × (rest : List ℕ) × IsPlayable w e × Plays w e r mid × Told mid es rs w' rest
+    (mid : WorldState) × (rest : List ℕ) × IsPlayable w e × Plays w e r mid × IsSafe w e r mid × Told mid es rs w' rest
     × (text ≡ event_text w.events r mid.sent (length w.sent) ++ rest)
 Told w [] (r ∷ rs) w' text = ⊥
 Told w (e ∷ es) [] w' text = ⊥
@@ -31,6 +32,7 @@ pub record Tells {A W : Type 0} (contents : W → Option (List ℕ)) (w : WorldS
   pub report : Report A
   pub playable : IsPlayable w e
   pub plays : Plays w e report w'
+  pub safe : IsSafe w e report w'
   pub printed : Prints contents old new (event_text w.events report w'.sent (length w.sent))
 
 -- a line that is no event changes nothing, and the event that any other says is played and printed

@@ -5,14 +5,14 @@ ghost use Rattle.at_print.specs.Printers.{Prints};
 ghost use Rattle.at_schedule.specs.Says.{Reads};
 ghost use Rattle.at_schedule.specs.Schedules.{is_event_line};
 ghost use Rattle.at_play.specs.Told.{IsStopped, IsUnread, IsWhole, Played, StopsIn, Tells, TellsLine};
-ghost use Rattle.at_world.specs.Setups.{is_lawful};
+ghost use Rattle.at_setup.specs.Setups.{is_lawful};
 
 use crate::stop::Stop;
 use at_faults::{Fault, LineFault, Unreadable};
 use at_print::{Printer, write_event, write_sent};
 use at_schedule::laws::first_line;
 use at_schedule::{Draft, lines_of};
-use at_world::laws::{exactly_once_requests_run_once, steps_are_a_run};
+use at_world::laws::{at_most_16_nodes_stand, exactly_once_requests_run_once, steps_are_a_run};
 use at_world::{Event, Setup, World};
 use std::alloc::{AllocError, Allocator};
 use std::io;
@@ -29,6 +29,7 @@ pub(crate) fn play_lines<A: Allocator + Copy, R: Read, W: Write>(
     ensures told { (p : Played setup.now) × Obeys setup.now p
         × Prints W.contents printer.old printer.new p.text × IsWhole A (R.remaining reader.old) result p }
 {
+    at_most_16_nodes_stand::<A>();
     steps_are_a_run::<A>();
     exactly_once_requests_run_once::<A>();
     play_all(alloc, setup, reader, printer)

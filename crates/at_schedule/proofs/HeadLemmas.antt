@@ -3,8 +3,8 @@ use Rattle.std.proofs.Common.{◌≡◌, ◌⊎◌, ℕ, List, [], ◌∷◌, �
 use Rattle.std.specs.List.{AllZip}
 use Rattle.at_setup_lines.specs.Drafts.{Draft, Refuses}
 use Rattle.at_setup_lines.specs.SetupLines.{AreSetup, BeginSetup, SayHead, SaysNode}
-use Rattle.at_world.specs.declared.setup.NodeSetup.{NodeSetup}
-use Rattle.at_world.specs.declared.setup.Setup.{Setup}
+use Rattle.at_setup.specs.declared.setup.NodeSetup.{NodeSetup}
+use Rattle.at_setup.specs.declared.setup.Setup.{Setup}
 
 abbrev HasHead : List (List ℕ) → Type 0
 HasHead [] = ⊥

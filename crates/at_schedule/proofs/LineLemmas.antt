@@ -13,7 +13,7 @@ use Rattle.at_faults.specs.Reads.{IsOfRead}
 use Rattle.at_call_words.specs.Readings.{IfUnlawful}
 use Rattle.at_setup_lines.specs.Drafts.{Draft, IsDraft, IsNoSetup}
 use Rattle.at_setup_lines.specs.SetupLines.{IsSetup}
-use Rattle.at_world.specs.declared.setup.Setup.{Setup}
+use Rattle.at_setup.specs.declared.setup.Setup.{Setup}
 use Rattle.at_schedule.specs.Drafts.{BeginSchedule, HoldsSetup, IsLineFault, IsRead, IsSchedule}
 use Rattle.at_schedule.specs.Schedules.{add_first, lines_in, setup_words}
 

@@ -9,8 +9,8 @@ use Rattle.at_faults.specs.declared.fault.LineFault.{LineFault}
 use Rattle.at_faults.specs.declared.fault.LineFault.TheVariants.{NoMemory, Unlawful}
 use Rattle.at_setup_lines.specs.Drafts.{Draft, IsDraft, IsNoSetup, Refuses, Takes, has_events}
 use Rattle.at_setup_lines.specs.SetupLines.{IsSetup}
-use Rattle.at_world.specs.declared.event.Event.{Event}
-use Rattle.at_world.specs.declared.setup.Setup.{Setup}
+use Rattle.at_setup.specs.declared.event.Event.{Event}
+use Rattle.at_setup.specs.declared.setup.Setup.{Setup}
 use Rattle.at_schedule.specs.Drafts.{BeginSchedule, IsRead, IsSchedule}
 use Rattle.at_schedule.specs.Says.{AreEvent, SayAll, Says, SaysEvent}
 use Rattle.at_schedule.specs.Schedules.{are_event_words, is_event_line, is_event_word, is_passed_over, is_setup_line, setup_words}

@@ -5,8 +5,8 @@ use Rattle.at_faults.specs.declared.fault.Fault.TheVariants as fault
 use Rattle.at_faults.specs.declared.fault.Unreadable.TheVariants.{Changed, Failed, System, TooLong}
 use Rattle.at_setup_lines.specs.Drafts.{Draft, IsDraft, has_events}
 use Rattle.at_setup_lines.specs.SetupLines.{IsSetup}
-use Rattle.at_world.specs.declared.event.Event.{Event}
-use Rattle.at_world.specs.declared.setup.Setup.{Setup}
+use Rattle.at_setup.specs.declared.event.Event.{Event}
+use Rattle.at_setup.specs.declared.setup.Setup.{Setup}
 use Rattle.at_schedule.specs.Says.{SayAll}
 use Rattle.at_schedule.specs.Schedules.{AreInOrder, is_event_line, lines_in, setup_words}
 

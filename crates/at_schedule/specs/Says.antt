@@ -4,9 +4,10 @@ use Rattle.at_call_words.specs.Calls.{AreCall}
 use Rattle.at_call_words.specs.Timers.{AreTimer}
 use Rattle.at_event.specs.declared.event.Call.{Call}
 use Rattle.at_event.specs.declared.event.Timer.{Timer}
-use Rattle.at_world.specs.declared.event.Event.{Event}
-use Rattle.at_world.specs.declared.event.Event.TheVariants as event
+use Rattle.at_setup.specs.declared.event.Event.{Event}
+use Rattle.at_setup.specs.declared.event.Event.TheVariants as event
 use Rattle.at_schedule.specs.Schedules.{is_event_line}
+use Rattle.at_words.specs.Hexes.{IsHex}
 use Rattle.at_words.specs.Numbers.{IsCount, IsNode}
 use Rattle.at_words.specs.Words.{words_of}
 
@@ -22,11 +23,16 @@ DeliverSays ws which node = (k n : List ℕ) × (ws ≡ k ∷ n ∷ []) × IsCou
 abbrev pub TimerSays : List (List ℕ) → ℕ → Timer → Type 0
 TimerSays ws node t = (n : List ℕ) × (rest : List (List ℕ)) × (ws ≡ n ∷ rest) × IsNode n node × AreTimer rest t
 
+-- the words after `forge` say a node, and the bytes that come to it
+abbrev pub ForgeSays : List (List ℕ) → ℕ → List ℕ → Type 0
+ForgeSays ws node bytes = (n hex : List ℕ) × (ws ≡ n ∷ hex ∷ []) × IsNode n node × IsHex hex bytes
+
 -- the first word of an event, and what the words after it say
 abbrev pub SaysEvent : {A : Type 0} → List ℕ → List (List ℕ) → Event A → Type 0
 SaysEvent word ws (event.Call node c) = (word ≡ codes "call") × CallSays ws node c
 SaysEvent word ws (event.Deliver which node) = (word ≡ codes "deliver") × DeliverSays ws which node
 SaysEvent word ws (event.Timer node t) = (word ≡ codes "timer") × TimerSays ws node t
+SaysEvent word ws (event.Forge node bytes) = (word ≡ codes "forge") × ForgeSays ws node bytes
 
 -- the words say this event
 abbrev pub AreEvent : {A : Type 0} → List (List ℕ) → Event A → Type 0

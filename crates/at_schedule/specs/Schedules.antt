@@ -1,5 +1,6 @@
 -- The lines of a schedule, and which of them are events.
-use Rattle.std.specs.Prelude.{◌≡◌, ℕ, ◌==◌, ◌||◌, not, if◌then◌else◌, Bool, true, false, List, [], ◌∷◌, filter, map, codes}
+use Rattle.std.specs.Prelude.{◌≡◌, ℕ, ◌==◌, ◌||◌, not, if◌then◌else◌, Bool, true, false, List, [], ◌∷◌}
+use Rattle.std.specs.Prelude.{codes, filter, map}
 use Rattle.std.specs.Str.{bytes_eq}
 use Rattle.at_words.specs.Words.{words_of}
 
@@ -14,7 +15,9 @@ lines_in (c ∷ text) = if c == 10 then [] ∷ lines_in text else add_first c (l
 
 -- the first word of an event
 abbrev pub is_event_word : List ℕ → Bool
-is_event_word word = bytes_eq word (codes "call") || (bytes_eq word (codes "deliver") || bytes_eq word (codes "timer"))
+is_event_word word =
+    bytes_eq word (codes "call") || (bytes_eq word (codes "deliver")
+    || (bytes_eq word (codes "timer") || bytes_eq word (codes "forge")))
 
 -- empty lines and those that begin with `#`
 abbrev pub is_passed_over : List ℕ → Bool

@@ -3,17 +3,17 @@ ghost use Rattle.std.specs.Prelude.{◌≡◌, ◌⊎◌, ◌↔◌, ◌++◌, �
 ghost use Rattle.at_call_words.specs.Readings.{IfUnlawful, IsFoundInMemory};
 ghost use Rattle.at_setup_lines.specs.Drafts.{IsDraft, IsNoSetup, Refuses, Takes, has_events};
 ghost use Rattle.at_setup_lines.specs.SetupLines.{IsSetup};
-ghost use Rattle.at_world.specs.declared.event.Event.{Event as Happening};
+ghost use Rattle.at_setup.specs.declared.event.Event.{Event as Happening};
 ghost use Rattle.at_schedule.specs.Drafts.{BeginSchedule, IsRead};
 ghost use Rattle.at_schedule.specs.Says.{Reads, SaysEvent};
 ghost use Rattle.at_schedule.specs.Schedules.{is_event_word, is_passed_over};
 ghost use Rattle.at_words.specs.Words.{words_of};
 
-use crate::event_line::{call_event, delivery_event, timer_event};
+use crate::event_line::{call_event, delivery_event, forged_event, timer_event};
 use at_faults::{LineFault, Rule};
+use at_setup::{Event, Setup};
 use at_setup_lines::SetupDraft;
 use at_words::Words;
-use at_world::{Event, Setup};
 use std::alloc::{Allocator, Global};
 use std::marker::Model;
 
@@ -132,6 +132,7 @@ fn event_of<A: Allocator + Copy>(
         b"call" => call_event(alloc, words),
         b"deliver" => delivery_event(words).ok_or(LineFault::Unlawful(Rule::Deliver)),
         b"timer" => timer_event(words),
+        b"forge" => forged_event(alloc, words),
         _ => Err(LineFault::Unlawful(Rule::FirstWord)),
     }
 }
@@ -154,5 +155,7 @@ fn is_passed_over(line: &[u8]) -> bool
 fn is_event_word(word: &[u8]) -> bool
     ensures { result ≡ is_event_word word.now }
 {
-    word == b"call".as_slice() || (word == b"deliver".as_slice() || word == b"timer".as_slice())
+    word == b"call".as_slice()
+        || (word == b"deliver".as_slice()
+            || (word == b"timer".as_slice() || word == b"forge".as_slice()))
 }

@@ -5,10 +5,10 @@ ghost use Rattle.at_schedule.specs.Says.{SaysEvent};
 ghost use Rattle.at_words.specs.Readings.{IsFound};
 ghost use Rattle.at_words.specs.Words.{words_of};
 
-use at_call_words::{call_of, timer_of};
+use at_call_words::{call_of, data_of, timer_of};
 use at_faults::{LineFault, Rule};
+use at_setup::Event;
 use at_words::{Words, node_number, number};
-use at_world::Event;
 use std::alloc::Allocator;
 
 /// `N` and a call.
@@ -42,4 +42,21 @@ pub(crate) fn timer_event<A: Allocator>(mut words: Words<'_>) -> Result<Event<A>
     let node = node_number(node).ok_or(LineFault::Unlawful(Rule::Timer))?;
     let timer = timer_of(words)?;
     Ok(Event::Timer { node, timer })
+}
+
+/// `N HEX`
+pub(crate) fn forged_event<A: Allocator>(
+    alloc: A,
+    mut words: Words<'_>,
+) -> Result<Event<A>, LineFault>
+    ensures { IsFoundInMemory result (SaysEvent (codes "forge") (words_of words.entry.rest.now)) }
+{
+    let node = words.next().ok_or(LineFault::Unlawful(Rule::Forge))?;
+    let node = node_number(node).ok_or(LineFault::Unlawful(Rule::Forge))?;
+    let hex = words.next().ok_or(LineFault::Unlawful(Rule::Forge))?;
+    words.end().ok_or(LineFault::Unlawful(Rule::Forge))?;
+    match data_of(alloc, hex) {
+        Ok(bytes) => Ok(Event::Forge { node, bytes }),
+        Err(fault) => Err(fault),
+    }
 }

@@ -5,11 +5,11 @@ ghost use Rattle.std.specs.Io.Iter.{split_byte, split_known_bytes};
 ghost use Rattle.std.specs.IoError.{error_kind};
 ghost use Rattle.at_faults.specs.declared.rule.Rule.{Rule as Told};
 ghost use Rattle.at_schedule.specs.Drafts.{HoldsSetup, IsLineFault};
-ghost use Rattle.at_world.specs.Setups.{is_lawful};
+ghost use Rattle.at_setup.specs.Setups.{is_lawful};
 
 use crate::draft::Draft;
 use at_faults::{Fault, LineFault, Rule};
-use at_world::Setup;
+use at_setup::Setup;
 use std::alloc::Allocator;
 use std::io;
 use std::io::{BufRead, BufReader, ErrorKind, Read, Split};

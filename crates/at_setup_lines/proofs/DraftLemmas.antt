@@ -9,9 +9,9 @@ use Rattle.at_words.specs.Readings.{IsFound}
 use Rattle.at_words.specs.Texts.{IsZoneName}
 use Rattle.at_zip.specs.Zones.{is_name, table_fault}
 use Rattle.at_zip.specs.declared.fault.ZipFault.TheVariants.{BadZone, TooManyZones}
-use Rattle.at_world.specs.Setups.{are_lawful_nodes, has_router, is_lawful, is_lawful_table}
-use Rattle.at_world.specs.declared.setup.NodeSetup.{NodeSetup}
-use Rattle.at_world.specs.declared.setup.Setup.{Setup}
+use Rattle.at_setup.specs.Setups.{are_lawful_nodes, has_router, is_lawful, is_lawful_table}
+use Rattle.at_setup.specs.declared.setup.NodeSetup.{NodeSetup}
+use Rattle.at_setup.specs.declared.setup.Setup.{Setup}
 use Rattle.at_setup_lines.specs.Drafts.{Draft, IsDraft, IsDraftAt, IsNoSetup, Refuses, Takes, has_events, is_event, setup_of}
 use Rattle.at_setup_lines.specs.NodeLists.{BeginNodes, have_zones, is_node}
 use Rattle.at_setup_lines.specs.SetupLines.{AreSetup, IsSetup, SayHead, SaysNet, SaysNode}

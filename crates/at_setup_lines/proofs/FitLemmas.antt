@@ -5,8 +5,8 @@ use Rattle.std.specs.List.{list_all, list_any}
 use Rattle.std.proofs.lemmas.Bool.{and_from, and_parts, cases_lt, eq-eqb, eqb-true, false≢true, le-leb, leb-true, or_parts}
 use Rattle.std.proofs.lemmas.List.Folds.{list_all-append, list_any-append}
 use Rattle.std.proofs.lemmas.List.Sums.{sum_by-append}
-use Rattle.at_world.specs.Setups.{are_in_zones, are_lawful_nodes, has_router, is_lawful_node, is_zone, stands_once}
-use Rattle.at_world.specs.declared.setup.NodeSetup.{NodeSetup}
+use Rattle.at_setup.specs.Setups.{are_in_zones, are_lawful_nodes, has_router, is_lawful_node, is_zone, stands_once}
+use Rattle.at_setup.specs.declared.setup.NodeSetup.{NodeSetup}
 use Rattle.at_setup_lines.specs.NodeLists.{has_number}
 
 abbrev pub all_zoned : List NodeSetup → Bool

@@ -2,9 +2,9 @@
 use Rattle.std.proofs.Common.{◌≡◌, ◌≢◌, ◌⊎◌, inl, inr, ℕ, true, List, [], ◌∷◌, ◌++◌, length, refl, sym, ap, subst, ◌∙◌, append_assoc, arith}
 use Rattle.std.specs.Prelude.{codes}
 use Rattle.std.specs.List.{AllZip, slice_index}
-use Rattle.at_world.specs.Setups.{has_router, is_lawful}
-use Rattle.at_world.specs.declared.setup.NodeSetup.{NodeSetup}
-use Rattle.at_world.specs.declared.setup.Setup.{Setup}
+use Rattle.at_setup.specs.Setups.{has_router, is_lawful}
+use Rattle.at_setup.specs.declared.setup.NodeSetup.{NodeSetup}
+use Rattle.at_setup.specs.declared.setup.Setup.{Setup}
 use Rattle.at_setup_lines.specs.SetupLines.{AreSetup, BeginSetup, SayHead, SayTable, SaysNet, SaysNode, SaysZones}
 use Rattle.at_setup_lines.proofs.LineLemmas.{first_same, same_net, same_node}
 

@@ -4,7 +4,7 @@ use Rattle.std.specs.Prelude.{codes}
 use Rattle.std.specs.List.{AllZip, slice_index}
 use Rattle.at_words.specs.Numbers.{IsNode, IsPositive}
 use Rattle.at_words.specs.Texts.{IsZoneName}
-use Rattle.at_world.specs.declared.setup.NodeSetup.{NodeSetup}
+use Rattle.at_setup.specs.declared.setup.NodeSetup.{NodeSetup}
 use Rattle.at_setup_lines.specs.SetupLines.{SaysNet, SaysNode, SaysPlace, SaysRooms, SaysRouter, SaysZones}
 use Rattle.at_setup_lines.proofs.NameLemmas.{same_name}
 

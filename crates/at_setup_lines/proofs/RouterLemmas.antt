@@ -4,8 +4,8 @@ use Rattle.std.specs.Prelude.{count_by}
 use Rattle.std.specs.List.{list_any}
 use Rattle.std.proofs.lemmas.Bool.{and_from, cases_lt, cond-true, cond-false, eqb-true, lt-ltb, ne_eqb, or_right}
 use Rattle.std.proofs.lemmas.List.Folds.{list_all-append, list_any-append}
-use Rattle.at_world.specs.Setups.{are_lawful_nodes, has_router, is_lawful_node, is_room, is_zone}
-use Rattle.at_world.specs.declared.setup.NodeSetup.{NodeSetup}
+use Rattle.at_setup.specs.Setups.{are_lawful_nodes, has_router, is_lawful_node, is_room, is_zone}
+use Rattle.at_setup.specs.declared.setup.NodeSetup.{NodeSetup}
 use Rattle.at_setup_lines.specs.NodeLists.{BeginNodes, has_number}
 use Rattle.at_setup_lines.proofs.FitLemmas.{Fit, Placed, all_zoned, count_cons, counted, fit_more, lawful_if, none_zoned}
 

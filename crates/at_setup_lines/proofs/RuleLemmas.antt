@@ -4,8 +4,8 @@ use Rattle.std.specs.Prelude.{count_by, is_none, is_some, IsNone, IsSome}
 use Rattle.std.specs.List.{list_any}
 use Rattle.std.proofs.lemmas.Bool.{and_from, and_parts, and_right, cond-true, cond-false, eq-eqb, eqb-true, false≢true, lt-ltb, ltb-true, not-true, not_from_false, or_cases, or_left, or_right, true≢false}
 use Rattle.std.proofs.lemmas.List.Folds.{list_all-append, list_any-append}
-use Rattle.at_world.specs.Setups.{are_in_zones, are_lawful_nodes, has_router, is_lawful_node, is_zone}
-use Rattle.at_world.specs.declared.setup.NodeSetup.{NodeSetup}
+use Rattle.at_setup.specs.Setups.{are_in_zones, are_lawful_nodes, has_router, is_lawful_node, is_zone}
+use Rattle.at_setup.specs.declared.setup.NodeSetup.{NodeSetup}
 use Rattle.at_setup_lines.specs.NodeLists.{BeginNodes, fits_zones, has_number, have_zones, is_node, router_fits}
 use Rattle.at_setup_lines.proofs.FitLemmas.{Fit, Placed, all_zoned, count_both, count_routers, counted, fit_from, fit_more, lawful_if, lawful_parts, none_zoned}
 use Rattle.at_setup_lines.proofs.RouterLemmas.{begin_from}

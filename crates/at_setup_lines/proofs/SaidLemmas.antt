@@ -7,8 +7,8 @@ use Rattle.hex.proofs.HexLemmas.{decode_of-ok}
 use Rattle.at_words.specs.Numbers.{IsPositive}
 use Rattle.at_words.specs.Texts.{AreGlyphs, IsGlyph, IsZoneName}
 use Rattle.at_zip.specs.Zones.{is_byte, is_name}
-use Rattle.at_world.specs.Setups.{is_lawful_node, is_room, is_zone}
-use Rattle.at_world.specs.declared.setup.NodeSetup.{NodeSetup}
+use Rattle.at_setup.specs.Setups.{is_lawful_node, is_room, is_zone}
+use Rattle.at_setup.specs.declared.setup.NodeSetup.{NodeSetup}
 use Rattle.at_setup_lines.specs.NodeLists.{is_node}
 use Rattle.at_setup_lines.specs.SetupLines.{SaysNode, SaysRooms, SaysZone}
 use Rattle.at_setup_lines.proofs.NameLemmas.{glyphs_of}

@@ -6,9 +6,9 @@ use Rattle.at_setup_lines.specs.NodeLists.{BeginNodes}
 use Rattle.at_setup_lines.specs.SetupLines.{BeginSetup, IsSetup, SayHead, SayTable}
 use Rattle.at_setup_lines.specs.declared.draft.Stage.{Stage}
 use Rattle.at_setup_lines.specs.declared.draft.Stage.TheVariants.{Event, Net, Node, Table}
-use Rattle.at_world.specs.Setups.{is_lawful}
-use Rattle.at_world.specs.declared.setup.NodeSetup.{NodeSetup}
-use Rattle.at_world.specs.declared.setup.Setup.{Setup}
+use Rattle.at_setup.specs.Setups.{is_lawful}
+use Rattle.at_setup.specs.declared.setup.NodeSetup.{NodeSetup}
+use Rattle.at_setup.specs.declared.setup.Setup.{Setup}
 
 -- which line comes next, and the parts of the setup so far
 pub record Draft : Type 0 where

@@ -2,8 +2,8 @@
 use Rattle.std.specs.Prelude.{◌≡◌, ◌==◌, ◌&&◌, ◌||◌, not, if◌then◌else◌, Bool, true, ℕ, ◌+◌, nat_lt, List, ◌++◌, length}
 use Rattle.std.specs.Prelude.{is_none, is_some}
 use Rattle.std.specs.List.{list_any}
-use Rattle.at_world.specs.Setups.{are_lawful_nodes, has_router, is_lawful_node, is_zone}
-use Rattle.at_world.specs.declared.setup.NodeSetup.{NodeSetup}
+use Rattle.at_setup.specs.Setups.{are_lawful_nodes, has_router, is_lawful_node, is_zone}
+use Rattle.at_setup.specs.declared.setup.NodeSetup.{NodeSetup}
 
 -- a node by itself: its number and its rooms are lawful, and so is its zone if it has one
 abbrev pub is_node : NodeSetup → Bool

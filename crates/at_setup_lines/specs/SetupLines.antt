@@ -3,9 +3,9 @@ use Rattle.std.specs.Prelude.{◌≡◌, ◌⊎◌, ℕ, Bool, true, false, List
 use Rattle.std.specs.List.{AllZip}
 use Rattle.at_words.specs.Numbers.{IsNode, IsPositive}
 use Rattle.at_words.specs.Texts.{IsZoneName}
-use Rattle.at_world.specs.Setups.{has_router, is_lawful}
-use Rattle.at_world.specs.declared.setup.NodeSetup.{NodeSetup}
-use Rattle.at_world.specs.declared.setup.Setup.{Setup}
+use Rattle.at_setup.specs.Setups.{has_router, is_lawful}
+use Rattle.at_setup.specs.declared.setup.NodeSetup.{NodeSetup}
+use Rattle.at_setup.specs.declared.setup.Setup.{Setup}
 
 -- `net` and a number from 1 to 65,535
 abbrev pub SaysNet : List (List ℕ) → ℕ → Type 0

@@ -10,8 +10,8 @@ use crate::nodes::{has_router, lacks_router, rule_broken_by};
 use crate::table::table_of;
 use at_ddp::{Listed, Pascal};
 use at_faults::{LineFault, Rule};
+use at_setup::{NodeSetup, Setup};
 use at_words::Words;
-use at_world::{NodeSetup, Setup};
 use std::alloc::{Allocator, Global};
 use std::marker::Model;
 

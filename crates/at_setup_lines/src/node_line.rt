@@ -5,8 +5,8 @@ ghost use Rattle.at_words.specs.Words.{words_of};
 ghost use Rattle.at_setup_lines.specs.SetupLines.{SaysNet, SaysNode, SaysPlace, SaysRooms};
 
 use at_ddp::Pascal;
+use at_setup::NodeSetup;
 use at_words::{Words, node_number, positive, zone_name};
-use at_world::NodeSetup;
 
 /// `net N`
 pub(crate) fn net_of(mut words: Words<'_>) -> Option<u16>

@@ -1,12 +1,12 @@
 //! Which nodes may stand beside each other in a setup.
 ghost use Rattle.std.specs.Prelude.{◌≡◌, ◌&&◌, not, ◌++◌, ◌∷◌, [], true, is_none, IsNone, IsSome};
 ghost use Rattle.std.specs.List.{list_any};
-ghost use Rattle.at_world.specs.Setups.{has_router};
+ghost use Rattle.at_setup.specs.Setups.{has_router};
 ghost use Rattle.at_setup_lines.specs.NodeLists.{BeginNodes, fits_zones, has_number, have_zones, is_node, node_fits};
 ghost use Rattle.at_setup_lines.specs.NodeLists.{router_fits};
 
 use at_faults::Rule;
-use at_world::NodeSetup;
+use at_setup::NodeSetup;
 
 /// How many nodes a world has at most.
 const MAX_NODES: usize = 16;

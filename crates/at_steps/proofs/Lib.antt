@@ -4,6 +4,7 @@ mod Kept
 mod NameOutcomes
 mod Names
 mod Outcomes
+mod Safety
 mod Sessions
 mod StreamOutcomes
 mod Streams

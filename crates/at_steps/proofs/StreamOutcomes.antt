@@ -37,7 +37,7 @@ use Rattle.at_stream_socket.specs.Sockets.{adsp_kind, answered, streams_at, told
 use Rattle.at_session.specs.Sessions.{SessionState, address_at}
 use Rattle.at_steps.specs.SessionSteps.{after as kept_after}
 use Rattle.at_steps.proofs.Kept.{in_session}
-use Rattle.at_steps.specs.Acts.{Act, Calls, Fires, Gets, IsSaid, is_adsp, owner_of}
+use Rattle.at_steps.specs.Acts.{Act, Calls, Fires, Forges, Gets, IsSaid, is_adsp, owner_of}
 
 -- a report of streams, or nobody's
 abbrev pub IsOfAdsp : Kind → Type 0
@@ -74,12 +74,14 @@ module _ (A : Type 0) (act : Act A) (t : EndTable) where
       nothing (Calls call) = record { sends = tt; reports = tt; said = tt }
       nothing (Fires time) = record { sends = tt; reports = tt; said = tt }
       nothing (Gets which) = record { sends = tt; reports = tt; said = tt }
+      nothing Forges = record { sends = tt; reports = tt; said = tt }
   refused (Some k) = by_number act
     where
       by_number : (a : Act A) → IsOfStreams A a (idle t (report.Refused k))
       by_number (Calls call) = record { sends = tt; reports = tt; said = tt }
       by_number (Fires time) = record { sends = tt; reports = tt; said = tt }
       by_number (Gets which) = record { sends = tt; reports = tt; said = tt }
+      by_number Forges = record { sends = tt; reports = tt; said = tt }
 
   done : {X : Type 0} (s : Seat) (told : X → Report A) (d : Done X) → MaySay A act (told d.answer) → IsOfStreams A act (answered s told d)
   done s told d may = record { sends = all_adsp (streams_at s.net s.number) (spelled_all d.sent); reports = may.0; said = may.1 }

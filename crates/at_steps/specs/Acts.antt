@@ -6,11 +6,12 @@ use Rattle.at_event.specs.declared.event.Report.{Report}
 use Rattle.at_event.specs.declared.event.Report.TheVariants as report
 use Rattle.at_event.specs.declared.event.Timer.{Timer}
 
--- a call, a timer, or the datagram at a place of all that were sent
+-- a call, a timer, the datagram at a place of all that were sent, or bytes that no node sent
 pub data Act (A : Type 0) : Type 0 where
   Calls : Call A → Act A
   Fires : Timer → Act A
   Gets : (which : ℕ) → Act A
+  Forges : Act A
 
 -- which part's report it is: `done` is that of whose call or timer it was
 abbrev pub owner_of : {A : Type 0} → Act A → Report A → Kind

@@ -4,6 +4,7 @@ pub mod AtpReports
 pub mod AtpSteps
 pub mod NameHappenings
 pub mod NameSteps
+pub mod Safety
 pub mod SessionSteps
 pub mod StreamHappenings
 pub mod StreamSteps

@@ -23,6 +23,7 @@ ghost use Rattle.at_steps.specs.AtpHappenings.{HoldsNo, IsForeign, IsHappening, 
 use std::alloc::Allocator;
 
 pub mod names;
+pub mod safety;
 pub mod sessions;
 pub mod streams;
 

@@ -1,7 +1,8 @@
 ghost use Rattle.std.specs.Prelude.{◌≡◌, Some, false, option_map};
-ghost use Rattle.std.specs.List.{list_any};
+ghost use Rattle.std.specs.List.{AllByRecursion, list_any};
+ghost use Rattle.at_adsp_end.specs.Ends.{FitsRooms};
 ghost use Rattle.at_adsp_end.specs.Fault.{number_of};
-ghost use Rattle.at_adsp_ends.specs.Tables.{AreRooms, has_remote_at, next_id, no_ends};
+ghost use Rattle.at_adsp_ends.specs.Tables.{AreEnds, AreRooms, has_remote_at, next_id, no_ends};
 ghost use Rattle.at_event.specs.Outcomes.{refused_as};
 ghost use Rattle.at_event.specs.Services.{is_asked};
 ghost use Rattle.at_stream_socket.specs.Sockets.{adsp_kind, streams_at, told_by};
@@ -44,6 +45,14 @@ impl<A: Allocator + Copy> StreamSocket<A> {
             alloc,
             ends: Ends::new(alloc, rooms),
         }
+    }
+
+    /// At most 16 ends stand, whose queues fit their rooms. The body only visits them.
+    pub fn limits(&self)
+        ensures ends { AreEnds self.now }
+        ensures queues { AllByRecursion FitsRooms self.now.ends }
+    {
+        self.ends.limits();
     }
 
     /// The identifier that the next end will get; none if 16 stand. This needs no memory.

@@ -7,9 +7,9 @@ use Rattle.at_node.specs.Hearing.{Hears}
 use Rattle.at_node.specs.Nodes.{NodeState, called, timed}
 use Rattle.at_event.specs.Outcomes.{Outcome, Outgoing, posted, IsStep, Comes}
 use Rattle.at_world.specs.Sents.{SentDatagram, stamp, AreCanonical}
-use Rattle.at_world.specs.declared.event.Event.{Event}
-use Rattle.at_world.specs.declared.event.Event.TheVariants as event
-use Rattle.at_world.specs.declared.setup.Setup.{Setup}
+use Rattle.at_setup.specs.declared.event.Event.{Event}
+use Rattle.at_setup.specs.declared.event.Event.TheVariants as event
+use Rattle.at_setup.specs.declared.setup.Setup.{Setup}
 use Rattle.at_world.specs.declared.transcript.Transcript.{Transcript}
 use Rattle.at_world.specs.declared.transcript.PlayFault.{PlayFault}
 use Rattle.at_world.specs.Worlds.{WorldState, PlaysAt, Plays}
@@ -41,6 +41,7 @@ of_event A w (event.Call k call) r w' sent p = of_playing A w k _ r w' sent (λ 
 of_event A w (event.Deliver which k) r w' sent p =
     of_playing A w k _ r w' sent (λ n after out steps. of_coming A w.events (Hears steps.0 n p.datagram.bytes) n r after out steps.1) p.plays
 of_event A w (event.Timer k timer) r w' sent p = of_playing A w k _ r w' sent (λ n after out steps. of_step A w.events (timed n timer) n r after out steps) p
+of_event A w (event.Forge k bytes) r w' sent p = of_playing A w k _ r w' sent (λ n after out steps. of_coming A w.events (Hears steps.0 n bytes) n r after out steps.1) p
 
 of_events : (A : Type 0) (w : WorldState) (es : List (Event A)) (rs : List (Report A)) (w' : WorldState) → AreCanonical w.sent → Follows w es rs w' → AreCanonical w'.sent
 of_events A w [] [] w' sent h = subst (λ (v : WorldState). AreCanonical v.sent) (sym h) sent

@@ -12,12 +12,12 @@ use Rattle.at_node.specs.declared.drawing.Input.TheVariants as input
 use Rattle.at_event.specs.declared.event.Report.{Report}
 use Rattle.at_world.specs.Draws.{Draws, last_of, is_no_later}
 use Rattle.at_world.specs.Sents.{SentDatagram}
-use Rattle.at_world.specs.declared.event.Event.{Event}
-use Rattle.at_world.specs.declared.event.Event.TheVariants as event
-use Rattle.at_world.specs.declared.event.Refusal.{Refusal}
-use Rattle.at_world.specs.declared.event.Refusal.TheVariants.{Limit, NoDatagram, NotForNode, Untimely}
-use Rattle.at_world.specs.declared.event.Fault.{Fault}
-use Rattle.at_world.specs.declared.event.Fault.TheVariants as fault
+use Rattle.at_setup.specs.declared.event.Event.{Event}
+use Rattle.at_setup.specs.declared.event.Event.TheVariants as event
+use Rattle.at_world.specs.declared.refusal.Refusal.{Refusal}
+use Rattle.at_world.specs.declared.refusal.Refusal.TheVariants.{Limit, NoDatagram, NotForNode, Untimely}
+use Rattle.at_world.specs.declared.refusal.Fault.{Fault}
+use Rattle.at_world.specs.declared.refusal.Fault.TheVariants as fault
 use Rattle.at_world.specs.Worlds.{WorldState, is_over, node_at, node_refusal, refusal, refusal_at, delivery_refusal, is_for, ComesInTime, DrawsFree, IsFresh, IsTimely, IsPlayable, is_numbered, PlaysAt, Receives, Takes, PlaysDelivery, IsNotTaken, IsFault}
 use Rattle.at_world.proofs.WorldLemmas.{node_stands, none_stands, one_stands}
 

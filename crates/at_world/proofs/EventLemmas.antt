@@ -1,5 +1,5 @@
 -- Events of each kind: why they are refused, and what they do.
-use Rattle.std.proofs.Common.{Bor, ◌≡◌, ℕ, false, None, Some, sym, subst}
+use Rattle.std.proofs.Common.{Bor, ◌≡◌, ℕ, false, List, None, Some, sym, subst}
 use Rattle.std.specs.Prelude.{Result, Ok, Err, IfOk, IfErr}
 use Rattle.at_event.specs.Calls.{IsCall}
 use Rattle.at_node.specs.Drawing.{Draws as DrawsFor}
@@ -7,11 +7,11 @@ use Rattle.at_node.specs.declared.drawing.Input.TheVariants as input
 use Rattle.at_event.specs.declared.event.Call.{Call}
 use Rattle.at_event.specs.declared.event.Report.{Report}
 use Rattle.at_event.specs.declared.event.Timer.{Timer}
-use Rattle.at_world.specs.declared.event.Event.{Event}
-use Rattle.at_world.specs.declared.event.Event.TheVariants as event
-use Rattle.at_world.specs.declared.event.Refusal.TheVariants.{Limit, NoDatagram, NotForNode, Untimely}
-use Rattle.at_world.specs.declared.event.Fault.{Fault}
-use Rattle.at_world.specs.declared.event.Fault.TheVariants as fault
+use Rattle.at_setup.specs.declared.event.Event.{Event}
+use Rattle.at_setup.specs.declared.event.Event.TheVariants as event
+use Rattle.at_world.specs.declared.refusal.Refusal.TheVariants.{Limit, NoDatagram, NotForNode, Untimely}
+use Rattle.at_world.specs.declared.refusal.Fault.{Fault}
+use Rattle.at_world.specs.declared.refusal.Fault.TheVariants as fault
 use Rattle.at_world.specs.Worlds.{WorldState, is_over, DrawsFree, IsPlayable, IsNotTaken, IsFault, Plays, PlaysAt, PlaysDelivery, Takes}
 use Rattle.at_world.proofs.DeliveryLemmas.{refused_at}
 use Rattle.at_world.proofs.WorldLemmas.{one_stands}
@@ -56,6 +56,26 @@ module _ (A : Type 0) (w w' : WorldState) (e : Event A) (k : ℕ) (call : Call A
       go (Err (fault.Refused NoDatagram)) p = (refused_at A w (event.Call k lent.now) (Some NoDatagram) runs p.0, p.1)
       go (Err (fault.Refused NotForNode)) p = (refused_at A w (event.Call k lent.now) (Some NotForNode) runs p.0, p.1)
       go (Err (fault.Refused Untimely)) p = ((refused_at A w (event.Call k lent.now) None runs p.0, p.1), p.2)
+
+-- bytes that no node sent draw a number only if it is free
+module _ (A : Type 0) (w w' : WorldState) (e : Event A) (k : ℕ) (bytes : List ℕ) (lent : Bor (List ℕ)) (answer : Result (Report A) Fault) (is : e ≡ event.Forge k bytes) (same : lent.now ≡ bytes) (runs : is_over w ≡ false) where
+  pub forged : IfOk answer (λ r. PlaysAt w k (Takes {A = A} (input.Received lent)) r w') → IfOk answer (λ r. DrawsFree w k (λ n x. DrawsFor {A = A} n (input.Received lent) x)) → IfOk answer (λ r. IsPlayable w e × Plays w e r w')
+  forged h free = subst (λ x. IfOk answer (λ r. IsPlayable w x × Plays w x r w')) (sym is) (subst (λ x. IfOk answer (λ r. IsPlayable {A = A} w (event.Forge k x) × Plays w (event.Forge k x) r w')) same (go answer h free))
+    where
+      go : (a : Result (Report A) Fault) → IfOk a (λ r. PlaysAt w k (Takes {A = A} (input.Received lent)) r w') → IfOk a (λ r. DrawsFree w k (λ n x. DrawsFor {A = A} n (input.Received lent) x)) → IfOk a (λ r. IsPlayable {A = A} w (event.Forge k lent.now) × Plays w (event.Forge k lent.now) r w')
+      go (Err f) p q = tt
+      go (Ok r) p q = (record { allowed = refused_at A w (event.Forge k lent.now) None runs (one_stands w k p.node p.stands); timely = q }, p)
+
+  pub not_forged : IfErr answer (λ f. IsNotTaken {A = A} w k (input.Received lent) f w') → IfErr answer (λ f. IsFault w e f w')
+  not_forged h = subst (λ x. IfErr answer (λ f. IsFault w x f w')) (sym is) (subst (λ x. IfErr answer (λ f. IsFault {A = A} w (event.Forge k x) f w')) same (go answer h))
+    where
+      go : (a : Result (Report A) Fault) → IfErr a (λ f. IsNotTaken {A = A} w k (input.Received lent) f w') → IfErr a (λ f. IsFault {A = A} w (event.Forge k lent.now) f w')
+      go (Ok r) p = tt
+      go (Err fault.NoMemory) p = (p.0, p.1, λ whole. record { allowed = refused_at A w (event.Forge k lent.now) None runs p.2; timely = p.3 })
+      go (Err (fault.Refused Limit)) p = (refused_at A w (event.Forge k lent.now) (Some Limit) runs p.0, p.1)
+      go (Err (fault.Refused NoDatagram)) p = (refused_at A w (event.Forge k lent.now) (Some NoDatagram) runs p.0, p.1)
+      go (Err (fault.Refused NotForNode)) p = (refused_at A w (event.Forge k lent.now) (Some NotForNode) runs p.0, p.1)
+      go (Err (fault.Refused Untimely)) p = ((refused_at A w (event.Forge k lent.now) None runs p.0, p.1), p.2)
 
 module _ (A : Type 0) (w w' : WorldState) (e : Event A) (which k : ℕ) (answer : Result (Report A) Fault) (is : e ≡ event.Deliver which k) where
   pub came : IfOk answer (λ r. IsPlayable {A = A} w (event.Deliver which k) × PlaysDelivery w which k r w') → IfOk answer (λ r. IsPlayable w e × Plays w e r w')

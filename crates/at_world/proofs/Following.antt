@@ -4,9 +4,9 @@ use Rattle.std.proofs.lemmas.List.{take_more}
 use Rattle.std.proofs.lemmas.Option.{slice_get-get_or}
 use Rattle.std.specs.Prelude.{slice_get, IsSome}
 use Rattle.at_event.specs.declared.event.Report.{Report}
-use Rattle.at_world.specs.declared.event.Event.{Event}
-use Rattle.at_world.specs.declared.event.Fault.{Fault}
-use Rattle.at_world.specs.declared.event.Fault.TheVariants.{Refused, NoMemory}
+use Rattle.at_setup.specs.declared.event.Event.{Event}
+use Rattle.at_world.specs.declared.refusal.Fault.{Fault}
+use Rattle.at_world.specs.declared.refusal.Fault.TheVariants.{Refused, NoMemory}
 use Rattle.at_world.specs.Worlds.{WorldState, IsPlayable, Plays, IsFault}
 use Rattle.at_world.specs.Plays.{Follows, StopsAt, IsRefused}
 

@@ -4,10 +4,11 @@ use Rattle.std.specs.Prelude.{count_by, find, is_none, option_map, ◌==◌, ◌
 use Rattle.std.specs.List.{list_all}
 use Rattle.at_zip.specs.Zones.{IsName, IsTable, is_name, table_fault}
 use Rattle.std.proofs.lemmas.Bool.{and_parts, false≢true, leb-true, ltb-true}
-use Rattle.at_world.specs.declared.setup.NodeSetup.{NodeSetup}
-use Rattle.at_world.specs.declared.setup.Setup.{Setup}
-use Rattle.at_world.specs.Plays.{router_of}
-use Rattle.at_world.specs.Setups.{is_lawful_node, is_room, stands_once, has_router, are_in_zones, are_lawful_nodes, is_lawful_table, is_lawful}
+use Rattle.std.proofs.lemmas.List.{length-map}
+use Rattle.at_setup.specs.declared.setup.NodeSetup.{NodeSetup}
+use Rattle.at_setup.specs.declared.setup.Setup.{Setup}
+use Rattle.at_world.specs.Plays.{opening_node, opening_world, router_of}
+use Rattle.at_setup.specs.Setups.{is_lawful_node, is_room, stands_once, has_router, are_in_zones, are_lawful_nodes, is_lawful_table, is_lawful}
 
 -- what the layer below promises of names and tables
 pub record SetupLaws : Type 0 where
@@ -16,6 +17,7 @@ pub record SetupLaws : Type 0 where
 
 pub record Lawful {A : Type 0} (s : Setup A) : Type 0 where
   pub net : s.net < 65536
+  pub few : length s.nodes ≤ 16
   pub each : list_all is_lawful_node s.nodes ≡ true
   pub one : count_by (λ (n : NodeSetup). n.router) s.nodes ≤ 1
   pub table : table_fault s.zones ≡ None
@@ -39,11 +41,16 @@ lawful_has A s ok =
     let h = and_parts (is_none (table_fault s.zones)) (router || (length s.zones == 0)) a.1 in
     record {
       net = ltb-true s.net 65536 c.1;
+      few = leb-true (length ns) 16 g.0;
       each = g.1;
       one = leb-true (count_by (λ n. n.router) ns) 1 e.1;
       table = none_is (table_fault s.zones) h.0;
       placed = d.1;
     }
+
+-- at most 16 nodes stand from the opening on
+pub opening_few : (A : Type 0) (s : Setup A) → is_lawful s ≡ true → length (opening_world s).nodes ≤ 16
+opening_few A s ok = omega (arith, (lawful_has A s ok).few, length-map s.nodes (opening_node s))
 
 -- ---- numbers of nodes
 

@@ -12,6 +12,7 @@ mod Names
 mod Nodes
 mod NotedLemmas
 mod Runs
+mod SafetyLemmas
 mod Seats
 mod Seeking
 mod SentLemmas

@@ -1,20 +1,21 @@
 -- Every play is a run of the machine.
 use Rattle.std.proofs.Common.{◌≡◌, ◌⊎◌, inl, inr, ⊎_elim, Bool, true, false, cond, List, [], ◌∷◌, map, take, Some, None, Result, Ok, Err, refl, sym, ap, subst, ◌∙◌}
 use Rattle.at_ddp.specs.Datagrams.{Posted}
+use Rattle.std.proofs.lemmas.Bool.{true≢false}
 use Rattle.at_event.specs.declared.event.Report.{Report}
 use Rattle.at_event.specs.declared.event.Report.TheVariants.{NoMemory}
 use Rattle.at_node.specs.Hearing.{Hears}
 use Rattle.at_node.specs.Nodes.{NodeState, called, timed}
 use Rattle.at_event.specs.Outcomes.{Outcome, idle, posted, IsStep, Comes}
 use Rattle.at_event.specs.Services.{is_asked}
-use Rattle.at_world.specs.declared.event.Event.{Event}
-use Rattle.at_world.specs.declared.event.Event.TheVariants as event
-use Rattle.at_world.specs.declared.setup.Setup.{Setup}
+use Rattle.at_setup.specs.declared.event.Event.{Event}
+use Rattle.at_setup.specs.declared.event.Event.TheVariants as event
+use Rattle.at_setup.specs.declared.setup.Setup.{Setup}
 use Rattle.at_world.specs.declared.transcript.Transcript.{Transcript}
 use Rattle.at_world.specs.declared.transcript.PlayFault.{PlayFault}
 use Rattle.at_steps.specs.Acts.{is_adsp, is_atp, is_nbp}
 use Rattle.at_world.specs.Cables.{Cable, owner_of}
-use Rattle.at_world.specs.Events.{act_of, node_of}
+use Rattle.at_world.specs.Events.{NoForge, act_of, is_forged, node_of}
 use Rattle.at_world.specs.Machine.{Machine, opening_machine, Step, Run, IsRun}
 use Rattle.at_world.specs.Plays.{opening_world, Follows, IsPlay}
 use Rattle.at_world.specs.Stories.{Tells, table_by}
@@ -36,7 +37,7 @@ use Rattle.at_world.proofs.Streams.Happenings as streamed
 use Rattle.at_world.proofs.Streams.Next.{Good as GoodStreams}
 use Rattle.at_world.proofs.Streams.Tie.{StreamLaws, StreamTie}
 use Rattle.at_world.proofs.Tied.{Tied}
-use Rattle.at_world.specs.declared.event.Refusal.TheVariants.{Limit}
+use Rattle.at_world.specs.declared.refusal.Refusal.TheVariants.{Limit}
 
 -- the machine may answer an event so, and is tied to the world after it
 abbrev pub Follow : (A : Type 0) (w : WorldState) (m : Machine) → Tied A w m → Event A → Report A → WorldState → Type 0
@@ -109,15 +110,15 @@ module _ (A : Type 0) (w : WorldState) (m : Machine) (t : Tied A w m) (e : Event
 -- ---- one event
 
 -- an event that nothing refuses comes before the end of the play
-still_runs : {A : Type 0} (w : WorldState) (e : Event A) → refusal w e ≡ None → is_over w ≡ false
+pub still_runs : {A : Type 0} (w : WorldState) (e : Event A) → refusal w e ≡ None → is_over w ≡ false
 still_runs w e allowed = go (is_over w) refl allowed
   where
     go : (b : Bool) → is_over w ≡ b → cond b (Some Limit) (refusal_at w e) ≡ None → is_over w ≡ false
     go true is h = absurd (cc)
     go false is h = is
 
-followed : (A : Type 0) → PartLaws A → (w : WorldState) (m : Machine) (e : Event A) (r : Report A) (w' : WorldState) (t : Tied A w m) → IsPlayable w e → Plays w e r w' → Follow A w m t e r w'
-followed A laws w m (event.Call k call) r w' t playable both =
+followed : (A : Type 0) → PartLaws A → (w : WorldState) (m : Machine) (e : Event A) (r : Report A) (w' : WorldState) (t : Tied A w m) → is_forged e ≡ false → IsPlayable w e → Plays w e r w' → Follow A w m t e r w'
+followed A laws w m (event.Call k call) r w' t sent playable both =
     let timely = playable.timely in
     let runs = still_runs {A = A} w (event.Call k call) playable.allowed in
     let p = both.0 in
@@ -132,7 +133,7 @@ followed A laws w m (event.Call k call) r w' t playable both =
       told.call_follows A laws.sessions laws.names w m.cable m.sessions m.names t.cable t.sessions t.names k n p.stands call both.1 seat,
     ))
     (either A (called n call) n r p.after p.out p.steps)
-followed A laws w m (event.Timer k time) r w' t playable p =
+followed A laws w m (event.Timer k time) r w' t sent playable p =
     let runs = still_runs {A = A} w (event.Timer k time) playable.allowed in
     let n = p.node in
     let seat = timer_keeps_seat A n time in
@@ -145,7 +146,7 @@ followed A laws w m (event.Timer k time) r w' t playable p =
       told.timer_follows A laws.sessions laws.names w m.cable m.sessions m.names t.cable t.sessions t.names k n p.stands time seat,
     ))
     (either A (timed n time) n r p.after p.out p.steps)
-followed A laws w m (event.Deliver which k) r w' t playable d =
+followed A laws w m (event.Deliver which k) r w' t sent playable d =
     let timely = playable.timely in
     let runs = still_runs {A = A} w (event.Deliver which k) playable.allowed in
     let p = d.plays in
@@ -165,6 +166,7 @@ followed A laws w m (event.Deliver which k) r w' t playable d =
       told.datagram_follows A laws.sessions laws.names w m.cable m.sessions m.names t.cable t.sessions t.names k n p.stands which (d.datagram).bytes said x.0 x.1 seat,
     ) x.2)
     (either_coming A (Hears said n (d.datagram).bytes) n r p.after p.out p.steps.1)
+followed A laws w m (event.Forge k bytes) r w' t forged playable p = absurd (true≢false forged)
 
 -- ---- all of them
 
@@ -172,25 +174,25 @@ followed A laws w m (event.Deliver which k) r w' t playable d =
 abbrev pub Ran : (A : Type 0) (w : WorldState) (m : Machine) → Tied A w m → List (Event A) → List (Report A) → WorldState → Type 0
 Ran A w m t es rs w' = (m' : Machine) × Run m es rs m' × (now : Tied A w' m') × Tells (m.cable).net (m.atp).table (t.atp).history es rs (now.atp).history
 
-pub runs : (A : Type 0) → PartLaws A → (w : WorldState) (m : Machine) (es : List (Event A)) (rs : List (Report A)) (w' : WorldState) (t : Tied A w m) → Follows w es rs w' → Ran A w m t es rs w'
-runs A laws w m [] [] w' t h = let same = subst (λ x. (now : Tied A x m) × ((now.atp).history ≡ (t.atp).history)) (sym h) (t, refl) in (m, refl, same.0, same.1)
-runs A laws w m (e ∷ es) (r ∷ rs) w' t h =
+pub runs : (A : Type 0) → PartLaws A → (w : WorldState) (m : Machine) (es : List (Event A)) (rs : List (Report A)) (w' : WorldState) (t : Tied A w m) → NoForge es → Follows w es rs w' → Ran A w m t es rs w'
+runs A laws w m [] [] w' t sent h = let same = subst (λ x. (now : Tied A x m) × ((now.atp).history ≡ (t.atp).history)) (sym h) (t, refl) in (m, refl, same.0, same.1)
+runs A laws w m (e ∷ es) (r ∷ rs) w' t sent h =
     let playable = h.1 in
-    let one = followed A laws w m e r h.0 t playable h.2 in
-    let rest = runs A laws h.0 one.0 es rs w' one.2 h.3 in
+    let one = followed A laws w m e r h.0 t sent.0 playable h.2 in
+    let rest = runs A laws h.0 one.0 es rs w' one.2 sent.1 h.3 in
     let grown = one.3 in
     let step = one.1 in
     let table = table_follows m.cable m.atp e r (one.0).atp (owner_of e r) refl step.atp in
     let told = subst (λ l. Tells (m.cable).net (table_by e r (m.atp).table) l es rs ((rest.2).atp).history) grown.1
     (subst (λ zones. Tells (m.cable).net zones ((one.2).atp).history es rs ((rest.2).atp).history) table (subst (λ (c : Cable). Tells c.net ((one.0).atp).table ((one.2).atp).history es rs ((rest.2).atp).history) one.4 rest.3)) in
     (rest.0, (one.0, one.1, rest.1), rest.2, (grown.0, grown.2, grown.3, told))
-runs A laws w m [] (r ∷ rs) w' t h = absurd h
-runs A laws w m (e ∷ es) [] w' t h = absurd h
+runs A laws w m [] (r ∷ rs) w' t sent h = absurd h
+runs A laws w m (e ∷ es) [] w' t sent h = absurd h
 
 -- what steps from the opening give is a run
 abbrev pub StepsRun : (A : Type 0) → Setup A → Type 0
-StepsRun A s = (events : List (Event A)) (reports : List (Report A)) (w : WorldState) → Follows (opening_world s) events reports w → (m : Machine) × Run (opening_machine s) events reports m
+StepsRun A s = (events : List (Event A)) (reports : List (Report A)) (w : WorldState) → NoForge events → Follows (opening_world s) events reports w → (m : Machine) × Run (opening_machine s) events reports m
 
 pub play_runs : (A : Type 0) (s : Setup A) (events : List (Event A)) (answer : Result (Transcript A) (PlayFault A)) → StepsRun A s → IsPlay s events answer → IsRun s events answer
-play_runs A s events (Ok t) law h = let played = h.1 in law events t.reports h.0 played.0
-play_runs A s events (Err f) law h = let played = h.1 in law (take f.at events) f.transcript.reports h.0 played.0
+play_runs A s events (Ok t) law h = λ sent. let played = h.1 in law events t.reports h.0 sent played.0
+play_runs A s events (Err f) law h = λ sent. let played = h.1 in law (take f.at events) f.transcript.reports h.0 sent played.0

@@ -3,7 +3,7 @@ use Rattle.std.proofs.Common.{◌≡◌, ℕ, ◌+◌, ◌<◌, List, [], ◌∷
 use Rattle.std.proofs.lemmas.List.{take_more}
 use Rattle.at_name_socket.specs.declared.neighbour.Neighbour.{Neighbour}
 use Rattle.at_world.specs.Plays.{joined, neighbours_of}
-use Rattle.at_world.specs.declared.setup.NodeSetup.{NodeSetup}
+use Rattle.at_setup.specs.declared.setup.NodeSetup.{NodeSetup}
 
 joined_all : (node : ℕ) (zone : Option (List ℕ)) (xs ys : List Neighbour) → joined node zone (xs ++ ys) ≡ joined node zone xs ++ ys
 joined_all node None xs ys = refl

@@ -4,15 +4,15 @@ use Rattle.std.specs.Prelude.{find, ◌==◌}
 use Rattle.std.specs.List.{list_all}
 use Rattle.std.proofs.lemmas.Bool.{and_parts, eqb-true}
 use Rattle.at_node.specs.Nodes.{NodeState}
-use Rattle.at_world.specs.declared.setup.NodeSetup.{NodeSetup}
-use Rattle.at_world.specs.declared.setup.Setup.{Setup}
+use Rattle.at_setup.specs.declared.setup.NodeSetup.{NodeSetup}
+use Rattle.at_setup.specs.declared.setup.Setup.{Setup}
 use Rattle.at_world.specs.AtpGuards as atp
 use Rattle.at_world.specs.Cables as cables
 use Rattle.at_world.specs.NameGuards as names
 use Rattle.at_world.specs.StreamGuards as streams
 use Rattle.at_world.specs.Machine.{opening_machine}
 use Rattle.at_world.specs.Plays.{opening_node, opening_world}
-use Rattle.at_world.specs.Setups.{is_lawful_node, is_lawful}
+use Rattle.at_setup.specs.Setups.{is_lawful_node, is_lawful}
 use Rattle.at_world.specs.Worlds.{is_numbered}
 use Rattle.at_world.proofs.Atp.Opening.{atp_at_opening}
 use Rattle.at_world.proofs.Atp.Tie.{AtpTie}

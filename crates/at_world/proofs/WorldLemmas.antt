@@ -19,9 +19,9 @@ use Rattle.at_node.specs.Nodes.{NodeState, called, timed}
 use Rattle.at_event.specs.Outcomes.{Outcome, posted, IsStep, Comes}
 use Rattle.at_world.specs.Draws.{Draws, noted}
 use Rattle.at_world.specs.Sents.{SentDatagram, stamp, stamped}
-use Rattle.at_world.specs.declared.event.Refusal.TheVariants.{NotForNode}
-use Rattle.at_world.specs.declared.event.Fault.{Fault}
-use Rattle.at_world.specs.declared.event.Fault.TheVariants as fault
+use Rattle.at_world.specs.declared.refusal.Refusal.TheVariants.{NotForNode}
+use Rattle.at_world.specs.declared.refusal.Fault.{Fault}
+use Rattle.at_world.specs.declared.refusal.Fault.TheVariants as fault
 use Rattle.at_world.specs.Worlds.{WorldState, is_over, is_numbered, node_at, node_refusal, holds_some, recorded, PlaysAt, Takes, DrawsFree, IsNotTaken}
 
 -- ---- what a node sends goes behind what was there

@@ -17,9 +17,9 @@ use Rattle.at_event.specs.declared.event.Report.{Report}
 use Rattle.at_event.specs.declared.event.Report.TheVariants as report
 use Rattle.at_steps.specs.AtpSteps.{new_transaction, page_answer, page_asked}
 use Rattle.at_world.specs.Cables.{Cable, at_net}
-use Rattle.at_world.specs.declared.event.Event.{Event}
-use Rattle.at_world.specs.declared.event.Event.TheVariants as event
-use Rattle.at_world.specs.declared.setup.Setup.{Setup}
+use Rattle.at_setup.specs.declared.event.Event.{Event}
+use Rattle.at_setup.specs.declared.event.Event.TheVariants as event
+use Rattle.at_setup.specs.declared.setup.Setup.{Setup}
 
 -- a node reads the zone list since this moment
 pub record Reading : Type 0 where

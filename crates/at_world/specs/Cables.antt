@@ -6,8 +6,8 @@ use Rattle.at_event.specs.declared.event.Report.{Report}
 use Rattle.at_steps.specs.Acts as acts
 use Rattle.at_world.specs.Events.{act_of}
 use Rattle.at_world.specs.Plays.{router_of}
-use Rattle.at_world.specs.declared.event.Event.{Event}
-use Rattle.at_world.specs.declared.setup.Setup.{Setup}
+use Rattle.at_setup.specs.declared.event.Event.{Event}
+use Rattle.at_setup.specs.declared.setup.Setup.{Setup}
 
 -- its network, and the number of its router, if it has one
 pub record Cable : Type 0 where

@@ -15,11 +15,12 @@ use Rattle.at_event.specs.declared.event.Report.{Report}
 use Rattle.at_event.specs.declared.event.Report.TheVariants as report
 use Rattle.at_steps.specs.AtpReports.{AsksFrom}
 use Rattle.at_steps.specs.AtpSteps.{page_answer}
+use Rattle.at_world.specs.Events.{NoForge}
 use Rattle.at_world.specs.Sents.{SentDatagram}
 use Rattle.at_world.specs.Stories.{asks_once, asks_for, began_under, expired_at, table_by}
-use Rattle.at_world.specs.declared.event.Event.{Event}
-use Rattle.at_world.specs.declared.event.Event.TheVariants as event
-use Rattle.at_world.specs.declared.setup.Setup.{Setup}
+use Rattle.at_setup.specs.declared.event.Event.{Event}
+use Rattle.at_setup.specs.declared.event.Event.TheVariants as event
+use Rattle.at_setup.specs.declared.setup.Setup.{Setup}
 use Rattle.at_world.specs.declared.transcript.Transcript.{Transcript}
 use Rattle.at_world.specs.declared.transcript.PlayFault.{PlayFault}
 
@@ -183,9 +184,10 @@ RunsOnce net zones sent (x ∷ xs) =
     ((key : Key) → is_once net (x ∷ xs) key ≡ true → RanOnce net sent (x ∷ xs) key)
     × EndsBy net zones sent x.event x.report xs × RunsOnce net zones sent xs
 
--- the same for a play, whole or up to where it stopped, if no request outlives its record
+-- the same for a play, whole or up to where it stopped, if nothing was forged and no request outlives its record
 abbrev pub IsOnce : {A : Type 0} → Setup A → List (Event A) → Result (Transcript A) (PlayFault A) → Type 0
-IsOnce s events (Ok t) =
-    AllLive s.net t.sent (onto [] events t.reports) → RunsOnce s.net s.zones t.sent (onto [] events t.reports)
-IsOnce s events (Err f) = AllLive s.net f.transcript.sent (onto [] (take f.at events) f.transcript.reports)
+IsOnce s events (Ok t) = NoForge events
+    → AllLive s.net t.sent (onto [] events t.reports) → RunsOnce s.net s.zones t.sent (onto [] events t.reports)
+IsOnce s events (Err f) = NoForge (take f.at events)
+    → AllLive s.net f.transcript.sent (onto [] (take f.at events) f.transcript.reports)
     → RunsOnce s.net s.zones f.transcript.sent (onto [] (take f.at events) f.transcript.reports)

@@ -7,9 +7,9 @@ pub mod Machine
 pub mod NameGuards
 pub mod Plays
 pub mod Refusals
+pub mod Safety
 pub mod Sents
 pub mod SessionGuards
-pub mod Setups
 pub mod Stories
 pub mod StreamGuards
 pub mod Worlds

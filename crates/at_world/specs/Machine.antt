@@ -6,14 +6,15 @@ use Rattle.at_world.specs.AtpGuards as atp
 use Rattle.at_world.specs.AtpGuards.{AtpMachine}
 use Rattle.at_world.specs.Cables as cables
 use Rattle.at_world.specs.Cables.{Cable, owner_of}
+use Rattle.at_world.specs.Events.{NoForge}
 use Rattle.at_world.specs.NameGuards as names
 use Rattle.at_world.specs.NameGuards.{NameMachine}
 use Rattle.at_world.specs.SessionGuards as sessions
 use Rattle.at_world.specs.SessionGuards.{Sessions}
 use Rattle.at_world.specs.StreamGuards as streams
 use Rattle.at_world.specs.StreamGuards.{StreamMachine}
-use Rattle.at_world.specs.declared.event.Event.{Event}
-use Rattle.at_world.specs.declared.setup.Setup.{Setup}
+use Rattle.at_setup.specs.declared.event.Event.{Event}
+use Rattle.at_setup.specs.declared.setup.Setup.{Setup}
 use Rattle.at_world.specs.declared.transcript.Transcript.{Transcript}
 use Rattle.at_world.specs.declared.transcript.PlayFault.{PlayFault}
 
@@ -48,7 +49,8 @@ Run m (e ∷ es) (r ∷ rs) m' = (mid : Machine) × Step m e r mid × Run mid es
 Run m [] (r ∷ rs) m' = ⊥
 Run m (e ∷ es) [] m' = ⊥
 
--- the reports of what was played are a run of the machine
+-- the reports of what was played are a run of the machine, if nothing was forged
 abbrev pub IsRun : {A : Type 0} → Setup A → List (Event A) → Result (Transcript A) (PlayFault A) → Type 0
-IsRun s events (Ok t) = (m : Machine) × Run (opening_machine s) events t.reports m
-IsRun s events (Err f) = (m : Machine) × Run (opening_machine s) (take f.at events) f.transcript.reports m
+IsRun s events (Ok t) = NoForge events → (m : Machine) × Run (opening_machine s) events t.reports m
+IsRun s events (Err f) =
+    NoForge (take f.at events) → (m : Machine) × Run (opening_machine s) (take f.at events) f.transcript.reports m

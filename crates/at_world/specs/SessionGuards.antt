@@ -5,7 +5,7 @@ use Rattle.at_event.specs.declared.event.Report.{Report}
 use Rattle.at_session.specs.Sessions.{SessionState, new_session}
 use Rattle.at_steps.specs.SessionSteps.{IsStep}
 use Rattle.at_world.specs.Events.{act_of, node_of}
-use Rattle.at_world.specs.declared.event.Event.{Event}
+use Rattle.at_setup.specs.declared.event.Event.{Event}
 
 -- the session of each node's user: its last zone list, the zone that it picked, and what its last lookup found
 abbrev pub Sessions : Type 0

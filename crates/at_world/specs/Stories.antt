@@ -15,8 +15,8 @@ use Rattle.at_steps.specs.AtpHappenings.{sets_table}
 use Rattle.at_steps.specs.AtpReports as reports
 use Rattle.at_world.specs.Events.{act_of, node_of}
 use Rattle.at_world.specs.Sents.{SentDatagram}
-use Rattle.at_world.specs.declared.event.Event.{Event}
-use Rattle.at_world.specs.declared.event.Event.TheVariants as event
+use Rattle.at_setup.specs.declared.event.Event.{Event}
+use Rattle.at_setup.specs.declared.event.Event.TheVariants as event
 
 -- ---- what an event and its report say of a request
 

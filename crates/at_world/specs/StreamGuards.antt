@@ -14,8 +14,8 @@ use Rattle.at_stream_socket.specs.Sockets.{streams_at}
 use Rattle.at_session.specs.Sessions.{address_at}
 use Rattle.at_world.specs.Cables.{Cable, at_net}
 use Rattle.at_world.specs.SessionGuards.{Sessions}
-use Rattle.at_world.specs.declared.event.Event.{Event}
-use Rattle.at_world.specs.declared.event.Event.TheVariants as event
+use Rattle.at_setup.specs.declared.event.Event.{Event}
+use Rattle.at_setup.specs.declared.event.Event.TheVariants as event
 
 -- how many events there were, and all ends that were ever made, newest first
 pub record StreamMachine : Type 0 where

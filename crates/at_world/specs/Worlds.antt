@@ -19,12 +19,12 @@ use Rattle.at_event.specs.Outcomes.{IsStep, Comes}
 use Rattle.at_event.specs.Services.{is_asked}
 use Rattle.at_world.specs.Draws.{Draws, last_of, noted, is_no_later}
 use Rattle.at_world.specs.Sents.{SentDatagram, stamp}
-use Rattle.at_world.specs.declared.event.Event.{Event}
-use Rattle.at_world.specs.declared.event.Event.TheVariants as event
-use Rattle.at_world.specs.declared.event.Refusal.{Refusal}
-use Rattle.at_world.specs.declared.event.Refusal.TheVariants as refusals
-use Rattle.at_world.specs.declared.event.Fault.{Fault}
-use Rattle.at_world.specs.declared.event.Fault.TheVariants as fault
+use Rattle.at_setup.specs.declared.event.Event.{Event}
+use Rattle.at_setup.specs.declared.event.Event.TheVariants as event
+use Rattle.at_world.specs.declared.refusal.Refusal.{Refusal}
+use Rattle.at_world.specs.declared.refusal.Refusal.TheVariants as refusals
+use Rattle.at_world.specs.declared.refusal.Fault.{Fault}
+use Rattle.at_world.specs.declared.refusal.Fault.TheVariants as fault
 
 pub record WorldState : Type 0 where
   pub nodes : List NodeState
@@ -61,6 +61,7 @@ abbrev pub refusal_at : {A : Type 0} → WorldState → Event A → Option Refus
 refusal_at w (event.Call k call) = node_refusal (node_at w k)
 refusal_at w (event.Deliver which k) = delivery_refusal w k (slice_get w.sent which)
 refusal_at w (event.Timer k timer) = node_refusal (node_at w k)
+refusal_at w (event.Forge k bytes) = node_refusal (node_at w k)
 
 -- why an event is refused whatever its numbers: the first reason
 abbrev pub refusal : {A : Type 0} → WorldState → Event A → Option Refusal
@@ -90,11 +91,13 @@ pub record ComesInTime (A : Type 0) (w : WorldState) (k : ℕ) (s : SentDatagram
   pub free : DrawsFree w k (λ n draw. DrawsHearing A n s.bytes draw)
 
 -- No packet outlives the number that it carries. A datagram comes before its numbers are drawn again, and no number is
--- drawn while a record is held under it.
+-- drawn while a record is held under it. Bytes that no node sent were sent at no time, so only what they draw is looked
+-- at.
 abbrev pub IsTimely : {A : Type 0} → WorldState → Event A → Type 0
 IsTimely w (event.Call k call) = DrawsFree w k (λ n draw. draw_of n call ≡ Some draw)
 IsTimely {A} w (event.Deliver which k) = (s : SentDatagram) → slice_get w.sent which ≡ Some s → ComesInTime A w k s
 IsTimely {A} w (event.Timer k timer) = DrawsFree w k (λ n draw. drawn_by (timed {A = A} n timer).report ≡ Some draw)
+IsTimely {A} w (event.Forge k bytes) = DrawsFree w k (λ n draw. DrawsHearing A n bytes draw)
 
 -- an event that nothing refuses
 pub record IsPlayable {A : Type 0} (w : WorldState) (e : Event A) : Type 0 where
@@ -159,6 +162,7 @@ Plays w (event.Call k call) r w' =
 Plays w (event.Deliver which k) r w' = PlaysDelivery w which k r w'
 Plays w (event.Timer k timer) r w' =
     PlaysAt w k (λ n before said after out. IsStep (timed n timer) n before said after out) r w'
+Plays w (event.Forge k bytes) r w' = PlaysAt w k (Receives bytes) r w'
 
 -- Why an event was not played. A world that had not failed is out of memory only if nothing else refuses the event.
 abbrev pub IsFault : {A : Type 0} → WorldState → Event A → Fault → WorldState → Type 0

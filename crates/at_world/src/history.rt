@@ -2,13 +2,14 @@
 ghost use Rattle.std.specs.Prelude.{◌≡◌, List, true};
 ghost use Rattle.at_event.specs.declared.event.Report.{Report};
 ghost use Rattle.at_atp.specs.Network.{Happening};
+ghost use Rattle.at_world.specs.Events.{NoForge};
 ghost use Rattle.at_world.specs.Machine.{Machine, Run, opening_machine};
 ghost use Rattle.at_world.specs.Plays.{Follows, opening_world};
-ghost use Rattle.at_world.specs.Setups.{is_lawful};
+ghost use Rattle.at_setup.specs.Setups.{is_lawful};
 ghost use Rattle.at_world.specs.Stories.{IsHistory};
 ghost use Rattle.at_world.specs.Worlds.{WorldState};
-ghost use Rattle.at_world.specs.declared.event.Event.{Event};
-ghost use Rattle.at_world.specs.declared.setup.Setup.{Setup};
+ghost use Rattle.at_setup.specs.declared.event.Event.{Event};
+ghost use Rattle.at_setup.specs.declared.setup.Setup.{Setup};
 
 use std::alloc::Allocator;
 
@@ -16,7 +17,7 @@ use std::alloc::Allocator;
 // in the network of requesters and responders.
 pub(crate) fn steps_make_a_history<A: Allocator>()
     ensures { (s : Setup A) (events : List (Event A)) (reports : List (Report A)) (w : WorldState) → is_lawful s ≡ true
-        → Follows (opening_world s) events reports w
+        → NoForge events → Follows (opening_world s) events reports w
         → ((m : Machine) × Run (opening_machine s) events reports m)
         × ((history : List Happening) × IsHistory s.net s.zones events reports w.sent history) }
 {

@@ -1,23 +1,29 @@
 //! Laws of worlds. The functions do nothing: each contract is a law.
-ghost use Rattle.std.specs.Prelude.{◌≡◌, List, [], true};
+ghost use Rattle.std.specs.Prelude.{◌≡◌, ◌≤◌, List, [], length, true};
 ghost use Rattle.at_event.specs.declared.event.Report.{Report};
 ghost use Rattle.at_world.specs.ExactlyOnce.{AllLive, RunsOnce, onto};
+ghost use Rattle.at_world.specs.Events.{NoForge};
 ghost use Rattle.at_world.specs.Machine.{Machine, Run, opening_machine};
 ghost use Rattle.at_world.specs.Plays.{Follows, opening_world};
 ghost use Rattle.at_world.specs.Sents.{AreCanonical};
-ghost use Rattle.at_world.specs.Setups.{is_lawful};
+ghost use Rattle.at_setup.specs.Setups.{is_lawful};
 ghost use Rattle.at_world.specs.Worlds.{WorldState};
-ghost use Rattle.at_world.specs.declared.event.Event.{Event};
-ghost use Rattle.at_world.specs.declared.setup.Setup.{Setup};
+ghost use Rattle.at_setup.specs.declared.event.Event.{Event};
+ghost use Rattle.at_setup.specs.declared.setup.Setup.{Setup};
 
 use crate::history::steps_make_a_history;
 use std::alloc::Allocator;
+
+/// A world opens with at most 16 nodes.
+pub fn at_most_16_nodes_stand<A: Allocator>()
+    ensures { (s : Setup A) → is_lawful s ≡ true → length (opening_world s).nodes ≤ 16 }
+{}
 
 /// The reports of a world that is stepped from its opening on are a run of the machine. All that it sends is spelled
 /// canonically.
 pub fn steps_are_a_run<A: Allocator>()
     ensures machine { (s : Setup A) (events : List (Event A)) (reports : List (Report A)) (w : WorldState)
-        → is_lawful s ≡ true → Follows (opening_world s) events reports w
+        → is_lawful s ≡ true → NoForge events → Follows (opening_world s) events reports w
         → (m : Machine) × Run (opening_machine s) events reports m }
     ensures sent { (s : Setup A) (events : List (Event A)) (reports : List (Report A)) (w : WorldState)
         → Follows (opening_world s) events reports w → AreCanonical w.sent }
@@ -30,7 +36,7 @@ pub fn steps_are_a_run<A: Allocator>()
 /// transaction began. It was delivered exactly once if the transaction ended with a response.
 pub fn exactly_once_requests_run_once<A: Allocator>()
     ensures { (s : Setup A) (events : List (Event A)) (reports : List (Report A)) (w : WorldState) → is_lawful s ≡ true
-        → Follows (opening_world s) events reports w
+        → NoForge events → Follows (opening_world s) events reports w
         → AllLive s.net w.sent (onto [] events reports)
         → RunsOnce s.net s.zones w.sent (onto [] events reports) }
 {

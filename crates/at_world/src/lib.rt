@@ -2,21 +2,21 @@
 #![tactic(auto)]
 
 mod draws;
-mod event;
 mod history;
 pub mod laws;
 mod looking;
 mod opening;
 mod places;
 mod player;
+mod refusal;
 mod sent;
-mod setup;
+mod timely;
 mod transcript;
 mod world;
 
-pub use event::{Event, Fault, Refusal};
+pub use at_setup::{Event, NodeSetup, Setup};
 pub use player::play;
+pub use refusal::{Fault, Refusal};
 pub use sent::{Sent, SentList};
-pub use setup::{NodeSetup, Setup};
 pub use transcript::{PlayFault, Transcript};
 pub use world::World;

@@ -1,13 +1,14 @@
 ghost use Rattle.std.specs.Prelude.{◌≡◌, IfOk, Some, None, map, if◌then◌else◌};
 ghost use Rattle.at_adsp_ends.specs.Tables.{AreRooms};
+ghost use Rattle.at_world.specs.Safety.{AreWithin};
 ghost use Rattle.at_world.specs.Plays.{neighbours_of, opening_node, rooms_of, router_of};
 
-use crate::setup::{NodeSetup, Setup};
 use at_adsp_ends::Rooms;
 use at_ddp::{Listed, Pascal};
 use at_name_socket::Neighbour;
 use at_nbp::copy_of;
 use at_node::Node;
+use at_setup::{NodeSetup, Setup};
 use at_zip::Zones;
 use std::alloc::{AllocError, Allocator};
 
@@ -16,7 +17,8 @@ pub(crate) fn opening_nodes<A: Allocator + Copy>(
     alloc: A,
     setup: &Setup<A>,
 ) -> Result<Vec<Node<A>, A>, AllocError>
-    ensures { IfOk result (λ nodes. nodes.items ≡ map (opening_node setup.now) setup.now.nodes) }
+    ensures nodes { IfOk result (λ nodes. nodes.items ≡ map (opening_node setup.now) setup.now.nodes) }
+    ensures within { IfOk result (λ nodes. AreWithin nodes.items) }
 {
     let setups = setup.nodes.as_slice();
     let router = router_of(setups);
@@ -26,9 +28,11 @@ pub(crate) fn opening_nodes<A: Allocator + Copy>(
         let zones = table_of(alloc, n.router, setup.zones.as_slice())?;
         let neighbours = neighbours_for(alloc, n.router, setups)?;
         let rooms = rooms_of(n);
-        nodes.push(Node::new(
+        let node = Node::new(
             alloc, setup.net, n.node, router, zone, zones, neighbours, rooms,
-        ))?;
+        );
+        node.limits();
+        nodes.push(node)?;
     }
     Ok(nodes)
 }

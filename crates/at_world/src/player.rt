@@ -2,16 +2,17 @@ ghost use Rattle.std.specs.Prelude.{◌≡◌, true, [], IfErr, ◌≤◌, lengt
 ghost use Rattle.at_world.specs.ExactlyOnce.{IsOnce};
 ghost use Rattle.at_world.specs.Machine.{IsRun};
 ghost use Rattle.at_world.specs.Plays.{IsPlay, SendsCanonically};
-ghost use Rattle.at_world.specs.Setups.{is_lawful};
+ghost use Rattle.at_world.specs.Safety.{IsSafePlay};
+ghost use Rattle.at_setup.specs.Setups.{is_lawful};
 
-use crate::event::{Event, Fault};
 use crate::laws::{exactly_once_requests_run_once, steps_are_a_run};
+use crate::refusal::Fault;
 use crate::sent::SentList;
-use crate::setup::Setup;
 use crate::transcript::{PlayFault, Transcript};
 use crate::world::World;
 use at_ddp::Listed;
 use at_node::Report;
+use at_setup::{Event, Setup};
 use std::alloc::Allocator;
 
 /// Opens a world and plays events up to the first that is refused.
@@ -25,6 +26,7 @@ pub fn play<A: Allocator + Copy>(
     ensures machine { IsRun setup.now events.now result }
     ensures once { IsOnce setup.now events.now result }
     ensures sent { SendsCanonically result }
+    ensures safe { IsSafePlay setup.now events.now result }
     ensures within { IfErr result (λ f. f.at ≤ length events.now) }
 {
     steps_are_a_run::<A>();
@@ -37,7 +39,9 @@ fn play_all<A: Allocator + Copy>(
     setup: &Setup<A>,
     events: &[Event<A>],
 ) -> Result<Transcript<A>, PlayFault<A>>
+    requires { is_lawful setup.now ≡ true }
     ensures follows { IsPlay setup.now events.now result }
+    ensures safe { IsSafePlay setup.now events.now result }
     ensures within { IfErr result (λ f. f.at ≤ length events.now) }
 {
     let mut reports = Vec::new(alloc);

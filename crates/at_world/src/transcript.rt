@@ -1,4 +1,4 @@
-use crate::event::Fault;
+use crate::refusal::Fault;
 use crate::sent::SentList;
 use at_ddp::Listed;
 use at_node::Report;

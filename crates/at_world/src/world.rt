@@ -1,21 +1,24 @@
 ghost use Rattle.std.specs.Prelude.{◌≡◌, Err, ◌==◌, ◌||◌, IfOk, IfErr, IsOk, IsErr, OnOk, OnErr, None, false, true};
-ghost use Rattle.std.specs.Prelude.{◌≤◌, ◌-◌, ◌++◌, length, replicate, ℕ};
-ghost use Rattle.at_node.specs.Drawing.{Carries, Draws, drawn_by};
-ghost use Rattle.at_node.specs.declared.drawing.Draw.{Draw as Drawn};
-ghost use Rattle.at_world.specs.Draws.{last_of, noted, is_no_later};
+ghost use Rattle.std.specs.Prelude.{◌≤◌, ◌-◌, ◌++◌, length, replicate};
+ghost use Rattle.at_node.specs.Drawing.{Draws, drawn_by};
+ghost use Rattle.at_node.specs.Limits.{IsWithin};
+ghost use Rattle.at_world.specs.Draws.{noted};
 ghost use Rattle.at_world.specs.Plays.{opening_world};
-ghost use Rattle.at_world.specs.Worlds.{DrawsFree, IsNotTaken, is_in_time, IsPlayable, Plays, PlaysAt};
+ghost use Rattle.at_world.specs.Safety.{AreWithin, IsSafe};
+ghost use Rattle.at_world.specs.Worlds.{DrawsFree, IsNotTaken, IsPlayable, Plays, PlaysAt};
 ghost use Rattle.at_world.specs.Worlds.{PlaysDelivery, Takes, IsFault, Refuses, refusal, refusal_at, node_refusal};
 ghost use Rattle.at_world.specs.Worlds.{node_at, is_over};
 
 use crate::draws::LastDraws;
-use crate::event::{Event, Fault, Refusal};
 use crate::opening::opening_nodes;
 use crate::places::{is_held, place_of};
+use crate::refusal::{Fault, Refusal};
 use crate::sent::{SentList, stamp_all};
-use crate::setup::Setup;
+use crate::timely::is_fresh;
 use at_ddp::{Bytes, Datagrams};
-use at_node::{Deferring, Draw, Input, Node, Report, carried};
+use at_node::{Deferring, Draw, Input, Node, Report};
+use at_setup::{Event, Setup};
+use at_steps::laws::safety::every_event_is_safe;
 use std::alloc::{AllocError, Allocator};
 use std::marker::Model;
 
@@ -41,6 +44,7 @@ pub struct World<A: Allocator> {
 impl<A: Allocator> Model for World<A> {
     ghost use Rattle.std.specs.Prelude.{◌≡◌, ◌≤◌, length, false};
     ghost use Rattle.at_world.specs.Sents.{stamped};
+    ghost use Rattle.at_world.specs.Safety.{AreWithin};
     ghost use Rattle.at_world.specs.Worlds.{WorldState};
 
     ghost Value = { WorldState };
@@ -53,8 +57,9 @@ impl<A: Allocator> Model for World<A> {
       failed = w.failed;
     } };
 
+    // Each node keeps to its limits.
     ghost invariant = { λ w. (length w.stamps.items ≤ length w.datagrams.items)
-        × (w.failed ≡ false → length w.stamps.items ≡ length w.datagrams.items) };
+        × (w.failed ≡ false → length w.stamps.items ≡ length w.datagrams.items) × AreWithin w.nodes.items };
 }
 
 impl<A: Allocator + Copy> World<A> {
@@ -86,6 +91,28 @@ impl<A: Allocator + Copy> World<A> {
             × Plays self.old event.now report self.new) }
         ensures not_played { IfErr result (λ fault. IsFault self.old event.now fault self.new) }
         ensures failed { self.old.failed ≡ true → (result ≡ Err Fault.NoMemory) × (self.new ≡ self.old) }
+        ensures safe { IfOk result (λ report. IsSafe self.old event.now report self.new) }
+        ensures within { AreWithin self.new.nodes }
+    {
+        every_event_is_safe::<A>();
+        self.limits();
+        let result = self.step_once(event);
+        self.limits();
+        result
+    }
+
+    // Each node keeps to its limits. The body only visits them.
+    fn limits(&self)
+        ensures { AreWithin self.now.nodes }
+    {
+        let _events = self.events;
+    }
+
+    fn step_once(&mut self, event: &Event<A>) -> Result<Report<A>, Fault>
+        ensures played { IfOk result (λ report. IsPlayable self.old event.now
+            × Plays self.old event.now report self.new) }
+        ensures not_played { IfErr result (λ fault. IsFault self.old event.now fault self.new) }
+        ensures failed { self.old.failed ≡ true → (result ≡ Err Fault.NoMemory) × (self.new ≡ self.old) }
     {
         if self.failed {
             return Err(Fault::NoMemory);
@@ -100,6 +127,7 @@ impl<A: Allocator + Copy> World<A> {
             }
             Event::Deliver { which, node } => self.deliver(*which, *node),
             Event::Timer { node, timer } => self.play(*node, &Input::Timer(*timer)),
+            Event::Forge { node, bytes } => self.play(*node, &Input::Received(bytes.as_slice())),
         }
     }
 
@@ -184,8 +212,22 @@ impl<A: Allocator + Copy> World<A> {
     }
 }
 
-// A node takes an input. Its service leaves every answer for later.
+// A node takes an input, and keeps to its limits.
 fn take<A: Allocator + Copy>(
+    node: &mut Node<A>,
+    input: &Input<'_, A>,
+    out: &mut Datagrams<A>,
+) -> Report<A>
+    ensures takes { Takes input.now node.old out.old.items result node.new out.new.items }
+    ensures within { IsWithin node.new }
+{
+    let report = give(node, input, out);
+    node.limits();
+    report
+}
+
+// A node takes an input. Its service leaves every answer for later.
+fn give<A: Allocator + Copy>(
     node: &mut Node<A>,
     input: &Input<'_, A>,
     out: &mut Datagrams<A>,
@@ -248,32 +290,4 @@ fn is_for(to: u8, node: u8) -> bool
     ensures { result ≡ ((to == node) || (to == 255)) }
 {
     to == node || to == 255
-}
-
-// Whether no event after this one drew a number that these bytes carry.
-fn is_fresh<A: Allocator + Copy>(last: &LastDraws<A>, bytes: &[u8], event: u32) -> bool
-    ensures fresh { result ≡ true → (node : ℕ) (draw : Drawn) → Carries bytes.now node draw
-        → is_no_later (last_of last.now node draw) event ≡ true }
-    ensures stale { result ≡ false → (node : ℕ) × (draw : Drawn) × Carries bytes.now node draw
-        × (is_no_later (last_of last.now node draw) event ≡ false) }
-{
-    let [first, second] = carried(bytes);
-    is_no_later(last, first, event) && is_no_later(last, second, event)
-}
-
-// Whether no event after this one drew this number of a node.
-fn is_no_later<A: Allocator + Copy>(
-    last: &LastDraws<A>,
-    number: Option<(u8, Draw)>,
-    event: u32,
-) -> bool
-    ensures { result ≡ is_in_time last.now number event }
-{
-    let Some((node, draw)) = number else {
-        return true;
-    };
-    match last.last(node, draw) {
-        None => true,
-        Some(drawn) => drawn <= event,
-    }
 }

@@ -23,7 +23,7 @@ use Rattle.at_event.specs.Outcomes.{Outcome, Outgoing, idle, sent_by}
 use Rattle.at_event.specs.declared.event.Report.{Report}
 use Rattle.at_event.specs.declared.event.Report.TheVariants as report
 use Rattle.at_event.specs.declared.event.Timer.TheVariants as timer
-use Rattle.at_steps.specs.Acts.{Act, Calls, Fires, Gets, owner_of, is_atp}
+use Rattle.at_steps.specs.Acts.{Act, Calls, Fires, Gets, owner_of, is_atp, Forges}
 use Rattle.at_steps.specs.AtpReports.{Matches}
 use Rattle.at_steps.specs.AtpHappenings.{Stands, IsOn, IsOpen, AreEntries, IsHappening, IsForeign, Passes, SendsAtp, numbers_drawn}
 use Rattle.at_steps.specs.AtpSteps.{IsStep, Plain, is_plain}
@@ -49,6 +49,7 @@ entries_foreign event (o ∷ out) all = (all.0, entries_foreign event out all.1)
 foreign_is_quiet : (A : Type 0) (r : Report A) (act : Act A) → is_atp (owner_of act r) ≡ false → is_quiet r act ≡ true
 foreign_is_quiet A (report.Begun tid) (Calls call) h = absurd (true≢false h)
 foreign_is_quiet A (report.Begun tid) (Gets which) h = absurd (true≢false h)
+foreign_is_quiet A (report.Begun tid) Forges h = absurd (true≢false h)
 foreign_is_quiet A (report.Begun tid) (Fires time) h = absurd (true≢false h)
 foreign_is_quiet A (report.Answered count) (Calls call) h = absurd (true≢false h)
 foreign_is_quiet A (report.Served count) (Gets which) h = absurd (true≢false h)
@@ -60,6 +61,7 @@ foreign_is_quiet A r act h = refl
 foreign_draws_nothing : (A : Type 0) (act : Act A) (r : Report A) (event : ℕ) (who : Address) → is_atp (owner_of act r) ≡ false → numbers_drawn event who (drawn_by r) ≡ []
 foreign_draws_nothing A (Calls call) (report.Begun tid) event who h = absurd (true≢false h)
 foreign_draws_nothing A (Gets which) (report.Begun tid) event who h = absurd (true≢false h)
+foreign_draws_nothing A Forges (report.Begun tid) event who h = absurd (true≢false h)
 foreign_draws_nothing A (Fires time) (report.Begun tid) event who h = absurd (true≢false h)
 foreign_draws_nothing A act r event who h = refl
 

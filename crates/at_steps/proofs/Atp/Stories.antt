@@ -22,7 +22,7 @@ use Rattle.at_event.specs.declared.event.Call.TheVariants.{Answer}
 use Rattle.at_event.specs.declared.event.Report.{Report}
 use Rattle.at_event.specs.declared.event.Report.TheVariants as report
 use Rattle.at_event.specs.declared.event.Timer.TheVariants as timer
-use Rattle.at_steps.specs.Acts.{Act, Calls, Fires, Gets}
+use Rattle.at_steps.specs.Acts.{Act, Calls, Fires, Gets, Forges}
 use Rattle.at_steps.specs.AtpReports.{IsPageAsked, Matches, Joins, Finishes, Ends, asks_once, asks_for, began_under, expired_at, handed_up_by, came_under}
 
 -- an event whose report tells of no beginning, no request, no response and no expiry
@@ -45,6 +45,7 @@ no_hand_up A sent (Gets which) (report.Served count) key q = absurd (false≢tru
 no_hand_up A sent (Gets which) (report.Asked k user bytes) key q = absurd (false≢true q)
 no_hand_up A sent (Gets which) r key q = refl
 no_hand_up A sent (Fires time) r key q = refl
+no_hand_up A sent Forges r key q = refl
 
 no_expiry : (A : Type 0) (net number : ℕ) (act : Act A) (r : Report A) (at : Address) (key : Key) → is_quiet r act ≡ true → expired_at net number act r at key ≡ false
 no_expiry A net number (Calls call) r at key q = refl
@@ -55,6 +56,7 @@ no_expiry A net number (Fires (timer.Release own k' socket tid')) r at key q = r
 no_expiry A net number (Fires (timer.Lookup id)) r at key q = refl
 no_expiry A net number (Fires (timer.Resend id)) r at key q = refl
 no_expiry A net number (Fires (timer.Probe id)) r at key q = refl
+no_expiry A net number Forges r at key q = refl
 
 no_end : (A : Type 0) (net number : ℕ) (n : Network) (act : Act A) (r : Report A) → is_quiet r act ≡ true → Finishes net number n act r
 no_end A net number n (Calls call) r q = tt
@@ -62,11 +64,14 @@ no_end A net number n (Gets which) (report.Served count) q = absurd (false≢tru
 no_end A net number n (Gets which) (report.Response tid packets) q = absurd (false≢true q)
 no_end A net number n (Gets which) r q = tt
 no_end A net number n (Fires time) r q = tt
+no_end A net number n Forges r q = tt
 
 no_answer : (A : Type 0) (net : ℕ) (n : Network) (h : Happening) (act : Act A) (r : Report A) → is_quiet r act ≡ true → Joins net n h r act
 no_answer A net n h (Calls call) (report.Answered count) q = absurd (false≢true q)
 no_answer A net n h (Gets which) (report.Served count) q = absurd (false≢true q)
 no_answer A net n h (Fires time) (report.Answered count) q = tt
+no_answer A net n h Forges (report.Answered count) q = tt
+no_answer A net n h Forges (report.Served count) q = tt
 no_answer A net n h act r q = tt
 
 module _ (A : Type 0) (net number : ℕ) (table : Option (List (List ℕ))) (n : Network) where

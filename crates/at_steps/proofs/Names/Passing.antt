@@ -15,7 +15,7 @@ use Rattle.at_node.specs.Nodes.{NodeState}
 use Rattle.at_event.specs.Outcomes.{Outcome, Outgoing}
 use Rattle.at_event.specs.declared.event.Report.{Report}
 use Rattle.at_event.specs.declared.event.Report.TheVariants as report
-use Rattle.at_steps.specs.Acts.{Act, Calls, Fires, Gets, is_nbp, owner_of}
+use Rattle.at_steps.specs.Acts.{Act, Calls, Fires, Gets, is_nbp, owner_of, Forges}
 use Rattle.at_steps.specs.NameHappenings.{AreEntries, BeginsBy, Happens, IsForeign, Stands}
 
 -- putting what is there changes nothing
@@ -34,6 +34,7 @@ entries_foreign event (o ∷ out) all = (all.0, entries_foreign event out all.1)
 foreign_begins : (A : Type 0) (act : Act A) (r : Report A) (event : ℕ) (who : Address) (before : List Begun) → is_nbp (owner_of act r) ≡ false → BeginsBy event who (drawn_by r) before before
 foreign_begins A (Calls call) (report.Looking id) event who before h = absurd (true≢false h)
 foreign_begins A (Gets which) (report.Looking id) event who before h = absurd (true≢false h)
+foreign_begins A Forges (report.Looking id) event who before h = absurd (true≢false h)
 foreign_begins A (Fires time) (report.Looking id) event who before h = absurd (true≢false h)
 foreign_begins A act r event who before h = refl
 

@@ -23,7 +23,7 @@ use Rattle.at_node.specs.Nodes.{NodeState, with_streams}
 use Rattle.at_node.specs.declared.drawing.Draw.{Draw}
 use Rattle.at_stream_socket.specs.Calls as sockets
 use Rattle.at_stream_socket.specs.Sockets.{adsp_kind, sent_of, streams_at}
-use Rattle.at_steps.specs.Acts.{Act, Calls, Fires, Gets}
+use Rattle.at_steps.specs.Acts.{Act, Calls, Fires, Gets, Forges}
 use Rattle.at_steps.specs.StreamHappenings.{AreEntries, Drawn, IsHappening, IsHere, IsOf, Stands, identifiers, is_streams_socket, numbers_drawn}
 use Rattle.at_steps.specs.StreamSteps.{Change, HasAnswered, HasAsked, HasOpened, HasRead, HasEnd, HasReset, HasWritten, IsStep, Plain, is_plain, named_by}
 use Rattle.at_steps.proofs.Streams.Below.{AllPaired}
@@ -39,9 +39,11 @@ IsIts A setting history n act o = IsHappening {A = A} setting history n.seat.net
 plain_draws : (A : Type 0) (act : Act A) (r : Report A) (event : ℕ) (who : Address) → is_plain act r ≡ true → numbers_drawn event who (drawn_by r) ≡ []
 plain_draws A (Calls call) (report.Opening id) event who h = absurd (true≢false (sym h))
 plain_draws A (Gets which) (report.Opening id) event who h = absurd (true≢false (sym h))
+plain_draws A Forges (report.Opening id) event who h = absurd (true≢false (sym h))
 plain_draws A (Fires time) (report.Opening id) event who h = absurd (true≢false (sym h))
 plain_draws A (Calls call) (report.Made id) event who h = absurd (true≢false (sym h))
 plain_draws A (Gets which) (report.Made id) event who h = absurd (true≢false (sym h))
+plain_draws A Forges (report.Made id) event who h = absurd (true≢false (sym h))
 plain_draws A (Fires time) (report.Made id) event who h = absurd (true≢false (sym h))
 plain_draws A act (report.Begun tid) event who h = refl
 plain_draws A act (report.Looking id) event who h = refl

@@ -14,7 +14,7 @@ use Rattle.at_event.specs.declared.event.Report.TheVariants as report
 use Rattle.at_node.specs.Drawing.{drawn_by}
 use Rattle.at_node.specs.Nodes.{NodeState}
 use Rattle.at_stream_socket.specs.Sockets.{adsp_kind, streams_at}
-use Rattle.at_steps.specs.Acts.{Act, Calls, Fires, Gets, is_adsp, owner_of}
+use Rattle.at_steps.specs.Acts.{Act, Calls, Fires, Gets, is_adsp, owner_of, Forges}
 use Rattle.at_steps.specs.StreamHappenings.{AreEntries, Drawn, IsForeign, Passes, Stands, identifiers, numbers_drawn}
 
 -- putting what is there changes nothing
@@ -33,9 +33,11 @@ entries_foreign event (o ∷ out) all = (all.0, entries_foreign event out all.1)
 foreign_draws : (A : Type 0) (act : Act A) (r : Report A) (event : ℕ) (who : Address) → is_adsp (owner_of act r) ≡ false → numbers_drawn event who (drawn_by r) ≡ []
 foreign_draws A (Calls call) (report.Opening id) event who h = absurd (true≢false h)
 foreign_draws A (Gets which) (report.Opening id) event who h = absurd (true≢false h)
+foreign_draws A Forges (report.Opening id) event who h = absurd (true≢false h)
 foreign_draws A (Fires time) (report.Opening id) event who h = absurd (true≢false h)
 foreign_draws A (Calls call) (report.Made id) event who h = absurd (true≢false h)
 foreign_draws A (Gets which) (report.Made id) event who h = absurd (true≢false h)
+foreign_draws A Forges (report.Made id) event who h = absurd (true≢false h)
 foreign_draws A (Fires time) (report.Made id) event who h = absurd (true≢false h)
 foreign_draws A act (report.Begun tid) event who h = refl
 foreign_draws A act (report.Looking id) event who h = refl

@@ -26,8 +26,8 @@ use Rattle.at_world.specs.Cables.{Cable, IsSaid, owner_of}
 use Rattle.at_world.specs.Events.{act_of, node_of}
 use Rattle.at_world.specs.Sents.{SentDatagram}
 use Rattle.at_world.specs.Worlds.{WorldState, DrawsFree, IsFree, node_at}
-use Rattle.at_world.specs.declared.event.Event.{Event}
-use Rattle.at_world.specs.declared.event.Event.TheVariants as event
+use Rattle.at_setup.specs.declared.event.Event.{Event}
+use Rattle.at_setup.specs.declared.event.Event.TheVariants as event
 use Rattle.at_world.proofs.CableTie.{CableTie, SeatTie, seat_kept}
 use Rattle.at_world.proofs.Atp.Coming.{Comes}
 use Rattle.at_world.proofs.Atp.Lists.{some_transaction}

@@ -20,7 +20,7 @@ use Rattle.at_steps.specs.AtpReports.{BeginsAs}
 use Rattle.at_world.specs.Events.{act_of}
 use Rattle.at_world.specs.ExactlyOnce.{Played, is_once, table_after, wanted_by}
 use Rattle.at_world.specs.Stories.{asks_once, asks_for, began_under, Matches}
-use Rattle.at_world.specs.declared.event.Event.{Event}
+use Rattle.at_setup.specs.declared.event.Event.{Event}
 use Rattle.at_world.proofs.Atp.Told.{Told}
 
 -- ---- the newest transaction of a number

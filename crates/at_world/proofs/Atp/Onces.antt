@@ -23,12 +23,12 @@ use Rattle.at_world.specs.Sents.{SentDatagram}
 use Rattle.at_steps.specs.AtpReports as reports
 use Rattle.at_steps.specs.AtpReports.{AsksFrom, IsPageAsked}
 use Rattle.at_steps.specs.AtpSteps.{page_answer}
-use Rattle.at_world.specs.Events.{act_of, node_of}
+use Rattle.at_world.specs.Events.{NoForge, act_of, node_of}
 use Rattle.at_world.specs.Stories.{Within, asks_once, began_under, Matches}
 use Rattle.at_world.proofs.Acts.{called_at, delivered_at}
-use Rattle.at_world.specs.declared.event.Event.{Event}
-use Rattle.at_world.specs.declared.event.Event.TheVariants as event
-use Rattle.at_world.specs.declared.setup.Setup.{Setup}
+use Rattle.at_setup.specs.declared.event.Event.{Event}
+use Rattle.at_setup.specs.declared.event.Event.TheVariants as event
+use Rattle.at_setup.specs.declared.setup.Setup.{Setup}
 use Rattle.at_world.specs.declared.transcript.Transcript.{Transcript}
 use Rattle.at_world.specs.declared.transcript.PlayFault.{PlayFault}
 use Rattle.at_world.specs.Worlds.{WorldState}
@@ -100,6 +100,7 @@ module _ (A : Type 0) (laws : OnceLaws A) (net : ℕ) (zones : List (List ℕ)) 
       (j.2.0, j.2.1 ∙ (λ i. answered n.asked (parts.0 i) (parts.1 i) j.2.0))
   joins_it (event.Deliver which node) r n h key within ok j g = absurd g
   joins_it (event.Timer node time) r n h key within ok j g = absurd g
+  joins_it (event.Forge node bytes) r n h key within ok j g = absurd g
 
   -- the newest transaction of a key after a step that answers it, one that had so many answers
   more_answers : (x : Played A) (table : List (List ℕ)) (n : Network) (h : Happening) (key : Key) (count : ℕ) → Within sent n → AllSent IsLawfullySent n.sent → Matches net table n h x.event x.report → NewestIs (HasAnswers count) n.asked key → Gives net sent key x → NewestIs (HasAnswers (count + 1)) (done A n h).asked key
@@ -206,6 +207,7 @@ module _ (A : Type 0) (laws : OnceLaws A) (net : ℕ) (zones : List (List ℕ)) 
   ends_by (event.Deliver which node) (report.Response tid packets) past hs told within timely range live f = ended past hs which node tid packets told within timely range live f
   ends_by (event.Deliver which node) r past hs told within timely range live f = tt
   ends_by (event.Timer node time) r past hs told within timely range live f = tt
+  ends_by (event.Forge node bytes) r past hs told within timely range live f = tt
 
   pub runs_once : (past : List (Played A)) (hs : List Happening) → Told A net zones past hs → Within sent (after A hs) → AllTimely A hs → AllByRecursion IsInRange hs → AllLive net sent past → RunsOnce net zones sent past
   runs_once [] [] told within timely range live = tt
@@ -221,10 +223,10 @@ module _ (A : Type 0) (laws : OnceLaws A) (net : ℕ) (zones : List (List ℕ)) 
 
 -- what steps from the opening give runs once
 abbrev pub StepsOnce : (A : Type 0) → Setup A → Type 0
-StepsOnce A s = (events : List (Event A)) (reports : List (Report A)) (w : WorldState) → Follows (opening_world s) events reports w → AllLive s.net w.sent (onto [] events reports) → RunsOnce s.net s.zones w.sent (onto [] events reports)
+StepsOnce A s = (events : List (Event A)) (reports : List (Report A)) (w : WorldState) → NoForge events → Follows (opening_world s) events reports w → AllLive s.net w.sent (onto [] events reports) → RunsOnce s.net s.zones w.sent (onto [] events reports)
 
 pub play_is_once : (A : Type 0) (s : Setup A) (events : List (Event A)) (answer : Result (Transcript A) (PlayFault A)) → StepsOnce A s → IsPlay s events answer → IsOnce s events answer
-play_is_once A s events (Ok t) law h = let played = h.1 in
-    subst (λ sent. AllLive s.net sent (onto [] events t.reports) → RunsOnce s.net s.zones sent (onto [] events t.reports)) (sym played.1) (law events t.reports h.0 played.0)
-play_is_once A s events (Err f) law h = let played = h.1 in
-    subst (λ sent. AllLive s.net sent (onto [] (take f.at events) f.transcript.reports) → RunsOnce s.net s.zones sent (onto [] (take f.at events) f.transcript.reports)) (sym played.1) (law (take f.at events) f.transcript.reports h.0 played.0)
+play_is_once A s events (Ok t) law h = λ forged_none. let played = h.1 in
+    subst (λ sent. AllLive s.net sent (onto [] events t.reports) → RunsOnce s.net s.zones sent (onto [] events t.reports)) (sym played.1) (law events t.reports h.0 forged_none played.0)
+play_is_once A s events (Err f) law h = λ forged_none. let played = h.1 in
+    subst (λ sent. AllLive s.net sent (onto [] (take f.at events) f.transcript.reports) → RunsOnce s.net s.zones sent (onto [] (take f.at events) f.transcript.reports)) (sym played.1) (law (take f.at events) f.transcript.reports h.0 forged_none played.0)

@@ -7,12 +7,12 @@ use Rattle.at_ddp.specs.declared.address.Address.{Address}
 use Rattle.at_atp_requester.specs.Requests.{no_requests}
 use Rattle.at_node.specs.AtpParts.{Reading}
 use Rattle.at_node.specs.Nodes.{NodeState, opening}
-use Rattle.at_world.specs.declared.setup.NodeSetup.{NodeSetup}
-use Rattle.at_world.specs.declared.setup.Setup.{Setup}
+use Rattle.at_setup.specs.declared.setup.NodeSetup.{NodeSetup}
+use Rattle.at_setup.specs.declared.setup.Setup.{Setup}
 use Rattle.at_world.specs.AtpGuards as atp
 use Rattle.at_world.specs.Cables as cables
 use Rattle.at_world.specs.Plays.{neighbours_of, router_of, opening_node, opening_world, rooms_of}
-use Rattle.at_world.specs.Setups.{is_lawful}
+use Rattle.at_setup.specs.Setups.{is_lawful}
 use Rattle.at_world.specs.Worlds.{is_numbered}
 use Rattle.at_world.proofs.Atp.Places.{requester_of, requester_at, service_of, served_of, records_at}
 use Rattle.at_world.proofs.Atp.Tie.{IsReading, AtpTie}

@@ -11,15 +11,15 @@ use Rattle.at_node.specs.Nodes.{NodeState}
 use Rattle.at_event.specs.declared.event.Report.{Report}
 use Rattle.at_event.specs.declared.event.Report.TheVariants as report
 use Rattle.at_event.specs.declared.event.Timer.TheVariants as timer
-use Rattle.at_steps.specs.Acts.{Act, Calls, Fires, Gets}
+use Rattle.at_steps.specs.Acts.{Act, Calls, Fires, Gets, Forges}
 use Rattle.at_steps.specs.AtpHappenings.{sets_table}
 use Rattle.at_steps.specs.AtpSteps.{is_plain}
 use Rattle.at_world.specs.AtpGuards.{AtpMachine, StepBy, next}
 use Rattle.at_world.specs.Cables.{Cable, IsSaid, owner_of}
 use Rattle.at_world.specs.Events.{act_of, node_of}
 use Rattle.at_world.specs.Worlds.{WorldState, node_at}
-use Rattle.at_world.specs.declared.event.Event.{Event}
-use Rattle.at_world.specs.declared.event.Event.TheVariants as event
+use Rattle.at_setup.specs.declared.event.Event.{Event}
+use Rattle.at_setup.specs.declared.event.Event.TheVariants as event
 use Rattle.at_world.proofs.CableTie.{Wire}
 use Rattle.at_world.proofs.Atp.Readings.{StaysAsked, all_stays, drawn_stays, still_reads}
 use Rattle.at_world.proofs.Atp.Tie.{Laws, Becomes, HasTable, IsReading, AtpTie, moved}
@@ -39,6 +39,8 @@ plainly A c m (event.Deliver which node) (report.Refused number) h = (tt, refl)
 plainly A c m (event.Deliver which node) report.NoMemory h = (tt, refl)
 plainly A c m (event.Timer node time) (report.Refused number) h = (tt, refl)
 plainly A c m (event.Timer node time) report.NoMemory h = (tt, refl)
+plainly A c m (event.Forge node bytes) (report.Refused number) h = (tt, refl)
+plainly A c m (event.Forge node bytes) report.NoMemory h = (tt, refl)
 plainly A c m (event.Deliver which node) report.Ignored h = (tt, refl)
 plainly A c m (event.Deliver which node) report.Again h = (tt, refl)
 plainly A c m (event.Deliver which node) report.Kept h = (tt, refl)
@@ -53,6 +55,7 @@ pub plain_sets_none : {A : Type 0} (act : Act A) (r : Report A) → is_plain act
 plain_sets_none (Calls call) report.TableSet h = absurd (false≢true h)
 plain_sets_none (Gets which) report.TableSet h = absurd (false≢true h)
 plain_sets_none (Fires time) report.TableSet h = absurd (false≢true h)
+plain_sets_none Forges report.TableSet h = absurd (false≢true h)
 plain_sets_none act r h = refl
 
 module _ (A : Type 0) (laws : Laws A) (w : WorldState) (cable : Cable) (m : AtpMachine) (wires : List Wire) (e : Event A) (n x : NodeState) (r : Report A) (t : AtpTie A w cable wires m) (stands : node_at w (node_of e) ≡ Some n)

@@ -7,8 +7,8 @@ use Rattle.at_event.specs.declared.event.Report.TheVariants as report
 use Rattle.at_world.specs.AtpGuards.{AtpMachine, Says, StepBy}
 use Rattle.at_world.specs.Cables.{Cable, owner_of}
 use Rattle.at_world.specs.Stories.{table_by}
-use Rattle.at_world.specs.declared.event.Event.{Event}
-use Rattle.at_world.specs.declared.event.Event.TheVariants as event
+use Rattle.at_setup.specs.declared.event.Event.{Event}
+use Rattle.at_setup.specs.declared.event.Event.TheVariants as event
 
 abbrev IsTableBy : {A : Type 0} → AtpMachine → Event A → Report A → AtpMachine → Type 0
 IsTableBy m e r m' = m'.table ≡ table_by e r m.table
@@ -41,6 +41,7 @@ moment_table : {A : Type 0} (m : AtpMachine) (e : Event A) (r : Report A) (m' : 
 moment_table m (event.Call node call) report.TableSet m' same other = absurd (other refl)
 moment_table m (event.Deliver which node) report.TableSet m' same other = absurd (other refl)
 moment_table m (event.Timer node timer) report.TableSet m' same other = absurd (other refl)
+moment_table m (event.Forge node bytes) report.TableSet m' same other = absurd (other refl)
 moment_table m e r m' same other = same
 
 pub table_follows : {A : Type 0} (c : Cable) (m : AtpMachine) (e : Event A) (r : Report A) (m' : AtpMachine) (owner : Kind) → owner_of e r ≡ owner → StepBy c m e r m' owner → IsTableBy m e r m'

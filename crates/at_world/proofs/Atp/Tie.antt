@@ -37,7 +37,7 @@ use Rattle.at_world.specs.Cables.{Cable, owner_of}
 use Rattle.at_world.specs.Events.{act_of, node_of}
 use Rattle.at_world.specs.Stories.{Grows, Matches}
 use Rattle.at_world.specs.Worlds.{WorldState, node_at, recorded}
-use Rattle.at_world.specs.declared.event.Event.{Event}
+use Rattle.at_setup.specs.declared.event.Event.{Event}
 use Rattle.at_world.proofs.CableTie.{Wire, wire, SeatTie, found_after}
 use Rattle.at_world.proofs.Atp.Places.{requester_at, requester_after, records_at, records_after}
 use Rattle.at_world.proofs.Atp.Readings.{ReadingLaws, Reads, StaysAsked, still_reads}

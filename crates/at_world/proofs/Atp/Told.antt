@@ -26,9 +26,9 @@ use Rattle.at_steps.specs.AtpReports.{came_under}
 use Rattle.at_steps.specs.AtpReports as reports
 use Rattle.at_world.specs.Events.{act_of, node_of}
 use Rattle.at_world.specs.Stories.{Within, began_under, Matches, Grows, Tells, posted_packet}
-use Rattle.at_world.specs.declared.event.Event.{Event}
+use Rattle.at_setup.specs.declared.event.Event.{Event}
 use Rattle.at_world.proofs.Acts.{delivered_at}
-use Rattle.at_world.specs.declared.event.Event.TheVariants as event
+use Rattle.at_setup.specs.declared.event.Event.TheVariants as event
 
 -- what the layers below promise
 pub record OnceLaws (A : Type 0) : Type 0 where
@@ -110,6 +110,7 @@ module _ (A : Type 0) (laws : OnceLaws A) (net : ℕ) (zones : List (List ℕ)) 
   hands_sound (event.Deliver which node) (report.Asked k user bytes) n key within ok f h = h
   hands_sound (event.Deliver which node) r n key within ok f h = absurd h
   hands_sound (event.Timer node time) r n key within ok f h = absurd h
+  hands_sound (event.Forge node bytes) r n key within ok f h = absurd h
 
   pub hands_complete : (e : Event A) (r : Report A) (n : Network) (key : Key) → Within sent n → AllSent IsLawfullySent n.sent → reports.Finishes net (node_of e) n (act_of e) r → reports.handed_up_by n.sent (act_of e) r key ≡ true → HandsUpBy sent e r key
   hands_complete (event.Call node call) r n key within ok f h = absurd (false≢true h)
@@ -117,6 +118,7 @@ module _ (A : Type 0) (laws : OnceLaws A) (net : ℕ) (zones : List (List ℕ)) 
   hands_complete (event.Deliver which node) (report.Asked k user bytes) n key within ok f h = h
   hands_complete (event.Deliver which node) r n key within ok f h = absurd (false≢true h)
   hands_complete (event.Timer node time) r n key within ok f h = absurd (false≢true h)
+  hands_complete (event.Forge node bytes) r n key within ok f h = absurd (false≢true h)
 
   -- ---- how often
 

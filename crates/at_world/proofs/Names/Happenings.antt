@@ -12,7 +12,7 @@ use Rattle.at_event.specs.declared.event.Report.{Report}
 use Rattle.at_event.specs.declared.event.Report.TheVariants as report
 use Rattle.at_event.specs.declared.event.Timer.{Timer}
 use Rattle.at_event.specs.declared.service.Reply.{Reply}
-use Rattle.at_steps.specs.Acts.{Act, Calls, Fires, Gets, is_nbp}
+use Rattle.at_steps.specs.Acts.{Act, Calls, Fires, Gets, is_nbp, Forges}
 use Rattle.at_steps.specs.Acts as acts
 use Rattle.at_steps.specs.NameHappenings.{Happens, IsForeign, IsHappening, Stands}
 use Rattle.at_world.specs.Cables.{Cable, owner_of}
@@ -21,8 +21,8 @@ use Rattle.at_world.specs.NameGuards.{NameMachine, StepBy, next}
 use Rattle.at_world.specs.Sents.{SentDatagram}
 use Rattle.at_world.specs.SessionGuards.{Sessions}
 use Rattle.at_world.specs.Worlds.{WorldState, node_at}
-use Rattle.at_world.specs.declared.event.Event.{Event}
-use Rattle.at_world.specs.declared.event.Event.TheVariants as event
+use Rattle.at_setup.specs.declared.event.Event.{Event}
+use Rattle.at_setup.specs.declared.event.Event.TheVariants as event
 use Rattle.at_world.proofs.CableTie.{CableTie, SeatTie}
 use Rattle.at_world.proofs.Names.Coming.{Comes}
 use Rattle.at_world.proofs.Names.Lookups.{IsDrawn}
@@ -41,6 +41,7 @@ draws_none : (A : Type 0) (act : Act A) (r : Report A) → is_nbp (acts.owner_of
 draws_none A (Calls call) (report.Looking id) h = absurd (cc)
 draws_none A (Fires time) (report.Looking id) h = absurd (cc)
 draws_none A (Gets which) (report.Looking id) h = absurd (cc)
+draws_none A Forges (report.Looking id) h = absurd (cc)
 draws_none A act (report.Begun tid) h = tt
 draws_none A act r h = tt
 

@@ -18,7 +18,7 @@ use Rattle.at_world.specs.Events.{act_of, node_of}
 use Rattle.at_world.specs.NameGuards.{NameMachine, StepBy}
 use Rattle.at_world.specs.SessionGuards.{Sessions}
 use Rattle.at_world.specs.Worlds.{WorldState, node_at, recorded}
-use Rattle.at_world.specs.declared.event.Event.{Event}
+use Rattle.at_setup.specs.declared.event.Event.{Event}
 use Rattle.at_world.proofs.CableTie.{Wire, found_after, wire}
 use Rattle.at_world.proofs.Names.Lookups.{Known, lookups_after, of_node, of_others, same_sockets}
 use Rattle.at_world.proofs.Names.Moments.{past_next}

@@ -30,8 +30,8 @@ use Rattle.at_world.specs.Events.{act_of, node_of}
 use Rattle.at_world.specs.NameGuards.{Directory, Finds, IsTaken, Lookup, NameMachine, Stood, StepBy, lookup_of, next, with_names}
 use Rattle.at_world.specs.SessionGuards.{Sessions}
 use Rattle.at_world.specs.Worlds.{WorldState, node_at}
-use Rattle.at_world.specs.declared.event.Event.{Event}
-use Rattle.at_world.specs.declared.event.Event.TheVariants as event
+use Rattle.at_setup.specs.declared.event.Event.{Event}
+use Rattle.at_setup.specs.declared.event.Event.TheVariants as event
 use Rattle.at_world.proofs.Acts.{called_at}
 use Rattle.at_world.proofs.CableTie.{Wire}
 use Rattle.at_world.proofs.Names.Lookups.{IsDrawn, IsKnown, Known}
@@ -53,6 +53,8 @@ plainly A ss m (event.Deliver which node) (report.Refused number) h = refl
 plainly A ss m (event.Deliver which node) report.NoMemory h = refl
 plainly A ss m (event.Timer node time) (report.Refused number) h = refl
 plainly A ss m (event.Timer node time) report.NoMemory h = refl
+plainly A ss m (event.Forge node bytes) (report.Refused number) h = refl
+plainly A ss m (event.Forge node bytes) report.NoMemory h = refl
 plainly A ss m (event.Deliver which node) report.Ignored h = refl
 plainly A ss m (event.Deliver which node) report.Relayed h = refl
 plainly A ss m (event.Deliver which node) (report.Names count) h = refl
@@ -68,6 +70,8 @@ plain_draws A (event.Deliver which node) (report.Refused number) h = tt
 plain_draws A (event.Deliver which node) report.NoMemory h = tt
 plain_draws A (event.Timer node time) (report.Refused number) h = tt
 plain_draws A (event.Timer node time) report.NoMemory h = tt
+plain_draws A (event.Forge node bytes) (report.Refused number) h = tt
+plain_draws A (event.Forge node bytes) report.NoMemory h = tt
 plain_draws A (event.Deliver which node) report.Ignored h = tt
 plain_draws A (event.Deliver which node) report.Relayed h = tt
 plain_draws A (event.Deliver which node) (report.Names count) h = tt

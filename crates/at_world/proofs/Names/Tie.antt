@@ -35,7 +35,7 @@ use Rattle.at_world.specs.Events.{node_of}
 use Rattle.at_world.specs.NameGuards.{Directory, NameMachine, StepBy, next}
 use Rattle.at_world.specs.SessionGuards.{Sessions}
 use Rattle.at_world.specs.Worlds.{WorldState, node_at}
-use Rattle.at_world.specs.declared.event.Event.{Event}
+use Rattle.at_setup.specs.declared.event.Event.{Event}
 use Rattle.at_world.proofs.CableTie.{Wire, wire}
 use Rattle.at_world.proofs.Names.Lookups.{IsDrawn, Known, lookups_after}
 use Rattle.at_world.proofs.Names.Moments.{Past}

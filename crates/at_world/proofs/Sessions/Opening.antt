@@ -7,8 +7,8 @@ use Rattle.at_world.specs.Cables as cables
 use Rattle.at_world.specs.Plays.{opening_node, opening_world}
 use Rattle.at_world.specs.SessionGuards as guards
 use Rattle.at_world.specs.Worlds.{is_numbered}
-use Rattle.at_world.specs.declared.setup.NodeSetup.{NodeSetup}
-use Rattle.at_world.specs.declared.setup.Setup.{Setup}
+use Rattle.at_setup.specs.declared.setup.NodeSetup.{NodeSetup}
+use Rattle.at_setup.specs.declared.setup.Setup.{Setup}
 use Rattle.at_world.proofs.Sessions.Tie.{HasSession, SessionTie}
 
 module _ (A : Type 0) (s : Setup A) where

@@ -24,8 +24,8 @@ use Rattle.at_world.specs.Events.{act_of, node_of}
 use Rattle.at_world.specs.NameGuards.{NameMachine}
 use Rattle.at_world.specs.SessionGuards.{Sessions, Step, with_session}
 use Rattle.at_world.specs.Worlds.{WorldState, is_numbered, node_at, recorded}
-use Rattle.at_world.specs.declared.event.Event.{Event}
-use Rattle.at_world.specs.declared.event.Event.TheVariants as event
+use Rattle.at_setup.specs.declared.event.Event.{Event}
+use Rattle.at_setup.specs.declared.event.Event.TheVariants as event
 use Rattle.at_world.proofs.CableTie.{CableTie, found_after}
 use Rattle.at_world.proofs.Names.Happenings.{stands_there}
 use Rattle.at_world.proofs.Names.Steps.{looked_up}

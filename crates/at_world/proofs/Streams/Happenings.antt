@@ -26,8 +26,8 @@ use Rattle.at_world.specs.Sents.{SentDatagram}
 use Rattle.at_world.specs.StreamGuards.{StepBy, StreamMachine, next}
 use Rattle.at_world.specs.SessionGuards.{Sessions}
 use Rattle.at_world.specs.Worlds.{WorldState, DrawsFree, IsFree, is_over, node_at}
-use Rattle.at_world.specs.declared.event.Event.{Event}
-use Rattle.at_world.specs.declared.event.Event.TheVariants as event
+use Rattle.at_setup.specs.declared.event.Event.{Event}
+use Rattle.at_setup.specs.declared.event.Event.TheVariants as event
 use Rattle.at_world.proofs.CableTie.{CableTie, SeatTie}
 use Rattle.at_world.proofs.Streams.Coming.{Comes}
 use Rattle.at_world.proofs.Streams.Freely.{none_names}

@@ -20,7 +20,7 @@ use Rattle.at_world.specs.Events.{act_of, node_of}
 use Rattle.at_world.specs.StreamGuards.{StepBy, StreamMachine, next}
 use Rattle.at_world.specs.SessionGuards.{Sessions}
 use Rattle.at_world.specs.Worlds.{WorldState, is_numbered, node_at, recorded}
-use Rattle.at_world.specs.declared.event.Event.{Event}
+use Rattle.at_setup.specs.declared.event.Event.{Event}
 use Rattle.at_world.proofs.CableTie.{Wire, found_after, wire}
 use Rattle.at_world.proofs.Nodes.{at_after}
 use Rattle.at_world.proofs.Streams.Tie.{Entries, HasEnds, StreamTie, entries_both, entries_of, is_nodes_socket}

@@ -36,8 +36,8 @@ use Rattle.at_world.specs.Cables.{Cable, at_net, owner_of}
 use Rattle.at_world.specs.Events.{act_of, node_of}
 use Rattle.at_world.specs.StreamGuards.{Does, MakesEnd, StepBy, StreamMachine, next}
 use Rattle.at_world.specs.Worlds.{WorldState, is_over}
-use Rattle.at_world.specs.declared.event.Event.{Event}
-use Rattle.at_world.specs.declared.event.Event.TheVariants as event
+use Rattle.at_setup.specs.declared.event.Event.{Event}
+use Rattle.at_setup.specs.declared.event.Event.TheVariants as event
 use Rattle.at_world.proofs.Acts.{called_at, delivered_at}
 use Rattle.at_world.proofs.CableTie.{CableTie, spelled_wire}
 use Rattle.at_world.proofs.Streams.Next.{moved}
@@ -58,6 +58,8 @@ plainly A c ss m (event.Deliver which node) (report.Refused number) h = refl
 plainly A c ss m (event.Deliver which node) report.NoMemory h = refl
 plainly A c ss m (event.Timer node time) (report.Refused number) h = refl
 plainly A c ss m (event.Timer node time) report.NoMemory h = refl
+plainly A c ss m (event.Forge node bytes) (report.Refused number) h = refl
+plainly A c ss m (event.Forge node bytes) report.NoMemory h = refl
 plainly A c ss m (event.Call node (Listen on)) report.Done h = refl
 plainly A c ss m (event.Call node (Close id)) (report.Closed it) h = refl
 plainly A c ss m (event.Call node (Close id)) (report.Freed it) h = refl

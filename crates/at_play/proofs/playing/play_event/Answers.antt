@@ -11,6 +11,7 @@ returns-in-Ok g c =
         report = c.in-Ok.report;
         playable = played.0;
         plays = played.1;
+        safe = c.in-Ok.ensures.safe;
         printed = Prints-trans g.W.Write.contents c.args.printer.now c.write_event.new.printer c.write_sent.new.printer _ _ line sent;
       };
       stopped = tt;

@@ -1,5 +1,5 @@
 use Rattle.at_world.specs.Plays.{opening_world}
-use Rattle.at_play.proofs.ToldLemmas.{follows_told}
+use Rattle.at_play.proofs.ToldLemmas.{follows_told, safely_told}
 use Rattle.at_play.proofs.playing.play_lines.Goals as goal
 
 pub returns : goal.returns
@@ -9,13 +9,17 @@ returns g c =
     let told = c.play_all.ensures.told in
     let p = told.0 in
     let follows = follows_told A (opening_world setup) p.events p.reports p.world p.text p.told in
+    let few = c.at_most_16_nodes_stand.ensures setup c.requires in
     record {
       told = (
         p,
         record {
           lawful = c.requires;
-          run = c.steps_are_a_run.ensures.machine setup p.events p.reports p.world c.requires follows;
-          once = c.exactly_once_requests_run_once.ensures setup p.events p.reports p.world c.requires follows;
+          safe = safely_told A (opening_world setup) p.events p.reports p.world p.text few p.told;
+          run = λ honest.
+              c.steps_are_a_run.ensures.machine setup p.events p.reports p.world c.requires honest follows;
+          once = λ honest.
+              c.exactly_once_requests_run_once.ensures setup p.events p.reports p.world c.requires honest follows;
         },
         told.1,
         told.2,

@@ -1,6 +1,6 @@
 use Rattle.std.proofs.Common.{◌≡◌, false, ap}
 use Rattle.at_words.specs.Words.{words_of}
-use Rattle.at_world.specs.declared.setup.NodeSetup.{NodeSetup}
+use Rattle.at_setup.specs.declared.setup.NodeSetup.{NodeSetup}
 use Rattle.at_setup_lines.proofs.LineLemmas.{node_line, node_rest, place_left, rest_said}
 use Rattle.at_setup_lines.proofs.node_line.node_of.Goals as goal
 

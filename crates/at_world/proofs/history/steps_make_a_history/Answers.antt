@@ -92,9 +92,9 @@ returns g c s events reports w lawful =
     let told = c.an_event_is_a_step_of_the_session.ensures in
     let sessions : SessionLaws A = record { called = told.call; timed = told.timer; heard = told.datagram } in
     let both : PartLaws A = record { atp = laws; names = names; streams = streams; sessions = sessions } in
-    λ follows.
+    λ sent_all follows.
     let opened = tied_at_opening A s setups names lawful in
-    let ran = runs A both (opening_world s) (opening_machine s) events reports w opened.0 follows in
+    let ran = runs A both (opening_world s) (opening_machine s) events reports w opened.0 sent_all follows in
     let now = ran.2 in
     let cable = now.cable in
     let atp = now.atp in (

@@ -5,7 +5,7 @@ use Rattle.at_world.proofs.Atp.Told.{OnceLaws, told_of}
 use Rattle.at_world.proofs.laws.exactly_once_requests_run_once.Goals as goal
 
 pub returns : goal.returns
-returns g c s events reports w lawful follows live =
+returns g c s events reports w lawful none follows live =
     let A = g.row.A.Denot in
     let laws : OnceLaws A = record {
       answers = c.responses_are_answers.ensures;
@@ -18,6 +18,6 @@ returns g c s events reports w lawful follows live =
       packet_alone = c.what_is_written_is_read.ensures.alone;
       packet_fits = c.what_is_written_fits.ensures;
     } in
-    let h = (c.steps_make_a_history.ensures s events reports w lawful follows).1 in
+    let h = (c.steps_make_a_history.ensures s events reports w lawful none follows).1 in
     let is = h.1 in
     runs_once A laws s.net s.zones w.sent (onto [] events reports) h.0 (told_of A s.net s.zones [] [] events reports h.0 tt is.tells) is.is_sent is.timely is.in_range live

@@ -1,5 +1,5 @@
 use Rattle.std.proofs.Common.{◌∷◌, ◌++◌, [], Some, None, sym, ap, ◌∙◌, append-nil}
-use Rattle.at_world.specs.declared.setup.NodeSetup.{NodeSetup}
+use Rattle.at_setup.specs.declared.setup.NodeSetup.{NodeSetup}
 use Rattle.at_world.proofs.SetupLemmas.{neighbours_more}
 use Rattle.at_world.proofs.opening.neighbours_of.Goals as goal
 use Rattle.at_world.proofs.opening.neighbours_of.Goals.{in-Some+in_ok-push, in_default}

@@ -3,7 +3,10 @@ use Rattle.std.specs.Prelude.{IsSome}
 use Rattle.std.proofs.lemmas.Option.{slice_get-get_or}
 use Rattle.std.proofs.lemmas.List.{take_all}
 use Rattle.at_world.specs.Plays.{opening_world, Follows}
+use Rattle.at_world.specs.Safety.{Safely}
 use Rattle.at_world.proofs.Following.{follows_more, stops}
+use Rattle.at_world.proofs.LawfulSetups.{opening_few}
+use Rattle.at_world.proofs.SafetyLemmas.{safely_more}
 use Rattle.at_world.proofs.player.play_all.Goals as goal
 
 pub returns-in-Err-clause-follows : goal.returns-in-Err-clause-follows
@@ -15,17 +18,36 @@ pub returns-in-Err-step-clause-follows : goal.returns-in-Err-step-clause-follows
 returns-in-Err-step-clause-follows g c =
     let says = c.stopped-in-Err-step.ensures in
     let both = stops g.row.A.Denot c.loop-at.world c.args.events.now c.loop-at.at c.index-events-at.result c.in-Err-step.fault c.step.new.self c.loop-at-test.true c.index-events-at.is c.in-Err-step.ensures.not_played in
-    (c.loop-at.world, (rw (says.at, says.reports, c.reserve.ensures.items) c.loop-at.invariant, says.sent ∙ both.1), rw (says.at, says.fault) both.0)
+    (c.loop-at.world, (rw (says.at, says.reports, c.reserve.ensures.items) c.loop-at.invariant.0, says.sent ∙ both.1), rw (says.at, says.fault) both.0)
 
 pub loop-at-preserved : goal.loop-at-preserved
 loop-at-preserved g c =
+    let A = g.row.A.Denot in
     let played = c.in-Ok-step.ensures.played in
-    rw (c.push.ensures.items, c.unwrap.ensures, c.reserve.ensures.items) (follows_more g.row.A.Denot (opening_world c.args.setup.now) c.args.events.now c.loop-at.at c.index-events-at.result c.loop-at.reports.items c.loop-at.world c.in-Ok-step.report c.step.new.self c.loop-at-test.true c.index-events-at.is c.loop-at.invariant played.0 played.1)
+    let safe = c.in-Ok-step.ensures.safe in
+    let keeps = safe.limits c.loop-at.invariant.2 in
+    let w = opening_world c.args.setup.now in
+    let events = c.args.events.now in
+    let event = c.index-events-at.result in
+    let reports = c.loop-at.reports.items in
+    let new = c.step.new.self in
+    let within = c.loop-at-test.true in
+    rw (c.push.ensures.items, c.unwrap.ensures, c.reserve.ensures.items) (
+      follows_more A w events c.loop-at.at event reports c.loop-at.world c.in-Ok-step.report new within
+          c.index-events-at.is c.loop-at.invariant.0 played.0 played.1,
+      safely_more A w events c.loop-at.at event reports c.loop-at.world c.in-Ok-step.report new within
+          c.index-events-at.is c.loop-at.invariant.1 played.1 safe keeps,
+      keeps.few_nodes,
+    )
+
+pub loop-at-init : goal.loop-at-init
+loop-at-init g c =
+    rw (c.new-reports.ensures.items, c.in-Ok.ensures) (refl, refl, opening_few g.row.A.Denot c.args.setup.now c.requires)
 
 pub returns-clause-follows : goal.returns-clause-follows
 returns-clause-follows g c =
     let says = c.transcript.ensures in
-    let followed = subst (λ l. Follows (opening_world c.args.setup.now) l c.loop-at.reports.items c.loop-at.world) (take_all c.loop-at.at c.args.events.now c.loop-at-test.false) c.loop-at.invariant in
+    let followed = subst (λ l. Follows (opening_world c.args.setup.now) l c.loop-at.reports.items c.loop-at.world) (take_all c.loop-at.at c.args.events.now c.loop-at-test.false) c.loop-at.invariant.0 in
     (c.loop-at.world, (rw says.reports followed, says.sent))
 
 -- no memory for one report more, where an event is
@@ -33,4 +55,26 @@ pub returns-in_default-clause-follows : goal.returns-in_default-clause-follows
 returns-in_default-clause-follows g c =
     let says = c.stopped.ensures in
     let there = subst (λ o. IsSome o) (sym (slice_get-get_or c.args.events.now c.loop-at.at c.index-events-at.result c.loop-at-test.true)) refl in
-    (c.loop-at.world, (rw (says.at, says.reports, c.reserve.ensures.items) c.loop-at.invariant, says.sent), rw (says.at, says.fault) (inl there))
+    (c.loop-at.world, (rw (says.at, says.reports, c.reserve.ensures.items) c.loop-at.invariant.0, says.sent), rw (says.at, says.fault) (inl there))
+
+pub returns-in-Err-clause-safe : goal.returns-in-Err-clause-safe
+returns-in-Err-clause-safe g c =
+    let says = c.unopened.ensures in
+    (opening_world c.args.setup.now, rw (says.at, says.reports, c.new-reports.ensures.items) refl, says.sent)
+
+pub returns-in-Err-step-clause-safe : goal.returns-in-Err-step-clause-safe
+returns-in-Err-step-clause-safe g c =
+    let says = c.stopped-in-Err-step.ensures in
+    let both = stops g.row.A.Denot c.loop-at.world c.args.events.now c.loop-at.at c.index-events-at.result c.in-Err-step.fault c.step.new.self c.loop-at-test.true c.index-events-at.is c.in-Err-step.ensures.not_played in
+    (c.loop-at.world, rw (says.at, says.reports, c.reserve.ensures.items) c.loop-at.invariant.1, says.sent ∙ both.1)
+
+pub returns-clause-safe : goal.returns-clause-safe
+returns-clause-safe g c =
+    let says = c.transcript.ensures in
+    let safe = subst (λ l. Safely (opening_world c.args.setup.now) l c.loop-at.reports.items c.loop-at.world) (take_all c.loop-at.at c.args.events.now c.loop-at-test.false) c.loop-at.invariant.1 in
+    (c.loop-at.world, rw says.reports safe, says.sent)
+
+pub returns-in_default-clause-safe : goal.returns-in_default-clause-safe
+returns-in_default-clause-safe g c =
+    let says = c.stopped.ensures in
+    (c.loop-at.world, rw (says.at, says.reports, c.reserve.ensures.items) c.loop-at.invariant.1, says.sent)

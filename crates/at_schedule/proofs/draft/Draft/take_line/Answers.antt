@@ -1,6 +1,6 @@
 use Rattle.std.proofs.Common.{◌≡◌, ◌⊎◌, ℕ, List, [], ◌∷◌, ◌++◌, sym, ap, subst, ◌∙◌}
 use Rattle.at_setup_lines.specs.Drafts.{IsNoSetup, Refuses, Takes}
-use Rattle.at_world.specs.declared.event.Event.{Event}
+use Rattle.at_setup.specs.declared.event.Event.{Event}
 use Rattle.at_schedule.specs.Drafts.{BeginSchedule, IsRead}
 use Rattle.at_schedule.specs.Says.{AreEvent, SaysEvent}
 use Rattle.at_schedule.specs.Schedules.{are_event_words}

@@ -1,6 +1,6 @@
 use Rattle.std.proofs.Common.{◌≡◌, sym, subst, ◌∙◌}
 use Rattle.at_setup_lines.specs.Drafts.{Draft, IsNoSetup, setup_of}
-use Rattle.at_world.specs.Setups.{is_lawful}
+use Rattle.at_setup.specs.Setups.{is_lawful}
 use Rattle.at_setup_lines.specs.contracts.draft.SetupDraft.finish.{A-type}
 use Rattle.at_setup_lines.proofs.DraftLemmas.{unfinished}
 use Rattle.at_setup_lines.proofs.draft.SetupDraft.finish.Goals as goal

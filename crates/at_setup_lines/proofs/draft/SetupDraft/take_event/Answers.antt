@@ -2,7 +2,7 @@ use Rattle.std.proofs.Common.{◌≡◌, sym, ap, subst, ◌∙◌}
 use Rattle.std.specs.Prelude.{List, ℕ, not, ◌&&◌, false, true}
 use Rattle.at_setup_lines.specs.Drafts.{Draft, IsDraft}
 use Rattle.at_setup_lines.specs.NodeLists.{have_zones}
-use Rattle.at_world.specs.Setups.{has_router}
+use Rattle.at_setup.specs.Setups.{has_router}
 use Rattle.at_setup_lines.specs.declared.draft.Stage.TheVariants.{Event}
 use Rattle.at_setup_lines.specs.contracts.draft.SetupDraft.take_event.{A-type}
 use Rattle.at_setup_lines.proofs.DraftLemmas.{event_at_node, event_later, lacking}

@@ -2,7 +2,7 @@ use Rattle.std.proofs.Common.{◌≡◌, ◌⊎◌, sym, ap, subst, ◌∙◌}
 use Rattle.std.specs.Prelude.{codes, ◌∷◌, false, true}
 use Rattle.at_words.specs.Words.{words_of}
 use Rattle.at_setup_lines.specs.Drafts.{Draft, Refuses, Takes}
-use Rattle.at_world.specs.Setups.{has_router}
+use Rattle.at_setup.specs.Setups.{has_router}
 use Rattle.at_setup_lines.specs.declared.draft.Stage.TheVariants.{Event, Table}
 use Rattle.at_setup_lines.specs.contracts.draft.SetupDraft.take_zones.{A-type}
 use Rattle.at_setup_lines.proofs.DraftLemmas.{no_zones, refused_as, second_zones, zones_taken, zones_without}

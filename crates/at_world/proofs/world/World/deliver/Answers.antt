@@ -105,4 +105,4 @@ returns-in_default-clause-not_played g c =
     (refl, ap (λ (w : WorldState). w.sent) c.self.view_is, λ whole. record { allowed = for_it g.row.A.Denot c.args.self.now c.args.which c.args.node s.0 _ c.requires.runs s.1 for some; timely = timely_at g.row.A.Denot c.args.self.now c.args.which c.args.node s.0 s.1 fresh free })
 
 pub invariant_of-self : goal.invariant_of-self
-invariant_of-self g c = (c.self.invariant.0, λ e. absurd (true≢false e))
+invariant_of-self g c = (c.self.invariant.0, λ e. absurd (true≢false e), c.self.invariant.2)

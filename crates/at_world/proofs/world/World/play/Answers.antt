@@ -1,5 +1,8 @@
-use Rattle.std.proofs.Common.{◌≡◌, ◌∙◌, false, ap, refl, arith}
+use Rattle.std.proofs.Common.{◌≡◌, ◌∙◌, false, ap, refl, subst, arith}
+use Rattle.at_ddp.proofs.Alls.{all_replaced}
 use Rattle.at_ddp.proofs.TableLemmas.{found_by, none_by}
+use Rattle.at_node.specs.Limits.{IsWithin}
+use Rattle.at_world.specs.Safety.{AreWithin}
 use Rattle.at_world.specs.Sents.{stamped}
 use Rattle.at_world.specs.Worlds.{WorldState, is_numbered, Takes}
 use Rattle.at_world.proofs.WorldLemmas.{few_events, one_stands, takes_splits, has_room, node_stands, none_stands, whole_inside, Ran, ran_ok, ran_err, ran_invariant, world_after, taken, not_taken, if_ok}
@@ -23,7 +26,7 @@ index_mut-requires g c =
 
 pub book-booked-requires : goal.book-booked-requires
 book-booked-requires g c =
-    let s = takes_splits g.row.A.Denot c.args.input.now c.index_mut.result.now c.self.inside.datagrams.items c.take-report.result c.take-report.new.node c.take-report.new.out.items c.take-report.ensures in
+    let s = takes_splits g.row.A.Denot c.args.input.now c.index_mut.result.now c.self.inside.datagrams.items c.take-report.result c.take-report.new.node c.take-report.new.out.items c.take-report.ensures.takes in
     has_room c.self.inside.stamps.items c.self.inside.datagrams.items c.take-report.new.out.items s.out c.len-count.result c.self.invariant.0 s.is c.len-count.ensures
 
 pub invariant_of-self : goal.invariant_of-self
@@ -40,14 +43,15 @@ invariant_of-self g c =
       place = f;
       found_there = c.index_mut.ensures.value ∙ f.at node;
       same = c.self.invariant.1 whole;
-      splits = takes_splits g.row.A.Denot c.args.input.now node ps c.take-report.result c.take-report.new.node c.take-report.new.out.items c.take-report.ensures;
+      splits = takes_splits g.row.A.Denot c.args.input.now node ps c.take-report.result c.take-report.new.node c.take-report.new.out.items c.take-report.ensures.takes;
       counted = c.len-count.ensures;
       draws = c.drawn_by-drawn.ensures;
       drawn = c.book-booked.ensures.drawn;
       stamps = c.book-booked.ensures.stamped;
       kept = c.book-booked.ensures.kept;
     } in
-    ran_invariant g.row.A.Denot _ _ _ _ _ _ _ _ _ _ _ _ _ _ _ _ _ _ c.is_err-self-inside.result ran c.is_err-self-inside.ensures.value
+    let stamps = ran_invariant g.row.A.Denot _ _ _ _ _ _ _ _ _ _ _ _ _ _ _ _ _ _ c.is_err-self-inside.result ran c.is_err-self-inside.ensures.value in
+    (stamps.0, stamps.1, subst AreWithin (f.set_is c.take-report.new.node) (all_replaced IsWithin (is_numbered c.args.node) c.take-report.new.node c.self.inside.nodes.items c.self.invariant.2 c.take-report.ensures.within))
 
 pub returns-clause-played : goal.returns-clause-played
 returns-clause-played g c =
@@ -63,7 +67,7 @@ returns-clause-played g c =
       place = f;
       found_there = c.index_mut.ensures.value ∙ f.at node;
       same = c.self.invariant.1 whole;
-      splits = takes_splits g.row.A.Denot c.args.input.now node ps c.take-report.result c.take-report.new.node c.take-report.new.out.items c.take-report.ensures;
+      splits = takes_splits g.row.A.Denot c.args.input.now node ps c.take-report.result c.take-report.new.node c.take-report.new.out.items c.take-report.ensures.takes;
       counted = c.len-count.ensures;
       draws = c.drawn_by-drawn.ensures;
       drawn = c.book-booked.ensures.drawn;
@@ -90,7 +94,7 @@ returns-clause-not_played g c =
       place = f;
       found_there = c.index_mut.ensures.value ∙ f.at node;
       same = c.self.invariant.1 whole;
-      splits = takes_splits g.row.A.Denot c.args.input.now node ps c.take-report.result c.take-report.new.node c.take-report.new.out.items c.take-report.ensures;
+      splits = takes_splits g.row.A.Denot c.args.input.now node ps c.take-report.result c.take-report.new.node c.take-report.new.out.items c.take-report.ensures.takes;
       counted = c.len-count.ensures;
       draws = c.drawn_by-drawn.ensures;
       drawn = c.book-booked.ensures.drawn;

@@ -1,0 +1,199 @@
+-- The socket of a node that asks: its calls, its timer and its packets are safe.
+use Rattle.std.proofs.Common.{◌≡◌, inl, inr, ℕ, zero, suc, ◌+◌, ◌<◌, ◌≤◌, Bool, true, false, cond}
+use Rattle.std.proofs.Common.{List, [], ◌∷◌, ◌++◌, length, Option, Some, None, refl, subst, arith}
+use Rattle.std.specs.Prelude.{IsSome, MatchBool, find, nat_lt, option_map}
+use Rattle.std.proofs.lemmas.Bool.Decides.{nat_tests}
+use Rattle.at_ddp.specs.declared.address.Address.{Address}
+use Rattle.at_atp_frame.specs.Fault as atp
+use Rattle.at_atp_frame.specs.Frames.{Content, Request, Response, Release}
+use Rattle.at_atp_frame.specs.Packets.{Packet}
+use Rattle.at_atp_frame.specs.declared.fault.AtpFault.TheVariants as atps
+use Rattle.at_atp_requester.specs.Answers.{Arrival, is_wanted, whole, with_part}
+use Rattle.at_atp_requester.specs.Requests.{Heard, Requests, Transaction, came_for, heard, is_numbered, is_of}
+use Rattle.at_atp_requester.specs.Requests.{next_number, response_came, retried, retried_with, was_kept}
+use Rattle.at_atp_requester.specs.declared.step.Retry.TheVariants as retry
+use Rattle.at_atp_requester.specs.declared.step.Step.{Step}
+use Rattle.at_atp_requester.specs.declared.step.Step.TheVariants as step
+use Rattle.at_zip.specs.Page.{Page}
+use Rattle.at_zip.specs.Fault as zip
+use Rattle.at_zip.specs.declared.fault.ZipFault.{ZipFault}
+use Rattle.at_zip.specs.declared.fault.ZipFault.TheVariants.{TooManyZones}
+use Rattle.at_event.specs.Outcomes.{Outcome, idle, refused_as}
+use Rattle.at_event.specs.declared.event.Report.{Report}
+use Rattle.at_event.specs.declared.event.Report.TheVariants as report
+use Rattle.at_event.specs.declared.fault.NodeFault.TheVariants as nodes
+use Rattle.at_node.specs.AtpParts.{AtpState, Reading, after_heard, asking as asking_at, asks, atp_kind, packet_in}
+use Rattle.at_node.specs.AtpParts.{tid_of}
+use Rattle.at_node.specs.Nodes.{NodeState}
+use Rattle.at_node.specs.RequesterSocket.{AtRequester, after_retry, asked_as, hears_other, reported_other, retry_fired}
+use Rattle.at_node.specs.ZoneReading.{AsksOn, ReadsPage, TakesPage, after_failing, is_page, is_reading, names_read}
+use Rattle.at_node.specs.ZoneReading.{page_transaction, reading_begins, zones_called}
+use Rattle.at_steps.specs.Safety.{Asking, IsPlaceOfCall, IsSafe, OfNodes, OfTransactions, Place, number_told}
+use Rattle.at_steps.proofs.Safety.By.{by, packets_few, page_faulted, quiet, refused}
+
+-- below 32 open transactions a number is free
+abbrev pub NumbersAreFree : Type 0
+NumbersAreFree = (r : Requests) → length r.standing < 32 → IsSome (next_number r)
+
+-- ---- a packet that comes is answered by one at most
+
+kept_one : (A : Type 0) (t : Transaction) (sts : Bool) (packets : Option (List Packet))
+    → length (was_kept {A = A} t sts packets).sent ≤ 1
+kept_one A t sts (Some packets) = go t.xo
+  where
+    go : (xo : Bool) → length {A = Address × Content} (cond xo ((t.to, Release t.tid) ∷ []) []) ≤ 1
+    go true = omega arith
+    go false = omega arith
+kept_one A t true None = omega arith
+kept_one A t false None = omega arith
+
+came_one : (A : Type 0) (t : Transaction) (place : ℕ) (part : Arrival) (sts wanted : Bool)
+    → length (came_for {A = A} t place part sts wanted).sent ≤ 1
+came_one A t place part sts true =
+    kept_one A (record t { parts = with_part t.parts place part }) sts (whole (with_part t.parts place part))
+came_one A t place part true false = omega arith
+came_one A t place part false false = omega arith
+
+response_one : (A : Type 0) (r : Requests) (this : Transaction → Bool) (place : ℕ) (part : Arrival) (sts : Bool)
+    (o : Option Transaction) → length (response_came {A = A} r this place part sts o).sent ≤ 1
+response_one A r this place part sts None = omega arith
+response_one A r this place part sts (Some t) = came_one A t place part sts (is_wanted t.parts place)
+
+heard_one : (A : Type 0) (r : Requests) (from : Address) (f : Content) → length (heard {A = A} r from f).sent ≤ 1
+heard_one A r from (Request mask xo timer tid user bytes) = omega arith
+heard_one A r from (Release tid) = omega arith
+heard_one A r from (Response place eom sts tid user bytes) =
+    response_one A r (is_of tid from) place (record { eom = eom; packet = record { user = user; data_ = bytes } }) sts
+    (find (is_of tid from) r.standing)
+
+module _ (A : Type 0) (n : NodeState) where
+  -- ---- calls
+
+  module _ (free : NumbersAreFree) where
+    abbrev Calling : Outcome A AtpState → Type 0
+    Calling o = IsSafe IsPlaceOfCall n n.atp o
+
+    full : next_number n.atp.requester ≡ None → 32 ≤ length n.atp.requester.standing
+    full none = go (nat_lt (length n.atp.requester.standing) 32) refl
+      where
+        go : (b : Bool) → nat_lt (length n.atp.requester.standing) 32 ≡ b → 32 ≤ length n.atp.requester.standing
+        go true few =
+            let some = free n.atp.requester (grind (arith, nat_tests, few)) in
+            let never = subst (λ (o : Option ℕ). IsSome o) none some in
+            absurd (cc)
+        go false most = grind (arith, nat_tests, most)
+
+    refused_full : next_number n.atp.requester ≡ None → Calling (idle n.atp (refused_as (atp.number_of atps.Full)))
+    refused_full none = refused A IsPlaceOfCall n n.atp (OfTransactions atps.Full) (Asking, refl, full none)
+
+    pub asking_safe : (to : Address) (user bytes : List ℕ) (wanted : ℕ) (xo : Bool) (retries : ℕ) (tid : Option ℕ)
+        → next_number n.atp.requester ≡ tid → Calling (asked_as n.seat n.atp to user bytes wanted xo retries tid)
+    asking_safe to user bytes wanted xo retries None is = refused_full is
+    asking_safe to user bytes wanted xo retries (Some tid) is =
+        quiet A IsPlaceOfCall n n.atp (asked_as n.seat n.atp to user bytes wanted xo retries (Some tid)) refl
+        (omega arith)
+
+    pub ask_safe : (to : Address) (user bytes : List ℕ) (wanted : ℕ) (xo : Bool) (retries : ℕ) (long : Bool)
+        → Calling (cond long (idle n.atp (refused_as (atp.number_of atps.AtpTooLong)))
+        (asked_as n.seat n.atp to user bytes wanted xo retries (next_number n.atp.requester)))
+    ask_safe to user bytes wanted xo retries true =
+        refused A IsPlaceOfCall n n.atp (OfTransactions atps.AtpTooLong) tt
+    ask_safe to user bytes wanted xo retries false =
+        asking_safe to user bytes wanted xo retries (next_number n.atp.requester) refl
+
+    begins_safe : (router : ℕ) (tid : Option ℕ) → next_number n.atp.requester ≡ tid
+        → Calling (reading_begins n.seat n.atp router tid)
+    begins_safe router None is = refused_full is
+    begins_safe router (Some tid) is =
+        quiet A IsPlaceOfCall n n.atp (reading_begins n.seat n.atp router (Some tid)) refl (omega arith)
+
+    pub zones_safe : (router : Option ℕ) (reading : Option Reading) → Calling (zones_called n.seat n.atp router reading)
+    zones_safe None reading = refused A IsPlaceOfCall n n.atp (OfNodes nodes.NoRouter) tt
+    zones_safe (Some router) (Some r) = refused A IsPlaceOfCall n n.atp (OfNodes nodes.StillReading) tt
+    zones_safe (Some router) None = begins_safe router (next_number n.atp.requester) refl
+
+  -- ---- the timer
+
+  module _ (Wants : Place → Type 0) where
+    abbrev Safe : Outcome A AtpState → Type 0
+    Safe o = IsSafe Wants n n.atp o
+
+    retry_at : (tid : ℕ) (o : Option Transaction)
+        → Safe (retry_fired n.seat n.atp tid (option_map (λ t. retried_with n.atp.requester tid t t.retries) o))
+    retry_at tid None = refused A Wants n n.atp (OfTransactions atps.NoSuch) tt
+    retry_at tid (Some t) = go t.retries
+      where
+        fails : (after : Requests) (b : Bool) → Safe (after_failing n.atp tid after b)
+        fails after true = quiet A Wants n n.atp (after_failing n.atp tid after true) refl (omega arith)
+        fails after false = quiet A Wants n n.atp (after_failing n.atp tid after false) refl (omega arith)
+
+        go : (left : ℕ) → Safe (retry_fired n.seat n.atp tid (Some (retried_with n.atp.requester tid t left)))
+        go zero = fails (retried_with n.atp.requester tid t zero).after (is_reading n.atp.reading tid)
+        go (suc left) =
+            quiet A Wants n n.atp
+            (after_retry n.seat n.atp tid (retried_with n.atp.requester tid t (suc left)) retry.AskedAgain)
+            refl (omega arith)
+
+    pub retry_safe : (tid : ℕ) → Safe (retry_fired n.seat n.atp tid (retried n.atp.requester tid))
+    retry_safe tid = retry_at tid (find (is_numbered tid) n.atp.requester.standing)
+
+    -- ---- packets
+
+    heard_safe : (h : Heard A) (r : Report A) (reading : Option Reading) (o : Outcome A AtpState)
+        → length h.sent ≤ 1 → number_told r ≡ None → o ≡ after_heard n.seat n.atp h r reading → Safe o
+    heard_safe h r reading o one none is =
+        by A Wants n n.atp o (after_heard n.seat n.atp h r reading) is
+        (quiet A Wants n n.atp (after_heard n.seat n.atp h r reading) none
+        (packets_few (asking_at n.seat.net n.seat.number) atp_kind h.sent 131070 (omega (arith, one))))
+
+    faults_safe : (h : Heard A) (fault : ZipFault) (number : ℕ) (o : Outcome A AtpState) → length h.sent ≤ 1
+        → zip.number_of fault ≡ Some number → o ≡ after_heard n.seat n.atp h (report.ZoneFault number) None → Safe o
+    faults_safe h fault number o one numbered is =
+        by A Wants n n.atp o (after_heard n.seat n.atp h (report.ZoneFault number) None) is
+        (page_faulted A Wants n n.atp fault number (after_heard n.seat n.atp h (report.ZoneFault number) None) numbered
+        refl (packets_few (asking_at n.seat.net n.seat.number) atp_kind h.sent 131070 (omega (arith, one))))
+
+    other_quiet : (tid : ℕ) (x : Step A) → number_told (reported_other tid x) ≡ None
+    other_quiet tid step.Ignored = refl
+    other_quiet tid step.Kept = refl
+    other_quiet tid step.AskAgain = refl
+    other_quiet tid (step.Finished packets) = refl
+
+    takes_safe : (h : Heard A) (from : Address) (names : List (List ℕ)) (q : Page) (o : Outcome A AtpState)
+        → length h.sent ≤ 1 → TakesPage n.seat n.atp h from names q o → Safe o
+    takes_safe h from names q o one = go (nat_lt 1024 (length names + length q.names)) q.last
+      where
+        go : (long last : Bool)
+            → MatchBool long (o ≡ after_heard n.seat n.atp h (report.ZoneFault 34) None)
+            (MatchBool last (o ≡ after_heard n.seat n.atp h (report.Zones (names ++ q.names)) None)
+            (AsksOn n.seat n.atp h from (names ++ q.names) o)) → Safe o
+        go true last is = faults_safe h TooManyZones 34 o one refl is
+        go false true is = heard_safe h (report.Zones (names ++ q.names)) None o one refl is
+        go false false on =
+            let asked = asks n.seat (record n.atp { requester = h.after })
+            (Some (record { tid = on.tid; names = names ++ q.names }))
+            (page_transaction from (names ++ q.names) on.tid) in
+            by A Wants n n.atp o asked on.outcome (quiet A Wants n n.atp asked refl (omega arith))
+
+    reads_safe : (h : Heard A) (from : Address) (names : List (List ℕ)) (p : Packet) (o : Outcome A AtpState)
+        → length h.sent ≤ 1 → ReadsPage n.seat n.atp h from names p o → Safe o
+    reads_safe h from names p o one (inl has) = takes_safe h from names has.page o one has.outcome
+    reads_safe h from names p o one (inr has) = faults_safe h has.fault has.number o one has.numbered has.outcome
+
+    pub heard_at_requester : (from : Address) (f : Content) (o : Outcome A AtpState)
+        → AtRequester n.seat n.atp from f o → Safe o
+    heard_at_requester from f o = go (is_page A n.atp from f)
+      where
+        h : Heard A
+        h = heard n.atp.requester from f
+
+        one : length (heard {A = A} n.atp.requester from f).sent ≤ 1
+        one = heard_one A n.atp.requester from f
+
+        go : (b : Bool)
+            → MatchBool b (ReadsPage n.seat n.atp h from (names_read n.atp.reading) (packet_in f) o)
+            (o ≡ hears_other n.seat n.atp (tid_of f) h) → Safe o
+        go true reads = reads_safe h from (names_read n.atp.reading) (packet_in f) o one reads
+        go false is =
+            heard_safe h (reported_other (tid_of f) (heard {A = A} n.atp.requester from f).step) n.atp.reading o one
+            (other_quiet (tid_of f) (heard {A = A} n.atp.requester from f).step) is

@@ -1,0 +1,233 @@
+-- The sockets of a node that answer: their packets are safe.
+use Rattle.std.proofs.Common.{◌≡◌, inl, inr, ℕ, ◌≤◌, Bool, true, false, cond, List, [], ◌∷◌, length}
+use Rattle.std.proofs.Common.{Option, Some, None, refl, sym, subst, arith}
+use Rattle.std.specs.Prelude.{find, is_none, nat_le, option_map, ◌==◌, ◌&&◌}
+use Rattle.std.proofs.lemmas.Bool.Decides.{nat_tests}
+use Rattle.at_ddp.specs.Datagram.{Content as Datagram}
+use Rattle.at_ddp.specs.declared.address.Address.{Address}
+use Rattle.at_atp_frame.specs.Fault as atp
+use Rattle.at_atp_frame.specs.Frames.{Content, Request, Response, Release, Spells, spelled_all}
+use Rattle.at_atp_frame.specs.Packets.{Packet}
+use Rattle.at_atp_frame.specs.declared.fault.AtpFault.{AtpFault}
+use Rattle.at_atp_frame.specs.declared.fault.AtpFault.TheVariants as atps
+use Rattle.at_atp_responder.specs.Records.{AsksForEight, Record, Released, Taken}
+use Rattle.at_atp_responder.specs.Records.{asked_for, finds_no_place, is_key}
+use Rattle.at_atp_responder.specs.Records.{is_new_and_full, is_passed_over, taken}
+use Rattle.at_atp_responder.specs.declared.reception.Key.{Key}
+use Rattle.at_atp_responder.specs.declared.reception.Reception.{Reception}
+use Rattle.at_atp_responder.specs.declared.reception.Reception.TheVariants as reception
+use Rattle.at_event.specs.Outcomes.{Outcome, idle, refused_as, sent_by}
+use Rattle.at_event.specs.declared.event.Report.TheVariants as report
+use Rattle.at_event.specs.declared.service.Reply.{Reply}
+use Rattle.at_event.specs.declared.service.Reply.TheVariants as reply
+use Rattle.at_node.specs.AtpHearing.{AtSocket, AtpSocket, HearsAt, HearsAtp, Requester, Service, Zones as ZoneSocket}
+use Rattle.at_node.specs.AtpHearing.{atp_socket}
+use Rattle.at_node.specs.AtpParts.{AtpState, atp_kind, serving, zones_at}
+use Rattle.at_node.specs.Nodes.{NodeState}
+use Rattle.at_node.specs.Responders.{records_at, released_report}
+use Rattle.at_node.specs.ServiceSocket.{AtService, at_service, handed_up, sent_by_reply, service_taken}
+use Rattle.at_node.specs.ZoneSocket.{AtZones, at_zones, page_packet, zone_served}
+use Rattle.at_node.specs.ZoneSocket.{zone_taken}
+use Rattle.at_steps.specs.Safety.{IsSafe, IsTrueOf, OfTransactions, Place, Records, number_told}
+use Rattle.at_steps.proofs.Safety.By.{by, faulted, packets_few, quiet, refused}
+use Rattle.at_steps.proofs.Safety.Records.{RecordLaws}
+use Rattle.at_steps.proofs.Safety.Requests.{heard_at_requester}
+
+-- the mask of a packet that came has eight bits
+asks_for_eight : (bytes : List ℕ) (f : Content) → Spells bytes f → AsksForEight f
+asks_for_eight bytes (Request mask xo timer tid user more) spelled = spelled.mask_fits
+asks_for_eight bytes (Response place eom sts tid user more) spelled = tt
+asks_for_eight bytes (Release tid) spelled = tt
+
+-- a request finds no place only if 64 records stand
+full_records : (rs : List Record) (from : Address) (f : Content) → finds_no_place rs from f ≡ true → 64 ≤ length rs
+full_records rs from (Request bitmap xo timer tid user bytes) h = go (is_passed_over bitmap) h
+  where
+    at : (a b : Bool) → nat_le 64 (length rs) ≡ b → (a && b) ≡ true → 64 ≤ length rs
+    at true true is g = grind (arith, nat_tests, is)
+    at true false is g = absurd (cc)
+    at false b is g = absurd (cc)
+
+    go : (b : Bool) → cond b false (is_new_and_full rs (record { from = from; tid = tid })) ≡ true → 64 ≤ length rs
+    go true g = absurd (cc)
+    go false g = at (is_none (find (is_key (record { from = from; tid = tid })) rs)) (nat_le 64 (length rs)) refl g
+full_records rs from (Response place eom sts tid user bytes) h = absurd (cc)
+full_records rs from (Release tid) h = absurd (cc)
+
+-- the records of a socket that answers are those of its number
+abbrev IsAt : AtpState → ℕ → AtpSocket → Type 0
+IsAt a socket Requester = Unit {0}
+IsAt a socket Service = records_at a socket ≡ a.service_responder
+IsAt a socket (ZoneSocket table) = records_at a socket ≡ a.zone_responder
+
+socket_at : (a : AtpState) (socket : ℕ) (x : AtpSocket) → atp_socket a socket ≡ Some x → IsAt a socket x
+socket_at a socket x = go (socket == 128) (socket == 129) (socket == 6) refl refl
+  where
+    at : (b c : Bool) → AtpSocket → Type 0
+    at b c Requester = Unit {0}
+    at b c Service = cond b a.service_responder (cond c a.zone_responder []) ≡ a.service_responder
+    at b c (ZoneSocket table) = cond b a.service_responder (cond c a.zone_responder []) ≡ a.zone_responder
+
+    of : (b c : Bool) (y : AtpSocket) → Some y ≡ Some x → at b c y → at b c x
+    of b c y is h = let same : y ≡ x = cc in subst (at b c) same h
+
+    zones : (o : Option (List (List ℕ))) → option_map ZoneSocket o ≡ Some x → at false true x
+    zones None is = absurd (cc)
+    zones (Some table) is = of false true (ZoneSocket table) is refl
+
+    whole : (b c : Bool) (y : AtpSocket) → (socket == 129) ≡ b → (socket == 6) ≡ c → at b c y → IsAt a socket y
+    whole b c Requester is was h = tt
+    whole b c Service is was h = rw (is, was) h
+    whole b c (ZoneSocket table) is was h = rw (is, was) h
+
+    go : (r b c : Bool) → (socket == 129) ≡ b → (socket == 6) ≡ c
+        → cond r (Some Requester) (cond b (Some Service) (cond c (option_map ZoneSocket a.table) None)) ≡ Some x
+        → IsAt a socket x
+    go true b c is was h = whole b c x is was (of b c Requester h tt)
+    go false true c is was h = whole true c x is was (of true c Service h refl)
+    go false false true is was h = whole false true x is was (zones a.table h)
+    go false false false is was h = absurd (cc)
+
+module _ (A : Type 0) (n : NodeState) (Wants : Place → Type 0) where
+  abbrev Safe : Outcome A AtpState → Type 0
+  Safe o = IsSafe Wants n n.atp o
+
+  abbrev True : AtpFault → Type 0
+  True fault = IsTrueOf Wants n (OfTransactions fault)
+
+  released_quiet : (x : Reception) → number_told (released_report {A = A} x) ≡ None
+  released_quiet reception.Ignored = refl
+  released_quiet (reception.Again count) = refl
+  released_quiet reception.Released = refl
+  released_quiet (reception.New key) = refl
+
+  ignored : (o : Outcome A AtpState) → o ≡ idle n.atp report.Ignored → Safe o
+  ignored o is = by A Wants n n.atp o (idle n.atp report.Ignored) is
+      (quiet A Wants n n.atp (idle n.atp report.Ignored) refl (omega arith))
+
+  module _ (socket : ℕ) (here : Wants (Records socket)) (laws : RecordLaws) where
+    full_true : (rs : List Record) → records_at n.atp socket ≡ rs → 64 ≤ length rs → True atps.Full
+    full_true rs is most = (Records socket, here, subst (λ r. 64 ≤ length r) (sym is) most)
+
+    or_full : (b : Bool) (o q : Outcome A AtpState) → Safe q → (b ≡ true → True atps.Full)
+        → o ≡ cond b (idle n.atp (refused_as (atp.number_of atps.Full))) q → Safe o
+    or_full true o q safe why is =
+        by A Wants n n.atp o (idle n.atp (refused_as (atp.number_of atps.Full))) is
+        (refused A Wants n n.atp (OfTransactions atps.Full) (why refl))
+    or_full false o q safe why is = by A Wants n n.atp o q is safe
+
+    -- at the service
+
+    service_few : (t : Taken) → length t.sent ≤ 8
+        → length (sent_by (serving n.seat.net n.seat.number) atp_kind (spelled_all t.sent)) ≤ 131070
+    service_few t eight =
+        packets_few (serving n.seat.net n.seat.number) atp_kind t.sent 131070 (omega (arith, eight))
+
+    module _ (from : Address) (f : Content) (asks : AsksForEight f) where
+      service_eight : length (taken n.atp.service_responder from f).sent ≤ 8
+      service_eight = laws.came n.atp.service_responder from f asks
+
+      handed_up_few : (key : Key) (said : Reply A)
+          → (taken n.atp.service_responder from f).reception ≡ reception.New key
+          → length (sent_by_reply (taken n.atp.service_responder from f).after key said) ≤ 8
+      handed_up_few key reply.Later new = omega arith
+      handed_up_few key (reply.Now packets) new = laws.replied n.atp.service_responder from f key packets asks new
+
+      service_safe : (user bytes : List ℕ) (said : Reply A) (x : Reception)
+          → (taken n.atp.service_responder from f).reception ≡ x
+          → Safe (at_service n.seat n.atp (taken n.atp.service_responder from f) user bytes said x)
+      service_safe user bytes said reception.Ignored is =
+          let t = taken n.atp.service_responder from f in
+          quiet A Wants n n.atp (service_taken n.seat n.atp t report.Ignored) refl (service_few t service_eight)
+      service_safe user bytes said (reception.Again count) is =
+          let t = taken n.atp.service_responder from f in
+          quiet A Wants n n.atp (service_taken n.seat n.atp t report.Again) refl (service_few t service_eight)
+      service_safe user bytes said reception.Released is =
+          let t = taken n.atp.service_responder from f in
+          quiet A Wants n n.atp (service_taken n.seat n.atp t report.Released) refl (service_few t service_eight)
+      service_safe user bytes said (reception.New key) is =
+          let t = taken n.atp.service_responder from f in
+          quiet A Wants n n.atp (handed_up n.seat n.atp t key user bytes said) refl
+          (packets_few (serving n.seat.net n.seat.number) atp_kind (sent_by_reply t.after key said) 131070
+          (omega (arith, handed_up_few key said is)))
+
+      zone_few : length (sent_by (zones_at n.seat.net n.seat.number) atp_kind
+          (spelled_all (taken n.atp.zone_responder from f).sent)) ≤ 131070
+      zone_few =
+          packets_few (zones_at n.seat.net n.seat.number) atp_kind (taken n.atp.zone_responder from f).sent 131070
+          (omega (arith, laws.came n.atp.zone_responder from f asks))
+
+      zones_safe : (packet : Packet) (x : Reception)
+          → Safe (at_zones n.seat n.atp (taken n.atp.zone_responder from f) packet x)
+      zones_safe packet reception.Ignored =
+          let t = taken n.atp.zone_responder from f in
+          quiet A Wants n n.atp (zone_taken n.seat n.atp t report.Ignored) refl zone_few
+      zones_safe packet (reception.Again count) =
+          let t = taken n.atp.zone_responder from f in
+          quiet A Wants n n.atp (zone_taken n.seat n.atp t report.Again) refl zone_few
+      zones_safe packet reception.Released =
+          let t = taken n.atp.zone_responder from f in
+          quiet A Wants n n.atp (zone_taken n.seat n.atp t report.Released) refl zone_few
+      zones_safe packet (reception.New key) =
+          let t = taken n.atp.zone_responder from f in
+          let sent = asked_for (find (is_key key) t.after) key (packet ∷ []) in
+          let one = laws.answered (find (is_key key) t.after) key (packet ∷ []) in
+          quiet A Wants n n.atp (zone_served n.seat n.atp t key packet) refl
+          (packets_few (zones_at n.seat.net n.seat.number) atp_kind sent 131070 (omega (arith, one)))
+
+    serves : (said : Reply A) (from : Address) (f : Content) (o : Outcome A AtpState) → AsksForEight f
+        → records_at n.atp socket ≡ n.atp.service_responder → AtService said n.seat n.atp from f o → Safe o
+    serves said from (Request mask xo timer tid user bytes) o asks there at =
+        let f : Content = Request mask xo timer tid user bytes in
+        let rs = n.atp.service_responder in
+        let t = taken rs from f in
+        or_full (finds_no_place rs from f) o (at_service n.seat n.atp t user bytes said t.reception)
+        (service_safe from f asks user bytes said t.reception refl)
+        (λ no. full_true rs there (full_records rs from f no)) at
+    serves said from (Response place eom sts tid user bytes) o asks there at = ignored o at
+    serves said from (Release tid) o asks there at =
+        let t = taken n.atp.service_responder from (Release tid) in
+        let q = service_taken n.seat n.atp t (released_report t.reception) in
+        by A Wants n n.atp o q at
+        (quiet A Wants n n.atp q (released_quiet t.reception) (service_few t (service_eight from (Release tid) asks)))
+
+    serves_zones : (from : Address) (table : List (List ℕ)) (f : Content) (o : Outcome A AtpState) → AsksForEight f
+        → records_at n.atp socket ≡ n.atp.zone_responder → AtZones n.seat n.atp from table f o → Safe o
+    serves_zones from table (Request mask xo timer tid user bytes) o asks there (inr at) = ignored o at.1
+    serves_zones from table (Request mask xo timer tid user bytes) o asks there (inl at) =
+        let f : Content = Request mask xo timer tid user bytes in
+        let rs = n.atp.zone_responder in
+        let t = taken rs from f in
+        let page = page_packet table at.start in
+        or_full (finds_no_place rs from f) o (at_zones n.seat n.atp t page t.reception)
+        (zones_safe from f asks page t.reception) (λ no. full_true rs there (full_records rs from f no)) at.outcome
+    serves_zones from table (Response place eom sts tid user bytes) o asks there at = ignored o at
+    serves_zones from table (Release tid) o asks there at =
+        let t = taken n.atp.zone_responder from (Release tid) in
+        let q = zone_taken n.seat n.atp t (released_report t.reception) in
+        by A Wants n n.atp o q at
+        (quiet A Wants n n.atp q (released_quiet t.reception) (zone_few from (Release tid) asks))
+
+    at_a_socket : (said : Reply A) (from : Address) (x : AtpSocket) (f : Content) (o : Outcome A AtpState)
+        → AsksForEight f → IsAt n.atp socket x → AtSocket said n.seat n.atp from (Some x) f o → Safe o
+    at_a_socket said from Requester f o asks there at = heard_at_requester A n Wants from f o at
+    at_a_socket said from Service f o asks there at = serves said from f o asks there at
+    at_a_socket said from (ZoneSocket table) f o asks there at = serves_zones from table f o asks there at
+
+  decoded : (fault : AtpFault) (bytes : List ℕ) → atp.IsFirstFault fault bytes → True fault
+  decoded atps.Full bytes h = absurd h.stands
+  decoded fault bytes h = tt
+
+  hears_at : RecordLaws → (said : Reply A) (d : Datagram) (x : Option AtpSocket) (o : Outcome A AtpState)
+      → Wants (Records d.to.socket) → atp_socket n.atp d.to.socket ≡ x → HearsAt said n.seat n.atp d x o → Safe o
+  hears_at laws said d None o here is h = ignored o h
+  hears_at laws said d (Some x) o here is (inl h) =
+      at_a_socket d.to.socket here laws said d.from x h.packet o (asks_for_eight d.data_ h.packet h.spelled)
+      (socket_at n.atp d.to.socket x is) h.outcome
+  hears_at laws said d (Some x) o here is (inr h) =
+      faulted A Wants n n.atp (OfTransactions h.fault) h.number o (decoded h.fault d.data_ h.first) h.numbered
+      h.outcome
+
+  pub atp_safe : RecordLaws → (said : Reply A) (d : Datagram) (o : Outcome A AtpState) → Wants (Records d.to.socket)
+      → HearsAtp said n.seat n.atp d o → Safe o
+  atp_safe laws said d o here h = hears_at laws said d (atp_socket n.atp d.to.socket) o here refl h

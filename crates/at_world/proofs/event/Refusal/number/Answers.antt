@@ -1,8 +1,0 @@
-use Rattle.std.proofs.Common.{rules}
-use Rattle.at_world.proofs.event.Refusal.number.Goals as goal
-
-pub returns-in-NoDatagram : goal.returns-in-NoDatagram
-returns-in-NoDatagram c = search rules
-
-pub returns-in-NotForNode : goal.returns-in-NotForNode
-returns-in-NotForNode c = search rules

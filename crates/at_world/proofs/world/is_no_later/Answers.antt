@@ -1,5 +1,0 @@
-use Rattle.std.proofs.Common.{rules}
-use Rattle.at_world.proofs.world.is_no_later.Goals as goal
-
-pub returns-in-Some-last : goal.returns-in-Some-last
-returns-in-Some-last g c = search rules
