@@ -1,4 +1,4 @@
-//! Which request the allocator of the tests refuses. No clause can say it, since a cell holds it.
+//! Which request the allocator of the tests refuses, and what it counts. No clause can say it, since a cell holds it.
 use refusing::Refusing;
 use std::alloc::{AllocError, Global};
 
@@ -14,4 +14,31 @@ fn exactly_the_request_after_the_granted_ones_is_refused(rt: HostRuntime) {
             assert!(rt; words.is_err() == (granted == request));
         }
     }
+}
+
+#[test]
+fn what_is_handed_out_counts_until_it_is_given_back(rt: HostRuntime) {
+    let heap = Refusing::new(rt.alloc(), 4);
+    let one = Box::new(&heap, 1u8).expect(&rt, "out of memory");
+    let mut words = Vec::from_array(&heap, [1u64, 2, 3]).expect(&rt, "out of memory");
+    assert!(rt; heap.held() == 25);
+    words.truncate(1);
+    words.shrink_to_fit();
+    assert!(rt; heap.held() == 9);
+    words.reserve_exact(4).expect(&rt, "out of memory");
+    assert!(rt; heap.held() == 41);
+    // What is refused leaves the count.
+    assert!(rt; words.reserve_exact(9).is_err());
+    assert!(rt; heap.held() == 41);
+    drop(words);
+    assert!(rt; heap.held() == 1);
+    drop(one);
+    assert!(rt; heap.held() == 0);
+}
+
+#[test]
+fn what_the_inner_allocator_refuses_does_not_count(rt: HostRuntime) {
+    let heap = Refusing::new(Refusing::new(rt.alloc(), 0), 9);
+    assert!(rt; Box::new(&heap, 1u8).is_err());
+    assert!(rt; (heap.has_refused(), heap.held()) == (false, 0));
 }

@@ -142,9 +142,8 @@ fn each_request_that_is_refused_in_a_stream_is_told_once_and_changes_nothing_bef
     rt: HostRuntime,
 ) {
     let (text, whole) = (STREAM.as_bytes(), STREAM_PLAYED.as_bytes());
-    let refused = plays_with_a_refusal(&rt, rt.alloc(), text, whole, 200);
-    // Each request of the play was refused, and in the last of these plays none was.
-    assert!(rt; refused > 50 && refused < 200);
+    let refused = plays_with_a_refusal(&rt, rt.alloc(), text, whole);
+    assert!(rt; refused > 50);
 }
 
 #[test]
@@ -152,6 +151,6 @@ fn each_request_that_is_refused_in_an_opening_is_told_once_and_changes_nothing_b
     rt: HostRuntime,
 ) {
     let (text, whole) = (OPENING.as_bytes(), OPENING_PLAYED.as_bytes());
-    let refused = plays_with_a_refusal(&rt, rt.alloc(), text, whole, 200);
-    assert!(rt; refused > 30 && refused < 200);
+    let refused = plays_with_a_refusal(&rt, rt.alloc(), text, whole);
+    assert!(rt; refused > 30);
 }

@@ -1,5 +1,6 @@
 //! Tests of nodes, worlds and plays through the public functions of their crates. They are of what no clause says and
-//! no case shows: a read, a write or a request for memory that fails, and bytes that no schedule delivers.
+//! no case shows: a read, a write or a request for memory that fails, memory that is not given back, and bytes that no
+//! schedule delivers.
 #![tactic(auto)]
 
 #[cfg(test)]
@@ -9,17 +10,23 @@ mod connections;
 #[cfg(test)]
 mod failing;
 #[cfg(test)]
+mod forged;
+#[cfg(test)]
 mod lookups;
 #[cfg(test)]
 mod nodes;
 #[cfg(test)]
 mod reads;
 #[cfg(test)]
+mod receptions;
+#[cfg(test)]
 mod refusals;
 #[cfg(test)]
 mod refused_memory;
 #[cfg(test)]
 mod session;
+#[cfg(test)]
+mod steps;
 #[cfg(test)]
 mod streams;
 #[cfg(test)]

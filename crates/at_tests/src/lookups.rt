@@ -32,7 +32,6 @@ fn each_request_that_is_refused_in_a_lookup_is_told_once_and_changes_nothing_bef
     rt: HostRuntime,
 ) {
     let (text, whole) = (FOUND.as_bytes(), FOUND_PLAYED.as_bytes());
-    let refused = plays_with_a_refusal(&rt, rt.alloc(), text, whole, 100);
-    // Each request of the play was refused, and in the last of these plays none was.
-    assert!(rt; refused > 20 && refused < 100);
+    let refused = plays_with_a_refusal(&rt, rt.alloc(), text, whole);
+    assert!(rt; refused > 20);
 }

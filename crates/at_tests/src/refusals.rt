@@ -114,6 +114,7 @@ fn each_request_for_memory_that_is_refused_is_told_in_its_place(rt: HostRuntime)
         let place = place_of(&printed, &told);
         assert!(rt; (place < 12) == heap.has_refused());
         assert!(rt; (status == Status::Done) == told.is_empty());
+        assert!(rt; heap.held() == 0);
         places[place.min(13)] = true;
     }
     let (last, others) = places.split_last().expect(&rt, "no place");

@@ -37,30 +37,68 @@ fn count_of_wants(printed: &[u8]) -> u64 {
     count
 }
 
-/// Plays a schedule, of which `whole` is to be printed, so often, and refuses another request each time. A refusal is
-/// told once and changes nothing before it. Returns in how many plays there was one.
+// How many events are reported. A line of what was sent begins with no digit.
+fn count_of_events(lines: &[u8]) -> u64 {
+    let mut count = 0u64;
+    let mut last = b'\n';
+    for byte in lines {
+        if last == b'\n' && byte.is_ascii_digit() {
+            count = count.saturating_add(1);
+        }
+        last = *byte;
+    }
+    count
+}
+
+// The lines from the first one with `nomemory` are those of the event that the whole play goes on with. It is reported
+// by this word, or the play ends before it.
+fn compare(rt: &impl Abort, alloc: Global, printed: &[u8], whole: &[u8]) {
+    let before = lines_before(printed);
+    let at = count_of_events(before);
+    let event = format!(in alloc; "{at} ").expect(rt, "out of memory");
+    let lacked = format!(in alloc; "{at} nomemory\n").expect(rt, "out of memory");
+    let stopped = format!(in alloc; "stopped nomemory at {at}\n").expect(rt, "out of memory");
+    let told = printed.get(before.len()..).unwrap_or(b"");
+    assert!(rt; whole.starts_with(before));
+    let left = whole.get(before.len()..).unwrap_or(b"");
+    assert!(rt; left.is_empty() || left.starts_with(event.as_bytes()));
+    assert!(rt; told.starts_with(lacked.as_bytes()) || told == stopped.as_bytes());
+}
+
+// Plays a schedule, of which `whole` is to be printed, and refuses the request after so many. Returns whether the play
+// has that request.
+fn is_refused_in(rt: &impl Abort, alloc: Global, text: &[u8], whole: &[u8], granted: u64) -> bool {
+    let heap = Refusing::new(alloc, granted);
+    let mut printed = Vec::new(alloc);
+    let mut printer = Printer::new(&mut printed);
+    let mut told = Vec::new(alloc);
+    let mut diagnostics = Diagnostics::new("a.txt", &mut told);
+    let mut lines = text;
+    let status = play_text(&heap, &mut lines, &mut printer, &mut diagnostics);
+    assert!(rt; heap.held() == 0);
+    assert!(rt; (status == Status::Done) == told.is_empty());
+    assert!(rt; count_of_wants(&printed) == u64::from(heap.has_refused()));
+    if heap.has_refused() {
+        compare(rt, alloc, &printed, whole);
+    } else {
+        assert!(rt; printed.as_slice() == whole);
+    }
+    heap.has_refused()
+}
+
+/// Plays a schedule, of which `whole` is to be printed, and refuses another request each time, up to the play that
+/// makes no more. A refusal is told once, in the place of its event, and changes nothing before it. All memory is given
+/// back. Returns how many requests were refused.
 pub(crate) fn plays_with_a_refusal(
     rt: &impl Abort,
     alloc: Global,
     text: &[u8],
     whole: &[u8],
-    plays: u64,
 ) -> u64 {
-    let mut refused = 0u64;
-    for granted in 0..plays {
-        let heap = Refusing::new(alloc, granted);
-        let mut printed = Vec::new(alloc);
-        let mut printer = Printer::new(&mut printed);
-        let mut told = Vec::new(alloc);
-        let mut diagnostics = Diagnostics::new("a.txt", &mut told);
-        let mut lines = text;
-        let status = play_text(&heap, &mut lines, &mut printer, &mut diagnostics);
-        let lacks = u64::from(heap.has_refused());
-        assert!(rt; count_of_wants(&printed) == lacks);
-        assert!(rt; whole.starts_with(lines_before(&printed)));
-        assert!(rt; lacks == 1 || printed.as_slice() == whole);
-        assert!(rt; (status == Status::Done) == told.is_empty());
-        refused = refused.saturating_add(lacks);
+    for granted in 0..10_000u64 {
+        if !is_refused_in(rt, alloc, text, whole, granted) {
+            return granted;
+        }
     }
-    refused
+    panic!(rt; "requests are refused without end")
 }

@@ -1,12 +1,6 @@
 //! Sessions: each request for memory is refused in turn, a reading ends by a fault, and each call answers.
 use crate::refused_memory::plays_with_a_refusal;
-use at_adsp_end::Rooms;
-use at_ddp::{Datagrams, Pascal};
-use at_node::{Call, Deferring, Node, Report};
-use at_print::{Printer, write_event};
-use refusing::Refusing;
-use std::alloc::{Allocator, Global};
-use std::process::Abort;
+use crate::steps::{Case, Step, replay};
 
 // Node 5 reads the zone list, picks a zone, finds a name there, connects to it, and writes to node 7, which reads.
 const SESSION: &str = "net 10
@@ -69,86 +63,42 @@ fn each_request_that_is_refused_in_a_session_is_told_once_and_changes_nothing_be
     rt: HostRuntime,
 ) {
     let (text, whole) = (SESSION.as_bytes(), SESSION_PLAYED.as_bytes());
-    let refused = plays_with_a_refusal(&rt, rt.alloc(), text, whole, 200);
-    // Each request of the play was refused, and in the last of these plays none was.
-    assert!(rt; refused > 50 && refused < 200);
+    let refused = plays_with_a_refusal(&rt, rt.alloc(), text, whole);
+    assert!(rt; refused > 50);
 }
 
-/// What node 5 of network 10 is given, whose router is node 1: a call, or bytes that come.
-#[derive(Clone, Copy)]
-enum Step {
-    Zones,
-    Pick(&'static [u8]),
-    Find,
-    Finish,
-    Open(u64),
-    Bytes(&'static [u8]),
-}
-
-// The rooms of the ends of streams.
-const ROOMS: Rooms = Rooms {
-    receive: 64,
-    send: 64,
-};
-
-fn text(rt: &impl Abort, bytes: &[u8]) -> Pascal {
-    Pascal::new(bytes).expect(rt, "a string is too long")
-}
-
-fn call_of<A: Allocator>(rt: &impl Abort, step: Step) -> Option<Call<A>> {
-    match step {
-        Step::Zones => Some(Call::Zones),
-        Step::Pick(zone) => Some(Call::Pick {
-            zone: text(rt, zone),
-        }),
-        Step::Find => Some(Call::Find {
-            object: text(rt, b"="),
-            kind: text(rt, b"Stream"),
-            zone: None,
-        }),
-        Step::Finish => Some(Call::Finish { id: 0 }),
-        Step::Open(index) => Some(Call::Open { index }),
-        Step::Bytes(_) => None,
-    }
-}
-
-fn give<A: Allocator + Copy>(
-    rt: &impl Abort,
-    node: &mut Node<A>,
-    step: Step,
-    out: &mut Datagrams<A>,
-) -> Report<A> {
-    match step {
-        Step::Bytes(bytes) => node.receive(&mut Deferring, bytes, out),
-        _ => {
-            let call = call_of(rt, step).expect(rt, "no call");
-            node.call(&call, out)
-        }
-    }
-}
-
-// The list of two zones, and the reply with the name in Office.
+// What node 5 hears, whose router is node 1: the list of two zones, and the reply with the name in Office.
 const LIST: &[u8] =
     b"\0\x20\xCA\x71\0\x0A\0\x0A\x05\x01\x80\x06\x03\x90\0\0\0\x01\0\0\x02\x03Lab\x06Office";
 
 const REPLY: &[u8] =
     b"\0\x27\x30\x66\0\x0A\0\x0A\x05\x07\x02\x02\x02\x31\0\0\x0A\x07\x82\0\x04Chat\x06Stream\x06Office";
 
-static STEPS: [Step; 11] = [
-    Step::Pick(b"Office"),
-    Step::Zones,
-    Step::Bytes(LIST),
-    Step::Pick(b"Attic"),
-    Step::Pick(b"oFFICE"),
-    Step::Find,
-    Step::Bytes(REPLY),
-    Step::Open(0),
-    Step::Finish,
-    Step::Open(1),
-    Step::Open(0),
-];
+// What node 5 asks the router for: the zone list, and names. Then its request for a connection with what it found.
+const ASKED: &[u8] = b"\0\x15\x67\x11\0\x0A\0\x0A\x01\x05\x06\x80\x03\x40\x01\0\0\x08\0\0\x01";
 
-const REPORTED: &str = "0 refused 61
+const LOOKED_UP: &[u8] =
+    b"\0\x24\xB2\x4D\0\x0A\0\x0A\x01\x05\x02\x02\x02\x11\0\0\x0A\x05\x02\0\x01=\x06Stream\x06oFFICE";
+
+const REQUESTED: &[u8] =
+    b"\0\x22\x7D\xD4\0\x0A\0\x0A\x07\x05\x82\x82\x07\0\x01\0\0\0\0\0\0\0\0\0\x40\x81\x01\0\0\0\0\0\0\0";
+
+static CASE: Case = Case {
+    node: 5,
+    steps: &[
+        (Step::Pick(b"Office"), b""),
+        (Step::Zones, ASKED),
+        (Step::Bytes(LIST), b""),
+        (Step::Pick(b"Attic"), b""),
+        (Step::Pick(b"oFFICE"), b""),
+        (Step::Find, LOOKED_UP),
+        (Step::Bytes(REPLY), b""),
+        (Step::Open(0), b""),
+        (Step::Finish, b""),
+        (Step::Open(1), b""),
+        (Step::Open(0), REQUESTED),
+    ],
+    reported: "0 refused 61
 1 begun 0
 2 zones Lab Office
 3 refused 61
@@ -159,51 +109,15 @@ const REPORTED: &str = "0 refused 61
 8 found Chat:Stream@Office,7,130,0
 9 refused 62
 10 opening 1
-";
-
-// What the lookup asks the router, and the request for a connection with what it found.
-const ASKED: &[u8] =
-    b"\0\x24\xB2\x4D\0\x0A\0\x0A\x01\x05\x02\x02\x02\x11\0\0\x0A\x05\x02\0\x01=\x06Stream\x06oFFICE";
-
-const REQUESTED: &[u8] =
-    b"\0\x22\x7D\xD4\0\x0A\0\x0A\x07\x05\x82\x82\x07\0\x01\0\0\0\0\0\0\0\0\0\x40\x81\x01\0\0\0\0\0\0\0";
-
-// What is printed of a node that is given steps, each again if it lacked memory, and how often one did. What it sends
-// goes to the end of the list.
-fn told<A: Allocator + Copy>(
-    rt: &impl Abort,
-    text: &mut Vec<u8>,
-    node: &mut Node<A>,
-    steps: &[Step],
-    out: &mut Datagrams<A>,
-) -> u64 {
-    let mut printer = Printer::new(text);
-    let mut lacks = 0u64;
-    for (event, step) in (0u32..).zip(steps) {
-        let mut report = give(rt, node, *step, out);
-        if matches!(&report, Report::NoMemory) {
-            lacks = lacks.saturating_add(1);
-            report = give(rt, node, *step, out);
-        }
-        write_event(&mut printer, event, &report);
-    }
-    lacks
-}
+",
+};
 
 #[test]
 fn each_call_of_a_session_answers_and_can_be_played_again_after_it_lacked_memory(rt: HostRuntime) {
     let mut refused = 0u64;
     for granted in 0..50u64 {
-        let heap = Refusing::new(rt.alloc(), granted);
-        let mut node = Node::new(&heap, 10, 5, Some(1), None, None, None, ROOMS);
-        let mut out = Datagrams::new(&heap);
-        let mut text = Vec::new(rt.alloc());
-        let lacks = told(&rt, &mut text, &mut node, &STEPS, &mut out);
-        assert!(rt; text.as_slice() == REPORTED.as_bytes());
-        assert!(rt; lacks == u64::from(heap.has_refused()));
-        assert!(rt; out.len() == 3);
-        assert!(rt; (out.get(1), out.get(2)) == (ASKED, REQUESTED));
-        refused = refused.saturating_add(lacks);
+        let lacked = replay(&rt, rt.alloc(), &CASE, granted);
+        refused = refused.saturating_add(u64::from(lacked.is_some()));
     }
     // Each request was refused, and in the last of these plays none was.
     assert!(rt; refused > 10 && refused < 50);
@@ -211,23 +125,41 @@ fn each_call_of_a_session_answers_and_can_be_played_again_after_it_lacked_memory
 
 // A list is read. The next reading has a page, and then one without names that is not the last. The one after it ends
 // by a page with fewer names than it counts.
-static FAULTS: [Step; 11] = [
-    Step::Zones,
-    Step::Bytes(LIST),
-    Step::Zones,
-    Step::Bytes(b"\0\x1B\xA3\xA1\0\x0A\0\x0A\x05\x01\x80\x06\x03\x90\0\0\x01\0\0\0\x01\x05Attic"),
-    Step::Pick(b"Attic"),
-    Step::Bytes(b"\0\x15\xDE\x51\0\x0A\0\x0A\x05\x01\x80\x06\x03\x90\0\0\x02\0\0\0\0"),
-    Step::Pick(b"Attic"),
-    Step::Zones,
-    Step::Bytes(
-        b"\0\x1C\x70\x55\0\x0A\0\x0A\x05\x01\x80\x06\x03\x90\0\0\x03\x01\0\0\x02\x05Attic\x09",
-    ),
-    Step::Pick(b"Attic"),
-    Step::Pick(b"Office"),
-];
-
-const FAULTS_REPORTED: &str = "0 begun 0
+static FAULTS: Case = Case {
+    node: 5,
+    steps: &[
+        (Step::Zones, ASKED),
+        (Step::Bytes(LIST), b""),
+        (
+            Step::Zones,
+            b"\0\x15\x67\x31\0\x0A\0\x0A\x01\x05\x06\x80\x03\x40\x01\0\x01\x08\0\0\x01",
+        ),
+        (
+            Step::Bytes(
+                b"\0\x1B\xA3\xA1\0\x0A\0\x0A\x05\x01\x80\x06\x03\x90\0\0\x01\0\0\0\x01\x05Attic",
+            ),
+            b"\0\x15\x67\x53\0\x0A\0\x0A\x01\x05\x06\x80\x03\x40\x01\0\x02\x08\0\0\x02",
+        ),
+        (Step::Pick(b"Attic"), b""),
+        (
+            Step::Bytes(b"\0\x15\xDE\x51\0\x0A\0\x0A\x05\x01\x80\x06\x03\x90\0\0\x02\0\0\0\0"),
+            b"",
+        ),
+        (Step::Pick(b"Attic"), b""),
+        (
+            Step::Zones,
+            b"\0\x15\x67\x71\0\x0A\0\x0A\x01\x05\x06\x80\x03\x40\x01\0\x03\x08\0\0\x01",
+        ),
+        (
+            Step::Bytes(
+                b"\0\x1C\x70\x55\0\x0A\0\x0A\x05\x01\x80\x06\x03\x90\0\0\x03\x01\0\0\x02\x05Attic\x09",
+            ),
+            b"",
+        ),
+        (Step::Pick(b"Attic"), b""),
+        (Step::Pick(b"Office"), b""),
+    ],
+    reported: "0 begun 0
 1 zones Lab Office
 2 begun 1
 3 begun 2
@@ -238,14 +170,11 @@ const FAULTS_REPORTED: &str = "0 begun 0
 8 zonefault 31
 9 refused 61
 10 done
-";
+",
+};
 
 #[test]
 fn no_zone_is_picked_of_a_reading_that_ended_by_a_fault(rt: HostRuntime) {
-    let mut node = Node::new(rt.alloc(), 10, 5, Some(1), None, None, None, ROOMS);
-    let mut out = Datagrams::new(rt.alloc());
-    let mut text = Vec::new(rt.alloc());
-    let lacks = told(&rt, &mut text, &mut node, &FAULTS, &mut out);
-    assert!(rt; lacks == 0);
-    assert!(rt; text.as_slice() == FAULTS_REPORTED.as_bytes());
+    // So many requests are not made.
+    assert!(rt; replay(&rt, rt.alloc(), &FAULTS, 1_000).is_none());
 }

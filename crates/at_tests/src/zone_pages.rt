@@ -71,9 +71,8 @@ fn each_request_that_is_refused_in_a_reading_of_two_pages_is_told_once_and_chang
     push_line(&rt, &mut text, b"deliver 2 1\ndeliver 3 5", b"");
     // A case says what is printed of it.
     let whole = played(rt.alloc(), &text);
-    let refused = plays_with_a_refusal(&rt, rt.alloc(), &text, &whole, 100);
-    // Each request of the play was refused, and in the last of these plays none was.
-    assert!(rt; refused > 20 && refused < 100);
+    let refused = plays_with_a_refusal(&rt, rt.alloc(), &text, &whole);
+    assert!(rt; refused > 20);
 }
 
 #[test]

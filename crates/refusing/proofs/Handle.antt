@@ -1,4 +1,4 @@
--- What both walks say of the handle behind `&self`: its type, and where its two fields lie.
+-- What both walks say of the handle behind `&self`: its type, and where its three fields lie.
 use Rattle.refusing.proofs.Steps.{ℕ, ◌+◌, [], ◌∷◌, Bor, Al, α, Args, a_type, dnil, dcons, size, align, up, RefOf, bounded, param, Slot, plain}
 use Rattle.refusing.specs.contracts.Refusing as refusing
 
@@ -18,3 +18,6 @@ module _ (Z : Al) where
 
   abbrev pub refusal_at : Handle → ℕ × ℕ
   refusal_at h = (h.ref_ptr.0, h.ref_ptr.1 + up 8 (up (align (α Z)) 0 + size (α Z)))
+
+  abbrev pub held_at : Handle → ℕ × ℕ
+  held_at h = (h.ref_ptr.0, h.ref_ptr.1 + up 8 (up 8 (up (align (α Z)) 0 + size (α Z)) + 16))

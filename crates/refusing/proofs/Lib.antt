@@ -1,3 +1,4 @@
 mod Asked
+mod Counted
 mod Handle
 mod Steps

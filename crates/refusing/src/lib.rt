@@ -12,12 +12,15 @@ use std::cell::Cell;
 /// Allocating, growing and shrinking a block is one request each, and giving a block back is none. A granted request
 /// goes on to the inner allocator, which may still refuse it.
 ///
-/// It is proved that each block is allocated and given back rightly. Which request is refused is only tested, since no
-/// clause can say what a cell holds.
+/// It counts the bytes that it handed out and did not get back.
+///
+/// It is proved that each block is allocated and given back rightly. Which request is refused, and the count, are only
+/// tested, since no clause can say what a cell holds.
 #[derive(Drop)]
 pub struct Refusing<B: Allocator> {
     inner: B,
     refusal: Cell<Refusal>,
+    held: Cell<usize>,
 }
 
 // Which request is refused.
@@ -36,12 +39,18 @@ impl<B: Allocator> Refusing<B> {
         Refusing {
             inner,
             refusal: Cell::new(Refusal::After(granted)),
+            held: Cell::new(0),
         }
     }
 
     /// Whether a request was refused. A request that the inner allocator refused does not count.
     pub fn has_refused(&self) -> bool {
         matches!(self.refusal.get(), Refusal::Given)
+    }
+
+    /// How many bytes were handed out and are not given back.
+    pub fn held(&self) -> usize {
+        self.held.get()
     }
 }
 
@@ -60,6 +69,16 @@ fn is_refused(refusal: &Cell<Refusal>) -> bool {
     }
 }
 
+// Counts the bytes of a block that is handed out.
+fn count_taken(held: &Cell<usize>, size: usize) {
+    held.set(held.get().wrapping_add(size));
+}
+
+// Counts the bytes of a block that is given back. More than were handed out wrap, so that they show.
+fn count_given(held: &Cell<usize>, size: usize) {
+    held.set(held.get().wrapping_sub(size));
+}
+
 unsafe impl<B: Allocator> Allocator for Refusing<B> {
     ghost dealloc_token = { λ heap ty ptr. B.dealloc_token (inner_of heap) ty ptr };
 
@@ -67,10 +86,15 @@ unsafe impl<B: Allocator> Allocator for Refusing<B> {
         if is_refused(&self.refusal) {
             return Err(AllocError);
         }
-        self.inner.allocate(size, align)
+        let answer = self.inner.allocate(size, align);
+        if let Ok(_) = answer {
+            count_taken(&self.held, size);
+        }
+        answer
     }
 
     unsafe fn deallocate(&self, ptr: *mut u8, size: usize, align: usize) {
         self.inner.deallocate(ptr, size, align);
+        count_given(&self.held, size);
     }
 }

@@ -1,0 +1,160 @@
+//! A node that is given steps, each again if it lacked memory.
+use at_adsp_end::Rooms;
+use at_ddp::{Bytes, Datagrams, Listed, Pascal};
+use at_node::{Call, Deferring, Node, PacketCount, Report};
+use at_print::{Printer, write_event};
+use at_zip::Zones;
+use refusing::Refusing;
+use std::alloc::{Allocator, Global};
+use std::process::Abort;
+
+/// What a node is given: a call, or bytes that come.
+#[derive(Clone, Copy)]
+pub(crate) enum Step {
+    Zones,
+    Pick(&'static [u8]),
+    Find,
+    Finish,
+    Open(u64),
+    Register,
+    Ask,
+    Listen,
+    Bytes(&'static [u8]),
+}
+
+/// What a node of network 10 is given, and what is reported.
+pub(crate) struct Case {
+    /// Its number. Node 1 is the router.
+    pub(crate) node: u8,
+    /// Each step, and the datagram that the node sends then; no bytes if it sends none.
+    pub(crate) steps: &'static [(Step, &'static [u8])],
+    pub(crate) reported: &'static str,
+}
+
+// The rooms of the ends of streams.
+const ROOMS: Rooms = Rooms {
+    receive: 64,
+    send: 64,
+};
+
+fn text(rt: &impl Abort, bytes: &[u8]) -> Pascal {
+    Pascal::new(bytes).expect(rt, "a string is too long")
+}
+
+fn call_of<A: Allocator>(rt: &impl Abort, alloc: A, step: Step) -> Option<Call<A>> {
+    match step {
+        Step::Zones => Some(Call::Zones),
+        Step::Pick(zone) => Some(Call::Pick {
+            zone: text(rt, zone),
+        }),
+        Step::Find => Some(Call::Find {
+            object: text(rt, b"="),
+            kind: text(rt, b"Stream"),
+            zone: None,
+        }),
+        Step::Finish => Some(Call::Finish { id: 0 }),
+        Step::Open(index) => Some(Call::Open { index }),
+        Step::Register => Some(Call::Register {
+            object: text(rt, b"Chat"),
+            kind: text(rt, b"Stream"),
+            socket: 130,
+        }),
+        Step::Ask => Some(question(rt, alloc)),
+        Step::Listen => Some(Call::Listen { on: true }),
+        Step::Bytes(_) => None,
+    }
+}
+
+// Asks the service of node 7 for two packets.
+fn question<A: Allocator>(rt: &impl Abort, alloc: A) -> Call<A> {
+    Call::Ask {
+        node: 7,
+        socket: 129,
+        user: [0; 4],
+        data_: Bytes::from_vec(Vec::new(alloc)),
+        wanted: PacketCount::new(2).expect(rt, "no count"),
+        exactly_once: false,
+        retries: 0,
+    }
+}
+
+fn give<A: Allocator + Copy>(
+    rt: &impl Abort,
+    alloc: A,
+    node: &mut Node<A>,
+    step: Step,
+    out: &mut Datagrams<A>,
+) -> Report<A> {
+    match step {
+        Step::Bytes(bytes) => node.receive(&mut Deferring, bytes, out),
+        _ => {
+            let call = call_of(rt, alloc, step).expect(rt, "no call");
+            node.call(&call, out)
+        }
+    }
+}
+
+// Prints the reports of a node that is given steps, each again if it lacked memory. Returns which step did.
+fn told<A: Allocator + Copy>(
+    rt: &impl Abort,
+    alloc: A,
+    text: &mut Vec<u8>,
+    node: &mut Node<A>,
+    steps: &[(Step, &[u8])],
+) -> Option<u32> {
+    let mut printer = Printer::new(text);
+    let mut lacked = None;
+    for (event, (step, sent)) in (0u32..).zip(steps) {
+        // A list without room, so that what is sent needs memory.
+        let mut out = Datagrams::new(alloc);
+        let mut report = give(rt, alloc, node, *step, &mut out);
+        if matches!(&report, Report::NoMemory) {
+            assert!(rt; lacked.is_none() && out.is_empty());
+            lacked = Some(event);
+            report = give(rt, alloc, node, *step, &mut out);
+        }
+        assert!(rt; sent_in(rt, &out) == *sent);
+        write_event(&mut printer, event, &report);
+    }
+    lacked
+}
+
+// The datagram of a list that has at most one.
+fn sent_in<'a, A: Allocator>(rt: &impl Abort, list: &'a Datagrams<A>) -> &'a [u8] {
+    if list.is_empty() {
+        return b"";
+    }
+    assert!(rt; list.len() == 1);
+    list.get(0)
+}
+
+// Node 1 is the router, of one request for memory: its table.
+fn node_of<A: Allocator + Copy>(rt: &impl Abort, alloc: A, number: u8) -> Node<A> {
+    if number != 1 {
+        return Node::new(alloc, 10, number, Some(1), None, None, None, ROOMS);
+    }
+    let names = Vec::from_array(alloc, [text(rt, b"Lab"), text(rt, b"Office")]);
+    let zones = Zones::new(Listed::from_vec(names.expect(rt, "out of memory")));
+    let neighbours = Some(Listed::from_vec(Vec::new(alloc)));
+    let zone = Some(text(rt, b"Lab"));
+    Node::new(alloc, 10, 1, Some(1), zone, zones.ok(), neighbours, ROOMS)
+}
+
+/// Gives a node its steps and compares. The request for memory after so many is refused, and the step that lacked it is
+/// given again. All memory is given back. Returns which step lacked it.
+pub(crate) fn replay(rt: &impl Abort, alloc: Global, case: &Case, granted: u64) -> Option<u32> {
+    let heap = Refusing::new(alloc, granted);
+    let lacked = replay_on(rt, alloc, &heap, case);
+    assert!(rt; lacked.is_some() == heap.has_refused());
+    assert!(rt; heap.held() == 0);
+    lacked
+}
+
+fn replay_on(rt: &impl Abort, alloc: Global, heap: &Refusing<Global>, case: &Case) -> Option<u32> {
+    let mut node = node_of(rt, heap, case.node);
+    let mut text = Vec::new(alloc);
+    let lacked = told(rt, heap, &mut text, &mut node, case.steps);
+    assert!(rt; text.as_slice() == case.reported.as_bytes());
+    assert!(rt; heap.held() > 0);
+    lacked
+}
