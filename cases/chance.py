@@ -1,0 +1,242 @@
+"""Random lawful setups, and random events for a world of which is known what came of it so far.
+
+Most arguments are sensible: numbers that were drawn, names that stand, datagrams that were sent. Some are silly. What
+is forged is made of bytes that were sent: cut, changed, spliced, turned round, with its checksum right, wrong or 0.
+"""
+
+import collections
+
+import cable
+
+NAMES = ("Printer", "Chat", "chat", "=")
+TEXTS = ("Lab", "*", "%", "%00%FF", "%C5", "A" * 32)
+ZONES = ("Lab", "Office", "LAB", "%FF", "Z" * 32)
+WORDS = (0, 1, 2, 0x40, 0x7FFF, 0x8000, 0xFFFE, 0xFFFF)
+SOCKETS = (2, 6, 128, 129, 130)
+
+# How often each call and timer comes, in parts.
+CALLS = dict(
+    ask=6, answer=8, zones=4, pick=2, setzones=1, find=4, claim=2, finish=4, open=3, register=4, unregister=1, listen=4
+)
+CALLS.update(connect=4, write=6, read=4, reset=1, close=1)
+TIMERS = dict(retry=3, release=3, lookup=1, resend=3, probe=2)
+KINDS = {("call", kind): weight for kind, weight in CALLS.items()}
+KINDS.update({("timer", kind): weight for kind, weight in TIMERS.items()})
+
+# The report that a node has to have made before it, to be sensible.
+NEEDS = dict(answer="asked", pick="zones", finish="looking", open="found", unregister="done")
+NEEDS.update(retry="begun", lookup="looking", release="asked")
+NEEDS.update(dict.fromkeys(("write", "read", "reset", "close", "resend", "probe"), "opened"))
+
+
+class Setup:
+    """A lawful setup, mostly with a router."""
+
+    def __init__(self, random):
+        self.net = random.choice((10, 10, 1, 65535))
+        self.nodes = sorted(random.sample((1, 2, 5, 7, 9, 100, 253, 254), random.randint(1, 5)))
+        self.router = random.choice(self.nodes) if random.random() < 0.8 else None
+        self.lines = [f"net {self.net}", *(self.node_line(random, node) for node in self.nodes)]
+        if self.router and random.random() < 0.9:
+            count = random.choice((0, 1, 2, 5, 40, 150))
+            self.lines.append(" ".join(["zones", *random.choices(ZONES, k=count)]))
+
+    def node_line(self, random, node):
+        line = f"node {node}"
+        if self.router:
+            line += " router" * (node == self.router) + f" zone {random.choice(ZONES)}"
+        if random.random() < 0.8:
+            largest = random.choice((1, 4, 64, 64, 1000, 65535))
+            line += f" rooms {random.randint(1, largest)} {random.randint(1, largest)}"
+        return line
+
+
+class Chance:
+    """Draws events that follow what came of a play."""
+
+    def __init__(self, random, setup, came):
+        self.random, self.setup = random, setup
+        self.sent = [bytes.fromhex(line.split()[1]) for sent in came.sent for line in sent]
+        self.drawn, self.fresh = collections.defaultdict(list), set(range(len(self.sent)))
+        for event, report in zip(came.events, came.reports):
+            words = event.split(" ", 3)
+            if words[0] == "deliver":
+                self.fresh.discard(int(words.pop(1)))
+            word, _, rest = report.partition(" ")
+            self.drawn[word, int(words[1])].append(rest)
+
+    def is_so(self, share):
+        return self.random.random() < share
+
+    def one(self, *choices):
+        return self.random.choice(choices)
+
+    def node(self):
+        return self.one(*self.setup.nodes) if self.is_so(0.99) else self.random.randint(1, 254)
+
+    def recent(self, found):
+        """One of the last of a list, or any."""
+        return self.random.choice(found[-6:] if self.is_so(0.7) else found)
+
+    def known(self, node, last, *words):
+        """The first number of a report of a node that begins with one of these words, or any number."""
+        found = [rest.split()[0] for word in words for rest in self.drawn[word, node]]
+        return int(self.recent(found)) if found and self.is_so(0.9) else self.random.randint(0, last)
+
+    def data(self):
+        """Some bytes: mostly few."""
+        length = self.one(0, 1, 2, 5, 20, 100) if self.is_so(0.95) else self.one(571, 572, 573, 578, 579)
+        return self.random.randbytes(length)
+
+    def text(self):
+        return self.one(*NAMES) if self.is_so(0.85) else self.one(*TEXTS)
+
+    def event(self):
+        """An event: a datagram that was sent, one that was not, a call or a timer."""
+        if self.is_so(0.55):
+            return self.delivery() if self.sent and self.is_so(0.5) else self.forgery()
+        first, kind = self.random.choices(list(KINDS), KINDS.values())[0]
+        ready = [node for node in self.setup.nodes if self.drawn[NEEDS.get(kind), node]]
+        if kind in NEEDS and not ready and self.is_so(0.8):
+            return self.event()
+        node = self.one(*ready) if ready and self.is_so(0.9) else self.node()
+        if kind == "setzones" and self.setup.router:
+            node = self.setup.router
+        return f"{first} {node} {kind} {getattr(self, kind)(node)}".rstrip()
+
+    def delivery(self):
+        fresh = sorted(self.fresh) if self.fresh and self.is_so(0.7) else range(len(self.sent))
+        which = self.recent(fresh) if self.is_so(0.99) else self.random.randrange(2 * len(self.sent))
+        self.fresh.discard(which)
+        node = self.sent[which][8] if which < len(self.sent) else 0
+        return f"deliver {which} {node if node in range(1, 255) and self.is_so(0.98) else self.node()}"
+
+    # The words after each call and timer.
+
+    def ask(self, _):
+        address = f"{self.node()} {self.one(129, 129, 129, 6, 128, 200)}"
+        data = cable.word_of(self.data())
+        return f"{address} {self.user()} {data} {self.one(1, 2, 8)} {self.one('alo', 'xo')} {self.one(0, 1, 255)}"
+
+    def user(self):
+        return self.one("00000000", "08000001", "DEADBEEF")
+
+    def answer(self, node):
+        packets = [f"{self.user()}:{cable.word_of(self.data())}" for _ in range(self.one(1, 1, 2, 8, 0, 9))]
+        return " ".join([self.key(node), *packets])
+
+    def key(self, node):
+        """Who asked, and under which number. What was forged may come of a node or a socket that no line names."""
+        asked = [rest.split()[:3] for rest in self.drawn["asked", node]]
+        asked = [words for words in asked if not {"0", "255"} & set(words[:2])]
+        if asked and self.is_so(0.9):
+            return " ".join(self.recent(asked))
+        return f"{self.node()} 128 {self.one(0, 1, 65535)}"
+
+    def zones(self, _):
+        return ""
+
+    def pick(self, _):
+        return self.one(*ZONES)
+
+    def setzones(self, _):
+        return " ".join(self.random.choices((*ZONES, "%"), k=self.one(0, 1, 3, 30)))
+
+    def find(self, _):
+        return " ".join(self.text() for _ in range(self.one(2, 3)))
+
+    def claim(self, _):
+        return f"{self.text()} {self.text()} {self.one(*SOCKETS)}"
+
+    register = claim
+
+    def unregister(self, _):
+        return f"{self.text()} {self.text()}"
+
+    def finish(self, node):
+        return self.known(node, 255, "looking")
+
+    def open(self, _):
+        return self.one(0, 0, 0, 1, 300)
+
+    def listen(self, _):
+        return self.one("on", "on", "off")
+
+    def connect(self, _):
+        return f"{self.node()} {self.one(130, 130, 130, 129)}"
+
+    def end(self, node):
+        return self.known(node, 65535, "opening", "made")
+
+    def write(self, node):
+        items = [self.one("end", cable.word_of(self.data())) for _ in range(self.one(0, 1, 2, 5))]
+        return " ".join([str(self.end(node)), *items])
+
+    def read(self, node):
+        return f"{self.end(node)} {self.one(0, 1, 10, 65535)}"
+
+    reset = close = resend = probe = end
+
+    def retry(self, node):
+        return self.known(node, 65535, "begun")
+
+    def release(self, node):
+        return f"{self.one(6, 129, 129)} {self.key(node)}"
+
+    lookup = finish
+
+    # Forged bytes.
+
+    def forgery(self):
+        body = self.recent(self.sent) if self.sent and self.is_so(0.8) else self.made()
+        for _ in range(self.one(0, 1, 1, 1, 2, 3)):
+            body = self.one(self.cut, self.bent, self.placed, self.spliced, self.turned, self.tailed)(body)
+        body = self.one(self.mended, self.mended, cable.summed, cable.unsummed, bytes)(body)
+        node = body[8] if len(body) > 8 and body[8] in self.setup.nodes and self.is_so(0.95) else self.node()
+        return f"forge {node} {cable.word_of(body)}"
+
+    def made(self):
+        """A datagram that nobody sent: a header, and the packet of a socket with most of its bytes by chance."""
+        socket = self.one(*SOCKETS)
+        kind = {2: 2, 130: 7}.get(socket, 3)
+        net = self.setup.net.to_bytes(2, "big")
+        control = self.one(0x21, 0x31) if kind == 2 else self.one(0x40, 0x60, 0x80, 0x90, 0xC0)
+        packet = bytes([control, self.one(0, 1, 255)]) + self.random.randbytes(self.one(0, 6, 11, 19))
+        header = net + net + bytes([self.node(), self.node(), socket, self.one(*SOCKETS), kind])
+        return self.mended(bytes(4) + header + packet)
+
+    def mended(self, body):
+        """The datagram with its length and its checksum right."""
+        if len(body) < 13:
+            return body
+        return cable.summed(min(len(body), 599).to_bytes(2, "big") + body[2:])
+
+    def cut(self, body):
+        """The first bytes, mostly with the whole header."""
+        return body[: max(self.random.randint(0, len(body)), self.one(0, 13, 13, 13))]
+
+    def over(self, body, place, other):
+        """The bytes with others in the place of those from there on."""
+        return body[:place] + other[: max(len(body) - place, 0)] + body[place + len(other) :]
+
+    def bent(self, body):
+        """One byte is another."""
+        byte = self.one(0, 1, 0x7F, 0x80, 0xFF, self.random.randrange(256))
+        return self.over(body, self.random.randrange(len(body) + 1), bytes([byte]))
+
+    def placed(self, body):
+        """Two bytes of the packet are those of a number at an edge."""
+        return self.over(body, self.random.randrange(13, max(len(body), 14)), self.one(*WORDS).to_bytes(2, "big"))
+
+    def spliced(self, body):
+        """Some bytes are those of another datagram at the same place."""
+        other = self.recent(self.sent) if self.sent else self.made()
+        first = self.random.randrange(len(other))
+        return self.over(body, first, other[first : self.random.randint(first, len(other))])
+
+    def turned(self, body):
+        """Who sends is who receives."""
+        return body[:4] + body[6:8] + body[4:6] + body[9:10] + body[8:9] + body[11:12] + body[10:11] + body[12:]
+
+    def tailed(self, body):
+        return body + self.random.randbytes(self.one(1, 2, 13, 100))
