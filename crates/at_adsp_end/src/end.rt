@@ -1,3 +1,4 @@
+//! One end of a stream: its state, how it is made, and what is asked of it. What changes it stands in the other files.
 ghost use Rattle.std.specs.Prelude.{◌≡◌, ◌&&◌, ◌||◌, not, IfOk, is_none};
 ghost use Rattle.at_ddp.specs.Address.{same_address};
 ghost use Rattle.at_adsp_end.specs.Calls.{is_last};

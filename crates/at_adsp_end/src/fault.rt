@@ -1,3 +1,4 @@
+//! Why a call of an end is refused, with the number and the sentence of each refusal.
 ghost use Rattle.std.specs.Prelude.{◌≡◌};
 ghost use Rattle.at_adsp_end.specs.declared.fault.StreamFault.TheVariants.{NoMemory};
 

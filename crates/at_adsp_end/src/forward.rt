@@ -1,3 +1,5 @@
+//! Where a forward reset leads to. It is found before the end changes, since memory is asked for first.
+
 /// Where a forward reset leads to.
 #[derive(Clone, Copy)]
 pub enum Forward {

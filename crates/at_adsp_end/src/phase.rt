@@ -1,3 +1,5 @@
+//! How far an end is, from asking for its connection to being closed.
+
 /// How far an end is.
 #[derive(Clone, Copy)]
 pub enum Phase {

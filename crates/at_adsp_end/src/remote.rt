@@ -1,3 +1,4 @@
+//! The end at the other side, which an address and an identifier name together.
 use at_ddp::Address;
 
 /// The end at the other side of a connection.

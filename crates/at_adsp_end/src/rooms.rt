@@ -1,3 +1,5 @@
+//! How much the two queues of an end hold.
+
 /// How many items the queues of an end hold, 1 to 65,535 each.
 #[derive(Clone, Copy)]
 pub struct Rooms {

@@ -1,3 +1,5 @@
+//! What came of a segment, a tick or a closing at an end, as the layers above report it.
+
 /// What came of a segment, of a tick, or of the closing of an end. Ends are named by their connection identifiers.
 #[derive(Clone, Copy, Debug, PartialEq, Eq)]
 pub enum Step {

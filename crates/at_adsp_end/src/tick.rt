@@ -1,3 +1,5 @@
+//! The two timers of an end.
+
 /// Which timer of an end fired.
 #[derive(Clone, Copy, PartialEq, Eq)]
 pub enum Tick {

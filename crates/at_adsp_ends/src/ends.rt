@@ -1,3 +1,4 @@
+//! The table of a node's ends: which of them an identifier or a remote names, and what is asked of the table.
 ghost use Rattle.std.specs.Prelude.{◌≡◌, ◌≢◌, ◌≤◌, ◌<◌, ◌↔◌, find, length, is_some};
 ghost use Rattle.std.specs.Prelude.{IfOk, IfErr, IfSome, OnErr, IsOk, None, Err};
 ghost use Rattle.std.specs.List.{AllByRecursion, position_from, list_any};

@@ -1,3 +1,4 @@
+//! Which end a segment is for. What opens a connection stands in `openings.rt`; all else is the end's own.
 ghost use Rattle.std.specs.Prelude.{◌≡◌, IsOk};
 ghost use Rattle.at_adsp_frame.specs.Segments.{content};
 ghost use Rattle.at_adsp_end.specs.Positions.{wire};

@@ -1,3 +1,4 @@
+//! Which of two sequence numbers comes first, where numbers go round.
 ghost use Rattle.std.specs.Prelude.{IsTrue, ◌↔◌};
 ghost use Rattle.at_adsp_frame.specs.Order.{IsBefore};
 

@@ -1,3 +1,4 @@
+//! The sending of one segment by an outbox. It is spelled in an array, so that only the outbox needs memory.
 ghost use Rattle.std.specs.Prelude.{◌≡◌, ℕ, ◌+◌, ◌≤◌, ◌∷◌, ◌++◌, [], length, OnOk, OnErr, IsOk};
 ghost use Rattle.arrayvec.specs.ArrayVec.{array_vec_len};
 ghost use Rattle.at_ddp.specs.Outbox.{Sends, HasRoomFor};

@@ -1,3 +1,4 @@
+//! Why a packet is refused, or a call of a requester or a responder. Both sides have these refusals in common.
 ghost use Rattle.std.specs.Prelude.{◌≡◌};
 ghost use Rattle.at_atp_frame.specs.declared.fault.AtpFault.TheVariants.{NoMemory};
 

@@ -1,3 +1,4 @@
+//! Who drew the transaction number that a packet carries: the side that asks, whichever way the packet goes.
 ghost use Rattle.std.specs.Prelude.{◌≡◌};
 ghost use Rattle.at_atp_frame.specs.Frames.{content, owner};
 

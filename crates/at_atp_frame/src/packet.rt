@@ -1,3 +1,4 @@
+//! One packet of an answer, which owns its data. A `Frame` only borrows what it carries.
 ghost use Rattle.std.specs.Prelude.{◌≡◌, IfOk};
 ghost use Rattle.at_atp_frame.specs.Packets.{AreWords};
 

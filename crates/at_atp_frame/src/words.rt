@@ -1,3 +1,4 @@
+//! What proofs take from the types of bytes and of packets: each byte is under 256.
 ghost use Rattle.std.specs.List.{AllByRecursion};
 ghost use Rattle.at_ddp.specs.Datagram.{AreBytes};
 ghost use Rattle.at_atp_frame.specs.Packets.{AreWords};

@@ -1,3 +1,4 @@
+//! The number that the next transaction gets. Numbers that are open are passed over.
 ghost use Rattle.std.specs.Prelude.{◌≡◌, ◌+◌, ◌<◌, ◌++◌, length, IsSome};
 ghost use Rattle.at_atp_requester.specs.Requests.{has_number, draw_from, next_number};
 

@@ -1,3 +1,4 @@
+//! The packets that came for a transaction, each in its place, and which are still wanted.
 ghost use Rattle.std.specs.Prelude.{◌≡◌, ◌+◌, ◌≤◌, ◌<◌, ◌^◌, ◌++◌, length, is_some, nat_lt, slice_set, Some, IfOk};
 ghost use Rattle.std.specs.Prelude.{vec_capacity, vec_len};
 ghost use Rattle.at_atp_requester.specs.Answers.{Arrival, is_wanted, bitmap_of, whole, with_part, gathered};

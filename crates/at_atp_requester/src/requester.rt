@@ -1,3 +1,4 @@
+//! The requester of a socket: its open transactions and its calls. `turning.rt` has the turn from one to the next.
 ghost use Rattle.std.specs.Prelude.{◌≡◌, ◌≢◌, ◌↔◌, ◌+◌, ◌≤◌, ◌<◌, ◌∷◌, [], length, remove, if◌then◌else◌, IfOk, IfErr};
 ghost use Rattle.std.specs.Prelude.{IfSome, OnErr, IsOk, IsErrOf, true, Some, None};
 ghost use Rattle.std.specs.List.{position_from};

@@ -1,3 +1,4 @@
+//! What came of a packet, or of a retry, at the side that asks.
 use at_atp_frame::Packet;
 use at_ddp::Listed;
 use std::alloc::{Allocator, Global};

@@ -1,3 +1,4 @@
+//! One open transaction: what it asked, what came for it, and what is still wanted.
 ghost use Rattle.std.specs.Prelude.{◌≡◌, ◌+◌, ◌-◌, ◌≤◌, ◌<◌, ◌∷◌, ◌&&◌, Bool, not, nat_lt, if◌then◌else◌, ℕ, List};
 ghost use Rattle.std.specs.Prelude.{length, is_some, Some, None, IfOk, OnOk, OnErr, IsOk, true, false, [], replicate};
 ghost use Rattle.at_ddp.specs.Outbox.{Sends};

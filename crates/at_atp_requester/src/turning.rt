@@ -1,3 +1,4 @@
+//! The turn from one transaction to the next, for a reader that asks for page after page: both happen, or neither.
 ghost use Rattle.std.specs.Prelude.{◌≡◌, ◌<◌, ◌∷◌, [], true, false, length, remove, is_some, Some, IfSome, IfOk, OnErr};
 ghost use Rattle.std.specs.Prelude.{IsSome};
 ghost use Rattle.at_ddp.specs.Outbox.{Sends};

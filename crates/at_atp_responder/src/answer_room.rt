@@ -1,3 +1,4 @@
+//! Memory for the copy of an answer. It is taken as the request comes, so that the answer is kept without asking.
 ghost use Rattle.std.specs.Prelude.{◌≡◌, ◌≤◌, length, true, vec_len, vec_capacity};
 ghost use Rattle.at_atp_responder.specs.Records.{fit};
 

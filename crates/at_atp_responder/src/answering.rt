@@ -1,3 +1,4 @@
+//! Answers to requests that wait, and room for an answer.
 ghost use Rattle.std.specs.Prelude.{◌≡◌, ◌≤◌, ℕ, [], true, length, find, IfOk, IfErr, IfSome, OnOk, OnErr};
 ghost use Rattle.std.specs.Prelude.{IsOk, None, Err};
 ghost use Rattle.at_ddp.specs.Outbox.{Sends, HasRoomFor};

@@ -1,3 +1,4 @@
+//! What came of a packet at the side that answers, and what names a request there.
 use at_ddp::Address;
 
 /// What names a request: the socket that asked, and the transaction number.

@@ -1,3 +1,4 @@
+//! One request that came, and what became of it: it waits, it is answered, or its answer arrived.
 ghost use Rattle.std.specs.Prelude.{◌≡◌, ℕ, ◌+◌, ◌≤◌, ◌∷◌, [], length, true, false, if◌then◌else◌, IfOk, OnErr, IsOk};
 ghost use Rattle.std.specs.Prelude.{None};
 ghost use Rattle.at_ddp.specs.Outbox.{Sends, HasRoomFor};

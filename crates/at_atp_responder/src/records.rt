@@ -1,3 +1,4 @@
+//! The list of a responder's records: which of them a packet is for, and when one is added or removed.
 ghost use Rattle.std.specs.Prelude.{◌≡◌, ◌≢◌, ◌↔◌, ◌<◌, ◌≤◌, ◌∷◌, slice_get, slice_set, [], ◌++◌, length, true, find};
 ghost use Rattle.std.specs.Prelude.{IfOk, IfErr, IfSome, OnErr, IsOk, IsErrOf, Some, None};
 ghost use Rattle.std.specs.List.{position_from};

@@ -1,3 +1,4 @@
+//! The responder of a socket: what packets and timers do to its records. Answers stand in `answering.rt`.
 ghost use Rattle.std.specs.Prelude.{◌≡◌, ◌≢◌, ◌↔◌, [], true, find, is_some, IfOk, IfErr, IfSome, OnOk, OnErr, IsOk};
 ghost use Rattle.std.specs.Prelude.{IsErrOf, None, Err};
 ghost use Rattle.std.specs.List.{list_any};

@@ -1,3 +1,4 @@
+//! What goes into a node and what comes out of it: calls, timers and reports.
 ghost use Rattle.at_event.specs.Calls.{IsCall};
 
 use crate::packet_count::PacketCount;
@@ -46,8 +47,7 @@ pub enum Call<A: Allocator = Global> {
     Pick {
         zone: Pascal,
     },
-    /// Looks names up: `=` stands for any object or type, and `*` for any zone. Without a zone it asks for the one that
-    /// was picked, or for any if none was.
+    /// Looks names up: `=` is any object or type, `*` is any zone. Without a zone it asks for the picked one, or any.
     Find {
         object: Pascal,
         /// The type of the object.

@@ -1,3 +1,4 @@
+//! Why a node itself refuses a call, with the number and the sentence of each refusal.
 ghost use Rattle.std.specs.Prelude.{◌≡◌};
 ghost use Rattle.at_event.specs.Faults.{number_of};
 

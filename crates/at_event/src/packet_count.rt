@@ -1,3 +1,4 @@
+//! How many packets a request asks for. It is a type of its own, so that no call asks for none or for nine.
 ghost use Rattle.std.specs.Prelude.{◌≡◌, ◌≤◌, ◌&&◌, nat_le, if◌then◌else◌, Some, None};
 
 use std::marker::Model;

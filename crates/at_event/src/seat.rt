@@ -1,3 +1,4 @@
+//! Where a node stands on its cable, and which datagrams are for it.
 ghost use Rattle.std.specs.Prelude.{◌≡◌, ◌||◌};
 ghost use Rattle.at_event.specs.Seats.{at_socket, is_for_all, is_mine};
 

@@ -1,3 +1,4 @@
+//! The program behind a node's service socket, as a trait, and a service that leaves each answer for later.
 ghost use Rattle.std.specs.Prelude.{◌≡◌, ℕ, List, IfOk, OnErr};
 ghost use Rattle.at_atp_responder.specs.declared.reception.Key.{Key as Asker};
 ghost use Rattle.at_event.specs.Services.{IsReply};

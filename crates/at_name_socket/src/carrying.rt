@@ -1,3 +1,4 @@
+//! Whose identifier a packet of names carries. By it a packet is told that comes too late.
 ghost use Rattle.std.specs.Prelude.{◌≡◌, ℕ, IfSome, Some, length, map};
 ghost use Rattle.at_name_socket.specs.Carrying.{Carries, owner_by};
 ghost use Rattle.at_nbp.specs.Packets.{HasCount};

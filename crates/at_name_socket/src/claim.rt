@@ -1,3 +1,4 @@
+//! A claim: a lookup after which its name is registered, if nobody has it.
 use at_ddp::Pascal;
 
 /// A name that is to be registered if its lookup finds none like it.

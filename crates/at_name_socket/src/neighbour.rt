@@ -1,3 +1,4 @@
+//! A node of the cable, as the router knows it. The router relays a lookup in the zone of the node that asks.
 use at_ddp::Pascal;
 
 /// A node of the cable, as the router knows it.

@@ -1,3 +1,4 @@
+//! The socket of a node for names, and the calls that only one of its tables has a part in.
 ghost use Rattle.std.specs.Prelude.{◌≡◌, ◌≢◌, ◌≤◌, ◌↔◌, ◌∷◌, [], length, find, is_some, IfOk, IfErr, IfSome, OnOk};
 ghost use Rattle.std.specs.Prelude.{OnErr, IsOk, IsSome, IsErrOf, Some, None, Err};
 ghost use Rattle.at_ddp.specs.Outbox.{Sends};

@@ -1,3 +1,4 @@
+//! What came of a packet at the socket, or of a lookup that was finished.
 use at_ddp::Listed;
 use at_nbp::Find;
 use std::alloc::{Allocator, Global};

@@ -1,3 +1,4 @@
+//! Why a packet, or a call of a table of names or of lookups, is refused, with the number of each refusal.
 ghost use Rattle.std.specs.Prelude.{◌≡◌};
 ghost use Rattle.at_nbp.specs.declared.fault.NbpFault.TheVariants.{NoMemory};
 

@@ -1,3 +1,4 @@
+//! A name that a lookup found. Copies of it need no memory.
 ghost use Rattle.std.specs.Prelude.{◌≡◌};
 
 use crate::name::Name;

@@ -1,3 +1,4 @@
+//! A node's open lookups. One of them, with what it found, stands in `search.rt`.
 ghost use Rattle.std.specs.Prelude.{◌≡◌, ◌≢◌, ◌≤◌, ◌<◌, ◌+◌, ◌↔◌, ◌∷◌, [], All, length, map, find, slice_get, true};
 ghost use Rattle.std.specs.Prelude.{Some, None, Err, IfOk, IfErr, IfSome, OnOk, OnErr, IsOk, IsSome, IsErrOf};
 ghost use Rattle.std.specs.List.{list_any, position_from};

@@ -1,3 +1,4 @@
+//! Names and patterns, and which names a pattern matches.
 ghost use Rattle.std.specs.Prelude.{◌≡◌, ◌||◌};
 ghost use Rattle.at_nbp.specs.Names.{is_any_text, is_any_zone, is_match, same_text};
 

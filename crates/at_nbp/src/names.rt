@@ -1,3 +1,4 @@
+//! The table of a node's own names. Its answers to lookups stand in `replies.rt`.
 ghost use Rattle.std.specs.Prelude.{◌≡◌, ◌||◌, ◌<◌, ◌↔◌, [], ◌∷◌, length, find, is_some, option_map};
 ghost use Rattle.std.specs.Prelude.{IfSome, IfErr, OnOk, OnErr, IsOk, IsSome, Some, None, Err};
 ghost use Rattle.std.specs.List.{list_any, position_from};

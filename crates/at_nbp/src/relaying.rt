@@ -1,3 +1,4 @@
+//! What a router makes of a request to look a name up.
 ghost use Rattle.std.specs.Prelude.{◌≡◌, ◌∷◌, [], All, length, map, OnOk, OnErr, if◌then◌else◌};
 ghost use Rattle.at_ddp.specs.Outbox.{Sends};
 ghost use Rattle.at_nbp.specs.Packets.{packet_content, spelling};

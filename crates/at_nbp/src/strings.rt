@@ -1,3 +1,4 @@
+//! Strings after their length byte, as tuples have them.
 ghost use Rattle.std.specs.Prelude.{◌≡◌, ◌+◌, ◌≤◌, ◌++◌, length, IfOk, IfErr, vec_capacity, vec_len};
 ghost use Rattle.at_nbp.specs.Tuples.{IsString, string_spelling};
 ghost use Rattle.at_nbp.specs.Fault.{IsBadString};

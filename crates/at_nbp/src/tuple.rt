@@ -1,3 +1,4 @@
+//! One tuple of a packet: a name, and the address that has it or asks for it.
 ghost use Rattle.std.specs.Prelude.{◌≡◌, ◌+◌, ◌≤◌, ◌++◌, ◌↔◌, IsTrue, length, IfOk, IfErr, vec_capacity, vec_len};
 ghost use Rattle.at_nbp.specs.Replies.{pattern_of};
 ghost use Rattle.at_nbp.specs.Tuples.{IsTuple, FitsStrings, content, tuple_spelling};

@@ -1,3 +1,4 @@
+//! The part of a node that speaks ATP and ZIP. Each of its three sockets has a file of its own.
 ghost use Rattle.std.specs.Prelude.{◌≡◌, Option, None};
 ghost use Rattle.at_ddp.specs.Datagram.{content};
 ghost use Rattle.at_node.specs.AtpHearing.{HearsAtp};

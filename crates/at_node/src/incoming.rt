@@ -1,3 +1,4 @@
+//! A packet of ATP that came to a node, with who sent it and where the node stands.
 ghost use Rattle.std.specs.Prelude.{◌≡◌, IfOk, IfErr, IsOkAnd};
 ghost use Rattle.at_ddp.specs.Datagram.{content as written};
 ghost use Rattle.at_atp_frame.specs.Fault.{IsFirstFault};

@@ -1,3 +1,4 @@
+//! What the zone socket and the service's socket do alike, each with its own responder.
 ghost use Rattle.std.specs.Prelude.{◌≡◌, ◌≢◌, ◌↔◌, ◌++◌, map, length, find, None, Err, true, IfOk, IfErr, IfSome, OnOk};
 ghost use Rattle.std.specs.Prelude.{OnErr, IsOk, IsErrOf, false};
 ghost use Rattle.at_atp_frame.specs.Frames.{content, spelled_all};

@@ -1,3 +1,4 @@
+//! The socket of the node's service: a new request is delivered to it, and answered at once or by a later call.
 ghost use Rattle.std.specs.Prelude.{◌≡◌, ◌++◌, [], map, find, None, Some, IfOk, OnOk, OnErr};
 ghost use Rattle.at_ddp.specs.Datagram.{content as written};
 ghost use Rattle.at_ddp.specs.Outbox.{Sends};

@@ -1,3 +1,4 @@
+//! A reading of the zone list that is open. What a page does to it stands in `page_taking.rt`.
 ghost use Rattle.std.specs.Prelude.{◌≡◌, ◌+◌, ◌&&◌, ℕ, [], length, nat_lt, not, None, Some};
 ghost use Rattle.std.specs.Prelude.{IfSome, IsSome, true, false};
 ghost use Rattle.at_atp_frame.specs.Frames.{content};

@@ -1,3 +1,4 @@
+//! The zone socket, which only a router serves: it answers requests with pages of its table.
 ghost use Rattle.std.specs.Prelude.{◌≡◌, ◌≤◌, ◌++◌, ◌∷◌, List, [], map, length, find, option_map, None, Some, false};
 ghost use Rattle.std.specs.Prelude.{IfOk, OnOk, OnErr};
 ghost use Rattle.at_ddp.specs.Datagram.{content as written};

@@ -1,3 +1,4 @@
+//! What `show` prints of an NBP packet.
 ghost use Rattle.std.specs.Prelude.{◌≡◌, ◌↔◌, List, ℕ};
 ghost use Rattle.at_play.specs.Shown.{IsNames};
 ghost use Rattle.at_play.specs.Texts.{NamesText};

@@ -1,3 +1,4 @@
+//! What `show` prints of an ADSP segment.
 ghost use Rattle.std.specs.Prelude.{◌≡◌, ◌↔◌, List, ℕ};
 ghost use Rattle.at_play.specs.Shown.{IsSegment};
 ghost use Rattle.at_play.specs.Texts.{SegmentText};

@@ -1,3 +1,4 @@
+//! What a node keeps of what its user was told, for the calls that refer to it.
 ghost use Rattle.std.specs.Prelude.{◌≡◌, List, ℕ, Some, IfErr, OnOk, OnErr, true, false};
 ghost use Rattle.at_nbp.specs.declared.find.Find.{Find as Found};
 ghost use Rattle.at_nbp.specs.Names.{same_text as is_same_text};

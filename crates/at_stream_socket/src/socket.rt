@@ -1,3 +1,4 @@
+//! The socket of a node for streams, with its table of ends, and how steps and refusals of ends are reported.
 ghost use Rattle.std.specs.Prelude.{◌≡◌, Some, false, option_map};
 ghost use Rattle.std.specs.List.{AllByRecursion, list_any};
 ghost use Rattle.at_adsp_end.specs.Ends.{FitsRooms};

@@ -1,3 +1,4 @@
+//! The nodes of a setup before anything happened, each with what it knows of the others.
 ghost use Rattle.std.specs.Prelude.{◌≡◌, IfOk, Some, None, map, if◌then◌else◌};
 ghost use Rattle.at_adsp_ends.specs.Tables.{AreRooms};
 ghost use Rattle.at_world.specs.Safety.{AreWithin};

@@ -1,3 +1,4 @@
+//! The play of a whole list of events, up to the first that is refused.
 ghost use Rattle.std.specs.Prelude.{◌≡◌, true, [], IfErr, ◌≤◌, length};
 ghost use Rattle.at_world.specs.ExactlyOnce.{IsOnce};
 ghost use Rattle.at_world.specs.Machine.{IsRun};

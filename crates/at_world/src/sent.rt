@@ -1,3 +1,4 @@
+//! The datagrams that were sent, numbered from 0, each with the event that sent it.
 ghost use Rattle.std.specs.Prelude.{◌≡◌, ◌<◌, ◌≤◌, ◌-◌, ◌++◌, length, take, replicate, slice_get, Some, [], OnOk};
 ghost use Rattle.std.specs.Prelude.{OnErr};
 ghost use Rattle.at_world.specs.Sents.{SentDatagram, stamped};

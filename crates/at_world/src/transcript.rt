@@ -1,3 +1,4 @@
+//! What a play gives: the reports and the datagrams, of all events or up to the one that was refused.
 use crate::refusal::Fault;
 use crate::sent::SentList;
 use at_ddp::Listed;

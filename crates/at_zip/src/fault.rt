@@ -1,3 +1,4 @@
+//! Why a request, a page or a table is refused, with the number and the sentence of each refusal.
 ghost use Rattle.std.specs.Prelude.{◌≡◌};
 ghost use Rattle.at_zip.specs.declared.fault.ZipFault.TheVariants.{NoMemory};
 

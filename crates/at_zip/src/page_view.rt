@@ -1,3 +1,4 @@
+//! A page that was read. Its names stay in the data that came.
 ghost use Rattle.std.specs.Prelude.{◌≡◌, ◌+◌, ◌≤◌, ◌++◌, length, IfOk, IfErr, vec_capacity};
 ghost use Rattle.at_zip.specs.Fault.{IsFirstFault};
 ghost use Rattle.at_zip.specs.Page.{Page, Spells, IsLawful};

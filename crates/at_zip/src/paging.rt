@@ -1,3 +1,4 @@
+//! The page of a table from a place on: as many names as fit one packet.
 ghost use Rattle.std.specs.Prelude.{◌≡◌, ◌+◌, ◌≤◌, ◌++◌, length, IfOk, IfErr, vec_capacity};
 ghost use Rattle.at_zip.specs.Names.{name_spelling, spelled};
 ghost use Rattle.at_zip.specs.Page.{page_of, page_user, page_data, longest_run};

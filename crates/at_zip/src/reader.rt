@@ -1,3 +1,4 @@
+//! The reading of a table page by page, up to the last one, which gives all names.
 ghost use Rattle.std.specs.Prelude.{◌≡◌, ◌↔◌, ◌+◌, ◌<◌, ◌⊎◌, ◌++◌, [], length, nat_lt, OnOk, IfErr, IfOk, IsErrOf};
 ghost use Rattle.at_zip.specs.Reading.{HasRoomFor, follows, kept, place_after};
 

@@ -1,3 +1,4 @@
+//! Requests for a page, which stand in the user bytes of an ATP request.
 ghost use Rattle.std.specs.Prelude.{◌≡◌, ◌≤◌, ℕ, length, IfOk, IfErr};
 ghost use Rattle.at_zip.specs.Request.{RequestSpells, request_user};
 

@@ -1,3 +1,4 @@
+//! A router's zone table, and which lists of names are one.
 ghost use Rattle.std.specs.Prelude.{◌≡◌, ◌≢◌, ◌≤◌, length, None, Some, IfOk, IfErr, OnOk, IsErrOf};
 ghost use Rattle.std.specs.List.{list_all};
 ghost use Rattle.at_zip.specs.Zones.{IsTable, is_name, table_fault};

@@ -1,4 +1,4 @@
-// An allocator for tests, which refuses one request.
+//! An allocator for tests, which refuses one request.
 #![tactic(auto)]
 
 ghost use Rattle.std.specs.Prelude.{◌≡◌};
