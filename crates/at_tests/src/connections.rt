@@ -1,9 +1,8 @@
-//! Streams of which one request for memory is refused.
-use crate::refused_memory::plays_with_a_refusal;
+//! Streams, and what is printed of them.
 
 // Node 5 writes to node 7, which has room for four items. The second segment comes first, and the room is full until
 // node 7 reads. Then the stream is reset while a byte is on its way, written to again, and closed.
-const STREAM: &str = "net 10
+pub(crate) const STREAM: &str = "net 10
 node 5
 node 7 rooms 4 64
 call 7 listen on
@@ -34,7 +33,7 @@ call 7 close 1
 call 5 close 1
 ";
 
-const STREAM_PLAYED: &str = "0 done
+pub(crate) const STREAM_PLAYED: &str = "0 done
 1 opening 1
 sent 0 7 00227DD4000A000A0705828207000100000000000000000040810100000000000000
 2 made 1
@@ -82,7 +81,7 @@ sent 18 7 001ADA84000A000A070582820700010000000600000000004085
 ";
 
 // Node 7 turns a request away, and takes the next one, whose steps come again. Then node 5 hears nothing any more.
-const OPENING: &str = "net 10
+pub(crate) const OPENING: &str = "net 10
 node 5
 node 7
 call 5 connect 7 130
@@ -105,7 +104,7 @@ call 5 close 2
 timer 7 resend 1
 ";
 
-const OPENING_PLAYED: &str = "0 opening 1
+pub(crate) const OPENING_PLAYED: &str = "0 opening 1
 sent 0 7 00227DD4000A000A0705828207000100000000000000000040810100000000000000
 1 again
 sent 1 7 00227DD4000A000A0705828207000100000000000000000040810100000000000000
@@ -136,21 +135,3 @@ sent 11 7 001AE4FA000A000A0705828207000200000000000000000040C0
 16 freed 2
 17 idle
 ";
-
-#[test]
-fn each_request_that_is_refused_in_a_stream_is_told_once_and_changes_nothing_before(
-    rt: HostRuntime,
-) {
-    let (text, whole) = (STREAM.as_bytes(), STREAM_PLAYED.as_bytes());
-    let refused = plays_with_a_refusal(&rt, rt.alloc(), text, whole);
-    assert!(rt; refused > 50);
-}
-
-#[test]
-fn each_request_that_is_refused_in_an_opening_is_told_once_and_changes_nothing_before(
-    rt: HostRuntime,
-) {
-    let (text, whole) = (OPENING.as_bytes(), OPENING_PLAYED.as_bytes());
-    let refused = plays_with_a_refusal(&rt, rt.alloc(), text, whole);
-    assert!(rt; refused > 30);
-}

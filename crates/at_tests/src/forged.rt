@@ -1,9 +1,8 @@
 //! A session among packets that no node sent.
-use crate::refused_memory::plays_with_a_refusal;
 
 // Datagrams that are cut are refused. What node 9 asks and tells is believed, though it is not on the cable, and so are
 // a page that names the router and a segment that names node 5.
-const FORGED: &str = "net 10
+pub(crate) const FORGED: &str = "net 10
 node 1 router zone Lab
 node 5 zone Lab
 node 7 zone Office
@@ -33,7 +32,7 @@ forge 7 001C0000000A000A0705828207000100000000000000000040606E6F
 call 7 read 1 10
 ";
 
-const FORGED_PLAYED: &str = "0 done
+pub(crate) const FORGED_PLAYED: &str = "0 done
 1 done
 2 refused 1
 3 refused 3
@@ -67,12 +66,3 @@ sent 8 7 00227FF4000A000A0705828207000100000000000000000040820100000100000000
 sent 9 5 001AD49A000A000A050782820700010000000000000003003D80
 22 read 6E6F end
 ";
-
-#[test]
-fn each_request_that_is_refused_among_forged_packets_is_told_once_and_changes_nothing_before(
-    rt: HostRuntime,
-) {
-    let (text, whole) = (FORGED.as_bytes(), FORGED_PLAYED.as_bytes());
-    let refused = plays_with_a_refusal(&rt, rt.alloc(), text, whole);
-    assert!(rt; refused > 50);
-}

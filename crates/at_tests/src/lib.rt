@@ -1,6 +1,5 @@
 //! Tests of nodes, worlds and plays through the public functions of their crates. They are of what no clause says and
-//! no case shows: a read, a write or a request for memory that fails, memory that is not given back, and bytes that no
-//! schedule delivers.
+//! no case shows: a read, a write or a request for memory that fails, and memory that is not given back.
 #![tactic(auto)]
 
 #[cfg(test)]
@@ -14,8 +13,6 @@ mod forged;
 #[cfg(test)]
 mod lookups;
 #[cfg(test)]
-mod nodes;
-#[cfg(test)]
 mod reads;
 #[cfg(test)]
 mod receptions;
@@ -27,8 +24,6 @@ mod refused_memory;
 mod session;
 #[cfg(test)]
 mod steps;
-#[cfg(test)]
-mod streams;
 #[cfg(test)]
 mod transcripts;
 #[cfg(test)]

@@ -1,8 +1,7 @@
-//! Lookups of which one request for memory is refused.
-use crate::refused_memory::plays_with_a_refusal;
+//! A lookup, and what is printed of it.
 
 // Node 5 finds a name that node 7 took away after it had told it.
-const FOUND: &str = "net 10
+pub(crate) const FOUND: &str = "net 10
 node 1 router zone Lab
 node 5 zone Lab
 node 7 zone Lab
@@ -15,7 +14,7 @@ deliver 2 5
 call 5 finish 0
 ";
 
-const FOUND_PLAYED: &str = "0 done
+pub(crate) const FOUND_PLAYED: &str = "0 done
 1 looking 0
 sent 0 1 0024528B000A000A01050202021100000A050200013D0B6C61736572777269746572012A
 2 relayed
@@ -26,12 +25,3 @@ sent 2 5 002C5C46000A000A05070202023100000A078200075072696E7465720B4C61736572577
 5 finds 1
 6 found Printer:LaserWriter@Lab,7,130,0
 ";
-
-#[test]
-fn each_request_that_is_refused_in_a_lookup_is_told_once_and_changes_nothing_before(
-    rt: HostRuntime,
-) {
-    let (text, whole) = (FOUND.as_bytes(), FOUND_PLAYED.as_bytes());
-    let refused = plays_with_a_refusal(&rt, rt.alloc(), text, whole);
-    assert!(rt; refused > 20);
-}

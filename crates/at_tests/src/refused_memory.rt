@@ -1,4 +1,9 @@
 //! Plays of which one request for memory is refused, each in turn.
+use crate::connections::{OPENING, OPENING_PLAYED, STREAM, STREAM_PLAYED};
+use crate::forged::{FORGED, FORGED_PLAYED};
+use crate::lookups::{FOUND, FOUND_PLAYED};
+use crate::session::{SESSION, SESSION_PLAYED};
+use crate::zone_pages::{PAGES, PAGES_PLAYED};
 use at_play::{Diagnostics, Printer, Status, play_text};
 use refusing::Refusing;
 use std::alloc::Global;
@@ -86,19 +91,32 @@ fn is_refused_in(rt: &impl Abort, alloc: Global, text: &[u8], whole: &[u8], gran
     heap.has_refused()
 }
 
-/// Plays a schedule, of which `whole` is to be printed, and refuses another request each time, up to the play that
-/// makes no more. A refusal is told once, in the place of its event, and changes nothing before it. All memory is given
-/// back. Returns how many requests were refused.
-pub(crate) fn plays_with_a_refusal(
-    rt: &impl Abort,
-    alloc: Global,
-    text: &[u8],
-    whole: &[u8],
-) -> u64 {
+// Schedules, what is printed of each, and how many requests for memory it makes at least.
+static PLAYS: [(&str, &str, u64); 6] = [
+    (FOUND, FOUND_PLAYED, 20),
+    (PAGES, PAGES_PLAYED, 20),
+    (SESSION, SESSION_PLAYED, 50),
+    (STREAM, STREAM_PLAYED, 50),
+    (OPENING, OPENING_PLAYED, 30),
+    (FORGED, FORGED_PLAYED, 50),
+];
+
+// Plays a schedule, of which `whole` is to be printed, and refuses another request each time, up to the play that makes
+// no more. Returns how many requests were refused.
+fn refused_in(rt: &impl Abort, alloc: Global, text: &[u8], whole: &[u8]) -> u64 {
     for granted in 0..10_000u64 {
         if !is_refused_in(rt, alloc, text, whole, granted) {
             return granted;
         }
     }
     panic!(rt; "requests are refused without end")
+}
+
+// A refusal is told once, in the place of its event, and changes nothing before it. All memory is given back.
+#[test]
+fn each_request_that_is_refused_in_a_play_is_told_once_and_changes_nothing_before(rt: HostRuntime) {
+    for (text, whole, least) in PLAYS.iter() {
+        let refused = refused_in(&rt, rt.alloc(), text.as_bytes(), whole.as_bytes());
+        assert!(rt; refused > *least);
+    }
 }

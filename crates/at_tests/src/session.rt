@@ -1,9 +1,8 @@
-//! Sessions: each request for memory is refused in turn, a reading ends by a fault, and each call answers.
-use crate::refused_memory::plays_with_a_refusal;
+//! A session, and what is printed of it; and one of whose calls each lacks memory in turn.
 use crate::steps::{Case, Step, replay};
 
 // Node 5 reads the zone list, picks a zone, finds a name there, connects to it, and writes to node 7, which reads.
-const SESSION: &str = "net 10
+pub(crate) const SESSION: &str = "net 10
 node 1 router zone Lab
 node 5 zone Lab
 node 7 zone Office
@@ -28,7 +27,7 @@ deliver 8 7
 call 7 read 1 10
 ";
 
-const SESSION_PLAYED: &str = "0 done
+pub(crate) const SESSION_PLAYED: &str = "0 done
 1 done
 2 begun 0
 sent 0 1 00156711000A000A01050680034001000008000001
@@ -57,15 +56,6 @@ sent 8 7 001C535D000A000A0705828207000100000000000000000040606869
 sent 9 5 001AD49A000A000A050782820700010000000000000003003D80
 17 read 6869 end
 ";
-
-#[test]
-fn each_request_that_is_refused_in_a_session_is_told_once_and_changes_nothing_before(
-    rt: HostRuntime,
-) {
-    let (text, whole) = (SESSION.as_bytes(), SESSION_PLAYED.as_bytes());
-    let refused = plays_with_a_refusal(&rt, rt.alloc(), text, whole);
-    assert!(rt; refused > 50);
-}
 
 // What node 5 hears, whose router is node 1: the list of two zones, and the reply with the name in Office.
 const LIST: &[u8] =
@@ -121,60 +111,4 @@ fn each_call_of_a_session_answers_and_can_be_played_again_after_it_lacked_memory
     }
     // Each request was refused, and in the last of these plays none was.
     assert!(rt; refused > 10 && refused < 50);
-}
-
-// A list is read. The next reading has a page, and then one without names that is not the last. The one after it ends
-// by a page with fewer names than it counts.
-static FAULTS: Case = Case {
-    node: 5,
-    steps: &[
-        (Step::Zones, ASKED),
-        (Step::Bytes(LIST), b""),
-        (
-            Step::Zones,
-            b"\0\x15\x67\x31\0\x0A\0\x0A\x01\x05\x06\x80\x03\x40\x01\0\x01\x08\0\0\x01",
-        ),
-        (
-            Step::Bytes(
-                b"\0\x1B\xA3\xA1\0\x0A\0\x0A\x05\x01\x80\x06\x03\x90\0\0\x01\0\0\0\x01\x05Attic",
-            ),
-            b"\0\x15\x67\x53\0\x0A\0\x0A\x01\x05\x06\x80\x03\x40\x01\0\x02\x08\0\0\x02",
-        ),
-        (Step::Pick(b"Attic"), b""),
-        (
-            Step::Bytes(b"\0\x15\xDE\x51\0\x0A\0\x0A\x05\x01\x80\x06\x03\x90\0\0\x02\0\0\0\0"),
-            b"",
-        ),
-        (Step::Pick(b"Attic"), b""),
-        (
-            Step::Zones,
-            b"\0\x15\x67\x71\0\x0A\0\x0A\x01\x05\x06\x80\x03\x40\x01\0\x03\x08\0\0\x01",
-        ),
-        (
-            Step::Bytes(
-                b"\0\x1C\x70\x55\0\x0A\0\x0A\x05\x01\x80\x06\x03\x90\0\0\x03\x01\0\0\x02\x05Attic\x09",
-            ),
-            b"",
-        ),
-        (Step::Pick(b"Attic"), b""),
-        (Step::Pick(b"Office"), b""),
-    ],
-    reported: "0 begun 0
-1 zones Lab Office
-2 begun 1
-3 begun 2
-4 refused 61
-5 zonefault 33
-6 refused 61
-7 begun 3
-8 zonefault 31
-9 refused 61
-10 done
-",
-};
-
-#[test]
-fn no_zone_is_picked_of_a_reading_that_ended_by_a_fault(rt: HostRuntime) {
-    // So many requests are not made.
-    assert!(rt; replay(&rt, rt.alloc(), &FAULTS, 1_000).is_none());
 }

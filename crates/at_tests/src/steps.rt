@@ -1,7 +1,7 @@
 //! A node that is given steps, each again if it lacked memory.
 use at_adsp_end::Rooms;
 use at_ddp::{Bytes, Datagrams, Listed, Pascal};
-use at_node::{Call, Deferring, Node, PacketCount, Report};
+use at_node::{Call, Deferring, Node, PacketCount, Report, Seat, Settings};
 use at_print::{Printer, write_event};
 use at_zip::Zones;
 use refusing::Refusing;
@@ -130,14 +130,27 @@ fn sent_in<'a, A: Allocator>(rt: &impl Abort, list: &'a Datagrams<A>) -> &'a [u8
 
 // Node 1 is the router, of one request for memory: its table.
 fn node_of<A: Allocator + Copy>(rt: &impl Abort, alloc: A, number: u8) -> Node<A> {
+    let seat = Seat {
+        net: 10,
+        number,
+        router: Some(1),
+    };
+    let mut settings = Settings {
+        seat,
+        zone: None,
+        zones: None,
+        neighbours: None,
+        rooms: ROOMS,
+    };
     if number != 1 {
-        return Node::new(alloc, 10, number, Some(1), None, None, None, ROOMS);
+        return Node::new(alloc, settings);
     }
     let names = Vec::from_array(alloc, [text(rt, b"Lab"), text(rt, b"Office")]);
     let zones = Zones::new(Listed::from_vec(names.expect(rt, "out of memory")));
-    let neighbours = Some(Listed::from_vec(Vec::new(alloc)));
-    let zone = Some(text(rt, b"Lab"));
-    Node::new(alloc, 10, 1, Some(1), zone, zones.ok(), neighbours, ROOMS)
+    settings.zone = Some(text(rt, b"Lab"));
+    settings.zones = zones.ok();
+    settings.neighbours = Some(Listed::from_vec(Vec::new(alloc)));
+    Node::new(alloc, settings)
 }
 
 /// Gives a node its steps and compares. The request for memory after so many is refused, and the step that lacked it is
