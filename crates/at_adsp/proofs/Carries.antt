@@ -1,5 +1,6 @@
 -- What segments carry of all that a writer did, and that an end that sends keeps to it.
-use Rattle.std.proofs.Common.{◌≡◌, ℕ, ◌+◌, ◌≤◌, Bool, true, false, cond, List, [], ◌∷◌, ◌++◌, length, map, Option, Some, None, refl, sym, ap, subst, ◌∙◌, append_assoc, arith}
+use Rattle.std.proofs.Common.{◌≡◌, ℕ, ◌+◌, ◌≤◌, Bool, true, false, cond, List, [], ◌∷◌, ◌++◌, length, map, Option, Some}
+use Rattle.std.proofs.Common.{None, refl, sym, ap, subst, ◌∙◌, append_assoc, arith}
 use Rattle.std.specs.Prelude.{nat_le, IfSome}
 use Rattle.std.specs.List.{AllByRecursion}
 use Rattle.std.proofs.lemmas.Bool.{true≢false, false≢true, leb-true}
@@ -8,7 +9,8 @@ use Rattle.at_adsp_frame.specs.Segments.{Content, Part, Data, Reset}
 use Rattle.at_adsp_end.specs.Cuts.{Piece, items_in, items_of, numbered, pieces}
 use Rattle.at_adsp_end.specs.Ends.{EndState, Sender, is_closed}
 use Rattle.at_adsp_end.specs.Positions.{whole}
-use Rattle.at_adsp_end.specs.Sending.{acknowledged, acks, at_most, going, hearing, repeated, resetting_now, sending, shut}
+use Rattle.at_adsp_end.specs.Sending.{acknowledged, acks, at_most, going, hearing, repeated, resetting_now, sending}
+use Rattle.at_adsp_end.specs.Sending.{shut}
 use Rattle.at_adsp_end.specs.declared.item.Item.{Item}
 use Rattle.at_adsp_end.specs.declared.phase.Phase.{Phase}
 use Rattle.at_adsp.specs.Reading.{Written, Put, Reset as reset_here}
@@ -36,7 +38,8 @@ abbrev pub Carries : ℕ → List Log → Content → Type 0
 Carries id l s = (s.source ≡ id) × CarriesPart l s.first s.body
 
 pub part_grows : (l k : List Log) (first : ℕ) (part : Part) → CarriesPart l first part → CarriesPart (l ++ k) first part
-part_grows l k first (Data end bytes) h = subst (λ w. IsSlice (items_in end bytes) w first) (sym (went_both l k)) (slice_grows (items_in end bytes) (went_of l) (went_of k) first h)
+part_grows l k first (Data end bytes) h = subst (λ w. IsSlice (items_in end bytes) w first) (sym (went_both l k))
+    (slice_grows (items_in end bytes) (went_of l) (went_of k) first h)
 part_grows l k first Reset h = record {
   before = h.before;
   dropped = h.dropped;
@@ -46,8 +49,10 @@ part_grows l k first Reset h = record {
 }
 part_grows l k first other h = h
 
-all_grow : (id : ℕ) (l k : List Log) (out : List Content) → AllByRecursion (Carries id l) out → AllByRecursion (Carries id (l ++ k)) out
-all_grow id l k out h = all_implied (Carries id l) (Carries id (l ++ k)) out (λ s c. (c.0, part_grows l k s.first s.body c.1)) h
+all_grow : (id : ℕ) (l k : List Log) (out : List Content) → AllByRecursion (Carries id l) out
+    → AllByRecursion (Carries id (l ++ k)) out
+all_grow id l k out h = all_implied (Carries id l) (Carries id (l ++ k)) out
+    (λ s c. (c.0, part_grows l k s.first s.body c.1)) h
 
 -- ---- what an end does
 
@@ -68,11 +73,13 @@ pub record Goes (w : List Written) (l : List Log) (f : EndState) (out : List Con
   pub writer : Writer w log f.phase f.sender
   pub carries : AllByRecursion (Carries f.id log) out
 
-pub stays : (w : List Written) (l : List Log) (f : EndState) (out : List Content) → Writer w l f.phase f.sender → AllByRecursion (Carries f.id l) out → Goes w l f out
+pub stays : (w : List Written) (l : List Log) (f : EndState) (out : List Content) → Writer w l f.phase f.sender
+    → AllByRecursion (Carries f.id l) out → Goes w l f out
 stays w l f out h c = record { log = l; more = []; is = sym (nothing_more l); writer = h; carries = c }
 
 -- the end goes on
-pub then_goes : (v w : List Written) (l : List Log) (f g : EndState) (out more : List Content) → Goes v l f out → g.id ≡ f.id → ((k : List Log) → Writer v k f.phase f.sender → Goes w k g more) → Goes w l g (out ++ more)
+pub then_goes : (v w : List Written) (l : List Log) (f g : EndState) (out more : List Content) → Goes v l f out → g.id
+    ≡ f.id → ((k : List Log) → Writer v k f.phase f.sender → Goes w k g more) → Goes w l g (out ++ more)
 then_goes v w l f g out more h same on =
     let x = on h.log h.writer in
     record {
@@ -82,11 +89,14 @@ then_goes v w l f g out more h same on =
       writer = x.writer;
       carries =
           all_both (Carries g.id x.log) out more
-          (subst (λ i. AllByRecursion (Carries i x.log) out) (sym same) (subst (λ k. AllByRecursion (Carries f.id k) out) (sym x.is) (all_grow f.id h.log x.more out h.carries))) x.carries;
+          (subst (λ i. AllByRecursion (Carries i x.log) out) (sym same)
+          (subst (λ k. AllByRecursion (Carries f.id k) out) (sym x.is) (all_grow f.id h.log x.more out h.carries)))
+          x.carries;
     }
 
 -- the end changes, and sends no more
-pub so_goes : (w : List Written) (l : List Log) (f g : EndState) (out : List Content) → Goes w l f out → g.id ≡ f.id → ((k : List Log) → Writer w k f.phase f.sender → Writer w k g.phase g.sender) → Goes w l g out
+pub so_goes : (w : List Written) (l : List Log) (f g : EndState) (out : List Content) → Goes w l f out → g.id ≡ f.id
+    → ((k : List Log) → Writer w k f.phase f.sender → Writer w k g.phase g.sender) → Goes w l g out
 so_goes w l f g out h same on = record {
   log = h.log;
   more = h.more;
@@ -97,23 +107,32 @@ so_goes w l f g out h same on = record {
 
 -- ---- data
 
-numbered_carry : (e : EndState) (l : List Log) (first : ℕ) (ps : List Piece) → AreSlices (went_of l) first ps → AllByRecursion (Carries e.id l) (numbered whole e first ps)
+numbered_carry : (e : EndState) (l : List Log) (first : ℕ) (ps : List Piece) → AreSlices (went_of l) first ps
+    → AllByRecursion (Carries e.id l) (numbered whole e first ps)
 numbered_carry e l first [] h = tt
 numbered_carry e l first (p ∷ ps) h = ((refl, h.0), numbered_carry e l (first + length (items_of p)) ps h.1)
 
-cut_carry : (e : EndState) (l : List Log) (first : ℕ) (xs : List Item) → IsSlice xs (went_of l) first → AllByRecursion (Carries e.id l) (numbered whole e first (pieces [] xs))
-cut_carry e l first xs h = numbered_carry e l first (pieces [] xs) (are_slices (pieces [] xs) (went_of l) first (subst (λ ys. IsSlice ys (went_of l) first) (sym (pieces_whole [] xs)) h))
+cut_carry : (e : EndState) (l : List Log) (first : ℕ) (xs : List Item) → IsSlice xs (went_of l) first
+    → AllByRecursion (Carries e.id l) (numbered whole e first (pieces [] xs))
+cut_carry e l first xs h =
+    numbered_carry e l first (pieces [] xs)
+    (are_slices (pieces [] xs) (went_of l) first
+    (subst (λ ys. IsSlice ys (went_of l) first) (sym (pieces_whole [] xs)) h))
 
-pub sending_goes : (w : List Written) (l : List Log) (e : EndState) → Writes w l e.sender → Goes w l (sending whole e).after (sending whole e).sent
+pub sending_goes : (w : List Written) (l : List Log) (e : EndState) → Writes w l e.sender
+    → Goes w l (sending whole e).after (sending whole e).sent
 sending_goes w l e h = record {
   log = l ++ map Went (going e.sender);
   more = map Went (going e.sender);
   is = refl;
-  writer = writer_of w (l ++ map Went (going e.sender)) e.phase (sending whole e).after.sender (sending_keeps w l e.sender h);
-  carries = cut_carry e (l ++ map Went (going e.sender)) (e.sender.front + length e.sender.unacknowledged) (going e.sender) (sent_slice w l e.sender h);
+  writer = writer_of w (l ++ map Went (going e.sender)) e.phase (sending whole e).after.sender
+      (sending_keeps w l e.sender h);
+  carries = cut_carry e (l ++ map Went (going e.sender)) (e.sender.front + length e.sender.unacknowledged)
+      (going e.sender) (sent_slice w l e.sender h);
 }
 
-pub repeated_carry : (w : List Written) (l : List Log) (e : EndState) → Writes w l e.sender → AllByRecursion (Carries e.id l) (repeated whole e)
+pub repeated_carry : (w : List Written) (l : List Log) (e : EndState) → Writes w l e.sender
+    → AllByRecursion (Carries e.id l) (repeated whole e)
 repeated_carry w l e h = cut_carry e l e.sender.front e.sender.unacknowledged (repeated_slice w l e.sender h)
 
 -- ---- acknowledgements
@@ -129,33 +148,53 @@ at_most_within n (Some k) = go (nat_le k n) refl
 pub acks_within : (s : Sender) (next : ℕ) → IfSome (acks whole s next) (λ k. k ≤ length s.unacknowledged)
 acks_within s next = at_most_within (length s.unacknowledged) (whole.ahead s.front next)
 
-pub hearing_goes : (w : List Written) (l : List Log) (e : EndState) (window : ℕ) (acks : Option ℕ) → IfSome acks (λ k. k ≤ length e.sender.unacknowledged) → Writes w l e.sender →
+pub hearing_goes : (w : List Written) (l : List Log) (e : EndState) (window : ℕ) (acks : Option ℕ)
+    → IfSome acks (λ k. k ≤ length e.sender.unacknowledged) → Writes w l e.sender →
     Goes w l (hearing whole e window acks).after (hearing whole e window acks).sent
 hearing_goes w l e window None within h = stays w l (record e { ticks = 0 }) [] (writer_of w l e.phase e.sender h) tt
 hearing_goes w l e window (Some k) within h =
-    sending_goes w l (record e { sender = acknowledged whole k window e.sender; ticks = 0 }) (acknowledged_keeps w l e.sender k window within h)
+    sending_goes w l (record e { sender = acknowledged whole k window e.sender; ticks = 0 })
+    (acknowledged_keeps w l e.sender k window within h)
 
 -- ---- an end that is closed
 
-pub shuts : (w : List Written) (l : List Log) (p : Phase) (s : Sender) (e : EndState) → Writer w l p s → Writer w l (shut whole e).phase (shut whole e).sender
+pub shuts : (w : List Written) (l : List Log) (p : Phase) (s : Sender) (e : EndState) → Writer w l p s
+    → Writer w l (shut whole e).phase (shut whole e).sender
 shuts w l p s e h = record { rest = h.rest; starts = h.starts; writes = λ open_. absurd (true≢false open_) }
 
 -- ---- resets
 
-numbers_so_far : (w : List Written) (l : List Log) (s : Sender) → Writes w l s → length (went_of l) ≡ s.front + length s.unacknowledged
-numbers_so_far w l s h = let a = ap length h.is_numbered in let b = length_both h.gone s.unacknowledged in let c = h.at_front in omega (arith, a, b, c)
+numbers_so_far : (w : List Written) (l : List Log) (s : Sender) → Writes w l s → length (went_of l)
+    ≡ s.front + length s.unacknowledged
+numbers_so_far w l s h = let a = ap length h.is_numbered in let b = length_both h.gone s.unacknowledged in
+    let c = h.at_front in omega (arith, a, b, c)
 
-pub resetting_goes : (w : List Written) (l : List Log) (e : EndState) → Writes w l e.sender → Goes (w ++ reset_here ∷ []) l (resetting_now whole e).after (resetting_now whole e).sent
+pub resetting_goes : (w : List Written) (l : List Log) (e : EndState) → Writes w l e.sender
+    → Goes (w ++ reset_here ∷ []) l (resetting_now whole e).after (resetting_now whole e).sent
 resetting_goes w l e h = record {
   log = l ++ Cut e.sender.waiting ∷ [];
   more = Cut e.sender.waiting ∷ [];
   is = refl;
-  writer = writer_of (w ++ reset_here ∷ []) (l ++ Cut e.sender.waiting ∷ []) e.phase (resetting_now whole e).after.sender (reset_keeps w l e.sender h);
-  carries = ((refl, record { before = l; dropped = e.sender.waiting; after = []; stands = refl; at = numbers_so_far w l e.sender h }), tt);
+  writer = writer_of (w ++ reset_here ∷ []) (l ++ Cut e.sender.waiting ∷ []) e.phase
+      (resetting_now whole e).after.sender (reset_keeps w l e.sender h);
+  carries = (
+    (
+      refl,
+      record {
+        before = l;
+        dropped = e.sender.waiting;
+        after = [];
+        stands = refl;
+        at = numbers_so_far w l e.sender h;
+      },
+    ),
+    tt,
+  );
 }
 
 -- a reset that is unanswered is sent again as it was
-pub reset_carries : (w : List Written) (l : List Log) (e : EndState) → Writes w l e.sender → e.sender.resetting ≡ true → IsCut l (e.sender.front + length e.sender.unacknowledged)
+pub reset_carries : (w : List Written) (l : List Log) (e : EndState) → Writes w l e.sender → e.sender.resetting ≡ true
+    → IsCut l (e.sender.front + length e.sender.unacknowledged)
 reset_carries w l e h is =
     let c = h.stands is in
     record {
@@ -172,5 +211,13 @@ reset_carries w l e h is =
     }
 
 -- the reset of this end is answered
-pub answered : (w : List Written) (l : List Log) (s : Sender) → Writes w l s → Writes w l (record s { resetting = false })
-answered w l s h = record { is_written = h.is_written; gone = h.gone; is_numbered = h.is_numbered; at_front = h.at_front; nothing_sent = λ e. absurd (false≢true e); stands = λ e. absurd (false≢true e) }
+pub answered : (w : List Written) (l : List Log) (s : Sender) → Writes w l s
+    → Writes w l (record s { resetting = false })
+answered w l s h = record {
+  is_written = h.is_written;
+  gone = h.gone;
+  is_numbered = h.is_numbered;
+  at_front = h.at_front;
+  nothing_sent = λ e. absurd (false≢true e);
+  stands = λ e. absurd (false≢true e);
+}

@@ -9,85 +9,95 @@ pub some_same : {X : Type 0} (x y : X) → Some x ≡ Some y → x ≡ y
 some_same x y h = cc
 
 -- what is found stays, or grows where it is what is replaced
-pub kept_in : {X : Type 0} (G : X → X → Type 0) → ((z : X) → G z z) → (p q : X → Bool) (x y : X) (xs : List X) → G x y → q y ≡ q x → find p xs ≡ Some x → (w : X) → find q xs ≡ Some w →
+pub kept_in : {X : Type 0} (G : X → X → Type 0) → ((z : X) → G z z) → (p q : X → Bool) (x y : X) (xs : List X) → G x y
+    → q y ≡ q x → find p xs ≡ Some x → (w : X) → find q xs ≡ Some w →
     (u : X) × (find q (replaced p y xs) ≡ Some u) × G w u
 kept_in G itself p q x y [] grows same is w there = absurd (cc)
-kept_in {X} G itself p q x y (z ∷ zs) grows same is w there = go (λ f g. kept_in G itself p q x y zs grows same f w g) (p z) is (q z) refl there
+kept_in {X} G itself p q x y (z ∷ zs) grows same is w there = go (λ f g. kept_in G itself p q x y zs grows same f w g)
+    (p z) is (q z) refl there
   where
-    here : (a b : Bool) → q z ≡ a → q y ≡ b → z ≡ x → cond a (Some z) (find q zs) ≡ Some w → (u : X) × (cond b (Some y) (find q zs) ≡ Some u) × G w u
+    here : (a b : Bool) → q z ≡ a → q y ≡ b → z ≡ x → cond a (Some z) (find q zs) ≡ Some w → (u : X)
+        × (cond b (Some y) (find q zs) ≡ Some u) × G w u
     here true true e f s g = (y, refl, subst (λ v. G v y) (sym s ∙ some_same z w g) grows)
     here true false e f s g = absurd (true≢false (sym e ∙ ap q s ∙ sym same ∙ f))
     here false true e f s g = absurd (true≢false (sym f ∙ same ∙ ap q (sym s) ∙ e))
     here false false e f s g = (w, g, itself w)
 
     go : (find p zs ≡ Some x → find q zs ≡ Some w → (u : X) × (find q (replaced p y zs) ≡ Some u) × G w u) →
-        (a : Bool) → cond a (Some z) (find p zs) ≡ Some x → (b : Bool) → q z ≡ b → cond b (Some z) (find q zs) ≡ Some w →
+        (a : Bool) → cond a (Some z) (find p zs) ≡ Some x → (b : Bool) → q z ≡ b → cond b (Some z) (find q zs)
+        ≡ Some w →
         (u : X) × (find q (cond a (y ∷ zs) (z ∷ replaced p y zs)) ≡ Some u) × G w u
     go ih true f b e g = here b (q y) e refl (some_same z x f) g
-    go ih false f true e g = (z, ap (λ c. cond c (Some z) (find q (replaced p y zs))) e, subst (λ v. G v z) (some_same z w g) (itself z))
-    go ih false f false e g = let more = ih f g in (more.0, ap (λ c. cond c (Some z) (find q (replaced p y zs))) e ∙ more.1, more.2)
+    go ih false f true e g =
+        (z, ap (λ c. cond c (Some z) (find q (replaced p y zs))) e, subst (λ v. G v z) (some_same z w g) (itself z))
+    go ih false f false e g = let more = ih f g in
+        (more.0, ap (λ c. cond c (Some z) (find q (replaced p y zs))) e ∙ more.1, more.2)
 
 -- a test that neither what is replaced nor what takes its place passes finds what it found
-pub apart_in : {X : Type 0} (p q : X → Bool) (x y : X) (xs : List X) → find p xs ≡ Some x → q x ≡ false → q y ≡ false → find q (replaced p y xs) ≡ find q xs
+pub apart_in : {X : Type 0} (p q : X → Bool) (x y : X) (xs : List X) → find p xs ≡ Some x → q x ≡ false → q y ≡ false
+    → find q (replaced p y xs) ≡ find q xs
 apart_in p q x y [] is a b = refl
 apart_in {X} p q x y (z ∷ zs) is a b = go (λ f. apart_in p q x y zs f a b) (p z) is
   where
-    go : (find p zs ≡ Some x → find q (replaced p y zs) ≡ find q zs) → (c : Bool) → cond c (Some z) (find p zs) ≡ Some x →
+    go : (find p zs ≡ Some x → find q (replaced p y zs) ≡ find q zs) → (c : Bool) → cond c (Some z) (find p zs)
+        ≡ Some x →
         find q (cond c (y ∷ zs) (z ∷ replaced p y zs)) ≡ cond (q z) (Some z) (find q zs)
     go ih true f =
-        ap (λ c. cond c (Some y) (find q zs)) b ∙ sym (ap (λ c. cond c (Some z) (find q zs)) (ap q (some_same z x f) ∙ a))
+        ap (λ c. cond c (Some y) (find q zs)) b
+        ∙ sym (ap (λ c. cond c (Some z) (find q zs)) (ap q (some_same z x f) ∙ a))
     go ih false f = ap (λ o. cond (q z) (Some z) o) (ih f)
 
 -- a test of all entries that does not tell the two apart
-pub all_same : {X : Type 0} (f p : X → Bool) (x y : X) (xs : List X) → f y ≡ f x → find p xs ≡ Some x → list_all f (replaced p y xs) ≡ list_all f xs
+pub all_same : {X : Type 0} (f p : X → Bool) (x y : X) (xs : List X) → f y ≡ f x → find p xs ≡ Some x
+    → list_all f (replaced p y xs) ≡ list_all f xs
 all_same f p x y [] same is = refl
 all_same {X} f p x y (z ∷ zs) same is = go (λ g. all_same f p x y zs same g) (p z) is
   where
-    go : (find p zs ≡ Some x → list_all f (replaced p y zs) ≡ list_all f zs) → (c : Bool) → cond c (Some z) (find p zs) ≡ Some x →
+    go : (find p zs ≡ Some x → list_all f (replaced p y zs) ≡ list_all f zs) → (c : Bool) → cond c (Some z) (find p zs)
+        ≡ Some x →
         list_all f (cond c (y ∷ zs) (z ∷ replaced p y zs)) ≡ (f z && list_all f zs)
     go ih true g = ap (λ c. c && list_all f zs) (same ∙ ap f (sym (some_same z x g)))
     go ih false g = ap (λ c. f z && c) (ih g)
 
 -- what one test finds, another that it passes finds too, or something before it
-pub found_too : {X : Type 0} (p q : X → Bool) (x : X) (xs : List X) → find q xs ≡ Some x → p x ≡ true → (o : X) × (find p xs ≡ Some o)
+pub found_too : {X : Type 0} (p q : X → Bool) (x : X) (xs : List X) → find q xs ≡ Some x → p x ≡ true → (o : X)
+    × (find p xs ≡ Some o)
 found_too p q x [] is passes = absurd (cc)
 found_too {X} p q x (z ∷ zs) is passes = go (λ f. found_too p q x zs f passes) (p z) refl (q z) is
   where
-    go : (find q zs ≡ Some x → (o : X) × (find p zs ≡ Some o)) → (a : Bool) → p z ≡ a → (b : Bool) → cond b (Some z) (find q zs) ≡ Some x → (o : X) × (find p (z ∷ zs) ≡ Some o)
+    go : (find q zs ≡ Some x → (o : X) × (find p zs ≡ Some o)) → (a : Bool) → p z ≡ a → (b : Bool)
+        → cond b (Some z) (find q zs) ≡ Some x → (o : X) × (find p (z ∷ zs) ≡ Some o)
     go ih true e b f = (z, ap (λ c. cond c (Some z) (find p zs)) e)
     go ih false e true f = absurd (true≢false (sym passes ∙ ap p (sym (some_same z x f)) ∙ e))
     go ih false e false f = let more = ih f in (more.0, ap (λ c. cond c (Some z) (find p zs)) e ∙ more.1)
-
-pub none_any : {X : Type 0} (p : X → Bool) (xs : List X) → list_any p xs ≡ false → AllByRecursion (λ x. p x ≡ false) xs
-none_any p [] h = tt
-none_any {X} p (x ∷ xs) h = go (λ g. none_any p xs g) (p x) refl h
-  where
-    go : (list_any p xs ≡ false → AllByRecursion (λ y. p y ≡ false) xs) → (b : Bool) → p x ≡ b → (b || list_any p xs) ≡ false → AllByRecursion (λ y. p y ≡ false) (x ∷ xs)
-    go ih true e g = absurd (true≢false g)
-    go ih false e g = (e, ih g)
 
 pub none_finds : {X : Type 0} (p : X → Bool) (xs : List X) → list_any p xs ≡ false → find p xs ≡ None
 none_finds p [] h = refl
 none_finds {X} p (x ∷ xs) h = go (λ g. none_finds p xs g) (p x) refl h
   where
-    go : (list_any p xs ≡ false → find p xs ≡ None) → (b : Bool) → p x ≡ b → (b || list_any p xs) ≡ false → find p (x ∷ xs) ≡ None
+    go : (list_any p xs ≡ false → find p xs ≡ None) → (b : Bool) → p x ≡ b → (b || list_any p xs) ≡ false
+        → find p (x ∷ xs) ≡ None
     go ih true e g = absurd (true≢false g)
     go ih false e g = ap (λ c. cond c (Some x) (find p xs)) e ∙ ih g
 
 -- what takes the place of what is found is found
-pub replaced_found : {X : Type 0} (p : X → Bool) (x y : X) (xs : List X) → find p xs ≡ Some x → p y ≡ true → find p (replaced p y xs) ≡ Some y
+pub replaced_found : {X : Type 0} (p : X → Bool) (x y : X) (xs : List X) → find p xs ≡ Some x → p y ≡ true
+    → find p (replaced p y xs) ≡ Some y
 replaced_found p x y [] is passes = absurd (cc)
 replaced_found {X} p x y (z ∷ zs) is passes = go (λ f. replaced_found p x y zs f passes) (p z) refl is
   where
-    go : (find p zs ≡ Some x → find p (replaced p y zs) ≡ Some y) → (b : Bool) → p z ≡ b → cond b (Some z) (find p zs) ≡ Some x → find p (cond b (y ∷ zs) (z ∷ replaced p y zs)) ≡ Some y
+    go : (find p zs ≡ Some x → find p (replaced p y zs) ≡ Some y) → (b : Bool) → p z ≡ b → cond b (Some z) (find p zs)
+        ≡ Some x → find p (cond b (y ∷ zs) (z ∷ replaced p y zs)) ≡ Some y
     go ih true e f = ap (λ c. cond c (Some y) (find p zs)) passes
     go ih false e f = ap (λ c. cond c (Some z) (find p (replaced p y zs))) e ∙ ih f
 
 -- what is seen of each entry stays, where that of the new one is the same
-pub map_same : {X Y : Type 0} (f : X → Y) (p : X → Bool) (x y : X) (xs : List X) → f y ≡ f x → find p xs ≡ Some x → map f (replaced p y xs) ≡ map f xs
+pub map_same : {X Y : Type 0} (f : X → Y) (p : X → Bool) (x y : X) (xs : List X) → f y ≡ f x → find p xs ≡ Some x
+    → map f (replaced p y xs) ≡ map f xs
 map_same f p x y [] same is = refl
 map_same {X} {Y} f p x y (z ∷ zs) same is = go (λ g. map_same f p x y zs same g) (p z) is
   where
-    go : (find p zs ≡ Some x → map f (replaced p y zs) ≡ map f zs) → (b : Bool) → cond b (Some z) (find p zs) ≡ Some x → map f (cond b (y ∷ zs) (z ∷ replaced p y zs)) ≡ f z ∷ map f zs
+    go : (find p zs ≡ Some x → map f (replaced p y zs) ≡ map f zs) → (b : Bool) → cond b (Some z) (find p zs) ≡ Some x
+        → map f (cond b (y ∷ zs) (z ∷ replaced p y zs)) ≡ f z ∷ map f zs
     go ih true g = ap (λ v. v ∷ map f zs) (same ∙ ap f (sym (some_same z x g)))
     go ih false g = ap (λ l. f z ∷ l) (ih g)

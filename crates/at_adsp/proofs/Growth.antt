@@ -1,5 +1,6 @@
 -- Ends that were made, as one of them changes or another is made.
-use Rattle.std.proofs.Common.{◌≡◌, ℕ, ◌<◌, ◌≤◌, Bool, true, false, cond, List, [], ◌∷◌, Option, Some, None, refl, sym, ap, subst, ◌∙◌, arith}
+use Rattle.std.proofs.Common.{◌≡◌, ℕ, ◌<◌, ◌≤◌, Bool, true, false, cond, List, [], ◌∷◌, Option, Some, None, refl, sym}
+use Rattle.std.proofs.Common.{ap, subst, ◌∙◌, arith}
 use Rattle.std.specs.Prelude.{find, ◌==◌}
 use Rattle.std.proofs.lemmas.Bool.{true≢false, eqb-true, eq-eqb}
 use Rattle.at_ddp.specs.Tables.{replaced}
@@ -21,41 +22,60 @@ pub record Grows (m u : Made) : Type 0 where
   pub peer : (b : ℕ) → m.stream.peer ≡ Some b → u.stream.peer ≡ Some b
 
 pub itself : (m : Made) → Grows m m
-itself m = record { birth = refl; owner = refl; id = refl; listener = refl; asked = refl; remote = λ r e. e; names = λ r e. refl; peer = λ b e. e }
+itself m = record {
+  birth = refl;
+  owner = refl;
+  id = refl;
+  listener = refl;
+  asked = refl;
+  remote = λ r e. e;
+  names = λ r e. refl;
+  peer = λ b e. e;
+}
 
 -- ---- one end changes
 
 module _ (p : Made → Bool) (m u : Made) (made : List Made) (grows : Grows m u) (there : find p made ≡ Some m) where
-  pub newest_kept : (at : Address) (id : ℕ) (w : Made) → newest made at id ≡ Some w → (v : Made) × (newest (replaced p u made) at id ≡ Some v) × Grows w v
-  newest_kept at id w is = kept_in Grows itself p (is_end at id) m u made grows (λ i. is_end at id (record u { stream = record u.stream { owner = grows.owner i; id = grows.id i } })) there w is
+  pub newest_kept : (at : Address) (id : ℕ) (w : Made) → newest made at id ≡ Some w → (v : Made)
+      × (newest (replaced p u made) at id ≡ Some v) × Grows w v
+  newest_kept at id w is = kept_in Grows itself p (is_end at id) m u made grows
+      (λ i. is_end at id (record u { stream = record u.stream { owner = grows.owner i; id = grows.id i } })) there w is
 
-  pub born_kept : (b : ℕ) (w : Made) → born made b ≡ Some w → (v : Made) × (born (replaced p u made) b ≡ Some v) × Grows w v
+  pub born_kept : (b : ℕ) (w : Made) → born made b ≡ Some w → (v : Made) × (born (replaced p u made) b ≡ Some v)
+      × Grows w v
   born_kept b w is = kept_in Grows itself p (has_birth b) m u made grows (ap (λ k. k == b) grows.birth) there w is
 
 -- the births of what is found
-pub births_kept : (p q : Made → Bool) (m u : Made) (made : List Made) → u.stream.birth ≡ m.stream.birth → q u ≡ q m → find p made ≡ Some m → birth_of (find q (replaced p u made)) ≡ birth_of (find q made)
+pub births_kept : (p q : Made → Bool) (m u : Made) (made : List Made) → u.stream.birth ≡ m.stream.birth → q u ≡ q m
+    → find p made ≡ Some m → birth_of (find q (replaced p u made)) ≡ birth_of (find q made)
 births_kept p q m u [] birth same is = refl
 births_kept p q m u (z ∷ zs) birth same is = go (λ f. births_kept p q m u zs birth same f) (p z) is
   where
-    here : z ≡ m → (a b : Bool) → q u ≡ a → q z ≡ b → birth_of (cond a (Some u) (find q zs)) ≡ birth_of (cond b (Some z) (find q zs))
+    here : z ≡ m → (a b : Bool) → q u ≡ a → q z ≡ b → birth_of (cond a (Some u) (find q zs))
+        ≡ birth_of (cond b (Some z) (find q zs))
     here s true true e f = ap Some (birth ∙ ap (λ (x : Made). x.stream.birth) (sym s))
     here s true false e f = absurd (true≢false (sym e ∙ same ∙ ap q (sym s) ∙ f))
     here s false true e f = absurd (true≢false (sym f ∙ ap q s ∙ sym same ∙ e))
     here s false false e f = refl
 
-    go : (find p zs ≡ Some m → birth_of (find q (replaced p u zs)) ≡ birth_of (find q zs)) → (c : Bool) → cond c (Some z) (find p zs) ≡ Some m →
+    go : (find p zs ≡ Some m → birth_of (find q (replaced p u zs)) ≡ birth_of (find q zs)) → (c : Bool)
+        → cond c (Some z) (find p zs) ≡ Some m →
         birth_of (find q (cond c (u ∷ zs) (z ∷ replaced p u zs))) ≡ birth_of (cond (q z) (Some z) (find q zs))
     go ih true f = here (some_same z m f) (q u) (q z) refl refl
     go ih false f = rest (q z)
       where
-        rest : (b : Bool) → birth_of (cond b (Some z) (find q (replaced p u zs))) ≡ birth_of (cond b (Some z) (find q zs))
+        rest : (b : Bool) → birth_of (cond b (Some z) (find q (replaced p u zs)))
+            ≡ birth_of (cond b (Some z) (find q zs))
         rest true = refl
         rest false = ih f
 
-pub named_kept : (setting : Setting) (p : Made → Bool) (m u : Made) (made : List Made) → Grows m u → find p made ≡ Some m → (r : Option Remote) → named setting (replaced p u made) r ≡ named setting made r
+pub named_kept : (setting : Setting) (p : Made → Bool) (m u : Made) (made : List Made) → Grows m u → find p made
+    ≡ Some m → (r : Option Remote) → named setting (replaced p u made) r ≡ named setting made r
 named_kept setting p m u made grows there None = refl
 named_kept setting p m u made grows there (Some r) = ap (λ b. cond (setting.ours r.address) b None)
-    (births_kept p (is_end r.address r.id) m u made grows.birth (λ i. is_end r.address r.id (record u { stream = record u.stream { owner = grows.owner i; id = grows.id i } })) there)
+    (births_kept p (is_end r.address r.id) m u made grows.birth
+    (λ i. is_end r.address r.id (record u { stream = record u.stream { owner = grows.owner i; id = grows.id i } }))
+    there)
 
 -- ---- births
 
@@ -68,22 +88,26 @@ pub fall_more : (a b : ℕ) (ms : List Made) → a ≤ b → Fall a ms → Fall 
 fall_more a b [] le h = tt
 fall_more a b (m ∷ ms) le h = (let lt = h.0 in omega (arith, lt, le), h.1)
 
-pub fall_kept : (p : Made → Bool) (m u : Made) (made : List Made) (bound : ℕ) → u.stream.birth ≡ m.stream.birth → find p made ≡ Some m → Fall bound made → Fall bound (replaced p u made)
+pub fall_kept : (p : Made → Bool) (m u : Made) (made : List Made) (bound : ℕ) → u.stream.birth ≡ m.stream.birth
+    → find p made ≡ Some m → Fall bound made → Fall bound (replaced p u made)
 fall_kept p m u [] bound same is h = tt
 fall_kept p m u (z ∷ zs) bound same is h = go (λ f. fall_kept p m u zs z.stream.birth same f h.1) (p z) is
   where
-    go : (find p zs ≡ Some m → Fall z.stream.birth (replaced p u zs)) → (c : Bool) → cond c (Some z) (find p zs) ≡ Some m → Fall bound (cond c (u ∷ zs) (z ∷ replaced p u zs))
+    go : (find p zs ≡ Some m → Fall z.stream.birth (replaced p u zs)) → (c : Bool) → cond c (Some z) (find p zs)
+        ≡ Some m → Fall bound (cond c (u ∷ zs) (z ∷ replaced p u zs))
     go ih true f =
         let e : z.stream.birth ≡ u.stream.birth = ap (λ (x : Made). x.stream.birth) (some_same z m f) ∙ sym same in
         (subst (λ k. k < bound) e h.0, subst (λ k. Fall k zs) e h.1)
     go ih false f = (h.0, ih f)
 
 -- what is found was born below the bound
-pub found_below : (q : Made → Bool) (w : Made) (made : List Made) (bound : ℕ) → Fall bound made → find q made ≡ Some w → w.stream.birth < bound
+pub found_below : (q : Made → Bool) (w : Made) (made : List Made) (bound : ℕ) → Fall bound made → find q made ≡ Some w
+    → w.stream.birth < bound
 found_below q w [] bound h is = absurd (cc)
 found_below q w (z ∷ zs) bound h is = go (λ f. found_below q w zs z.stream.birth h.1 f) (q z) is
   where
-    go : (find q zs ≡ Some w → w.stream.birth < z.stream.birth) → (b : Bool) → cond b (Some z) (find q zs) ≡ Some w → w.stream.birth < bound
+    go : (find q zs ≡ Some w → w.stream.birth < z.stream.birth) → (b : Bool) → cond b (Some z) (find q zs) ≡ Some w
+        → w.stream.birth < bound
     go ih true f = subst (λ (x : Made). x.stream.birth < bound) (some_same z w f) h.0
     go ih false f = let lt = ih f in let less = h.0 in omega (arith, lt, less)
 
@@ -95,18 +119,23 @@ unequal a b lt = go (b == a) refl
     go true e = let same = eqb-true b a e in absurd (omega arith)
 
 -- what is found is found by its birth
-pub found_born : (q : Made → Bool) (w : Made) (made : List Made) (bound : ℕ) → Fall bound made → find q made ≡ Some w → born made w.stream.birth ≡ Some w
+pub found_born : (q : Made → Bool) (w : Made) (made : List Made) (bound : ℕ) → Fall bound made → find q made ≡ Some w
+    → born made w.stream.birth ≡ Some w
 found_born q w [] bound h is = absurd (cc)
 found_born q w (z ∷ zs) bound h is = go (λ f. found_born q w zs z.stream.birth h.1 f) (q z) is
   where
-    go : (find q zs ≡ Some w → born zs w.stream.birth ≡ Some w) → (b : Bool) → cond b (Some z) (find q zs) ≡ Some w → cond (z.stream.birth == w.stream.birth) (Some z) (born zs w.stream.birth) ≡ Some w
+    go : (find q zs ≡ Some w → born zs w.stream.birth ≡ Some w) → (b : Bool) → cond b (Some z) (find q zs) ≡ Some w
+        → cond (z.stream.birth == w.stream.birth) (Some z) (born zs w.stream.birth) ≡ Some w
     go ih true f =
         let e : z ≡ w = some_same z w f in
-        ap (λ c. cond c (Some z) (born zs w.stream.birth)) (eq-eqb z.stream.birth w.stream.birth (ap (λ (x : Made). x.stream.birth) e)) ∙ ap Some e
-    go ih false f = ap (λ c. cond c (Some z) (born zs w.stream.birth)) (unequal w.stream.birth z.stream.birth (found_below q w zs z.stream.birth h.1 f)) ∙ ih f
+        ap (λ c. cond c (Some z) (born zs w.stream.birth))
+        (eq-eqb z.stream.birth w.stream.birth (ap (λ (x : Made). x.stream.birth) e)) ∙ ap Some e
+    go ih false f = ap (λ c. cond c (Some z) (born zs w.stream.birth))
+        (unequal w.stream.birth z.stream.birth (found_below q w zs z.stream.birth h.1 f)) ∙ ih f
 
 -- one end more, of this birth: the others are born as before
-pub born_more : (new w : Made) (made : List Made) (b : ℕ) → Fall new.stream.birth made → born made b ≡ Some w → born (new ∷ made) b ≡ Some w
+pub born_more : (new w : Made) (made : List Made) (b : ℕ) → Fall new.stream.birth made → born made b ≡ Some w
+    → born (new ∷ made) b ≡ Some w
 born_more new w made b h is =
     let lt = found_below (has_birth b) w made new.stream.birth h is in
     let same : w.stream.birth ≡ b = eqb-true w.stream.birth b (found_passes (has_birth b) made w is) in

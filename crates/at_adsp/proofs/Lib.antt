@@ -19,6 +19,7 @@ mod CallLemmas
 mod Receptions
 mod Histories
 mod StreamHistories
+mod StreamSegments
 mod Flows
 mod FlowCalls
 mod FlowReceptions
@@ -26,6 +27,8 @@ mod FlowHistories
 mod PlainHistories
 mod Ranges
 mod RangeHistories
+mod RangeSteps
+mod RangeRuns
 mod Rounds
 mod Wires
 mod Nears
@@ -34,6 +37,7 @@ mod WireCalls
 mod WireSegments
 mod WireNetworks
 mod Fews
+mod FewHearings
 mod Unreads
 mod FewTables
 mod FewSegments

@@ -1,11 +1,13 @@
 -- What a segment with any numbers tells an end on the cable, another tells it where numbers may be of any size.
-use Rattle.std.proofs.Common.{◌≡◌, ℕ, zero, suc, ◌+◌, ◌-◌, ◌%◌, ◌^◌, ◌<◌, ◌≤◌, Bool, true, false, cond, List, [], ◌∷◌, ◌++◌, length, drop, Option, Some, None, refl, sym, ap, subst, ◌∙◌, arith, lit≤}
+use Rattle.std.proofs.Common.{◌≡◌, ℕ, zero, suc, ◌+◌, ◌-◌, ◌%◌, ◌^◌, ◌<◌, ◌≤◌, Bool, true, false, cond, List, [], ◌∷◌}
+use Rattle.std.proofs.Common.{◌++◌, length, drop, Option, Some, None, refl, sym, ap, subst, ◌∙◌, arith, lit≤}
 use Rattle.std.specs.Prelude.{IfSome, nat_le, ◌==◌, ◌&&◌}
 use Rattle.std.proofs.lemmas.Bool.{and_parts, eqb-true, eq-eqb, leb-true, leb-false, le-leb, lt-leb}
 use Rattle.at_adsp_frame.specs.Segments.{Content, Part, Data, Probe, Open, Close, Reset, ResetAck, Advice}
 use Rattle.at_adsp_end.specs.Cuts.{items_in}
 use Rattle.at_adsp_end.specs.Ends.{Change, EndState, Receiver, Sender, control, free}
-use Rattle.at_adsp_end.specs.Hearing.{Advises, Answers, Asks, Brings, Closes, Resets, Outcome, Saying, Told, fitting, forward, heard, jumped, passed, rest, saying, told}
+use Rattle.at_adsp_end.specs.Hearing.{Advises, Answers, Asks, Brings, Closes, Resets, Outcome, Saying, Told, fitting}
+use Rattle.at_adsp_end.specs.Hearing.{forward, heard, jumped, passed, rest, saying, told}
 use Rattle.at_adsp_end.specs.Positions.{whole, wire}
 use Rattle.at_adsp_end.specs.Sending.{acks, at_most, hearing}
 use Rattle.at_adsp_end.specs.declared.forward.Forward.{Forward}
@@ -42,11 +44,14 @@ abbrev pub next_for : Sender → Option ℕ → ℕ
 next_for s None = s.front + (length s.unacknowledged + 1)
 next_for s (Some k) = s.front + k
 
-pub acks_for : (s : Sender) (o : Option ℕ) → IfSome o (λ k. k ≤ length s.unacknowledged) → acks whole s (next_for s o) ≡ o
+pub acks_for : (s : Sender) (o : Option ℕ) → IfSome o (λ k. k ≤ length s.unacknowledged) → acks whole s (next_for s o)
+    ≡ o
 acks_for s None le =
     ap (at_most (length s.unacknowledged)) (ahead_to s.front (length s.unacknowledged + 1))
-    ∙ ap (λ c. cond c (Some (length s.unacknowledged + 1)) None) (lt-leb (length s.unacknowledged + 1) (length s.unacknowledged) (omega arith))
-acks_for s (Some k) le = ap (at_most (length s.unacknowledged)) (ahead_to s.front k) ∙ ap (λ c. cond c (Some k) None) (le-leb k (length s.unacknowledged) le)
+    ∙ ap (λ c. cond c (Some (length s.unacknowledged + 1)) None)
+    (lt-leb (length s.unacknowledged + 1) (length s.unacknowledged) (omega arith))
+acks_for s (Some k) le = ap (at_most (length s.unacknowledged)) (ahead_to s.front k)
+    ∙ ap (λ c. cond c (Some k) None) (le-leb k (length s.unacknowledged) le)
 
 pub acks_few : (s : Sender) (next : ℕ) → IfSome (acks wire s next) (λ k. k ≤ length s.unacknowledged)
 acks_few s next = at_most_within (length s.unacknowledged) (wire.ahead s.front next)
@@ -113,26 +118,45 @@ module _ (e : EndState) (s : Content) (can : CanLift e) where
   tells says = record { acks = acks wire (wired e).sender s.next; window = s.window; ack = s.ack; saying = says }
 
   abbrev another : ℕ → Bool → Part → Content
-  another first ack body = record { source = s.source; first = first; next = next_for e.sender (acks wire (wired e).sender s.next); window = s.window; ack = ack; body = body }
+  another first ack body =
+      record {
+        source = s.source;
+        first = first;
+        next = next_for e.sender (acks wire (wired e).sender s.next);
+        window = s.window;
+        ack = ack;
+        body = body;
+      }
 
   -- it tells the same
-  by_saying : (first : ℕ) (body : Part) (says : Saying) → IsPlainPart body → saying whole e first (next_for e.sender (acks wire (wired e).sender s.next)) body ≡ says → Lifted e s (tells says)
+  by_saying : (first : ℕ) (body : Part) (says : Saying) → IsPlainPart body
+      → saying whole e first (next_for e.sender (acks wire (wired e).sender s.next)) body ≡ says
+      → Lifted e s (tells says)
   by_saying first body says plain same = record {
     segment = another first s.ack body;
     source = refl;
     window = refl;
     plain = plain;
-    same = record { after = ap (λ (x : Told). (heard whole e x).after) (sym told_same); sent = ap (λ (x : Told). (heard whole e x).sent) (sym told_same) };
+    same = record {
+      after = ap (λ (x : Told). (heard whole e x).after) (sym told_same);
+      sent = ap (λ (x : Told). (heard whole e x).sent) (sym told_same);
+    };
   }
     where
       told_same : told whole e (another first s.ack body) ≡ tells says
-      told_same = λ i. record { acks = acks_for e.sender (acks wire (wired e).sender s.next) within i; window = s.window; ack = s.ack; saying = same i }
+      told_same = λ i. record {
+        acks = acks_for e.sender (acks wire (wired e).sender s.next) within i;
+        window = s.window;
+        ack = s.ack;
+        saying = same i;
+      }
 
   -- data from what is expected on
   lift_data : (end : Bool) (bytes : List ℕ) → Lifted e s (tells (saying wire (wired e) s.first s.next (Data end bytes)))
   lift_data end bytes =
       let c = carried_rest (wire.ahead s.first (e.receiver.received % M)) end bytes in
-      by_saying e.receiver.received (Data c.end c.bytes) (Brings (rest (items_in end bytes) (wire.ahead s.first (e.receiver.received % M)))) tt
+      by_saying e.receiver.received (Data c.end c.bytes)
+      (Brings (rest (items_in end bytes) (wire.ahead s.first (e.receiver.received % M)))) tt
       (ap (λ o. Brings (rest (items_in c.end c.bytes) o)) (ahead_same e.receiver.received) ∙ ap Brings c.same)
 
   -- an older reset, where nothing was received: one that passes nothing
@@ -142,7 +166,11 @@ module _ (e : EndState) (s : Content) (can : CanLift e) where
     source = refl;
     window = refl;
     plain = tt;
-    same = record { after = sym unchanged ∙ ap (λ (x : Told). (heard whole e x).after) (sym told_same); sent = ap (λ (x : EndState). c.sent ++ control whole x false ResetAck ∷ []) (sym unchanged) ∙ ap (λ (x : Told). (heard whole e x).sent) (sym told_same) };
+    same = record {
+      after = sym unchanged ∙ ap (λ (x : Told). (heard whole e x).after) (sym told_same);
+      sent = ap (λ (x : EndState). c.sent ++ control whole x false ResetAck ∷ []) (sym unchanged)
+          ∙ ap (λ (x : Told). (heard whole e x).sent) (sym told_same);
+    };
   }
     where
       c : Change
@@ -154,7 +182,8 @@ module _ (e : EndState) (s : Content) (can : CanLift e) where
         window = s.window;
         ack = s.ack;
         saying =
-            (ap (λ o. Resets (fitting (free e) o o)) (ahead_same e.receiver.received) ∙ ap (λ b. Resets (cond b (Jump 0) Older)) (le-leb 0 (free e) (omega arith))) i;
+            (ap (λ o. Resets (fitting (free e) o o)) (ahead_same e.receiver.received)
+            ∙ ap (λ b. Resets (cond b (Jump 0) Older)) (le-leb 0 (free e) (omega arith))) i;
       }
 
       empty : e.receiver.unread ≡ []
@@ -170,11 +199,14 @@ module _ (e : EndState) (s : Content) (can : CanLift e) where
           plus : e.receiver.received + 0 ≡ e.receiver.received
           plus = omega arith
 
-      unchanged : jumped whole (hearing whole e s.window (acks wire (wired e).sender s.next)).after 0 ≡ (hearing whole e s.window (acks wire (wired e).sender s.next)).after
+      unchanged : jumped whole (hearing whole e s.window (acks wire (wired e).sender s.next)).after 0
+          ≡ (hearing whole e s.window (acks wire (wired e).sender s.next)).after
       unchanged =
           let r = hearing_receiver e s.window (acks wire (wired e).sender s.next) in
           let f : EndState = (hearing whole e s.window (acks wire (wired e).sender s.next)).after in
-          let same : record { received = f.receiver.received + 0; unread = [] } ≡ f.receiver = subst (λ (x : Receiver). record { received = x.received + 0; unread = [] } ≡ x) (sym r) receiver_same in
+          let same : record { received = f.receiver.received + 0; unread = [] }
+          ≡ f.receiver = subst (λ (x : Receiver). record { received = x.received + 0; unread = [] } ≡ x)
+          (sym r) receiver_same in
           λ i. record f { receiver = same i }
 
   lift_older : Lifted e s (tells (Resets Older))
@@ -193,13 +225,16 @@ module _ (e : EndState) (s : Content) (can : CanLift e) where
   lift_reset : (f : Forward) → forward wire (wired e) s.first ≡ f → Lifted e s (tells (Resets f))
   lift_reset (Jump d) is =
       by_saying (e.receiver.received + d) Reset (Resets (Jump d)) tt
-      (ap (λ o. Resets (fitting (free e) o (whole.ahead (e.receiver.received + d) e.receiver.received))) (ahead_to e.receiver.received d)
+      (ap (λ o. Resets (fitting (free e) o (whole.ahead (e.receiver.received + d) e.receiver.received)))
+      (ahead_to e.receiver.received d)
       ∙ ap (λ b. Resets (cond b (Jump d) (passed (whole.ahead (e.receiver.received + d) e.receiver.received))))
-      (le-leb d (free e) (jump_fits (free e) (wire.ahead (e.receiver.received % M) s.first) (wire.ahead s.first (e.receiver.received % M)) d is)))
+      (le-leb d (free e) (jump_fits (free e) (wire.ahead (e.receiver.received % M) s.first)
+      (wire.ahead s.first (e.receiver.received % M)) d is)))
   lift_reset Older is = lift_older
   lift_reset Beyond is =
       by_saying (e.receiver.received + (free e + 1)) Reset (Resets Beyond) tt
-      ((λ i. Resets (fitting (free e) (ahead_to e.receiver.received (free e + 1) i) (ahead_none (e.receiver.received + (free e + 1)) e.receiver.received (omega arith) i)))
+      ((λ i. Resets (fitting (free e) (ahead_to e.receiver.received (free e + 1) i)
+      (ahead_none (e.receiver.received + (free e + 1)) e.receiver.received (omega arith) i)))
       ∙ ap (λ b. Resets (cond b (Jump (free e + 1)) Beyond)) (lt-leb (free e + 1) (free e) (omega arith)))
 
   -- an answer that this end does not wait for tells no more than that the other end is there
@@ -210,27 +245,38 @@ module _ (e : EndState) (s : Content) (can : CanLift e) where
     window = refl;
     plain = tt;
     same = record {
-      after = ap (λ o. (hearing whole e s.window o).after) (sym (acks_for e.sender (acks wire (wired e).sender s.next) within));
-      sent = ap (λ o. (hearing whole e s.window o).sent ++ []) (sym (acks_for e.sender (acks wire (wired e).sender s.next) within));
+      after = ap (λ o. (hearing whole e s.window o).after)
+          (sym (acks_for e.sender (acks wire (wired e).sender s.next) within));
+      sent = ap (λ o. (hearing whole e s.window o).sent ++ [])
+          (sym (acks_for e.sender (acks wire (wired e).sender s.next) within));
     };
   }
 
-  lift_answer : (b : Bool) → (e.sender.resetting && (s.next == (e.sender.front % M + length e.sender.unacknowledged) % M)) ≡ b → Lifted e s (tells (Answers b))
+  lift_answer : (b : Bool)
+      → (e.sender.resetting && (s.next == (e.sender.front % M + length e.sender.unacknowledged) % M)) ≡ b
+      → Lifted e s (tells (Answers b))
   lift_answer false is = lift_other
   lift_answer true is =
-      by_saying 0 ResetAck (Answers true) tt (ap Answers (λ i. both.0 i && eq-eqb (next_for e.sender (acks wire (wired e).sender s.next)) (e.sender.front + length e.sender.unacknowledged) (ap (next_for e.sender) all_acked) i))
+      by_saying 0 ResetAck (Answers true) tt
+      (ap Answers (λ i. both.0 i
+      && eq-eqb (next_for e.sender (acks wire (wired e).sender s.next))
+      (e.sender.front + length e.sender.unacknowledged) (ap (next_for e.sender) all_acked) i))
     where
-      both : (e.sender.resetting ≡ true) × ((s.next == (e.sender.front % M + length e.sender.unacknowledged) % M) ≡ true)
+      both : (e.sender.resetting ≡ true)
+          × ((s.next == (e.sender.front % M + length e.sender.unacknowledged) % M) ≡ true)
       both = and_parts e.sender.resetting (s.next == (e.sender.front % M + length e.sender.unacknowledged) % M) is
 
       next_is : s.next ≡ (e.sender.front + length e.sender.unacknowledged) % M
-      next_is = eqb-true s.next ((e.sender.front % M + length e.sender.unacknowledged) % M) both.1 ∙ at_adds M e.sender.front (length e.sender.unacknowledged)
+      next_is = eqb-true s.next ((e.sender.front % M + length e.sender.unacknowledged) % M) both.1
+          ∙ at_adds M e.sender.front (length e.sender.unacknowledged)
 
       all_acked : acks wire (wired e).sender s.next ≡ Some (length e.sender.unacknowledged)
       all_acked =
           ap (λ x. at_most (length e.sender.unacknowledged) (wire.ahead (e.sender.front % M) x)) next_is
-          ∙ ap (at_most (length e.sender.unacknowledged)) (ahead_on M (2 ^ 31) e.sender.front (length e.sender.unacknowledged) (lit≤ tt) (can.few both.0))
-          ∙ ap (λ c. cond c (Some (length e.sender.unacknowledged)) None) (le-leb (length e.sender.unacknowledged) (length e.sender.unacknowledged) (omega arith))
+          ∙ ap (at_most (length e.sender.unacknowledged))
+          (ahead_on M (2 ^ 31) e.sender.front (length e.sender.unacknowledged) (lit≤ tt) (can.few both.0))
+          ∙ ap (λ c. cond c (Some (length e.sender.unacknowledged)) None)
+          (le-leb (length e.sender.unacknowledged) (length e.sender.unacknowledged) (omega arith))
 
   lift_part : (part : Part) → IsPlainPart part → Lifted e s (tells (saying wire (wired e) s.first s.next part))
   lift_part (Data end bytes) plain = lift_data end bytes
@@ -238,7 +284,8 @@ module _ (e : EndState) (s : Content) (can : CanLift e) where
   lift_part (Open kind dest) plain = absurd plain
   lift_part Close plain = by_saying 0 Close Closes tt refl
   lift_part Reset plain = lift_reset (forward wire (wired e) s.first) refl
-  lift_part ResetAck plain = lift_answer (e.sender.resetting && (s.next == (e.sender.front % M + length e.sender.unacknowledged) % M)) refl
+  lift_part ResetAck plain =
+      lift_answer (e.sender.resetting && (s.next == (e.sender.front % M + length e.sender.unacknowledged) % M)) refl
   lift_part Advice plain = by_saying 0 Advice Advises tt refl
 
   pub lifted : IsPlainPart s.body → Lifted e s (told wire (wired e) s)

@@ -1,5 +1,6 @@
 -- How far the numbers of an end go on.
-use Rattle.std.proofs.Common.{◌≡◌, ℕ, ◌+◌, ◌-◌, ◌≤◌, Bool, true, false, cond, List, [], ◌++◌, length, take, Option, Some, None, sym, ap, ◌∙◌, arith}
+use Rattle.std.proofs.Common.{◌≡◌, ℕ, ◌+◌, ◌-◌, ◌≤◌, Bool, true, false, cond, List, [], ◌++◌, length, take, Option}
+use Rattle.std.proofs.Common.{Some, None, sym, ap, ◌∙◌, arith}
 use Rattle.std.specs.Prelude.{IfSome, max}
 use Rattle.std.proofs.lemmas.List.{length-take}
 use Rattle.at_adsp_frame.specs.Segments.{Content}
@@ -33,7 +34,8 @@ pub record Gone (N : Numbers) (window : ℕ) (s u : Sender) : Type 0 where
 length_going : (s : Sender) → (length (going s) ≤ s.credit) × (length (going s) ≤ length s.waiting)
 length_going s = go s.resetting
   where
-    go : (b : Bool) → (length (cond b [] (take s.credit s.waiting)) ≤ s.credit) × (length (cond b [] (take s.credit s.waiting)) ≤ length s.waiting)
+    go : (b : Bool) → (length (cond b [] (take s.credit s.waiting)) ≤ s.credit)
+        × (length (cond b [] (take s.credit s.waiting)) ≤ length s.waiting)
     go true = (omega arith, omega arith)
     go false = let e = length-take s.credit s.waiting in (omega (arith, e), omega (arith, e))
 
@@ -53,7 +55,14 @@ module _ (N : Numbers) (adds : Adds N) where
   -- ---- senders
 
   pub gone_same : (s : Sender) → Gone N 0 s s
-  gone_same s = record { passed = 0; front = at_same s.front; queue = omega arith; more = 0; few = omega arith; reach = omega arith }
+  gone_same s = record {
+    passed = 0;
+    front = at_same s.front;
+    queue = omega arith;
+    more = 0;
+    few = omega arith;
+    reach = omega arith;
+  }
 
   pub gone_on : (window : ℕ) (s u v : Sender) → Gone N window s u → Gone N 0 u v → Gone N window s v
   gone_on window s u v h k =
@@ -73,7 +82,15 @@ module _ (N : Numbers) (adds : Adds N) where
       }
 
   pub gone_wider : (window : ℕ) (s u : Sender) → Gone N 0 s u → Gone N window s u
-  gone_wider window s u h = let f = h.few in record { passed = h.passed; front = h.front; queue = h.queue; more = h.more; few = omega (arith, f); reach = h.reach }
+  gone_wider window s u h = let f = h.few in
+      record {
+        passed = h.passed;
+        front = h.front;
+        queue = h.queue;
+        more = h.more;
+        few = omega (arith, f);
+        reach = h.reach;
+      }
 
   pub sent_gone : (s : Sender) → Gone N 0 s (sent_on s)
   sent_gone s =
@@ -82,9 +99,17 @@ module _ (N : Numbers) (adds : Adds N) where
       let w = few.1 in
       let both = length_both s.unacknowledged (going s) in
       let rest = length_drop (length (going s)) s.waiting in
-      record { passed = 0; front = at_same s.front; queue = omega (arith, w, both, rest); more = 0; few = omega arith; reach = omega (arith, c, both) }
+      record {
+        passed = 0;
+        front = at_same s.front;
+        queue = omega (arith, w, both, rest);
+        more = 0;
+        few = omega arith;
+        reach = omega (arith, c, both);
+      }
 
-  pub acknowledged_gone : (k window : ℕ) (s : Sender) → k ≤ length s.unacknowledged → Gone N window s (acknowledged N k window s)
+  pub acknowledged_gone : (k window : ℕ) (s : Sender) → k ≤ length s.unacknowledged
+      → Gone N window s (acknowledged N k window s)
   acknowledged_gone k window s le =
       let rest = length_drop k s.unacknowledged in
       let wide = widest s.credit (window - (length s.unacknowledged - k)) in
@@ -103,12 +128,21 @@ module _ (N : Numbers) (adds : Adds N) where
       widest a b = (omega arith, omega arith)
 
   pub dropped_gone : (s : Sender) → Gone N 0 s (dropped N s)
-  dropped_gone s = record { passed = length s.unacknowledged; front = at_again (s.front + length s.unacknowledged); queue = omega arith; more = 0; few = omega arith; reach = omega arith }
+  dropped_gone s = record {
+    passed = length s.unacknowledged;
+    front = at_again (s.front + length s.unacknowledged);
+    queue = omega arith;
+    more = 0;
+    few = omega arith;
+    reach = omega arith;
+  }
 
-  pub hearing_gone : (e : EndState) (window : ℕ) (o : Option ℕ) → IfSome o (λ k. k ≤ length e.sender.unacknowledged) → Gone N window e.sender (hearing N e window o).after.sender
+  pub hearing_gone : (e : EndState) (window : ℕ) (o : Option ℕ) → IfSome o (λ k. k ≤ length e.sender.unacknowledged)
+      → Gone N window e.sender (hearing N e window o).after.sender
   hearing_gone e window None le = gone_wider window e.sender e.sender (gone_same e.sender)
   hearing_gone e window (Some k) le =
-      gone_on window e.sender (acknowledged N k window e.sender) (sent_on (acknowledged N k window e.sender)) (acknowledged_gone k window e.sender le) (sent_gone (acknowledged N k window e.sender))
+      gone_on window e.sender (acknowledged N k window e.sender) (sent_on (acknowledged N k window e.sender))
+      (acknowledged_gone k window e.sender le) (sent_gone (acknowledged N k window e.sender))
 
   -- ---- ends
 
@@ -121,49 +155,74 @@ module _ (N : Numbers) (adds : Adds N) where
       let join : s.front + h.passed + x ≡ s.front + length s.unacknowledged + s.credit + h.more = omega (arith, r) in (
         h.more,
         h.few,
-        at_again (u.front + length u.unacknowledged + u.credit) ∙ ap N.at split ∙ at_on u.front (s.front + h.passed) x h.front ∙ ap N.at join
+        at_again (u.front + length u.unacknowledged + u.credit) ∙ ap N.at split
+            ∙ at_on u.front (s.front + h.passed) x h.front ∙ ap N.at join
             ∙ sym (adds (s.front + length s.unacknowledged + s.credit) h.more),
       )
 
-  pub moves_by : (window : ℕ) (e f : EndState) → Gone N window e.sender f.sender → IsPast N (free e) e.receiver.received f.receiver.received → MovesOn N window e f
+  pub moves_by : (window : ℕ) (e f : EndState) → Gone N window e.sender f.sender
+      → IsPast N (free e) e.receiver.received f.receiver.received → MovesOn N window e f
   moves_by window e f h expected =
       let q = h.queue in
-      record { front = (h.passed, omega (arith, q), h.front); limit = limit_past window e.sender f.sender h; expected = expected }
+      record {
+        front = (h.passed, omega (arith, q), h.front);
+        limit = limit_past window e.sender f.sender h;
+        expected = expected;
+      }
 
   pub expects_same : (most a : ℕ) → IsPast N most a a
   expects_same most a = (0, omega arith, at_same a)
 
   pub moves_same : (window : ℕ) (e : EndState) → MovesOn N window e e
-  moves_same window e = moves_by window e e (gone_wider window e.sender e.sender (gone_same e.sender)) (expects_same (free e) e.receiver.received)
+  moves_same window e = moves_by window e e (gone_wider window e.sender e.sender (gone_same e.sender))
+      (expects_same (free e) e.receiver.received)
 
   -- an opening is heard
-  pub hearing_moves : (e : EndState) (s : Content) → MovesOn N s.window e (hearing N e s.window (acks N e.sender s.next)).after
-  hearing_moves e s = moves_by s.window e (hearing N e s.window (acks N e.sender s.next)).after (hearing_gone e s.window (acks N e.sender s.next) (at_most_within (length e.sender.unacknowledged) (N.ahead e.sender.front s.next)))
+  pub hearing_moves : (e : EndState) (s : Content)
+      → MovesOn N s.window e (hearing N e s.window (acks N e.sender s.next)).after
+  hearing_moves e s = moves_by s.window e (hearing N e s.window (acks N e.sender s.next)).after
+      (hearing_gone e s.window (acks N e.sender s.next)
+      (at_most_within (length e.sender.unacknowledged) (N.ahead e.sender.front s.next)))
       (heard_receiver (acks N e.sender s.next))
     where
-      heard_receiver : (o : Option ℕ) → IsPast N (free e) e.receiver.received (hearing N e s.window o).after.receiver.received
+      heard_receiver : (o : Option ℕ)
+          → IsPast N (free e) e.receiver.received (hearing N e s.window o).after.receiver.received
       heard_receiver None = expects_same (free e) e.receiver.received
       heard_receiver (Some k) = expects_same (free e) e.receiver.received
 
   pub closing_moves : (e : EndState) → MovesOn N 0 e (closing N e).after
-  closing_moves e = moves_by 0 e (closing N e).after (let h = dropped_gone e.sender in record { passed = h.passed; front = h.front; queue = h.queue; more = h.more; few = h.few; reach = h.reach }) (expects_same (free e) e.receiver.received)
+  closing_moves e = moves_by 0 e (closing N e).after
+      (let h = dropped_gone e.sender in
+      record { passed = h.passed; front = h.front; queue = h.queue; more = h.more; few = h.few; reach = h.reach })
+      (expects_same (free e) e.receiver.received)
 
   pub resetting_moves : (e : EndState) → MovesOn N 0 e (resetting_now N e).after
-  resetting_moves e = moves_by 0 e (resetting_now N e).after (let h = dropped_gone e.sender in record { passed = h.passed; front = h.front; queue = h.queue; more = h.more; few = h.few; reach = h.reach }) (expects_same (free e) e.receiver.received)
+  resetting_moves e = moves_by 0 e (resetting_now N e).after
+      (let h = dropped_gone e.sender in
+      record { passed = h.passed; front = h.front; queue = h.queue; more = h.more; few = h.few; reach = h.reach })
+      (expects_same (free e) e.receiver.received)
 
   pub reading_moves : (e : EndState) (count : ℕ) → MovesOn N 0 e (reading N e count).after
-  reading_moves e count = moves_by 0 e (reading N e count).after (gone_same e.sender) (expects_same (free e) e.receiver.received)
+  reading_moves e count = moves_by 0 e (reading N e count).after (gone_same e.sender)
+      (expects_same (free e) e.receiver.received)
 
   pub writing_moves : (e : EndState) (items : List Item) → MovesOn N 0 e (writing N e items).after
   writing_moves e items =
       let s : Sender = record e.sender { waiting = e.sender.waiting ++ take (places e) items } in
       let h = sent_gone s in
-      record { front = (0, omega arith, at_same e.sender.front); limit = limit_past 0 s (sent_on s) h; expected = expects_same (free e) e.receiver.received }
+      record {
+        front = (0, omega arith, at_same e.sender.front);
+        limit = limit_past 0 s (sent_on s) h;
+        expected = expects_same (free e) e.receiver.received;
+      }
 
   pub ticked_moves : (e : EndState) (tick : Tick) → MovesOn N 0 e (ticked N e tick).after
   ticked_moves e timer.Retransmit = moves_same 0 e
   ticked_moves e timer.Probe = go (is_last e timer.Probe)
     where
       go : (b : Bool) → MovesOn N 0 e (probed N e b).after
-      go true = moves_by 0 e (probed N e true).after (let h = dropped_gone e.sender in record { passed = h.passed; front = h.front; queue = h.queue; more = h.more; few = h.few; reach = h.reach }) (expects_same (free e) e.receiver.received)
+      go true = moves_by 0 e (probed N e true).after
+          (let h = dropped_gone e.sender in
+          record { passed = h.passed; front = h.front; queue = h.queue; more = h.more; few = h.few; reach = h.reach })
+          (expects_same (free e) e.receiver.received)
       go false = moves_by 0 e (probed N e false).after (gone_same e.sender) (expects_same (free e) e.receiver.received)

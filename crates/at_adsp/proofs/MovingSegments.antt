@@ -1,14 +1,17 @@
 -- How far segments, calls and timers let the numbers of the ends of a table go on.
-use Rattle.std.proofs.Common.{◌≡◌, ℕ, ◌+◌, Bool, true, false, cond, List, [], ◌∷◌, length, take, Option, Some, None, refl, subst, ◌∙◌}
+use Rattle.std.proofs.Common.{◌≡◌, ℕ, ◌+◌, Bool, true, false, cond, List, [], ◌∷◌, length, take, Option, Some, None}
+use Rattle.std.proofs.Common.{refl, subst, ◌∙◌}
 use Rattle.std.specs.Prelude.{◌&&◌, ◌==◌, ◌^◌, find, Ok, Err}
 use Rattle.at_ddp.specs.Address.{same_address}
 use Rattle.at_ddp.specs.Tables.{replaced}
 use Rattle.at_ddp.specs.declared.address.Address.{Address}
 use Rattle.at_adsp_frame.specs.Segments.{Content, Part, Open}
 use Rattle.at_adsp_frame.specs.declared.segment.OpenKind.{OpenKind}
-use Rattle.at_adsp_frame.specs.declared.segment.OpenKind.TheVariants.{Request, Acknowledgement, RequestAndAcknowledgement, Denial}
+use Rattle.at_adsp_frame.specs.declared.segment.OpenKind.TheVariants.{Request, Acknowledgement}
+use Rattle.at_adsp_frame.specs.declared.segment.OpenKind.TheVariants.{RequestAndAcknowledgement, Denial}
 use Rattle.at_adsp_end.specs.Calls.{is_last, probed, reading, ticked, writing}
-use Rattle.at_adsp_end.specs.Ends.{EndState, answering, confirming, connector, free, half_end, has_opened, has_remote, is_closed, is_half, is_open, is_opening, limit}
+use Rattle.at_adsp_end.specs.Ends.{EndState, answering, confirming, connector, free, half_end, has_opened, has_remote}
+use Rattle.at_adsp_end.specs.Ends.{is_closed, is_half, is_open, is_opening, limit}
 use Rattle.at_adsp_end.specs.Hearing.{heard, told}
 use Rattle.at_adsp_end.specs.Positions.{Numbers, whole, wire}
 use Rattle.at_adsp_end.specs.Sending.{acks, closing, resetting_now}
@@ -20,13 +23,17 @@ use Rattle.at_adsp_end.specs.declared.step.Step.{Step}
 use Rattle.at_adsp_end.specs.declared.step.Step.TheVariants as step
 use Rattle.at_adsp_end.specs.declared.tick.Tick.{Tick}
 use Rattle.at_adsp_end.specs.declared.tick.Tick.TheVariants as timer
-use Rattle.at_adsp_ends.specs.Calls.{closed_at, connected, finds_no_room, frees, read_at, reset_at, ticked_at, wrote, wrote_some}
-use Rattle.at_adsp_ends.specs.Openings.{ack_came, answer_came, answers_again, confirms_again, connected_to, denial_came, heard_opening, ignored, is_answered, opened, request_came, room_for}
+use Rattle.at_adsp_ends.specs.Calls.{closed_at, connected, finds_no_room, frees, read_at, reset_at, ticked_at, wrote}
+use Rattle.at_adsp_ends.specs.Calls.{wrote_some}
+use Rattle.at_adsp_ends.specs.Openings.{ack_came, answer_came, answers_again, confirms_again, connected_to, denial_came}
+use Rattle.at_adsp_ends.specs.Openings.{heard_opening, ignored, is_answered, opened, request_came, room_for}
 use Rattle.at_adsp_ends.specs.Receiving.{any_request_came, opening_came, part_came, received, segment_came, settled}
-use Rattle.at_adsp_ends.specs.Tables.{Done, EndTable, IdsDiffer, by_id, by_remote, freed, has_id, moved, next_id, stayed}
+use Rattle.at_adsp_ends.specs.Tables.{Done, EndTable, IdsDiffer, by_id, by_remote, freed, has_id, moved, next_id}
+use Rattle.at_adsp_ends.specs.Tables.{stayed}
 use Rattle.at_adsp.specs.Moving.{AllMoveOn, IsPast, MovesOn, MovesOnBy, NeverMovesBack}
 use Rattle.at_adsp.proofs.EndMoves.{hearing_same, heard_quiet, open_is}
-use Rattle.at_adsp.proofs.Moving.{Adds, closing_moves, hearing_moves, reading_moves, resetting_moves, ticked_moves, writing_moves}
+use Rattle.at_adsp.proofs.Moving.{Adds, closing_moves, hearing_moves, reading_moves, resetting_moves, ticked_moves}
+use Rattle.at_adsp.proofs.Moving.{writing_moves}
 use Rattle.at_adsp.proofs.MovingHears.{heard_moves}
 use Rattle.at_adsp.proofs.MovingTables.{all_changed, all_freed, all_made, all_same}
 use Rattle.at_adsp.proofs.Rounds.{at_adds}
@@ -60,15 +67,19 @@ module _ (N : Numbers) (adds : Adds N) (t : EndTable) (differ : IdsDiffer t.ends
   any false = request (by_remote t r)
 
   -- an end opens whose halves were so
-  opens : (q : EndState → Bool) (e f : EndState) → f ≡ record e { remote = f.remote; phase = f.phase } → find q t.ends ≡ Some e → AllMoveOn N s.window t (opened N t f s []).after
+  opens : (q : EndState → Bool) (e f : EndState) → f ≡ record e { remote = f.remote; phase = f.phase } → find q t.ends
+      ≡ Some e → AllMoveOn N s.window t (opened N t f s []).after
   opens q e f same is =
       let h = hearing_moves N adds f s in
       let quiet = hearing_same N f s.window (acks N f.sender s.next) in
       all_changed N adds s.window t q e (heard_opening N f s).after differ is (quiet.id ∙ (λ i. (same i).id))
       (record {
-        front = subst (λ (x : EndState). IsPast N (length x.sender.unacknowledged + length x.sender.waiting) x.sender.front (heard_opening N f s).after.sender.front) same h.front;
-        limit = subst (λ (x : EndState). IsPast N s.window (limit N x.sender) (limit N (heard_opening N f s).after.sender)) same h.limit;
-        expected = subst (λ (x : EndState). IsPast N (free x) x.receiver.received (heard_opening N f s).after.receiver.received) same h.expected;
+        front = subst (λ (x : EndState). IsPast N (length x.sender.unacknowledged + length x.sender.waiting)
+            x.sender.front (heard_opening N f s).after.sender.front) same h.front;
+        limit = subst (λ (x : EndState). IsPast N s.window (limit N x.sender)
+            (limit N (heard_opening N f s).after.sender)) same h.limit;
+        expected = subst (λ (x : EndState). IsPast N (free x) x.receiver.received
+            (heard_opening N f s).after.receiver.received) same h.expected;
       })
 
   ack : (dest : ℕ) (o : Option EndState) → by_id t dest ≡ o → Goes (ack_came N t r s o)
@@ -84,7 +95,8 @@ module _ (N : Numbers) (adds : Adds N) (t : EndTable) (differ : IdsDiffer t.ends
   answer dest there (Some e) is = go (is_answered e r there) (confirms_again e r)
     where
       go : (b c : Bool) →
-          Goes (cond b (opened N t (connected_to e r) s (confirming N (connected_to e r) ∷ [])) (cond c (stayed t step.Again e (confirming N e ∷ [])) (ignored t)))
+          Goes (cond b (opened N t (connected_to e r) s (confirming N (connected_to e r) ∷ []))
+          (cond c (stayed t step.Again e (confirming N e ∷ [])) (ignored t)))
       go true c = opens (has_id dest) e (connected_to e r) refl is
       go false true = all_same N adds s.window t
       go false false = nothing
@@ -102,7 +114,8 @@ module _ (N : Numbers) (adds : Adds N) (t : EndTable) (differ : IdsDiffer t.ends
   segment (Some e) is = go (is_open e.phase) refl
     where
       go : (b : Bool) → is_open e.phase ≡ b → Goes (cond b (settled t (heard N e (told N e s))) (ignored t))
-      go true live = all_changed N adds s.window t (has_remote r) e (heard N e (told N e s)).after differ is (heard_quiet N e (told N e s) (open_is e.phase live)).id (heard_moves N adds e s s.body)
+      go true live = all_changed N adds s.window t (has_remote r) e (heard N e (told N e s)).after differ is
+          (heard_quiet N e (told N e s) (open_is e.phase live)).id (heard_moves N adds e s s.body)
       go false live = nothing
 
   opening : (kind : OpenKind) (dest : ℕ) → Goes (opening_came N t r s kind dest)
@@ -130,7 +143,8 @@ ticked_id N e timer.Probe = probed_id N e (is_last e timer.Probe)
 
 module _ (N : Numbers) (adds : Adds N) (t : EndTable) (differ : IdsDiffer t.ends) where
   -- the end that a call names
-  calls : (id : ℕ) (e f : EndState) → by_id t id ≡ Some e → f.id ≡ e.id → MovesOn N 0 e f → AllMoveOn N 0 t (record t { ends = replaced (has_id f.id) f t.ends })
+  calls : (id : ℕ) (e f : EndState) → by_id t id ≡ Some e → f.id ≡ e.id → MovesOn N 0 e f
+      → AllMoveOn N 0 t (record t { ends = replaced (has_id f.id) f t.ends })
   calls id e f is same moves = all_changed N adds 0 t (has_id id) e f differ is same moves
 
   connects : (to : Address) (o : Option ℕ) → MovesOnBy N t (connected t to o)
@@ -141,7 +155,9 @@ module _ (N : Numbers) (adds : Adds N) (t : EndTable) (differ : IdsDiffer t.ends
   closes id None is = tt
   closes id (Some e) is = go (is_open e.phase)
     where
-      go : (b : Bool) → MovesOnBy N t (cond b (Ok (moved t (step.Closed e.id) (closing N e).after (closing N e).sent)) (Ok (freed t (step.Freed e.id) e)))
+      go : (b : Bool) → MovesOnBy N t
+          (cond b (Ok (moved t (step.Closed e.id) (closing N e).after (closing N e).sent))
+          (Ok (freed t (step.Freed e.id) e)))
       go true = calls id e (closing N e).after is refl (closing_moves N adds e)
       go false = all_freed N adds 0 t e.id differ
 
@@ -149,7 +165,8 @@ module _ (N : Numbers) (adds : Adds N) (t : EndTable) (differ : IdsDiffer t.ends
   ticks tick id None is = tt
   ticks tick id (Some e) is = go (is_closed e.phase) (frees e tick)
     where
-      go : (b c : Bool) → MovesOnBy N t (cond b (Err NotOpen) (cond c (Ok (freed t (step.Freed e.id) e)) (Ok (settled t (ticked N e tick)))))
+      go : (b c : Bool) → MovesOnBy N t
+          (cond b (Err NotOpen) (cond c (Ok (freed t (step.Freed e.id) e)) (Ok (settled t (ticked N e tick)))))
       go true c = tt
       go false true = all_freed N adds 0 t e.id differ
       go false false = calls id e (ticked N e tick).after is (ticked_id N e tick) (ticked_moves N adds e tick)
@@ -158,7 +175,9 @@ module _ (N : Numbers) (adds : Adds N) (t : EndTable) (differ : IdsDiffer t.ends
   reads count id None is = tt
   reads count id (Some e) is = go (has_opened e.phase)
     where
-      go : (b : Bool) → MovesOnBy N t (cond b (Ok (moved t (take count e.receiver.unread) (reading N e count).after (reading N e count).sent)) (Err NotOpen))
+      go : (b : Bool) → MovesOnBy N t
+          (cond b (Ok (moved t (take count e.receiver.unread) (reading N e count).after (reading N e count).sent))
+          (Err NotOpen))
       go true = calls id e (reading N e count).after is refl (reading_moves N adds e count)
       go false = tt
 
@@ -166,7 +185,8 @@ module _ (N : Numbers) (adds : Adds N) (t : EndTable) (differ : IdsDiffer t.ends
   resets id None is = tt
   resets id (Some e) is = go (is_open e.phase)
     where
-      go : (b : Bool) → MovesOnBy N t (cond b (Ok (moved {X = Unit {0}} t tt (resetting_now N e).after (resetting_now N e).sent)) (Err NotOpen))
+      go : (b : Bool) → MovesOnBy N t
+          (cond b (Ok (moved {X = Unit {0}} t tt (resetting_now N e).after (resetting_now N e).sent)) (Err NotOpen))
       go true = calls id e (resetting_now N e).after is refl (resetting_moves N adds e)
       go false = tt
 

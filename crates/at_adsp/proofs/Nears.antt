@@ -1,5 +1,6 @@
 -- What a segment tells an end is the same on the cable, where its numbers lie near those of the end.
-use Rattle.std.proofs.Common.{◌≡◌, ℕ, ◌+◌, ◌-◌, ◌%◌, ◌^◌, ◌<◌, Bool, true, false, cond, Some, None, refl, sym, ap, subst, ◌∙◌, arith, lit<, lit≤}
+use Rattle.std.proofs.Common.{◌≡◌, ℕ, ◌+◌, ◌-◌, ◌%◌, ◌^◌, ◌<◌, Bool, true, false, cond, Some, None, refl, sym, ap}
+use Rattle.std.proofs.Common.{subst, ◌∙◌, arith, lit<, lit≤}
 use Rattle.std.specs.Prelude.{nat_le, nat_lt, ◌==◌, ◌&&◌, length}
 use Rattle.std.proofs.lemmas.Bool.{leb-true, leb-false, eqb-true, eqb-false, eq-eqb, ne_eqb}
 use Rattle.at_adsp_frame.specs.Segments.{Content, Part, Data, Probe, Open, Close, Reset, ResetAck, Advice}
@@ -30,12 +31,14 @@ ahead_near a b h = go (nat_le a b) refl
         let le = leb-true a b e in
         let on = h.on in
         let there : a + (b - a) ≡ b = omega (arith, le) in
-        subst (λ x. wire.ahead (a % M) (x % M) ≡ Some (b - a)) there (ahead_on M (2 ^ 31) a (b - a) (lit≤ tt) (omega (arith, on, le)))
+        subst (λ x. wire.ahead (a % M) (x % M) ≡ Some (b - a)) there
+        (ahead_on M (2 ^ 31) a (b - a) (lit≤ tt) (omega (arith, on, le)))
     go false e =
         let lt = leb-false a b e in
         let back = h.back in
         let there : b + (a - b) ≡ a = omega (arith, lt) in
-        subst (λ x. wire.ahead (x % M) (b % M) ≡ None) there (ahead_back M (2 ^ 31) b (a - b) (omega (arith, lt)) (omega (arith, back, lt)) (lit< tt))
+        subst (λ x. wire.ahead (x % M) (b % M) ≡ None) there
+        (ahead_back M (2 ^ 31) b (a - b) (omega (arith, lt)) (omega (arith, back, lt)) (lit< tt))
 
 -- numbers less than all numbers apart that are one on the cable are one
 one_near : (a b : ℕ) → a < b + 2 ^ 32 → b < a + 2 ^ 32 → a % M ≡ b % M → a ≡ b
@@ -44,7 +47,8 @@ one_near a b back on same = go (nat_le a b) refl
     -- the way from a number to itself
     far_same : (x d : ℕ) → d < M → x % M ≡ (x + d) % M → d ≡ 0
     far_same x d lt is =
-        sym (far_on M x d (lit< tt) lt) ∙ ap (λ y. far_around M (x % M) y) (sym is ∙ ap (λ y. y % M) (omega arith)) ∙ far_on M x 0 (lit< tt) (lit< tt)
+        sym (far_on M x d (lit< tt) lt) ∙ ap (λ y. far_around M (x % M) y) (sym is ∙ ap (λ y. y % M) (omega arith))
+        ∙ far_on M x 0 (lit< tt) (lit< tt)
 
     go : (c : Bool) → nat_le a b ≡ c → a ≡ b
     go true e =
@@ -74,14 +78,17 @@ pub record NearAcks (e : EndState) (next : ℕ) : Type 0 where
   pub back : e.sender.front + length e.sender.unacknowledged < next + 2 ^ 32
 
 -- a number that lies behind acknowledges nothing
-none_behind : (n front next : ℕ) → next < front → front + n < next + 2 ^ 32 → at_most n (wire.ahead (front % M) (next % M)) ≡ None
-none_behind n front next lt near = go (nat_lt (far_around M (front % M) (next % M)) (2 ^ 31)) (nat_le (far_around M (front % M) (next % M)) n) refl
+none_behind : (n front next : ℕ) → next < front → front + n < next + 2 ^ 32
+    → at_most n (wire.ahead (front % M) (next % M)) ≡ None
+none_behind n front next lt near = go (nat_lt (far_around M (front % M) (next % M)) (2 ^ 31))
+    (nat_le (far_around M (front % M) (next % M)) n) refl
   where
     there : next + (front - next) ≡ front
     there = omega (arith, lt)
 
     far : far_around M (front % M) (next % M) ≡ M - (front - next)
-    far = ap (λ x. far_around M (x % M) (next % M)) (sym there) ∙ far_back M next (front - next) (omega (arith, lt)) (omega (arith, lt, near))
+    far = ap (λ x. far_around M (x % M) (next % M)) (sym there)
+        ∙ far_back M next (front - next) (omega (arith, lt)) (omega (arith, lt, near))
 
     go : (c d : Bool) → nat_le (far_around M (front % M) (next % M)) n ≡ d →
         at_most n (cond c (Some (far_around M (front % M) (next % M))) None) ≡ None
@@ -93,35 +100,51 @@ none_behind n front next lt near = go (nat_lt (far_around M (front % M) (next % 
     go false d is = refl
 
 -- what it acknowledges
-pub acks_near : (e : EndState) (next : ℕ) → NearAcks e next → acks wire (wired e).sender (next % M) ≡ acks whole e.sender next
+pub acks_near : (e : EndState) (next : ℕ) → NearAcks e next → acks wire (wired e).sender (next % M)
+    ≡ acks whole e.sender next
 acks_near e next near = go (nat_le e.sender.front next) refl
   where
     go : (c : Bool) → nat_le e.sender.front next ≡ c →
-        at_most (length e.sender.unacknowledged) (wire.ahead (e.sender.front % M) (next % M)) ≡ at_most (length e.sender.unacknowledged) (cond c (Some (next - e.sender.front)) None)
+        at_most (length e.sender.unacknowledged) (wire.ahead (e.sender.front % M) (next % M))
+        ≡ at_most (length e.sender.unacknowledged) (cond c (Some (next - e.sender.front)) None)
     go true is =
         let le = leb-true e.sender.front next is in
         let on = near.on in
         let there : e.sender.front + (next - e.sender.front) ≡ next = omega (arith, le) in
         ap (at_most (length e.sender.unacknowledged))
-        (subst (λ x. wire.ahead (e.sender.front % M) (x % M) ≡ Some (next - e.sender.front)) there (ahead_on M (2 ^ 31) e.sender.front (next - e.sender.front) (lit≤ tt) (omega (arith, on, le))))
-    go false is = none_behind (length e.sender.unacknowledged) e.sender.front next (leb-false e.sender.front next is) near.back
+        (subst (λ x. wire.ahead (e.sender.front % M) (x % M) ≡ Some (next - e.sender.front)) there
+        (ahead_on M (2 ^ 31) e.sender.front (next - e.sender.front) (lit≤ tt) (omega (arith, on, le))))
+    go false is = none_behind (length e.sender.unacknowledged) e.sender.front next
+        (leb-false e.sender.front next is) near.back
 
 -- the numbers of a segment and those of the end that hears it
 pub record IsNear (e : EndState) (s : Content) : Type 0 where
   pub acked : NearAcks e s.next
   pub received : Near e.receiver.received s.first
 
-saying_near : (e : EndState) (s : Content) (part : Part) → IsNear e s → saying wire (wired e) (s.first % M) (s.next % M) part ≡ saying whole e s.first s.next part
-saying_near e s (Data end bytes) h = ap (λ o. Brings (rest (items_in end bytes) o)) (ahead_near s.first e.receiver.received (near_back e.receiver.received s.first h.received))
+saying_near : (e : EndState) (s : Content) (part : Part) → IsNear e s
+    → saying wire (wired e) (s.first % M) (s.next % M) part ≡ saying whole e s.first s.next part
+saying_near e s (Data end bytes) h =
+    ap (λ o. Brings (rest (items_in end bytes) o))
+    (ahead_near s.first e.receiver.received (near_back e.receiver.received s.first h.received))
 saying_near e s Probe h = refl
 saying_near e s (Open kind dest) h = refl
 saying_near e s Close h = refl
-saying_near e s Reset h = λ i. Resets (fitting (free e) (ahead_near e.receiver.received s.first h.received i) (ahead_near s.first e.receiver.received (near_back e.receiver.received s.first h.received) i))
+saying_near e s Reset h =
+    λ i. Resets (fitting (free e) (ahead_near e.receiver.received s.first h.received i)
+    (ahead_near s.first e.receiver.received (near_back e.receiver.received s.first h.received) i))
 saying_near e s ResetAck h =
     ap (λ b. Answers (e.sender.resetting && b))
     (ap (λ x. s.next % M == x) (at_adds M e.sender.front (length e.sender.unacknowledged))
-    ∙ equal_near s.next (e.sender.front + length e.sender.unacknowledged) (let a = h.acked in let on = a.on in omega (arith, on)) (let a = h.acked in let back = a.back in omega (arith, back)))
+    ∙ equal_near s.next (e.sender.front + length e.sender.unacknowledged)
+    (let a = h.acked in let on = a.on in omega (arith, on))
+    (let a = h.acked in let back = a.back in omega (arith, back)))
 saying_near e s Advice h = refl
 
 pub told_near : (e : EndState) (s : Content) → IsNear e s → told wire (wired e) (wired_segment s) ≡ told whole e s
-told_near e s h = λ i. record { acks = acks_near e s.next h.acked i; window = s.window; ack = s.ack; saying = saying_near e s s.body h i }
+told_near e s h = λ i. record {
+  acks = acks_near e s.next h.acked i;
+  window = s.window;
+  ack = s.ack;
+  saying = saying_near e s s.body h i;
+}

@@ -8,8 +8,10 @@ use Rattle.at_ddp.specs.declared.address.Address.{Address}
 use Rattle.at_ddp.proofs.Alls.{found_passes}
 use Rattle.at_adsp_frame.specs.Segments.{Content, Open, Part}
 use Rattle.at_adsp_frame.specs.declared.segment.OpenKind.{OpenKind}
-use Rattle.at_adsp_frame.specs.declared.segment.OpenKind.TheVariants.{Request, Acknowledgement, RequestAndAcknowledgement, Denial}
-use Rattle.at_adsp_end.specs.Ends.{EndState, answering, confirming, has_opened, has_remote, is_half, is_open, is_opening}
+use Rattle.at_adsp_frame.specs.declared.segment.OpenKind.TheVariants.{Request, Acknowledgement}
+use Rattle.at_adsp_frame.specs.declared.segment.OpenKind.TheVariants.{RequestAndAcknowledgement, Denial}
+use Rattle.at_adsp_end.specs.Ends.{EndState, answering, confirming, has_opened, has_remote, is_half, is_open}
+use Rattle.at_adsp_end.specs.Ends.{is_opening}
 use Rattle.at_adsp_end.specs.Hearing.{heard, told}
 use Rattle.at_adsp_end.specs.Positions.{Numbers}
 use Rattle.at_adsp_end.specs.Sending.{acks, hearing}
@@ -17,7 +19,8 @@ use Rattle.at_adsp_end.specs.declared.phase.Phase.TheVariants as phase
 use Rattle.at_adsp_end.specs.declared.remote.Remote.{Remote}
 use Rattle.at_adsp_end.specs.declared.step.Step.{Step}
 use Rattle.at_adsp_end.specs.declared.step.Step.TheVariants as step
-use Rattle.at_adsp_ends.specs.Openings.{ack_came, answer_came, answers_again, confirms_again, connected_to, denial_came, heard_opening, ignored, is_answered, opened, request_came, room_for}
+use Rattle.at_adsp_ends.specs.Openings.{ack_came, answer_came, answers_again, confirms_again, connected_to, denial_came}
+use Rattle.at_adsp_ends.specs.Openings.{heard_opening, ignored, is_answered, opened, request_came, room_for}
 use Rattle.at_adsp_ends.specs.Receiving.{any_request_came, opening_came, part_came, received, segment_came, settled}
 use Rattle.at_adsp_ends.specs.Tables.{Done, EndTable, by_id, by_remote, freed, has_id, next_id, stayed}
 use Rattle.at_adsp.proofs.EndMoves.{half_is, hearing_same, opening_is}
@@ -54,10 +57,12 @@ module _ (N : Numbers) (t : EndTable) (from : Address) (s : Content) where
   heard_first f = (heard_opening N f s).after
 
   -- an end that stands under this identifier opens as this one, and hears the segment
-  opened_so : (dest : ℕ) (e f : EndState) (first : List Content) → by_id t dest ≡ Some e → has_opened e.phase ≡ false → f.id ≡ e.id → has_opened f.phase ≡ true → After (opened N t f s first)
+  opened_so : (dest : ℕ) (e f : EndState) (first : List Content) → by_id t dest ≡ Some e → has_opened e.phase ≡ false
+      → f.id ≡ e.id → has_opened f.phase ≡ true → After (opened N t f s first)
   opened_so dest e f first is closed own opens =
       let same = hearing_same N f s.window (acks N f.sender s.next) in
-      let stood : by_id t f.id ≡ Some e = ap (by_id t) (own ∙ eqb-true e.id dest (found_passes (has_id dest) t.ends e is)) ∙ is in
+      let stood : by_id t f.id
+      ≡ Some e = ap (by_id t) (own ∙ eqb-true e.id dest (found_passes (has_id dest) t.ends e is)) ∙ is in
       record {
         before = e;
         was = stood;
@@ -65,7 +70,8 @@ module _ (N : Numbers) (t : EndTable) (from : Address) (s : Content) where
         after = heard_first f;
         is =
             ap (λ k. find (has_id k) (replaced (has_id (heard_first f).id) (heard_first f) t.ends)) (sym same.id)
-            ∙ replaced_found (has_id (heard_first f).id) e (heard_first f) t.ends (ap (by_id t) same.id ∙ stood) (eq-eqb (heard_first f).id (heard_first f).id refl);
+            ∙ replaced_found (has_id (heard_first f).id) e (heard_first f) t.ends (ap (by_id t) same.id ∙ stood)
+            (eq-eqb (heard_first f).id (heard_first f).id refl);
         opened = ap has_opened same.phase ∙ opens;
       }
 
@@ -73,8 +79,10 @@ module _ (N : Numbers) (t : EndTable) (from : Address) (s : Content) where
   ack_opens dest None is = tt
   ack_opens dest (Some e) is = go (is_half e.phase && has_remote r e) refl
     where
-      go : (b : Bool) → (is_half e.phase && has_remote r e) ≡ b → After (cond b (opened N t (record e { phase = phase.Open }) s []) (ignored t))
-      go true h = opened_so dest e (record e { phase = phase.Open }) [] is (ap has_opened (half_is e.phase (and_parts (is_half e.phase) (has_remote r e) h).0)) refl refl
+      go : (b : Bool) → (is_half e.phase && has_remote r e) ≡ b
+          → After (cond b (opened N t (record e { phase = phase.Open }) s []) (ignored t))
+      go true h = opened_so dest e (record e { phase = phase.Open }) [] is
+          (ap has_opened (half_is e.phase (and_parts (is_half e.phase) (has_remote r e) h).0)) refl refl
       go false h = tt
 
   answer_opens : (dest : ℕ) (there o : Option EndState) → by_id t dest ≡ o → After (answer_came N t r s there o)
@@ -82,10 +90,13 @@ module _ (N : Numbers) (t : EndTable) (from : Address) (s : Content) where
   answer_opens dest there (Some e) is = go (is_answered e r there) refl (confirms_again e r)
     where
       go : (b : Bool) → is_answered e r there ≡ b → (c : Bool) →
-          After (cond b (opened N t (connected_to e r) s (confirming N (connected_to e r) ∷ [])) (cond c (stayed t step.Again e (confirming N e ∷ [])) (ignored t)))
+          After (cond b (opened N t (connected_to e r) s (confirming N (connected_to e r) ∷ []))
+          (cond c (stayed t step.Again e (confirming N e ∷ [])) (ignored t)))
       go true h c =
-          let opening = (and_parts (is_opening e.phase) (same_address e.asked from) (and_parts (is_opening e.phase && same_address e.asked from) (is_none there) h).0).0 in
-          opened_so dest e (connected_to e r) (confirming N (connected_to e r) ∷ []) is (ap has_opened (opening_is e.phase opening)) refl refl
+          let opening = (and_parts (is_opening e.phase) (same_address e.asked from)
+          (and_parts (is_opening e.phase && same_address e.asked from) (is_none there) h).0).0 in
+          opened_so dest e (connected_to e r) (confirming N (connected_to e r) ∷ []) is
+          (ap has_opened (opening_is e.phase opening)) refl refl
       go false h true = tt
       go false h false = tt
 
@@ -118,7 +129,8 @@ module _ (N : Numbers) (t : EndTable) (from : Address) (s : Content) where
   segment_opens (Some e) = go (is_open e.phase)
     where
       go : (b : Bool) → After (cond b (settled t (heard N e (told N e s))) (ignored t))
-      go true = quiet_opens t (settled t (heard N e (told N e s))).after (heard N e (told N e s)).step (heard_step N (hearing N e s.window (acks N e.sender s.next)) s.ack (told N e s).saying)
+      go true = quiet_opens t (settled t (heard N e (told N e s))).after (heard N e (told N e s)).step
+          (heard_step N (hearing N e s.window (acks N e.sender s.next)) s.ack (told N e s).saying)
       go false = tt
 
   opening_opens : (kind : OpenKind) (dest : ℕ) → After (opening_came N t r s kind dest)

@@ -1,5 +1,6 @@
 -- How far the ends of a network go on at calls and timers.
-use Rattle.std.proofs.Common.{◌≡◌, ℕ, ◌+◌, ◌≤◌, Bool, true, false, cond, List, [], ◌∷◌, Option, Some, None, inl, inr, refl, sym, ap, subst, ◌∙◌, arith}
+use Rattle.std.proofs.Common.{◌≡◌, ℕ, ◌+◌, ◌≤◌, Bool, true, false, cond, List, [], ◌∷◌, Option, Some, None, inl, inr}
+use Rattle.std.proofs.Common.{refl, sym, ap, subst, ◌∙◌, arith}
 use Rattle.std.specs.Prelude.{find, not, take, length, ◌++◌, Ok, Err, ◌&&◌}
 use Rattle.std.specs.List.{AllByRecursion}
 use Rattle.std.proofs.lemmas.Bool.{true≢false}
@@ -16,70 +17,108 @@ use Rattle.at_adsp_end.specs.declared.phase.Phase.TheVariants as phase
 use Rattle.at_adsp_end.specs.declared.step.Step.TheVariants as step
 use Rattle.at_adsp_end.specs.declared.tick.Tick.{Tick}
 use Rattle.at_adsp_end.specs.declared.tick.Tick.TheVariants.{Retransmit, Probe}
-use Rattle.at_adsp_ends.specs.Calls.{closed_at, connected, finds_no_room, frees, listened, read_at, reset_at, ticked_at, wrote, wrote_some}
+use Rattle.at_adsp_ends.specs.Calls.{closed_at, connected, finds_no_room, frees, listened, read_at, reset_at, ticked_at}
+use Rattle.at_adsp_ends.specs.Calls.{wrote, wrote_some}
 use Rattle.at_adsp_ends.specs.Receiving.{settled}
 use Rattle.at_adsp_ends.specs.Tables.{EndTable, by_id, freed, has_id, moved, next_id, without_end}
-use Rattle.at_adsp.specs.Network.{Setting, Network, NoneNames, calls, calls_with, does, does_with, gave_up, listens, put, stamped, wrote_first}
+use Rattle.at_ddp.specs.Posts.{put, stamped}
+use Rattle.at_ddp.proofs.PostLemmas.{put_elsewhere, sent_both}
+use Rattle.at_adsp.specs.Network.{Setting, Network, NoneNames, calls, calls_with, does, does_with, gave_up, listens}
+use Rattle.at_adsp.specs.Network.{wrote_first}
 use Rattle.at_adsp.specs.Orders.{whole_numbered}
 use Rattle.at_adsp.specs.Streams.{Deed, Nothing, Read, GaveUp}
 use Rattle.at_adsp.proofs.Distinct.{drawn}
 use Rattle.at_adsp.proofs.EndMoves.{Quiet, open_is, quiet_opened}
-use Rattle.at_adsp.proofs.PacedEnds.{Pace, PaceOf, Paced, TellsHere, TellsNothing, changed_pace, made_pace, nothing_told, pace_later, paced}
-use Rattle.at_adsp.proofs.PacedDeeds.{again_paces, closing_follows, closing_paces, probed_follows, probed_paces, reading_follows, reading_paces, resetting_follows, resetting_paces, writing_follows, writing_paces}
+use Rattle.at_adsp.proofs.PacedEnds.{Pace, PaceOf, Paced, TellsHere, TellsNothing, changed_pace, made_pace}
+use Rattle.at_adsp.proofs.PacedEnds.{nothing_told, pace_later, paced}
+use Rattle.at_adsp.proofs.PacedDeeds.{again_paces, closing_follows, closing_paces, probed_follows, probed_paces}
+use Rattle.at_adsp.proofs.PacedDeeds.{reading_follows, reading_paces, resetting_follows, resetting_paces}
+use Rattle.at_adsp.proofs.PacedDeeds.{writing_follows, writing_paces}
 use Rattle.at_adsp.proofs.Paces.{Follows, Keeps, Paces}
-use Rattle.at_adsp.proofs.Sayings.{put_elsewhere, sent_both}
 use Rattle.at_adsp.proofs.Sound.{Sound, Stands}
 use Rattle.at_adsp.proofs.Steps.{moves, old, s as stood, same_peer}
 
 -- ---- an end that moves quietly
 
-module _ (room : ℕ) (deed : Deed) (setting : Setting) (n : Network) (at : Address) (q : EndState → Bool) (e f : EndState) (sound : Sound setting (n.event + 1) n) (is : find q (n.tables at).ends ≡ Some e) (quiet : Quiet e f) (pace : PaceOf room (n.event + 1) n) where
+module _ (room : ℕ) (deed : Deed) (setting : Setting) (n : Network) (at : Address) (q : EndState → Bool)
+    (e f : EndState) (sound : Sound setting (n.event + 1) n) (is : find q (n.tables at).ends ≡ Some e)
+    (quiet : Quiet e f) (pace : PaceOf room (n.event + 1) n) where
   abbrev it : Stands setting n.made at e
   it = stood deed setting n at q e f sound is quiet
 
   was : Paced room pace.marks (stood deed setting n at q e f sound is quiet).it
-  was = paced room deed setting n at e f sound (stood deed setting n at q e f sound is quiet) (moves deed setting n at q e f sound is quiet) pace
+  was = paced room deed setting n at e f sound (stood deed setting n at q e f sound is quiet)
+      (moves deed setting n at q e f sound is quiet) pace
 
-  pub quiet_pace : {X : Type 0} (answer : X) (out : List Content) → (Keeps room e → Paces room e f out) → (has_opened f.phase ≡ false → (f.sender ≡ e.sender) × (f.receiver ≡ e.receiver)) →
-      ((b : ℕ) → it.it.stream.peer ≡ Some b → Follows room (pace.marks b) e → Follows room (pace.marks b) f) → PaceOf room (n.event + 1) (does_with deed setting n at (moved (n.tables at) answer f out))
+  pub quiet_pace : {X : Type 0} (answer : X) (out : List Content) → (Keeps room e → Paces room e f out)
+      → (has_opened f.phase ≡ false → (f.sender ≡ e.sender) × (f.receiver ≡ e.receiver)) →
+      ((b : ℕ) → it.it.stream.peer ≡ Some b → Follows room (pace.marks b) e → Follows room (pace.marks b) f)
+      → PaceOf room (n.event + 1) (does_with deed setting n at (moved (n.tables at) answer f out))
   quiet_pace answer out goes begins follows =
       let o = old deed setting n at q e f sound is quiet in
       let w = was in
-      changed_pace room deed setting n at e f sound it (moves deed setting n at q e f sound is quiet) pace out (goes (subst (Keeps room) it.last w.keeps))
+      changed_pace room deed setting n at e f sound it (moves deed setting n at q e f sound is quiet) pace out
+      (goes (subst (Keeps room) it.last w.keeps))
       (λ unopened.
       let same = begins unopened in
-      let none = w.begins (ap (λ (x : EndState). has_opened x.phase) it.last ∙ sym (quiet_opened e f quiet) ∙ unopened) in
-      (same.0 ∙ ap (λ (x : EndState). x.sender) (sym it.last) ∙ none.0, same.1 ∙ ap (λ (x : EndState). x.receiver) (sym it.last) ∙ none.1))
-      (λ b peer. let p = sym (same_peer deed setting n at q e f sound is quiet) ∙ peer in follows b p (subst (Follows room (pace.marks b)) it.last (w.follows b p)))
+      let none = w.begins (ap (λ (x : EndState). has_opened x.phase) it.last ∙ sym (quiet_opened e f quiet) ∙ unopened)
+      in (
+        same.0 ∙ ap (λ (x : EndState). x.sender) (sym it.last) ∙ none.0,
+        same.1
+            ∙ ap (λ (x : EndState). x.receiver) (sym it.last) ∙ none.1,
+      ))
+      (λ b peer. let p = sym (same_peer deed setting n at q e f sound is quiet)
+      ∙ peer in follows b p (subst (Follows room (pace.marks b)) it.last (w.follows b p)))
       answer o.0 o.1
 
 -- ---- what changes no end
 
-pub kept_pace : (room : ℕ) (n : Network) (at to : Address) (t : EndTable) (out : List Content) → t.rooms.receive ≤ room → AllByRecursion (TellsNothing room) out → PaceOf room (n.event + 1) n →
+pub kept_pace : (room : ℕ) (n : Network) (at to : Address) (t : EndTable) (out : List Content) → t.rooms.receive ≤ room
+    → AllByRecursion (TellsNothing room) out → PaceOf room (n.event + 1) n →
     Pace room (n.event + 1) (put n.tables at t) n.made (n.sent ++ stamped n.event at (addressed to out))
 kept_pace room n at to t out fits nothing pace = record {
   marks = pace.marks;
   none = pace.none;
   ends = pace.ends;
-  sent = sent_both (TellsHere room n.made pace.marks) n.sent (stamped n.event at (addressed to out)) pace.sent (nothing_told room n.made pace.marks n.event at to out nothing);
+  sent = sent_both (TellsHere room n.made pace.marks) n.sent (stamped n.event at (addressed to out)) pace.sent
+      (nothing_told room n.made pace.marks n.event at to out nothing);
   rooms = put_elsewhere (λ a (x : EndTable). x.rooms.receive ≤ room) n.tables at t (λ a other. pace.rooms a) fits;
 }
 
 -- ---- calls
 
-pub connects_pace : (room : ℕ) (setting : Setting) (n : Network) (at to : Address) → Sound setting n.event n → PaceOf room n.event n → ((id : ℕ) → next_id (n.tables at) ≡ Some id → NoneNames n at id) →
+pub connects_pace : (room : ℕ) (setting : Setting) (n : Network) (at to : Address) → Sound setting n.event n
+    → PaceOf room n.event n → ((id : ℕ) → next_id (n.tables at) ≡ Some id → NoneNames n at id) →
     PaceOf room (n.event + 1) (calls setting n at (connected (n.tables at) to (next_id (n.tables at))))
 connects_pace room setting n at to sound pace unnamed = go (next_id (n.tables at)) refl
   where
-    go : (o : Option ℕ) → next_id (n.tables at) ≡ o → PaceOf room (n.event + 1) (calls setting n at (connected (n.tables at) to o))
+    go : (o : Option ℕ) → next_id (n.tables at) ≡ o
+        → PaceOf room (n.event + 1) (calls setting n at (connected (n.tables at) to o))
     go None is = pace_later room n pace
     go (Some id) is =
         let fits = pace.rooms at in
         made_pace room setting n at (connector (n.tables at).rooms id to) sound
-        (record { drawn = drawn (n.tables at) id (sound.next at) is; known = (refl, refl); unopened = refl; unnamed = unnamed id is }) pace (refl, refl) (record { queue = omega arith; space = fits }) id
-        (asking (connector (n.tables at).rooms id to) ∷ []) (record { window = omega (arith, fits); tells = λ m. record { source = refl; first = omega arith; next = omega arith; window = omega (arith, fits) } }, tt)
+        (record {
+          drawn = drawn (n.tables at) id (sound.next at) is;
+          known = (refl, refl);
+          unopened = refl;
+          unnamed = unnamed id is;
+        }) pace (refl, refl) (record { queue = omega arith; space = fits }) id
+        (asking (connector (n.tables at).rooms id to) ∷ []) (
+          record {
+            window = omega (arith, fits);
+            tells = λ m. record {
+              source = refl;
+              first = omega arith;
+              next = omega arith;
+              window = omega (arith, fits);
+            };
+          },
+          tt,
+        )
 
-module _ (room : ℕ) (setting : Setting) (n : Network) (at : Address) (id : ℕ) (sound : Sound (whole_numbered setting) (n.event + 1) n) (pace : PaceOf room (n.event + 1) n) where
+module _ (room : ℕ) (setting : Setting) (n : Network) (at : Address) (id : ℕ)
+    (sound : Sound (whole_numbered setting) (n.event + 1) n) (pace : PaceOf room (n.event + 1) n) where
   abbrev W : Setting
   W = whole_numbered setting
 
@@ -90,65 +129,105 @@ module _ (room : ℕ) (setting : Setting) (n : Network) (at : Address) (id : ℕ
   closes_pace = go (by_id (n.tables at) id) refl
     where
       which : (e : EndState) → by_id (n.tables at) id ≡ Some e → (b : Bool) → is_open e.phase ≡ b →
-          PaceOf room (n.event + 1) (calls W n at (cond b (Ok (moved (n.tables at) (step.Closed e.id) (closing whole e).after (closing whole e).sent)) (Ok (freed (n.tables at) (step.Freed e.id) e))))
+          PaceOf room (n.event + 1)
+          (calls W n at (cond b (Ok
+          (moved (n.tables at) (step.Closed e.id) (closing whole e).after (closing whole e).sent))
+          (Ok (freed (n.tables at) (step.Freed e.id) e))))
       which e is true opened =
-          quiet_pace room Nothing W n at (has_id id) e (closing whole e).after sound is (record { id = refl; listener = refl; asked = refl; remote = refl; phase = inr (open_is e.phase opened, refl) }) pace
-          (step.Closed e.id) (closing whole e).sent (closing_paces room e) (λ unopened. absurd (true≢false unopened)) (λ b peer h. closing_follows room e (pace.marks b) h)
+          quiet_pace room Nothing W n at (has_id id) e (closing whole e).after sound is
+          (record {
+            id = refl;
+            listener = refl;
+            asked = refl;
+            remote = refl;
+            phase = inr (open_is e.phase opened, refl);
+          }) pace
+          (step.Closed e.id) (closing whole e).sent (closing_paces room e) (λ unopened. absurd (true≢false unopened))
+          (λ b peer h. closing_follows room e (pace.marks b) h)
       which e is false opened = kept_pace room n at e.asked (without_end (n.tables at) e.id) [] (pace.rooms at) tt pace
 
-      go : (o : Option EndState) → by_id (n.tables at) id ≡ o → PaceOf room (n.event + 1) (calls W n at (closed_at whole (n.tables at) o))
+      go : (o : Option EndState) → by_id (n.tables at) id ≡ o
+          → PaceOf room (n.event + 1) (calls W n at (closed_at whole (n.tables at) o))
       go None is = pace
       go (Some e) is = which e is (is_open e.phase) refl
 
-  pub writes_pace : (items : List Item) → PaceOf room (n.event + 1) (calls_with (wrote_first items) W n at (wrote whole (n.tables at) items (by_id (n.tables at) id)))
+  pub writes_pace : (items : List Item)
+      → PaceOf room (n.event + 1)
+      (calls_with (wrote_first items) W n at (wrote whole (n.tables at) items (by_id (n.tables at) id)))
   writes_pace items = go (by_id (n.tables at) id) refl
     where
       which : (e : EndState) → by_id (n.tables at) id ≡ Some e → (b c : Bool) → is_open e.phase ≡ b →
-          PaceOf room (n.event + 1) (calls_with (wrote_first items) W n at (cond b (cond c (Err NoRoom) (Ok (wrote_some whole (n.tables at) items e))) (Err NotOpen)))
+          PaceOf room (n.event + 1)
+          (calls_with (wrote_first items) W n at
+          (cond b (cond c (Err NoRoom) (Ok (wrote_some whole (n.tables at) items e))) (Err NotOpen)))
       which e is true true opened = pace
       which e is true false opened =
-          quiet_pace room (wrote_first items (length (take (places e) items))) W n at (has_id id) e (writing whole e items).after sound is
-          (record { id = refl; listener = refl; asked = refl; remote = refl; phase = inl refl }) pace (length (take (places e) items)) (writing whole e items).sent
-          (writing_paces room e items) (λ unopened. was_opened e.phase opened unopened) (λ b peer h. writing_follows room e items (pace.marks b) h)
+          quiet_pace room (wrote_first items (length (take (places e) items))) W n at (has_id id) e
+          (writing whole e items).after sound is
+          (record { id = refl; listener = refl; asked = refl; remote = refl; phase = inl refl }) pace
+          (length (take (places e) items)) (writing whole e items).sent
+          (writing_paces room e items) (λ unopened. was_opened e.phase opened unopened)
+          (λ b peer h. writing_follows room e items (pace.marks b) h)
       which e is false c opened = pace
 
-      go : (o : Option EndState) → by_id (n.tables at) id ≡ o → PaceOf room (n.event + 1) (calls_with (wrote_first items) W n at (wrote whole (n.tables at) items o))
+      go : (o : Option EndState) → by_id (n.tables at) id ≡ o
+          → PaceOf room (n.event + 1) (calls_with (wrote_first items) W n at (wrote whole (n.tables at) items o))
       go None is = pace
       go (Some e) is = which e is (is_open e.phase) (finds_no_room e items) refl
 
-  pub reads_pace : (count : ℕ) → PaceOf room (n.event + 1) (calls_with Read W n at (read_at whole (n.tables at) count (by_id (n.tables at) id)))
+  pub reads_pace : (count : ℕ)
+      → PaceOf room (n.event + 1) (calls_with Read W n at (read_at whole (n.tables at) count (by_id (n.tables at) id)))
   reads_pace count = go (by_id (n.tables at) id) refl
     where
       which : (e : EndState) → by_id (n.tables at) id ≡ Some e → (b : Bool) → has_opened e.phase ≡ b →
-          PaceOf room (n.event + 1) (calls_with Read W n at (cond b (Ok (moved (n.tables at) (take count e.receiver.unread) (reading whole e count).after (reading whole e count).sent)) (Err NotOpen)))
+          PaceOf room (n.event + 1)
+          (calls_with Read W n at (cond b
+          (Ok (moved (n.tables at) (take count e.receiver.unread) (reading whole e count).after
+          (reading whole e count).sent)) (Err NotOpen)))
       which e is true opened =
-          quiet_pace room (Read (take count e.receiver.unread)) W n at (has_id id) e (reading whole e count).after sound is (record { id = refl; listener = refl; asked = refl; remote = refl; phase = inl refl }) pace
-          (take count e.receiver.unread) (reading whole e count).sent (reading_paces room e count) (λ unopened. absurd (true≢false (sym opened ∙ unopened))) (λ b peer h. reading_follows room e count (pace.marks b) h)
+          quiet_pace room (Read (take count e.receiver.unread)) W n at (has_id id) e
+          (reading whole e count).after sound is
+          (record { id = refl; listener = refl; asked = refl; remote = refl; phase = inl refl }) pace
+          (take count e.receiver.unread) (reading whole e count).sent (reading_paces room e count)
+          (λ unopened. absurd (true≢false (sym opened ∙ unopened)))
+          (λ b peer h. reading_follows room e count (pace.marks b) h)
       which e is false opened = pace
 
-      go : (o : Option EndState) → by_id (n.tables at) id ≡ o → PaceOf room (n.event + 1) (calls_with Read W n at (read_at whole (n.tables at) count o))
+      go : (o : Option EndState) → by_id (n.tables at) id ≡ o
+          → PaceOf room (n.event + 1) (calls_with Read W n at (read_at whole (n.tables at) count o))
       go None is = pace
       go (Some e) is = which e is (has_opened e.phase) refl
 
-  pub resets_pace : PaceOf room (n.event + 1) (calls_with gave_up W n at (reset_at whole (n.tables at) (by_id (n.tables at) id)))
+  pub resets_pace : PaceOf room (n.event + 1)
+      (calls_with gave_up W n at (reset_at whole (n.tables at) (by_id (n.tables at) id)))
   resets_pace = go (by_id (n.tables at) id) refl
     where
       which : (e : EndState) → by_id (n.tables at) id ≡ Some e → (b : Bool) → is_open e.phase ≡ b →
-          PaceOf room (n.event + 1) (calls_with gave_up W n at (cond b (Ok (moved {X = Unit {0}} (n.tables at) tt (resetting_now whole e).after (resetting_now whole e).sent)) (Err NotOpen)))
+          PaceOf room (n.event + 1)
+          (calls_with gave_up W n at
+          (cond b (Ok (moved {X = Unit {0}} (n.tables at) tt (resetting_now whole e).after
+          (resetting_now whole e).sent)) (Err NotOpen)))
       which e is true opened =
-          quiet_pace room GaveUp W n at (has_id id) e (resetting_now whole e).after sound is (record { id = refl; listener = refl; asked = refl; remote = refl; phase = inl refl }) pace {X = Unit {0}} tt (resetting_now whole e).sent
-          (resetting_paces room e) (λ unopened. was_opened e.phase opened unopened) (λ b peer h. resetting_follows room e (pace.marks b) h)
+          quiet_pace room GaveUp W n at (has_id id) e (resetting_now whole e).after sound is
+          (record { id = refl; listener = refl; asked = refl; remote = refl; phase = inl refl }) pace
+          {X = Unit {0}} tt (resetting_now whole e).sent
+          (resetting_paces room e) (λ unopened. was_opened e.phase opened unopened)
+          (λ b peer h. resetting_follows room e (pace.marks b) h)
       which e is false opened = pace
 
-      go : (o : Option EndState) → by_id (n.tables at) id ≡ o → PaceOf room (n.event + 1) (calls_with gave_up W n at (reset_at whole (n.tables at) o))
+      go : (o : Option EndState) → by_id (n.tables at) id ≡ o
+          → PaceOf room (n.event + 1) (calls_with gave_up W n at (reset_at whole (n.tables at) o))
       go None is = pace
       go (Some e) is = which e is (is_open e.phase) refl
 
   -- ---- timers
 
-  tick_pace : (e : EndState) (tick : Tick) → by_id (n.tables at) id ≡ Some e → is_closed e.phase ≡ false → frees e tick ≡ false → PaceOf room (n.event + 1) (does W n at (settled (n.tables at) (ticked whole e tick)))
+  tick_pace : (e : EndState) (tick : Tick) → by_id (n.tables at) id ≡ Some e → is_closed e.phase ≡ false → frees e tick
+      ≡ false → PaceOf room (n.event + 1) (does W n at (settled (n.tables at) (ticked whole e tick)))
   tick_pace e Retransmit is open_ stays =
-      quiet_pace room Nothing W n at (has_id id) e e sound is (record { id = refl; listener = refl; asked = refl; remote = refl; phase = inl refl }) pace (ticked whole e Retransmit).step (ticked whole e Retransmit).sent
+      quiet_pace room Nothing W n at (has_id id) e e sound is
+      (record { id = refl; listener = refl; asked = refl; remote = refl; phase = inl refl }) pace
+      (ticked whole e Retransmit).step (ticked whole e Retransmit).sent
       (again_paces room e) (λ unopened. (refl, refl)) (λ b peer h. h)
   tick_pace e Probe is open_ stays = go (is_last e Probe) stays
     where
@@ -156,34 +235,54 @@ module _ (room : ℕ) (setting : Setting) (n : Network) (at : Address) (id : ℕ
       opened true h g = open_is e.phase h
       opened false h g = absurd (true≢false g)
 
-      go : (b : Bool) → (b && not (is_open e.phase)) ≡ false → PaceOf room (n.event + 1) (does W n at (settled (n.tables at) (probed whole e b)))
+      go : (b : Bool) → (b && not (is_open e.phase)) ≡ false
+          → PaceOf room (n.event + 1) (does W n at (settled (n.tables at) (probed whole e b)))
       go true h =
           quiet_pace room Nothing W n at (has_id id) e (probed whole e true).after sound is
-          (record { id = refl; listener = refl; asked = refl; remote = refl; phase = inr (opened (is_open e.phase) refl h, refl) }) pace (probed whole e true).step []
-          (probed_paces room e true) (λ unopened. absurd (true≢false unopened)) (λ b peer g. probed_follows room e true (pace.marks b) g)
+          (record {
+            id = refl;
+            listener = refl;
+            asked = refl;
+            remote = refl;
+            phase = inr (opened (is_open e.phase) refl h, refl);
+          }) pace (probed whole e true).step []
+          (probed_paces room e true) (λ unopened. absurd (true≢false unopened))
+          (λ b peer g. probed_follows room e true (pace.marks b) g)
       go false h =
-          quiet_pace room Nothing W n at (has_id id) e (probed whole e false).after sound is (record { id = refl; listener = refl; asked = refl; remote = refl; phase = inl refl }) pace (probed whole e false).step
-          (probed whole e false).sent (probed_paces room e false) (λ unopened. (refl, refl)) (λ b peer g. probed_follows room e false (pace.marks b) g)
+          quiet_pace room Nothing W n at (has_id id) e (probed whole e false).after sound is
+          (record { id = refl; listener = refl; asked = refl; remote = refl; phase = inl refl }) pace
+          (probed whole e false).step
+          (probed whole e false).sent (probed_paces room e false) (λ unopened. (refl, refl))
+          (λ b peer g. probed_follows room e false (pace.marks b) g)
 
-  pub ticks_pace : (tick : Tick) → PaceOf room (n.event + 1) (calls W n at (ticked_at whole (n.tables at) tick (by_id (n.tables at) id)))
+  pub ticks_pace : (tick : Tick)
+      → PaceOf room (n.event + 1) (calls W n at (ticked_at whole (n.tables at) tick (by_id (n.tables at) id)))
   ticks_pace tick = go (by_id (n.tables at) id) refl
     where
-      which : (e : EndState) → by_id (n.tables at) id ≡ Some e → (b c : Bool) → is_closed e.phase ≡ b → frees e tick ≡ c →
-          PaceOf room (n.event + 1) (calls W n at (cond b (Err NotOpen) (cond c (Ok (freed (n.tables at) (step.Freed e.id) e)) (Ok (settled (n.tables at) (ticked whole e tick))))))
+      which : (e : EndState) → by_id (n.tables at) id ≡ Some e → (b c : Bool) → is_closed e.phase ≡ b → frees e tick
+          ≡ c →
+          PaceOf room (n.event + 1)
+          (calls W n at (cond b (Err NotOpen)
+          (cond c (Ok (freed (n.tables at) (step.Freed e.id) e))
+          (Ok (settled (n.tables at) (ticked whole e tick))))))
       which e is true c open_ h = pace
-      which e is false true open_ h = kept_pace room n at e.asked (without_end (n.tables at) e.id) [] (pace.rooms at) tt pace
+      which e is false true open_ h = kept_pace room n at e.asked (without_end (n.tables at) e.id) []
+          (pace.rooms at) tt pace
       which e is false false open_ h = tick_pace e tick is open_ h
 
-      go : (o : Option EndState) → by_id (n.tables at) id ≡ o → PaceOf room (n.event + 1) (calls W n at (ticked_at whole (n.tables at) tick o))
+      go : (o : Option EndState) → by_id (n.tables at) id ≡ o
+          → PaceOf room (n.event + 1) (calls W n at (ticked_at whole (n.tables at) tick o))
       go None is = pace
       go (Some e) is = which e is (is_closed e.phase) (frees e tick) refl refl
 
 -- requests are answered, or no more
-pub listens_pace : (room : ℕ) (n : Network) (at : Address) (on : Bool) → PaceOf room (n.event + 1) n → PaceOf room (n.event + 1) (listens n at on)
+pub listens_pace : (room : ℕ) (n : Network) (at : Address) (on : Bool) → PaceOf room (n.event + 1) n
+    → PaceOf room (n.event + 1) (listens n at on)
 listens_pace room n at on pace = record {
   marks = pace.marks;
   none = pace.none;
   ends = pace.ends;
   sent = pace.sent;
-  rooms = put_elsewhere (λ a (x : EndTable). x.rooms.receive ≤ room) n.tables at (listened (n.tables at) on) (λ a other. pace.rooms a) (pace.rooms at);
+  rooms = put_elsewhere (λ a (x : EndTable). x.rooms.receive ≤ room) n.tables at (listened (n.tables at) on)
+      (λ a other. pace.rooms a) (pace.rooms at);
 }

@@ -1,5 +1,6 @@
 -- How far an end goes on, and how far its segments and its peer let it go.
-use Rattle.std.proofs.Common.{◌≡◌, ℕ, zero, suc, ◌+◌, ◌-◌, ◌≤◌, Bool, true, false, cond, List, [], ◌∷◌, ◌++◌, length, take, Option, Some, None, refl, sym, ap, subst, ◌∙◌, arith}
+use Rattle.std.proofs.Common.{◌≡◌, ℕ, zero, suc, ◌+◌, ◌-◌, ◌≤◌, Bool, true, false, cond, List, [], ◌∷◌, ◌++◌, length}
+use Rattle.std.proofs.Common.{take, Option, Some, None, refl, sym, ap, subst, ◌∙◌, arith}
 use Rattle.std.specs.Prelude.{IfSome, max, nat_le}
 use Rattle.std.specs.List.{AllByRecursion}
 use Rattle.at_ddp.proofs.Alls.{all_both, all_implied}
@@ -32,7 +33,8 @@ pub rises_itself : (a : Marks) → Rises a a
 rises_itself a = record { gave = omega arith; took = omega arith }
 
 pub rises_on : (a b c : Marks) → Rises a b → Rises b c → Rises a c
-rises_on a b c h k = let x = h.gave in let y = k.gave in let v = h.took in let w = k.took in record { gave = omega (arith, x, y); took = omega (arith, v, w) }
+rises_on a b c h k = let x = h.gave in let y = k.gave in let v = h.took in let w = k.took in
+    record { gave = omega (arith, x, y); took = omega (arith, v, w) }
 
 -- a segment of the end with this identifier, which has come so far
 pub record TellsOf (room id : ℕ) (m : Marks) (s : Content) : Type 0 where
@@ -52,10 +54,12 @@ pub record Follows (room : ℕ) (m : Marks) (e : EndState) : Type 0 where
   pub limit : e.sender.front + length e.sender.unacknowledged + e.sender.credit ≤ m.took + room
 
 pub follows_on : (room : ℕ) (a b : Marks) (e : EndState) → Rises a b → Follows room a e → Follows room b e
-follows_on room a b e r h = let g = r.gave in let t = r.took in let x = h.received in let y = h.limit in record { received = omega (arith, g, x); limit = omega (arith, t, y) }
+follows_on room a b e r h = let g = r.gave in let t = r.took in let x = h.received in let y = h.limit in
+    record { received = omega (arith, g, x); limit = omega (arith, t, y) }
 
 pub tells_on : (room id : ℕ) (a b : Marks) (s : Content) → Rises a b → TellsOf room id a s → TellsOf room id b s
-tells_on room id a b s r h = let g = r.gave in let t = r.took in let x = h.first in let y = h.next in record { source = h.source; first = omega (arith, g, x); next = omega (arith, t, y); window = h.window }
+tells_on room id a b s r h = let g = r.gave in let t = r.took in let x = h.first in let y = h.next in
+    record { source = h.source; first = omega (arith, g, x); next = omega (arith, t, y); window = h.window }
 
 -- an end goes on as this one, and sends this
 pub record Paces (room : ℕ) (e f : EndState) (out : List Content) : Type 0 where
@@ -66,7 +70,8 @@ pub record Paces (room : ℕ) (e f : EndState) (out : List Content) : Type 0 whe
 
 module _ (room : ℕ) where
   -- the end goes on twice
-  pub then_paces : (e f g : EndState) (out more : List Content) → Paces room e f out → (Keeps room f → Paces room f g more) → Paces room e g (out ++ more)
+  pub then_paces : (e f g : EndState) (out more : List Content) → Paces room e f out
+      → (Keeps room f → Paces room f g more) → Paces room e g (out ++ more)
   then_paces e f g out more h on =
       let k = on h.keeps in
       record {
@@ -76,29 +81,47 @@ module _ (room : ℕ) where
         tells =
             all_both (TellsOf room g.id (marks_of g)) out more
             (all_implied (TellsOf room f.id (marks_of f)) (TellsOf room g.id (marks_of g)) out
-            (λ s t. subst (λ i. TellsOf room i (marks_of g) s) (sym k.id) (tells_on room f.id (marks_of f) (marks_of g) s k.rises t)) h.tells) k.tells;
+            (λ s t. subst (λ i. TellsOf room i (marks_of g) s) (sym k.id)
+            (tells_on room f.id (marks_of f) (marks_of g) s k.rises t)) h.tells) k.tells;
       }
 
   -- the same numbers, and what is sent with them
-  pub so_paces : (e f : EndState) (out : List Content) → f.id ≡ e.id → marks_of f ≡ marks_of e → Keeps room f → AllByRecursion (TellsOf room f.id (marks_of f)) out → Paces room e f out
-  so_paces e f out id same keeps all = record { id = id; rises = subst (Rises (marks_of e)) (sym same) (rises_itself (marks_of e)); keeps = keeps; tells = all }
+  pub so_paces : (e f : EndState) (out : List Content) → f.id ≡ e.id → marks_of f ≡ marks_of e → Keeps room f
+      → AllByRecursion (TellsOf room f.id (marks_of f)) out → Paces room e f out
+  so_paces e f out id same keeps all =
+      record {
+        id = id;
+        rises = subst (Rises (marks_of e)) (sym same) (rises_itself (marks_of e));
+        keeps = keeps;
+        tells = all;
+      }
 
   -- ---- what is sent
 
   pub free_fits : (e : EndState) → Keeps room e → free e ≤ room
   free_fits e k = let s = k.space in omega (arith, s)
 
-  pub control_tells : (e : EndState) (ack : Bool) (body : Part) → count_of body ≡ 0 → Keeps room e → TellsOf room e.id (marks_of e) (control whole e ack body)
-  control_tells e ack body none k = record { source = refl; first = omega (arith, none); next = omega arith; window = free_fits e k }
+  pub control_tells : (e : EndState) (ack : Bool) (body : Part) → count_of body ≡ 0 → Keeps room e
+      → TellsOf room e.id (marks_of e) (control whole e ack body)
+  control_tells e ack body none k =
+      record { source = refl; first = omega (arith, none); next = omega arith; window = free_fits e k }
 
-  numbered_tells : (e : EndState) (m : Marks) (first : ℕ) (ps : List Piece) → Keeps room e → e.receiver.received ≤ m.took → first + length (all_items ps) ≤ m.gave → AllByRecursion (TellsOf room e.id m) (numbered whole e first ps)
+  numbered_tells : (e : EndState) (m : Marks) (first : ℕ) (ps : List Piece) → Keeps room e
+      → e.receiver.received ≤ m.took → first + length (all_items ps) ≤ m.gave
+      → AllByRecursion (TellsOf room e.id m) (numbered whole e first ps)
   numbered_tells e m first [] k took le = tt
   numbered_tells e m first (p ∷ ps) k took le =
-      let both = length_both (items_of p) (all_items ps) in
-      (record { source = refl; first = omega (arith, le, both); next = took; window = free_fits e k }, numbered_tells e m (first + length (items_of p)) ps k took (omega (arith, le, both)))
+      let both = length_both (items_of p) (all_items ps) in (
+        record { source = refl; first = omega (arith, le, both); next = took; window = free_fits e k },
+        numbered_tells e
+            m (first + length (items_of p)) ps k took (omega (arith, le, both)),
+      )
 
-  cut_tells : (e : EndState) (m : Marks) (first : ℕ) (xs : List Item) → Keeps room e → e.receiver.received ≤ m.took → first + length xs ≤ m.gave → AllByRecursion (TellsOf room e.id m) (numbered whole e first (pieces [] xs))
-  cut_tells e m first xs k took le = numbered_tells e m first (pieces [] xs) k took (let same = ap length (pieces_whole [] xs) in omega (arith, le, same))
+  cut_tells : (e : EndState) (m : Marks) (first : ℕ) (xs : List Item) → Keeps room e → e.receiver.received ≤ m.took
+      → first + length xs ≤ m.gave → AllByRecursion (TellsOf room e.id m) (numbered whole e first (pieces [] xs))
+  cut_tells e m first xs k took le =
+      numbered_tells e m first (pieces [] xs) k took
+      (let same = ap length (pieces_whole [] xs) in omega (arith, le, same))
 
   length_going : (s : Sender) → length (going s) ≤ s.credit
   length_going s = go s.resetting
@@ -121,7 +144,8 @@ module _ (room : ℕ) where
         id = refl;
         rises = record { gave = omega (arith, both); took = omega arith };
         keeps = record { queue = omega (arith, q, both, few); space = k.space };
-        tells = cut_tells e (marks_of (sending whole e).after) (e.sender.front + length e.sender.unacknowledged) (going e.sender) k (omega arith) (omega (arith, both));
+        tells = cut_tells e (marks_of (sending whole e).after) (e.sender.front + length e.sender.unacknowledged)
+            (going e.sender) k (omega arith) (omega (arith, both));
       }
 
   pub sending_limit : (e : EndState) (m : Marks) → Follows room m e → Follows room m (sending whole e).after
@@ -131,10 +155,12 @@ module _ (room : ℕ) where
       let few = length_going e.sender in
       record { received = h.received; limit = omega (arith, l, both, few) }
 
-  pub repeated_tells : (e : EndState) → Keeps room e → AllByRecursion (TellsOf room e.id (marks_of e)) (repeated whole e)
+  pub repeated_tells : (e : EndState) → Keeps room e
+      → AllByRecursion (TellsOf room e.id (marks_of e)) (repeated whole e)
   repeated_tells e k = cut_tells e (marks_of e) e.sender.front e.sender.unacknowledged k (omega arith) (omega arith)
 
-  pub asked_tells : (b : Bool) (e : EndState) → Keeps room e → AllByRecursion (TellsOf room e.id (marks_of e)) (if_asked whole b e)
+  pub asked_tells : (b : Bool) (e : EndState) → Keeps room e
+      → AllByRecursion (TellsOf room e.id (marks_of e)) (if_asked whole b e)
   asked_tells true e k = (control_tells e false Probe refl k, tt)
   asked_tells false e k = tt
 
@@ -143,19 +169,23 @@ module _ (room : ℕ) where
   max_below : (a b c : ℕ) → a ≤ c → b ≤ c → max a b ≤ c
   max_below a b c x y = omega (arith, x, y)
 
-  pub hearing_paces : (e : EndState) (window : ℕ) (acks : Option ℕ) → window ≤ room → IfSome acks (λ k. k ≤ length e.sender.unacknowledged) → Keeps room e →
+  pub hearing_paces : (e : EndState) (window : ℕ) (acks : Option ℕ) → window ≤ room
+      → IfSome acks (λ k. k ≤ length e.sender.unacknowledged) → Keeps room e →
       Paces room e (hearing whole e window acks).after (hearing whole e window acks).sent
-  hearing_paces e window None fits le k = so_paces e (record e { ticks = 0 }) [] refl refl (record { queue = k.queue; space = k.space }) tt
+  hearing_paces e window None fits le k =
+      so_paces e (record e { ticks = 0 }) [] refl refl (record { queue = k.queue; space = k.space }) tt
   hearing_paces e window (Some j) fits le k =
       let q = k.queue in
       let d = length_drop j e.sender.unacknowledged in
-      let most = max_below e.sender.credit (window - (length e.sender.unacknowledged - j)) (room - (length e.sender.unacknowledged - j)) (omega (arith, q)) (omega (arith, fits)) in
+      let most = max_below e.sender.credit (window - (length e.sender.unacknowledged - j))
+      (room - (length e.sender.unacknowledged - j)) (omega (arith, q)) (omega (arith, fits)) in
       let f : EndState = record e { sender = acknowledged whole j window e.sender; ticks = 0 } in
       let s = sending_paces f (record { queue = omega (arith, most, d, q); space = k.space }) in
       record {
         id = refl;
         rises =
-            rises_on (marks_of e) (marks_of f) (marks_of (sending whole f).after) (record { gave = omega (arith, d, le); took = omega arith }) s.rises;
+            rises_on (marks_of e) (marks_of f) (marks_of (sending whole f).after)
+            (record { gave = omega (arith, d, le); took = omega arith }) s.rises;
         keeps = s.keeps;
         tells = s.tells;
       }
@@ -168,16 +198,23 @@ module _ (room : ℕ) where
       go true h = h
       go false h = absurd (cc)
 
-  hearing_limit : (e : EndState) (m : Marks) (window next : ℕ) (o : Option ℕ) → acks whole e.sender next ≡ o → IfSome o (λ k. k ≤ length e.sender.unacknowledged) → window ≤ room → next ≤ m.took → Follows room m e →
+  hearing_limit : (e : EndState) (m : Marks) (window next : ℕ) (o : Option ℕ) → acks whole e.sender next ≡ o
+      → IfSome o (λ k. k ≤ length e.sender.unacknowledged) → window ≤ room → next ≤ m.took → Follows room m e →
       Follows room m (hearing whole e window o).after
   hearing_limit e m window next None is le fits took h = record { received = h.received; limit = h.limit }
   hearing_limit e m window next (Some j) is le fits took h =
       let l = h.limit in
       let d = length_drop j e.sender.unacknowledged in
-      let far = ahead_far e.sender.front next j (at_most_is (length e.sender.unacknowledged) (whole.ahead e.sender.front next) j is) in
-      let most = max_below e.sender.credit (window - (length e.sender.unacknowledged - j)) (m.took + room - (e.sender.front + length e.sender.unacknowledged)) (omega (arith, l)) (omega (arith, far, fits, took, l, le)) in
-      sending_limit (record e { sender = acknowledged whole j window e.sender; ticks = 0 }) m (record { received = h.received; limit = omega (arith, most, d, le, l) })
+      let far = ahead_far e.sender.front next j
+      (at_most_is (length e.sender.unacknowledged) (whole.ahead e.sender.front next) j is) in
+      let most = max_below e.sender.credit (window - (length e.sender.unacknowledged - j))
+      (m.took + room - (e.sender.front + length e.sender.unacknowledged)) (omega (arith, l))
+      (omega (arith, far, fits, took, l, le)) in
+      sending_limit (record e { sender = acknowledged whole j window e.sender; ticks = 0 }) m
+      (record { received = h.received; limit = omega (arith, most, d, le, l) })
 
   -- what comes from the peer
-  pub hearing_follows : (e : EndState) (m : Marks) (id : ℕ) (s : Content) → TellsOf room id m s → Follows room m e → Follows room m (hearing whole e s.window (acks whole e.sender s.next)).after
-  hearing_follows e m id s t h = hearing_limit e m s.window s.next (acks whole e.sender s.next) refl (acks_within e.sender s.next) t.window t.next h
+  pub hearing_follows : (e : EndState) (m : Marks) (id : ℕ) (s : Content) → TellsOf room id m s → Follows room m e
+      → Follows room m (hearing whole e s.window (acks whole e.sender s.next)).after
+  hearing_follows e m id s t h = hearing_limit e m s.window s.next (acks whole e.sender s.next) refl
+      (acks_within e.sender s.next) t.window t.next h

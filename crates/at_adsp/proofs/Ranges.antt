@@ -1,17 +1,22 @@
 -- What an end sends can be spelled, if all that it knows is in range.
-use Rattle.std.proofs.Common.{◌≡◌, ℕ, zero, suc, ◌+◌, ◌^◌, ◌<◌, ◌≤◌, Bool, true, false, cond, List, [], ◌∷◌, ◌++◌, length, take, drop, Option, Some, None, refl, sym, ◌∙◌, arith, lit<, lit≤, length-append, ◌≢◌}
+use Rattle.std.proofs.Common.{◌≡◌, ℕ, zero, suc, ◌+◌, ◌^◌, ◌<◌, ◌≤◌, Bool, true, false, cond, List, [], ◌∷◌, ◌++◌}
+use Rattle.std.proofs.Common.{length, take, drop, Option, Some, None, refl, sym, ◌∙◌, arith, lit<, lit≤, length-append}
+use Rattle.std.proofs.Common.{◌≢◌}
 use Rattle.std.specs.Prelude.{◌==◌}
 use Rattle.std.specs.List.{AllByRecursion}
 use Rattle.std.proofs.lemmas.Bool.{true≢false, eq-eqb}
 use Rattle.std.proofs.lemmas.List.Elements.{All-append, All-cons, All-nil}
 use Rattle.at_ddp.specs.Datagram.{AreBytes, IsAddress}
-use Rattle.at_ddp.proofs.Alls.{all_both}
-use Rattle.at_adsp_frame.specs.Segments.{Content, Part, IsLawful, IsLawfulPart, Open, Probe, Close, Reset, ResetAck, Data}
+use Rattle.at_ddp.proofs.Alls.{all_both, all_taken, all_dropped}
+use Rattle.at_adsp_frame.specs.Segments.{Content, Part, IsLawful, IsLawfulPart, Open, Probe, Close, Reset, ResetAck}
+use Rattle.at_adsp_frame.specs.Segments.{Data}
 use Rattle.at_adsp_frame.specs.declared.segment.OpenKind.TheVariants.{Acknowledgement, RequestAndAcknowledgement}
 use Rattle.at_adsp_end.specs.Calls.{after_read, open_again, probes, read_opens, reading, sent_again, writing}
 use Rattle.at_adsp_end.specs.Cuts.{Piece, items_of, last_piece, numbered, open_piece, pieces}
-use Rattle.at_adsp_end.specs.Ends.{Change, EndState, Sender, answering, asking, confirming, control, denying, id_of, next_unsent, packet, places}
-use Rattle.at_adsp_end.specs.Hearing.{Advises, Answers, Asks, Brings, Closes, Resets, Saying, Told, after_hearing, heard, if_asked, jumped, taken, taking}
+use Rattle.at_adsp_end.specs.Ends.{Change, EndState, Sender, answering, asking, confirming, control, denying, id_of}
+use Rattle.at_adsp_end.specs.Ends.{next_unsent, packet, places}
+use Rattle.at_adsp_end.specs.Hearing.{Advises, Answers, Asks, Brings, Closes, Resets, Saying, Told, after_hearing}
+use Rattle.at_adsp_end.specs.Hearing.{heard, if_asked, jumped, taken, taking}
 use Rattle.at_adsp_end.specs.declared.forward.Forward.TheVariants.{Jump, Older, Beyond}
 use Rattle.at_adsp_end.specs.Positions.{Numbers}
 use Rattle.at_adsp_end.specs.Sending.{acknowledged, closing, going, hearing, repeated, resetting_now, sending, shut}
@@ -26,16 +31,6 @@ use Rattle.at_adsp_end.specs.Items.{IsItem}
 abbrev pub AreItems : List Item → Type 0
 AreItems items = AllByRecursion IsItem items
 
-pub all_taken : {X : Type 0} (P : X → Type 0) (n : ℕ) (xs : List X) → AllByRecursion P xs → AllByRecursion P (take n xs)
-all_taken P zero xs h = tt
-all_taken P (suc n) [] h = tt
-all_taken P (suc n) (x ∷ xs) h = (h.0, all_taken P n xs h.1)
-
-pub all_dropped : {X : Type 0} (P : X → Type 0) (n : ℕ) (xs : List X) → AllByRecursion P xs → AllByRecursion P (drop n xs)
-all_dropped P zero xs h = h
-all_dropped P (suc n) [] h = tt
-all_dropped P (suc n) (x ∷ xs) h = all_dropped P n xs h.1
-
 -- ---- pieces
 
 abbrev IsPiece : Piece → Type 0
@@ -48,13 +43,18 @@ last_fits (b ∷ got) bytes few = ((bytes, few), tt)
 one_byte : (b : ℕ) → b < 256 → AreBytes (b ∷ [])
 one_byte b fits = All-cons (λ n. n < 256) b [] fits (All-nil (λ n. n < 256))
 
-pieces_fit : (got : List ℕ) (items : List Item) → AreBytes got → length got ≤ 572 → AreItems items → AllByRecursion IsPiece (pieces got items)
+pieces_fit : (got : List ℕ) (items : List Item) → AreBytes got → length got ≤ 572 → AreItems items
+    → AllByRecursion IsPiece (pieces got items)
 pieces_fit got [] bytes few each = last_fits got bytes few
 pieces_fit got (End ∷ xs) bytes few each = ((bytes, few), pieces_fit [] xs (All-nil (λ n. n < 256)) (lit≤ tt) each.1)
 pieces_fit got (Byte b ∷ xs) bytes few each =
-    go (pieces_fit (b ∷ []) xs (one_byte b each.0) (lit≤ tt) each.1) (λ more. pieces_fit (got ++ b ∷ []) xs (All-append (λ n. n < 256) got (b ∷ []) bytes (one_byte b each.0)) more each.1) (length got == 572) refl
+    go (pieces_fit (b ∷ []) xs (one_byte b each.0) (lit≤ tt) each.1)
+    (λ more. pieces_fit (got ++ b ∷ []) xs (All-append (λ n. n < 256) got (b ∷ []) bytes (one_byte b each.0)) more
+    each.1) (length got == 572) refl
   where
-    go : AllByRecursion IsPiece (pieces (b ∷ []) xs) → (length (got ++ b ∷ []) ≤ 572 → AllByRecursion IsPiece (pieces (got ++ b ∷ []) xs)) → (c : Bool) → (length got == 572) ≡ c →
+    go : AllByRecursion IsPiece (pieces (b ∷ []) xs)
+        → (length (got ++ b ∷ []) ≤ 572 → AllByRecursion IsPiece (pieces (got ++ b ∷ []) xs)) → (c : Bool)
+        → (length got == 572) ≡ c →
         AllByRecursion IsPiece (cond c (open_piece got ∷ pieces (b ∷ []) xs) (pieces (got ++ b ∷ []) xs))
     go full rest true is = ((bytes, few), full)
     go full rest false is =
@@ -80,29 +80,48 @@ pub record Fits (e : EndState) (packets : List Content) : Type 0 where
   pub end : EndFits e
   pub sent : AllLawful packets
 
-packet_fits : (e : EndState) (first : ℕ) (ack : Bool) (body : Part) → EndFits e → first < 2 ^ 32 → IsLawfulPart body → IsLawful (packet e first ack body)
+packet_fits : (e : EndState) (first : ℕ) (ack : Bool) (body : Part) → EndFits e → first < 2 ^ 32 → IsLawfulPart body
+    → IsLawful (packet e first ack body)
 packet_fits e first ack body f in_range part = record {
-  numbers = record { source = f.id; first = in_range; next = f.received; window = let room = f.room in omega (arith, room) };
+  numbers = record {
+    source = f.id;
+    first = in_range;
+    next = f.received;
+    window = let room = f.room in omega (arith, room);
+  };
   body = part;
 }
 
 pub asking_fits : (e : EndState) → EndFits e → IsLawful (asking e)
 asking_fits e f = record {
-  numbers = record { source = f.id; first = lit< tt; next = lit< tt; window = let room = f.room in omega (arith, room) };
+  numbers = record {
+    source = f.id;
+    first = lit< tt;
+    next = lit< tt;
+    window = let room = f.room in omega (arith, room);
+  };
   body = (lit< tt, refl);
 }
 
 module _ (N : Numbers) (fits : (p : ℕ) → N.at p < 2 ^ 32) where
-  pub control_fits : (e : EndState) (ack : Bool) (body : Part) → EndFits e → IsLawfulPart body → IsLawful (control N e ack body)
-  control_fits e ack body f part = packet_fits e (next_unsent N e.sender) ack body f (fits (e.sender.front + length e.sender.unacknowledged)) part
+  pub control_fits : (e : EndState) (ack : Bool) (body : Part) → EndFits e → IsLawfulPart body
+      → IsLawful (control N e ack body)
+  control_fits e ack body f part =
+      packet_fits e (next_unsent N e.sender) ack body f (fits (e.sender.front + length e.sender.unacknowledged)) part
 
-  numbered_fits : (e : EndState) (first : ℕ) (ps : List Piece) → EndFits e → AllByRecursion IsPiece ps → AllLawful (numbered N e first ps)
+  numbered_fits : (e : EndState) (first : ℕ) (ps : List Piece) → EndFits e → AllByRecursion IsPiece ps
+      → AllLawful (numbered N e first ps)
   numbered_fits e first [] f each = tt
-  numbered_fits e first (p ∷ ps) f each =
-      (packet_fits e (N.at first) true (Data p.end p.bytes) f (fits first) each.0, numbered_fits e (first + length (items_of p)) ps f each.1)
+  numbered_fits e first (p ∷ ps) f each = (
+    packet_fits e (N.at first) true (Data p.end p.bytes) f (fits first) each.0,
+    numbered_fits e
+        (first + length (items_of p)) ps f each.1,
+  )
 
-  cut_fits : (e : EndState) (first : ℕ) (items : List Item) → EndFits e → AreItems items → AllLawful (numbered N e first (pieces [] items))
-  cut_fits e first items f each = numbered_fits e first (pieces [] items) f (pieces_fit [] items (All-nil (λ n. n < 256)) (lit≤ tt) each)
+  cut_fits : (e : EndState) (first : ℕ) (items : List Item) → EndFits e → AreItems items
+      → AllLawful (numbered N e first (pieces [] items))
+  cut_fits e first items f each =
+      numbered_fits e first (pieces [] items) f (pieces_fit [] items (All-nil (λ n. n < 256)) (lit≤ tt) each)
 
   -- ---- what is sent and acknowledged
 
@@ -122,59 +141,118 @@ module _ (N : Numbers) (fits : (p : ℕ) → N.at p < 2 ^ 32) where
           remote = f.remote;
           received = f.received;
           room = f.room;
-          unacknowledged = all_both IsItem e.sender.unacknowledged (going e.sender) f.unacknowledged (going_fits e.sender f.waiting);
+          unacknowledged = all_both IsItem e.sender.unacknowledged (going e.sender) f.unacknowledged
+              (going_fits e.sender f.waiting);
           waiting = all_dropped IsItem (length (going e.sender)) e.sender.waiting f.waiting;
         };
-    sent = cut_fits e (e.sender.front + length e.sender.unacknowledged) (going e.sender) f (going_fits e.sender f.waiting);
+    sent = cut_fits e (e.sender.front + length e.sender.unacknowledged) (going e.sender) f
+        (going_fits e.sender f.waiting);
   }
 
   pub repeated_fits : (e : EndState) → EndFits e → AllLawful (repeated N e)
   repeated_fits e f = cut_fits e e.sender.front e.sender.unacknowledged f f.unacknowledged
 
-  pub hearing_fits : (e : EndState) (window : ℕ) (acks : Option ℕ) → EndFits e → Fits (hearing N e window acks).after (hearing N e window acks).sent
+  pub hearing_fits : (e : EndState) (window : ℕ) (acks : Option ℕ) → EndFits e
+      → Fits (hearing N e window acks).after (hearing N e window acks).sent
   hearing_fits e window None f = record {
-    end = record { id = f.id; asked = f.asked; remote = f.remote; received = f.received; room = f.room; unacknowledged = f.unacknowledged; waiting = f.waiting };
+    end = record {
+      id = f.id;
+      asked = f.asked;
+      remote = f.remote;
+      received = f.received;
+      room = f.room;
+      unacknowledged = f.unacknowledged;
+      waiting = f.waiting;
+    };
     sent = tt;
   }
   hearing_fits e window (Some k) f =
       sending_fits (record e { sender = acknowledged N k window e.sender; ticks = 0 })
-      (record { id = f.id; asked = f.asked; remote = f.remote; received = f.received; room = f.room; unacknowledged = all_dropped IsItem k e.sender.unacknowledged f.unacknowledged; waiting = f.waiting })
+      (record {
+        id = f.id;
+        asked = f.asked;
+        remote = f.remote;
+        received = f.received;
+        room = f.room;
+        unacknowledged = all_dropped IsItem k e.sender.unacknowledged f.unacknowledged;
+        waiting = f.waiting;
+      })
 
   -- ---- what is heard
 
   shut_fits : (e : EndState) → EndFits e → EndFits (shut N e)
-  shut_fits e f = record { id = f.id; asked = f.asked; remote = f.remote; received = f.received; room = f.room; unacknowledged = tt; waiting = tt }
+  shut_fits e f = record {
+    id = f.id;
+    asked = f.asked;
+    remote = f.remote;
+    received = f.received;
+    room = f.room;
+    unacknowledged = tt;
+    waiting = tt;
+  }
 
   if_fits : (ack : Bool) (e : EndState) → EndFits e → AllLawful (if_asked N ack e)
   if_fits true e f = (control_fits e false Probe f tt, tt)
   if_fits false e f = tt
 
-  more_fits : (e : EndState) (sent more : List Content) → EndFits e → AllLawful sent → AllLawful more → Fits e (sent ++ more)
+  more_fits : (e : EndState) (sent more : List Content) → EndFits e → AllLawful sent → AllLawful more
+      → Fits e (sent ++ more)
   more_fits e sent more f a b = record { end = f; sent = all_both IsLawful sent more a b }
 
   -- an end that expects another number
-  expects_fits : (e : EndState) (received : ℕ) (unread : List Item) → EndFits e → received < 2 ^ 32 → EndFits (record e { receiver = record { received = received; unread = unread } })
-  expects_fits e received unread f in_range = record { id = f.id; asked = f.asked; remote = f.remote; received = in_range; room = f.room; unacknowledged = f.unacknowledged; waiting = f.waiting }
+  expects_fits : (e : EndState) (received : ℕ) (unread : List Item) → EndFits e → received < 2 ^ 32
+      → EndFits (record e { receiver = record { received = received; unread = unread } })
+  expects_fits e received unread f in_range =
+      record {
+        id = f.id;
+        asked = f.asked;
+        remote = f.remote;
+        received = in_range;
+        room = f.room;
+        unacknowledged = f.unacknowledged;
+        waiting = f.waiting;
+      }
 
-  after_hearing_fits : (c : Change) (ack : Bool) (s : Saying) → Fits c.after c.sent → Fits (after_hearing N c ack s).after (after_hearing N c ack s).sent
+  after_hearing_fits : (c : Change) (ack : Bool) (s : Saying) → Fits c.after c.sent
+      → Fits (after_hearing N c ack s).after (after_hearing N c ack s).sent
   after_hearing_fits c ack (Brings items) h =
-      let f = expects_fits c.after (N.at (c.after.receiver.received + length (taken c.after items))) (c.after.receiver.unread ++ taken c.after items) h.end (fits (c.after.receiver.received + length (taken c.after items))) in
-      more_fits (taking N c.after items) c.sent (if_asked N ack (taking N c.after items)) f h.sent (if_fits ack (taking N c.after items) f)
-  after_hearing_fits c ack Asks h = more_fits c.after c.sent (if_asked N ack c.after) h.end h.sent (if_fits ack c.after h.end)
+      let f = expects_fits c.after (N.at (c.after.receiver.received + length (taken c.after items)))
+      (c.after.receiver.unread ++ taken c.after items) h.end
+      (fits (c.after.receiver.received + length (taken c.after items))) in
+      more_fits (taking N c.after items) c.sent (if_asked N ack (taking N c.after items)) f h.sent
+      (if_fits ack (taking N c.after items) f)
+  after_hearing_fits c ack Asks h = more_fits c.after c.sent (if_asked N ack c.after) h.end h.sent
+      (if_fits ack c.after h.end)
   after_hearing_fits c ack Closes h = record { end = shut_fits c.after h.end; sent = h.sent }
   after_hearing_fits c ack (Resets (Jump d)) h =
-      let f = expects_fits c.after (N.at (c.after.receiver.received + d)) [] h.end (fits (c.after.receiver.received + d)) in
-      more_fits (jumped N c.after d) c.sent (control N (jumped N c.after d) false ResetAck ∷ []) f h.sent (control_fits (jumped N c.after d) false ResetAck f tt, tt)
-  after_hearing_fits c ack (Resets Older) h = more_fits c.after c.sent (control N c.after false ResetAck ∷ []) h.end h.sent (control_fits c.after false ResetAck h.end tt, tt)
+      let f = expects_fits c.after (N.at (c.after.receiver.received + d)) [] h.end
+      (fits (c.after.receiver.received + d)) in
+      more_fits (jumped N c.after d) c.sent (control N (jumped N c.after d) false ResetAck ∷ []) f h.sent
+      (control_fits (jumped N c.after d) false ResetAck f tt, tt)
+  after_hearing_fits c ack (Resets Older) h =
+      more_fits c.after c.sent (control N c.after false ResetAck ∷ []) h.end h.sent
+      (control_fits c.after false ResetAck h.end tt, tt)
   after_hearing_fits c ack (Resets Beyond) h = more_fits c.after c.sent [] h.end h.sent tt
   after_hearing_fits c ack (Answers false) h = more_fits c.after c.sent [] h.end h.sent tt
   after_hearing_fits c ack (Answers true) h =
       let e = h.end in
       let s = sending_fits (record c.after { sender = record c.after.sender { resetting = false } })
-      (record { id = e.id; asked = e.asked; remote = e.remote; received = e.received; room = e.room; unacknowledged = e.unacknowledged; waiting = e.waiting }) in
-      more_fits (after_hearing N c ack (Answers true)).after (c.sent ++ (sending N (record c.after { sender = record c.after.sender { resetting = false } })).sent) [] s.end
-      (all_both IsLawful c.sent (sending N (record c.after { sender = record c.after.sender { resetting = false } })).sent h.sent s.sent) tt
-  after_hearing_fits c ack Advises h = more_fits c.after c.sent (repeated N c.after) h.end h.sent (repeated_fits c.after h.end)
+      (record {
+        id = e.id;
+        asked = e.asked;
+        remote = e.remote;
+        received = e.received;
+        room = e.room;
+        unacknowledged = e.unacknowledged;
+        waiting = e.waiting;
+      }) in
+      more_fits (after_hearing N c ack (Answers true)).after
+      (c.sent ++ (sending N (record c.after { sender = record c.after.sender { resetting = false } })).sent) []
+      s.end
+      (all_both IsLawful c.sent
+      (sending N (record c.after { sender = record c.after.sender { resetting = false } })).sent h.sent s.sent) tt
+  after_hearing_fits c ack Advises h = more_fits c.after c.sent (repeated N c.after) h.end h.sent
+      (repeated_fits c.after h.end)
 
   pub heard_fits : (e : EndState) (t : Told) → EndFits e → Fits (heard N e t).after (heard N e t).sent
   heard_fits e t f = after_hearing_fits (hearing N e t.window t.acks) t.ack t.saying (hearing_fits e t.window t.acks f)
@@ -185,18 +263,44 @@ module _ (N : Numbers) (fits : (p : ℕ) → N.at p < 2 ^ 32) where
   closing_fits e f = record { end = shut_fits e f; sent = (control_fits e false Close f tt, tt) }
 
   pub shuts_fits : (e : EndState) (ticks : ℕ) → EndFits e → EndFits (shut N (record e { ticks = ticks }))
-  shuts_fits e ticks f = record { id = f.id; asked = f.asked; remote = f.remote; received = f.received; room = f.room; unacknowledged = tt; waiting = tt }
+  shuts_fits e ticks f = record {
+    id = f.id;
+    asked = f.asked;
+    remote = f.remote;
+    received = f.received;
+    room = f.room;
+    unacknowledged = tt;
+    waiting = tt;
+  }
 
   pub resetting_fits : (e : EndState) → EndFits e → Fits (resetting_now N e).after (resetting_now N e).sent
   resetting_fits e f = record {
-    end = record { id = f.id; asked = f.asked; remote = f.remote; received = f.received; room = f.room; unacknowledged = tt; waiting = tt };
+    end = record {
+      id = f.id;
+      asked = f.asked;
+      remote = f.remote;
+      received = f.received;
+      room = f.room;
+      unacknowledged = tt;
+      waiting = tt;
+    };
     sent = (control_fits e false Reset f tt, tt);
   }
 
-  pub writing_fits : (e : EndState) (items : List Item) → EndFits e → AreItems items → Fits (writing N e items).after (writing N e items).sent
+  pub writing_fits : (e : EndState) (items : List Item) → EndFits e → AreItems items
+      → Fits (writing N e items).after (writing N e items).sent
   writing_fits e items f each =
       sending_fits (record e { sender = record e.sender { waiting = e.sender.waiting ++ take (places e) items } })
-      (record { id = f.id; asked = f.asked; remote = f.remote; received = f.received; room = f.room; unacknowledged = f.unacknowledged; waiting = all_both IsItem e.sender.waiting (take (places e) items) f.waiting (all_taken IsItem (places e) items each) })
+      (record {
+        id = f.id;
+        asked = f.asked;
+        remote = f.remote;
+        received = f.received;
+        room = f.room;
+        unacknowledged = f.unacknowledged;
+        waiting = all_both IsItem e.sender.waiting (take (places e) items) f.waiting
+            (all_taken IsItem (places e) items each);
+      })
 
   pub reading_fits : (e : EndState) (count : ℕ) → EndFits e → Fits (reading N e count).after (reading N e count).sent
   reading_fits e count f =
@@ -231,4 +335,8 @@ module _ (N : Numbers) (fits : (p : ℕ) → N.at p < 2 ^ 32) where
   probes_fits e phase.Closed f = tt
 
 pub denying_fits : (id : ℕ) → id < 2 ^ 16 → IsLawful (denying id)
-denying_fits id fits = record { numbers = record { source = lit< tt; first = lit< tt; next = lit< tt; window = lit< tt }; body = (fits, refl) }
+denying_fits id fits = record {
+  numbers =
+      record { source = lit< tt; first = lit< tt; next = lit< tt; window = lit< tt };
+  body = (fits, refl);
+}

@@ -1,5 +1,6 @@
 -- What a segment that comes leaves true of a network of ends of streams.
-use Rattle.std.proofs.Common.{◌≡◌, ℕ, ◌+◌, Bool, true, false, cond, [], ◌∷◌, Option, Some, None, ◌⊎◌, inl, inr, refl, sym, ap, subst, ◌∙◌}
+use Rattle.std.proofs.Common.{◌≡◌, ℕ, ◌+◌, Bool, true, false, cond, [], ◌∷◌, Option, Some, None, ◌⊎◌, inl, inr, refl}
+use Rattle.std.proofs.Common.{sym, ap, subst, ◌∙◌}
 use Rattle.std.specs.Prelude.{find, is_none, not, ◌==◌, ◌&&◌, ◌||◌}
 use Rattle.std.specs.List.{AllByRecursion}
 use Rattle.std.proofs.lemmas.Bool.{true≢false, and_parts, eqb-true}
@@ -8,29 +9,35 @@ use Rattle.at_ddp.specs.declared.address.Address.{Address}
 use Rattle.at_ddp.proofs.Octets.{same_address-true, same_both}
 use Rattle.at_adsp_frame.specs.Segments.{Content, Part, Open}
 use Rattle.at_adsp_frame.specs.declared.segment.OpenKind.{OpenKind}
-use Rattle.at_adsp_frame.specs.declared.segment.OpenKind.TheVariants.{Request, Acknowledgement, RequestAndAcknowledgement, Denial}
-use Rattle.at_adsp_end.specs.Ends.{EndState, answering, confirming, half_end, has_opened, has_remote, is_half, is_open, is_opening, is_remote}
+use Rattle.at_adsp_frame.specs.declared.segment.OpenKind.TheVariants.{Request, Acknowledgement}
+use Rattle.at_adsp_frame.specs.declared.segment.OpenKind.TheVariants.{RequestAndAcknowledgement, Denial}
+use Rattle.at_adsp_end.specs.Ends.{EndState, answering, confirming, half_end, has_opened, has_remote, is_half, is_open}
+use Rattle.at_adsp_end.specs.Ends.{is_opening, is_remote}
 use Rattle.at_adsp_end.specs.Hearing.{heard, told}
 use Rattle.at_adsp_end.specs.Positions.{Numbers}
 use Rattle.at_adsp_end.specs.Sending.{acks}
 use Rattle.at_adsp_end.specs.declared.phase.Phase.TheVariants as phase
 use Rattle.at_adsp_end.specs.declared.remote.Remote.{Remote}
 use Rattle.at_adsp_end.specs.declared.step.Step.TheVariants as step
-use Rattle.at_adsp_ends.specs.Openings.{ack_came, answer_came, answers_again, confirms_again, connected_to, denial_came, heard_opening, ignored, is_answered, opened, request_came, room_for}
+use Rattle.at_adsp_ends.specs.Openings.{ack_came, answer_came, answers_again, confirms_again, connected_to, denial_came}
+use Rattle.at_adsp_ends.specs.Openings.{heard_opening, ignored, is_answered, opened, request_came, room_for}
 use Rattle.at_adsp_ends.specs.Receiving.{any_request_came, opening_came, part_came, segment_came, settled}
 use Rattle.at_adsp_ends.specs.Tables.{EndTable, by_id, by_remote, freed, has_id, next_id, stayed}
 use Rattle.at_adsp.specs.Network.{Setting, Network, MakesInTime, NoneNames, does, hears}
 use Rattle.at_adsp.proofs.Beginnings.{made_sound}
 use Rattle.at_adsp.proofs.Changes.{Moves}
 use Rattle.at_adsp.proofs.Distinct.{drawn}
-use Rattle.at_adsp.proofs.EndMoves.{Same, answering_said, half_is, heard_plain, heard_quiet, hearing_plain, hearing_same, open_is, opening_is, plain_says, reaches_said, same_known}
+use Rattle.at_adsp.proofs.EndMoves.{Same, answering_said, half_is, heard_plain, heard_quiet, hearing_plain}
+use Rattle.at_adsp.proofs.EndMoves.{hearing_same, open_is, opening_is, plain_says, reaches_said, same_known}
 use Rattle.at_adsp.proofs.Openings.{opened_sound}
 use Rattle.at_adsp.proofs.Sayings.{Says}
 use Rattle.at_adsp.proofs.Sound.{IsKnown, Knows, Reaches, Sound, Tells, TellsKind, Told}
-use Rattle.at_adsp.proofs.Steps.{found_id, found_passes, found_stands, freed_sound, ignored_sound, later, quiet_sound, stands_known, stayed_sound, turned_sound}
+use Rattle.at_adsp.proofs.Steps.{found_id, found_passes, found_stands, freed_sound, ignored_sound, later, quiet_sound}
+use Rattle.at_adsp.proofs.Steps.{stands_known, stayed_sound, turned_sound}
 
 -- an end whose remote is known has this remote
-pub own_remote : (r : Remote) (asked : Address) (o : Option Remote) → Reaches asked o → is_remote r o ≡ true → o ≡ Some r
+pub own_remote : (r : Remote) (asked : Address) (o : Option Remote) → Reaches asked o → is_remote r o ≡ true → o
+    ≡ Some r
 own_remote r asked None h is = h.1 ∙ absurd (let none = h.1 in cc)
 own_remote r asked (Some q) h is =
     let both = same_both r.address q.address r.id q.id is in
@@ -58,15 +65,22 @@ module _ (setting : Setting) (n : Network) (at from : Address) (s : Content) (so
 
   -- ---- requests
 
-  room_sound : (o : Option ℕ) → ((id : ℕ) → o ≡ Some id → next_id t ≡ Some id) → ((id : ℕ) → (room_for N t r o).answer ≡ step.Made id → NoneNames n at id) →
+  room_sound : (o : Option ℕ) → ((id : ℕ) → o ≡ Some id → next_id t ≡ Some id)
+      → ((id : ℕ) → (room_for N t r o).answer ≡ step.Made id → NoneNames n at id) →
       Sound setting (n.event + 1) (does setting n at (room_for N t r o))
   room_sound None draws makes = turned_sound setting n at step.Turned from s.source now
   room_sound (Some id) draws makes =
       made_sound setting n at (half_end t.rooms id r) sound
-      (record { drawn = drawn t id (sound.next at) (draws id refl); known = (refl, (s.source, refl)); unopened = refl; unnamed = makes id refl }) (step.Made id)
+      (record {
+        drawn = drawn t id (sound.next at) (draws id refl);
+        known = (refl, (s.source, refl));
+        unopened = refl;
+        unnamed = makes id refl;
+      }) (step.Made id)
       (answering N (half_end t.rooms id r) ∷ []) (reaches_said (half_end t.rooms id r) true refl (s.source, refl), tt)
 
-  request_sound : (o : Option EndState) → by_remote t r ≡ o → ((id : ℕ) → (request_came N t r o).answer ≡ step.Made id → NoneNames n at id) →
+  request_sound : (o : Option EndState) → by_remote t r ≡ o
+      → ((id : ℕ) → (request_came N t r o).answer ≡ step.Made id → NoneNames n at id) →
       Sound setting (n.event + 1) (does setting n at (request_came N t r o))
   request_sound None is makes = room_sound (cond t.listening (next_id t) None) (draws t.listening) makes
     where
@@ -75,13 +89,19 @@ module _ (setting : Setting) (n : Network) (at from : Address) (s : Content) (so
       draws false id h = absurd (cc)
   request_sound (Some e) is makes = go (answers_again e) refl
     where
-      go : (b : Bool) → answers_again e ≡ b → Sound setting (n.event + 1) (does setting n at (cond b (stayed t step.Again e (answering N e ∷ [])) (ignored t)))
+      go : (b : Bool) → answers_again e ≡ b
+          → Sound setting (n.event + 1)
+          (does setting n at (cond b (stayed t step.Again e (answering N e ∷ [])) (ignored t)))
       go true h =
-          stayed_sound setting n at (has_remote r) e step.Again (answering N e ∷ []) now is
-          (answering_said e e.phase (known (has_remote r) e is) (and_parts e.listener (is_half e.phase || is_open e.phase) h).0, tt)
+          stayed_sound setting n at (has_remote r) e step.Again (answering N e ∷ []) now is (
+            answering_said e e.phase (known (has_remote r) e is)
+                (and_parts e.listener (is_half e.phase || is_open e.phase) h).0,
+            tt,
+          )
       go false h = ignored_sound setting n at now
 
-  any_sound : (b : Bool) → ((id : ℕ) → (any_request_came N t r b).answer ≡ step.Made id → NoneNames n at id) → Sound setting (n.event + 1) (does setting n at (any_request_came N t r b))
+  any_sound : (b : Bool) → ((id : ℕ) → (any_request_came N t r b).answer ≡ step.Made id → NoneNames n at id)
+      → Sound setting (n.event + 1) (does setting n at (any_request_came N t r b))
   any_sound true makes = ignored_sound setting n at now
   any_sound false makes = request_sound (by_remote t r) refl makes
 
@@ -99,10 +119,14 @@ module _ (setting : Setting) (n : Network) (at from : Address) (s : Content) (so
 
   -- ---- acknowledgements
 
-  half_known : (dest : ℕ) (e : EndState) → by_id t dest ≡ Some e → (is_half e.phase && has_remote r e) ≡ true → (e.listener ≡ true) × Reaches e.asked e.remote
-  half_known dest e is h = subst (λ p. Knows p e.listener e.asked e.remote) (half_is e.phase (and_parts (is_half e.phase) (has_remote r e) h).0) (known (has_id dest) e is)
+  half_known : (dest : ℕ) (e : EndState) → by_id t dest ≡ Some e → (is_half e.phase && has_remote r e) ≡ true
+      → (e.listener ≡ true) × Reaches e.asked e.remote
+  half_known dest e is h =
+      subst (λ p. Knows p e.listener e.asked e.remote)
+      (half_is e.phase (and_parts (is_half e.phase) (has_remote r e) h).0) (known (has_id dest) e is)
 
-  pub ack_moves : (dest : ℕ) (e : EndState) → by_id t dest ≡ Some e → (is_half e.phase && has_remote r e) ≡ true → Moves e (heard_first (record e { phase = phase.Open }))
+  pub ack_moves : (dest : ℕ) (e : EndState) → by_id t dest ≡ Some e → (is_half e.phase && has_remote r e) ≡ true
+      → Moves e (heard_first (record e { phase = phase.Open }))
   ack_moves dest e is h =
       let same = first_same (record e { phase = phase.Open }) in
       record {
@@ -111,35 +135,47 @@ module _ (setting : Setting) (n : Network) (at from : Address) (s : Content) (so
         asked = same.asked;
         remote = λ q g. same.remote ∙ g;
         opened = λ g. ap has_opened same.phase;
-        known = same_known (record e { phase = phase.Open }) (heard_first (record e { phase = phase.Open })) same (half_known dest e is h).1;
+        known = same_known (record e { phase = phase.Open }) (heard_first (record e { phase = phase.Open })) same
+            (half_known dest e is h).1;
       }
 
-  acknowledged_sound : setting.ours at ≡ true → (dest : ℕ) (e : EndState) → by_id t dest ≡ Some e → (is_half e.phase && has_remote r e) ≡ true → By (Told setting n.made from at false s.source dest) →
+  acknowledged_sound : setting.ours at ≡ true → (dest : ℕ) (e : EndState) → by_id t dest ≡ Some e
+      → (is_half e.phase && has_remote r e) ≡ true → By (Told setting n.made from at false s.source dest) →
       Sound setting (n.event + 1) (does setting n at (opened N t (record e { phase = phase.Open }) s []))
   acknowledged_sound here dest e is h by =
       let same = first_same (record e { phase = phase.Open }) in
       let old = found_id n at (has_id dest) e (heard_first (record e { phase = phase.Open })).id same.id is in
-      opened_sound setting n at e (heard_first (record e { phase = phase.Open })) now (found_stands setting (n.event + 1) n at (has_id dest) e now is) (ack_moves dest e is h) r
-      (same.remote ∙ named) (step.Opened e.id) (heard_opening N (record e { phase = phase.Open }) s).sent old.0 old.1 here (go by)
+      opened_sound setting n at e (heard_first (record e { phase = phase.Open })) now
+      (found_stands setting (n.event + 1) n at (has_id dest) e now is) (ack_moves dest e is h) r
+      (same.remote ∙ named) (step.Opened e.id) (heard_opening N (record e { phase = phase.Open }) s).sent old.0 old.1
+      here (go by)
       (first_plain (heard_first (record e { phase = phase.Open })) (record e { phase = phase.Open }))
     where
       named : e.remote ≡ Some r
-      named = own_remote r e.asked e.remote (half_known dest e is h).1 (and_parts (is_half e.phase) (has_remote r e) h).1
+      named = own_remote r e.asked e.remote (half_known dest e is h).1
+          (and_parts (is_half e.phase) (has_remote r e) h).1
 
-      go : By (Told setting n.made from at false s.source dest) → By (Told setting n.made from at (not e.listener) s.source e.id)
+      go : By (Told setting n.made from at false s.source dest)
+          → By (Told setting n.made from at (not e.listener) s.source e.id)
       go (inl strange) = inl strange
       go (inr told) =
           inr (
             told.0,
-            subst (λ k. Told setting n.made from at (not e.listener) s.source k) (sym (eqb-true e.id dest (found_passes setting (n.event + 1) n at (has_id dest) e now is)))
-                (subst (λ l. Told setting n.made from at (not l) s.source dest) (sym (half_known dest e is h).0) told.1),
+            subst (λ k. Told setting n.made from at (not e.listener) s.source k)
+                (sym (eqb-true e.id dest (found_passes setting (n.event + 1) n at (has_id dest) e now is)))
+                (subst (λ l. Told setting n.made from at (not l) s.source dest)
+                (sym (half_known dest e is h).0) told.1),
           )
 
-  ack_sound : setting.ours at ≡ true → (dest : ℕ) (o : Option EndState) → by_id t dest ≡ o → By (Told setting n.made from at false s.source dest) → Sound setting (n.event + 1) (does setting n at (ack_came N t r s o))
+  ack_sound : setting.ours at ≡ true → (dest : ℕ) (o : Option EndState) → by_id t dest ≡ o
+      → By (Told setting n.made from at false s.source dest)
+      → Sound setting (n.event + 1) (does setting n at (ack_came N t r s o))
   ack_sound here dest None is by = ignored_sound setting n at now
   ack_sound here dest (Some e) is by = go (is_half e.phase && has_remote r e) refl
     where
-      go : (b : Bool) → (is_half e.phase && has_remote r e) ≡ b → Sound setting (n.event + 1) (does setting n at (cond b (opened N t (record e { phase = phase.Open }) s []) (ignored t)))
+      go : (b : Bool) → (is_half e.phase && has_remote r e) ≡ b
+          → Sound setting (n.event + 1)
+          (does setting n at (cond b (opened N t (record e { phase = phase.Open }) s []) (ignored t)))
       go true h = acknowledged_sound here dest e is h by
       go false h = ignored_sound setting n at now
 
@@ -151,13 +187,18 @@ module _ (setting : Setting) (n : Network) (at from : Address) (s : Content) (so
     remote : e.remote ≡ None
     here : e.asked ≡ from
 
-  is_asking : (dest : ℕ) (e : EndState) (there : Option EndState) → by_id t dest ≡ Some e → is_answered e r there ≡ true → IsAsking e
+  is_asking : (dest : ℕ) (e : EndState) (there : Option EndState) → by_id t dest ≡ Some e → is_answered e r there
+      ≡ true → IsAsking e
   is_asking dest e there is h =
-      let opens = and_parts (is_opening e.phase) (same_address e.asked from) (and_parts (is_opening e.phase && same_address e.asked from) (is_none there) h).0 in
-      let asks : (e.listener ≡ false) × (e.remote ≡ None) = subst (λ p. Knows p e.listener e.asked e.remote) (opening_is e.phase opens.0) (known (has_id dest) e is) in
+      let opens = and_parts (is_opening e.phase) (same_address e.asked from)
+      (and_parts (is_opening e.phase && same_address e.asked from) (is_none there) h).0 in
+      let asks : (e.listener ≡ false)
+      × (e.remote ≡ None) = subst (λ p. Knows p e.listener e.asked e.remote) (opening_is e.phase opens.0)
+      (known (has_id dest) e is) in
       record { listener = asks.0; remote = asks.1; here = same_address-true e.asked from opens.1 }
 
-  pub answer_moves : (dest : ℕ) (e : EndState) (there : Option EndState) → by_id t dest ≡ Some e → is_answered e r there ≡ true → Moves e (heard_first (connected_to e r))
+  pub answer_moves : (dest : ℕ) (e : EndState) (there : Option EndState) → by_id t dest ≡ Some e
+      → is_answered e r there ≡ true → Moves e (heard_first (connected_to e r))
   answer_moves dest e there is h =
       let same = first_same (connected_to e r) in
       let a = is_asking dest e there is h in
@@ -167,16 +208,22 @@ module _ (setting : Setting) (n : Network) (at from : Address) (s : Content) (so
         asked = same.asked;
         remote = λ q g. absurd (let none = a.remote in cc);
         opened = λ g. ap has_opened same.phase;
-        known = same_known (connected_to e r) (heard_first (connected_to e r)) same (s.source, ap Some (λ i. record { address = sym a.here i; id = s.source }));
+        known = same_known (connected_to e r) (heard_first (connected_to e r)) same
+            (s.source, ap Some (λ i. record { address = sym a.here i; id = s.source }));
       }
 
-  answered_sound : setting.ours at ≡ true → (dest : ℕ) (e : EndState) (there : Option EndState) → by_id t dest ≡ Some e → is_answered e r there ≡ true → By (Told setting n.made from at true s.source dest) →
-      Sound setting (n.event + 1) (does setting n at (opened N t (connected_to e r) s (confirming N (connected_to e r) ∷ [])))
+  answered_sound : setting.ours at ≡ true → (dest : ℕ) (e : EndState) (there : Option EndState) → by_id t dest ≡ Some e
+      → is_answered e r there ≡ true → By (Told setting n.made from at true s.source dest) →
+      Sound setting (n.event + 1)
+      (does setting n at (opened N t (connected_to e r) s (confirming N (connected_to e r) ∷ [])))
   answered_sound here dest e there is h by =
       let same = first_same (connected_to e r) in
       let old = found_id n at (has_id dest) e (heard_first (connected_to e r)).id same.id is in
-      opened_sound setting n at e (heard_first (connected_to e r)) now (found_stands setting (n.event + 1) n at (has_id dest) e now is) (answer_moves dest e there is h) r same.remote (step.Opened e.id)
-      (confirming N (connected_to e r) ∷ (heard_opening N (connected_to e r) s).sent) old.0 old.1 here (go by) (says, first_plain (heard_first (connected_to e r)) (connected_to e r))
+      opened_sound setting n at e (heard_first (connected_to e r)) now
+      (found_stands setting (n.event + 1) n at (has_id dest) e now is)
+      (answer_moves dest e there is h) r same.remote (step.Opened e.id)
+      (confirming N (connected_to e r) ∷ (heard_opening N (connected_to e r) s).sent) old.0 old.1 here (go by)
+      (says, first_plain (heard_first (connected_to e r)) (connected_to e r))
     where
       a : IsAsking e
       a = is_asking dest e there is h
@@ -190,12 +237,14 @@ module _ (setting : Setting) (n : Network) (at from : Address) (s : Content) (so
             remote = same.remote ∙ ap Some (λ i. record { address = (sym a.here ∙ sym same.asked) i; id = s.source });
           }
 
-      go : By (Told setting n.made from at true s.source dest) → By (Told setting n.made from at (not e.listener) s.source e.id)
+      go : By (Told setting n.made from at true s.source dest)
+          → By (Told setting n.made from at (not e.listener) s.source e.id)
       go (inl strange) = inl strange
       go (inr told) =
           inr (
             told.0,
-            subst (λ k. Told setting n.made from at (not e.listener) s.source k) (sym (eqb-true e.id dest (found_passes setting (n.event + 1) n at (has_id dest) e now is)))
+            subst (λ k. Told setting n.made from at (not e.listener) s.source k)
+                (sym (eqb-true e.id dest (found_passes setting (n.event + 1) n at (has_id dest) e now is)))
                 (subst (λ l. Told setting n.made from at (not l) s.source dest) (sym a.listener) told.1),
           )
 
@@ -203,55 +252,75 @@ module _ (setting : Setting) (n : Network) (at from : Address) (s : Content) (so
   not_true false h = refl
   not_true true h = absurd (true≢false (sym h))
 
-  confirmed_sound : (dest : ℕ) (e : EndState) → by_id t dest ≡ Some e → confirms_again e r ≡ true → Sound setting (n.event + 1) (does setting n at (stayed t step.Again e (confirming N e ∷ [])))
+  confirmed_sound : (dest : ℕ) (e : EndState) → by_id t dest ≡ Some e → confirms_again e r ≡ true
+      → Sound setting (n.event + 1) (does setting n at (stayed t step.Again e (confirming N e ∷ [])))
   confirmed_sound dest e is h =
-      let opens = and_parts (is_open e.phase) (not e.listener) (and_parts (is_open e.phase && not e.listener) (has_remote r e) h).0 in
-      let reaches : Reaches e.asked e.remote = subst (λ p. Knows p e.listener e.asked e.remote) (open_is e.phase opens.0) (known (has_id dest) e is) in
-      stayed_sound setting n at (has_id dest) e step.Again (confirming N e ∷ []) now is (reaches_said e false (not_true e.listener opens.1) reaches, tt)
+      let opens = and_parts (is_open e.phase) (not e.listener)
+      (and_parts (is_open e.phase && not e.listener) (has_remote r e) h).0 in
+      let reaches : Reaches e.asked e.remote =
+      subst (λ p. Knows p e.listener e.asked e.remote) (open_is e.phase opens.0) (known (has_id dest) e is) in
+      stayed_sound setting n at (has_id dest) e step.Again (confirming N e ∷ []) now is
+      (reaches_said e false (not_true e.listener opens.1) reaches, tt)
 
-  answer_sound : setting.ours at ≡ true → (dest : ℕ) (there o : Option EndState) → by_id t dest ≡ o → By (Told setting n.made from at true s.source dest) → Sound setting (n.event + 1) (does setting n at (answer_came N t r s there o))
+  answer_sound : setting.ours at ≡ true → (dest : ℕ) (there o : Option EndState) → by_id t dest ≡ o
+      → By (Told setting n.made from at true s.source dest)
+      → Sound setting (n.event + 1) (does setting n at (answer_came N t r s there o))
   answer_sound here dest there None is by = ignored_sound setting n at now
   answer_sound here dest there (Some e) is by = go (is_answered e r there) refl (confirms_again e r) refl
     where
       go : (b : Bool) → is_answered e r there ≡ b → (c : Bool) → confirms_again e r ≡ c →
-          Sound setting (n.event + 1) (does setting n at (cond b (opened N t (connected_to e r) s (confirming N (connected_to e r) ∷ [])) (cond c (stayed t step.Again e (confirming N e ∷ [])) (ignored t))))
+          Sound setting (n.event + 1)
+          (does setting n at (cond b (opened N t (connected_to e r) s (confirming N (connected_to e r) ∷ []))
+          (cond c (stayed t step.Again e (confirming N e ∷ [])) (ignored t))))
       go true h c g = answered_sound here dest e there is h by
       go false h true g = confirmed_sound dest e is g
       go false h false g = ignored_sound setting n at now
 
-  denial_sound : (dest : ℕ) (o : Option EndState) → by_id t dest ≡ o → Sound setting (n.event + 1) (does setting n at (denial_came t from o))
+  denial_sound : (dest : ℕ) (o : Option EndState) → by_id t dest ≡ o
+      → Sound setting (n.event + 1) (does setting n at (denial_came t from o))
   denial_sound dest None is = ignored_sound setting n at now
   denial_sound dest (Some e) is = go (is_opening e.phase && same_address e.asked from)
     where
-      go : (b : Bool) → Sound setting (n.event + 1) (does setting n at (cond b (freed t (step.Denied e.id) e) (ignored t)))
+      go : (b : Bool) → Sound setting (n.event + 1)
+          (does setting n at (cond b (freed t (step.Denied e.id) e) (ignored t)))
       go true = freed_sound setting n at (step.Denied e.id) e now
       go false = ignored_sound setting n at now
 
   -- ---- other segments
 
-  segment_sound : (o : Option EndState) → by_remote t r ≡ o → Sound setting (n.event + 1) (does setting n at (segment_came N t s o))
+  segment_sound : (o : Option EndState) → by_remote t r ≡ o
+      → Sound setting (n.event + 1) (does setting n at (segment_came N t s o))
   segment_sound None is = ignored_sound setting n at now
   segment_sound (Some e) is = go (is_open e.phase) refl
     where
-      go : (b : Bool) → is_open e.phase ≡ b → Sound setting (n.event + 1) (does setting n at (cond b (settled t (heard N e (told N e s))) (ignored t)))
+      go : (b : Bool) → is_open e.phase ≡ b
+          → Sound setting (n.event + 1) (does setting n at (cond b (settled t (heard N e (told N e s))) (ignored t)))
       go true opened =
-          quiet_sound setting n at (has_remote r) e (heard N e (told N e s)).after (heard N e (told N e s)).step (heard N e (told N e s)).sent now is
-          (heard_quiet N e (told N e s) (open_is e.phase opened)) (plain_says (heard N e (told N e s)).after (heard N e (told N e s)).sent (heard_plain N e (told N e s)))
+          quiet_sound setting n at (has_remote r) e (heard N e (told N e s)).after (heard N e (told N e s)).step
+          (heard N e (told N e s)).sent now is
+          (heard_quiet N e (told N e s) (open_is e.phase opened))
+          (plain_says (heard N e (told N e s)).after (heard N e (told N e s)).sent (heard_plain N e (told N e s)))
       go false opened = ignored_sound setting n at now
 
   -- ---- every segment
 
-  opening_sound : setting.ours at ≡ true → (kind : OpenKind) (dest : ℕ) → ((id : ℕ) → (opening_came N t r s kind dest).answer ≡ step.Made id → NoneNames n at id) → By (TellsKind setting n.made from at s.source kind dest) →
+  opening_sound : setting.ours at ≡ true → (kind : OpenKind) (dest : ℕ)
+      → ((id : ℕ) → (opening_came N t r s kind dest).answer ≡ step.Made id → NoneNames n at id)
+      → By (TellsKind setting n.made from at s.source kind dest) →
       Sound setting (n.event + 1) (does setting n at (opening_came N t r s kind dest))
   opening_sound here Request dest makes by = any_sound (s.source == 0) makes
   opening_sound here Acknowledgement dest makes by = ack_sound here dest (by_id t dest) refl by
-  opening_sound here RequestAndAcknowledgement dest makes by = answer_sound here dest (by_remote t r) (by_id t dest) refl by
+  opening_sound here RequestAndAcknowledgement dest makes by =
+      answer_sound here dest (by_remote t r) (by_id t dest) refl by
   opening_sound here Denial dest makes by = denial_sound dest (by_id t dest) refl
 
-  part_sound : setting.ours at ≡ true → (part : Part) → ((id : ℕ) → (part_came N t r s part).answer ≡ step.Made id → NoneNames n at id) → By (Tells setting n.made from at s.source part) →
+  part_sound : setting.ours at ≡ true → (part : Part)
+      → ((id : ℕ) → (part_came N t r s part).answer ≡ step.Made id → NoneNames n at id)
+      → By (Tells setting n.made from at s.source part) →
       Sound setting (n.event + 1) (does setting n at (part_came N t r s part))
   part_sound here (Open kind dest) makes by = opening_sound here kind dest makes by
   part_sound here other makes by = segment_sound (by_remote t r) refl
 
-  pub hears_sound : setting.ours at ≡ true → MakesInTime setting n at from s → By (Tells setting n.made from at s.source s.body) → Sound setting (n.event + 1) (hears setting n at from s)
+  pub hears_sound : setting.ours at ≡ true → MakesInTime setting n at from s
+      → By (Tells setting n.made from at s.source s.body) → Sound setting (n.event + 1) (hears setting n at from s)
   hears_sound here makes by = part_sound here s.body makes by

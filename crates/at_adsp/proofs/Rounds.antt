@@ -1,5 +1,6 @@
 -- Numbers that come round, and the positions that they stand for.
-use Rattle.std.proofs.Common.{◌≡◌, ℕ, zero, ◌+◌, ◌-◌, ◌*◌, ◌/◌, ◌%◌, ◌<◌, ◌≤◌, Bool, true, false, cond, Some, None, refl, ap, ◌∙◌, arith}
+use Rattle.std.proofs.Common.{◌≡◌, ℕ, zero, ◌+◌, ◌-◌, ◌*◌, ◌/◌, ◌%◌, ◌<◌, ◌≤◌, Bool, true, false, cond, Some, None}
+use Rattle.std.proofs.Common.{refl, ap, ◌∙◌, arith}
 use Rattle.std.specs.Prelude.{nat_lt}
 use Rattle.std.proofs.Math.Nat.{mod-add-mod, add-mod_right, add-mul-mod_self_left, div-add-mod, mod-eq_of_lt, mod-lt}
 use Rattle.std.proofs.lemmas.Bool.{lt-ltb, ltb-true}
@@ -15,7 +16,8 @@ far_on m a d some lt =
     let small = mod-lt a some in
     let parts = div-add-mod a m in
     let round : (a + d) + (m - a % m) ≡ (d + m) + m * (a / m) = omega (arith, small, parts) in
-    mod-add-mod (a + d) m (m - a % m) ∙ ap (λ x. x % m) round ∙ add-mul-mod_self_left (d + m) m (a / m) ∙ add-mod_right d m ∙ mod-eq_of_lt lt
+    mod-add-mod (a + d) m (m - a % m) ∙ ap (λ x. x % m) round ∙ add-mul-mod_self_left (d + m) m (a / m)
+    ∙ add-mod_right d m ∙ mod-eq_of_lt lt
 
 -- the way back, once round
 pub far_back : (m b d : ℕ) → zero < d → d < m → far_around m ((b + d) % m) (b % m) ≡ m - d
@@ -25,7 +27,8 @@ far_back m b d some lt =
     let parts = div-add-mod (b + d) m in
     let round : b + (m - (b + d) % m) ≡ (m - d) + m * ((b + d) / m) = omega (arith, small, parts, lt) in
     let less : m - d < m = omega (arith, some, lt) in
-    mod-add-mod b m (m - (b + d) % m) ∙ ap (λ x. x % m) round ∙ add-mul-mod_self_left (m - d) m ((b + d) / m) ∙ mod-eq_of_lt less
+    mod-add-mod b m (m - (b + d) % m) ∙ ap (λ x. x % m) round ∙ add-mul-mod_self_left (m - d) m ((b + d) / m)
+    ∙ mod-eq_of_lt less
 
 -- near enough, what is ahead is ahead on the wire
 pub ahead_on : (m half a d : ℕ) → half ≤ m → d < half → ahead_around m half (a % m) ((a + d) % m) ≡ Some d
@@ -34,7 +37,8 @@ ahead_on m half a d few near =
     ap (λ x. cond (nat_lt x half) (Some x) None) same ∙ ap (λ b. cond b (Some d) None) (lt-ltb d half near)
 
 -- and what is behind is not
-pub ahead_back : (m half b d : ℕ) → zero < d → d + half ≤ m → zero < half → ahead_around m half ((b + d) % m) (b % m) ≡ None
+pub ahead_back : (m half b d : ℕ) → zero < d → d + half ≤ m → zero < half → ahead_around m half ((b + d) % m) (b % m)
+    ≡ None
 ahead_back m half b d some near big = go (nat_lt (m - d) half) refl
   where
     same : far_around m ((b + d) % m) (b % m) ≡ m - d

@@ -1,12 +1,14 @@
 -- What an end that sends leaves true of all that its writer did.
-use Rattle.std.proofs.Common.{◌≡◌, ℕ, zero, suc, ◌+◌, ◌≤◌, Bool, true, false, cond, List, [], ◌∷◌, ◌++◌, length, map, take, drop, refl, sym, ap, subst, ◌∙◌, append_assoc, arith}
+use Rattle.std.proofs.Common.{◌≡◌, ℕ, zero, suc, ◌+◌, ◌≤◌, Bool, true, false, cond, List, [], ◌∷◌, ◌++◌, length, map}
+use Rattle.std.proofs.Common.{take, drop, refl, sym, ap, subst, ◌∙◌, append_assoc, arith}
 use Rattle.std.proofs.lemmas.Bool.{false≢true}
 use Rattle.at_adsp_end.specs.Ends.{Sender, no_sender}
 use Rattle.at_adsp_end.specs.Positions.{whole}
 use Rattle.at_adsp_end.specs.Sending.{acknowledged, dropped, going, sent_on}
 use Rattle.at_adsp_end.specs.declared.item.Item.{Item}
 use Rattle.at_adsp.specs.Reading.{Written, Put, Reset}
-use Rattle.at_adsp.proofs.Logs.{Log, Went, Cut, flat, went_of, flat_both, length_both, map_both, nothing_more, went_both}
+use Rattle.at_adsp.proofs.Logs.{Log, Went, Cut, flat, went_of, flat_both, length_both, map_both, nothing_more}
+use Rattle.at_adsp.proofs.Logs.{went_both}
 use Rattle.at_adsp.proofs.Slices.{IsSlice}
 
 -- the log ends with a reset
@@ -26,7 +28,14 @@ pub record Writes (w : List Written) (l : List Log) (s : Sender) : Type 0 where
 
 -- nothing is written yet
 pub writes_begins : Writes [] [] no_sender
-writes_begins = record { is_written = refl; gone = []; is_numbered = refl; at_front = refl; nothing_sent = λ e. refl; stands = λ e. absurd (false≢true e) }
+writes_begins = record {
+  is_written = refl;
+  gone = [];
+  is_numbered = refl;
+  at_front = refl;
+  nothing_sent = λ e. refl;
+  stands = λ e. absurd (false≢true e);
+}
 
 went_puts : (xs : List Item) → went_of (map Went xs) ≡ xs
 went_puts [] = refl
@@ -54,7 +63,8 @@ length_take (suc k) (x ∷ xs) le = let rest = length_take k xs (omega (arith, l
 all_of_waiting : (s : Sender) → going s ++ drop (length (going s)) s.waiting ≡ s.waiting
 all_of_waiting s = go s.resetting
   where
-    go : (b : Bool) → cond b [] (take s.credit s.waiting) ++ drop (length (cond b [] (take s.credit s.waiting))) s.waiting ≡ s.waiting
+    go : (b : Bool) → cond b [] (take s.credit s.waiting) ++ drop
+        (length (cond b [] (take s.credit s.waiting))) s.waiting ≡ s.waiting
     go true = refl
     go false = some_and_rest s.credit s.waiting
 
@@ -62,37 +72,53 @@ none_went : (s : Sender) → s.resetting ≡ true → going s ≡ []
 none_went s e = ap (λ b. cond b [] (take s.credit s.waiting)) e
 
 -- an end sends all below its limit
-pub sending_keeps : (w : List Written) (l : List Log) (s : Sender) → Writes w l s → Writes w (l ++ map Went (going s)) (sent_on s)
+pub sending_keeps : (w : List Written) (l : List Log) (s : Sender) → Writes w l s
+    → Writes w (l ++ map Went (going s)) (sent_on s)
 sending_keeps w l s h = record {
-  is_written = h.is_written ∙ ap (λ x. flat l ++ map Put x) (sym (all_of_waiting s)) ∙ ap (λ x. flat l ++ x) (map_both Put (going s) (drop (length (going s)) s.waiting))
+  is_written = h.is_written ∙ ap (λ x. flat l ++ map Put x) (sym (all_of_waiting s))
+      ∙ ap (λ x. flat l ++ x) (map_both Put (going s) (drop (length (going s)) s.waiting))
       ∙ sym (append_assoc (flat l) (map Put (going s)) (map Put (drop (length (going s)) s.waiting)))
-      ∙ ap (λ x. x ++ map Put (drop (length (going s)) s.waiting)) (ap (λ x. flat l ++ x) (sym (flat_puts (going s))) ∙ sym (flat_both l (map Went (going s))));
+      ∙ ap (λ x. x ++ map Put (drop (length (going s)) s.waiting))
+      (ap (λ x. flat l ++ x) (sym (flat_puts (going s))) ∙ sym (flat_both l (map Went (going s))));
   gone = h.gone;
-  is_numbered = went_both l (map Went (going s)) ∙ (λ i. h.is_numbered i ++ went_puts (going s) i) ∙ append_assoc h.gone s.unacknowledged (going s);
+  is_numbered = went_both l (map Went (going s)) ∙ (λ i. h.is_numbered i ++ went_puts (going s) i)
+      ∙ append_assoc h.gone s.unacknowledged (going s);
   at_front = h.at_front;
   nothing_sent = λ e. (λ i. h.nothing_sent e i ++ none_went s e i);
   stands = λ e. subst EndsWithCut (sym (ap (λ x. l ++ map Went x) (none_went s e) ∙ nothing_more l)) (h.stands e);
 }
 
-pub sent_slice : (w : List Written) (l : List Log) (s : Sender) → Writes w l s → IsSlice (going s) (went_of (l ++ map Went (going s))) (s.front + length s.unacknowledged)
+pub sent_slice : (w : List Written) (l : List Log) (s : Sender) → Writes w l s
+    → IsSlice (going s) (went_of (l ++ map Went (going s))) (s.front + length s.unacknowledged)
 sent_slice w l s h = record {
   before = h.gone ++ s.unacknowledged;
   after = [];
-  stands = went_both l (map Went (going s)) ∙ (λ i. h.is_numbered i ++ went_puts (going s) i) ∙ ap (λ x. (h.gone ++ s.unacknowledged) ++ x) (sym (nothing_more (going s)));
+  stands = went_both l (map Went (going s)) ∙ (λ i. h.is_numbered i ++ went_puts (going s) i)
+      ∙ ap (λ x. (h.gone ++ s.unacknowledged) ++ x) (sym (nothing_more (going s)));
   at = let n = length_both h.gone s.unacknowledged in let a = h.at_front in omega (arith, n, a);
 }
 
 -- what is sent again is a slice too
-pub repeated_slice : (w : List Written) (l : List Log) (s : Sender) → Writes w l s → IsSlice s.unacknowledged (went_of l) s.front
-repeated_slice w l s h = record { before = h.gone; after = []; stands = h.is_numbered ∙ ap (λ x. h.gone ++ x) (sym (nothing_more s.unacknowledged)); at = h.at_front }
+pub repeated_slice : (w : List Written) (l : List Log) (s : Sender) → Writes w l s
+    → IsSlice s.unacknowledged (went_of l) s.front
+repeated_slice w l s h =
+    record {
+      before = h.gone;
+      after = [];
+      stands = h.is_numbered ∙ ap (λ x. h.gone ++ x) (sym (nothing_more s.unacknowledged));
+      at = h.at_front;
+    }
 
 -- items are acknowledged
-pub acknowledged_keeps : (w : List Written) (l : List Log) (s : Sender) (k window : ℕ) → k ≤ length s.unacknowledged → Writes w l s → Writes w l (acknowledged whole k window s)
+pub acknowledged_keeps : (w : List Written) (l : List Log) (s : Sender) (k window : ℕ) → k ≤ length s.unacknowledged
+    → Writes w l s → Writes w l (acknowledged whole k window s)
 acknowledged_keeps w l s k window le h = record {
   is_written = h.is_written;
   gone = h.gone ++ take k s.unacknowledged;
-  is_numbered = h.is_numbered ∙ ap (λ x. h.gone ++ x) (sym (some_before k s.unacknowledged)) ∙ sym (append_assoc h.gone (take k s.unacknowledged) (drop k s.unacknowledged));
-  at_front = let n = length_both h.gone (take k s.unacknowledged) in let t = length_take k s.unacknowledged le in let a = h.at_front in omega (arith, n, t, a);
+  is_numbered = h.is_numbered ∙ ap (λ x. h.gone ++ x) (sym (some_before k s.unacknowledged))
+      ∙ sym (append_assoc h.gone (take k s.unacknowledged) (drop k s.unacknowledged));
+  at_front = let n = length_both h.gone (take k s.unacknowledged) in let t = length_take k s.unacknowledged le in
+      let a = h.at_front in omega (arith, n, t, a);
   nothing_sent = λ e. ap (drop k) (h.nothing_sent e) ∙ none k;
   stands = h.stands;
 }
@@ -102,20 +128,25 @@ acknowledged_keeps w l s k window le h = record {
     none (suc k) = refl
 
 -- the stream is reset
-pub reset_keeps : (w : List Written) (l : List Log) (s : Sender) → Writes w l s → Writes (w ++ Reset ∷ []) (l ++ Cut s.waiting ∷ []) (record (dropped whole s) { resetting = true })
+pub reset_keeps : (w : List Written) (l : List Log) (s : Sender) → Writes w l s
+    → Writes (w ++ Reset ∷ []) (l ++ Cut s.waiting ∷ []) (record (dropped whole s) { resetting = true })
 reset_keeps w l s h = record {
-  is_written = ap (λ x. x ++ Reset ∷ []) h.is_written ∙ append_assoc (flat l) (map Put s.waiting) (Reset ∷ []) ∙ sym (flat_both l (Cut s.waiting ∷ [])) ∙ sym (nothing_more (flat (l ++ Cut s.waiting ∷ [])));
+  is_written = ap (λ x. x ++ Reset ∷ []) h.is_written ∙ append_assoc (flat l) (map Put s.waiting) (Reset ∷ [])
+      ∙ sym (flat_both l (Cut s.waiting ∷ [])) ∙ sym (nothing_more (flat (l ++ Cut s.waiting ∷ [])));
   gone = h.gone ++ s.unacknowledged;
-  is_numbered = went_both l (Cut s.waiting ∷ []) ∙ nothing_more (went_of l) ∙ h.is_numbered ∙ sym (nothing_more (h.gone ++ s.unacknowledged));
+  is_numbered = went_both l (Cut s.waiting ∷ []) ∙ nothing_more (went_of l) ∙ h.is_numbered
+      ∙ sym (nothing_more (h.gone ++ s.unacknowledged));
   at_front = let n = length_both h.gone s.unacknowledged in let a = h.at_front in omega (arith, n, a);
   nothing_sent = λ e. refl;
   stands = λ e. record { before = l; ds = s.waiting; is_cut = refl };
 }
 
 -- the client writes
-pub writing_keeps : (w : List Written) (l : List Log) (s : Sender) (xs : List Item) → Writes w l s → Writes (w ++ map Put xs) l (record s { waiting = s.waiting ++ xs })
+pub writing_keeps : (w : List Written) (l : List Log) (s : Sender) (xs : List Item) → Writes w l s
+    → Writes (w ++ map Put xs) l (record s { waiting = s.waiting ++ xs })
 writing_keeps w l s xs h = record {
-  is_written = ap (λ x. x ++ map Put xs) h.is_written ∙ append_assoc (flat l) (map Put s.waiting) (map Put xs) ∙ ap (λ x. flat l ++ x) (sym (map_both Put s.waiting xs));
+  is_written = ap (λ x. x ++ map Put xs) h.is_written ∙ append_assoc (flat l) (map Put s.waiting) (map Put xs)
+      ∙ ap (λ x. flat l ++ x) (sym (map_both Put s.waiting xs));
   gone = h.gone;
   is_numbered = h.is_numbered;
   at_front = h.at_front;

@@ -1,42 +1,39 @@
 -- What each happening does to the ends of streams as their users see them.
-use Rattle.std.proofs.Common.{◌≡◌, ℕ, ◌+◌, Bool, true, false, cond, List, [], ◌∷◌, ◌++◌, ◌≤◌, length, take, Option, Some, None, inl, inr, refl, ap, ◌∙◌}
-use Rattle.std.specs.Prelude.{not, Ok, Err, ◌==◌, ◌&&◌}
+use Rattle.std.proofs.Common.{◌≡◌, ℕ, ◌+◌, Bool, true, false, cond, List, [], ◌∷◌, ◌≤◌, length, take, Option}
+use Rattle.std.proofs.Common.{Some, None, inl, inr, refl, ap, ◌∙◌}
+use Rattle.std.specs.Prelude.{not, Ok, Err, ◌&&◌}
 use Rattle.std.proofs.lemmas.Bool.{true≢false, eqb-true}
-use Rattle.at_ddp.specs.Address.{same_address}
 use Rattle.at_ddp.specs.declared.address.Address.{Address}
-use Rattle.at_adsp_frame.specs.Segments.{Content, Open, Part}
-use Rattle.at_adsp_frame.specs.declared.segment.OpenKind.{OpenKind}
-use Rattle.at_adsp_frame.specs.declared.segment.OpenKind.TheVariants.{Request, Acknowledgement, RequestAndAcknowledgement, Denial}
+use Rattle.at_adsp_frame.specs.Segments.{Open}
 use Rattle.at_adsp_end.specs.Calls.{is_last, probed, reading, ticked, writing}
-use Rattle.at_adsp_end.specs.Ends.{Change, EndState, answering, asking, confirming, connector, half_end, has_opened, has_remote, is_closed, is_half, is_open, is_opening, places}
-use Rattle.at_adsp_end.specs.Hearing.{Advises, Answers, Asks, Brings, Closes, Resets, Saying, after_hearing, heard, is_empty, told}
+use Rattle.at_adsp_end.specs.Ends.{Change, EndState, asking, connector, has_opened}
+use Rattle.at_adsp_end.specs.Ends.{is_closed, is_open, places}
+use Rattle.at_adsp_end.specs.Hearing.{Advises, Answers, Asks, Brings, Closes, Resets, Saying, after_hearing}
+use Rattle.at_adsp_end.specs.Hearing.{is_empty}
 use Rattle.at_adsp_end.specs.declared.forward.Forward.TheVariants.{Jump, Older, Beyond}
 use Rattle.at_adsp_end.specs.Positions.{Numbers}
-use Rattle.at_adsp_end.specs.Sending.{acks, closing, hearing, resetting_now}
+use Rattle.at_adsp_end.specs.Sending.{closing, resetting_now}
 use Rattle.at_adsp_end.specs.declared.fault.StreamFault.TheVariants.{NoRoom, NotOpen}
 use Rattle.at_adsp_end.specs.declared.item.Item.{Item}
 use Rattle.at_adsp_end.specs.declared.phase.Phase.TheVariants as phase
-use Rattle.at_adsp_end.specs.declared.remote.Remote.{Remote}
 use Rattle.at_adsp_end.specs.declared.step.Step.{Step}
 use Rattle.at_adsp_end.specs.declared.step.Step.TheVariants as step
 use Rattle.at_adsp_end.specs.declared.tick.Tick.{Tick}
 use Rattle.at_adsp_end.specs.declared.tick.Tick.TheVariants.{Retransmit, Probe}
-use Rattle.at_adsp_ends.specs.Calls.{closed_at, connected, finds_no_room, frees, read_at, reset_at, ticked_at, wrote, wrote_some}
-use Rattle.at_adsp_ends.specs.Openings.{ack_came, answer_came, answers_again, confirms_again, connected_to, denial_came, heard_opening, ignored, is_answered, opened, request_came, room_for}
-use Rattle.at_adsp_ends.specs.Receiving.{any_request_came, opening_came, part_came, segment_came, settled}
-use Rattle.at_adsp_ends.specs.Tables.{Done, EndTable, by_id, by_remote, freed, has_id, moved, next_id, stayed}
-use Rattle.at_adsp.specs.Connections.{AfterCall, AfterConnecting, AfterSegment, AfterStep, ChangesStreams, streams}
-use Rattle.at_adsp.specs.Network.{AllTimely, Closes as closes, Connects, Happening, Listens, Network, Other, Reads, Resets as resets, Sent, Setting, Strange, Takes, Ticks, Writes, after, calls, calls_with, does, gave_up, wrote_first, noted, packet_at, takes}
-use Rattle.at_adsp.specs.Streams.{GaveUp, Read, with_deed, with_peer}
+use Rattle.at_adsp_ends.specs.Calls.{closed_at, connected, finds_no_room, frees, read_at, reset_at, ticked_at, wrote}
+use Rattle.at_adsp_ends.specs.Calls.{wrote_some}
+use Rattle.at_adsp_ends.specs.Receiving.{settled}
+use Rattle.at_adsp_ends.specs.Tables.{EndTable, by_id, freed, has_id, moved, next_id}
+use Rattle.at_adsp.specs.Connections.{AfterCall, AfterConnecting, AfterStep, streams}
+use Rattle.at_adsp.specs.Network.{Network}
+use Rattle.at_adsp.specs.Network.{Setting, after, calls}
+use Rattle.at_adsp.specs.Network.{calls_with, does, gave_up, wrote_first}
+use Rattle.at_adsp.specs.Streams.{GaveUp, Read, with_deed}
 use Rattle.at_adsp.proofs.Beginnings.{made_streams}
-use Rattle.at_adsp.proofs.Changes.{Moves}
 use Rattle.at_adsp.proofs.Distinct.{drawn}
-use Rattle.at_adsp.proofs.EndMoves.{heard_quiet, hearing_same, open_is}
-use Rattle.at_adsp.proofs.Histories.{history_sound}
-use Rattle.at_adsp.proofs.Openings.{opened_streams}
-use Rattle.at_adsp.proofs.Receptions.{ack_moves, answer_moves}
+use Rattle.at_adsp.proofs.EndMoves.{open_is}
 use Rattle.at_adsp.proofs.Sound.{Sound}
-use Rattle.at_adsp.proofs.Steps.{deed_streams, found_id, found_passes, found_stands, later, quiet_streams}
+use Rattle.at_adsp.proofs.Steps.{deed_streams, found_passes, quiet_streams}
 
 -- ---- steps that make and open nothing
 
@@ -45,7 +42,8 @@ IsQuiet (step.Made id) = ⊥
 IsQuiet (step.Opened id) = ⊥
 IsQuiet other = Unit {0}
 
-after_quiet : (old new : Network) (at from : Address) (s : Step) → IsQuiet s → streams new ≡ streams old → AfterStep old new at from s
+pub after_quiet : (old new : Network) (at from : Address) (s : Step) → IsQuiet s → streams new ≡ streams old
+    → AfterStep old new at from s
 after_quiet old new at from (step.Made id) quiet same = absurd quiet
 after_quiet old new at from (step.Opened id) quiet same = absurd quiet
 after_quiet old new at from other quiet same = same
@@ -67,11 +65,13 @@ heard_step N c ack Advises = go (is_empty c.after.sender.unacknowledged)
 
 -- ---- calls and timers
 
-connects_streams : (setting : Setting) (n : Network) (at to : Address) → 1 ≤ (n.tables at).next → (o : Option ℕ) → next_id (n.tables at) ≡ o → AfterConnecting n (calls setting n at (connected (n.tables at) to o)) at to o
+pub connects_streams : (setting : Setting) (n : Network) (at to : Address) → 1 ≤ (n.tables at).next → (o : Option ℕ)
+    → next_id (n.tables at) ≡ o → AfterConnecting n (calls setting n at (connected (n.tables at) to o)) at to o
 connects_streams setting n at to some None is = refl
 connects_streams setting n at to some (Some id) is =
     let d = drawn (n.tables at) id some is in
-    made_streams setting n at (connector (n.tables at).rooms id to) id (asking (connector (n.tables at).rooms id to) ∷ []) d.free
+    made_streams setting n at (connector (n.tables at).rooms id to) id
+    (asking (connector (n.tables at).rooms id to) ∷ []) d.free
 
 module _ (setting : Setting) (n : Network) (at : Address) (id : ℕ) (sound : Sound setting (n.event + 1) n) where
   abbrev N : Numbers
@@ -80,195 +80,118 @@ module _ (setting : Setting) (n : Network) (at : Address) (id : ℕ) (sound : So
   abbrev t : EndTable
   t = n.tables at
 
-  closes_streams : (o : Option EndState) → by_id t id ≡ o → streams (calls setting n at (closed_at N t o)) ≡ streams n
+  pub closes_streams : (o : Option EndState) → by_id t id ≡ o → streams (calls setting n at (closed_at N t o))
+      ≡ streams n
   closes_streams None is = refl
   closes_streams (Some e) is = go (is_open e.phase) refl
     where
-      go : (b : Bool) → is_open e.phase ≡ b → streams (calls setting n at (cond b (Ok (moved t (step.Closed e.id) (closing N e).after (closing N e).sent)) (Ok (freed t (step.Freed e.id) e)))) ≡ streams n
+      go : (b : Bool) → is_open e.phase ≡ b
+          → streams (calls setting n at
+          (cond b (Ok (moved t (step.Closed e.id) (closing N e).after (closing N e).sent))
+          (Ok (freed t (step.Freed e.id) e)))) ≡ streams n
       go true h =
           quiet_streams setting n at (has_id id) e (closing N e).after sound is
-          (record { id = refl; listener = refl; asked = refl; remote = refl; phase = inr (open_is e.phase h, refl) }) (step.Closed e.id) (closing N e).sent
+          (record { id = refl; listener = refl; asked = refl; remote = refl; phase = inr (open_is e.phase h, refl) })
+          (step.Closed e.id) (closing N e).sent
       go false h = refl
 
   -- an end that is found has the identifier
-  own : (e : EndState) → by_id t id ≡ Some e → e.id ≡ id
+  pub own : (e : EndState) → by_id t id ≡ Some e → e.id ≡ id
   own e is = eqb-true e.id id (found_passes setting (n.event + 1) n at (has_id id) e sound is)
 
-  writes_streams : (items : List Item) (o : Option EndState) → by_id t id ≡ o → AfterCall n (calls_with (wrote_first items) setting n at (wrote N t items o)) at id (wrote_first items) (wrote N t items o)
+  pub writes_streams : (items : List Item) (o : Option EndState) → by_id t id ≡ o
+      → AfterCall n (calls_with (wrote_first items) setting n at (wrote N t items o)) at id (wrote_first items)
+      (wrote N t items o)
   writes_streams items None is = refl
   writes_streams items (Some e) is = go (is_open e.phase) (finds_no_room e items)
     where
-      go : (b c : Bool) → AfterCall n (calls_with (wrote_first items) setting n at (cond b (cond c (Err NoRoom) (Ok (wrote_some N t items e))) (Err NotOpen))) at id (wrote_first items) (cond b (cond c (Err NoRoom) (Ok (wrote_some N t items e))) (Err NotOpen))
+      go : (b c : Bool) → AfterCall n
+          (calls_with (wrote_first items) setting n at
+          (cond b (cond c (Err NoRoom) (Ok (wrote_some N t items e))) (Err NotOpen))) at id (wrote_first items)
+          (cond b (cond c (Err NoRoom) (Ok (wrote_some N t items e))) (Err NotOpen))
       go true true = refl
       go true false =
-          deed_streams (wrote_first items (length (take (places e) items))) setting n at (has_id id) e (writing N e items).after sound is
-          (record { id = refl; listener = refl; asked = refl; remote = refl; phase = inl refl }) (length (take (places e) items)) (writing N e items).sent
+          deed_streams (wrote_first items (length (take (places e) items))) setting n at (has_id id) e
+          (writing N e items).after sound is
+          (record { id = refl; listener = refl; asked = refl; remote = refl; phase = inl refl })
+          (length (take (places e) items)) (writing N e items).sent
           ∙ ap (λ k. with_deed at k (wrote_first items (length (take (places e) items))) (streams n)) (own e is)
       go false c = refl
 
-  reads_streams : (count : ℕ) (o : Option EndState) → by_id t id ≡ o → AfterCall n (calls_with Read setting n at (read_at N t count o)) at id Read (read_at N t count o)
+  pub reads_streams : (count : ℕ) (o : Option EndState) → by_id t id ≡ o
+      → AfterCall n (calls_with Read setting n at (read_at N t count o)) at id Read (read_at N t count o)
   reads_streams count None is = refl
   reads_streams count (Some e) is = go (has_opened e.phase)
     where
-      go : (b : Bool) → AfterCall n (calls_with Read setting n at (cond b (Ok (moved t (take count e.receiver.unread) (reading N e count).after (reading N e count).sent)) (Err NotOpen))) at id Read (cond b (Ok (moved t (take count e.receiver.unread) (reading N e count).after (reading N e count).sent)) (Err NotOpen))
+      go : (b : Bool) → AfterCall n
+          (calls_with Read setting n at
+          (cond b (Ok (moved t (take count e.receiver.unread) (reading N e count).after (reading N e count).sent))
+          (Err NotOpen))) at id Read
+          (cond b (Ok (moved t (take count e.receiver.unread) (reading N e count).after (reading N e count).sent))
+          (Err NotOpen))
       go true =
-          deed_streams (Read (take count e.receiver.unread)) setting n at (has_id id) e (reading N e count).after sound is (record { id = refl; listener = refl; asked = refl; remote = refl; phase = inl refl })
+          deed_streams (Read (take count e.receiver.unread)) setting n at (has_id id) e
+          (reading N e count).after sound is
+          (record { id = refl; listener = refl; asked = refl; remote = refl; phase = inl refl })
           (take count e.receiver.unread) (reading N e count).sent
           ∙ ap (λ k. with_deed at k (Read (take count e.receiver.unread)) (streams n)) (own e is)
       go false = refl
 
-  resets_streams : (o : Option EndState) → by_id t id ≡ o → AfterCall n (calls_with gave_up setting n at (reset_at N t o)) at id gave_up (reset_at N t o)
+  pub resets_streams : (o : Option EndState) → by_id t id ≡ o
+      → AfterCall n (calls_with gave_up setting n at (reset_at N t o)) at id gave_up (reset_at N t o)
   resets_streams None is = refl
   resets_streams (Some e) is = go (is_open e.phase)
     where
-      go : (b : Bool) → AfterCall n (calls_with gave_up setting n at (cond b (Ok (moved {X = Unit {0}} t tt (resetting_now N e).after (resetting_now N e).sent)) (Err NotOpen))) at id gave_up (cond b (Ok (moved {X = Unit {0}} t tt (resetting_now N e).after (resetting_now N e).sent)) (Err NotOpen))
+      go : (b : Bool) → AfterCall n
+          (calls_with gave_up setting n at
+          (cond b (Ok (moved {X = Unit {0}} t tt (resetting_now N e).after (resetting_now N e).sent)) (Err NotOpen)))
+          at id gave_up (cond b (Ok (moved {X = Unit {0}} t tt (resetting_now N e).after (resetting_now N e).sent))
+          (Err NotOpen))
       go true =
-          deed_streams GaveUp setting n at (has_id id) e (resetting_now N e).after sound is (record { id = refl; listener = refl; asked = refl; remote = refl; phase = inl refl }) {X = Unit {0}} tt
+          deed_streams GaveUp setting n at (has_id id) e (resetting_now N e).after sound is
+          (record { id = refl; listener = refl; asked = refl; remote = refl; phase = inl refl }) {X = Unit {0}} tt
           (resetting_now N e).sent
           ∙ ap (λ k. with_deed at k GaveUp (streams n)) (own e is)
       go false = refl
 
-  tick_streams : (e : EndState) (tick : Tick) → by_id t id ≡ Some e → frees e tick ≡ false → streams (does setting n at (settled t (ticked N e tick))) ≡ streams n
+  tick_streams : (e : EndState) (tick : Tick) → by_id t id ≡ Some e → frees e tick ≡ false
+      → streams (does setting n at (settled t (ticked N e tick))) ≡ streams n
   tick_streams e Retransmit is stays =
-      quiet_streams setting n at (has_id id) e e sound is (record { id = refl; listener = refl; asked = refl; remote = refl; phase = inl refl }) (ticked N e Retransmit).step (ticked N e Retransmit).sent
+      quiet_streams setting n at (has_id id) e e sound is
+      (record { id = refl; listener = refl; asked = refl; remote = refl; phase = inl refl })
+      (ticked N e Retransmit).step (ticked N e Retransmit).sent
   tick_streams e Probe is stays = go (is_last e Probe) stays
     where
       is_opened : (b : Bool) → is_open e.phase ≡ b → not b ≡ false → e.phase ≡ phase.Open
       is_opened true h g = open_is e.phase h
       is_opened false h g = absurd (true≢false g)
 
-      go : (b : Bool) → (b && not (is_open e.phase)) ≡ false → streams (does setting n at (settled t (probed N e b))) ≡ streams n
+      go : (b : Bool) → (b && not (is_open e.phase)) ≡ false → streams (does setting n at (settled t (probed N e b)))
+          ≡ streams n
       go true h =
           quiet_streams setting n at (has_id id) e (probed N e true).after sound is
-          (record { id = refl; listener = refl; asked = refl; remote = refl; phase = inr (is_opened (is_open e.phase) refl h, refl) }) (probed N e true).step []
+          (record {
+            id = refl;
+            listener = refl;
+            asked = refl;
+            remote = refl;
+            phase = inr (is_opened (is_open e.phase) refl h, refl);
+          }) (probed N e true).step []
       go false h =
-          quiet_streams setting n at (has_id id) e (probed N e false).after sound is (record { id = refl; listener = refl; asked = refl; remote = refl; phase = inl refl }) (probed N e false).step
+          quiet_streams setting n at (has_id id) e (probed N e false).after sound is
+          (record { id = refl; listener = refl; asked = refl; remote = refl; phase = inl refl })
+          (probed N e false).step
           (probed N e false).sent
 
-  ticks_streams : (tick : Tick) (o : Option EndState) → by_id t id ≡ o → streams (calls setting n at (ticked_at N t tick o)) ≡ streams n
+  pub ticks_streams : (tick : Tick) (o : Option EndState) → by_id t id ≡ o
+      → streams (calls setting n at (ticked_at N t tick o)) ≡ streams n
   ticks_streams tick None is = refl
   ticks_streams tick (Some e) is = go (is_closed e.phase) (frees e tick) refl
     where
-      go : (b c : Bool) → frees e tick ≡ c → streams (calls setting n at (cond b (Err NotOpen) (cond c (Ok (freed t (step.Freed e.id) e)) (Ok (settled t (ticked N e tick)))))) ≡ streams n
+      go : (b c : Bool) → frees e tick ≡ c
+          → streams (calls setting n at
+          (cond b (Err NotOpen) (cond c (Ok (freed t (step.Freed e.id) e)) (Ok (settled t (ticked N e tick))))))
+          ≡ streams n
       go true c h = refl
       go false true h = refl
       go false false h = tick_streams e tick is h
-
--- ---- segments
-
-module _ (setting : Setting) (n : Network) (at from : Address) (s : Content) (sound : Sound setting n.event n) where
-  abbrev M : Numbers
-  M = setting.numbers
-
-  abbrev u : EndTable
-  u = n.tables at
-
-  abbrev r : Remote
-  r = record { address = from; id = s.source }
-
-  abbrev After : Done Step → Type 0
-  After d = AfterStep n (does setting n at d) at from d.answer
-
-  now : Sound setting (n.event + 1) n
-  now = later setting n sound
-
-  room_after : (o : Option ℕ) → ((id : ℕ) → o ≡ Some id → next_id u ≡ Some id) → After (room_for M u r o)
-  room_after None draws = refl
-  room_after (Some id) draws =
-      let d = drawn u id (sound.next at) (draws id refl) in
-      made_streams setting n at (half_end u.rooms id r) (step.Made id) (answering M (half_end u.rooms id r) ∷ []) d.free
-
-  request_after : (o : Option EndState) → After (request_came M u r o)
-  request_after None = room_after (cond u.listening (next_id u) None) (draws u.listening)
-    where
-      draws : (b : Bool) → (id : ℕ) → cond b (next_id u) None ≡ Some id → next_id u ≡ Some id
-      draws true id h = h
-      draws false id h = absurd (cc)
-  request_after (Some e) = go (answers_again e)
-    where
-      go : (b : Bool) → After (cond b (stayed u step.Again e (answering M e ∷ [])) (ignored u))
-      go true = refl
-      go false = refl
-
-  any_after : (b : Bool) → After (any_request_came M u r b)
-  any_after true = refl
-  any_after false = request_after (by_remote u r)
-
-  -- an end that stands under this identifier opens as this one, and hears the segment
-  opened_after : (dest : ℕ) (e f : EndState) (first : List Content) → by_id u dest ≡ Some e → f.id ≡ e.id → Moves e (heard_opening M f s).after → After (opened M u f s first)
-  opened_after dest e f first is own moves =
-      let same = hearing_same M f s.window (acks M f.sender s.next) in
-      let old = found_id n at (has_id dest) e (heard_opening M f s).after.id (same.id ∙ own) is in
-      let stands = found_stands setting (n.event + 1) n at (has_id dest) e now is in (
-        (noted setting n.made (heard_opening M f s).after stands.it).stream.peer,
-        opened_streams setting n at e (heard_opening M f s).after now stands moves (step.Opened f.id) (first ++ (heard_opening M f s).sent) old.0 old.1
-            ∙ ap (λ k. with_peer at k (noted setting n.made (heard_opening M f s).after stands.it).stream.peer (streams n)) same.id,
-      )
-
-  ack_after : (dest : ℕ) (o : Option EndState) → by_id u dest ≡ o → After (ack_came M u r s o)
-  ack_after dest None is = refl
-  ack_after dest (Some e) is = go (is_half e.phase && has_remote r e) refl
-    where
-      go : (b : Bool) → (is_half e.phase && has_remote r e) ≡ b → After (cond b (opened M u (record e { phase = phase.Open }) s []) (ignored u))
-      go true h = opened_after dest e (record e { phase = phase.Open }) [] is refl (ack_moves setting n at from s sound dest e is h)
-      go false h = refl
-
-  answer_after : (dest : ℕ) (there o : Option EndState) → by_id u dest ≡ o → After (answer_came M u r s there o)
-  answer_after dest there None is = refl
-  answer_after dest there (Some e) is = go (is_answered e r there) refl (confirms_again e r)
-    where
-      go : (b : Bool) → is_answered e r there ≡ b → (c : Bool) →
-          After (cond b (opened M u (connected_to e r) s (confirming M (connected_to e r) ∷ [])) (cond c (stayed u step.Again e (confirming M e ∷ [])) (ignored u)))
-      go true h c = opened_after dest e (connected_to e r) (confirming M (connected_to e r) ∷ []) is refl (answer_moves setting n at from s sound dest e there is h)
-      go false h true = refl
-      go false h false = refl
-
-  denial_after : (o : Option EndState) → After (denial_came u from o)
-  denial_after None = refl
-  denial_after (Some e) = go (is_opening e.phase && same_address e.asked from)
-    where
-      go : (b : Bool) → After (cond b (freed u (step.Denied e.id) e) (ignored u))
-      go true = refl
-      go false = refl
-
-  segment_after : (o : Option EndState) → by_remote u r ≡ o → After (segment_came M u s o)
-  segment_after None is = refl
-  segment_after (Some e) is = go (is_open e.phase) refl
-    where
-      go : (b : Bool) → is_open e.phase ≡ b → After (cond b (settled u (heard M e (told M e s))) (ignored u))
-      go true h =
-          after_quiet n (does setting n at (settled u (heard M e (told M e s)))) at from (heard M e (told M e s)).step
-          (heard_step M (hearing M e s.window (acks M e.sender s.next)) s.ack (told M e s).saying)
-          (quiet_streams setting n at (has_remote r) e (heard M e (told M e s)).after now is (heard_quiet M e (told M e s) (open_is e.phase h)) (heard M e (told M e s)).step (heard M e (told M e s)).sent)
-      go false h = refl
-
-  opening_after : (kind : OpenKind) (dest : ℕ) → After (opening_came M u r s kind dest)
-  opening_after Request dest = any_after (s.source == 0)
-  opening_after Acknowledgement dest = ack_after dest (by_id u dest) refl
-  opening_after RequestAndAcknowledgement dest = answer_after dest (by_remote u r) (by_id u dest) refl
-  opening_after Denial dest = denial_after (by_id u dest)
-
-  part_after : (part : Part) → After (part_came M u r s part)
-  part_after (Open kind dest) = opening_after kind dest
-  part_after other = segment_after (by_remote u r) refl
-
--- ---- histories
-
-takes_streams : (setting : Setting) (n : Network) → Sound setting n.event n → (o : Option Sent) → AfterSegment setting n (takes setting n o) o
-takes_streams setting n sound None = refl
-takes_streams setting n sound (Some s) = part_after setting n s.to s.from s.segment sound s.segment.body
-
-done_streams : (setting : Setting) (n : Network) (h : Happening) → Sound setting n.event n → ChangesStreams setting n h
-done_streams setting n (Connects at to) sound = connects_streams setting n at to (sound.next at) (next_id (n.tables at)) refl
-done_streams setting n (Listens at on) sound = refl
-done_streams setting n (closes at id) sound = closes_streams setting n at id (later setting n sound) (by_id (n.tables at) id) refl
-done_streams setting n (Writes at id items) sound = writes_streams setting n at id (later setting n sound) items (by_id (n.tables at) id) refl
-done_streams setting n (Reads at id count) sound = reads_streams setting n at id (later setting n sound) count (by_id (n.tables at) id) refl
-done_streams setting n (resets at id) sound = resets_streams setting n at id (later setting n sound) (by_id (n.tables at) id) refl
-done_streams setting n (Ticks at id tick) sound = ticks_streams setting n at id (later setting n sound) tick (by_id (n.tables at) id) refl
-done_streams setting n (Takes which) sound = takes_streams setting n sound (packet_at n.sent which)
-done_streams setting n (Strange at from s) sound = part_after setting n at from s sound s.body
-done_streams setting n (Other count) sound = refl
-
-pub change_by_one : (setting : Setting) (history : List Happening) (h : Happening) → AllTimely setting history → ChangesStreams setting (after setting history) h
-change_by_one setting history h timely = done_streams setting (after setting history) h (history_sound setting history timely)

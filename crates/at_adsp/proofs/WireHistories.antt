@@ -7,7 +7,8 @@ use Rattle.at_adsp_end.specs.declared.remote.Remote.{Remote}
 use Rattle.at_adsp_end.specs.declared.step.Step.{Step}
 use Rattle.at_adsp_ends.specs.Tables.{Done, by_remote}
 use Rattle.at_adsp.specs.Cables.{wire_numbered}
-use Rattle.at_adsp.specs.Network.{Setting, Made, Sent, Network, Happening, Connects, Listens, Closes, Writes, Reads, Resets, Ticks, Takes, Strange, Other}
+use Rattle.at_adsp.specs.Network.{Setting, Made, Sent, Network, Happening, Connects, Listens, Closes, Writes, Reads}
+use Rattle.at_adsp.specs.Network.{Resets, Ticks, Takes, Strange, Other}
 use Rattle.at_adsp.specs.Network.{IsTimely, MakesInTime, NoneNames, born, dest_of, is_fresh, is_kept, is_no_later}
 use Rattle.at_adsp.specs.Orders.{ReadsInOrder, whole_numbered}
 use Rattle.at_adsp.specs.Reading.{ReadsFrom}
@@ -20,18 +21,23 @@ use Rattle.at_adsp.proofs.WireSegments.{HearsNear, received_wired}
 
 -- ---- histories in which no segment outlives its identifiers
 
-kept_wired : (made : List Made) (event : ℕ) (at : Address) (id : ℕ) → is_kept (map wired_made made) event at id ≡ is_kept made event at id
-kept_wired made event at id = ap (λ b. (id == 0) || b) (each_mapped wired_made (is_no_later event at id) (is_no_later event at id) (λ m. refl) made)
+kept_wired : (made : List Made) (event : ℕ) (at : Address) (id : ℕ) → is_kept (map wired_made made) event at id
+    ≡ is_kept made event at id
+kept_wired made event at id =
+    ap (λ b. (id == 0) || b)
+    (each_mapped wired_made (is_no_later event at id) (is_no_later event at id) (λ m. refl) made)
 
 -- the body of a segment stays
 pub fresh_wired : (made : List Made) (s : Sent) → is_fresh (map wired_made made) (wired_sent s) ≡ is_fresh made s
-fresh_wired made s = λ i. kept_wired made s.event s.from s.segment.source i && kept_wired made s.event s.to (dest_of s.segment.body) i
+fresh_wired made s = λ i. kept_wired made s.event s.from s.packet.source i
+    && kept_wired made s.event s.to (dest_of s.packet.body) i
 
 none_mapped : {X Y : Type 0} (f : X → Y) (o : Option X) → mapped f o ≡ None → o ≡ None
 none_mapped f None h = refl
 none_mapped f (Some x) h = absurd (cc)
 
-pub some_mapped : {X Y : Type 0} (f : X → Y) (o : Option X) (y : Y) → mapped f o ≡ Some y → (x : X) × ((o ≡ Some x) × (f x ≡ y))
+pub some_mapped : {X Y : Type 0} (f : X → Y) (o : Option X) (y : Y) → mapped f o ≡ Some y → (x : X)
+    × ((o ≡ Some x) × (f x ≡ y))
 some_mapped f None y h = absurd (cc)
 some_mapped f (Some x) y h = (x, (refl, some_same (f x) y h))
 
@@ -47,8 +53,10 @@ module _ (setting : Setting) (n : Network) where
   abbrev W : Setting
   W = whole_numbered setting
 
-  pub makes_whole : (at from : Address) (s : Content) → HearsNear (n.tables at) from s s.body → MakesInTime C (wired_network n) at from (wired_segment s) → MakesInTime W n at from s
-  makes_whole at from s near h id is = names_none n at id (h id (ap (λ (d : Done Step). d.answer) (received_wired (n.tables at) from s near) ∙ is))
+  pub makes_whole : (at from : Address) (s : Content) → HearsNear (n.tables at) from s s.body
+      → MakesInTime C (wired_network n) at from (wired_segment s) → MakesInTime W n at from s
+  makes_whole at from s near h id is =
+      names_none n at id (h id (ap (λ (d : Done Step). d.answer) (received_wired (n.tables at) from s near) ∙ is))
 
   pub timely_whole : (h : Happening) → ComesNear setting n h → IsTimely C (wired_network n) h → IsTimely W n h
   timely_whole (Connects at to) near h = λ id is. names_none n at id (h id (next_wired (n.tables at) ∙ is))
@@ -60,7 +68,7 @@ module _ (setting : Setting) (n : Network) where
   timely_whole (Ticks at id tick) near h = h
   timely_whole (Takes which) near h = λ s is.
       let t = h (wired_sent s) (packet_wired n.sent which ∙ ap (mapped wired_sent) is) in
-      (t.0, sym (fresh_wired n.made s) ∙ t.1, makes_whole s.to s.from s.segment (near s is) t.2)
+      (t.0, sym (fresh_wired n.made s) ∙ t.1, makes_whole s.to s.from s.packet (near s is) t.2)
   timely_whole (Strange at from segment) near h = absurd near
   timely_whole (Other count) near h = h
 
@@ -69,7 +77,8 @@ module _ (setting : Setting) (n : Network) where
 pub reads_wired : (n : Network) → ReadsInOrder n → ReadsInOrder (wired_network n)
 reads_wired n h = record { reads = reads }
   where
-    reads : (birth : ℕ) (m : Made) (other : ℕ) → born (map wired_made n.made) birth ≡ Some m → m.stream.peer ≡ Some other →
+    reads : (birth : ℕ) (m : Made) (other : ℕ) → born (map wired_made n.made) birth ≡ Some m → m.stream.peer
+        ≡ Some other →
         (p : Made) × (born (map wired_made n.made) other ≡ Some p) × ReadsFrom m.stream.read p.stream.written
     reads birth m other is peer =
         let w = some_mapped wired_made (born n.made birth) m (sym (born_wired n.made birth) ∙ is) in

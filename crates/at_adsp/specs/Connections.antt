@@ -9,7 +9,8 @@ use Rattle.at_adsp_ends.specs.Calls.{wrote, read_at, reset_at}
 use Rattle.at_adsp_ends.specs.Receiving.{received}
 use Rattle.at_adsp_ends.specs.Tables.{Done, by_id, next_id}
 use Rattle.at_adsp.specs.Network.{Setting, Made, Sent, Network, Happening, Connects, Writes, Reads, Resets, Takes}
-use Rattle.at_adsp.specs.Network.{Strange, done, packet_at, wrote_first, gave_up}
+use Rattle.at_ddp.specs.Posts.{packet_at}
+use Rattle.at_adsp.specs.Network.{Strange, done, wrote_first, gave_up}
 use Rattle.at_adsp.specs.Streams.{Stream, Deed, Read, with_peer, with_deed}
 
 -- all ends that were ever made, newest first
@@ -45,7 +46,7 @@ AfterStep old new at from other = streams new ≡ streams old
 abbrev pub AfterSegment : Setting → Network → Network → Option Sent → Type 0
 AfterSegment setting old new None = streams new ≡ streams old
 AfterSegment setting old new (Some s) =
-    AfterStep old new s.to s.from (received setting.numbers (old.tables s.to) s.from s.segment).answer
+    AfterStep old new s.to s.from (received setting.numbers (old.tables s.to) s.from s.packet).answer
 
 -- the user of an end did something with it, or the call was refused
 abbrev pub AfterCall : {X : Type 0} → Network → Network → Address → ℕ → (X → Deed) → Result (Done X) StreamFault

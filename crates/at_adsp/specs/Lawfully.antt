@@ -28,4 +28,4 @@ IsInRange other = Unit {0}
 pub record IsLawfullySent (s : Sent) : Type 0 where
   pub from_fits : IsAddress s.from
   pub to_fits : IsAddress s.to
-  pub lawful : IsLawful s.segment
+  pub lawful : IsLawful s.packet

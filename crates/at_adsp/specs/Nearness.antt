@@ -5,7 +5,8 @@ use Rattle.at_ddp.specs.declared.address.Address.{Address}
 use Rattle.at_adsp_frame.specs.Segments.{Content}
 use Rattle.at_adsp_end.specs.Ends.{EndState, next_unsent}
 use Rattle.at_adsp_end.specs.Positions.{whole}
-use Rattle.at_adsp.specs.Network.{Setting, Made, Sent, Network, Happening, Takes, after, newest, packet_at}
+use Rattle.at_ddp.specs.Posts.{packet_at}
+use Rattle.at_adsp.specs.Network.{Setting, Made, Sent, Network, Happening, Takes, after, newest}
 use Rattle.at_adsp.specs.Orders.{whole_numbered}
 
 -- windows have two bytes
@@ -22,7 +23,7 @@ pub record IsNear (e : EndState) (s : Content) : Type 0 where
 abbrev pub ComesNear : Network → Happening → Type 0
 ComesNear n (Takes which) =
     (s : Sent) → packet_at n.sent which ≡ Some s
-    → (m : Made) → newest n.made s.from s.segment.source ≡ Some m → IsNear m.last s.segment
+    → (m : Made) → newest n.made s.from s.packet.source ≡ Some m → IsNear m.last s.packet
 ComesNear n other = Unit {0}
 
 -- the same history tells how far ends have come, where numbers may be of any size

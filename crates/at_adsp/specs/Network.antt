@@ -6,6 +6,7 @@ use Rattle.std.specs.Prelude.{Result, Ok, Err}
 use Rattle.std.specs.List.{AllByRecursion, list_all}
 use Rattle.at_ddp.specs.Address.{same_address}
 use Rattle.at_ddp.specs.Tables.{replaced}
+use Rattle.at_ddp.specs.Posts.{Post, Posts, packet_at, put, stamped}
 use Rattle.at_ddp.specs.declared.address.Address.{Address}
 use Rattle.at_adsp_frame.specs.Segments.{Content, Part, Open}
 use Rattle.at_adsp_end.specs.Ends.{EndState, has_opened}
@@ -36,33 +37,18 @@ pub record Made : Type 0 where
   pub names : Option ℕ
 
 -- a segment that was sent, with the event that sent it
-pub record Sent : Type 0 where
-  pub event : ℕ
-  pub from : Address
-  pub to : Address
-  pub segment : Content
+abbrev pub Sent : Type 0
+Sent = Post Content
 
 pub record Network : Type 0 where
   pub event : ℕ  -- how many events there were
   pub tables : Address → EndTable  -- the ends at each address
   pub made : List Made  -- all ends that were ever made, newest first; a freed end is as it was last
-  pub sent : List (Option Sent)  -- all that was ever sent on the cable; nothing stands for a foreign datagram
+  pub sent : Posts Content
 
 -- before anything happened
 abbrev pub opening : Setting → Network
 opening setting = record { event = 0; tables = λ at. no_ends (setting.rooms at); made = []; sent = [] }
-
--- what was sent at a place, if it is a segment
-abbrev pub packet_of : Option (Option Sent) → Option Sent
-packet_of None = None
-packet_of (Some x) = x
-
-abbrev pub packet_at : List (Option Sent) → ℕ → Option Sent
-packet_at sent which = packet_of (slice_get sent which)
-
--- this holds of each segment that was sent
-abbrev pub AllSent : (Sent → Type 0) → List (Option Sent) → Type 0
-AllSent P sent = AllByRecursion (λ x. IfSome x P) sent
 
 -- ---- all ends that were ever made
 
@@ -167,14 +153,6 @@ pub data Happening : Type 0 where
   -- an event outside this network, which sends so many foreign datagrams
   Other : (count : ℕ) → Happening
 
--- a new value at one address
-abbrev pub put : {X : Type 0} → (Address → X) → Address → X → Address → X
-put f at x a = if same_address at a then x else f a
-
-abbrev pub stamped : ℕ → Address → List (Address × Content) → List (Option Sent)
-stamped event from sent =
-    map (λ (s : Address × Content). Some (record { event = event; from = from; to = s.0; segment = s.1 })) sent
-
 -- what a call does at an address, and what the user of the end did
 abbrev pub does_with : {X : Type 0} → Deed → Setting → Network → Address → Done X → Network
 does_with deed setting n at d = record n {
@@ -212,7 +190,7 @@ hears setting n at from s = does setting n at (received setting.numbers (n.table
 
 abbrev pub takes : Setting → Network → Option Sent → Network
 takes setting n None = n
-takes setting n (Some s) = hears setting n s.to s.from s.segment
+takes setting n (Some s) = hears setting n s.to s.from s.packet
 
 abbrev pub done : Setting → Network → Happening → Network
 done setting n (Connects at to) = calls setting n at (connected (n.tables at) to (next_id (n.tables at)))
@@ -257,7 +235,7 @@ dest_of other = 0
 -- no event after the one that sent a segment drew an identifier that it carries
 abbrev pub is_fresh : List Made → Sent → Bool
 is_fresh made s =
-    is_kept made s.event s.from s.segment.source && is_kept made s.event s.to (dest_of s.segment.body)
+    is_kept made s.event s.from s.packet.source && is_kept made s.event s.to (dest_of s.packet.body)
 
 -- no end that stands has the end with this number as its remote
 abbrev pub NoneNames : Network → Address → ℕ → Type 0
@@ -274,7 +252,7 @@ abbrev pub IsTimely : Setting → Network → Happening → Type 0
 IsTimely setting n (Connects at to) = (id : ℕ) → next_id (n.tables at) ≡ Some id → NoneNames n at id
 IsTimely setting n (Takes which) =
     (s : Sent) → packet_at n.sent which ≡ Some s
-    → (setting.ours s.to ≡ true) × (is_fresh n.made s ≡ true) × MakesInTime setting n s.to s.from s.segment
+    → (setting.ours s.to ≡ true) × (is_fresh n.made s ≡ true) × MakesInTime setting n s.to s.from s.packet
 IsTimely setting n (Strange at from segment) =
     (setting.ours at ≡ true) × (setting.ours from ≡ false) × MakesInTime setting n at from segment
 IsTimely setting n other = Unit {0}

@@ -7,8 +7,9 @@ ghost use Rattle.at_adsp.specs.Lawfully.{IsInRange, IsLawfulSetting, IsLawfullyS
 ghost use Rattle.at_adsp.specs.Meetings.{OpensWith, ReadsWith};
 ghost use Rattle.at_adsp.specs.Moving.{NeverMovesBack};
 ghost use Rattle.at_adsp.specs.Nearness.{AllNear, HasWindows};
-ghost use Rattle.at_adsp.specs.Network.{Setting, Sent, Happening, Reads, Takes, AllSent, AllTimely, after};
-ghost use Rattle.at_adsp.specs.Network.{done, packet_at};
+ghost use Rattle.at_ddp.specs.Posts.{AllSent, packet_at};
+ghost use Rattle.at_adsp.specs.Network.{Setting, Sent, Happening, Reads, Takes, AllTimely, after};
+ghost use Rattle.at_adsp.specs.Network.{done};
 ghost use Rattle.at_adsp.specs.Orders.{IsNoReset, ReadsBeginnings, ReadsInOrder, whole_numbered};
 ghost use Rattle.at_adsp.specs.Pairs.{GivesPairs, HappensHere};
 ghost use Rattle.at_adsp.specs.Wires.{wired, wired_number, wired_outcome};
@@ -64,7 +65,7 @@ pub fn an_end_that_opens_has_a_peer()
     ensures { (setting : Setting) (history : List Happening) (which id : ℕ) (s : Sent)
         → AllTimely setting (Takes which ∷ history) → AllByRecursion (HappensHere setting) history
         → packet_at (after setting history).sent which ≡ Some s
-        → (received setting.numbers ((after setting history).tables s.to) s.from s.segment).answer ≡ Opened id
+        → (received setting.numbers ((after setting history).tables s.to) s.from s.packet).answer ≡ Opened id
         → OpensWith (streams (after setting history)) (streams (done setting (after setting history) (Takes which)))
         s.to id }
 {}

@@ -1,5 +1,6 @@
 -- How items are cut, one at a time.
-use Rattle.std.proofs.Common.{◌≡◌, ℕ, zero, suc, ◌+◌, ◌-◌, ◌%◌, ◌^◌, ◌≤◌, ◌<◌, Bool, true, false, cond, List, [], ◌∷◌, ◌++◌, length, take, drop, Some, refl, sym, ap, subst, ◌∙◌, arith}
+use Rattle.std.proofs.Common.{◌≡◌, ℕ, zero, suc, ◌+◌, ◌-◌, ◌%◌, ◌^◌, ◌≤◌, ◌<◌, Bool, true, false, cond, List, [], ◌∷◌}
+use Rattle.std.proofs.Common.{◌++◌, length, take, drop, Some, refl, sym, ap, subst, ◌∙◌, arith}
 use Rattle.std.specs.Prelude.{◌==◌, slice_get}
 use Rattle.std.proofs.lemmas.List.{length-append, length-take}
 use Rattle.std.proofs.lemmas.Bool.Decides.{nat_tests}
@@ -26,7 +27,8 @@ pieces_few got [] = let few = last_few got in omega (arith, few)
 pieces_few got (End ∷ xs) = let few = pieces_few [] xs in omega (arith, few)
 pieces_few got (Byte b ∷ xs) = go (length got == 572) refl (pieces_few (b ∷ []) xs) (pieces_few (got ++ b ∷ []) xs)
   where
-    go : (c : Bool) → (length got == 572) ≡ c → length (pieces (b ∷ []) xs) ≤ length xs + 1 → length (pieces (got ++ b ∷ []) xs) ≤ length xs + length (got ++ b ∷ []) →
+    go : (c : Bool) → (length got == 572) ≡ c → length (pieces (b ∷ []) xs) ≤ length xs + 1
+        → length (pieces (got ++ b ∷ []) xs) ≤ length xs + length (got ++ b ∷ []) →
         length (cond c (open_piece got ∷ pieces (b ∷ []) xs) (pieces (got ++ b ∷ []) xs)) ≤ suc (length xs) + length got
     go true full one more = let e = is_full (length got) full in omega (arith, e, one)
     go false full one more = let e = length-append got (b ∷ []) in omega (arith, e, more)
@@ -35,9 +37,11 @@ some_left : (got : List ℕ) (xs : List Item) → 1 ≤ length got + length xs �
 some_left [] [] some = absurd (omega (arith, some))
 some_left (b ∷ got) [] some = omega arith
 some_left got (End ∷ xs) some = omega arith
-some_left got (Byte b ∷ xs) some = go (length got == 572) (some_left (got ++ b ∷ []) xs (let e = length-append got (b ∷ []) in omega (arith, e)))
+some_left got (Byte b ∷ xs) some =
+    go (length got == 572) (some_left (got ++ b ∷ []) xs (let e = length-append got (b ∷ []) in omega (arith, e)))
   where
-    go : (c : Bool) → 1 ≤ length (pieces (got ++ b ∷ []) xs) → 1 ≤ length (cond c (open_piece got ∷ pieces (b ∷ []) xs) (pieces (got ++ b ∷ []) xs))
+    go : (c : Bool) → 1 ≤ length (pieces (got ++ b ∷ []) xs)
+        → 1 ≤ length (cond c (open_piece got ∷ pieces (b ∷ []) xs) (pieces (got ++ b ∷ []) xs))
     go true more = omega arith
     go false more = more
 
@@ -46,7 +50,8 @@ pieces_some got x xs = some_left got (x ∷ xs) (omega arith)
 
 -- ---- the numbers of pieces
 
-pub numbered_same : (e : EndState) (a b : ℕ) (ps : List Piece) → a % 2 ^ 32 ≡ b % 2 ^ 32 → numbered wire e a ps ≡ numbered wire e b ps
+pub numbered_same : (e : EndState) (a b : ℕ) (ps : List Piece) → a % 2 ^ 32 ≡ b % 2 ^ 32 → numbered wire e a ps
+    ≡ numbered wire e b ps
 numbered_same e a b [] same = refl
 numbered_same e a b (p ∷ ps) same =
     let n = length (items_of p) in
@@ -67,7 +72,8 @@ drop_some [] i x e = absurd (cc)
 drop_some (y ∷ q) zero x e = let same : y ≡ x = cc in ap (λ z. z ∷ q) same
 drop_some (y ∷ q) (suc i) x e = drop_some q i x e
 
-pub next_of : {X : Type 0} (q : List X) (i e : ℕ) (x : X) → i < e → slice_get q i ≡ Some x → take (e - i) (drop i q) ≡ x ∷ take (e - suc i) (drop (suc i) q)
+pub next_of : {X : Type 0} (q : List X) (i e : ℕ) (x : X) → i < e → slice_get q i ≡ Some x → take (e - i) (drop i q)
+    ≡ x ∷ take (e - suc i) (drop (suc i) q)
 next_of q i e x before is =
     let n : e - i ≡ suc (e - suc i) = omega arith in
     rw (n, drop_some q i x is) refl
@@ -79,58 +85,85 @@ room_less box n m h = record { places = omega (arith, h.places); bytes = omega (
 
 -- ---- one item
 
-pub cut_end : (old new : Outbox) (by : EndState) (first : ℕ) (got : List ℕ) (after : ℕ) (left : List ℕ) → SendsTo old new by.asked (packet by (wire.at first) true (Data true got) ∷ []) →
-    after ≡ wire.at (first + length (items_in true got)) → left ≡ [] → ((n : ℕ) → HasRoomFor old (1 + n) 585 → HasRoomFor new n 585) → Cuts old new by first got End after left
+pub cut_end : (old new : Outbox) (by : EndState) (first : ℕ) (got : List ℕ) (after : ℕ) (left : List ℕ)
+    → SendsTo old new by.asked (packet by (wire.at first) true (Data true got) ∷ []) →
+    after ≡ wire.at (first + length (items_in true got)) → left ≡ []
+    → ((n : ℕ) → HasRoomFor old (1 + n) 585 → HasRoomFor new n 585) → Cuts old new by first got End after left
 cut_end old new by first got after left sent is_after is_left room =
     let p = packet by (wire.at first) true (Data true got) in
     record {
       now = p ∷ [];
       sent = sent;
-      rest = λ xs. ap (λ l. p ∷ l) (sym (numbered_at by (first + length (items_in true got)) (pieces [] xs)) ∙ (λ i. numbered wire by (sym is_after i) (pieces (sym is_left i) xs)));
+      rest = λ xs. ap (λ l. p ∷ l)
+          (sym (numbered_at by (first + length (items_in true got)) (pieces [] xs))
+          ∙ (λ i. numbered wire by (sym is_after i) (pieces (sym is_left i) xs)));
       room = room;
     }
 
-pub cut_full : (old new : Outbox) (by : EndState) (first : ℕ) (got : List ℕ) (b after : ℕ) (left : List ℕ) → SendsTo old new by.asked (packet by (wire.at first) true (Data false got) ∷ []) →
-    after ≡ wire.at (first + length (items_in false got)) → left ≡ b ∷ [] → length got ≡ 572 → ((n : ℕ) → HasRoomFor old (1 + n) 585 → HasRoomFor new n 585) → Cuts old new by first got (Byte b) after left
+pub cut_full : (old new : Outbox) (by : EndState) (first : ℕ) (got : List ℕ) (b after : ℕ) (left : List ℕ)
+    → SendsTo old new by.asked (packet by (wire.at first) true (Data false got) ∷ []) →
+    after ≡ wire.at (first + length (items_in false got)) → left ≡ b ∷ [] → length got ≡ 572
+    → ((n : ℕ) → HasRoomFor old (1 + n) 585 → HasRoomFor new n 585) → Cuts old new by first got (Byte b) after left
 cut_full old new by first got b after left sent is_after is_left full room =
     let p = packet by (wire.at first) true (Data false got) in
     let t : (length got == 572) ≡ true = ap (λ n. n == 572) full in
     record {
       now = p ∷ [];
       sent = sent;
-      rest = λ xs. ap (λ c. numbered wire by first (cond c (open_piece got ∷ pieces (b ∷ []) xs) (pieces (got ++ b ∷ []) xs))) t ∙ ap (λ l. p ∷ l) (sym (numbered_at by (first + length (items_in false got)) (pieces (b ∷ []) xs)) ∙ (λ i. numbered wire by (sym is_after i) (pieces (sym is_left i) xs)));
+      rest = λ xs. ap (λ c. numbered wire by first
+          (cond c (open_piece got ∷ pieces (b ∷ []) xs) (pieces (got ++ b ∷ []) xs))) t
+          ∙ ap (λ l. p ∷ l) (sym (numbered_at by (first + length (items_in false got)) (pieces (b ∷ []) xs))
+          ∙ (λ i. numbered wire by (sym is_after i) (pieces (sym is_left i) xs)));
       room = room;
     }
 
 -- ---- counting
 
 pub count_begins : (all rest : List Item) → rest ≡ all → Counted 0 0 all rest
-count_begins all rest same = record { got = []; has = refl; whole = let e : length (pieces [] rest) ≡ length (pieces [] all) = ap (λ l. length (pieces [] l)) same in omega (arith, e) }
+count_begins all rest same =
+    record {
+      got = [];
+      has = refl;
+      whole = let e : length (pieces [] rest) ≡ length (pieces [] all) = ap (λ l. length (pieces [] l)) same in
+          omega (arith, e);
+    }
 
 pub count_end : (n filled : ℕ) (all xs : List Item) → Counted n filled all (End ∷ xs) → Counted (n + 1) 0 all xs
 count_end n filled all xs c = record { got = []; has = refl; whole = let w = c.whole in omega (arith, w) }
 
-pub count_full : (n filled b : ℕ) (all xs : List Item) → filled ≡ 572 → Counted n filled all (Byte b ∷ xs) → Counted (n + 1) 1 all xs
+pub count_full : (n filled b : ℕ) (all xs : List Item) → filled ≡ 572 → Counted n filled all (Byte b ∷ xs)
+    → Counted (n + 1) 1 all xs
 count_full n filled b all xs full c =
     let t : (length c.got == 572) ≡ true = ap (λ m. m == 572) (c.has ∙ full) in
-    let w = ap (λ t'. n + length (cond t' (open_piece c.got ∷ pieces (b ∷ []) xs) (pieces (c.got ++ b ∷ []) xs))) (sym t) ∙ c.whole in
+    let w = ap (λ t'. n + length (cond t' (open_piece c.got ∷ pieces (b ∷ []) xs) (pieces (c.got ++ b ∷ []) xs)))
+    (sym t) ∙ c.whole in
     record { got = b ∷ []; has = refl; whole = omega (arith, w) }
 
-pub count_more : (n filled b : ℕ) (all xs : List Item) → (filled == 572) ≡ false → Counted n filled all (Byte b ∷ xs) → Counted n (filled + 1) all xs
+pub count_more : (n filled b : ℕ) (all xs : List Item) → (filled == 572) ≡ false → Counted n filled all (Byte b ∷ xs)
+    → Counted n (filled + 1) all xs
 count_more n filled b all xs more c =
     let t : (length c.got == 572) ≡ false = ap (λ m. m == 572) c.has ∙ more in
-    let w = ap (λ t'. n + length (cond t' (open_piece c.got ∷ pieces (b ∷ []) xs) (pieces (c.got ++ b ∷ []) xs))) (sym t) ∙ c.whole in
-    record { got = c.got ++ b ∷ []; has = let e = length-append c.got (b ∷ []) in let h = c.has in omega (arith, e, h); whole = w }
+    let w = ap (λ t'. n + length (cond t' (open_piece c.got ∷ pieces (b ∷ []) xs) (pieces (c.got ++ b ∷ []) xs)))
+    (sym t) ∙ c.whole in
+    record {
+      got = c.got ++ b ∷ [];
+      has = let e = length-append c.got (b ∷ []) in let h = c.has in omega (arith, e, h);
+      whole = w;
+    }
 
 -- with an item left, fewer pieces are counted than there are items
-pub count_few : (n filled : ℕ) (all : List Item) (x : Item) (xs : List Item) → Counted n filled all (x ∷ xs) → n + 1 ≤ length all
-count_few n filled all x xs c = let few = pieces_few [] all in let some = pieces_some c.got x xs in let w = c.whole in omega (arith, few, some, w)
+pub count_few : (n filled : ℕ) (all : List Item) (x : Item) (xs : List Item) → Counted n filled all (x ∷ xs)
+    → n + 1 ≤ length all
+count_few n filled all x xs c = let few = pieces_few [] all in let some = pieces_some c.got x xs in let w = c.whole in
+    omega (arith, few, some, w)
 
 -- ---- the queue of an end
 
-pub item_next : (e e' : EndState) (i end : ℕ) (x : Item) → e ≡ e' → slice_get (queued e.sender) i ≡ Some x → i < end → take (end - i) (drop i (queued e'.sender)) ≡ x ∷ take (end - (i + 1)) (drop (i + 1) (queued e'.sender))
+pub item_next : (e e' : EndState) (i end : ℕ) (x : Item) → e ≡ e' → slice_get (queued e.sender) i ≡ Some x → i < end
+    → take (end - i) (drop i (queued e'.sender)) ≡ x ∷ take (end - (i + 1)) (drop (i + 1) (queued e'.sender))
 item_next e e' i end x same is before =
-    let at : slice_get (queued e'.sender) i ≡ Some x = subst (λ (s : EndState). slice_get (queued s.sender) i ≡ Some x) same is in
+    let at : slice_get (queued e'.sender) i
+    ≡ Some x = subst (λ (s : EndState). slice_get (queued s.sender) i ≡ Some x) same is in
     let n : suc i ≡ i + 1 = omega arith in
     next_of (queued e'.sender) i end x before at ∙ ap (λ m. x ∷ take (end - m) (drop m (queued e'.sender))) n
 
@@ -145,14 +178,19 @@ bytes_count : (got : List ℕ) (m : ℕ) → (0 < length got → m ≡ 1) → (l
 bytes_count [] m some none = sym (none (omega arith))
 bytes_count (b ∷ got) m some none = sym (some (omega arith))
 
-pub count_ends : (n filled r : ℕ) (all left : List Item) → left ≡ [] → (0 < filled → r ≡ n + 1) → (filled ≤ 0 → r ≡ n + 0) → Counted n filled all left → r ≡ length (pieces [] all)
+pub count_ends : (n filled r : ℕ) (all left : List Item) → left ≡ [] → (0 < filled → r ≡ n + 1)
+    → (filled ≤ 0 → r ≡ n + 0) → Counted n filled all left → r ≡ length (pieces [] all)
 count_ends n filled r all left is some none c =
     let h = c.has in
-    let last = bytes_count c.got (r - n) (λ lt. let e = some (omega (arith, h, lt)) in omega (arith, e)) (λ le. let e = none (omega (arith, h, le)) in omega (arith, e)) in
-    let w : n + length (pieces c.got []) ≡ length (pieces [] all) = subst (λ (l : List Item). n + length (pieces c.got l) ≡ length (pieces [] all)) is c.whole in
+    let last = bytes_count c.got (r - n) (λ lt. let e = some (omega (arith, h, lt)) in omega (arith, e))
+    (λ le. let e = none (omega (arith, h, le)) in omega (arith, e)) in
+    let w : n + length (pieces c.got [])
+    ≡ length (pieces [] all) =
+    subst (λ (l : List Item). n + length (pieces c.got l) ≡ length (pieces [] all)) is c.whole in
     go (filled) h last w some none
   where
-    go : (f : ℕ) → length c.got ≡ f → length (last_piece c.got) ≡ r - n → n + length (last_piece c.got) ≡ length (pieces [] all) → (0 < f → r ≡ n + 1) → (f ≤ 0 → r ≡ n + 0) → r ≡ length (pieces [] all)
+    go : (f : ℕ) → length c.got ≡ f → length (last_piece c.got) ≡ r - n → n + length (last_piece c.got)
+        ≡ length (pieces [] all) → (0 < f → r ≡ n + 1) → (f ≤ 0 → r ≡ n + 0) → r ≡ length (pieces [] all)
     go zero h last w some none = let e = none (omega arith) in omega (arith, e, last, w)
     go (suc f) h last w some none = let e = some (omega arith) in omega (arith, e, last, w)
 

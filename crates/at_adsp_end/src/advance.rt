@@ -93,7 +93,7 @@ impl<A: Allocator> End<A> {
     }
 
     // Hears that the other end is there, and what it acknowledges.
-    pub(crate) fn note(&mut self, advance: Advance, out: &mut Outbox<A>)
+    pub(crate) fn note_acknowledgement(&mut self, advance: Advance, out: &mut Outbox<A>)
         requires within { IsWithin self.old.sender advance.acks }
         requires room { HasRoomFor out.old (length (hearing wire self.old advance.window advance.acks).sent) 585 }
         ensures change { IsChange (hearing wire self.old advance.window advance.acks) self.old.asked self.new out.old

@@ -24,7 +24,11 @@ use std::alloc::{AllocError, Allocator};
 
 impl<A: Allocator> End<A> {
     /// Takes a segment that is for this open end. The error is out of memory.
-    pub fn hear(&mut self, segment: &Segment<'_>, out: &mut Outbox<A>) -> Result<Step, AllocError>
+    pub fn receive(
+        &mut self,
+        segment: &Segment<'_>,
+        out: &mut Outbox<A>,
+    ) -> Result<Step, AllocError>
         ensures ok { IfOk result (λ step. IsOutcome (heard wire self.old (told wire self.old (content segment.now)))
             self.old.asked step self.new out.old out.new) }
         ensures unchanged { OnErr result (self.new ≡ self.old) }
@@ -54,7 +58,7 @@ impl<A: Allocator> End<A> {
         ensures nothing_sent { OnErr result (Sends out.old out.new []) }
     {
         self.make_room(advance, 0, out)?;
-        self.note(advance, out);
+        self.note_acknowledgement(advance, out);
         Ok(Step::Heard {
             id: self.id,
             items: 0,
@@ -76,7 +80,7 @@ impl<A: Allocator> End<A> {
         ensures nothing_sent { OnErr result (Sends out.old out.new []) }
     {
         self.make_room(advance, u32::from(ack), out)?;
-        self.note(advance, out);
+        self.note_acknowledgement(advance, out);
         let items = self.take(arrival);
         self.acknowledge_if(ack, out);
         Ok(Step::Heard { id: self.id, items })
@@ -95,7 +99,7 @@ impl<A: Allocator> End<A> {
         ensures nothing_sent { OnErr result (Sends out.old out.new []) }
     {
         self.make_room(advance, u32::from(ack), out)?;
-        self.note(advance, out);
+        self.note_acknowledgement(advance, out);
         self.acknowledge_if(ack, out);
         Ok(Step::Heard {
             id: self.id,
@@ -112,7 +116,7 @@ impl<A: Allocator> End<A> {
         ensures nothing_sent { OnErr result (Sends out.old out.new []) }
     {
         self.make_room(advance, 0, out)?;
-        self.note(advance, out);
+        self.note_acknowledgement(advance, out);
         self.shut();
         Ok(Step::Closed(self.id))
     }
@@ -134,7 +138,7 @@ impl<A: Allocator> End<A> {
             return self.hear_only(advance, out);
         }
         self.make_room(advance, 1, out)?;
-        self.note(advance, out);
+        self.note_acknowledgement(advance, out);
         let step = self.jump(forward);
         self.send_control(false, Body::ResetAck, out).unwrap();
         Ok(step)
@@ -160,7 +164,7 @@ impl<A: Allocator> End<A> {
         let waiting = self.count_unreset(advance);
         let segments = self.count_segments(self.outgoing.sent(), waiting);
         self.make_room(advance, segments, out)?;
-        self.note(advance, out);
+        self.note_acknowledgement(advance, out);
         self.unreset();
         self.send_on(out);
         Ok(Step::Heard {
@@ -194,7 +198,7 @@ impl<A: Allocator> End<A> {
         let count = self.outgoing.sent() - k + self.count_going_after(advance);
         let segments = self.count_segments(k, count);
         self.make_room(advance, segments, out)?;
-        self.note(advance, out);
+        self.note_acknowledgement(advance, out);
         self.send_again(out);
         if self.outgoing.sent() == 0 {
             Ok(Step::Heard {

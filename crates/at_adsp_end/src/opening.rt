@@ -34,7 +34,7 @@ impl<A: Allocator> End<A> {
         self.remote = Some(remote);
         self.phase = Phase::Open;
         self.confirm(out).unwrap();
-        self.note(advance, out);
+        self.note_acknowledgement(advance, out);
         Ok(Step::Opened(self.id))
     }
 
@@ -53,7 +53,7 @@ impl<A: Allocator> End<A> {
         let advance = self.advance_of(segment);
         self.make_room(advance, 0, out)?;
         self.phase = Phase::Open;
-        self.note(advance, out);
+        self.note_acknowledgement(advance, out);
         Ok(Step::Opened(self.id))
     }
 }

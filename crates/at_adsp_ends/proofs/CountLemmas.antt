@@ -27,7 +27,8 @@ use Rattle.at_adsp_ends.specs.Calls.{wrote_some}
 use Rattle.at_adsp_ends.specs.Openings.{ack_came, answer_came, answers_again, confirms_again, connected_to, denial_came}
 use Rattle.at_adsp_ends.specs.Openings.{heard_opening, ignored, is_answered, opened, request_came, room_for, sender_of}
 use Rattle.at_adsp_ends.specs.Receiving.{any_request_came, opening_came, part_came, received, segment_came, settled}
-use Rattle.at_adsp_ends.proofs.SegmentCounts.{heard_few, opened_few as end_opened_few, tick_few as end_ticked_few, write_few as written_few}
+use Rattle.at_adsp_ends.proofs.SegmentCounts.{heard_few, opened_few as end_opened_few, tick_few as end_ticked_few}
+use Rattle.at_adsp_ends.proofs.SegmentCounts.{write_few as written_few}
 use Rattle.at_adsp_ends.specs.Tables.{Done, EndTable, SendsFew, by_id, by_remote, freed, has_id, moved, next_id, stayed}
 
 -- the end that is found has queues that fit

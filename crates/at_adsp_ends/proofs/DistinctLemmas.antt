@@ -1,5 +1,6 @@
 -- Lists whose entries differ, after one of them changed.
-use Rattle.std.proofs.Common.{◌≡◌, ℕ, zero, suc, ◌<◌, ◌≤◌, Bool, true, false, cond, List, [], ◌∷◌, ◌++◌, length, get_or, set, Some, None, refl, sym, ap, subst, ◌∙◌, arith}
+use Rattle.std.proofs.Common.{◌≡◌, ℕ, zero, suc, ◌<◌, ◌≤◌, Bool, true, false, cond, List, [], ◌∷◌, ◌++◌, length, get_or}
+use Rattle.std.proofs.Common.{set, Some, None, refl, sym, ap, subst, ◌∙◌, arith}
 use Rattle.std.specs.Prelude.{◌||◌, find, remove}
 use Rattle.std.specs.List.{AllByRecursion, IsDistinct, list_any}
 use Rattle.std.proofs.lemmas.Bool.{true≢false}
@@ -14,27 +15,10 @@ pub record Stands {X : Type 0} (xs : List X) (i : ℕ) (entry : X) : Type 0 wher
 stands_next : {X : Type 0} (x : X) (xs : List X) (i : ℕ) (e : X) → Stands (x ∷ xs) (suc i) e → Stands xs i e
 stands_next x xs i e s = record { within = let w = s.within in omega (arith, w); at = s.at }
 
--- ---- lists without an entry that passes
-
-pub none_any : {X : Type 0} (p : X → Bool) (xs : List X) → list_any p xs ≡ false → AllByRecursion (λ x. p x ≡ false) xs
-none_any p [] h = tt
-none_any {X} p (x ∷ xs) h = go (λ g. none_any p xs g) (p x) refl h
-  where
-    go : (list_any p xs ≡ false → AllByRecursion (λ y. p y ≡ false) xs) → (b : Bool) → p x ≡ b → (b || list_any p xs) ≡ false → AllByRecursion (λ y. p y ≡ false) (x ∷ xs)
-    go ih true e g = absurd (true≢false g)
-    go ih false e g = (e, ih g)
-
-pub none_met : {X : Type 0} (p : X → Bool) (xs : List X) → find p xs ≡ None → AllByRecursion (λ x. p x ≡ false) xs
-none_met p [] h = tt
-none_met {X} p (x ∷ xs) h = go (λ g. none_met p xs g) (p x) refl h
-  where
-    go : (find p xs ≡ None → AllByRecursion (λ y. p y ≡ false) xs) → (b : Bool) → p x ≡ b → cond b (Some x) (find p xs) ≡ None → AllByRecursion (λ y. p y ≡ false) (x ∷ xs)
-    go ih true e g = absurd (cc)
-    go ih false e g = (e, ih g)
-
 -- ---- all entries
 
-pub all_set : {X : Type 0} (P : X → Type 0) (xs : List X) (i : ℕ) (y : X) → AllByRecursion P xs → P y → AllByRecursion P (set xs i y)
+pub all_set : {X : Type 0} (P : X → Type 0) (xs : List X) (i : ℕ) (y : X) → AllByRecursion P xs → P y
+    → AllByRecursion P (set xs i y)
 all_set P [] i y h is = tt
 all_set P (x ∷ xs) zero y h is = (is, h.1)
 all_set P (x ∷ xs) (suc i) y h is = (h.0, all_set P xs i y h.1 is)
@@ -46,53 +30,39 @@ all_stands P (x ∷ xs) (suc i) e h s = all_stands P xs i e h.1 (stands_next x x
 
 -- ---- entries that differ
 
-pub differ_append : {X : Type 0} (same : X → X → Bool) (xs : List X) (x : X) → IsDistinct same xs → AllByRecursion (λ y. same y x ≡ false) xs → IsDistinct same (xs ++ x ∷ [])
-unfolding IsDistinct
-differ_append same [] x h apart = (tt, tt)
-differ_append same (y ∷ ys) x h apart = (all_both (λ z. same y z ≡ false) ys (x ∷ []) h.0 (apart.0, tt), differ_append same ys x h.1 apart.1)
-
-pub differ_without : {X : Type 0} (same : X → X → Bool) (p : X → Bool) (xs : List X) → IsDistinct same xs → IsDistinct same (without_first p xs)
-unfolding IsDistinct
-differ_without same p [] h = tt
-differ_without same p (x ∷ xs) h = go (differ_without same p xs h.1) (p x)
-  where
-    go : IsDistinct same (without_first p xs) → (b : Bool) → IsDistinct same (cond b xs (x ∷ without_first p xs))
-    go ih true = h.1
-    go ih false = (all_without (λ y. same x y ≡ false) p xs h.0, ih)
-
-all_same : {X : Type 0} (p q : X → Bool) (xs : List X) → ((x : X) → q x ≡ p x) → AllByRecursion (λ x. p x ≡ false) xs → AllByRecursion (λ x. q x ≡ false) xs
+all_same : {X : Type 0} (p q : X → Bool) (xs : List X) → ((x : X) → q x ≡ p x) → AllByRecursion (λ x. p x ≡ false) xs
+    → AllByRecursion (λ x. q x ≡ false) xs
 all_same p q [] f h = tt
 all_same p q (x ∷ xs) f h = (f x ∙ h.0, all_same p q xs f h.1)
 
 -- the new entry is told apart as the old one is
-pub differ_set : {X : Type 0} (same : X → X → Bool) (xs : List X) (i : ℕ) (e y : X) → ((x : X) → same y x ≡ same e x) → ((x : X) → same x y ≡ same x e) → Stands xs i e → IsDistinct same xs → IsDistinct same (set xs i y)
+pub differ_set : {X : Type 0} (same : X → X → Bool) (xs : List X) (i : ℕ) (e y : X) → ((x : X) → same y x ≡ same e x)
+    → ((x : X) → same x y ≡ same x e) → Stands xs i e → IsDistinct same xs → IsDistinct same (set xs i y)
 unfolding IsDistinct
 differ_set same [] i e y f g s h = tt
-differ_set same (x ∷ xs) zero e y f g s h = (all_same (same x) (same y) xs (λ z. f z ∙ ap (λ w. same w z) (sym (s.at x))) h.0, h.1)
+differ_set same (x ∷ xs) zero e y f g s h =
+    (all_same (same x) (same y) xs (λ z. f z ∙ ap (λ w. same w z) (sym (s.at x))) h.0, h.1)
 differ_set same (x ∷ xs) (suc i) e y f g s h =
-    let s' = stands_next x xs i e s in
-    (all_set (λ z. same x z ≡ false) xs i y h.0 (g x ∙ all_stands (λ z. same x z ≡ false) xs i e h.0 s'), differ_set same xs i e y f g s' h.1)
+    let s' = stands_next x xs i e s in (
+      all_set (λ z. same x z ≡ false) xs i y h.0 (g x ∙ all_stands (λ z. same x z ≡ false) xs i e h.0 s'),
+      differ_set
+          same xs i e y f g s' h.1,
+    )
 
 -- the new entry is unlike all others
-pub differ_new : {X : Type 0} (same : X → X → Bool) (xs : List X) (i : ℕ) (y : X) → AllByRecursion (λ x. same y x ≡ false) xs → AllByRecursion (λ x. same x y ≡ false) xs → IsDistinct same xs → IsDistinct same (set xs i y)
+pub differ_new : {X : Type 0} (same : X → X → Bool) (xs : List X) (i : ℕ) (y : X)
+    → AllByRecursion (λ x. same y x ≡ false) xs → AllByRecursion (λ x. same x y ≡ false) xs → IsDistinct same xs
+    → IsDistinct same (set xs i y)
 unfolding IsDistinct
 differ_new same [] i y a b h = tt
 differ_new same (x ∷ xs) zero y a b h = (a.1, h.1)
-differ_new same (x ∷ xs) (suc i) y a b h = (all_set (λ z. same x z ≡ false) xs i y h.0 b.0, differ_new same xs i y a.1 b.1 h.1)
-
--- ---- how many entries
-
-pub length_without : {X : Type 0} (p : X → Bool) (xs : List X) → length (without_first p xs) ≤ length xs
-length_without p [] = omega arith
-length_without p (x ∷ xs) = go (length_without p xs) (p x)
-  where
-    go : length (without_first p xs) ≤ length xs → (b : Bool) → length (cond b xs (x ∷ without_first p xs)) ≤ length (x ∷ xs)
-    go ih true = omega arith
-    go ih false = omega (arith, ih)
+differ_new same (x ∷ xs) (suc i) y a b h =
+    (all_set (λ z. same x z ≡ false) xs i y h.0 b.0, differ_new same xs i y a.1 b.1 h.1)
 
 -- ---- the entry at a place, by a test that tells it apart
 
-pub set_by : {X : Type 0} (same : X → X → Bool) (p : X → Bool) (xs : List X) (i : ℕ) (e y : X) → p e ≡ true → ((x : X) → same x e ≡ false → p x ≡ false) → Stands xs i e → IsDistinct same xs → replaced p y xs ≡ set xs i y
+pub set_by : {X : Type 0} (same : X → X → Bool) (p : X → Bool) (xs : List X) (i : ℕ) (e y : X) → p e ≡ true
+    → ((x : X) → same x e ≡ false → p x ≡ false) → Stands xs i e → IsDistinct same xs → replaced p y xs ≡ set xs i y
 unfolding IsDistinct
 set_by same p [] i e y is apart s h = refl
 set_by same p (x ∷ xs) zero e y is apart s h = let hit : p x ≡ true = ap p (s.at x) ∙ is in rw hit refl
@@ -101,7 +71,8 @@ set_by same p (x ∷ xs) (suc i) e y is apart s h =
     let miss : p x ≡ false = apart x (all_stands (λ z. same x z ≡ false) xs i e h.0 s') in
     rw miss (ap (λ l. x ∷ l) (set_by same p xs i e y is apart s' h.1))
 
-pub gone_by : {X : Type 0} (same : X → X → Bool) (p : X → Bool) (xs : List X) (i : ℕ) (e : X) → p e ≡ true → ((x : X) → same x e ≡ false → p x ≡ false) → Stands xs i e → IsDistinct same xs → without_first p xs ≡ remove xs i
+pub gone_by : {X : Type 0} (same : X → X → Bool) (p : X → Bool) (xs : List X) (i : ℕ) (e : X) → p e ≡ true
+    → ((x : X) → same x e ≡ false → p x ≡ false) → Stands xs i e → IsDistinct same xs → without_first p xs ≡ remove xs i
 unfolding IsDistinct
 gone_by same p [] i e is apart s h = absurd (let w = s.within in omega (arith, w))
 gone_by same p (x ∷ xs) zero e is apart s h = let hit : p x ≡ true = ap p (s.at x) ∙ is in rw hit refl

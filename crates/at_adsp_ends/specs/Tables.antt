@@ -4,6 +4,7 @@ use Rattle.std.specs.Prelude.{List, [], ◌∷◌, ◌++◌, length, find, Optio
 use Rattle.std.specs.List.{AllByRecursion, IsDistinct, list_any}
 use Rattle.at_ddp.specs.Tables.{replaced, without_first}
 use Rattle.at_ddp.specs.declared.address.Address.{Address}
+use Rattle.at_ddp.specs.Numbers.{first_free}
 use Rattle.at_adsp_frame.specs.Segments.{Content}
 use Rattle.at_adsp_end.specs.Ends.{EndState, addressed, has_remote}
 use Rattle.at_adsp_end.specs.declared.remote.Remote.{Remote}
@@ -47,9 +48,7 @@ following id = id % 65535 + 1
 
 -- the first identifier from this one on that no end has, if it takes at most so many tries
 abbrev pub free_id : ℕ → ℕ → List EndState → Option ℕ
-free_id zero first ends = None
-free_id (suc tries) first ends =
-    if list_any (has_id first) ends then free_id tries (following first) ends else Some first
+free_id tries first ends = first_free following (λ id. list_any (has_id id) ends) tries first
 
 -- the identifier of the next end; none if 16 stand
 abbrev pub next_id : EndTable → Option ℕ

@@ -69,7 +69,7 @@ impl<A: Allocator + Copy> Ends<A> {
         or_memory(end.tick(tick, out))
     }
 
-    /// Reads items of an end that is open or was: as many as there are, and as fit. Returns how many. What stands behind
+    /// Reads items of an end that is open or was: as many as there are and fit. Returns how many. What stands behind
     /// them stays.
     pub fn read(
         &mut self,

@@ -19,7 +19,7 @@ use std::alloc::{AllocError, Allocator};
 
 impl<A: Allocator + Copy> Ends<A> {
     // A request of this end.
-    pub(crate) fn take_request(
+    pub(crate) fn hear_request(
         &mut self,
         remote: Remote,
         out: &mut Outbox<A>,
@@ -79,7 +79,7 @@ impl<A: Allocator + Copy> Ends<A> {
     }
 
     // An answer to the request of the end with this identifier.
-    pub(crate) fn take_answer(
+    pub(crate) fn hear_answer(
         &mut self,
         remote: Remote,
         dest: u16,
@@ -109,7 +109,7 @@ impl<A: Allocator + Copy> Ends<A> {
     }
 
     // An acknowledgement of the answer of the end with this identifier.
-    pub(crate) fn take_ack(
+    pub(crate) fn hear_ack(
         &mut self,
         remote: Remote,
         dest: u16,
@@ -133,7 +133,7 @@ impl<A: Allocator + Copy> Ends<A> {
     }
 
     // A denial of the request of the end with this identifier.
-    pub(crate) fn take_denial(&mut self, from: Address, dest: u16) -> Step
+    pub(crate) fn hear_denial(&mut self, from: Address, dest: u16) -> Step
         ensures answer { result ≡ (denial_came self.old from (by_id self.old dest)).answer }
         ensures state { self.new ≡ (denial_came self.old from (by_id self.old dest)).after }
     {

@@ -30,13 +30,13 @@ impl<A: Allocator + Copy> Ends<A> {
             id: segment.source,
         };
         let Body::Open { kind, dest } = segment.body else {
-            return self.take_segment(remote, segment, out);
+            return self.hear_segment(remote, segment, out);
         };
         match kind {
-            OpenKind::Request => self.take_request(remote, out),
-            OpenKind::Acknowledgement => self.take_ack(remote, dest, segment, out),
-            OpenKind::RequestAndAcknowledgement => self.take_answer(remote, dest, segment, out),
-            OpenKind::Denial => Ok(self.take_denial(from, dest)),
+            OpenKind::Request => self.hear_request(remote, out),
+            OpenKind::Acknowledgement => self.hear_ack(remote, dest, segment, out),
+            OpenKind::RequestAndAcknowledgement => self.hear_answer(remote, dest, segment, out),
+            OpenKind::Denial => Ok(self.hear_denial(from, dest)),
         }
     }
 
@@ -58,7 +58,7 @@ impl<A: Allocator + Copy> Ends<A> {
     }
 
     // A segment that opens nothing.
-    fn take_segment(
+    fn hear_segment(
         &mut self,
         remote: Remote,
         segment: &Segment<'_>,
@@ -77,6 +77,6 @@ impl<A: Allocator + Copy> Ends<A> {
             return Ok(Step::Ignored);
         }
         let end = &mut self.ends[index];
-        end.hear(segment, out)
+        end.receive(segment, out)
     }
 }

@@ -1,1 +1,2 @@
 mod SegmentLemmas
+mod SpellingLemmas

@@ -2,6 +2,7 @@
 use Rattle.std.specs.Prelude.{◌≡◌, ℕ, ◌+◌, ◌*◌, ◌^◌, ◌<◌, ◌≤◌, Bool, if◌then◌else◌, List, [], ◌∷◌, ◌++◌, length, ◌⊎◌}
 use Rattle.std.specs.Int.{to_be_bytes, w16, w32}
 use Rattle.at_ddp.specs.Datagram.{AreBytes}
+use Rattle.at_ddp.specs.Bits.{bit}
 use Rattle.at_adsp_frame.specs.Openings.{SpellsOpening, code_of, opening, read_dest}
 use Rattle.at_adsp_frame.specs.declared.segment.Body.{Body}
 use Rattle.at_adsp_frame.specs.declared.segment.Body.TheVariants as body
@@ -63,9 +64,6 @@ pub record AreNumbers (s : Content) : Type 0 where
   pub first : s.first < 2 ^ 32
   pub next : s.next < 2 ^ 32
   pub window : s.window < 2 ^ 16
-
-abbrev pub bit : Bool → ℕ
-bit b = if b then 1 else 0
 
 -- the 13 bytes of a header: the connection, the two sequence numbers, the window, and the descriptor
 abbrev pub header : Content → ℕ → List ℕ

@@ -9,7 +9,8 @@ ghost use Rattle.at_adsp_frame.specs.declared.fault.AdspFault.{AdspFault};
 pub fn what_is_written_is_read()
     ensures read { (s : Content) → IsLawful s → Spells (spelled s) s }
     ensures alone { (input : List ℕ) (s t : Content) → Spells input s → Spells input t → s ≡ t }
-    ensures faultless { (input : List ℕ) (s : Content) → Spells input s → (fault : AdspFault) → ¬ IsFirstFault fault input }
+    ensures faultless { (input : List ℕ) (s : Content) → Spells input s → (fault : AdspFault)
+        → ¬ IsFirstFault fault input }
 {}
 
 /// An encoded segment is bytes, and fits a datagram.

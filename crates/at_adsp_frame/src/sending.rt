@@ -2,7 +2,8 @@
 ghost use Rattle.std.specs.Prelude.{◌≡◌, ℕ, ◌+◌, ◌≤◌, ◌∷◌, ◌++◌, [], length, OnOk, OnErr, IsOk};
 ghost use Rattle.arrayvec.specs.ArrayVec.{array_vec_len};
 ghost use Rattle.at_ddp.specs.Outbox.{Sends, HasRoomFor};
-ghost use Rattle.at_adsp_frame.specs.Segments.{CanBeWritten, bit, bits_of, content, data_of, fields_of, header, part};
+ghost use Rattle.at_ddp.specs.Bits.{bit};
+ghost use Rattle.at_adsp_frame.specs.Segments.{CanBeWritten, bits_of, content, data_of, fields_of, header, part};
 ghost use Rattle.at_adsp_frame.specs.Segments.{spelled};
 
 use crate::segment::{Body, SEGMENT_LEN, Segment};

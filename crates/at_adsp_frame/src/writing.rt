@@ -1,8 +1,9 @@
 //! The writing of a segment, with 0 in the free bits.
 ghost use Rattle.std.specs.Prelude.{◌≡◌, ◌≢◌, ◌+◌, ◌*◌, ◌<◌, ◌≤◌, ◌++◌, ◌↔◌, length};
 ghost use Rattle.std.specs.Prelude.{IfErr, OnOk, OnErr, IsErrOf, vec_len, vec_capacity};
+ghost use Rattle.at_ddp.specs.Bits.{bit};
 ghost use Rattle.at_adsp_frame.specs.Openings.{opening};
-ghost use Rattle.at_adsp_frame.specs.Segments.{CanBeWritten, bit, bits_of, content, data_of, fields_of, header};
+ghost use Rattle.at_adsp_frame.specs.Segments.{CanBeWritten, bits_of, content, data_of, fields_of, header};
 ghost use Rattle.at_adsp_frame.specs.Segments.{part, spelled};
 
 use crate::fault::AdspFault;

@@ -5,12 +5,12 @@ mod Hearings
 mod Histories
 mod KeyedRecords
 mod Lawfulness
+mod LawfulHistories
 mod NetworkLemmas
 mod Newest
 mod OnceHistories
 mod OnceNetwork
 mod Ranges
-mod SentLemmas
 mod Stages
 mod Takings
 mod Turns

@@ -5,7 +5,8 @@ use Rattle.at_atp_frame.specs.Packets.{Packet}
 use Rattle.at_atp_responder.specs.Once.{same_key}
 use Rattle.at_atp_responder.specs.declared.reception.Key.{Key}
 use Rattle.at_atp.specs.HandUps.{brings, draws}
-use Rattle.at_atp.specs.Network.{Network, Sent, Happening, Begins, Answers, Turns, Serves, packet_at, ending, done}
+use Rattle.at_ddp.specs.Posts.{packet_at}
+use Rattle.at_atp.specs.Network.{Network, Sent, Happening, Begins, Answers, Turns, Serves, ending, done}
 use Rattle.at_atp.specs.Transactions.{Transaction, is_transaction, answered}
 
 -- the happening gives this answer to the request of a key

@@ -5,7 +5,8 @@ use Rattle.std.specs.Prelude.{length, take, find, Option, Some, None}
 use Rattle.at_ddp.specs.Address.{same_address}
 use Rattle.at_ddp.specs.declared.address.Address.{Address}
 use Rattle.at_atp_frame.specs.Frames.{Request, number_of}
-use Rattle.at_atp.specs.Network.{Network, Sent, Happening, Begins, Turns, Takes, Serves, Expires, is_fresh, packet_at}
+use Rattle.at_ddp.specs.Posts.{packet_at}
+use Rattle.at_atp.specs.Network.{Network, Sent, Happening, Begins, Turns, Takes, Serves, Expires, is_fresh}
 use Rattle.at_atp.specs.Network.{ending, number_after, after}
 use Rattle.at_atp_responder.specs.Once.{Comes, hands_up, same_key}
 use Rattle.at_atp_frame.specs.Packets.{Packet}

@@ -4,6 +4,7 @@ use Rattle.std.specs.Prelude.{◌≡◌, ℕ, ◌+◌, ◌==◌, ◌&&◌, ◌||
 use Rattle.std.specs.Prelude.{◌∷◌, ◌++◌, length, map, find, replicate, slice_get, IfSome, Option, Some, None}
 use Rattle.std.specs.List.{AllByRecursion, list_all}
 use Rattle.at_ddp.specs.Address.{same_address}
+use Rattle.at_ddp.specs.Posts.{Post, Posts, packet_at, put, stamped}
 use Rattle.at_ddp.specs.declared.address.Address.{Address}
 use Rattle.at_atp_frame.specs.Frames.{Content, Request, Response, Release, owner, number_of}
 use Rattle.at_atp_frame.specs.Packets.{Packet}
@@ -20,11 +21,8 @@ use Rattle.at_atp_responder.specs.declared.reception.Reception.TheVariants as re
 use Rattle.at_atp_requester.specs.declared.step.Step.TheVariants as step
 
 -- a packet that was sent, with the event that sent it
-pub record Sent : Type 0 where
-  pub event : ℕ
-  pub from : Address
-  pub to : Address
-  pub packet : Content
+abbrev pub Sent : Type 0
+Sent = Post Content
 
 -- a number that a requester drew, with the event
 pub record Drawn : Type 0 where
@@ -36,25 +34,13 @@ pub record Network : Type 0 where
   pub event : ℕ  -- how many events there were
   pub requesters : Address → Requests
   pub responders : Address → List Record
-  pub sent : List (Option Sent)  -- all that was ever sent on the cable; nothing stands for a foreign datagram
+  pub sent : Posts Content
   pub drawn : List Drawn  -- all numbers that were ever drawn
   pub asked : List Transaction  -- newest first
 
 -- before anything happened
 abbrev pub opening : Network
 opening = record { event = 0; requesters = λ _. no_requests; responders = λ _. []; sent = []; drawn = []; asked = [] }
-
--- what was sent at a place, if it is a packet
-abbrev pub packet_of : Option (Option Sent) → Option Sent
-packet_of None = None
-packet_of (Some x) = x
-
-abbrev pub packet_at : List (Option Sent) → ℕ → Option Sent
-packet_at sent which = packet_of (slice_get sent which)
-
--- this holds of each packet that was sent
-abbrev pub AllSent : (Sent → Type 0) → List (Option Sent) → Type 0
-AllSent P sent = AllByRecursion (λ x. IfSome x P) sent
 
 -- ---- numbers that are not reused
 
@@ -92,14 +78,6 @@ pub data Happening : Type 0 where
   Retries : (who : Address) (tid : ℕ) → Happening
   -- an event outside this network, which sends so many foreign datagrams
   Other : (count : ℕ) → Happening
-
--- a new value at one address
-abbrev pub put : {X : Type 0} → (Address → X) → Address → X → Address → X
-put f at x a = if same_address at a then x else f a
-
-abbrev pub stamped : ℕ → Address → List (Address × Content) → List (Option Sent)
-stamped event from sent =
-    map (λ (s : Address × Content). Some (record { event = event; from = from; to = s.0; packet = s.1 })) sent
 
 -- a requester becomes this one, and sends
 abbrev pub with_requester : Network → Address → Requests → List (Address × Content) → Network

@@ -1,1 +1,2 @@
 mod FrameLemmas
+mod SpellingLemmas

@@ -4,6 +4,7 @@ use Rattle.std.specs.Prelude.{◌++◌, length, map}
 use Rattle.std.specs.Int.{to_be_bytes, w16}
 use Rattle.at_ddp.specs.Datagram.{AreBytes}
 use Rattle.at_ddp.specs.declared.address.Address.{Address}
+use Rattle.at_ddp.specs.Bits.{bit}
 use Rattle.at_atp_frame.specs.declared.frame.Frame.{Frame}
 use Rattle.at_atp_frame.specs.declared.frame.Frame.TheVariants as frame
 
@@ -60,9 +61,6 @@ abbrev pub IsLawful : Content → Type 0
 IsLawful (Request mask xo timer tid user bytes) = (mask < 256) × IsTimer xo timer × AreParts tid user bytes
 IsLawful (Response place eom sts tid user bytes) = (place ≤ 7) × AreParts tid user bytes
 IsLawful (Release tid) = tid < 2 ^ 16
-
-abbrev pub bit : Bool → ℕ
-bit b = if b then 1 else 0
 
 -- the control byte, a byte, the transaction number, and what follows
 abbrev pub packet : ℕ → ℕ → ℕ → List ℕ → List ℕ

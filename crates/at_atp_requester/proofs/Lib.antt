@@ -11,3 +11,4 @@ mod StayLemmas
 mod StepLemmas
 mod TurnLemmas
 mod WholeLemmas
+mod OneTransaction

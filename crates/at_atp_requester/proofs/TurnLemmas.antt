@@ -1,12 +1,14 @@
 -- What a packet does that ends an at-least-once transaction.
-use Rattle.std.proofs.Common.{◌≡◌, ℕ, ◌<◌, Bool, true, false, List, [], length, Option, Some, None, Result, Ok, Err, refl, sym, ap, ◌∙◌}
+use Rattle.std.proofs.Common.{◌≡◌, ℕ, ◌<◌, Bool, true, false, List, [], length, Option, Some, None, Result, Ok, Err}
+use Rattle.std.proofs.Common.{refl, sym, ap, ◌∙◌}
 use Rattle.std.specs.Prelude.{find, remove, IfOk, not, ◌&&◌}
 use Rattle.std.proofs.lemmas.Bool.{false≢true, and_parts, not-true}
 use Rattle.at_ddp.specs.declared.address.Address.{Address}
 use Rattle.at_atp_frame.specs.Packets.{Packet}
 use Rattle.at_atp_requester.specs.Answers.{Arrival, is_wanted, whole, with_part}
 use Rattle.at_atp_frame.specs.Frames.{Response}
-use Rattle.at_atp_requester.specs.Requests.{Transaction, Requests, is_of, next_number, beginning, is_at_least_once, came, came_for, was_kept, is_finished, heard, finishes}
+use Rattle.at_atp_requester.specs.Requests.{Transaction, Requests, is_of, next_number, beginning, is_at_least_once}
+use Rattle.at_atp_requester.specs.Requests.{came, came_for, was_kept, is_finished, heard, finishes}
 use Rattle.at_atp_requester.specs.declared.step.Step.TheVariants.{Finished}
 use Rattle.at_atp_requester.proofs.AnswerLemmas.{wanted-within}
 use Rattle.at_ddp.proofs.TableLemmas.{Found}
@@ -19,49 +21,76 @@ pub record Ended (t : Transaction) (place : ℕ) (part : Arrival) : Type 0 where
   pub packets : List Packet
   pub is_whole : whole (with_part t.parts place part) ≡ Some packets
 
-ended : (A : Type 0) (t : Transaction) (place : ℕ) (part : Arrival) (sts : Bool) → t.xo ≡ false → is_finished (came {A = A} t place part sts).step ≡ true → Ended t place part
+ended : (A : Type 0) (t : Transaction) (place : ℕ) (part : Arrival) (sts : Bool) → t.xo ≡ false
+    → is_finished (came {A = A} t place part sts).step ≡ true → Ended t place part
 ended A t place part sts not_xo h = wants (is_wanted t.parts place) refl sts h
   where
-    kept : (o : Option (List Packet)) → whole (with_part t.parts place part) ≡ o → is_wanted t.parts place ≡ true → (s : Bool) → is_finished (was_kept {A = A} (record t { parts = with_part t.parts place part }) s o).step ≡ true → Ended t place part
-    kept (Some packets) is wanted s g = record { not_xo = not_xo; wanted = wanted; within = wanted-within t.parts place wanted; packets = packets; is_whole = is }
+    kept : (o : Option (List Packet)) → whole (with_part t.parts place part) ≡ o → is_wanted t.parts place ≡ true
+        → (s : Bool) → is_finished (was_kept {A = A} (record t { parts = with_part t.parts place part }) s o).step
+        ≡ true → Ended t place part
+    kept (Some packets) is wanted s g =
+        record {
+          not_xo = not_xo;
+          wanted = wanted;
+          within = wanted-within t.parts place wanted;
+          packets = packets;
+          is_whole = is;
+        }
     kept None is wanted true g = absurd (false≢true g)
     kept None is wanted false g = absurd (false≢true g)
 
-    wants : (b : Bool) → is_wanted t.parts place ≡ b → (s : Bool) → is_finished (came_for {A = A} t place part s b).step ≡ true → Ended t place part
+    wants : (b : Bool) → is_wanted t.parts place ≡ b → (s : Bool)
+        → is_finished (came_for {A = A} t place part s b).step ≡ true → Ended t place part
     wants true is s g = kept (whole (with_part t.parts place part)) refl is s g
     wants false is true g = absurd (false≢true g)
     wants false is false g = absurd (false≢true g)
 
 -- there is a transaction for a packet that ends one
-pub finishes_some : (A : Type 0) (r : Requests) (from : Address) (place : ℕ) (eom sts : Bool) (tid : ℕ) (user bytes : List ℕ) →
+pub finishes_some : (A : Type 0) (r : Requests) (from : Address) (place : ℕ) (eom sts : Bool) (tid : ℕ)
+    (user bytes : List ℕ) →
     finishes A r from (Response place eom sts tid user bytes) ≡ true → find (is_of tid from) r.standing ≡ None → ⊥
 finishes_some A r from place eom sts tid user bytes h none =
-    false≢true (ap (λ o. is_at_least_once o && is_finished (heard {A = A} r from (Response place eom sts tid user bytes)).step) (sym none) ∙ h)
+    false≢true (ap (λ o. is_at_least_once o
+    && is_finished (heard {A = A} r from (Response place eom sts tid user bytes)).step) (sym none) ∙ h)
 
 -- whether a packet ends the transaction that it came for
-pub finishes_at : (A : Type 0) (r : Requests) (from : Address) (place : ℕ) (eom sts : Bool) (tid : ℕ) (user bytes : List ℕ) (i : ℕ) (f : Found (is_of tid from) r.standing i) →
-    (not f.entry.xo && is_finished (came {A = A} f.entry place (record { eom = eom; packet = record { user = user; data_ = bytes } }) sts).step) ≡ finishes A r from (Response place eom sts tid user bytes)
+pub finishes_at : (A : Type 0) (r : Requests) (from : Address) (place : ℕ) (eom sts : Bool) (tid : ℕ)
+    (user bytes : List ℕ) (i : ℕ) (f : Found (is_of tid from) r.standing i) →
+    (not f.entry.xo && is_finished
+    (came {A = A} f.entry place (record { eom = eom; packet = record { user = user; data_ = bytes } }) sts).step)
+    ≡ finishes A r from (Response place eom sts tid user bytes)
 finishes_at A r from place eom sts tid user bytes i f = rw f.first refl
 
-pub finishes_none : (A : Type 0) (r : Requests) (from : Address) (place : ℕ) (eom sts : Bool) (tid : ℕ) (user bytes : List ℕ) → find (is_of tid from) r.standing ≡ None →
+pub finishes_none : (A : Type 0) (r : Requests) (from : Address) (place : ℕ) (eom sts : Bool) (tid : ℕ)
+    (user bytes : List ℕ) → find (is_of tid from) r.standing ≡ None →
     false ≡ finishes A r from (Response place eom sts tid user bytes)
 finishes_none A r from place eom sts tid user bytes none = rw none refl
 
-pub ended_at : (A : Type 0) (r : Requests) (from : Address) (place : ℕ) (eom sts : Bool) (tid : ℕ) (user bytes : List ℕ) (i : ℕ) (f : Found (is_of tid from) r.standing i) →
-    finishes A r from (Response place eom sts tid user bytes) ≡ true → Ended f.entry place (record { eom = eom; packet = record { user = user; data_ = bytes } })
+pub ended_at : (A : Type 0) (r : Requests) (from : Address) (place : ℕ) (eom sts : Bool) (tid : ℕ)
+    (user bytes : List ℕ) (i : ℕ) (f : Found (is_of tid from) r.standing i) →
+    finishes A r from (Response place eom sts tid user bytes) ≡ true
+    → Ended f.entry place (record { eom = eom; packet = record { user = user; data_ = bytes } })
 ended_at A r from place eom sts tid user bytes i f h =
     let part : Arrival = record { eom = eom; packet = record { user = user; data_ = bytes } } in
-    let both = and_parts (not f.entry.xo) (is_finished (came {A = A} f.entry place part sts).step) (finishes_at A r from place eom sts tid user bytes i f ∙ h) in
+    let both = and_parts (not f.entry.xo) (is_finished (came {A = A} f.entry place part sts).step)
+    (finishes_at A r from place eom sts tid user bytes i f ∙ h) in
     ended A f.entry place part sts (not-true f.entry.xo both.0) both.1
 
 -- what comes of that packet
-pub heard_end : (A : Type 0) (r : Requests) (from : Address) (place : ℕ) (eom sts : Bool) (tid : ℕ) (user bytes : List ℕ) (i : ℕ) (f : Found (is_of tid from) r.standing i) →
+pub heard_end : (A : Type 0) (r : Requests) (from : Address) (place : ℕ) (eom sts : Bool) (tid : ℕ)
+    (user bytes : List ℕ) (i : ℕ) (f : Found (is_of tid from) r.standing i) →
     (e : Ended f.entry place (record { eom = eom; packet = record { user = user; data_ = bytes } })) →
-    heard {A = A} r from (Response place eom sts tid user bytes) ≡ record { step = Finished e.packets; after = record { next = r.next; standing = remove r.standing i }; sent = [] }
+    heard {A = A} r from (Response place eom sts tid user bytes)
+    ≡ record {
+      step = Finished e.packets;
+      after = record { next = r.next; standing = remove r.standing i };
+      sent = [];
+    }
 heard_end A r from place eom sts tid user bytes i f e = rw (f.first, e.wanted, e.is_whole, e.not_xo, f.gone_is) refl
 
 -- a transaction that begins under a number that was drawn
-pub drawn_next : {E : Type 0} (r : Requests) (tid : ℕ) (o : Result Transaction E) (to : Address) (user : List ℕ) (retries : ℕ) → next_number r ≡ Some tid →
+pub drawn_next : {E : Type 0} (r : Requests) (tid : ℕ) (o : Result Transaction E) (to : Address) (user : List ℕ)
+    (retries : ℕ) → next_number r ≡ Some tid →
     IfOk o (λ t. t ≡ beginning tid to user [] 1 false retries) → IfOk o (λ t. next_number r ≡ Some t.tid)
 drawn_next r tid (Ok t) to user retries drawn is = drawn ∙ ap (λ (x : Transaction). Some x.tid) (sym is)
 drawn_next r tid (Err e) to user retries drawn is = is

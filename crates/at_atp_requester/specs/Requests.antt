@@ -9,6 +9,7 @@ use Rattle.at_atp_frame.specs.Packets.{Packet}
 use Rattle.at_atp_requester.specs.Answers.{Arrival, is_wanted, bitmap_of, whole, with_part}
 use Rattle.at_atp_frame.specs.Frames.{Content, Request, Response, Release, spelled_all}
 use Rattle.at_ddp.specs.Tables.{replaced, without_first}
+use Rattle.at_ddp.specs.Numbers.{first_free}
 use Rattle.at_atp_requester.specs.declared.step.Retry.{Retry}
 use Rattle.at_atp_requester.specs.declared.step.Retry.TheVariants as retry
 use Rattle.at_atp_requester.specs.declared.step.Step.{Step}
@@ -56,9 +57,7 @@ pub record IsRequester (r : Requests) : Type 0 where
 
 -- the first number from this one on that is not open, if it takes at most so many tries
 abbrev pub draw_from : ℕ → ℕ → List Transaction → Option ℕ
-draw_from zero first standing = None
-draw_from (suc tries) first standing =
-    if has_number standing first then draw_from tries ((first + 1) % 65536) standing else Some first
+draw_from tries first standing = first_free (λ tid. (tid + 1) % 65536) (has_number standing) tries first
 
 -- the requester after the transaction of a number is closed
 abbrev pub closing : Requests → Option ℕ → Requests

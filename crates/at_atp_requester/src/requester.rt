@@ -160,7 +160,7 @@ impl<A: Allocator + Copy> Requester<A> {
             bytes: data_,
         };
         let transaction = &mut self.standing[index];
-        let step = transaction.take_in(self.alloc, &arriving, out)?;
+        let step = transaction.hear(self.alloc, &arriving, out)?;
         settle(&mut self.standing, index, &step);
         Ok(step)
     }

@@ -195,7 +195,7 @@ impl<A: Allocator + Copy> Transaction<A> {
     ghost use Rattle.at_atp_requester.specs.Arriving.{arrival_of};
 
     // Takes a packet of the answer: it came from the address that was asked, with this transaction's number.
-    pub(crate) fn take_in(
+    pub(crate) fn hear(
         &mut self,
         alloc: A,
         arriving: &Arriving<'_>,

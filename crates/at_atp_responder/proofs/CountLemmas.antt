@@ -8,7 +8,8 @@ pub as_many : (p : Record → Bool) (y : Record) (rs : List Record) → length (
 as_many p y [] = refl
 as_many p y (r ∷ rs) = go (p r) (as_many p y rs)
   where
-    go : (b : Bool) → length (replaced p y rs) ≡ length rs → length (cond b (y ∷ rs) (r ∷ replaced p y rs)) ≡ length (r ∷ rs)
+    go : (b : Bool) → length (replaced p y rs) ≡ length rs → length (cond b (y ∷ rs) (r ∷ replaced p y rs))
+        ≡ length (r ∷ rs)
     go true ih = omega arith
     go false ih = omega (arith, ih)
 
@@ -17,6 +18,7 @@ pub no_more : (p : Record → Bool) (rs : List Record) → length (without_first
 no_more p [] = omega arith
 no_more p (r ∷ rs) = go (p r) (no_more p rs)
   where
-    go : (b : Bool) → length (without_first p rs) ≤ length rs → length (cond b rs (r ∷ without_first p rs)) ≤ length (r ∷ rs)
+    go : (b : Bool) → length (without_first p rs) ≤ length rs
+        → length (cond b rs (r ∷ without_first p rs)) ≤ length (r ∷ rs)
     go true ih = omega arith
     go false ih = omega (arith, ih)

@@ -4,6 +4,7 @@ use Rattle.std.proofs.Common.{length, Option, Some, None, refl, sym, subst, arit
 use Rattle.std.specs.Prelude.{find, ◌==◌, ◌/◌, ◌%◌}
 use Rattle.std.proofs.lemmas.Bool.{eqb-true}
 use Rattle.at_ddp.specs.declared.address.Address.{Address}
+use Rattle.at_ddp.proofs.Alls.{find_last}
 use Rattle.at_atp_frame.specs.Frames.{Content, Request, Response, Release}
 use Rattle.at_atp_frame.specs.Packets.{Packet}
 use Rattle.at_atp_responder.specs.Records.{AsksForEight, Record, State, Waiting, Answered, Released, asked_for}
@@ -11,7 +12,7 @@ use Rattle.at_atp_responder.specs.Records.{came_again, is_key, is_passed_over, p
 use Rattle.at_atp_responder.specs.Records.{repeated, request_came, responses, taken}
 use Rattle.at_atp_responder.specs.declared.reception.Key.{Key}
 use Rattle.at_atp_responder.specs.declared.reception.Reception.TheVariants.{New}
-use Rattle.at_atp_responder.proofs.WaitLemmas.{find_last, its_own, same_new}
+use Rattle.at_atp_responder.proofs.WaitLemmas.{its_own, same_new}
 
 -- the numbers of so many bits are below this
 abbrev beyond : ℕ → ℕ
@@ -82,7 +83,8 @@ waiting_few key xo bitmap packets o fits is =
     subst (λ r. length (asked_for r key packets) ≤ 8) (sym is) (selected 8 key 0 bitmap packets fits)
 
 new_few : (rs : List Record) (own : Key) (xo : Bool) (bitmap : ℕ) (key : Key) (packets : List Packet)
-    (o : Option Record) → bitmap < 256 → find (is_key own) rs ≡ o → (request_came rs own xo bitmap o).reception ≡ New key
+    (o : Option Record) → bitmap < 256 → find (is_key own) rs ≡ o → (request_came rs own xo bitmap o).reception
+    ≡ New key
     → length (asked_for (find (is_key key) (request_came rs own xo bitmap o).after) key packets) ≤ 8
 new_few rs own xo bitmap key packets None fits none h =
     let mine : Record = record { key = own; state = Waiting xo bitmap } in

@@ -72,7 +72,7 @@ fn index_of<A: Allocator>(records: &[Record<A>], key: Key) -> Option<usize>
 }
 
 // Takes a request that asks for at least one packet.
-pub(crate) fn take_in<A: Allocator + Copy>(
+pub(crate) fn hear_request<A: Allocator + Copy>(
     alloc: A,
     records: &mut Vec<Record<A>, A>,
     key: Key,
@@ -148,7 +148,7 @@ fn repeat<A: Allocator>(
 }
 
 // Takes the release of an answer.
-pub(crate) fn take_release<A: Allocator>(records: &mut Vec<Record<A>, A>, key: Key) -> Reception
+pub(crate) fn hear_release<A: Allocator>(records: &mut Vec<Record<A>, A>, key: Key) -> Reception
     ensures reception { result ≡ (release_came records.old.items key (find (is_key key) records.old.items)).reception }
     ensures after { records.new.items
         ≡ (release_came records.old.items key (find (is_key key) records.old.items)).after }

@@ -10,7 +10,7 @@ ghost use Rattle.at_ddp.specs.Tables.{without_first};
 
 use crate::reception::{Key, Reception};
 use crate::record::Record;
-use crate::records::{expiry_fault, forget, record_fault, record_of, take_in, take_release};
+use crate::records::{expiry_fault, forget, hear_release, hear_request, record_fault, record_of};
 use at_atp_frame::{AtpFault, Frame};
 use at_ddp::{Address, Outbox};
 use std::alloc::{Allocator, Global};
@@ -75,7 +75,7 @@ impl<A: Allocator + Copy> Responder<A> {
                 if bitmap == 0 {
                     return Ok(Reception::Ignored);
                 }
-                take_in(
+                hear_request(
                     self.alloc,
                     &mut self.records,
                     Key { from, tid },
@@ -84,7 +84,7 @@ impl<A: Allocator + Copy> Responder<A> {
                     out,
                 )
             }
-            Frame::Release { tid } => Ok(take_release(&mut self.records, Key { from, tid })),
+            Frame::Release { tid } => Ok(hear_release(&mut self.records, Key { from, tid })),
             Frame::Response { .. } => Ok(Reception::Ignored),
         }
     }

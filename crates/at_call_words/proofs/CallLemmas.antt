@@ -9,7 +9,8 @@ use Rattle.at_event.specs.declared.event.Call.{Call}
 use Rattle.at_event.specs.declared.event.Call.TheVariants as call
 use Rattle.at_faults.specs.declared.fault.LineFault.{LineFault}
 use Rattle.at_faults.specs.declared.fault.LineFault.TheVariants.{NoMemory, Unlawful}
-use Rattle.at_call_words.specs.Calls.{AnswerSays, AskSays, FindSays, IsMode, IsSwitch, IsWanted, SaysCall, SocketSays, WriteSays}
+use Rattle.at_call_words.specs.Calls.{AnswerSays, AskSays, FindSays, IsMode, IsSwitch, IsWanted, SaysCall, SocketSays}
+use Rattle.at_call_words.specs.Calls.{WriteSays}
 use Rattle.at_call_words.specs.Readings.{IsFoundInMemory}
 use Rattle.at_call_words.specs.Words.{One, Two}
 use Rattle.at_call_words.proofs.WordLemmas.{told_on}
@@ -27,13 +28,18 @@ abbrev pub SaidBy : List ℕ → List (List ℕ) → Type 0
 SaidBy word ws =
     Either (bytes_eq word (codes "zones")) (ws ≡ []) (
     Either (bytes_eq word (codes "setzones")) ((names : List (List ℕ)) × AllZip IsText ws names) (
-    Either (bytes_eq word (codes "ask")) ((node socket : ℕ) × (user bytes : List ℕ) × (wanted : ℕ) × (once : Bool) × (retries : ℕ) × AskSays ws node socket user bytes wanted once retries) (
-    Either (bytes_eq word (codes "answer")) ((node socket tid : ℕ) × (packets : List Packet) × AnswerSays ws node socket tid packets) (
+    Either (bytes_eq word (codes "ask"))
+    ((node socket : ℕ) × (user bytes : List ℕ) × (wanted : ℕ) × (once : Bool) × (retries : ℕ)
+    × AskSays ws node socket user bytes wanted once retries) (
+    Either (bytes_eq word (codes "answer"))
+    ((node socket tid : ℕ) × (packets : List Packet) × AnswerSays ws node socket tid packets) (
     Either (bytes_eq word (codes "pick")) ((zone : List ℕ) × One IsText ws zone) (
-    Either (bytes_eq word (codes "find")) ((object kind : List ℕ) × (place : Option (List ℕ)) × FindSays ws object kind place) (
+    Either (bytes_eq word (codes "find"))
+    ((object kind : List ℕ) × (place : Option (List ℕ)) × FindSays ws object kind place) (
     Either (bytes_eq word (codes "claim")) ((object kind : List ℕ) × (socket : ℕ) × SocketSays ws object kind socket) (
     Either (bytes_eq word (codes "finish")) ((id : ℕ) × One IsByte ws id) (
-    Either (bytes_eq word (codes "register")) ((object kind : List ℕ) × (socket : ℕ) × SocketSays ws object kind socket) (
+    Either (bytes_eq word (codes "register"))
+    ((object kind : List ℕ) × (socket : ℕ) × SocketSays ws object kind socket) (
     Either (bytes_eq word (codes "unregister")) ((object kind : List ℕ) × Two IsText IsText ws object kind) (
     Either (bytes_eq word (codes "open")) ((index : ℕ) × One IsCount ws index) (
     Either (bytes_eq word (codes "listen")) ((on : Bool) × One IsSwitch ws on) (
@@ -49,13 +55,17 @@ of_kind word known ws is said = subst (λ w. SaidBy w ws) (sym is) said
 pub kinds : {A : Type 0} (word : List ℕ) (ws : List (List ℕ)) (c : Call A) → SaysCall word ws c → SaidBy word ws
 kinds word ws call.Zones (is, said) = of_kind word (codes "zones") ws is said
 kinds word ws (call.SetZones names) (is, said) = of_kind word (codes "setzones") ws is (names, said)
-kinds word ws (call.Ask node socket user bytes wanted once retries) (is, said) = of_kind word (codes "ask") ws is (node, socket, user, bytes, wanted, once, retries, said)
-kinds word ws (call.Answer node socket tid packets) (is, said) = of_kind word (codes "answer") ws is (node, socket, tid, packets, said)
+kinds word ws (call.Ask node socket user bytes wanted once retries) (is, said) =
+    of_kind word (codes "ask") ws is (node, socket, user, bytes, wanted, once, retries, said)
+kinds word ws (call.Answer node socket tid packets) (is, said) =
+    of_kind word (codes "answer") ws is (node, socket, tid, packets, said)
 kinds word ws (call.Pick zone) (is, said) = of_kind word (codes "pick") ws is (zone, said)
 kinds word ws (call.Find object kind place) (is, said) = of_kind word (codes "find") ws is (object, kind, place, said)
-kinds word ws (call.Claim object kind socket) (is, said) = of_kind word (codes "claim") ws is (object, kind, socket, said)
+kinds word ws (call.Claim object kind socket) (is, said) =
+    of_kind word (codes "claim") ws is (object, kind, socket, said)
 kinds word ws (call.Finish id) (is, said) = of_kind word (codes "finish") ws is (id, said)
-kinds word ws (call.Register object kind socket) (is, said) = of_kind word (codes "register") ws is (object, kind, socket, said)
+kinds word ws (call.Register object kind socket) (is, said) =
+    of_kind word (codes "register") ws is (object, kind, socket, said)
 kinds word ws (call.Unregister object kind) (is, said) = of_kind word (codes "unregister") ws is (object, kind, said)
 kinds word ws (call.Open index) (is, said) = of_kind word (codes "open") ws is (index, said)
 kinds word ws (call.Listen on) (is, said) = of_kind word (codes "listen") ws is (on, said)
@@ -66,23 +76,31 @@ kinds word ws (call.Reset id) (is, said) = of_kind word (codes "reset") ws is (i
 kinds word ws (call.Close id) (is, said) = of_kind word (codes "close") ws is (id, said)
 
 -- a reader gives nothing, and the words say no call
-pub no_call : {A : Type 0} (o : Option (Call A)) (word : List ℕ) (ws : List (List ℕ)) → o ≡ None → ¬ SaidBy word ws → IsFound o (SaysCall word ws)
+pub no_call : {A : Type 0} (o : Option (Call A)) (word : List ℕ) (ws : List (List ℕ)) → o ≡ None → ¬ SaidBy word ws
+    → IsFound o (SaysCall word ws)
 no_call o word ws none nothing = rw none (λ c said. nothing (kinds word ws c said))
 
 -- a fault of a reader is told on, unless a growth was refused, and the words say no call
-pub call_told_on : {A S : Type 0} (P : S → Type 0) (q : Result S LineFault) (r : Result (Call A) LineFault) (fault : LineFault) (word : List ℕ) (ws : List (List ℕ)) → q ≡ Err fault → r ≡ Err fault → IsFoundInMemory q P
+pub call_told_on : {A S : Type 0} (P : S → Type 0) (q : Result S LineFault) (r : Result (Call A) LineFault)
+    (fault : LineFault) (word : List ℕ) (ws : List (List ℕ)) → q ≡ Err fault → r ≡ Err fault → IsFoundInMemory q P
     → (((s : S) → ¬ P s) → ¬ SaidBy word ws) → IsFoundInMemory r (SaysCall word ws)
-call_told_on P q r fault word ws was is nothing so = told_on P (SaysCall word ws) q r fault was is nothing (λ never c said. so never (kinds word ws c said))
+call_told_on P q r fault word ws was is nothing so = told_on P (SaysCall word ws) q r fault was is nothing
+    (λ never c said. so never (kinds word ws c said))
 
 -- a rule is broken, and the words say no call
-pub unlawful_call : {A : Type 0} (r : Result (Call A) LineFault) (fault : LineFault) (word : List ℕ) (ws : List (List ℕ)) → r ≡ Err fault → ¬ SaidBy word ws → IsFoundInMemory r (SaysCall word ws)
+pub unlawful_call : {A : Type 0} (r : Result (Call A) LineFault) (fault : LineFault) (word : List ℕ)
+    (ws : List (List ℕ)) → r ≡ Err fault → ¬ SaidBy word ws → IsFoundInMemory r (SaysCall word ws)
 unlawful_call r (Unlawful rule) word ws is nothing = rw is (λ c said. nothing (kinds word ws c said))
 unlawful_call r NoMemory word ws is nothing = rw is tt
 
 -- the words of an ask, where they are known
-pub ask_at : (ws : List (List ℕ)) (n s u d w m r : List ℕ) → ws ≡ n ∷ s ∷ u ∷ d ∷ w ∷ m ∷ r ∷ [] → (node socket : ℕ) (user bytes : List ℕ) (wanted : ℕ) (once : Bool) (retries : ℕ) → AskSays ws node socket user bytes wanted once retries
-    → IsNode n node × IsNode s socket × IsUser u user × IsHex d bytes × IsWanted w wanted × IsMode m once × IsByte r retries
-ask_at ws n s u d w m r are node socket user bytes wanted once retries (n', s', u', d', w', m', r', is, one, two, three, four, five, six, seven) =
+pub ask_at : (ws : List (List ℕ)) (n s u d w m r : List ℕ) → ws ≡ n ∷ s ∷ u ∷ d ∷ w ∷ m ∷ r ∷ []
+    → (node socket : ℕ) (user bytes : List ℕ) (wanted : ℕ) (once : Bool) (retries : ℕ)
+    → AskSays ws node socket user bytes wanted once retries
+    → IsNode n node × IsNode s socket × IsUser u user × IsHex d bytes × IsWanted w wanted × IsMode m once
+    × IsByte r retries
+ask_at ws n s u d w m r are node socket user bytes wanted once retries
+    (n', s', u', d', w', m', r', is, one, two, three, four, five, six, seven) =
     let same : n' ∷ s' ∷ u' ∷ d' ∷ w' ∷ m' ∷ r' ∷ [] ≡ n ∷ s ∷ u ∷ d ∷ w ∷ m ∷ r ∷ [] = sym is ∙ are in
     let en : n' ≡ n = cc in
     let es : s' ≡ s = cc in

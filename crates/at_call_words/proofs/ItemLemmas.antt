@@ -1,5 +1,7 @@
 -- What the items of a stream are spelled by, one after the other.
-use Rattle.std.proofs.Common.{◌≡◌, ◌<◌, ◌≤◌, ℕ, ◌+◌, ◌%◌, Bool, true, false, cond, inl, inr, filter, codes, List, [], ◌∷◌, ◌++◌, length, take, drop, map, Ok, refl, sym, ap, subst, ◌∙◌, append-nil, append_assoc, arith}
+use Rattle.std.proofs.Common.{◌≡◌, ◌<◌, ◌≤◌, ℕ, ◌+◌, ◌%◌, Bool, true, false, cond, inl, inr, filter, codes, List, []}
+use Rattle.std.proofs.Common.{◌∷◌, ◌++◌, length, take, drop, map, Ok, refl, sym, ap, subst, ◌∙◌, append-nil}
+use Rattle.std.proofs.Common.{append_assoc, arith}
 use Rattle.std.specs.Prelude.{◌==◌}
 use Rattle.std.proofs.lemmas.Bool.{eqb-true}
 use Rattle.std.proofs.lemmas.List.{nil_from_length}
@@ -15,9 +17,11 @@ use Rattle.std.specs.List.{slice_split}
 
 -- ---- words
 
-run_more : (ws : List (List ℕ)) (items run : List Item) (w : List ℕ) → AreItems ws items → IsRun w run → AreItems (ws ++ w ∷ []) (items ++ run)
+run_more : (ws : List (List ℕ)) (items run : List Item) (w : List ℕ) → AreItems ws items → IsRun w run
+    → AreItems (ws ++ w ∷ []) (items ++ run)
 run_more [] items run w are is = (run, [], is, ap (λ l. l ++ run) are ∙ sym (append-nil run), refl)
-run_more (v ∷ ws) items run w (first, rest, its, parts, are) is = (first, rest ++ run, its, ap (λ l. l ++ run) parts ∙ append_assoc first rest run, run_more ws rest run w are is)
+run_more (v ∷ ws) items run w (first, rest, its, parts, are) is =
+    (first, rest ++ run, its, ap (λ l. l ++ run) parts ∙ append_assoc first rest run, run_more ws rest run w are is)
 
 -- the words before these spell the items so far
 abbrev pub ItemsSoFar : List (List ℕ) → List (List ℕ) → List Item → Type 0
@@ -26,25 +30,32 @@ ItemsSoFar all rest items = (said : List (List ℕ)) × (all ≡ said ++ rest) �
 pub no_items : (all : List (List ℕ)) → ItemsSoFar all all []
 no_items all = ([], refl, refl)
 
-pub next_items : (all rest left : List (List ℕ)) (items more run : List Item) (word : List ℕ) → ItemsSoFar all rest items → rest ≡ word ∷ left → IsRun word run → more ≡ items ++ run → ItemsSoFar all left more
+pub next_items : (all rest left : List (List ℕ)) (items more run : List Item) (word : List ℕ)
+    → ItemsSoFar all rest items → rest ≡ word ∷ left → IsRun word run → more ≡ items ++ run → ItemsSoFar all left more
 next_items all rest left items more run word (said, parts, are) next is new = (
   said ++ word ∷ [],
   parts ∙ ap (λ l. said ++ l) next ∙ sym (append_assoc said (word ∷ []) left),
   subst (AreItems (said ++ word ∷ [])) (sym new) (run_more said items run word are is),
 )
 
-pub all_items : (all rest : List (List ℕ)) (items : List Item) → ItemsSoFar all rest items → rest ≡ [] → AreItems all items
-all_items all rest items (said, parts, are) none = subst (λ l. AreItems l items) (sym (parts ∙ ap (λ l. said ++ l) none ∙ append-nil said)) are
+pub all_items : (all rest : List (List ℕ)) (items : List Item) → ItemsSoFar all rest items → rest ≡ []
+    → AreItems all items
+all_items all rest items (said, parts, are) none =
+    subst (λ l. AreItems l items) (sym (parts ∙ ap (λ l. said ++ l) none ∙ append-nil said)) are
 
-no_run : (said left : List (List ℕ)) (word : List ℕ) (items : List Item) → ((run : List Item) → ¬ IsRun word run) → ¬ AreItems (said ++ word ∷ left) items
+no_run : (said left : List (List ℕ)) (word : List ℕ) (items : List Item) → ((run : List Item) → ¬ IsRun word run)
+    → ¬ AreItems (said ++ word ∷ left) items
 no_run [] left word items never (run, rest, is, parts, are) = never run is
 no_run (v ∷ said) left word items never (run, rest, is, parts, are) = no_run said left word rest never are
 
 -- if a word spells no run, all of them together spell no items
-pub one_lacks : (all rest left : List (List ℕ)) (things : List Item) (word : List ℕ) → ItemsSoFar all rest things → rest ≡ word ∷ left → ((run : List Item) → ¬ IsRun word run) → (items : List Item) → ¬ AreItems all items
-one_lacks all rest left things word (said, parts, are) next never items h = no_run said left word items never (subst (λ l. AreItems l items) (parts ∙ ap (λ l. said ++ l) next) h)
+pub one_lacks : (all rest left : List (List ℕ)) (things : List Item) (word : List ℕ) → ItemsSoFar all rest things
+    → rest ≡ word ∷ left → ((run : List Item) → ¬ IsRun word run) → (items : List Item) → ¬ AreItems all items
+one_lacks all rest left things word (said, parts, are) next never items h =
+    no_run said left word items never (subst (λ l. AreItems l items) (parts ∙ ap (λ l. said ++ l) next) h)
 
-kept_by : (b : Bool) (p : List ℕ → Bool) (x w : List ℕ) (xs ys : List (List ℕ)) → p x ≡ b → (filter p xs ≡ w ∷ ys → p w ≡ true) → cond b (x ∷ filter p xs) (filter p xs) ≡ w ∷ ys → p w ≡ true
+kept_by : (b : Bool) (p : List ℕ → Bool) (x w : List ℕ) (xs ys : List (List ℕ)) → p x ≡ b
+    → (filter p xs ≡ w ∷ ys → p w ≡ true) → cond b (x ∷ filter p xs) (filter p xs) ≡ w ∷ ys → p w ≡ true
 kept_by true p x w xs ys is later here = let same : x ≡ w = cc in sym (ap p same) ∙ is
 kept_by false p x w xs ys is later here = later here
 
@@ -58,7 +69,8 @@ word_has_bytes line [] left h = let bytes = kept has_bytes [] (slice_split is_sp
 word_has_bytes line (c ∷ word) left h = omega arith
 
 -- a word of neither kind that spells no bytes spells no run
-pub no_run_of : (word : List ℕ) → ¬ (word ≡ codes "end") → ¬ (word ≡ codes "-") → ((bytes : List ℕ) → ¬ (decode_of word ≡ Ok bytes)) → (run : List Item) → ¬ IsRun word run
+pub no_run_of : (word : List ℕ) → ¬ (word ≡ codes "end") → ¬ (word ≡ codes "-")
+    → ((bytes : List ℕ) → ¬ (decode_of word ≡ Ok bytes)) → (run : List Item) → ¬ IsRun word run
 no_run_of word no_end no_dash never run (inl (end, is)) = no_end end
 no_run_of word no_end no_dash never run (inr (bytes, inl (dash, none), is)) = no_dash dash
 no_run_of word no_end no_dash never run (inr (bytes, inr (some, decoded), is)) = never bytes decoded
@@ -70,7 +82,8 @@ digit_anywhere : (c i j v : ℕ) (o : Option ℕ) → digit_or_error c i o ≡ O
 digit_anywhere c i j v (Some w) h = h
 digit_anywhere c i j v None h = absurd (cc)
 
-then_ok : {X Y : Type 0} (r : Result X FromHexError) (f : X → Result Y FromHexError) (y : Y) → (r >>= f) ≡ Ok y → (x : X) × (r ≡ Ok x) × (f x ≡ Ok y)
+then_ok : {X Y : Type 0} (r : Result X FromHexError) (f : X → Result Y FromHexError) (y : Y) → (r >>= f) ≡ Ok y
+    → (x : X) × (r ≡ Ok x) × (f x ≡ Ok y)
 then_ok (Ok x) f y h = (x, refl, h)
 then_ok (Err e) f y h = absurd (cc)
 
@@ -78,7 +91,11 @@ pair_anywhere : (a b i j v : ℕ) → pair_value a b i ≡ Ok v → pair_value a
 pair_anywhere a b i j v h =
     let (high, is_high, low) = then_ok (digit_or_error a i (hex_digit_value a)) _ v h in
     let (l, is_low, value) = then_ok (digit_or_error b (i + 1) (hex_digit_value b)) _ v low in
-    rw (digit_anywhere a i j high (hex_digit_value a) is_high, digit_anywhere b (i + 1) (j + 1) l (hex_digit_value b) is_low) value
+    rw (
+      digit_anywhere a i j high (hex_digit_value a) is_high,
+      digit_anywhere b (i + 1) (j + 1) l
+          (hex_digit_value b) is_low,
+    ) value
 
 pairs_anywhere : (i j : ℕ) (text bytes : List ℕ) → decode_pairs i text ≡ Ok bytes → decode_pairs j text ≡ Ok bytes
 unfolding decode_pairs
@@ -90,7 +107,8 @@ pairs_anywhere i j (a ∷ b ∷ text) bytes h =
     rw (pair_anywhere a b i j byte is_byte, pairs_anywhere (i + 2) (j + 2) text more are) whole
 
 -- two digits more in front
-decode_next : (text pair after more : List ℕ) (byte : ℕ) → pair ≡ take 2 text → after ≡ drop 2 text → decode_of pair ≡ Ok (byte ∷ []) → decode_of after ≡ Ok more → decode_of text ≡ Ok (byte ∷ more)
+decode_next : (text pair after more : List ℕ) (byte : ℕ) → pair ≡ take 2 text → after ≡ drop 2 text → decode_of pair
+    ≡ Ok (byte ∷ []) → decode_of after ≡ Ok more → decode_of text ≡ Ok (byte ∷ more)
 unfolding decode_pairs
 decode_next [] pair after more byte front back first rest = absurd (cc)
 decode_next (a ∷ []) pair after more byte front back first rest = absurd (cc)
@@ -111,7 +129,9 @@ unfolding decode_pairs
 one_pair a b byte is = rw is refl
 
 -- if pairs of digits are bytes, the first pair is one, and the pairs after it are bytes
-pub decode_split : (text pair after all : List ℕ) → pair ≡ take 2 text → after ≡ drop 2 text → 2 ≤ length text → decode_of text ≡ Ok all → (byte : ℕ) × (more : List ℕ) × (decode_of pair ≡ Ok (byte ∷ [])) × (decode_of after ≡ Ok more)
+pub decode_split : (text pair after all : List ℕ) → pair ≡ take 2 text → after ≡ drop 2 text → 2 ≤ length text
+    → decode_of text ≡ Ok all → (byte : ℕ) × (more : List ℕ) × (decode_of pair ≡ Ok (byte ∷ []))
+    × (decode_of after ≡ Ok more)
 unfolding decode_pairs
 decode_split [] pair after all front back two h = absurd (omega (arith, two))
 decode_split (a ∷ []) pair after all front back two h = absurd (omega (arith, two))
@@ -129,7 +149,8 @@ decode_split (a ∷ b ∷ text) pair after all front back two h =
 -- the digits before the rest spell the bytes so far, which stand behind what was there before
 abbrev pub BytesSoFar : List ℕ → List ℕ → List Item → List Item → Type 0
 BytesSoFar digits rest before items =
-    ((bytes : List ℕ) × (items ≡ before ++ map Byte bytes) × ((more : List ℕ) → decode_of rest ≡ Ok more → decode_of digits ≡ Ok (bytes ++ more)))
+    ((bytes : List ℕ) × (items ≡ before ++ map Byte bytes)
+    × ((more : List ℕ) → decode_of rest ≡ Ok more → decode_of digits ≡ Ok (bytes ++ more)))
     × ((all : List ℕ) → decode_of digits ≡ Ok all → (more : List ℕ) × (decode_of rest ≡ Ok more))
 
 pub no_bytes : (digits : List ℕ) (before : List Item) → BytesSoFar digits digits before before
@@ -139,23 +160,31 @@ map_next : (bytes : List ℕ) (byte : ℕ) → map Byte bytes ++ Byte byte ∷ [
 map_next [] byte = refl
 map_next (b ∷ bytes) byte = ap (λ l. Byte b ∷ l) (map_next bytes byte)
 
-pub next_bytes : (digits rest pair after : List ℕ) (before items new : List Item) (byte : ℕ) → BytesSoFar digits rest before items → pair ≡ take 2 rest → after ≡ drop 2 rest → 2 ≤ length rest → decode_of pair ≡ Ok (byte ∷ [])
+pub next_bytes : (digits rest pair after : List ℕ) (before items new : List Item) (byte : ℕ)
+    → BytesSoFar digits rest before items → pair ≡ take 2 rest → after ≡ drop 2 rest → 2 ≤ length rest → decode_of pair
+    ≡ Ok (byte ∷ [])
     → new ≡ items ++ Byte byte ∷ [] → BytesSoFar digits after before new
 next_bytes digits rest pair after before items new byte ((bytes, are, follow), only) front back two is more_is = (
   (
     bytes ++ byte ∷ [],
-    more_is ∙ ap (λ l. l ++ Byte byte ∷ []) are ∙ append_assoc before (map Byte bytes) (Byte byte ∷ []) ∙ ap (λ l. before ++ l) (map_next bytes byte),
-    λ more h. subst (λ l. decode_of digits ≡ Ok l) (sym (append_assoc bytes (byte ∷ []) more)) (follow (byte ∷ more) (decode_next rest pair after more byte front back is h)),
+    more_is ∙ ap (λ l. l ++ Byte byte ∷ []) are ∙ append_assoc before (map Byte bytes) (Byte byte ∷ [])
+        ∙ ap (λ l. before ++ l) (map_next bytes byte),
+    λ more h. subst (λ l. decode_of digits ≡ Ok l) (sym (append_assoc bytes (byte ∷ []) more))
+        (follow (byte ∷ more) (decode_next rest pair after more byte front back is h)),
   ),
-  λ all h. let (more, left) = only all h in let (b, later, first, behind) = decode_split rest pair after more front back two left in (later, behind),
+  λ all h. let (more, left) = only all h in let (b, later, first, behind) =
+      decode_split rest pair after more front back two left in (later, behind),
 )
 
-pub all_bytes : (digits rest : List ℕ) (before items : List Item) → BytesSoFar digits rest before items → rest ≡ [] → (bytes : List ℕ) × (decode_of digits ≡ Ok bytes) × (items ≡ before ++ map Byte bytes)
+pub all_bytes : (digits rest : List ℕ) (before items : List Item) → BytesSoFar digits rest before items → rest ≡ []
+    → (bytes : List ℕ) × (decode_of digits ≡ Ok bytes) × (items ≡ before ++ map Byte bytes)
 unfolding decode_pairs
-all_bytes digits rest before items ((bytes, are, follow), only) none = (bytes, subst (λ l. decode_of digits ≡ Ok l) (append-nil bytes) (follow [] (ap decode_of none)), are)
+all_bytes digits rest before items ((bytes, are, follow), only) none =
+    (bytes, subst (λ l. decode_of digits ≡ Ok l) (append-nil bytes) (follow [] (ap decode_of none)), are)
 
 -- a pair that is no byte
-pub bad_pair : (digits rest pair after : List ℕ) (before items : List Item) → BytesSoFar digits rest before items → pair ≡ take 2 rest → after ≡ drop 2 rest → 2 ≤ length rest → ((byte : ℕ) → ¬ (decode_of pair ≡ Ok (byte ∷ [])))
+pub bad_pair : (digits rest pair after : List ℕ) (before items : List Item) → BytesSoFar digits rest before items
+    → pair ≡ take 2 rest → after ≡ drop 2 rest → 2 ≤ length rest → ((byte : ℕ) → ¬ (decode_of pair ≡ Ok (byte ∷ [])))
     → (bytes : List ℕ) → ¬ (decode_of digits ≡ Ok bytes)
 bad_pair digits rest pair after before items (so_far, only) front back two never bytes h =
     let (more, left) = only bytes h in
@@ -163,7 +192,8 @@ bad_pair digits rest pair after before items (so_far, only) front back two never
     never byte first
 
 -- a digit without another
-pub odd_digit : (digits rest : List ℕ) (before items : List Item) → BytesSoFar digits rest before items → length rest < 2 → ¬ (length rest ≡ 0) → (bytes : List ℕ) → ¬ (decode_of digits ≡ Ok bytes)
+pub odd_digit : (digits rest : List ℕ) (before items : List Item) → BytesSoFar digits rest before items
+    → length rest < 2 → ¬ (length rest ≡ 0) → (bytes : List ℕ) → ¬ (decode_of digits ≡ Ok bytes)
 odd_digit digits rest before items (so_far, only) few some bytes h =
     let (more, left) = only bytes h in
     let (even, each, twice, are) = decode_of-ok rest more left in

@@ -11,10 +11,9 @@ use crate::name_words::{claim, find, finish, register, unregister};
 use crate::session_words::{open, pick};
 use crate::stream_words::{close, connect, listen, read, reset, write};
 use crate::table_words::set_zones;
-use crate::words::is_word;
 use at_event::Call;
 use at_faults::{LineFault, Rule};
-use at_words::Words;
+use at_words::{Words, is_word};
 use std::alloc::Allocator;
 
 /// Reads a call: its word, and what the words after it say. Unlawful if the words say no call.

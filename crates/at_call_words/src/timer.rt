@@ -5,10 +5,10 @@ ghost use Rattle.at_call_words.specs.Timers.{AreTimer, IsOwn, SaysTimer};
 ghost use Rattle.at_words.specs.Readings.{IsFound};
 ghost use Rattle.at_words.specs.Words.{words_of};
 
-use crate::words::{is_word, one, three};
+use crate::words::{one, three};
 use at_event::Timer;
 use at_faults::{LineFault, Rule};
-use at_words::{Words, byte, node_number, two_bytes};
+use at_words::{Words, byte, is_word, node_number, two_bytes};
 
 /// Reads a timer: its word, and what the words after it say. Unlawful if the words say no timer.
 pub fn timer_of(mut words: Words<'_>) -> Result<Timer, LineFault>

@@ -33,10 +33,3 @@ pub(crate) fn three<'a>(mut words: Words<'a>) -> Option<(&'a [u8], &'a [u8], &'a
     words.end()?;
     Some((first, second, third))
 }
-
-/// Whether a word is a known one.
-pub(crate) fn is_word(word: &[u8], known: &[u8]) -> bool
-    ensures { result ≡ true ↔ word.now ≡ known.now }
-{
-    word == known
-}

@@ -1,7 +1,13 @@
 pub mod Alls
+pub mod BitLemmas
+pub mod CountLemmas
+pub mod DistinctLemmas
 mod MarkLemmas
+pub mod NumberLemmas
 pub mod Octets
 pub mod OutboxLemmas
+pub mod PartLemmas
+pub mod PostLemmas
 mod Readings
 mod SumLemmas
 pub mod TableLemmas

@@ -1,5 +1,6 @@
 -- Where each datagram of a list lies.
-use Rattle.std.proofs.Common.{◌≡◌, ℕ, zero, suc, ◌+◌, ◌-◌, ◌<◌, ◌≤◌, List, [], ◌∷◌, ◌++◌, length, take, drop, refl, sym, ap, subst, ◌∙◌, append_assoc, arith, Some, None, ◌⊎◌, inl, inr, get_or}
+use Rattle.std.proofs.Common.{◌≡◌, ℕ, zero, suc, ◌+◌, ◌-◌, ◌<◌, ◌≤◌, List, [], ◌∷◌, ◌++◌, length, take, drop, refl, sym}
+use Rattle.std.proofs.Common.{ap, subst, ◌∙◌, append_assoc, arith, Some, None, ◌⊎◌, inl, inr, get_or}
 use Rattle.std.specs.Prelude.{slice_range, slice_get}
 use Rattle.std.specs.Option.{option_map_or}
 use Rattle.std.proofs.lemmas.Option.{slice_get_within, slice_get_cases}
@@ -17,7 +18,8 @@ AreMarks-le : (start : ℕ) (ms : List Mark) (len : ℕ) → AreMarks start ms l
 AreMarks-le start [] len h = omega arith
 AreMarks-le start (m ∷ ms) len h = omega (arith, AreMarks-le m.end ms len h.1)
 
-AreMarks-push : (start : ℕ) (ms : List Mark) (len : ℕ) (m : Mark) → AreMarks start ms len → len ≤ m.end → AreMarks start (ms ++ m ∷ []) m.end
+AreMarks-push : (start : ℕ) (ms : List Mark) (len : ℕ) (m : Mark) → AreMarks start ms len → len ≤ m.end
+    → AreMarks start (ms ++ m ∷ []) m.end
 AreMarks-push start [] len m h le = (omega arith, refl)
 AreMarks-push start (x ∷ ms) len m h le = (h.0, AreMarks-push x.end ms len m h.1 le)
 
@@ -26,12 +28,15 @@ last_piece bytes new =
     ap (λ n. take (n - length bytes) (drop (length bytes) (bytes ++ new))) (sym (length-append bytes new))
     ∙ take_rest (bytes ++ new) (length bytes) ∙ drop-append_seam bytes new
 
-piece_stays : (start end : ℕ) (bytes new : List ℕ) → start ≤ end → end ≤ length bytes → slice_range (bytes ++ new) start end ≡ slice_range bytes start end
+piece_stays : (start end : ℕ) (bytes new : List ℕ) → start ≤ end → end ≤ length bytes
+    → slice_range (bytes ++ new) start end ≡ slice_range bytes start end
 piece_stays start end bytes new le fits =
-    rw (drop-append-le start bytes new (omega arith)) (take-append-le (end - start) (drop start bytes) new (omega (arith, length-drop start bytes)))
+    rw (drop-append-le start bytes new (omega arith))
+    (take-append-le (end - start) (drop start bytes) new (omega (arith, length-drop start bytes)))
 
 pieces-push : (start : ℕ) (ms : List Mark) (bytes new : List ℕ) (node : ℕ) → AreMarks start ms (length bytes) →
-    pieces start (ms ++ record { end = length bytes + length new; node = node } ∷ []) (bytes ++ new) ≡ pieces start ms bytes ++ record { node = node; bytes = new } ∷ []
+    pieces start (ms ++ record { end = length bytes + length new; node = node } ∷ []) (bytes ++ new)
+    ≡ pieces start ms bytes ++ record { node = node; bytes = new } ∷ []
 pieces-push start [] bytes new node h = rw h (ap (λ p. record { node = node; bytes = p } ∷ []) (last_piece bytes new))
 pieces-push start (m ∷ ms) bytes new node h =
     let first = piece_stays start m.end bytes new h.0 (AreMarks-le m.end ms (length bytes) h.1) in
@@ -39,16 +44,22 @@ pieces-push start (m ∷ ms) bytes new node h =
 
 -- ---- one more datagram, of two parts
 
-pub marks_after : (ms ms' : List Mark) (bytes bytes' bytes'' front back : List ℕ) (node : ℕ) → AreMarks 0 ms (length bytes) → bytes' ≡ bytes ++ front → bytes'' ≡ bytes' ++ back →
+pub marks_after : (ms ms' : List Mark) (bytes bytes' bytes'' front back : List ℕ) (node : ℕ)
+    → AreMarks 0 ms (length bytes) → bytes' ≡ bytes ++ front → bytes'' ≡ bytes' ++ back →
     ms' ≡ ms ++ record { end = length bytes''; node = node } ∷ [] → AreMarks 0 ms' (length bytes'')
 marks_after ms ms' bytes bytes' bytes'' front back node h first second last =
-    rw last (AreMarks-push 0 ms (length bytes) (record { end = length bytes''; node = node }) h (omega (arith, ap length first, ap length second, length-append bytes front, length-append bytes' back)))
+    rw last (AreMarks-push 0 ms (length bytes) (record { end = length bytes''; node = node }) h
+    (omega (arith, ap length first, ap length second, length-append bytes front, length-append bytes' back)))
 
-pub pieces_after : (ms ms' : List Mark) (bytes bytes' bytes'' front back : List ℕ) (node : ℕ) → AreMarks 0 ms (length bytes) → bytes' ≡ bytes ++ front → bytes'' ≡ bytes' ++ back →
-    ms' ≡ ms ++ record { end = length bytes''; node = node } ∷ [] → pieces 0 ms' bytes'' ≡ pieces 0 ms bytes ++ record { node = node; bytes = front ++ back } ∷ []
+pub pieces_after : (ms ms' : List Mark) (bytes bytes' bytes'' front back : List ℕ) (node : ℕ)
+    → AreMarks 0 ms (length bytes) → bytes' ≡ bytes ++ front → bytes'' ≡ bytes' ++ back →
+    ms' ≡ ms ++ record { end = length bytes''; node = node } ∷ [] → pieces 0 ms' bytes''
+    ≡ pieces 0 ms bytes ++ record { node = node; bytes = front ++ back } ∷ []
 pieces_after ms ms' bytes bytes' bytes'' front back node h first second last =
-    let whole : bytes'' ≡ bytes ++ (front ++ back) = second ∙ ap (λ b. b ++ back) first ∙ append_assoc bytes front back in
-    let len : length bytes'' ≡ length bytes + length (front ++ back) = ap length whole ∙ length-append bytes (front ++ back) in
+    let whole : bytes'' ≡ bytes ++ (front ++ back) = second ∙ ap (λ b. b ++ back) first
+    ∙ append_assoc bytes front back in
+    let len : length bytes'' ≡ length bytes + length (front ++ back) = ap length whole
+    ∙ length-append bytes (front ++ back) in
     rw (last, len, whole) (pieces-push 0 ms bytes (front ++ back) node h)
 
 -- ---- the datagram at an index
@@ -62,17 +73,21 @@ pub record Lies (ms : List Mark) (bytes : List ℕ) (from i : ℕ) (m : Mark) : 
   pub item : slice_get (pieces from ms bytes) i ≡ Some (record { node = m.node; bytes = slice_range bytes start m.end })
 
 -- the start does not matter past the first mark
-other_start : (from from' : ℕ) (ms : List Mark) (i : ℕ) → i < length ms → option_map_or (λ (m : Mark). m.end) (slice_get ms i) from ≡ option_map_or (λ (m : Mark). m.end) (slice_get ms i) from'
+other_start : (from from' : ℕ) (ms : List Mark) (i : ℕ) → i < length ms
+    → option_map_or (λ (m : Mark). m.end) (slice_get ms i) from
+    ≡ option_map_or (λ (m : Mark). m.end) (slice_get ms i) from'
 other_start from from' [] i lt = absurd (omega arith)
 other_start from from' (m ∷ ms) zero lt = refl
 other_start from from' (m ∷ ms) (suc i) lt = other_start from from' ms i (omega arith)
 
-next_start : (from : ℕ) (x : Mark) (ms : List Mark) (i : ℕ) → i < length ms → start_at from (x ∷ ms) (suc i) ≡ start_at x.end ms i
+next_start : (from : ℕ) (x : Mark) (ms : List Mark) (i : ℕ) → i < length ms → start_at from (x ∷ ms) (suc i)
+    ≡ start_at x.end ms i
 next_start from x ms zero lt = refl
 next_start from x [] (suc i) lt = absurd (omega arith)
 next_start from x (y ∷ ms) (suc i) lt = other_start from x.end (y ∷ ms) i (omega arith)
 
-pub lies : (from : ℕ) (ms : List Mark) (bytes : List ℕ) (i : ℕ) (m : Mark) → AreMarks from ms (length bytes) → slice_get ms i ≡ Some m → Lies ms bytes from i m
+pub lies : (from : ℕ) (ms : List Mark) (bytes : List ℕ) (i : ℕ) (m : Mark) → AreMarks from ms (length bytes)
+    → slice_get ms i ≡ Some m → Lies ms bytes from i m
 lies from [] bytes i m h at = absurd (cc)
 lies from (x ∷ ms) bytes zero m h at =
     let same : x ≡ m = cc in
@@ -95,9 +110,11 @@ lies from (x ∷ ms) bytes (suc i) m h at =
     }
 
 -- the same for a list of these pieces
-pub lies_in : (items : List Posted) (ms : List Mark) (bytes : List ℕ) (i : ℕ) → pieces 0 ms bytes ≡ items → AreMarks 0 ms (length bytes) → i < length items → (m : Mark) × (slice_get ms i ≡ Some m) × Lies ms bytes 0 i m
+pub lies_in : (items : List Posted) (ms : List Mark) (bytes : List ℕ) (i : ℕ) → pieces 0 ms bytes ≡ items
+    → AreMarks 0 ms (length bytes) → i < length items → (m : Mark) × (slice_get ms i ≡ Some m) × Lies ms bytes 0 i m
 lies_in items ms bytes i is h lt = go (slice_get_cases ms i).1
   where
-    go : ((m : Mark) × (i < length ms) × (slice_get ms i ≡ Some m) × (get_or ms i m ≡ m)) ⊎ ((length ms ≤ i) × (slice_get ms i ≡ None)) → (m : Mark) × (slice_get ms i ≡ Some m) × Lies ms bytes 0 i m
+    go : ((m : Mark) × (i < length ms) × (slice_get ms i ≡ Some m) × (get_or ms i m ≡ m))
+        ⊎ ((length ms ≤ i) × (slice_get ms i ≡ None)) → (m : Mark) × (slice_get ms i ≡ Some m) × Lies ms bytes 0 i m
     go (inl here) = (here.0, here.2, lies 0 ms bytes i here.0 h here.2)
     go (inr past) = absurd (omega (arith, past.0, length-pieces 0 ms bytes, ap (length {A = Posted}) is))

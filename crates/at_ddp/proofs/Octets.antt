@@ -1,5 +1,6 @@
 -- Bytes, 16-bit numbers, parts of lists, and addresses: lemmas for every crate.
-use Rattle.std.proofs.Common.{◌≡◌, ℕ, ◌+◌, ◌-◌, ◌*◌, ◌/◌, ◌%◌, ◌^◌, ◌<◌, List, [], ◌∷◌, ◌++◌, length, get_or, take, drop, true, refl, ap, ◌∙◌, arith}
+use Rattle.std.proofs.Common.{◌≡◌, ℕ, ◌+◌, ◌-◌, ◌*◌, ◌/◌, ◌%◌, ◌^◌, ◌<◌, List, [], ◌∷◌, ◌++◌, length, get_or, take}
+use Rattle.std.proofs.Common.{drop, true, refl, ap, ◌∙◌, arith}
 use Rattle.std.specs.List.{All}
 use Rattle.std.proofs.lemmas.List.{get_or-drop, take_rest}
 use Rattle.std.proofs.lemmas.List.Elements.{All-from_get_or}
@@ -24,10 +25,10 @@ low_byte a b hb = omega arith
 pub same_number : (m n : ℕ) → m < 2 ^ 16 → n < 2 ^ 16 → m / 256 % 256 ≡ n / 256 % 256 → m % 256 ≡ n % 256 → m ≡ n
 same_number m n hm hn high low = omega arith
 
-head_of : (a b : ℕ) (xs ys : List ℕ) → a ∷ xs ≡ b ∷ ys → a ≡ b
+pub head_of : {X : Type 0} (a b : X) (xs ys : List X) → a ∷ xs ≡ b ∷ ys → a ≡ b
 head_of a b xs ys e = cc
 
-tail_of : (a b : ℕ) (xs ys : List ℕ) → a ∷ xs ≡ b ∷ ys → xs ≡ ys
+pub tail_of : {X : Type 0} (a b : X) (xs ys : List X) → a ∷ xs ≡ b ∷ ys → xs ≡ ys
 tail_of a b xs ys e = cc
 
 -- if two lists are equal and their first parts have the same length, the parts are equal
@@ -42,7 +43,8 @@ append_parts (m ∷ ms) (n ∷ ns) x y len e =
     (cc, tails.1)
 
 -- the number that `read_u16` returns at a place
-pub number_in : (i : ℕ) (input : List ℕ) (n : ℕ) → n ≡ big_number 2 (take (length input - i) (drop i input)) → n ≡ 256 * get_or input i 0 + get_or input (i + 1) 0
+pub number_in : (i : ℕ) (input : List ℕ) (n : ℕ) → n ≡ big_number 2 (take (length input - i) (drop i input)) → n
+    ≡ 256 * get_or input i 0 + get_or input (i + 1) 0
 number_in i input n e =
     let first : get_or (drop i input) 0 0 ≡ get_or input i 0 = rw (get_or-drop i input 0 0, add-zero i) refl in
     let second : get_or (drop i input) 1 0 ≡ get_or input (i + 1) 0 = get_or-drop i input 1 0 in
@@ -58,11 +60,16 @@ pub same_address-true : (a b : Address) → same_address a b ≡ true → a ≡ 
 same_address-true a b h =
     let outer = and_parts ((a.net == b.net) && (a.node == b.node)) (a.socket == b.socket) h in
     let inner = and_parts (a.net == b.net) (a.node == b.node) outer.0 in
-    λ i. record { net = eqb-true a.net b.net inner.0 i; node = eqb-true a.node b.node inner.1 i; socket = eqb-true a.socket b.socket outer.1 i }
+    λ i. record {
+      net = eqb-true a.net b.net inner.0 i;
+      node = eqb-true a.node b.node inner.1 i;
+      socket = eqb-true a.socket b.socket outer.1 i;
+    }
 
 -- a number of an address: both are the same
 pub same_both : (a b : Address) (m n : ℕ) → (same_address a b && (m == n)) ≡ true → (a ≡ b) × (m ≡ n)
-same_both a b m n h = let both = and_parts (same_address a b) (m == n) h in (same_address-true a b both.0, eqb-true m n both.1)
+same_both a b m n h = let both = and_parts (same_address a b) (m == n) h in
+    (same_address-true a b both.0, eqb-true m n both.1)
 
 pub same_address_itself : (a : Address) → same_address a a ≡ true
 same_address_itself a = rw (eq-eqb a.net a.net refl, eq-eqb a.node a.node refl, eq-eqb a.socket a.socket refl) refl

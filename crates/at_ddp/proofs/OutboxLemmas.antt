@@ -8,9 +8,11 @@ use Rattle.at_ddp.specs.declared.address.Address.{Address}
 pub sends_nothing : (o : Outbox) → Sends o o []
 sends_nothing o = record { items = sym (append-nil o.items); from = refl; kind = refl }
 
-pub sends_later : (before between after : Outbox) (sent : List (Address × List ℕ)) → Sends before between [] → Sends between after sent → Sends before after sent
+pub sends_later : (before between after : Outbox) (sent : List (Address × List ℕ)) → Sends before between []
+    → Sends between after sent → Sends before after sent
 sends_later before between after sent none some = record {
-  items = some.items ∙ (λ i. (none.items ∙ append-nil before.items) i ++ map (finished (none.from i) (none.kind i)) sent);
+  items = some.items ∙ (λ i. (none.items ∙ append-nil before.items) i ++ map
+      (finished (none.from i) (none.kind i)) sent);
   from = some.from ∙ none.from;
   kind = some.kind ∙ none.kind;
 }

@@ -6,7 +6,8 @@ use Rattle.std.proofs.lemmas.Bool.Decides.{nat_tests}
 use Rattle.at_ddp.specs.Sum.{added, written_sum, sum_of}
 
 added-lt : (sum byte : ℕ) → added sum byte < 2 ^ 16
-added-lt sum byte = or_of_16 ((sum + byte) % 65536 * 2 % 2 ^ 16) ((sum + byte) % 65536 / 2 ^ 15) (omega arith) (omega arith)
+added-lt sum byte = or_of_16 ((sum + byte) % 65536 * 2 % 2 ^ 16) ((sum + byte) % 65536 / 2 ^ 15) (omega arith)
+    (omega arith)
 
 fold-lt : (sum : ℕ) (bytes : List ℕ) → sum < 2 ^ 16 → fold added sum bytes < 2 ^ 16
 fold-lt sum [] h = h

@@ -1,5 +1,6 @@
 -- The place of the first entry that passes a test.
-use Rattle.std.proofs.Common.{◌≡◌, ℕ, suc, ◌+◌, ◌<◌, Bool, true, false, cond, List, [], ◌∷◌, length, get_or, set, Option, Some, None, IsSome, refl, sym, ap, subst, ◌∙◌, arith}
+use Rattle.std.proofs.Common.{◌≡◌, ℕ, suc, ◌+◌, ◌<◌, Bool, true, false, cond, List, [], ◌∷◌, length, get_or, set}
+use Rattle.std.proofs.Common.{Option, Some, None, IsSome, refl, sym, ap, subst, ◌∙◌, arith}
 use Rattle.std.specs.Prelude.{find, remove}
 use Rattle.std.specs.List.{position_from}
 use Rattle.at_ddp.specs.Tables.{replaced, without_first}
@@ -14,7 +15,8 @@ pub record Found {X : Type 0} (p : X → Bool) (xs : List X) (i : ℕ) : Type 0 
   pub set_is : (y : X) → replaced p y xs ≡ set xs i y
   pub gone_is : without_first p xs ≡ remove xs i
 
-found_next : {X : Type 0} (p : X → Bool) (x : X) (xs : List X) (i : ℕ) → p x ≡ false → Found p xs i → Found p (x ∷ xs) (suc i)
+found_next : {X : Type 0} (p : X → Bool) (x : X) (xs : List X) (i : ℕ) → p x ≡ false → Found p xs i
+    → Found p (x ∷ xs) (suc i)
 found_next p x xs i misses f = record {
   entry = f.entry;
   passes = f.passes;
@@ -36,11 +38,13 @@ found_here p x xs hits = record {
   gone_is = rw hits refl;
 }
 
-found_from : {X : Type 0} (p : X → Bool) (from : ℕ) (xs : List X) (i : ℕ) → position_from p from xs ≡ Some i → (j : ℕ) × (i ≡ from + j) × Found p xs j
+found_from : {X : Type 0} (p : X → Bool) (from : ℕ) (xs : List X) (i : ℕ) → position_from p from xs ≡ Some i → (j : ℕ)
+    × (i ≡ from + j) × Found p xs j
 found_from p from [] i h = absurd (cc)
 found_from {X} p from (x ∷ xs) i h = go (λ g. found_from p (from + 1) xs i g) (p x) refl h
   where
-    go : (position_from p (from + 1) xs ≡ Some i → (j : ℕ) × (i ≡ from + 1 + j) × Found p xs j) → (b : Bool) → p x ≡ b → cond b (Some from) (position_from p (from + 1) xs) ≡ Some i → (j : ℕ) × (i ≡ from + j) × Found p (x ∷ xs) j
+    go : (position_from p (from + 1) xs ≡ Some i → (j : ℕ) × (i ≡ from + 1 + j) × Found p xs j) → (b : Bool) → p x ≡ b
+        → cond b (Some from) (position_from p (from + 1) xs) ≡ Some i → (j : ℕ) × (i ≡ from + j) × Found p (x ∷ xs) j
     go ih true is g = let same : from ≡ i = cc in (0, omega arith, found_here p x xs is)
     go ih false is g = let rest = ih g in (suc rest.0, omega (arith, rest.1), found_next p x xs rest.0 is rest.2)
 
@@ -54,12 +58,14 @@ pub not_found : {X : Type 0} (p : X → Bool) (from : ℕ) (xs : List X) → pos
 not_found p from [] h = refl
 not_found p from (x ∷ xs) h = go (λ g. not_found p (from + 1) xs g) (p x) refl h
   where
-    go : (position_from p (from + 1) xs ≡ None → find p xs ≡ None) → (b : Bool) → p x ≡ b → cond b (Some from) (position_from p (from + 1) xs) ≡ None → find p (x ∷ xs) ≡ None
+    go : (position_from p (from + 1) xs ≡ None → find p xs ≡ None) → (b : Bool) → p x ≡ b
+        → cond b (Some from) (position_from p (from + 1) xs) ≡ None → find p (x ∷ xs) ≡ None
     go ih true is g = absurd (cc)
     go ih false is g = rw is (ih g)
 
 -- the same for the result of a search over a copy of the list
-pub found_by : {X : Type 0} (p : X → Bool) (xs given : List X) (r : Option ℕ) (i : ℕ) → given ≡ xs → r ≡ position_from p 0 given → r ≡ Some i → Found p xs i
+pub found_by : {X : Type 0} (p : X → Bool) (xs given : List X) (r : Option ℕ) (i : ℕ) → given ≡ xs → r
+    ≡ position_from p 0 given → r ≡ Some i → Found p xs i
 found_by p xs given r i same is some = found p xs i (ap (position_from p 0) (sym same) ∙ sym is ∙ some)
 
 -- without an entry that passes, nothing is taken away
@@ -67,7 +73,8 @@ pub without_none : {X : Type 0} (p : X → Bool) (xs : List X) → find p xs ≡
 without_none p [] h = refl
 without_none p (x ∷ xs) h = go (λ g. without_none p xs g) (p x) refl h
   where
-    go : (find p xs ≡ None → without_first p xs ≡ xs) → (b : Bool) → p x ≡ b → cond b (Some x) (find p xs) ≡ None → without_first p (x ∷ xs) ≡ x ∷ xs
+    go : (find p xs ≡ None → without_first p xs ≡ xs) → (b : Bool) → p x ≡ b → cond b (Some x) (find p xs) ≡ None
+        → without_first p (x ∷ xs) ≡ x ∷ xs
     go ih true is g = absurd (cc)
     go ih false is g = rw is (ap (λ l. x ∷ l) (ih g))
 
@@ -76,13 +83,16 @@ pub replaced_none : {X : Type 0} (p : X → Bool) (y : X) (xs : List X) → find
 replaced_none p y [] h = refl
 replaced_none p y (x ∷ xs) h = go (λ g. replaced_none p y xs g) (p x) refl h
   where
-    go : (find p xs ≡ None → replaced p y xs ≡ xs) → (b : Bool) → p x ≡ b → cond b (Some x) (find p xs) ≡ None → replaced p y (x ∷ xs) ≡ x ∷ xs
+    go : (find p xs ≡ None → replaced p y xs ≡ xs) → (b : Bool) → p x ≡ b → cond b (Some x) (find p xs) ≡ None
+        → replaced p y (x ∷ xs) ≡ x ∷ xs
     go ih true is g = absurd (cc)
     go ih false is g = rw is (ap (λ l. x ∷ l) (ih g))
 
-pub none_by : {X : Type 0} (p : X → Bool) (xs given : List X) (r : Option ℕ) → given ≡ xs → r ≡ position_from p 0 given → r ≡ None → find p xs ≡ None
+pub none_by : {X : Type 0} (p : X → Bool) (xs given : List X) (r : Option ℕ) → given ≡ xs → r ≡ position_from p 0 given
+    → r ≡ None → find p xs ≡ None
 none_by p xs given r same is none = not_found p 0 xs (ap (position_from p 0) (sym same) ∙ sym is ∙ none)
 
-pub some_by : {X : Type 0} (p : X → Bool) (xs given : List X) (r : Option ℕ) → given ≡ xs → r ≡ position_from p 0 given → (find p xs ≡ None → ⊥) → IsSome r
+pub some_by : {X : Type 0} (p : X → Bool) (xs given : List X) (r : Option ℕ) → given ≡ xs → r ≡ position_from p 0 given
+    → (find p xs ≡ None → ⊥) → IsSome r
 some_by p xs given (Some i) same is some = refl
 some_by p xs given None same is some = absurd (some (none_by p xs given None same is refl))

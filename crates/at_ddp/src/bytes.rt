@@ -1,3 +1,4 @@
+//! Bytes that contracts compare as lists, whatever memory they lie in.
 ghost use Rattle.std.specs.Prelude.{◌≡◌, IfOk};
 
 use std::alloc::{AllocError, Allocator, Global};

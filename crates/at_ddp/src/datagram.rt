@@ -1,3 +1,4 @@
+//! Reading and writing of datagrams with the extended header.
 ghost use Rattle.std.specs.Prelude.{◌≡◌, ◌≢◌, ◌+◌, ◌<◌, ◌≤◌, ◌++◌, ◌↔◌, List, ℕ, length, IfOk, IfErr, OnOk, OnErr};
 ghost use Rattle.std.specs.Prelude.{IsOkAnd, IsErrOf, vec_len, vec_capacity};
 ghost use Rattle.at_ddp.specs.Datagram.{Content, content, BeginsWith, canonical};

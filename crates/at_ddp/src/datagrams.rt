@@ -1,3 +1,4 @@
+//! Finished datagrams in the order of sending, each with the node that it goes to.
 ghost use Rattle.std.specs.Prelude.{◌≡◌, ℕ, ◌+◌, ◌<◌, ◌≤◌, ◌∷◌, [], ◌++◌, ◌==◌, length, slice_get, slice_index_or};
 ghost use Rattle.std.specs.Prelude.{slice_range, OnOk, OnErr, IsOk, Some};
 ghost use Rattle.at_ddp.specs.Datagrams.{Posted, HasRoom};

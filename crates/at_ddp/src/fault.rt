@@ -1,3 +1,4 @@
+//! Why bytes are no datagram, by number.
 ghost use Rattle.std.specs.Prelude.{◌≡◌};
 ghost use Rattle.at_ddp.specs.declared.fault.DdpFault.TheVariants.{NoMemory};
 

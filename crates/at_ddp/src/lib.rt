@@ -11,6 +11,7 @@ pub mod laws;
 mod listed;
 mod outbox;
 mod pascal;
+mod protocol;
 mod sum;
 mod text;
 
@@ -22,5 +23,6 @@ pub use fault::DdpFault;
 pub use listed::Listed;
 pub use outbox::Outbox;
 pub use pascal::Pascal;
+pub use protocol::{ADSP, ATP, NBP};
 pub use sum::rotating_sum;
 pub use text::same_text;

@@ -1,3 +1,4 @@
+//! Lists that contracts compare, whatever memory they lie in.
 ghost use Rattle.std.specs.Prelude.{◌≡◌};
 
 use std::alloc::{Allocator, Global};

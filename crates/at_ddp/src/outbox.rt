@@ -1,3 +1,4 @@
+//! A node's list of datagrams, while one of its sockets appends to it.
 ghost use Rattle.std.specs.Prelude.{◌≡◌, ℕ, ◌+◌, ◌≤◌, ◌∷◌, [], ◌++◌, length, OnOk, OnErr, IsOk};
 ghost use Rattle.at_ddp.specs.Outbox.{Sends, HasRoomFor};
 
@@ -6,6 +7,7 @@ use crate::datagram::{HEADER_LEN, header_of};
 use crate::datagrams::Datagrams;
 use std::alloc::{AllocError, Allocator, Global};
 use std::marker::Model;
+use std::mem;
 
 /// The list that a node's datagrams go to, while one socket of the node appends to it.
 #[derive(Drop)]
@@ -21,6 +23,16 @@ impl<A: Allocator> Model for Outbox<A> {
     ghost Value = { Box };
 
     ghost view = { λ o. record { items = o.list.items; from = o.from; kind = o.kind; room = o.list.room } };
+}
+
+impl<A: Allocator + Copy> Outbox<A> {
+    /// Takes over a list, which is empty until the outbox gives it back by `into_list`. The socket `from` sends
+    /// datagrams of protocol `kind`.
+    pub fn lent(alloc: A, list: &mut Datagrams<A>, from: Address, kind: u8) -> Outbox<A>
+        ensures { result ≡ record { items = list.old.items; from = from; kind = kind; room = list.old.room } }
+    {
+        Outbox::over(mem::replace(list, Datagrams::new(alloc)), from, kind)
+    }
 }
 
 impl<A: Allocator> Outbox<A> {

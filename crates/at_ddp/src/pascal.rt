@@ -1,3 +1,4 @@
+//! Short strings, of at most 32 bytes.
 ghost use Rattle.std.specs.Prelude.{◌≡◌, ◌≤◌, ◌↔◌, length, IsSome, IfSome};
 
 use arrayvec::ArrayVec;

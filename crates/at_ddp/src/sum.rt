@@ -1,3 +1,4 @@
+//! The checksum of a datagram.
 ghost use Rattle.std.specs.Prelude.{◌≡◌, fold};
 ghost use Rattle.at_ddp.specs.Sum.{added, written_sum, sum_of};
 

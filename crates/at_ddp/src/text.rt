@@ -1,3 +1,4 @@
+//! Texts that are the same but for the case of the letters a to z.
 ghost use Rattle.std.specs.Prelude.{◌≡◌, ◌↔◌, IsTrue};
 ghost use Rattle.at_ddp.specs.Text.{folded};
 

@@ -1,11 +1,8 @@
 -- Where a node stands on its cable.
 use Rattle.std.specs.Prelude.{ℕ, ◌==◌, ◌&&◌, ◌||◌, Bool}
 use Rattle.at_ddp.specs.declared.address.Address.{Address}
+use Rattle.at_ddp.specs.Protocols.{nbp_kind}
 use Rattle.at_event.specs.declared.seat.Seat.{Seat}
-
--- the protocol of NBP's datagrams
-abbrev pub nbp_kind : ℕ
-nbp_kind = 2
 
 -- an address on the node's own network
 abbrev pub at_socket : Seat → ℕ → ℕ → Address

@@ -11,5 +11,5 @@ mod service;
 pub use event::{Call, Report, Timer};
 pub use fault::NodeFault;
 pub use packet_count::PacketCount;
-pub use seat::{NBP, Seat};
+pub use seat::Seat;
 pub use service::{Deferring, Reply, Service};

@@ -2,10 +2,7 @@
 ghost use Rattle.std.specs.Prelude.{◌≡◌, ◌||◌};
 ghost use Rattle.at_event.specs.Seats.{at_socket, is_for_all, is_mine};
 
-use at_ddp::Address;
-
-/// The protocol of NBP's datagrams, which alone may go to every node.
-pub const NBP: u8 = 2;
+use at_ddp::{Address, NBP};
 
 /// The node number that means every node.
 const EVERY_NODE: u8 = 255;

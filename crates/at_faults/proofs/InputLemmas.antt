@@ -6,17 +6,20 @@ use Rattle.std.proofs.KnownBytes.{Consumes-all, Consumes-trans, Consumes-whole}
 use Rattle.std.proofs.lemmas.List.{length-append, length-take-le}
 
 -- a read of nothing at the end leaves what was read as all that there was
-pub all_read : (first last end : Option (List ℕ)) (bytes part : List ℕ) (n : ℕ) → Consumes first last bytes → Consumes last end (take n part) → n ≡ 0 → IsAtEnd end → IfSome first (λ all. bytes ≡ all)
+pub all_read : (first last end : Option (List ℕ)) (bytes part : List ℕ) (n : ℕ) → Consumes first last bytes
+    → Consumes last end (take n part) → n ≡ 0 → IsAtEnd end → IfSome first (λ all. bytes ≡ all)
 all_read first last end bytes part n before read none over =
     let same : bytes ≡ [] ++ (bytes ++ take n part) = rw none (sym (append-nil bytes)) in
-    Consumes-all first end (bytes ++ take n part) [] bytes (Consumes-trans first last end bytes (take n part) before read) over same
+    Consumes-all first end (bytes ++ take n part) [] bytes
+    (Consumes-trans first last end bytes (take n part) before read) over same
 
 -- so many bytes were read that this much of the most that may be read is left
 abbrev pub IsLeft : Option (List ℕ) → Option (List ℕ) → ℕ → Type 0
 IsLeft first last left = (read : List ℕ) × (length read + left ≡ 67108864) × Consumes first last read
 
 -- a read of some of it leaves the rest
-pub part_read : (first last end : Option (List ℕ)) (part : List ℕ) (left n rest : ℕ) → IsLeft first last left → Consumes last end (take n part) → n ≤ length part → rest + n ≡ left → IsLeft first end rest
+pub part_read : (first last end : Option (List ℕ)) (part : List ℕ) (left n rest : ℕ) → IsLeft first last left
+    → Consumes last end (take n part) → n ≤ length part → rest + n ≡ left → IsLeft first end rest
 part_read first last end part left n rest before read fits is = (
   before.0 ++ take n part,
   omega (arith, before.1, length-append before.0 (take n part), length-take-le n part fits, is),
@@ -24,8 +27,10 @@ part_read first last end part left n rest before read fits is = (
 )
 
 -- at the end no more was read than may be
-pub few_read : (first last end : Option (List ℕ)) (part : List ℕ) (left n : ℕ) → IsLeft first last left → Consumes last end (take n part) → n ≡ 0 → IsAtEnd end → IfSome first (λ all. length all ≤ 67108864)
+pub few_read : (first last end : Option (List ℕ)) (part : List ℕ) (left n : ℕ) → IsLeft first last left
+    → Consumes last end (take n part) → n ≡ 0 → IsAtEnd end → IfSome first (λ all. length all ≤ 67108864)
 few_read first last end part left n before read none over =
     let all = before.0 ++ take n part in
     let same : all ≡ before.0 = rw none (append-nil before.0) in
-    Consumes-whole first end all (λ xs. length xs ≤ 67108864) (Consumes-trans first last end before.0 (take n part) before.2 read) over (rw same (omega (arith, before.1)))
+    Consumes-whole first end all (λ xs. length xs ≤ 67108864)
+    (Consumes-trans first last end before.0 (take n part) before.2 read) over (rw same (omega (arith, before.1)))

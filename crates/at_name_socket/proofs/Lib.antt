@@ -1,5 +1,6 @@
 mod FewLemmas
 mod OpenLemmas
+mod ClosedLemmas
 mod OwedLemmas
 mod PacketSteps
 mod SocketLemmas

@@ -1,5 +1,6 @@
 -- What a packet would do, if memory ran out for it.
-use Rattle.std.proofs.Common.{◌≡◌, ℕ, List, [], ◌∷◌, map, get_or, Option, Some, None, Result, Ok, Err, refl, sym, subst, arith}
+use Rattle.std.proofs.Common.{◌≡◌, ℕ, List, [], ◌∷◌, map, get_or, Option, Some, None, Result, Ok, Err, refl, sym, subst}
+use Rattle.std.proofs.Common.{arith}
 use Rattle.std.specs.Prelude.{IfErr, OnErr, length}
 use Rattle.at_ddp.specs.declared.address.Address.{Address}
 use Rattle.at_nbp.specs.Lookups as lookups
@@ -28,7 +29,8 @@ on_err (Err e) P p = p
 abbrev pub SomeStep : SocketState → Content → Function → Type 0
 SomeStep s p f = (h : Heard) × (new : SocketState) × (pushes : List (Address × List ℕ)) × Takes s p f h new pushes
 
-relays : (s : SocketState) (p : Content) (o : Option (List Neighbour)) → (h : Heard) × (pushes : List (Address × List ℕ)) × Relays s p o h pushes
+relays : (s : SocketState) (p : Content) (o : Option (List Neighbour)) → (h : Heard)
+    × (pushes : List (Address × List ℕ)) × Relays s p o h pushes
 relays s p None = (heard.Ignored, [], (refl, refl))
 relays s p (Some neighbours) = (heard.Relayed, relayed_in s neighbours p, (refl, refl))
 
@@ -38,19 +40,30 @@ relays_step s p = let r = relays s p s.neighbours in (r.0, s, r.1, (r.2, refl))
 -- a packet that is no lookup has one step
 pub one_step : (s : SocketState) (p : Content) (f : Function) → (f ≡ LookUp → ⊥) → SomeStep s p f
 one_step s p LookUp other = absurd (other refl)
-one_step s p Reply other = (counted heard.Kept (lookups.heard s.lookups p).count, record s { lookups = (lookups.heard s.lookups p).after }, [], (refl, refl, refl))
+one_step s p Reply other = (
+  counted heard.Kept (lookups.heard s.lookups p).count,
+  record
+      s { lookups = (lookups.heard s.lookups p).after },
+  [],
+  (refl, refl, refl),
+)
 one_step s p BroadcastRequest other = relays_step s p
 one_step s p ForwardRequest other = relays_step s p
 
 -- and so has the data that begins with it
-pub hears_some : (s : SocketState) (bytes rest : List ℕ) (p : Content) → BeginsWith bytes p rest → SomeStep s p p.function → (h : Heard) × (new : SocketState) × (pushes : List (Address × List ℕ)) × Hears s bytes h new pushes
-hears_some s bytes rest p begins step = (step.0, step.1, step.2, record { packet = p; rest = rest; begins = begins; takes = step.3 })
+pub hears_some : (s : SocketState) (bytes rest : List ℕ) (p : Content) → BeginsWith bytes p rest
+    → SomeStep s p p.function → (h : Heard) × (new : SocketState) × (pushes : List (Address × List ℕ))
+    × Hears s bytes h new pushes
+hears_some s bytes rest p begins step =
+    (step.0, step.1, step.2, record { packet = p; rest = rest; begins = begins; takes = step.3 })
 
 -- so memory alone was wanted
 abbrev pub Owed : SocketState → List ℕ → NbpFault → Type 0
-Owed s bytes fault = fault ≡ NoMemory → (h : Heard) × (new : SocketState) × (pushes : List (Address × List ℕ)) × Hears s bytes h new pushes
+Owed s bytes fault = fault ≡ NoMemory → (h : Heard) × (new : SocketState) × (pushes : List (Address × List ℕ))
+    × Hears s bytes h new pushes
 
-pub owed : {T : Type 0} (r : Result T NbpFault) (s : SocketState) (bytes rest : List ℕ) (p : Content) → BeginsWith bytes p rest → SomeStep s p p.function → IfErr r (Owed s bytes)
+pub owed : {T : Type 0} (r : Result T NbpFault) (s : SocketState) (bytes rest : List ℕ) (p : Content)
+    → BeginsWith bytes p rest → SomeStep s p p.function → IfErr r (Owed s bytes)
 owed r s bytes rest p begins step = if_err r (Owed s bytes) (λ e is. hears_some s bytes rest p begins step)
 
 -- what stands where there is no tuple
@@ -63,13 +76,19 @@ blank_tuple = record {
   zone = record { ref_ptr = (0, 0); now = [] };
 }
 
-pub one_content : (items : List Tuple) (d : Tuple) → length items ≡ 1 → map content items ≡ content (get_or items 0 d) ∷ []
+pub one_content : (items : List Tuple) (d : Tuple) → length items ≡ 1 → map content items
+    ≡ content (get_or items 0 d) ∷ []
 one_content [] d is = absurd (cc)
 one_content (t ∷ []) d is = refl
 one_content (t ∷ u ∷ ts) d is = absurd (omega (arith, is))
 
 -- a lookup is answered by these replies, if some are its answer
-pub answers_some : (s : SocketState) (id : ℕ) (t : Entry) → (replies : List (List Entry)) × AreReplies (matching s.table (pattern_of t)) replies → (tuples : List Entry) → tuples ≡ t ∷ [] →
+pub answers_some : (s : SocketState) (id : ℕ) (t : Entry) → (replies : List (List Entry))
+    × AreReplies (matching s.table (pattern_of t)) replies → (tuples : List Entry) → tuples ≡ t ∷ [] →
     (h : Heard) × (pushes : List (Address × List ℕ)) × AnswersTo s id tuples h pushes
 answers_some s id t some tuples is =
-    subst (λ l. (h : Heard) × (pushes : List (Address × List ℕ)) × AnswersTo s id l h pushes) (sym is) (counted heard.Answered (length (matching s.table (pattern_of t))), map (sent_reply id t.address) some.0, (refl, (some.0, some.1, refl)))
+    subst (λ l. (h : Heard) × (pushes : List (Address × List ℕ)) × AnswersTo s id l h pushes) (sym is) (
+      counted heard.Answered (length (matching s.table (pattern_of t))),
+      map (sent_reply id t.address) some.0,
+      (refl, (some.0, some.1, refl)),
+    )

@@ -9,8 +9,8 @@ use Rattle.at_name_socket.specs.declared.step.Heard.{Heard}
 use Rattle.at_nbp.specs.Askers.{IsAskedBy}
 use Rattle.at_nbp.specs.Lawfully.{IsInRange}
 use Rattle.at_nbp.specs.Lookups.{AreLookups}
-use Rattle.at_nbp.specs.Network.{Begun, Happening, IsAnswered, IsTimely, Network, Sent, done, packet_at, is_fresh}
-use Rattle.at_nbp.specs.Network.{stamped}
+use Rattle.at_ddp.specs.Posts.{packet_at, stamped}
+use Rattle.at_nbp.specs.Network.{Begun, Happening, IsAnswered, IsTimely, Network, Sent, done, is_fresh}
 use Rattle.at_nbp.specs.Packets.{Content, HasCount, spelling}
 use Rattle.at_nbp.specs.declared.function.Function.TheVariants.{Reply}
 

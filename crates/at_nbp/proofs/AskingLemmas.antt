@@ -1,10 +1,12 @@
 -- Packets with one tuple, and the identifiers that they get.
-use Rattle.std.proofs.Common.{◌≡◌, ◌≢◌, ℕ, zero, suc, ◌+◌, ◌-◌, ◌%◌, ◌<◌, ◌≤◌, Bool, true, false, cond, List, [], ◌∷◌, length, Some, None, refl, sym, ap, subst, append-nil, arith}
+use Rattle.std.proofs.Common.{◌≡◌, ◌≢◌, ℕ, zero, suc, ◌+◌, ◌-◌, ◌%◌, ◌<◌, ◌≤◌, Bool, true, false, cond, List, [], ◌∷◌}
+use Rattle.std.proofs.Common.{length, Some, None, refl, sym, ap, subst, append-nil, arith}
 use Rattle.std.proofs.lemmas.Bool.{eqb-true, ne_eqb}
 use Rattle.std.proofs.lemmas.Bool.Decides.{nat_tests}
 use Rattle.std.specs.Prelude.{nat_lt}
 use Rattle.std.specs.Prelude.{All, IfErr, IsErrOf, IsOk, Result, Ok, Err}
 use Rattle.std.specs.List.{flat_map, list_any}
+use Rattle.at_ddp.proofs.NumberLemmas.{below_tries, round_8}
 use Rattle.at_nbp.specs.Lookups.{Lookups, Search, free_id, has_id, next_id}
 use Rattle.at_nbp.specs.Packets.{Content, HasCount, spelling}
 use Rattle.at_nbp.specs.Tuples.{Entry, FitsStrings, tuple_spelling}
@@ -13,7 +15,6 @@ use Rattle.at_nbp.specs.declared.fault.NbpFault.TheVariants.{BadCount, BadString
 use Rattle.at_nbp.specs.declared.function.Function.{Function}
 use Rattle.at_nbp.specs.declared.function.Function.TheVariants.{BroadcastRequest, LookUp, Reply, ForwardRequest}
 use Rattle.at_nbp.proofs.ListLemmas.{short_tuple}
-use Rattle.at_nbp.proofs.NumberLemmas.{tests_in_use}
 use Rattle.at_nbp.proofs.PacketLemmas.{length_spelling}
 
 -- a packet of any function may have one tuple
@@ -27,14 +28,17 @@ pub one_fits : (t : Entry) → FitsStrings t → All FitsStrings (t ∷ [])
 one_fits t short zero d lt = short
 one_fits t short (suc k) d lt = absurd (omega (arith, lt))
 
-pub one_len : (f : Function) (id : ℕ) (t : Entry) → FitsStrings t → length (spelling (record { function = f; id = id; tuples = t ∷ [] })) ≤ 106
+pub one_len : (f : Function) (id : ℕ) (t : Entry) → FitsStrings t
+    → length (spelling (record { function = f; id = id; tuples = t ∷ [] })) ≤ 106
 one_len f id t short =
     let p : Content = record { function = f; id = id; tuples = t ∷ [] } in
-    let one : length (flat_map tuple_spelling p.tuples) ≡ length (tuple_spelling t) = ap (length {A = ℕ}) (append-nil (tuple_spelling t)) in
+    let one : length (flat_map tuple_spelling p.tuples)
+    ≡ length (tuple_spelling t) = ap (length {A = ℕ}) (append-nil (tuple_spelling t)) in
     omega (arith, length_spelling p, one, short_tuple t short)
 
 -- a call that refuses for three reasons alone succeeds if none of them stands
-pub none_refuses : {X : Type 0} (r : Result X NbpFault) → (IsErrOf r BadCount → ⊥) → (IsErrOf r BadString → ⊥) → (IsErrOf r NoMemory → ⊥) →
+pub none_refuses : {X : Type 0} (r : Result X NbpFault) → (IsErrOf r BadCount → ⊥) → (IsErrOf r BadString → ⊥)
+    → (IsErrOf r NoMemory → ⊥) →
     IfErr r (λ fault. fault ≢ BadCount → fault ≢ BadString → fault ≡ NoMemory) → IsOk r
 none_refuses (Ok x) count string memory only = refl
 none_refuses {X} (Err e) count string memory only =
@@ -43,42 +47,19 @@ none_refuses {X} (Err e) count string memory only =
 
 -- ---- identifiers
 
-pub free_id-step : (tries first : ℕ) (searches : List Search) (b : Bool) → (tries ≡ 0 → ⊥) → list_any (has_id first) searches ≡ b →
-    free_id tries first searches ≡ cond b (free_id (tries - 1) ((first + 1) % 256) searches) (Some first)
-free_id-step zero first searches b some is = absurd (some refl)
-free_id-step (suc tries) first searches b some is =
-    let less : suc tries - 1 ≡ tries = omega arith in
-    rw (is, less) refl
-
--- each identifier that is tried in vain is open
-in_use : (tries first : ℕ) (searches : List Search) → first < 256 → free_id tries first searches ≡ None → (i : ℕ) → i < tries → list_any (has_id ((first + i) % 256)) searches ≡ true
-in_use zero first searches fits none i lt = absurd (omega (arith, lt))
-in_use (suc tries) first searches fits none i lt = go (λ g k h. in_use tries ((first + 1) % 256) searches (omega arith) g k h) (list_any (has_id first) searches) refl none i lt
-  where
-    go : (free_id tries ((first + 1) % 256) searches ≡ None → (k : ℕ) → k < tries → list_any (has_id (((first + 1) % 256 + k) % 256)) searches ≡ true) → (b : Bool) →
-        list_any (has_id first) searches ≡ b → cond b (free_id tries ((first + 1) % 256) searches) (Some first) ≡ None → (i : ℕ) → i < suc tries → list_any (has_id ((first + i) % 256)) searches ≡ true
-    go ih false is g k h = absurd cc
-    go ih true is g zero h = let same : (first + zero) % 256 ≡ first = omega (arith, fits) in subst (λ id. list_any (has_id id) searches ≡ true) (sym same) is
-    go ih true is g (suc k) h =
-        let same : ((first + 1) % 256 + k) % 256 ≡ (first + suc k) % 256 = omega arith in
-        subst (λ id. list_any (has_id id) searches ≡ true) same (ih g k (omega (arith, h)))
-
-apart : (first m n : ℕ) (s : Search) → m < n → n < 256 → has_id ((first + n) % 256) s ≡ true → has_id ((first + m) % 256) s ≡ false
-apart first m n s lt fits h =
-    let is : s.id ≡ (first + n) % 256 = eqb-true s.id ((first + n) % 256) h in
-    ne_eqb s.id ((first + m) % 256) (λ e. absurd (omega (arith, e, is, lt, fits)))
-
-pub below_tries : (tries first : ℕ) (searches : List Search) → first < 256 → tries ≤ 256 → free_id tries first searches ≡ None → tries ≤ length searches
-below_tries tries first searches fits few none =
-    tests_in_use (λ i. has_id ((first + i) % 256)) 256 (λ m n s lt within. apart first m n s lt within) tries searches few (in_use tries first searches fits none)
+pub tried : (tries first : ℕ) (searches : List Search) → tries ≤ 256 → free_id tries first searches ≡ None
+    → tries ≤ length searches
+tried tries first searches few none =
+    below_tries (λ id. (id + 1) % 256) 256 round_8 (λ (s : Search). s.id) tries first searches few none
 
 -- no identifier is left only if 8 lookups are open
-pub none_left : (l : Lookups) → l.next < 256 → next_id l ≡ None → 8 ≤ length l.searches
-none_left l fits none = go (nat_lt (length l.searches) 8) refl none
+pub none_left : (l : Lookups) → next_id l ≡ None → 8 ≤ length l.searches
+none_left l none = go (nat_lt (length l.searches) 8) refl none
   where
-    go : (b : Bool) → nat_lt (length l.searches) 8 ≡ b → cond b (free_id (length l.searches + 1) l.next l.searches) None ≡ None → 8 ≤ length l.searches
+    go : (b : Bool) → nat_lt (length l.searches) 8 ≡ b
+        → cond b (free_id (length l.searches + 1) l.next l.searches) None ≡ None → 8 ≤ length l.searches
     go true few h =
         let less : length l.searches < 8 = grind (arith, nat_tests, few) in
-        let most = below_tries (length l.searches + 1) l.next l.searches fits (omega (arith, less)) h in
+        let most = tried (length l.searches + 1) l.next l.searches (omega (arith, less)) h in
         absurd (omega (arith, most))
     go false full h = grind (arith, nat_tests, full)

@@ -11,9 +11,11 @@ use Rattle.at_nbp.specs.declared.function.Function.TheVariants.{BroadcastRequest
 use Rattle.at_nbp.proofs.PacketLemmas.{count_fits}
 
 -- spellings that are bytes, one behind the other
-flat_bytes : {X : Type 0} (spell : X → List ℕ) (Is : X → Type 0) → ((x : X) → Is x → AreBytes (spell x)) → (xs : List X) → All Is xs → AreBytes (flat_map spell xs)
+flat_bytes : {X : Type 0} (spell : X → List ℕ) (Is : X → Type 0) → ((x : X) → Is x → AreBytes (spell x))
+    → (xs : List X) → All Is xs → AreBytes (flat_map spell xs)
 flat_bytes spell Is one [] each = All-nil (λ b. b < 256)
-flat_bytes spell Is one (x ∷ xs) each = All-append (λ b. b < 256) (spell x) (flat_map spell xs) (one x (each 0 x (omega arith))) (flat_bytes spell Is one xs (All-tail Is x xs each))
+flat_bytes spell Is one (x ∷ xs) each = All-append (λ b. b < 256) (spell x) (flat_map spell xs)
+    (one x (each 0 x (omega arith))) (flat_bytes spell Is one xs (All-tail Is x xs each))
 
 string_bytes : (text : List ℕ) → IsString text → AreBytes (string_spelling text)
 string_bytes text is = let fits = is.fits in All-cons (λ b. b < 256) (length text) text (omega arith) is.bytes
@@ -39,5 +41,6 @@ pub spelling_bytes : (p : Content) → IsLawful p → AreBytes (spelling p)
 unfolding spelling
 spelling_bytes p is =
     let tuples = flat_map tuple_spelling p.tuples in
-    All-cons (λ b. b < 256) (16 * code p.function + length p.tuples) (p.id ∷ tuples) (omega (arith, code_fits p.function, count_fits p.function (length p.tuples) is.count))
+    All-cons (λ b. b < 256) (16 * code p.function + length p.tuples) (p.id ∷ tuples)
+    (omega (arith, code_fits p.function, count_fits p.function (length p.tuples) is.count))
     (All-cons (λ b. b < 256) p.id tuples is.id (flat_bytes tuple_spelling IsTuple tuple_bytes p.tuples is.each))

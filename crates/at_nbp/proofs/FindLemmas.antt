@@ -1,9 +1,11 @@
 -- The finds that join, tuple by tuple.
-use Rattle.std.proofs.Common.{◌≡◌, ℕ, ◌+◌, ◌-◌, ◌<◌, ◌≤◌, Bool, true, false, cond, List, [], ◌∷◌, ◌++◌, length, get_or, take, map, set, Some, None, refl, sym, ap, subst, ◌∙◌, append_assoc, append-nil, arith}
+use Rattle.std.proofs.Common.{◌≡◌, ℕ, ◌+◌, ◌-◌, ◌<◌, ◌≤◌, Bool, true, false, cond, List, [], ◌∷◌, ◌++◌, length, get_or}
+use Rattle.std.proofs.Common.{take, map, set, Some, None, refl, sym, ap, subst, ◌∙◌, append_assoc, append-nil, arith}
 use Rattle.std.specs.Prelude.{find, IfOk, OnErr, OnOk, Result, Ok, Err}
 use Rattle.std.proofs.lemmas.List.{length-append, map_more, take_all}
 use Rattle.at_ddp.proofs.TableLemmas.{Found}
-use Rattle.at_nbp.specs.Lookups.{AreLookups, Heard, Lookups, Search, all_joined, answered, find_of, has_id, heard, is_reply, joined, joins, reply_came}
+use Rattle.at_nbp.specs.Lookups.{AreLookups, Heard, Lookups, Search, all_joined, answered, find_of, has_id, heard}
+use Rattle.at_nbp.specs.Lookups.{is_reply, joined, joins, reply_came}
 use Rattle.at_nbp.specs.Packets.{Content}
 use Rattle.at_nbp.specs.Tuples.{Entry, content}
 use Rattle.at_nbp.specs.declared.find.Find.{Find}
@@ -11,65 +13,91 @@ use Rattle.at_nbp.specs.declared.name.Name.{Name}
 use Rattle.at_nbp.specs.declared.tuple.Tuple.{Tuple}
 use Rattle.at_nbp.proofs.LookupLaws.{heard_lawful}
 
-last_joined : (pattern : Name) (finds : List Find) (ts : List Entry) (t : Entry) → all_joined pattern finds (ts ++ t ∷ []) ≡ joined pattern (all_joined pattern finds ts) (find_of pattern t)
+last_joined : (pattern : Name) (finds : List Find) (ts : List Entry) (t : Entry)
+    → all_joined pattern finds (ts ++ t ∷ []) ≡ joined pattern (all_joined pattern finds ts) (find_of pattern t)
 last_joined pattern finds [] t = refl
 last_joined pattern finds (x ∷ ts) t = last_joined pattern (joined pattern finds (find_of pattern x)) ts t
 
 -- the finds of the first tuples stand behind those that were there
-pub record AreJoined (pattern : Name) (finds : List Find) (tuples : List Tuple) (i : ℕ) (joining : List Find) : Type 0 where
+pub record AreJoined (pattern : Name) (finds : List Find) (tuples : List Tuple) (i : ℕ)
+    (joining : List Find) : Type 0 where
   pub are : finds ++ joining ≡ all_joined pattern finds (map content (take i tuples))
   pub few : length joining ≤ i
 
-next_joined : (pattern : Name) (finds : List Find) (tuples : List Tuple) (i : ℕ) (joining : List Find) (d t : Tuple) (f : Find) → AreJoined pattern finds tuples i joining → i < length tuples → t ≡ get_or tuples i d →
-    f ≡ find_of pattern (content t) → all_joined pattern finds (map content (take (i + 1) tuples)) ≡ joined pattern (finds ++ joining) f
+next_joined : (pattern : Name) (finds : List Find) (tuples : List Tuple) (i : ℕ) (joining : List Find) (d t : Tuple)
+    (f : Find) → AreJoined pattern finds tuples i joining → i < length tuples → t ≡ get_or tuples i d →
+    f ≡ find_of pattern (content t) → all_joined pattern finds (map content (take (i + 1) tuples))
+    ≡ joined pattern (finds ++ joining) f
 next_joined pattern finds tuples i joining d t f j lt at is =
-    ap (all_joined pattern finds) (map_more content tuples i d lt) ∙ last_joined pattern finds (map content (take i tuples)) (content (get_or tuples i d))
-    ∙ (λ k. joined pattern (sym j.are k) (find_of pattern (content (sym at k)))) ∙ ap (joined pattern (finds ++ joining)) (sym is)
+    ap (all_joined pattern finds) (map_more content tuples i d lt)
+    ∙ last_joined pattern finds (map content (take i tuples)) (content (get_or tuples i d))
+    ∙ (λ k. joined pattern (sym j.are k) (find_of pattern (content (sym at k))))
+    ∙ ap (joined pattern (finds ++ joining)) (sym is)
 
-pub joined_more : (pattern : Name) (finds : List Find) (tuples : List Tuple) (i : ℕ) (joining joining' : List Find) (d t : Tuple) (f : Find) → AreJoined pattern finds tuples i joining → i < length tuples → t ≡ get_or tuples i d →
-    f ≡ find_of pattern (content t) → joins pattern (finds ++ joining) f ≡ true → joining' ≡ joining ++ f ∷ [] → AreJoined pattern finds tuples (i + 1) joining'
+pub joined_more : (pattern : Name) (finds : List Find) (tuples : List Tuple) (i : ℕ) (joining joining' : List Find)
+    (d t : Tuple) (f : Find) → AreJoined pattern finds tuples i joining → i < length tuples → t ≡ get_or tuples i d →
+    f ≡ find_of pattern (content t) → joins pattern (finds ++ joining) f ≡ true → joining' ≡ joining ++ f ∷ []
+    → AreJoined pattern finds tuples (i + 1) joining'
 joined_more pattern finds tuples i joining joining' d t f j lt at is hit pushed =
     let one : joined pattern (finds ++ joining) f ≡ (finds ++ joining) ++ f ∷ [] = rw hit refl in
     record {
-      are = ap (λ l. finds ++ l) pushed ∙ sym (append_assoc finds joining (f ∷ [])) ∙ sym (next_joined pattern finds tuples i joining d t f j lt at is ∙ one);
+      are = ap (λ l. finds ++ l) pushed ∙ sym (append_assoc finds joining (f ∷ []))
+          ∙ sym (next_joined pattern finds tuples i joining d t f j lt at is ∙ one);
       few = omega (arith, j.few, ap (length {A = Find}) pushed, length-append joining (f ∷ []));
     }
 
-pub joined_same : (pattern : Name) (finds : List Find) (tuples : List Tuple) (i : ℕ) (joining : List Find) (d t : Tuple) (f : Find) → AreJoined pattern finds tuples i joining → i < length tuples → t ≡ get_or tuples i d →
-    f ≡ find_of pattern (content t) → joins pattern (finds ++ joining) f ≡ false → AreJoined pattern finds tuples (i + 1) joining
+pub joined_same : (pattern : Name) (finds : List Find) (tuples : List Tuple) (i : ℕ) (joining : List Find)
+    (d t : Tuple) (f : Find) → AreJoined pattern finds tuples i joining → i < length tuples → t ≡ get_or tuples i d →
+    f ≡ find_of pattern (content t) → joins pattern (finds ++ joining) f ≡ false
+    → AreJoined pattern finds tuples (i + 1) joining
 joined_same pattern finds tuples i joining d t f j lt at is misses =
     let none : joined pattern (finds ++ joining) f ≡ finds ++ joining = rw misses refl in
-    record { are = sym (next_joined pattern finds tuples i joining d t f j lt at is ∙ none); few = omega (arith, j.few) }
+    record {
+      are = sym (next_joined pattern finds tuples i joining d t f j lt at is ∙ none);
+      few = omega (arith, j.few);
+    }
 
-pub joined_none : (pattern : Name) (finds : List Find) (tuples : List Tuple) (joining : List Find) → joining ≡ [] → AreJoined pattern finds tuples 0 joining
-joined_none pattern finds tuples joining none = record { are = ap (λ l. finds ++ l) none ∙ append-nil finds; few = rw none (omega arith) }
+pub joined_none : (pattern : Name) (finds : List Find) (tuples : List Tuple) (joining : List Find) → joining ≡ []
+    → AreJoined pattern finds tuples 0 joining
+joined_none pattern finds tuples joining none =
+    record { are = ap (λ l. finds ++ l) none ∙ append-nil finds; few = rw none (omega arith) }
 
-pub joined_all : (pattern : Name) (finds : List Find) (tuples : List Tuple) (i : ℕ) (joining : List Find) → AreJoined pattern finds tuples i joining → length tuples ≤ i → finds ++ joining ≡ all_joined pattern finds (map content tuples)
-joined_all pattern finds tuples i joining j all = j.are ∙ ap (λ (l : List Tuple). all_joined pattern finds (map content l)) (take_all i tuples all)
+pub joined_all : (pattern : Name) (finds : List Find) (tuples : List Tuple) (i : ℕ) (joining : List Find)
+    → AreJoined pattern finds tuples i joining → length tuples ≤ i → finds ++ joining
+    ≡ all_joined pattern finds (map content tuples)
+joined_all pattern finds tuples i joining j all = j.are
+    ∙ ap (λ (l : List Tuple). all_joined pattern finds (map content l)) (take_all i tuples all)
 
 -- ---- finds that are appended
 
-pub count_joined : (s : Search) (tuples : List Entry) (joining : List Find) → s.finds ++ joining ≡ (answered s tuples).finds → length s.finds + length joining ≡ length (answered s tuples).finds
+pub count_joined : (s : Search) (tuples : List Entry) (joining : List Find) → s.finds ++ joining
+    ≡ (answered s tuples).finds → length s.finds + length joining ≡ length (answered s tuples).finds
 count_joined s tuples joining are = sym (length-append s.finds joining) ∙ ap (length {A = Find}) are
 
 -- ---- what comes of a reply
 
-pub heard_none : (l : Lookups) (p : Content) → is_reply p.function ≡ true → find (has_id p.id) l.searches ≡ None → heard l p ≡ record { count = 0; after = l }
+pub heard_none : (l : Lookups) (p : Content) → is_reply p.function ≡ true → find (has_id p.id) l.searches ≡ None
+    → heard l p ≡ record { count = 0; after = l }
 heard_none l p reply none = rw (reply, none) refl
 
-pub heard_some : (l : Lookups) (p : Content) (s : Search) → is_reply p.function ≡ true → find (has_id p.id) l.searches ≡ Some s → heard l p ≡ reply_came l p (Some s)
+pub heard_some : (l : Lookups) (p : Content) (s : Search) → is_reply p.function ≡ true → find (has_id p.id) l.searches
+    ≡ Some s → heard l p ≡ reply_came l p (Some s)
 heard_some l p s reply some = rw (reply, some) refl
 
-pub heard_count : (l : Lookups) (p : Content) {E : Type 0} (s : Search) (r : Result ℕ E) → heard l p ≡ reply_came l p (Some s) → IfOk r (λ n. length s.finds + n ≡ length (answered s p.tuples).finds) →
+pub heard_count : (l : Lookups) (p : Content) {E : Type 0} (s : Search) (r : Result ℕ E) → heard l p
+    ≡ reply_came l p (Some s) → IfOk r (λ n. length s.finds + n ≡ length (answered s p.tuples).finds) →
     IfOk r (λ n. n ≡ (heard l p).count)
-heard_count l p s (Ok n) is counted = let less : n ≡ length (answered s p.tuples).finds - length s.finds = omega (arith, counted) in less ∙ ap (λ (h : Heard). h.count) (sym is)
+heard_count l p s (Ok n) is counted = let less : n ≡ length (answered s p.tuples).finds - length s.finds =
+    omega (arith, counted) in less ∙ ap (λ (h : Heard). h.count) (sym is)
 heard_count l p s (Err e) is counted = tt
 
 -- the search in its place becomes the answered one
-pub heard_as : {E : Type 0} (l : Lookups) (p : Content) (i : ℕ) (f : Found (has_id p.id) l.searches i) (r : Result ℕ E) (new : Search) → is_reply p.function ≡ true →
+pub heard_as : {E : Type 0} (l : Lookups) (p : Content) (i : ℕ) (f : Found (has_id p.id) l.searches i) (r : Result ℕ E)
+    (new : Search) → is_reply p.function ≡ true →
     OnOk r (new ≡ answered f.entry p.tuples) → OnOk r (record l { searches = set l.searches i new } ≡ (heard l p).after)
 heard_as l p i f (Ok n) new reply is =
-    ap (λ (s : Search). record l { searches = set l.searches i s }) is ∙ ap (λ (k : List Search). record l { searches = k }) (sym (f.set_is (answered f.entry p.tuples)))
+    ap (λ (s : Search). record l { searches = set l.searches i s }) is
+    ∙ ap (λ (k : List Search). record l { searches = k }) (sym (f.set_is (answered f.entry p.tuples)))
     ∙ ap (λ (h : Heard). h.after) (sym (heard_some l p f.entry reply f.first))
 heard_as l p i f (Err e) new reply is = tt
 
@@ -77,19 +105,23 @@ grows : (pattern : Name) (finds : List Find) (ts : List Entry) → length finds 
 grows pattern finds [] = omega arith
 grows pattern finds (t ∷ ts) = go (λ l. grows pattern l ts) (joins pattern finds (find_of pattern t))
   where
-    go : ((l : List Find) → length l ≤ length (all_joined pattern l ts)) → (b : Bool) → length finds ≤ length (all_joined pattern (cond b (finds ++ find_of pattern t ∷ []) finds) ts)
+    go : ((l : List Find) → length l ≤ length (all_joined pattern l ts)) → (b : Bool)
+        → length finds ≤ length (all_joined pattern (cond b (finds ++ find_of pattern t ∷ []) finds) ts)
     go ih true = omega (arith, ih (finds ++ find_of pattern t ∷ []), length-append finds (find_of pattern t ∷ []))
     go ih false = ih finds
 
 -- if no find is counted, none joined
-pub heard_quiet : (l : Lookups) (p : Content) (s : Search) → heard l p ≡ reply_came l p (Some s) → (heard l p).count ≡ 0 → length (answered s p.tuples).finds ≡ length s.finds
+pub heard_quiet : (l : Lookups) (p : Content) (s : Search) → heard l p ≡ reply_came l p (Some s) → (heard l p).count
+    ≡ 0 → length (answered s p.tuples).finds ≡ length s.finds
 heard_quiet l p s is quiet =
     let none : length (answered s p.tuples).finds - length s.finds ≡ 0 = ap (λ (h : Heard). h.count) (sym is) ∙ quiet in
     omega (arith, none, grows s.pattern s.finds p.tuples)
 
 -- the table stays lawful, also if the reply is refused
-pub set_lawful : {E : Type 0} (l : Lookups) (p : Content) (i : ℕ) (f : Found (has_id p.id) l.searches i) (r : Result ℕ E) (new : Search) → is_reply p.function ≡ true →
-    OnOk r (new ≡ answered f.entry p.tuples) → OnErr r (new ≡ f.entry) → AreLookups l → AreLookups (record l { searches = set l.searches i new })
+pub set_lawful : {E : Type 0} (l : Lookups) (p : Content) (i : ℕ) (f : Found (has_id p.id) l.searches i)
+    (r : Result ℕ E) (new : Search) → is_reply p.function ≡ true →
+    OnOk r (new ≡ answered f.entry p.tuples) → OnErr r (new ≡ f.entry) → AreLookups l
+    → AreLookups (record l { searches = set l.searches i new })
 set_lawful {E} l p i f (Ok n) new reply is kept h =
     let fine : Result ℕ E = Ok n in
     subst AreLookups (sym (heard_as l p i f fine new reply is)) (heard_lawful l p h)

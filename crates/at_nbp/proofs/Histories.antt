@@ -3,21 +3,27 @@ use Rattle.std.proofs.Common.{◌≡◌, ℕ, ◌<◌, List, [], ◌∷◌, ◌+
 use Rattle.at_ddp.specs.Tables.{without_first}
 use Rattle.at_nbp.specs.Lookups.{Search, next_id, search_of}
 use Rattle.at_nbp.specs.NameTables.{is_called}
-use Rattle.at_nbp.specs.Network.{Setting, AllAsk, Sent, Network, Happening, Begins, Retries, Finishes, Hears, Answers, Relays, Registers, Unregisters, Claims, Other, packet_at}
-use Rattle.at_nbp.specs.Network.{begins, retries, finishes, hears, answers_with, answers, relays, done, tick, after, IsTimely, IsAnswered, AllTimely, IsFound, FindsStood}
+use Rattle.at_ddp.specs.Posts.{packet_at}
+use Rattle.at_nbp.specs.Network.{Setting, AllAsk, Sent, Network, Happening, Begins, Retries, Finishes, Hears, Answers}
+use Rattle.at_nbp.specs.Network.{Relays, Registers, Unregisters, Claims, Other}
+use Rattle.at_nbp.specs.Network.{begins, retries, finishes, hears, answers_with, answers, relays, done, tick, after}
+use Rattle.at_nbp.specs.Network.{IsTimely, IsAnswered, AllTimely, IsFound, FindsStood}
 use Rattle.at_nbp.specs.Tuples.{Entry}
 use Rattle.at_ddp.proofs.Alls.{all_implied}
 use Rattle.at_nbp.proofs.HearingLemmas.{hears_sound, answers_sound, relays_sound}
 use Rattle.at_nbp.proofs.LookupLaws.{none_lawful}
-use Rattle.at_nbp.proofs.NetworkLemmas.{FoundIn, Sound, sound_later, named_sound, finishes_sound, begins_sound, retries_sound, foreign_sound}
+use Rattle.at_nbp.proofs.NetworkLemmas.{FoundIn, Sound, sound_later, named_sound, finishes_sound, begins_sound}
+use Rattle.at_nbp.proofs.NetworkLemmas.{retries_sound, foreign_sound}
 
 module _ (setting : Setting) (history : List Happening) where
   -- ---- what any happening leaves true
 
-  done_sound : (n : Network) (h : Happening) → n.event < length history → (tick (done n h)).tables ≡ (after setting history).tables → Sound setting history n →
+  done_sound : (n : Network) (h : Happening) → n.event < length history → (tick (done n h)).tables
+      ≡ (after setting history).tables → Sound setting history n →
       IsTimely n h → IsAnswered n h → Sound setting history (done n h)
   done_sound n (Begins who pattern) since now sound timely full = begins_sound setting history n who pattern sound
-  done_sound n (Retries who id) since now sound timely full = retries_sound setting history n who (search_of (n.lookups who) id) sound
+  done_sound n (Retries who id) since now sound timely full =
+      retries_sound setting history n who (search_of (n.lookups who) id) sound
   done_sound n (Finishes who id) since now sound timely full = finishes_sound setting history n who id sound
   done_sound n (Hears which) since now sound timely full = hears_sound setting history n which sound timely
   done_sound n (Answers which at replies) since now sound timely full =
@@ -30,12 +36,15 @@ module _ (setting : Setting) (history : List Happening) where
       kept : (o : Option Sent) → (answers n at replies o).tables ≡ n.tables
       kept None = refl
       kept (Some s) = with s.packet.id s.packet.tuples
-  done_sound n (Relays which at to zone) since now sound timely full = relays_sound setting history n at to zone (packet_at n.sent which) sound
-  done_sound n (Registers at name) since now sound timely full = named_sound setting history n at ((n.tables at).names ++ name ∷ []) sound
+  done_sound n (Relays which at to zone) since now sound timely full =
+      relays_sound setting history n at to zone (packet_at n.sent which) sound
+  done_sound n (Registers at name) since now sound timely full =
+      named_sound setting history n at ((n.tables at).names ++ name ∷ []) sound
   done_sound n (Unregisters at object kind) since now sound timely full =
       named_sound setting history n at (without_first (is_called object kind) (n.tables at).names) sound
   done_sound n (Claims at id name) since now sound timely full =
-      named_sound setting history (finishes n at id) at ((n.tables at).names ++ name ∷ []) (finishes_sound setting history n at id sound)
+      named_sound setting history (finishes n at id) at ((n.tables at).names ++ name ∷ [])
+      (finishes_sound setting history n at id sound)
   done_sound n (Other count) since now sound timely full = foreign_sound setting history n count sound
 
 -- ---- histories
@@ -78,10 +87,12 @@ event_counts : (setting : Setting) (history : List Happening) → (after setting
 event_counts setting [] = refl
 event_counts setting (h ∷ hs) = omega (arith, same_event (after setting hs) h, event_counts setting hs)
 
-ticked : (setting : Setting) (history : List Happening) (n : Network) → Sound setting history n → Sound setting history (tick n)
+ticked : (setting : Setting) (history : List Happening) (n : Network) → Sound setting history n
+    → Sound setting history (tick n)
 ticked setting history n s = record { own = s.own; honest = s.honest; lawful = s.lawful; found = s.found }
 
-history_sound : (setting : Setting) (history : List Happening) → AllAsk setting → AllTimely setting history → Sound setting history (after setting history)
+history_sound : (setting : Setting) (history : List Happening) → AllAsk setting → AllTimely setting history
+    → Sound setting history (after setting history)
 history_sound setting [] asks timely = record {
   own = λ at. refl;
   honest = tt;
@@ -93,12 +104,15 @@ history_sound setting (h ∷ hs) asks timely =
     (done_sound setting (h ∷ hs) (after setting hs) h (omega (arith, event_counts setting hs)) refl
     (sound_later setting hs h (after setting hs) (history_sound setting hs asks timely.2)) timely.0 timely.1)
 
-pub finds_stood : (setting : Setting) (history : List Happening) → AllAsk setting → AllTimely setting history → FindsStood setting history
+pub finds_stood : (setting : Setting) (history : List Happening) → AllAsk setting → AllTimely setting history
+    → FindsStood setting history
 finds_stood setting history asks timely =
     let sound = history_sound setting history asks timely in
     record {
       lawful = sound.lawful;
       found = λ who.
-          all_implied (FoundIn setting history (after setting history).begun who) (IsFound setting history who) ((after setting history).lookups who).searches
-          (λ x f. record { begun = f.begun; newest = f.newest; pattern = f.pattern; stood = f.stood }) (sound.found who);
+          all_implied (FoundIn setting history (after setting history).begun who) (IsFound setting history who)
+          ((after setting history).lookups who).searches
+          (λ x f. record { begun = f.begun; newest = f.newest; pattern = f.pattern; stood = f.stood })
+          (sound.found who);
     }

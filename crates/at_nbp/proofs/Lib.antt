@@ -2,7 +2,6 @@ mod AskedHistories
 mod AskingLemmas
 mod ByteLemmas
 mod CodeLemmas
-pub mod DistinctLemmas
 mod FindLemmas
 mod HearingLemmas
 mod Histories

@@ -1,8 +1,10 @@
 -- Tuples that are read, measured or written so far.
-use Rattle.std.proofs.Common.{◌≡◌, ℕ, ◌+◌, ◌*◌, ◌<◌, ◌≤◌, List, [], ◌∷◌, ◌++◌, length, get_or, take, drop, map, sym, ap, subst, ◌∙◌, append_assoc, append-nil, arith}
+use Rattle.std.proofs.Common.{◌≡◌, ℕ, ◌+◌, ◌*◌, ◌<◌, ◌≤◌, List, [], ◌∷◌, ◌++◌, length, get_or, take, drop, map, sym, ap}
+use Rattle.std.proofs.Common.{subst, ◌∙◌, append_assoc, append-nil, arith}
 use Rattle.std.specs.Prelude.{All}
 use Rattle.std.specs.List.{flat_map}
-use Rattle.std.proofs.lemmas.List.{map-append, map_more, get_or-map, length-append, length-map, take_all, take-append-drop}
+use Rattle.std.proofs.lemmas.List.{map-append, map_more, get_or-map, length-append, length-map, take_all}
+use Rattle.std.proofs.lemmas.List.{take-append-drop}
 use Rattle.std.proofs.lemmas.List.Concat.{flat_map-append}
 use Rattle.std.proofs.lemmas.List.Elements.{All-push}
 use Rattle.at_nbp.specs.Fault.{IsTupleFault, StandsAfterTuples}
@@ -14,13 +16,17 @@ use Rattle.at_nbp.specs.declared.tuple.Tuple.{Tuple}
 abbrev pub spelled : List Tuple → List ℕ
 spelled tuples = flat_map tuple_spelling (map content tuples)
 
-spelled_push : (entries : List Entry) (e : Entry) → flat_map tuple_spelling (entries ++ e ∷ []) ≡ flat_map tuple_spelling entries ++ tuple_spelling e
-spelled_push entries e = flat_map-append tuple_spelling entries (e ∷ []) ∙ ap (λ l. flat_map tuple_spelling entries ++ l) (append-nil (tuple_spelling e))
+spelled_push : (entries : List Entry) (e : Entry) → flat_map tuple_spelling (entries ++ e ∷ [])
+    ≡ flat_map tuple_spelling entries ++ tuple_spelling e
+spelled_push entries e = flat_map-append tuple_spelling entries (e ∷ [])
+    ∙ ap (λ l. flat_map tuple_spelling entries ++ l) (append-nil (tuple_spelling e))
 
 -- one tuple more
-pub spelled_more : (tuples : List Tuple) (i : ℕ) (d t : Tuple) → i < length tuples → t ≡ get_or tuples i d → spelled (take (i + 1) tuples) ≡ spelled (take i tuples) ++ tuple_spelling (content t)
+pub spelled_more : (tuples : List Tuple) (i : ℕ) (d t : Tuple) → i < length tuples → t ≡ get_or tuples i d
+    → spelled (take (i + 1) tuples) ≡ spelled (take i tuples) ++ tuple_spelling (content t)
 spelled_more tuples i d t lt at =
-    ap (flat_map tuple_spelling) (map_more content tuples i d lt) ∙ spelled_push (map content (take i tuples)) (content (get_or tuples i d))
+    ap (flat_map tuple_spelling) (map_more content tuples i d lt)
+    ∙ spelled_push (map content (take i tuples)) (content (get_or tuples i d))
     ∙ ap (λ (u : Tuple). spelled (take i tuples) ++ tuple_spelling (content u)) (sym at)
 
 -- ---- tuples that are read
@@ -30,18 +36,23 @@ pub record AreTaken (bytes : List ℕ) (items : List Tuple) (count : ℕ) (rest 
   pub counted : length items ≡ count
   pub follows : bytes ≡ spelled items ++ rest
 
-pub taken_more : (bytes : List ℕ) (items items' : List Tuple) (count : ℕ) (rest after : List ℕ) (t : Tuple) → AreTaken bytes items count rest → IsTuple (content t) →
+pub taken_more : (bytes : List ℕ) (items items' : List Tuple) (count : ℕ) (rest after : List ℕ) (t : Tuple)
+    → AreTaken bytes items count rest → IsTuple (content t) →
     rest ≡ tuple_spelling (content t) ++ after → items' ≡ items ++ t ∷ [] → AreTaken bytes items' (count + 1) after
 taken_more bytes items items' count rest after t taken ok is pushed =
-    let entries : map content items' ≡ map content items ++ content t ∷ [] = ap (map content) pushed ∙ map-append content items (t ∷ []) in
+    let entries : map content items' ≡ map content items ++ content t ∷ [] = ap (map content) pushed
+    ∙ map-append content items (t ∷ []) in
     record {
       each = subst (All IsTuple) (sym entries) (All-push IsTuple (map content items) (content t) taken.each ok);
       counted = omega (arith, ap (length {A = Tuple}) pushed, length-append items (t ∷ []), taken.counted);
-      follows = taken.follows ∙ ap (λ l. spelled items ++ l) is ∙ sym (append_assoc (spelled items) (tuple_spelling (content t)) after)
-          ∙ ap (λ l. l ++ after) (sym (ap (flat_map tuple_spelling) entries ∙ spelled_push (map content items) (content t)));
+      follows = taken.follows ∙ ap (λ l. spelled items ++ l) is
+          ∙ sym (append_assoc (spelled items) (tuple_spelling (content t)) after)
+          ∙ ap (λ l. l ++ after) (sym
+          (ap (flat_map tuple_spelling) entries ∙ spelled_push (map content items) (content t)));
     }
 
-pub fault_after : (fault : NbpFault) (bytes : List ℕ) (items : List Tuple) (count end : ℕ) (rest : List ℕ) → AreTaken bytes items count rest → count < end → IsTupleFault fault rest →
+pub fault_after : (fault : NbpFault) (bytes : List ℕ) (items : List Tuple) (count end : ℕ) (rest : List ℕ)
+    → AreTaken bytes items count rest → count < end → IsTupleFault fault rest →
     StandsAfterTuples fault end bytes
 fault_after fault bytes items count end rest taken lt stands = record {
   tuples = map content items;
@@ -69,26 +80,42 @@ tuple_length e =
     )
 
 pub short_tuple : (e : Entry) → FitsStrings e → length (tuple_spelling e) ≤ 104
-short_tuple e fits = omega (arith, tuple_length e, fits 0 [] (omega arith), fits 1 [] (omega arith), fits 2 [] (omega arith))
+short_tuple e fits = omega
+    (arith, tuple_length e, fits 0 [] (omega arith), fits 1 [] (omega arith), fits 2 [] (omega arith))
 
-pub measured_more : (tuples : List Tuple) (i len size : ℕ) (d t : Tuple) → AreMeasured tuples i len → i < length tuples → t ≡ get_or tuples i d → FitsStrings (content t) →
+pub measured_more : (tuples : List Tuple) (i len size : ℕ) (d t : Tuple) → AreMeasured tuples i len → i < length tuples
+    → t ≡ get_or tuples i d → FitsStrings (content t) →
     size ≡ length (tuple_spelling (content t)) → AreMeasured tuples (i + 1) (len + size)
 measured_more tuples i len size d t so_far lt at fits is = record {
   fits = subst (All FitsStrings) (sym (map_more content tuples i d lt))
-      (All-push FitsStrings (map content (take i tuples)) (content (get_or tuples i d)) so_far.fits (subst (λ (u : Tuple). FitsStrings (content u)) at fits));
-  sum = omega (arith, so_far.sum, is, ap (length {A = ℕ}) (spelled_more tuples i d t lt at), length-append (spelled (take i tuples)) (tuple_spelling (content t)));
+      (All-push FitsStrings (map content (take i tuples)) (content (get_or tuples i d)) so_far.fits
+      (subst (λ (u : Tuple). FitsStrings (content u)) at fits));
+  sum = omega (
+    arith,
+    so_far.sum,
+    is,
+    ap (length {A = ℕ}) (spelled_more tuples i d t lt at),
+    length-append
+        (spelled (take i tuples)) (tuple_spelling (content t)),
+  );
   small = omega (arith, so_far.small, is, short_tuple (content t) fits);
 }
 
-pub measured_all : (tuples : List Tuple) (i len : ℕ) → AreMeasured tuples i len → length tuples ≤ i → All FitsStrings (map content tuples) × (len ≡ length (spelled tuples))
+pub measured_all : (tuples : List Tuple) (i len : ℕ) → AreMeasured tuples i len → length tuples ≤ i
+    → All FitsStrings (map content tuples) × (len ≡ length (spelled tuples))
 measured_all tuples i len so_far all =
-    let whole = take_all i tuples all in
-    (subst (λ (l : List Tuple). All FitsStrings (map content l)) whole so_far.fits, so_far.sum ∙ ap (λ (l : List Tuple). length (spelled l)) whole)
+    let whole = take_all i tuples all in (
+      subst (λ (l : List Tuple). All FitsStrings (map content l)) whole so_far.fits,
+      so_far.sum
+          ∙ ap (λ (l : List Tuple). length (spelled l)) whole,
+    )
 
 -- the tuple at a place has its strings if all have
-pub fits_at : (tuples : List Tuple) (i : ℕ) (d t : Tuple) → i < length tuples → t ≡ get_or tuples i d → All FitsStrings (map content tuples) → FitsStrings (content t)
+pub fits_at : (tuples : List Tuple) (i : ℕ) (d t : Tuple) → i < length tuples → t ≡ get_or tuples i d
+    → All FitsStrings (map content tuples) → FitsStrings (content t)
 fits_at tuples i d t lt at each =
-    let one : FitsStrings (get_or (map content tuples) i (content t)) = each i (content t) (omega (arith, length-map tuples content, lt)) in
+    let one : FitsStrings (get_or (map content tuples) i (content t)) =
+    each i (content t) (omega (arith, length-map tuples content, lt)) in
     subst FitsStrings (get_or-map content tuples i d (content t) lt ∙ ap content (sym at)) one
 
 -- ---- tuples that are written
@@ -102,11 +129,13 @@ pub record AreWritten (old : List ℕ) (tuples : List Tuple) (i : ℕ) (items : 
 spelled_take : (i : ℕ) (tuples : List Tuple) → length (spelled (take i tuples)) ≤ length (spelled tuples)
 spelled_take i tuples =
     let whole : spelled (take i tuples) ++ spelled (drop i tuples) ≡ spelled tuples =
-    sym (ap (flat_map tuple_spelling) (map-append content (take i tuples) (drop i tuples)) ∙ flat_map-append tuple_spelling (map content (take i tuples)) (map content (drop i tuples)))
+    sym (ap (flat_map tuple_spelling) (map-append content (take i tuples) (drop i tuples))
+    ∙ flat_map-append tuple_spelling (map content (take i tuples)) (map content (drop i tuples)))
     ∙ ap (λ (l : List Tuple). spelled l) (take-append-drop i tuples) in
     omega (arith, ap (length {A = ℕ}) whole, length-append (spelled (take i tuples)) (spelled (drop i tuples)))
 
-pub next_has_room : (old items : List ℕ) (tuples : List Tuple) (i capacity : ℕ) (d t : Tuple) → AreWritten old tuples i items capacity → i < length tuples → t ≡ get_or tuples i d →
+pub next_has_room : (old items : List ℕ) (tuples : List Tuple) (i capacity : ℕ) (d t : Tuple)
+    → AreWritten old tuples i items capacity → i < length tuples → t ≡ get_or tuples i d →
     length items + length (tuple_spelling (content t)) ≤ capacity
 next_has_room old items tuples i capacity d t w lt at =
     omega (
@@ -119,13 +148,17 @@ next_has_room old items tuples i capacity d t w lt at =
       spelled_take (i + 1) tuples,
     )
 
-pub written_more : (old items items' : List ℕ) (tuples : List Tuple) (i capacity capacity' : ℕ) (d t : Tuple) → AreWritten old tuples i items capacity → i < length tuples → t ≡ get_or tuples i d →
+pub written_more : (old items items' : List ℕ) (tuples : List Tuple) (i capacity capacity' : ℕ) (d t : Tuple)
+    → AreWritten old tuples i items capacity → i < length tuples → t ≡ get_or tuples i d →
     items' ≡ items ++ tuple_spelling (content t) → capacity ≤ capacity' → AreWritten old tuples (i + 1) items' capacity'
 written_more old items items' tuples i capacity capacity' d t w lt at pushed wider = record {
-  items_are = pushed ∙ ap (λ l. l ++ tuple_spelling (content t)) w.items_are ∙ append_assoc old (spelled (take i tuples)) (tuple_spelling (content t))
+  items_are = pushed ∙ ap (λ l. l ++ tuple_spelling (content t)) w.items_are
+      ∙ append_assoc old (spelled (take i tuples)) (tuple_spelling (content t))
       ∙ ap (λ l. old ++ l) (sym (spelled_more tuples i d t lt at));
   room = omega (arith, w.room, wider);
 }
 
-pub written_all : (old items : List ℕ) (tuples : List Tuple) (i capacity : ℕ) → AreWritten old tuples i items capacity → length tuples ≤ i → items ≡ old ++ spelled tuples
-written_all old items tuples i capacity w all = w.items_are ∙ ap (λ (l : List Tuple). old ++ spelled l) (take_all i tuples all)
+pub written_all : (old items : List ℕ) (tuples : List Tuple) (i capacity : ℕ) → AreWritten old tuples i items capacity
+    → length tuples ≤ i → items ≡ old ++ spelled tuples
+written_all old items tuples i capacity w all = w.items_are
+    ∙ ap (λ (l : List Tuple). old ++ spelled l) (take_all i tuples all)

@@ -1,5 +1,6 @@
 -- What is in range, packet by packet and happening by happening.
-use Rattle.std.proofs.Common.{◌≡◌, ℕ, zero, suc, ◌<◌, Bool, true, false, cond, List, [], ◌∷◌, length, drop, map, refl, sym, ap, subst, ◌≤◌, ◌∙◌, arith}
+use Rattle.std.proofs.Common.{◌≡◌, ℕ, zero, suc, ◌<◌, Bool, true, false, cond, List, [], ◌∷◌, length, drop, map, refl}
+use Rattle.std.proofs.Common.{sym, ap, subst, ◌≤◌, ◌∙◌, arith}
 use Rattle.std.specs.Prelude.{All}
 use Rattle.std.specs.List.{AllByRecursion, filter}
 use Rattle.std.proofs.lemmas.List.{length-map}
@@ -7,7 +8,8 @@ use Rattle.std.proofs.lemmas.List.Elements.{All-drop, All-take}
 use Rattle.at_ddp.specs.Datagram.{IsAddress}
 use Rattle.at_nbp.specs.Lawfully.{IsName, IsNamed}
 use Rattle.at_nbp.specs.Lookups as lookups
-use Rattle.at_nbp.specs.Lookups.{Lookups, Search, answered, asking, beginning, closed, free_id, has_id, heard, is_reply, next_id, question, reply_came, search_of}
+use Rattle.at_nbp.specs.Lookups.{Lookups, Search, answered, asking, beginning, closed, free_id, has_id, heard, is_reply}
+use Rattle.at_nbp.specs.Lookups.{next_id, question, reply_came, search_of}
 use Rattle.at_nbp.specs.NameTables.{Table}
 use Rattle.at_nbp.specs.Names.{is_any_zone}
 use Rattle.at_nbp.specs.Network.{asks}
@@ -58,7 +60,8 @@ short_strings : (t : Entry) → IsTuple t → FitsStrings t
 short_strings t is k d lt = let text = is.each k d lt in text.fits
 
 -- one tuple has room
-one_small : (f : Function) (id : ℕ) (tuples : List Entry) → length tuples ≡ 1 → All IsTuple tuples → length (spelling (record { function = f; id = id; tuples = tuples })) ≤ 586
+one_small : (f : Function) (id : ℕ) (tuples : List Entry) → length tuples ≡ 1 → All IsTuple tuples
+    → length (spelling (record { function = f; id = id; tuples = tuples })) ≤ 586
 one_small f id [] one each = absurd (omega (arith, one))
 one_small f id (t ∷ u ∷ ts) one each = absurd (omega (arith, one))
 one_small f id (t ∷ []) one each = omega (arith, one_len f id t (short_strings t (first_tuple t [] each)))
@@ -66,7 +69,11 @@ one_small f id (t ∷ []) one each = omega (arith, one_len f id t (short_strings
 -- ---- questions
 
 pub asked_fits : (pattern : Name) → IsName pattern → IsName (lookups.asked pattern)
-asked_fits pattern is = record { object = is.object; kind = is.kind; zone = zone_fits (is_any_zone pattern.zone) (0x2A ∷ []) pattern.zone star_fits is.zone }
+asked_fits pattern is = record {
+  object = is.object;
+  kind = is.kind;
+  zone = zone_fits (is_any_zone pattern.zone) (0x2A ∷ []) pattern.zone star_fits is.zone;
+}
 
 -- a lookup that can be asked
 pub record IsAsked (s : Search) : Type 0 where
@@ -75,24 +82,33 @@ pub record IsAsked (s : Search) : Type 0 where
 
 pub question_fits : (l : Lookups) (s : Search) → IsAddress l.own → IsAsked s → IsSpelled (question l s)
 question_fits l s own is =
-    let strings = three_fit s.pattern.object s.pattern.kind s.pattern.zone (is.pattern).object (is.pattern).kind (is.pattern).zone in
-    let each = one_tuple (asking l.own s.pattern) (record { address = own; enumerator = omega arith; each = strings }) in
-    (record { id = is.id; count = one_counts l.function; each = each }, one_small l.function s.id (asking l.own s.pattern ∷ []) refl each)
+    let strings = three_fit s.pattern.object s.pattern.kind s.pattern.zone (is.pattern).object (is.pattern).kind
+    (is.pattern).zone in
+    let each = one_tuple (asking l.own s.pattern)
+    (record { address = own; enumerator = omega arith; each = strings }) in (
+      record { id = is.id; count = one_counts l.function; each = each },
+      one_small l.function s.id
+          (asking l.own s.pattern ∷ []) refl each,
+    )
 
 -- ---- replies
 
-entry_fits : (table : Table) (r : Registered) → IsAddress table.own → IsString table.zone → IsNamed r → IsTuple (entry_in table r)
+entry_fits : (table : Table) (r : Registered) → IsAddress table.own → IsString table.zone → IsNamed r
+    → IsTuple (entry_in table r)
 entry_fits table r own zone is = record {
   address = record { net = own.net; node = own.node; socket = is.socket };
   enumerator = is.enumerator;
   each = three_fit r.object r.kind table.zone is.object is.kind zone;
 }
 
-pub entries_fit : (table : Table) (p : Registered → Bool) (names : List Registered) → IsAddress table.own → IsString table.zone → AllByRecursion IsNamed names → AllByRecursion IsTuple (map (entry_in table) (filter p names))
+pub entries_fit : (table : Table) (p : Registered → Bool) (names : List Registered) → IsAddress table.own
+    → IsString table.zone → AllByRecursion IsNamed names
+    → AllByRecursion IsTuple (map (entry_in table) (filter p names))
 entries_fit table p [] own zone each = tt
 entries_fit table p (r ∷ rs) own zone each = go (entries_fit table p rs own zone each.1) (p r)
   where
-    go : AllByRecursion IsTuple (map (entry_in table) (filter p rs)) → (b : Bool) → AllByRecursion IsTuple (map (entry_in table) (cond b (r ∷ filter p rs) (filter p rs)))
+    go : AllByRecursion IsTuple (map (entry_in table) (filter p rs)) → (b : Bool)
+        → AllByRecursion IsTuple (map (entry_in table) (cond b (r ∷ filter p rs) (filter p rs)))
     go ih true = (entry_fits table r own zone each.0, ih)
     go ih false = ih
 
@@ -102,14 +118,32 @@ by_place P (x ∷ xs) each zero d lt = each.0
 by_place P (x ∷ xs) each (suc k) d lt = by_place P xs each.1 k d (omega (arith, lt))
 
 -- each of the replies can be spelled
-pub replies_fit : (id : ℕ) (entries : List Entry) (replies : List (List Entry)) → id < 256 → AreReplies entries replies → All IsTuple entries →
+pub replies_fit : (id : ℕ) (entries : List Entry) (replies : List (List Entry)) → id < 256 → AreReplies entries replies
+    → All IsTuple entries →
     AllByRecursion (λ (reply : List Entry). IsSpelled (record { function = Reply; id = id; tuples = reply })) replies
 replies_fit id entries [] fits are each = tt
 replies_fit id entries (r ∷ rs) fits are each =
     let full : IsFull entries (length r) = are.0 in
-    let lawful : IsLawful (record { function = Reply; id = id; tuples = r }) = record { id = fits; count = full.few; each = subst (All IsTuple) (sym are.1) (All-take IsTuple (length r) entries each) } in
-    let small = full.fits in
-    ((lawful, omega (arith, small, ap size_of are.1, length_spelling (record { function = Reply; id = id; tuples = r }))), replies_fit id (drop (length r) entries) rs fits are.2 (All-drop IsTuple (length r) entries each))
+    let lawful : IsLawful (record { function = Reply; id = id; tuples = r }) =
+    record {
+      id = fits;
+      count = full.few;
+      each = subst (All IsTuple) (sym are.1) (All-take IsTuple (length r) entries each);
+    } in
+    let small = full.fits in (
+      (
+        lawful,
+        omega (
+          arith,
+          small,
+          ap size_of are.1,
+          length_spelling
+              (record { function = Reply; id = id; tuples = r }),
+        ),
+      ),
+      replies_fit id (drop (length r) entries) rs fits are.2
+          (All-drop IsTuple (length r) entries each),
+    )
 
 -- ---- requests that are relayed
 
@@ -117,10 +151,13 @@ in_zone_fits : (zone : List ℕ) (t : Entry) → IsString zone → IsTuple t →
 in_zone_fits zone t fits is = record {
   address = is.address;
   enumerator = is.enumerator;
-  each = three_fit t.object t.kind (cond (is_any_zone t.zone) zone t.zone) (is.each 0 t.object (omega arith)) (is.each 1 t.object (omega arith)) (zone_fits (is_any_zone t.zone) zone t.zone fits (is.each 2 t.object (omega arith)));
+  each = three_fit t.object t.kind (cond (is_any_zone t.zone) zone t.zone) (is.each 0 t.object (omega arith))
+      (is.each 1 t.object (omega arith))
+      (zone_fits (is_any_zone t.zone) zone t.zone fits (is.each 2 t.object (omega arith)));
 }
 
-one_in_zone : (zone : List ℕ) (tuples : List Entry) → IsString zone → length tuples ≡ 1 → All IsTuple tuples → All IsTuple (map (in_zone zone) tuples)
+one_in_zone : (zone : List ℕ) (tuples : List Entry) → IsString zone → length tuples ≡ 1 → All IsTuple tuples
+    → All IsTuple (map (in_zone zone) tuples)
 one_in_zone zone [] fits one each = absurd (omega (arith, one))
 one_in_zone zone (t ∷ u ∷ ts) fits one each = absurd (omega (arith, one))
 one_in_zone zone (t ∷ []) fits one each = one_tuple (in_zone zone t) (in_zone_fits zone t fits (first_tuple t [] each))
@@ -131,7 +168,8 @@ one_asks ForwardRequest count asks is = is
 one_asks LookUp count asks is = absurd cc
 one_asks Reply count asks is = absurd cc
 
-pub relayed_fits : (zone : List ℕ) (p : Content) → IsString zone → asks_router p.function ≡ true → IsLawful p → IsSpelled (relayed zone p)
+pub relayed_fits : (zone : List ℕ) (p : Content) → IsString zone → asks_router p.function ≡ true → IsLawful p
+    → IsSpelled (relayed zone p)
 relayed_fits zone p fits asks is =
     let one : length p.tuples ≡ 1 = one_asks p.function (length p.tuples) asks is.count in
     let still : length (map (in_zone zone) p.tuples) ≡ 1 = length-map p.tuples (in_zone zone) ∙ one in

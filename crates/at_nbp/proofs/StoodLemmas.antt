@@ -1,5 +1,6 @@
 -- Names that stood, and the tuples and finds that are made of them.
-use Rattle.std.proofs.Common.{◌≡◌, ℕ, zero, suc, ◌<◌, ◌≤◌, Bool, true, false, cond, List, [], ◌∷◌, ◌++◌, length, take, drop, filter, Contains, refl, sym, ap, subst, ◌∙◌, arith}
+use Rattle.std.proofs.Common.{◌≡◌, ℕ, zero, suc, ◌<◌, ◌≤◌, Bool, true, false, cond, List, [], ◌∷◌, ◌++◌, length, take}
+use Rattle.std.proofs.Common.{drop, filter, Contains, refl, sym, ap, subst, ◌∙◌, arith}
 use Rattle.std.specs.List.{AllByRecursion}
 use Rattle.at_ddp.specs.declared.address.Address.{Address}
 use Rattle.at_nbp.specs.Lookups.{find_of, joins, all_joined}
@@ -11,21 +12,12 @@ use Rattle.at_nbp.specs.Tuples.{Entry}
 use Rattle.at_nbp.specs.declared.find.Find.{Find}
 use Rattle.at_nbp.specs.declared.name.Name.{Name}
 use Rattle.at_nbp.specs.declared.names.Registered.{Registered}
-use Rattle.at_ddp.proofs.Alls.{all_implied, all_both, all_mapped}
+use Rattle.at_ddp.proofs.Alls.{all_implied, all_both, all_mapped, all_taken, all_dropped}
 
 -- ---- parts of a list
 
-all_taken : {X : Type 0} (P : X → Type 0) (n : ℕ) (xs : List X) → AllByRecursion P xs → AllByRecursion P (take n xs)
-all_taken P zero xs h = tt
-all_taken P (suc n) [] h = tt
-all_taken P (suc n) (x ∷ xs) h = (h.0, all_taken P n xs h.1)
-
-all_dropped : {X : Type 0} (P : X → Type 0) (n : ℕ) (xs : List X) → AllByRecursion P xs → AllByRecursion P (drop n xs)
-all_dropped P zero xs h = h
-all_dropped P (suc n) [] h = tt
-all_dropped P (suc n) (x ∷ xs) h = all_dropped P n xs h.1
-
-all_filtered : {X : Type 0} (P : X → Type 0) (p : X → Bool) (xs : List X) → AllByRecursion P xs → AllByRecursion P (filter p xs)
+all_filtered : {X : Type 0} (P : X → Type 0) (p : X → Bool) (xs : List X) → AllByRecursion P xs
+    → AllByRecursion P (filter p xs)
 all_filtered P p [] h = tt
 all_filtered P p (x ∷ xs) h = go (all_filtered P p xs h.1) (p x)
   where
@@ -35,48 +27,87 @@ all_filtered P p (x ∷ xs) h = go (all_filtered P p xs h.1) (p x)
 
 each_there : {X : Type 0} (xs : List X) → AllByRecursion (Contains xs) xs
 each_there [] = tt
-each_there (x ∷ xs) =
-    ((0, omega arith, refl), all_implied (Contains xs) (Contains (x ∷ xs)) xs (λ y c. let within = c.1 in (suc c.0, omega (arith, within), c.2)) (each_there xs))
+each_there (x ∷ xs) = (
+  (0, omega arith, refl),
+  all_implied (Contains xs) (Contains (x ∷ xs)) xs
+      (λ y c. let within = c.1 in (suc c.0, omega (arith, within), c.2)) (each_there xs),
+)
 
 -- what holds of each name that matches holds of each tuple of the replies
-all_replies : (P : Entry → Type 0) (entries : List Entry) (replies : List (List Entry)) → AreReplies entries replies → AllByRecursion P entries → AllByRecursion (AllByRecursion P) replies
+all_replies : (P : Entry → Type 0) (entries : List Entry) (replies : List (List Entry)) → AreReplies entries replies
+    → AllByRecursion P entries → AllByRecursion (AllByRecursion P) replies
 all_replies P entries [] full h = tt
-all_replies P entries (reply ∷ replies) full h =
-    (subst (AllByRecursion P) (sym full.1) (all_taken P (length reply) entries h), all_replies P (drop (length reply) entries) replies full.2 (all_dropped P (length reply) entries h))
+all_replies P entries (reply ∷ replies) full h = (
+  subst (AllByRecursion P) (sym full.1) (all_taken P (length reply) entries h),
+  all_replies P
+      (drop (length reply) entries) replies full.2 (all_dropped P (length reply) entries h),
+)
 
 -- ---- one happening later, and since an earlier event
 
 module _ (setting : Setting) (history : List Happening) where
-  pub stood_later : (h : Happening) (event : ℕ) (t : Entry) → Stood setting history event t → Stood setting (h ∷ history) event t
-  stood_later h event t s = record { ago = suc s.ago; since = let since = s.since in omega (arith, since); at = s.at; owns = s.owns; name = s.name; there = s.there; is = s.is }
+  pub stood_later : (h : Happening) (event : ℕ) (t : Entry) → Stood setting history event t
+      → Stood setting (h ∷ history) event t
+  stood_later h event t s =
+      record {
+        ago = suc s.ago;
+        since = let since = s.since in omega (arith, since);
+        at = s.at;
+        owns = s.owns;
+        name = s.name;
+        there = s.there;
+        is = s.is;
+      }
 
-  pub stood_before : (event earlier : ℕ) (t : Entry) → earlier ≤ event → Stood setting history event t → Stood setting history earlier t
-  stood_before event earlier t le s = record { ago = s.ago; since = let since = s.since in omega (arith, since, le); at = s.at; owns = s.owns; name = s.name; there = s.there; is = s.is }
+  pub stood_before : (event earlier : ℕ) (t : Entry) → earlier ≤ event → Stood setting history event t
+      → Stood setting history earlier t
+  stood_before event earlier t le s =
+      record {
+        ago = s.ago;
+        since = let since = s.since in omega (arith, since, le);
+        at = s.at;
+        owns = s.owns;
+        name = s.name;
+        there = s.there;
+        is = s.is;
+      }
 
-  pub find_later : (h : Happening) (event : ℕ) (pattern : Name) (f : Find) → FindStood setting history event pattern f → FindStood setting (h ∷ history) event pattern f
+  pub find_later : (h : Happening) (event : ℕ) (pattern : Name) (f : Find) → FindStood setting history event pattern f
+      → FindStood setting (h ∷ history) event pattern f
   find_later h event pattern f s = record { tuple = s.tuple; stood = stood_later h event s.tuple s.stood; is = s.is }
 
   -- ---- finds that join
 
-  pub joined_stood : (event : ℕ) (pattern : Name) (finds : List Find) (tuples : List Entry) → AllByRecursion (FindStood setting history event pattern) finds →
-      AllByRecursion (Stood setting history event) tuples → AllByRecursion (FindStood setting history event pattern) (all_joined pattern finds tuples)
+  pub joined_stood : (event : ℕ) (pattern : Name) (finds : List Find) (tuples : List Entry)
+      → AllByRecursion (FindStood setting history event pattern) finds →
+      AllByRecursion (Stood setting history event) tuples
+      → AllByRecursion (FindStood setting history event pattern) (all_joined pattern finds tuples)
   joined_stood event pattern finds [] old new = old
   joined_stood event pattern finds (t ∷ ts) old new =
-      joined_stood event pattern (cond (joins pattern finds (find_of pattern t)) (finds ++ find_of pattern t ∷ []) finds) ts (go (joins pattern finds (find_of pattern t))) new.1
+      joined_stood event pattern
+      (cond (joins pattern finds (find_of pattern t)) (finds ++ find_of pattern t ∷ []) finds) ts
+      (go (joins pattern finds (find_of pattern t))) new.1
     where
-      go : (b : Bool) → AllByRecursion (FindStood setting history event pattern) (cond b (finds ++ find_of pattern t ∷ []) finds)
-      go true = all_both (FindStood setting history event pattern) finds (find_of pattern t ∷ []) old (record { tuple = t; stood = new.0; is = refl }, tt)
+      go : (b : Bool) → AllByRecursion (FindStood setting history event pattern)
+          (cond b (finds ++ find_of pattern t ∷ []) finds)
+      go true = all_both (FindStood setting history event pattern) finds (find_of pattern t ∷ []) old
+          (record { tuple = t; stood = new.0; is = refl }, tt)
       go false = old
 
   -- ---- what is answered stands at that moment
 
-  pub replies_stand : (tables : Address → Table) (event : ℕ) (at : Address) (pattern : Name) (replies : List (List Entry)) → (after setting history).tables ≡ tables →
-      event < length history → (tables at).own ≡ at → AreReplies (matching (tables at) pattern) replies → AllByRecursion (AllByRecursion (Stood setting history event)) replies
+  pub replies_stand : (tables : Address → Table) (event : ℕ) (at : Address) (pattern : Name)
+      (replies : List (List Entry)) → (after setting history).tables ≡ tables →
+      event < length history → (tables at).own ≡ at → AreReplies (matching (tables at) pattern) replies
+      → AllByRecursion (AllByRecursion (Stood setting history event)) replies
   replies_stand tables event at pattern replies now since owns full =
       all_replies (Stood setting history event) (matching (tables at) pattern) replies full
-      (all_mapped (entry_in (tables at)) (Stood setting history event) (filter (λ r. is_match pattern (name_in (tables at) r)) (tables at).names)
-      (all_filtered (λ r. Stood setting history event (entry_in (tables at) r)) (λ r. is_match pattern (name_in (tables at) r)) (tables at).names
-      (all_implied (Contains (tables at).names) (λ r. Stood setting history event (entry_in (tables at) r)) (tables at).names stands (each_there (tables at).names))))
+      (all_mapped (entry_in (tables at)) (Stood setting history event)
+      (filter (λ r. is_match pattern (name_in (tables at) r)) (tables at).names)
+      (all_filtered (λ r. Stood setting history event (entry_in (tables at) r))
+      (λ r. is_match pattern (name_in (tables at) r)) (tables at).names
+      (all_implied (Contains (tables at).names) (λ r. Stood setting history event (entry_in (tables at) r))
+      (tables at).names stands (each_there (tables at).names))))
     where
       stands : (r : Registered) → Contains (tables at).names r → Stood setting history event (entry_in (tables at) r)
       stands r there = record {

@@ -6,6 +6,7 @@ use Rattle.std.specs.Str.{bytes_eq}
 use Rattle.at_ddp.specs.Address.{same_address}
 use Rattle.at_ddp.specs.Tables.{replaced, without_first}
 use Rattle.at_ddp.specs.declared.address.Address.{Address}
+use Rattle.at_ddp.specs.Numbers.{first_free}
 use Rattle.at_nbp.specs.Names.{is_any_zone, is_match}
 use Rattle.at_nbp.specs.Packets.{Content, spelling}
 use Rattle.at_nbp.specs.Tuples.{Entry}
@@ -52,9 +53,7 @@ search_of l id = find (has_id id) l.searches
 
 -- the first identifier from this one on that is not open, if it takes at most so many tries
 abbrev pub free_id : ℕ → ℕ → List Search → Option ℕ
-free_id zero first searches = None
-free_id (suc tries) first searches =
-    if list_any (has_id first) searches then free_id tries ((first + 1) % 256) searches else Some first
+free_id tries first searches = first_free (λ id. (id + 1) % 256) (λ id. list_any (has_id id) searches) tries first
 
 -- the identifier of the next lookup; none if 8 lookups are open
 abbrev pub next_id : Lookups → Option ℕ

@@ -5,6 +5,7 @@ use Rattle.std.specs.Prelude.{◌∷◌, ◌++◌, length, drop, map, find, repl
 use Rattle.std.specs.List.{AllByRecursion, list_all}
 use Rattle.at_ddp.specs.Address.{same_address}
 use Rattle.at_ddp.specs.Tables.{without_first}
+use Rattle.at_ddp.specs.Posts.{Post, Posts, packet_at, put, stamped}
 use Rattle.at_ddp.specs.declared.address.Address.{Address}
 use Rattle.at_nbp.specs.Lookups as lookups
 use Rattle.at_nbp.specs.Lookups.{Lookups, Search, AreLookups, asked, beginning, closed, find_of, heard, is_question}
@@ -31,11 +32,8 @@ abbrev pub AllAsk : Setting → Type 0
 AllAsk setting = (at : Address) → is_question (setting.function at) ≡ true
 
 -- a packet that was sent, with the event that sent it
-pub record Sent : Type 0 where
-  pub event : ℕ
-  pub from : Address
-  pub to : Address
-  pub packet : Content
+abbrev pub Sent : Type 0
+Sent = Post Content
 
 -- a lookup that began, with the event that drew its identifier
 pub record Begun : Type 0 where
@@ -48,7 +46,7 @@ pub record Network : Type 0 where
   pub event : ℕ  -- how many events there were
   pub tables : Address → Table  -- the names at each address
   pub lookups : Address → Lookups  -- the open lookups at each address
-  pub sent : List (Option Sent)  -- all that was ever sent on the cable; nothing stands for a foreign datagram
+  pub sent : Posts Content
   pub begun : List Begun  -- all lookups that ever began, newest first
 
 -- before anything happened
@@ -61,14 +59,6 @@ opening setting = record {
   sent = [];
   begun = [];
 }
-
--- what was sent at a place, if it is a packet
-abbrev pub packet_of : Option (Option Sent) → Option Sent
-packet_of None = None
-packet_of (Some x) = x
-
-abbrev pub packet_at : List (Option Sent) → ℕ → Option Sent
-packet_at sent which = packet_of (slice_get sent which)
 
 -- ---- what happens
 
@@ -93,14 +83,6 @@ pub data Happening : Type 0 where
   Claims : (at : Address) (id : ℕ) (name : Registered) → Happening
   -- an event outside this network, which sends so many foreign datagrams
   Other : (count : ℕ) → Happening
-
--- a new value at one address
-abbrev pub put : {X : Type 0} → (Address → X) → Address → X → Address → X
-put f at x a = if same_address at a then x else f a
-
-abbrev pub stamped : ℕ → Address → List (Address × Content) → List (Option Sent)
-stamped event from sent =
-    map (λ (s : Address × Content). Some (record { event = event; from = from; to = s.0; packet = s.1 })) sent
 
 abbrev pub with_sent : Network → Address → List (Address × Content) → Network
 with_sent n from sent = record n { sent = n.sent ++ stamped n.event from sent }

@@ -132,7 +132,7 @@ impl<A: Allocator + Copy> Lookup<A> {
             return Ok(0);
         };
         let search = &mut self.searches[index];
-        search.take_in(&packet.tuples)
+        search.hear(&packet.tuples)
     }
 
     /// Asks again for the open lookup of this identifier.

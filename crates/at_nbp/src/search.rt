@@ -62,7 +62,7 @@ impl<A: Allocator> Search<A> {
     }
 
     // Keeps the finds of a reply that join, and returns how many they are. If there are none, it needs no memory.
-    pub(crate) fn take_in(&mut self, tuples: &[Tuple<'_>]) -> Result<usize, AllocError>
+    pub(crate) fn hear(&mut self, tuples: &[Tuple<'_>]) -> Result<usize, AllocError>
         requires short { All FitsStrings (map content tuples.now) }
         requires few { length tuples.now ≤ 15 }
         ensures state { OnOk result (self.new ≡ answered self.old (map content tuples.now)) }

@@ -50,7 +50,8 @@ module _ (A X : Type 0) (q : Report A → Option X) (none : TellsNothing A X q) 
   released_none reception.Released = none.released
   released_none (reception.New key) = none.ignored
 
-  service_none : (s : Seat) (a : AtpState) (t : Taken) (user bytes : List ℕ) (said : Reply A) (r : Reception) → Nothing (at_service s a t user bytes said r)
+  service_none : (s : Seat) (a : AtpState) (t : Taken) (user bytes : List ℕ) (said : Reply A) (r : Reception)
+      → Nothing (at_service s a t user bytes said r)
   service_none s a t user bytes said reception.Ignored = none.ignored
   service_none s a t user bytes said (reception.Again count) = none.again
   service_none s a t user bytes said reception.Released = none.released
@@ -66,20 +67,28 @@ module _ (A X : Type 0) (q : Report A → Option X) (none : TellsNothing A X q) 
   either_none true x y h g = h
   either_none false x y h g = g
 
-  at_service_none : (said : Reply A) (s : Seat) (a : AtpState) (from : Address) (f : Content) (o : Outcome A AtpState) → AtService said s a from f o → Nothing o
+  at_service_none : (said : Reply A) (s : Seat) (a : AtpState) (from : Address) (f : Content) (o : Outcome A AtpState)
+      → AtService said s a from f o → Nothing o
   at_service_none said s a from (Request mask xo timer tid user bytes) o h =
       let f = Request mask xo timer tid user bytes in
-      as_told o _ h (either_none (finds_no_place a.service_responder from f) (idle a (report.Refused 14)) _ (none.refused 14) (service_none s a (taken a.service_responder from f) user bytes said (taken a.service_responder from f).reception))
+      as_told o _ h (either_none (finds_no_place a.service_responder from f) (idle a (report.Refused 14)) _
+      (none.refused 14) (service_none s a (taken a.service_responder from f) user bytes said
+      (taken a.service_responder from f).reception))
   at_service_none said s a from (Response place eom sts tid user bytes) o h = as_told o _ h none.ignored
-  at_service_none said s a from (Release tid) o h = as_told o _ h (released_none (taken a.service_responder from (Release tid)).reception)
+  at_service_none said s a from (Release tid) o h = as_told o _ h
+      (released_none (taken a.service_responder from (Release tid)).reception)
 
-  at_zones_none : (s : Seat) (a : AtpState) (from : Address) (table : List (List ℕ)) (f : Content) (o : Outcome A AtpState) → AtZones s a from table f o → Nothing o
+  at_zones_none : (s : Seat) (a : AtpState) (from : Address) (table : List (List ℕ)) (f : Content)
+      (o : Outcome A AtpState) → AtZones s a from table f o → Nothing o
   at_zones_none s a from table (Request mask xo timer tid user bytes) o (inl h) =
       let f = Request mask xo timer tid user bytes in
-      as_told o _ h.outcome (either_none (finds_no_place a.zone_responder from f) (idle a (report.Refused 14)) _ (none.refused 14) (zones_none s a (taken a.zone_responder from f) (page_packet table h.start) (taken a.zone_responder from f).reception))
+      as_told o _ h.outcome (either_none (finds_no_place a.zone_responder from f) (idle a (report.Refused 14)) _
+      (none.refused 14) (zones_none s a (taken a.zone_responder from f) (page_packet table h.start)
+      (taken a.zone_responder from f).reception))
   at_zones_none s a from table (Request mask xo timer tid user bytes) o (inr h) = as_told o _ h.1 none.ignored
   at_zones_none s a from table (Response place eom sts tid user bytes) o h = as_told o _ h none.ignored
-  at_zones_none s a from table (Release tid) o h = as_told o _ h (released_none (taken a.zone_responder from (Release tid)).reception)
+  at_zones_none s a from table (Release tid) o h = as_told o _ h
+      (released_none (taken a.zone_responder from (Release tid)).reception)
 
   -- so it is told by a packet for the socket that asks
   module _ (said : Reply A) (s : Seat) (a : AtpState) (d : Datagram) (o : Outcome A AtpState) where
@@ -92,7 +101,8 @@ module _ (A X : Type 0) (q : Report A → Option X) (none : TellsNothing A X q) 
     serving true h = zone_socket a.table h
     serving false h = as_told o _ h none.ignored
 
-    answering : (b : Bool) → HearsAt said s a d (cond b (Some Service) (cond (d.to.socket == 6) (option_map Zones a.table) None)) o → Nothing o
+    answering : (b : Bool) → HearsAt said s a d
+        (cond b (Some Service) (cond (d.to.socket == 6) (option_map Zones a.table) None)) o → Nothing o
     answering true (inl h) = at_service_none said s a d.from h.packet o h.outcome
     answering true (inr h) = as_told o _ h.outcome (none.refused h.number)
     answering false h = serving (d.to.socket == 6) h
@@ -103,7 +113,10 @@ module _ (A X : Type 0) (q : Report A → Option X) (none : TellsNothing A X q) 
         other : Nothing o → ByAsker A s a d o
         other nothing = let both : None ≡ Some x = sym nothing ∙ tells in absurd (cc)
 
-        go : (b : Bool) → (d.to.socket == 128) ≡ b → HearsAt said s a d (cond b (Some Requester) (cond (d.to.socket == 129) (Some Service) (cond (d.to.socket == 6) (option_map Zones a.table) None))) o → ByAsker A s a d o
+        go : (b : Bool) → (d.to.socket == 128) ≡ b
+            → HearsAt said s a d (cond b (Some Requester)
+            (cond (d.to.socket == 129) (Some Service) (cond (d.to.socket == 6) (option_map Zones a.table) None))) o
+            → ByAsker A s a d o
         go true e (inl g) = record { socket = e; packet = g.packet; spelled = g.spelled; at = g.outcome }
         go true e (inr g) = other (as_told o _ g.outcome (none.refused g.number))
         go false e g = other (answering (d.to.socket == 129) g)

@@ -1,5 +1,6 @@
 mod AnsweringLemmas
-mod DrawingLemmas
+mod NumberLemmas
+mod DrawLemmas
 mod ListLemmas
 mod NameLemmas
 mod OutcomeLemmas

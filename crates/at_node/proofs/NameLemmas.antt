@@ -1,9 +1,11 @@
 -- What comes of the calls and the packets of the socket for names.
-use Rattle.std.proofs.Common.{◌≡◌, ◌⊎◌, inl, inr, ℕ, true, false, List, [], ◌∷◌, Option, Some, None, refl, sym, ap, subst, ◌∙◌}
+use Rattle.std.proofs.Common.{◌≡◌, ◌⊎◌, inl, inr, ℕ, true, false, List, [], ◌∷◌, Option, Some, None, refl, sym, ap}
+use Rattle.std.proofs.Common.{subst, ◌∙◌}
 use Rattle.std.specs.Prelude.{IfSome}
 use Rattle.at_ddp.specs.Datagrams.{Posted}
 use Rattle.at_ddp.specs.Outbox.{Outbox, Sends}
 use Rattle.at_ddp.specs.declared.address.Address.{Address}
+use Rattle.at_ddp.specs.Protocols.{nbp_kind}
 use Rattle.at_nbp.specs.Fault.{IsFirstFault, number_of}
 use Rattle.at_nbp.specs.Lookups.{Search, sent_question}
 use Rattle.at_nbp.specs.declared.fault.NbpFault.{NbpFault}
@@ -14,7 +16,6 @@ use Rattle.at_name_socket.specs.declared.step.Heard.TheVariants as heard
 use Rattle.at_event.specs.declared.event.Report.{Report}
 use Rattle.at_event.specs.declared.event.Report.TheVariants.{Again, NoMemory}
 use Rattle.at_event.specs.declared.seat.Seat.{Seat}
-use Rattle.at_event.specs.Seats.{nbp_kind}
 use Rattle.at_node.specs.NameCalls.{asked_again, sent_of}
 use Rattle.at_node.specs.NameHearing.{HearsName, HearsNbpFault, told_by}
 use Rattle.at_event.specs.Outcomes.{Comes, Exactly, Outcome, refused_as, takes_memory, wants_memory}
@@ -22,10 +23,17 @@ use Rattle.at_node.proofs.OutcomeLemmas.{comes_refused, comes_with}
 use Rattle.at_node.proofs.PostLemmas.{posts}
 
 -- an open lookup was asked again
-pub again_sent : {A : Type 0} (s : Seat) (n : SocketState) (o : Option Search) (before after : Outbox) (start items : List Posted) → (o ≡ None → ⊥) → IfSome o (λ x. Sends before after (sent_question n.lookups x ∷ [])) →
-    before.items ≡ start → before.from ≡ names_of s.net s.number → before.kind ≡ nbp_kind → items ≡ after.items → Exactly (asked_again {A = A} s n o) start Again n items
+pub again_sent : {A : Type 0} (s : Seat) (n : SocketState) (o : Option Search) (before after : Outbox)
+    (start items : List Posted) → (o ≡ None → ⊥) → IfSome o (λ x. Sends before after (sent_question n.lookups x ∷ [])) →
+    before.items ≡ start → before.from ≡ names_of s.net s.number → before.kind ≡ nbp_kind → items ≡ after.items
+    → Exactly (asked_again {A = A} s n o) start Again n items
 again_sent s n None before after start items some sends same from kind is = absurd (some refl)
-again_sent s n (Some x) before after start items some sends same from kind is = (refl, refl, posts before after (sent_question n.lookups x ∷ []) start items (names_of s.net s.number) nbp_kind sends same from kind is)
+again_sent s n (Some x) before after start items some sends same from kind is = (
+  refl,
+  refl,
+  posts before after (sent_question n.lookups x ∷ []) start items
+      (names_of s.net s.number) nbp_kind sends same from kind is,
+)
 
 -- ---- packets
 
@@ -59,24 +67,44 @@ abbrev pub HearsData : {A : Type 0} → Seat → SocketState → List ℕ → Ou
 HearsData s n bytes o = HearsName s n bytes o ⊎ HearsNbpFault n bytes o
 
 abbrev pub SomeStep : SocketState → List ℕ → Type 0
-SomeStep n bytes = (h : Heard) × (new : SocketState) × (pushes : List (Address × List ℕ)) × SocketHears n bytes h new pushes
+SomeStep n bytes = (h : Heard) × (new : SocketState) × (pushes : List (Address × List ℕ))
+    × SocketHears n bytes h new pushes
 
 module _ (A : Type 0) (s : Seat) (n : SocketState) (bytes : List ℕ) (before : List Posted) where
   -- a packet was taken
-  pub heard_comes : (h : Heard) (new : SocketState) (pushes : List (Address × List ℕ)) (box boxed : Outbox) (after : List Posted) → SocketHears n bytes h new pushes → Sends box boxed pushes →
-      box.items ≡ before → box.from ≡ names_of s.net s.number → box.kind ≡ nbp_kind → after ≡ boxed.items → Comes (HearsData {A = A} s n bytes) n before (told_by h) new after
+  pub heard_comes : (h : Heard) (new : SocketState) (pushes : List (Address × List ℕ)) (box boxed : Outbox)
+      (after : List Posted) → SocketHears n bytes h new pushes → Sends box boxed pushes →
+      box.items ≡ before → box.from ≡ names_of s.net s.number → box.kind ≡ nbp_kind → after ≡ boxed.items
+      → Comes (HearsData {A = A} s n bytes) n before (told_by h) new after
   heard_comes h new pushes box boxed after hears sends same from kind is =
-      comes_with (HearsData s n bytes) n before (record { report = told_by h; state = new; out = sent_of s pushes }) (told_by h) new after
-      (inl (record { step = h; new = new; pushes = pushes; hears = hears; outcome = refl })) (refl, refl, posts box boxed pushes before after (names_of s.net s.number) nbp_kind sends same from kind is) (told_some A h)
+      comes_with (HearsData s n bytes) n before (record { report = told_by h; state = new; out = sent_of s pushes })
+      (told_by h) new after
+      (inl (record { step = h; new = new; pushes = pushes; hears = hears; outcome = refl }))
+      (refl, refl, posts box boxed pushes before after (names_of s.net s.number) nbp_kind sends same from kind is)
+      (told_some A h)
 
   -- the data was refused, or memory ran out
-  pub fault_comes : (fault : NbpFault) (number : Option ℕ) (r : Report A) → number ≡ number_of fault → r ≡ refused_as number → ((fault ≡ faults.NoMemory → ⊥) → IsFirstFault fault bytes) → (fault ≡ faults.NoMemory → SomeStep n bytes) →
+  pub fault_comes : (fault : NbpFault) (number : Option ℕ) (r : Report A) → number ≡ number_of fault → r
+      ≡ refused_as number → ((fault ≡ faults.NoMemory → ⊥) → IsFirstFault fault bytes)
+      → (fault ≡ faults.NoMemory → SomeStep n bytes) →
       Comes (HearsData {A = A} s n bytes) n before r n before
   fault_comes fault number r is told first some = go (numbered fault)
     where
       lacks : SomeStep n bytes → Comes (HearsData {A = A} s n bytes) n before NoMemory n before
-      lacks x = (refl, refl, (record { report = told_by x.0; state = x.1; out = sent_of s x.2 }, inl (record { step = x.0; new = x.1; pushes = x.2; hears = x.3; outcome = refl }), told_takes A x.0))
+      lacks x = (
+        refl,
+        refl,
+        (
+          record { report = told_by x.0; state = x.1; out = sent_of s x.2 },
+          inl
+              (record { step = x.0; new = x.1; pushes = x.2; hears = x.3; outcome = refl }),
+          told_takes A x.0,
+        ),
+      )
 
-      go : (fault ≡ faults.NoMemory) ⊎ ((k : ℕ) × (number_of fault ≡ Some k) × (fault ≡ faults.NoMemory → ⊥)) → Comes (HearsData {A = A} s n bytes) n before r n before
-      go (inl none) = subst (λ x. Comes (HearsData {A = A} s n bytes) n before x n before) (sym (told ∙ ap refused_as (is ∙ ap number_of none))) (lacks (some none))
-      go (inr x) = comes_refused (HearsData s n bytes) n before r number x.0 (is ∙ x.1) told (inr (record { fault = fault; number = x.0; first = first x.2; numbered = x.1; outcome = refl }))
+      go : (fault ≡ faults.NoMemory) ⊎ ((k : ℕ) × (number_of fault ≡ Some k) × (fault ≡ faults.NoMemory → ⊥))
+          → Comes (HearsData {A = A} s n bytes) n before r n before
+      go (inl none) = subst (λ x. Comes (HearsData {A = A} s n bytes) n before x n before)
+          (sym (told ∙ ap refused_as (is ∙ ap number_of none))) (lacks (some none))
+      go (inr x) = comes_refused (HearsData s n bytes) n before r number x.0 (is ∙ x.1) told
+          (inr (record { fault = fault; number = x.0; first = first x.2; numbered = x.1; outcome = refl }))

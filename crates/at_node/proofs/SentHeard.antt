@@ -1,17 +1,19 @@
 -- What is sent is heard, from the laws of the spellings.
-use Rattle.std.proofs.Common.{lit<, ◌≡◌, inl, inr, ℕ, ◌^◌, ◌<◌, ◌≤◌, Bool, true, false, List, [], ◌++◌, length, Option, Some, None, refl, ap, subst, ◌∙◌}
+use Rattle.std.proofs.Common.{lit<, ◌≡◌, inl, inr, ℕ, ◌^◌, ◌<◌, ◌≤◌, Bool, true, false, List, [], ◌++◌, length, Option}
+use Rattle.std.proofs.Common.{Some, None, refl, ap, subst, ◌∙◌}
 use Rattle.std.specs.Prelude.{MatchBool}
 use Rattle.std.proofs.lemmas.List.{append-nil}
 use Rattle.at_ddp.specs.Datagram.{Content as Datagram, IsAddress, AreBytes, BeginsWith, canonical, written}
 use Rattle.at_ddp.specs.Fault as ddp
 use Rattle.at_ddp.specs.declared.address.Address.{Address}
 use Rattle.at_ddp.specs.declared.fault.DdpFault.{DdpFault}
+use Rattle.at_ddp.specs.Protocols.{atp_kind}
 use Rattle.at_atp_frame.specs.Frames.{Content, Request, IsLawful, Spells, spelled}
 use Rattle.at_atp_frame.specs.Fault as atp
 use Rattle.at_atp_requester.specs.Requests.{Heard}
 use Rattle.at_atp_frame.specs.Frames.{owner, number_of}
-use Rattle.at_node.specs.Drawing.{Carries}
-use Rattle.at_node.specs.declared.drawing.Draw.TheVariants.{Tid}
+use Rattle.at_node.specs.Numbers.{Carries}
+use Rattle.at_node.specs.declared.numbers.Draw.TheVariants.{Tid}
 use Rattle.at_atp_frame.specs.declared.fault.AtpFault.{AtpFault}
 use Rattle.at_zip.specs.Page as page
 use Rattle.at_zip.specs.Fault as zip
@@ -21,7 +23,7 @@ use Rattle.at_event.specs.declared.service.Reply.{Reply}
 use Rattle.at_event.specs.declared.event.Report.TheVariants.{Ignored}
 use Rattle.at_event.specs.declared.seat.Seat.{Seat}
 use Rattle.at_node.specs.AtpHearing.{AtpSocket, AtSocket, HearsAt, atp_socket}
-use Rattle.at_node.specs.AtpParts.{AtpState, atp_kind}
+use Rattle.at_node.specs.AtpParts.{AtpState}
 use Rattle.at_node.specs.Hearing.{HearsIt, HearsMine, Hears, HearsSent}
 use Rattle.at_node.specs.Nodes.{NodeState, over_atp}
 use Rattle.at_event.specs.Outcomes.{Outcome, Through, idle}
@@ -36,10 +38,14 @@ pub record PacketLaws : Type 0 where
   pub alone : (input : List ℕ) (f g : Content) → Spells input f → Spells input g → f ≡ g
   pub faultless : (input : List ℕ) (f : Content) → Spells input f → (fault : AtpFault) → ¬ atp.Stands fault input
 
-at_socket : (A : Type 0) (said : Reply A) (s : Seat) (a : AtpState) (d : Datagram) (socket : Option AtpSocket) (f : Content) (o : Outcome A AtpState) → PacketLaws → IsLawful f → d.data_ ≡ spelled f → HearsAt said s a d socket o → AtSocket said s a d.from socket f o
+at_socket : (A : Type 0) (said : Reply A) (s : Seat) (a : AtpState) (d : Datagram) (socket : Option AtpSocket)
+    (f : Content) (o : Outcome A AtpState) → PacketLaws → IsLawful f → d.data_ ≡ spelled f
+    → HearsAt said s a d socket o → AtSocket said s a d.from socket f o
 at_socket A said s a d None f o laws ok is h = h
 at_socket A said s a d (Some socket) f o laws ok is (inl h) =
-    subst (λ g. AtSocket said s a d.from (Some socket) g o) (laws.alone (spelled f) h.packet f (subst (λ bytes. Spells bytes h.packet) is h.spelled) (laws.reads f ok)) h.outcome
+    subst (λ g. AtSocket said s a d.from (Some socket) g o)
+    (laws.alone (spelled f) h.packet f (subst (λ bytes. Spells bytes h.packet) is h.spelled) (laws.reads f ok))
+    h.outcome
 at_socket A said s a d (Some socket) f o laws ok is (inr h) =
     let first = h.first in
     absurd (laws.faultless (spelled f) f (laws.reads f ok) h.fault (subst (atp.Stands h.fault) is first.stands))
@@ -47,20 +53,27 @@ at_socket A said s a d (Some socket) f o laws ok is (inr h) =
 -- ---- datagrams
 
 pub record DatagramLaws : Type 0 where
-  pub reads : (to from : Address) (kind : ℕ) (bytes rest : List ℕ) → IsAddress to → IsAddress from → kind < 256 → AreBytes bytes → length bytes ≤ 586
+  pub reads : (to from : Address) (kind : ℕ) (bytes rest : List ℕ) → IsAddress to → IsAddress from → kind < 256
+      → AreBytes bytes → length bytes ≤ 586
       → BeginsWith (canonical to from kind bytes ++ rest) (written to from kind bytes) rest
-  pub alone : (input : List ℕ) (d e : Datagram) (x y : List ℕ) → BeginsWith input d x → BeginsWith input e y → (d ≡ e) × (x ≡ y)
-  pub faultless : (input : List ℕ) (d : Datagram) (rest : List ℕ) → BeginsWith input d rest → (fault : DdpFault) → ¬ ddp.Stands fault input
+  pub alone : (input : List ℕ) (d e : Datagram) (x y : List ℕ) → BeginsWith input d x → BeginsWith input e y → (d ≡ e)
+      × (x ≡ y)
+  pub faultless : (input : List ℕ) (d : Datagram) (rest : List ℕ) → BeginsWith input d rest → (fault : DdpFault)
+      → ¬ ddp.Stands fault input
   pub fits : (f : Content) → IsLawful f → AreBytes (spelled f) × (length (spelled f) ≤ 586)
 
-begins : DatagramLaws → (to from : Address) (f : Content) → IsAddress to → IsAddress from → IsLawful f → BeginsWith (canonical to from atp_kind (spelled f)) (written to from atp_kind (spelled f)) []
+begins : DatagramLaws → (to from : Address) (f : Content) → IsAddress to → IsAddress from → IsLawful f
+    → BeginsWith (canonical to from atp_kind (spelled f)) (written to from atp_kind (spelled f)) []
 begins laws to from f to_fits from_fits ok =
     let fits = laws.fits f ok in
-    subst (λ bytes. BeginsWith bytes (written to from atp_kind (spelled f)) []) (append-nil (canonical to from atp_kind (spelled f)))
+    subst (λ bytes. BeginsWith bytes (written to from atp_kind (spelled f)) [])
+    (append-nil (canonical to from atp_kind (spelled f)))
     (laws.reads to from atp_kind (spelled f) [] to_fits from_fits (lit< tt) fits.0 fits.1)
 
 -- bytes that were written for a packet carry its number
-pub carries : (to from : Address) (f : Content) → DatagramLaws → ((g : Content) → IsLawful g → Spells (spelled g) g) → IsAddress to → IsAddress from → IsLawful f → Carries (canonical to from atp_kind (spelled f)) (owner from to f).node (Tid (number_of f))
+pub carries : (to from : Address) (f : Content) → DatagramLaws → ((g : Content) → IsLawful g → Spells (spelled g) g)
+    → IsAddress to → IsAddress from → IsLawful f
+    → Carries (canonical to from atp_kind (spelled f)) (owner from to f).node (Tid (number_of f))
 carries to from f laws reads to_fits from_fits ok = record {
   datagram = written to from atp_kind (spelled f);
   rest = [];
@@ -69,44 +82,65 @@ carries to from f laws reads to_fits from_fits ok = record {
 }
 
 -- what its part does with a datagram of ATP that was written for a packet
-mine_as_sent : (A : Type 0) (said : Reply A) (n : NodeState) (to from : Address) (f : Content) (o : Outcome A NodeState) → PacketLaws → IsLawful f →
+mine_as_sent : (A : Type 0) (said : Reply A) (n : NodeState) (to from : Address) (f : Content)
+    (o : Outcome A NodeState) → PacketLaws → IsLawful f →
     HearsIt said n (written to from atp_kind (spelled f)) o → HearsSent said n to from f o
 mine_as_sent A said n to from f o packets ok = go (is_mine n.seat to)
   where
     go : (b : Bool) → MatchBool b (HearsMine said n (written to from atp_kind (spelled f)) o) (o ≡ idle n Ignored)
-        → MatchBool b (Through (over_atp n) (AtSocket said n.seat n.atp from (atp_socket n.atp to.socket) f) o) (o ≡ idle n Ignored)
+        → MatchBool b (Through (over_atp n) (AtSocket said n.seat n.atp from (atp_socket n.atp to.socket) f) o)
+        (o ≡ idle n Ignored)
     go false h = h
-    go true h = (h.0, at_socket A said n.seat n.atp (written to from atp_kind (spelled f)) (atp_socket n.atp to.socket) f h.0 packets ok refl h.1, h.2)
+    go true h = (
+      h.0,
+      at_socket A said n.seat n.atp (written to from atp_kind (spelled f))
+          (atp_socket n.atp to.socket) f h.0 packets ok refl h.1,
+      h.2,
+    )
 
-pub heard_as_sent : (A : Type 0) (said : Reply A) (n : NodeState) (to from : Address) (f : Content) (o : Outcome A NodeState) → DatagramLaws → PacketLaws → IsAddress to → IsAddress from → IsLawful f →
+pub heard_as_sent : (A : Type 0) (said : Reply A) (n : NodeState) (to from : Address) (f : Content)
+    (o : Outcome A NodeState) → DatagramLaws → PacketLaws → IsAddress to → IsAddress from → IsLawful f →
     Hears said n (canonical to from atp_kind (spelled f)) o → HearsSent said n to from f o
 heard_as_sent A said n to from f o laws packets to_fits from_fits ok (inl h) =
     let sent = written to from atp_kind (spelled f) in
-    let same = laws.alone (canonical to from atp_kind (spelled f)) h.datagram sent h.rest [] h.begins (begins laws to from f to_fits from_fits ok) in
+    let same = laws.alone (canonical to from atp_kind (spelled f)) h.datagram sent h.rest [] h.begins
+    (begins laws to from f to_fits from_fits ok) in
     mine_as_sent A said n to from f o packets ok (subst (λ (d : Datagram). HearsIt said n d o) same.0 h.outcome)
 heard_as_sent A said n to from f o laws packets to_fits from_fits ok (inr h) =
     let first = h.first in
-    absurd (laws.faultless (canonical to from atp_kind (spelled f)) (written to from atp_kind (spelled f)) [] (begins laws to from f to_fits from_fits ok) h.fault first.stands)
+    absurd (laws.faultless (canonical to from atp_kind (spelled f)) (written to from atp_kind (spelled f)) []
+    (begins laws to from f to_fits from_fits ok) h.fault first.stands)
 
 -- ---- zone requests and pages
 
-pub asked_is_served : (A : Type 0) (s : Seat) (a : AtpState) (from : Address) (table : List (List ℕ)) (mask : ℕ) (xo : Bool) (timer tid start : ℕ) (bytes : List ℕ) (o : Outcome A AtpState) →
-    ((k : ℕ) → 1 ≤ k → k < 2 ^ 16 → RequestSpells (request_user k) k) → ((user : List ℕ) (m k : ℕ) → RequestSpells user m → RequestSpells user k → m ≡ k) → 1 ≤ start → start < 2 ^ 16 →
-    AtZones s a from table (Request mask xo timer tid (request_user start) bytes) o → o ≡ zone_asked s a from (Request mask xo timer tid (request_user start) bytes) table start
+pub asked_is_served : (A : Type 0) (s : Seat) (a : AtpState) (from : Address) (table : List (List ℕ)) (mask : ℕ)
+    (xo : Bool) (timer tid start : ℕ) (bytes : List ℕ) (o : Outcome A AtpState) →
+    ((k : ℕ) → 1 ≤ k → k < 2 ^ 16 → RequestSpells (request_user k) k)
+    → ((user : List ℕ) (m k : ℕ) → RequestSpells user m → RequestSpells user k → m ≡ k) → 1 ≤ start
+    → start < 2 ^ 16 →
+    AtZones s a from table (Request mask xo timer tid (request_user start) bytes) o → o
+    ≡ zone_asked s a from (Request mask xo timer tid (request_user start) bytes) table start
 asked_is_served A s a from table mask xo timer tid start bytes o reads alone some fits (inl h) =
-    h.outcome ∙ ap (λ k. zone_asked {A = A} s a from (Request mask xo timer tid (request_user start) bytes) table k) (alone (request_user start) h.start start h.asks (reads start some fits))
-asked_is_served A s a from table mask xo timer tid start bytes o reads alone some fits (inr h) = absurd (h.0 start (reads start some fits))
+    h.outcome ∙ ap (λ k. zone_asked {A = A} s a from (Request mask xo timer tid (request_user start) bytes) table k)
+    (alone (request_user start) h.start start h.asks (reads start some fits))
+asked_is_served A s a from table mask xo timer tid start bytes o reads alone some fits (inr h) =
+    absurd (h.0 start (reads start some fits))
 
-pub taken_as_written : (A : Type 0) (s : Seat) (a : AtpState) (h : Heard A) (from : Address) (names : List (List ℕ)) (p : page.Page) (o : Outcome A AtpState) →
+pub taken_as_written : (A : Type 0) (s : Seat) (a : AtpState) (h : Heard A) (from : Address) (names : List (List ℕ))
+    (p : page.Page) (o : Outcome A AtpState) →
     ((q : page.Page) (rest : List ℕ) → page.IsLawful q → page.Spells (page.page_user q) (page.page_data q ++ rest) q) →
     ((user bytes : List ℕ) (q s : page.Page) → page.Spells user bytes q → page.Spells user bytes s → q ≡ s) →
-    ((user bytes : List ℕ) (q : page.Page) → page.Spells user bytes q → (fault : ZipFault) → ¬ zip.IsFirstFault fault user bytes) →
-    page.IsLawful p → ReadsPage s a h from names (record { user = page.page_user p; data_ = page.page_data p }) o → TakesPage s a h from names p o
+    ((user bytes : List ℕ) (q : page.Page) → page.Spells user bytes q → (fault : ZipFault)
+    → ¬ zip.IsFirstFault fault user bytes) →
+    page.IsLawful p → ReadsPage s a h from names (record { user = page.page_user p; data_ = page.page_data p }) o
+    → TakesPage s a h from names p o
 taken_as_written A s a h from names p o reads alone faultless ok read = go read
   where
     spelled-p : page.Spells (page.page_user p) (page.page_data p) p
     spelled-p = subst (λ bytes. page.Spells (page.page_user p) bytes p) (append-nil (page.page_data p)) (reads p [] ok)
 
-    go : ReadsPage s a h from names (record { user = page.page_user p; data_ = page.page_data p }) o → TakesPage s a h from names p o
-    go (inl had) = subst (λ (q : page.Page). TakesPage s a h from names q o) (alone (page.page_user p) (page.page_data p) had.page p had.spelled spelled-p) had.outcome
+    go : ReadsPage s a h from names (record { user = page.page_user p; data_ = page.page_data p }) o
+        → TakesPage s a h from names p o
+    go (inl had) = subst (λ (q : page.Page). TakesPage s a h from names q o)
+        (alone (page.page_user p) (page.page_data p) had.page p had.spelled spelled-p) had.outcome
     go (inr had) = absurd (faultless (page.page_user p) (page.page_data p) p spelled-p had.fault had.first)

@@ -1,12 +1,16 @@
 -- A zone request that is new, and its record that is taken away again.
-use Rattle.std.proofs.Common.{◌≡◌, ℕ, Bool, true, false, cond, List, [], ◌∷◌, ◌++◌, Option, Some, None, refl, sym, ap, ◌∙◌}
+use Rattle.std.proofs.Common.{◌≡◌, ℕ, Bool, true, false, cond, List, [], ◌∷◌, ◌++◌, Option, Some, None, refl, sym, ap}
+use Rattle.std.proofs.Common.{◌∙◌}
 use Rattle.std.specs.Prelude.{find}
 use Rattle.std.proofs.lemmas.Bool.{eq-eqb}
 use Rattle.at_ddp.proofs.Octets.{same_address_itself}
 use Rattle.at_ddp.specs.declared.address.Address.{Address}
 use Rattle.at_atp_frame.specs.Frames.{Content, Request, Response, Release}
 use Rattle.at_ddp.specs.Tables.{without_first}
-use Rattle.at_atp_responder.specs.Records.{Record, State, Waiting, Answered, Released, Taken, is_key, repeated, came_again, request_came, passed, is_passed_over, released, release_came, taken, record_fault}
+use Rattle.at_ddp.proofs.Alls.{find_last}
+use Rattle.at_atp_responder.specs.Records.{Record, State, Waiting, Answered, Released, Taken, is_key, repeated}
+use Rattle.at_atp_responder.specs.Records.{came_again, request_came, passed, is_passed_over, released, release_came}
+use Rattle.at_atp_responder.specs.Records.{taken, record_fault}
 use Rattle.at_atp_responder.specs.declared.reception.Key.{Key}
 use Rattle.at_atp_responder.specs.declared.reception.Reception.TheVariants.{New}
 
@@ -21,25 +25,35 @@ pub record IsNew (rs : List Record) (t : Taken) (key : Key) : Type 0 where
 same_new : (k key : Key) → New k ≡ New key → k ≡ key
 same_new k key h = cc
 
-new_of : (rs : List Record) (k : Key) (xo : Bool) (mask : ℕ) (o : Option Record) (key : Key) → find (is_key k) rs ≡ o → (request_came rs k xo mask o).reception ≡ New key → IsNew rs (request_came rs k xo mask o) key
+new_of : (rs : List Record) (k : Key) (xo : Bool) (mask : ℕ) (o : Option Record) (key : Key) → find (is_key k) rs ≡ o
+    → (request_came rs k xo mask o).reception ≡ New key → IsNew rs (request_came rs k xo mask o) key
 new_of rs k xo mask None key is h =
     let same = same_new k key h in
-    record { xo = xo; mask = mask; none = ap (λ x. find (is_key x) rs) (sym same) ∙ is; added = ap (λ x. rs ++ record { key = x; state = Waiting xo mask } ∷ []) same; nothing = refl }
+    record {
+      xo = xo;
+      mask = mask;
+      none = ap (λ x. find (is_key x) rs) (sym same) ∙ is;
+      added = ap (λ x. rs ++ record { key = x; state = Waiting xo mask } ∷ []) same;
+      nothing = refl;
+    }
 new_of rs k xo mask (Some r) key is h = go r.state h
   where
-    go : (s : State) → (came_again rs k r (repeated k mask s)).reception ≡ New key → IsNew rs (came_again rs k r (repeated k mask s)) key
+    go : (s : State) → (came_again rs k r (repeated k mask s)).reception ≡ New key
+        → IsNew rs (came_again rs k r (repeated k mask s)) key
     go (Waiting once old) g = absurd (cc)
     go (Answered packets) g = absurd (cc)
     go Released g = absurd (cc)
 
-pub is_new : (rs : List Record) (from : Address) (f : Content) (key : Key) → (taken rs from f).reception ≡ New key → IsNew rs (taken rs from f) key
+pub is_new : (rs : List Record) (from : Address) (f : Content) (key : Key) → (taken rs from f).reception ≡ New key
+    → IsNew rs (taken rs from f) key
 is_new rs from (Response place eom sts tid user bytes) key h = absurd (cc)
 is_new rs from (Release tid) key h = released_new (find (is_key (record { from = from; tid = tid })) rs) h
   where
     k : Key
     k = record { from = from; tid = tid }
 
-    of_state : (r : Record) (s : State) → (came_again rs k r (released s)).reception ≡ New key → IsNew rs (came_again rs k r (released s)) key
+    of_state : (r : Record) (s : State) → (came_again rs k r (released s)).reception ≡ New key
+        → IsNew rs (came_again rs k r (released s)) key
     of_state r (Waiting once old) g = absurd (cc)
     of_state r (Answered packets) g = absurd (cc)
     of_state r Released g = absurd (cc)
@@ -52,32 +66,31 @@ is_new rs from (Request mask xo timer tid user bytes) key h = go (is_passed_over
     k : Key
     k = record { from = from; tid = tid }
 
-    go : (b : Bool) → (cond b (passed rs) (request_came rs k xo mask (find (is_key k) rs))).reception ≡ New key → IsNew rs (cond b (passed rs) (request_came rs k xo mask (find (is_key k) rs))) key
+    go : (b : Bool) → (cond b (passed rs) (request_came rs k xo mask (find (is_key k) rs))).reception ≡ New key
+        → IsNew rs (cond b (passed rs) (request_came rs k xo mask (find (is_key k) rs))) key
     go true g = absurd (cc)
     go false g = new_of rs k xo mask (find (is_key k) rs) key refl g
 
 own : (key : Key) (xo : Bool) (mask : ℕ) → is_key key (record { key = key; state = Waiting xo mask }) ≡ true
 own key xo mask = rw (same_address_itself key.from, eq-eqb key.tid key.tid refl) refl
 
-find_last : (p : Record → Bool) (rs : List Record) (x : Record) → find p rs ≡ None → p x ≡ true → find p (rs ++ x ∷ []) ≡ Some x
-find_last p [] x none is = rw is refl
-find_last p (r ∷ rs) x none is = go (λ g. find_last p rs x g is) (p r) refl none
-  where
-    go : (find p rs ≡ None → find p (rs ++ x ∷ []) ≡ Some x) → (b : Bool) → p r ≡ b → cond b (Some r) (find p rs) ≡ None → find p (r ∷ (rs ++ x ∷ [])) ≡ Some x
-    go ih true e g = absurd (cc)
-    go ih false e g = rw e (ih g)
-
-without_last : (p : Record → Bool) (rs : List Record) (x : Record) → find p rs ≡ None → p x ≡ true → without_first p (rs ++ x ∷ []) ≡ rs
+without_last : (p : Record → Bool) (rs : List Record) (x : Record) → find p rs ≡ None → p x ≡ true
+    → without_first p (rs ++ x ∷ []) ≡ rs
 without_last p [] x none is = rw is refl
 without_last p (r ∷ rs) x none is = go (λ g. without_last p rs x g is) (p r) refl none
   where
-    go : (find p rs ≡ None → without_first p (rs ++ x ∷ []) ≡ rs) → (b : Bool) → p r ≡ b → cond b (Some r) (find p rs) ≡ None → without_first p (r ∷ (rs ++ x ∷ [])) ≡ r ∷ rs
+    go : (find p rs ≡ None → without_first p (rs ++ x ∷ []) ≡ rs) → (b : Bool) → p r ≡ b → cond b (Some r) (find p rs)
+        ≡ None → without_first p (r ∷ (rs ++ x ∷ [])) ≡ r ∷ rs
     go ih true e g = absurd (cc)
     go ih false e g = rw e (ap (λ l. r ∷ l) (ih g))
 
 -- its record waits, and taking it away leaves the records as they were
-pub waits : (rs : List Record) (t : Taken) (key : Key) → IsNew rs t key → record_fault (find (is_key key) t.after) ≡ None
-waits rs t key n = ap (λ l. record_fault (find (is_key key) l)) n.added ∙ ap record_fault (find_last (is_key key) rs (record { key = key; state = Waiting n.xo n.mask }) n.none (own key n.xo n.mask))
+pub waits : (rs : List Record) (t : Taken) (key : Key) → IsNew rs t key → record_fault (find (is_key key) t.after)
+    ≡ None
+waits rs t key n = ap (λ l. record_fault (find (is_key key) l)) n.added
+    ∙ ap record_fault (find_last (is_key key) rs (record { key = key; state = Waiting n.xo n.mask }) n.none
+    (own key n.xo n.mask))
 
 pub undone : (rs : List Record) (t : Taken) (key : Key) → IsNew rs t key → without_first (is_key key) t.after ≡ rs
-undone rs t key n = ap (without_first (is_key key)) n.added ∙ without_last (is_key key) rs (record { key = key; state = Waiting n.xo n.mask }) n.none (own key n.xo n.mask)
+undone rs t key n = ap (without_first (is_key key)) n.added
+    ∙ without_last (is_key key) rs (record { key = key; state = Waiting n.xo n.mask }) n.none (own key n.xo n.mask)

@@ -2,6 +2,7 @@
 -- over ATP).
 use Rattle.std.specs.Prelude.{ℕ, List, [], ◌∷◌, Option, None}
 use Rattle.at_ddp.specs.declared.address.Address.{Address}
+use Rattle.at_ddp.specs.Protocols.{atp_kind}
 use Rattle.at_atp_frame.specs.Frames.{Content, Request, Response, Release, spelled, spelled_all}
 use Rattle.at_atp_frame.specs.Packets.{Packet}
 use Rattle.at_atp_responder.specs.Records.{Record}
@@ -36,10 +37,6 @@ serving net number = record { net = net; node = number; socket = 129 }
 
 abbrev pub zones_at : ℕ → ℕ → Address
 zones_at net number = record { net = net; node = number; socket = 6 }
-
--- the protocol of ATP's datagrams
-abbrev pub atp_kind : ℕ
-atp_kind = 3
 
 -- ---- packets
 

@@ -4,18 +4,16 @@ use Rattle.at_ddp.specs.Datagram.{Content as Datagram, BeginsWith}
 use Rattle.at_ddp.specs.Fault as ddp
 use Rattle.at_ddp.specs.declared.address.Address.{Address}
 use Rattle.at_ddp.specs.declared.fault.DdpFault.{DdpFault}
+use Rattle.at_ddp.specs.Protocols.{atp_kind, nbp_kind, adsp_kind}
 use Rattle.at_atp_frame.specs.Frames.{Content}
 use Rattle.at_event.specs.declared.event.Report.TheVariants as report
 use Rattle.at_event.specs.declared.service.Reply.{Reply}
 use Rattle.at_node.specs.AtpHearing.{AtSocket, HearsAtp, atp_socket}
-use Rattle.at_node.specs.AtpParts.{atp_kind}
-use Rattle.at_event.specs.Seats.{nbp_kind}
 use Rattle.at_node.specs.NameHearing.{HearsNames}
 use Rattle.at_node.specs.Nodes.{NodeState, over_atp, with_names, with_streams}
 use Rattle.at_event.specs.Outcomes.{Outcome, Over, Through, idle}
 use Rattle.at_event.specs.Seats.{is_for_all, is_mine}
 use Rattle.at_stream_socket.specs.Hearing.{HearsStreams}
-use Rattle.at_stream_socket.specs.Sockets.{adsp_kind}
 
 -- which part a datagram is for, by its protocol; that of a protocol which no part speaks is ignored
 abbrev pub HearsMine : {A : Type 0} → Reply A → NodeState → Datagram → Outcome A NodeState → Type 0

@@ -1,6 +1,6 @@
 pub mod AtpHearing
 pub mod AtpParts
-pub mod Drawing
+pub mod Numbers
 pub mod Hearing
 pub mod Limits
 pub mod NameCalls

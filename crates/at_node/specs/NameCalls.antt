@@ -3,6 +3,7 @@
 use Rattle.std.specs.Prelude.{ℕ, ◌||◌, if◌then◌else◌, List, [], ◌∷◌, find, Option, Some, None}
 use Rattle.at_ddp.specs.Tables.{without_first}
 use Rattle.at_ddp.specs.declared.address.Address.{Address}
+use Rattle.at_ddp.specs.Protocols.{nbp_kind}
 use Rattle.at_nbp.specs.Fault.{number_of}
 use Rattle.at_nbp.specs.Lookups.{Search, beginning, begun, next_id, search_of, sent_question}
 use Rattle.at_nbp.specs.NameTables.{is_called, is_no_text, register_fault, registered}
@@ -16,7 +17,6 @@ use Rattle.at_name_socket.specs.declared.step.Finished.TheVariants as finished
 use Rattle.at_event.specs.declared.event.Report.{Report}
 use Rattle.at_event.specs.declared.event.Report.TheVariants as report
 use Rattle.at_event.specs.declared.seat.Seat.{Seat}
-use Rattle.at_event.specs.Seats.{nbp_kind}
 use Rattle.at_event.specs.Outcomes.{Outcome, Outgoing, idle, refused_as, sent_by}
 
 -- what the socket sends

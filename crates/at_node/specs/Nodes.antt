@@ -38,12 +38,11 @@ pub record NodeState : Type 0 where
   pub session : SessionState
 
 -- the zone table and the nodes of the cable are the router's alone
-abbrev pub opening : ℕ → ℕ → Option ℕ → Option (List ℕ) → Option (List (List ℕ)) → Option (List Neighbour) → Rooms
-    → NodeState
-opening net number router zone table neighbours rooms = record {
-  seat = record { net = net; number = number; router = router };
+abbrev pub opening : Seat → Option (List ℕ) → Option (List (List ℕ)) → Option (List Neighbour) → Rooms → NodeState
+opening seat zone table neighbours rooms = record {
+  seat = seat;
   atp = atp.opening table;
-  names = names.opening net number router zone neighbours;
+  names = names.opening seat.net seat.number seat.router zone neighbours;
   streams = no_ends rooms;
   session = new_session;
 }

@@ -2,6 +2,7 @@
 use Rattle.std.specs.Prelude.{MatchBool, ◌≡◌, ℕ, nat_lt, if◌then◌else◌, Bool, List, length, Option, Some}
 use Rattle.std.specs.Prelude.{None}
 use Rattle.at_ddp.specs.declared.address.Address.{Address}
+use Rattle.at_ddp.specs.Protocols.{atp_kind}
 use Rattle.at_atp_frame.specs.Fault as atp
 use Rattle.at_atp_frame.specs.Frames.{Content, spelled_all}
 use Rattle.at_atp_requester.specs.Requests.{Heard, Retried, next_number, beginning, heard}
@@ -13,7 +14,7 @@ use Rattle.at_atp_requester.specs.declared.step.Step.TheVariants as step
 use Rattle.at_event.specs.declared.event.Report.{Report}
 use Rattle.at_event.specs.declared.event.Report.TheVariants as report
 use Rattle.at_event.specs.declared.seat.Seat.{Seat}
-use Rattle.at_node.specs.AtpParts.{AtpState, asking, atp_kind, asks, after_heard, packet_in, tid_of}
+use Rattle.at_node.specs.AtpParts.{AtpState, asking, asks, after_heard, packet_in, tid_of}
 use Rattle.at_event.specs.Outcomes.{Outcome, idle, sent_by, refused_as}
 use Rattle.at_node.specs.ZoneReading.{ReadsPage, is_page, is_reading, after_failing, names_read}
 

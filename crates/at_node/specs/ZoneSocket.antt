@@ -1,6 +1,7 @@
 -- The router's zone socket: what its packets do (Inside AppleTalk, ZIP, "GetZoneList").
 use Rattle.std.specs.Prelude.{◌≡◌, ℕ, if◌then◌else◌, List, [], ◌∷◌, length, find, Option, Some, None, ◌⊎◌}
 use Rattle.at_ddp.specs.declared.address.Address.{Address}
+use Rattle.at_ddp.specs.Protocols.{atp_kind}
 use Rattle.at_atp_frame.specs.Fault.{number_of}
 use Rattle.at_atp_frame.specs.Frames.{Content, Request, Response, Release, spelled_all}
 use Rattle.at_atp_frame.specs.Packets.{Packet}
@@ -18,7 +19,7 @@ use Rattle.at_event.specs.declared.event.Report.{Report}
 use Rattle.at_event.specs.declared.event.Report.TheVariants as report
 use Rattle.at_event.specs.declared.fault.NodeFault.TheVariants.{NoRouter}
 use Rattle.at_event.specs.declared.seat.Seat.{Seat}
-use Rattle.at_node.specs.AtpParts.{AtpState, zones_at, atp_kind}
+use Rattle.at_node.specs.AtpParts.{AtpState, zones_at}
 use Rattle.at_event.specs.Faults as node
 use Rattle.at_event.specs.Outcomes.{Outcome, idle, sent_by, refused_as}
 use Rattle.at_node.specs.Responders.{released_report}

@@ -1,8 +1,9 @@
 //! The part of a node that speaks ATP and ZIP. Each of its three sockets has a file of its own.
 ghost use Rattle.std.specs.Prelude.{◌≡◌, Option, None};
 ghost use Rattle.at_ddp.specs.Datagram.{content};
+ghost use Rattle.at_ddp.specs.Protocols.{atp_kind};
 ghost use Rattle.at_node.specs.AtpHearing.{HearsAtp};
-ghost use Rattle.at_node.specs.AtpParts.{atp_kind, opening};
+ghost use Rattle.at_node.specs.AtpParts.{opening};
 ghost use Rattle.at_event.specs.Outcomes.{Comes};
 ghost use Rattle.at_event.specs.Services.{Serves};
 ghost use Rattle.at_event.specs.declared.service.Reply.{Reply as Said};
@@ -12,15 +13,11 @@ use crate::service_socket::SERVICE_SOCKET;
 use crate::zone_reading::ZoneReading;
 use crate::zone_socket::ZONE_SOCKET;
 use at_atp::{Requester, Responder};
-use at_ddp::{Address, Datagram, Datagrams, Outbox};
+use at_ddp::{ATP, Address, Datagram, Datagrams, Outbox};
 use at_event::{Report, Seat, Service};
 use at_zip::Zones;
 use std::alloc::Allocator;
 use std::marker::Model;
-use std::mem;
-
-/// The protocol of ATP's datagrams.
-pub(crate) const ATP: u8 = 3;
 
 // The part of a node that speaks ATP and ZIP.
 #[derive(Drop)]
@@ -104,5 +101,5 @@ pub(crate) fn outbox_over<A: Allocator + Copy>(
     ensures kind { result.kind ≡ atp_kind }
     ensures room { result.room ≡ list.old.room }
 {
-    Outbox::over(mem::replace(list, Datagrams::new(alloc)), own, ATP)
+    Outbox::lent(alloc, list, own, ATP)
 }

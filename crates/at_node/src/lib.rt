@@ -2,21 +2,24 @@
 #![tactic(auto)]
 
 mod atp_part;
-mod drawing;
+mod hearing;
 mod incoming;
 pub mod laws;
 mod name_calls;
 mod name_part;
 mod node;
+mod numbers;
 mod page_taking;
 mod requester_socket;
 mod responders;
 mod service_socket;
 mod session;
+mod settings;
 mod zone_list;
 mod zone_reading;
 mod zone_socket;
 
-pub use at_event::{Call, Deferring, NodeFault, PacketCount, Reply, Report, Service, Timer};
-pub use drawing::{Draw, Input, carried};
+pub use at_event::{Call, Deferring, NodeFault, PacketCount, Reply, Report, Seat, Service, Timer};
 pub use node::Node;
+pub use numbers::{Draw, Input, carried};
+pub use settings::Settings;

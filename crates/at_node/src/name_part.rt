@@ -1,20 +1,19 @@
 //! The part of a node that speaks NBP: its socket for names, and what packets do there.
 ghost use Rattle.std.specs.Prelude.{◌≡◌, Option, false};
 ghost use Rattle.at_ddp.specs.Datagram.{content};
+ghost use Rattle.at_ddp.specs.Protocols.{nbp_kind};
 ghost use Rattle.at_name_socket.specs.NameSockets.{names_of, opening};
 ghost use Rattle.at_name_socket.specs.declared.neighbour.Neighbour.{Neighbour as Known};
-ghost use Rattle.at_event.specs.Seats.{nbp_kind};
 ghost use Rattle.at_node.specs.NameHearing.{HearsNames, told_by};
 ghost use Rattle.at_event.specs.Outcomes.{Comes};
 ghost use Rattle.at_event.specs.Services.{is_asked};
 
 use crate::node::refused;
-use at_ddp::{Datagram, Datagrams, Listed, Outbox, Pascal};
-use at_event::{NBP, Report, Seat};
+use at_ddp::{Datagram, Datagrams, Listed, NBP, Outbox, Pascal};
+use at_event::{Report, Seat};
 use at_name_socket::{Heard, NAME_SOCKET, NameSocket, Neighbour};
 use std::alloc::Allocator;
 use std::marker::Model;
-use std::mem;
 
 // The part of a node that speaks NBP.
 #[derive(Drop)]
@@ -80,8 +79,7 @@ pub(crate) fn outbox_over<A: Allocator + Copy>(
     ensures from { result.from ≡ names_of seat.net seat.number }
     ensures kind { result.kind ≡ nbp_kind }
 {
-    let own = seat.at(NAME_SOCKET);
-    Outbox::over(mem::replace(list, Datagrams::new(alloc)), own, NBP)
+    Outbox::lent(alloc, list, seat.at(NAME_SOCKET), NBP)
 }
 
 // The report of what came of a packet.

@@ -1,26 +1,23 @@
+//! A node: what it is made of, and the calls and timers that its user and its clock play.
 ghost use Rattle.std.specs.Prelude.{◌≡◌, ◌≢◌, ℕ, List, Option, false};
-ghost use Rattle.at_ddp.specs.Datagram.{content};
-ghost use Rattle.at_node.specs.Hearing.{HearsIt, Hears};
 ghost use Rattle.at_adsp_ends.specs.Tables.{AreRooms};
 ghost use Rattle.at_event.specs.Kinds.{Adsp, Atp, Nbp, kind_of_call};
 ghost use Rattle.at_node.specs.Limits.{IsWithin};
 ghost use Rattle.at_node.specs.Nodes.{opening, called, timed};
-ghost use Rattle.at_event.specs.Outcomes.{Comes, IsStep, refused_as};
-ghost use Rattle.at_event.specs.Services.{Serves, is_asked};
-ghost use Rattle.at_event.specs.declared.service.Reply.{Reply};
+ghost use Rattle.at_event.specs.Outcomes.{IsStep, refused_as};
+ghost use Rattle.at_event.specs.Services.{is_asked};
 
-use crate::atp_part::{ATP, AtpPart};
+use crate::atp_part::AtpPart;
 use crate::name_part::NamePart;
 use crate::requester_socket::Question;
-use at_adsp_ends::{Rooms, Tick};
+use crate::settings::Settings;
+use at_adsp_ends::Tick;
 use at_atp::Key;
 use at_atp::laws::at_most_64_records_stand;
-use at_ddp::{Datagram, Datagrams, Listed, Pascal, decode};
-use at_event::{Call, NBP, Report, Seat, Service, Timer};
-use at_name_socket::Neighbour;
+use at_ddp::Datagrams;
+use at_event::{Call, Report, Seat, Timer};
 use at_session::Session;
-use at_stream_socket::{ADSP, StreamSocket};
-use at_zip::Zones;
+use at_stream_socket::StreamSocket;
 use std::alloc::{Allocator, Global};
 use std::marker::Model;
 
@@ -50,27 +47,18 @@ impl<A: Allocator> Model for Node<A> {
 }
 
 impl<A: Allocator + Copy> Node<A> {
-    /// A node with a number from 1 to 254 on a network from 1 to 65,535. `router` is the number of the cable's router,
-    /// if it has one, and `zone` the node's zone. `zones` is the zone table and `neighbours` are the nodes of the
-    /// cable, if this node is the router. The ends of the node's streams have these rooms, 1 to 65,535 items each.
-    pub fn new(
-        alloc: A,
-        net: u16,
-        number: u8,
-        router: Option<u8>,
-        zone: Option<Pascal>,
-        zones: Option<Zones<A>>,
-        neighbours: Option<Listed<Neighbour, A>>,
-        rooms: Rooms,
-    ) -> Node<A>
-        requires { AreRooms rooms }
-        ensures { result ≡ opening net number router zone zones neighbours rooms }
+    /// A node that stands at this seat, before anything happened.
+    pub fn new(alloc: A, settings: Settings<A>) -> Node<A>
+        requires { AreRooms settings.rooms }
+        ensures { result ≡ opening settings.seat settings.zone settings.zones settings.neighbours settings.rooms }
     {
-        let seat = Seat {
-            net,
-            number,
-            router,
-        };
+        let Settings {
+            seat,
+            zone,
+            zones,
+            neighbours,
+            rooms,
+        } = settings;
         Node {
             seat,
             atp: AtpPart::new(alloc, zones),
@@ -230,50 +218,6 @@ impl<A: Allocator + Copy> Node<A> {
             Timer::Resend { id } => self.streams.tick(self.seat, id, Tick::Retransmit, out),
             Timer::Probe { id } => self.streams.tick(self.seat, id, Tick::Probe, out),
         }
-    }
-
-    /// Takes received bytes. What the node sends goes to the end of the list. A new request for the service is
-    /// delivered to it.
-    pub fn receive<S: Service<A>>(
-        &mut self,
-        service: &mut S,
-        bytes: &[u8],
-        out: &mut Datagrams<A>,
-    ) -> Report<A>
-        ensures { (said : Reply A)
-            × Comes (Hears said self.old bytes.now) self.old out.old.items result self.new out.new.items
-            × Serves S.serves result said service.old service.new }
-    {
-        match decode(bytes) {
-            Ok((datagram, _)) => self.take_in(service, &datagram, out),
-            Err(fault) => refused(fault.number()),
-        }
-    }
-
-    // Takes a datagram: the part that speaks its protocol does, if it is for this node.
-    fn take_in<S: Service<A>>(
-        &mut self,
-        service: &mut S,
-        datagram: &Datagram<'_>,
-        out: &mut Datagrams<A>,
-    ) -> Report<A>
-        ensures { (said : Reply A)
-            × Comes (HearsIt said self.old (content datagram.now)) self.old out.old.items result self.new out.new.items
-            × Serves S.serves result said service.old service.new }
-    {
-        if !self.seat.is_for(datagram.kind, datagram.to) {
-            return Report::Ignored;
-        }
-        if datagram.kind == ATP {
-            return self.hear_atp(service, datagram, out);
-        }
-        if datagram.kind == NBP {
-            return self.names.hear(self.seat, datagram, out);
-        }
-        if datagram.kind == ADSP {
-            return self.streams.hear(self.seat, datagram, out);
-        }
-        Report::Ignored
     }
 }
 

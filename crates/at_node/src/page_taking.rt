@@ -1,10 +1,11 @@
 //! What becomes of the page that a reading of the zone list asked for.
 ghost use Rattle.std.specs.Prelude.{◌≡◌, ◌+◌, ◌++◌, ◌∷◌, [], map, None, Some, IfOk};
 ghost use Rattle.std.specs.Prelude.{IfSome, IsSome, OnErr, true, false};
+ghost use Rattle.at_ddp.specs.Protocols.{atp_kind};
 ghost use Rattle.at_atp_frame.specs.Frames.{content, spelled};
 ghost use Rattle.at_atp_requester.specs.Requests.{beginning, begun, finishes, heard, next_number, request_by};
 ghost use Rattle.at_node.specs.AtpHearing.{AtSocket, Requester as RequesterSocket};
-ghost use Rattle.at_node.specs.AtpParts.{after_heard, atp_kind, packet_in};
+ghost use Rattle.at_node.specs.AtpParts.{after_heard, packet_in};
 ghost use Rattle.at_event.specs.Outcomes.{Comes, IsStep, posted, sent_by, takes_memory, wants_memory};
 ghost use Rattle.at_node.specs.Readings.{reading_of};
 ghost use Rattle.at_event.specs.Services.{is_asked};
@@ -27,7 +28,7 @@ use std::alloc::{AllocError, Allocator};
 
 impl<A: Allocator + Copy> AtpPart<A> {
     // Takes the page that the reading asked for.
-    pub(crate) fn take_page(
+    pub(crate) fn hear_page(
         &mut self,
         packet: &Incoming<'_>,
         user: [u8; 4],
@@ -44,13 +45,13 @@ impl<A: Allocator + Copy> AtpPart<A> {
         ensures not_asked { is_asked result ≡ false }
     {
         match read_page(user, bytes) {
-            Ok(page) => self.take_names(packet, &page, out),
+            Ok(page) => self.hear_names(packet, &page, out),
             Err(fault) => self.end_reading(packet, zone_fault(fault), out),
         }
     }
 
     // Takes the names of a page: the reading ends with them, or asks for the next page.
-    fn take_names(
+    fn hear_names(
         &mut self,
         packet: &Incoming<'_>,
         page: &PageView<'_>,

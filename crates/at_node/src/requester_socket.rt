@@ -2,11 +2,12 @@
 ghost use Rattle.std.specs.Prelude.{◌≡◌, ◌≢◌, ◌↔◌, ℕ, ◌<◌, ◌≤◌, Bool, length, List, ◌++◌, ◌∷◌, [], map, None, Some};
 ghost use Rattle.std.specs.Prelude.{IfOk, IfErr, IfSome, IsOk, OnErr, IsErrOf, true, false};
 ghost use Rattle.at_ddp.specs.Datagram.{content as written};
+ghost use Rattle.at_ddp.specs.Protocols.{atp_kind};
 ghost use Rattle.at_atp_frame.specs.Frames.{Response, content, spelled, spelled_all};
 ghost use Rattle.at_atp_requester.specs.Requests.{Retried, next_number, beginning, begun, request_by};
 ghost use Rattle.at_atp_requester.specs.Requests.{is_ignored, heard, retried};
 ghost use Rattle.at_node.specs.AtpHearing.{AtSocket, HearsAt, Requester as RequesterSocket};
-ghost use Rattle.at_node.specs.AtpParts.{atp_kind, tid_of};
+ghost use Rattle.at_node.specs.AtpParts.{tid_of};
 ghost use Rattle.at_event.specs.Outcomes.{Comes, IsStep, posted, sent_by};
 ghost use Rattle.at_node.specs.RequesterSocket.{ask_called, retry_fired, reported_other};
 ghost use Rattle.at_event.specs.Services.{is_asked};
@@ -81,12 +82,12 @@ impl<A: Allocator + Copy> AtpPart<A> {
         ensures not_asked { is_asked result ≡ false }
     {
         match Incoming::in_datagram(seat, datagram) {
-            Ok(packet) => self.take_response(&packet, out),
+            Ok(packet) => self.hear_at_requester(&packet, out),
             Err(fault) => refused(fault.number()),
         }
     }
 
-    fn take_response(&mut self, packet: &Incoming<'_>, out: &mut Datagrams<A>) -> Report<A>
+    fn hear_at_requester(&mut self, packet: &Incoming<'_>, out: &mut Datagrams<A>) -> Report<A>
         ensures comes { (said : Said A)
             → Comes (AtSocket said packet.now.seat self.old packet.now.from (Some RequesterSocket)
             (content packet.now.frame)) self.old out.old.items result self.new out.new.items }
@@ -94,14 +95,14 @@ impl<A: Allocator + Copy> AtpPart<A> {
     {
         match packet.frame {
             Frame::Response { user, data_, .. } if self.is_page(packet) => {
-                self.take_page(packet, user, data_, out)
+                self.hear_page(packet, user, data_, out)
             }
-            _ => self.take_other(packet, out),
+            _ => self.hear_other(packet, out),
         }
     }
 
     // Takes a packet that is not the page that a reading asked for.
-    fn take_other(&mut self, packet: &Incoming<'_>, out: &mut Datagrams<A>) -> Report<A>
+    fn hear_other(&mut self, packet: &Incoming<'_>, out: &mut Datagrams<A>) -> Report<A>
         requires { is_page A self.old packet.now.from (content packet.now.frame) ≡ false }
         ensures comes { (said : Said A)
             → Comes (AtSocket said packet.now.seat self.old packet.now.from (Some RequesterSocket)

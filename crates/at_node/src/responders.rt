@@ -1,9 +1,9 @@
 //! What the zone socket and the service's socket do alike, each with its own responder.
 ghost use Rattle.std.specs.Prelude.{◌≡◌, ◌≢◌, ◌↔◌, ◌++◌, map, length, find, None, Err, true, IfOk, IfErr, IfSome, OnOk};
 ghost use Rattle.std.specs.Prelude.{OnErr, IsOk, IsErrOf, false};
+ghost use Rattle.at_ddp.specs.Protocols.{atp_kind};
 ghost use Rattle.at_atp_frame.specs.Frames.{content, spelled_all};
 ghost use Rattle.at_atp_responder.specs.Records.{taken, finds_no_place, after_answer, answer_fault, is_key, asked_for};
-ghost use Rattle.at_node.specs.AtpParts.{atp_kind};
 ghost use Rattle.at_event.specs.Outcomes.{posted, sent_by};
 ghost use Rattle.at_node.specs.Responders.{is_release, release_fired, released_report};
 ghost use Rattle.at_event.specs.Services.{is_asked};
@@ -37,7 +37,7 @@ impl<A: Allocator + Copy> AtpPart<A> {
 }
 
 // The responder takes a packet.
-pub(crate) fn take<A: Allocator + Copy>(
+pub(crate) fn hear<A: Allocator + Copy>(
     alloc: A,
     records: &mut Responder<A>,
     own: Address,
@@ -105,7 +105,7 @@ pub(crate) fn release<A: Allocator + Copy>(
         (sent_by own atp_kind (spelled_all (taken records.old packet.now.from (content packet.now.frame)).sent)) }
     ensures not_asked { is_asked result ≡ false }
 {
-    match take(alloc, records, own, packet, out).unwrap() {
+    match hear(alloc, records, own, packet, out).unwrap() {
         Reception::Released => Report::Released,
         _ => Report::Ignored,
     }

@@ -2,11 +2,12 @@
 ghost use Rattle.std.specs.Prelude.{◌≡◌, ◌++◌, [], map, find, None, Some, IfOk, OnOk, OnErr};
 ghost use Rattle.at_ddp.specs.Datagram.{content as written};
 ghost use Rattle.at_ddp.specs.Outbox.{Sends};
+ghost use Rattle.at_ddp.specs.Protocols.{atp_kind};
 ghost use Rattle.at_atp_frame.specs.Frames.{content, spelled_all};
 ghost use Rattle.at_atp_responder.specs.Records.{record_fault, is_key};
 ghost use Rattle.at_node.specs.AtpHearing as Heard;
 ghost use Rattle.at_node.specs.AtpHearing.{AtSocket, HearsAt};
-ghost use Rattle.at_node.specs.AtpParts.{AtpState, atp_kind};
+ghost use Rattle.at_node.specs.AtpParts.{AtpState};
 ghost use Rattle.at_event.specs.Outcomes.{Comes, IsStep, posted, sent_by};
 ghost use Rattle.at_event.specs.Services.{Serves};
 ghost use Rattle.at_node.specs.ServiceSocket.{answer_called, service_asked, after_reply, sent_by_reply};
@@ -17,7 +18,7 @@ ghost use Rattle.at_node.specs.AtpParts.{serving};
 use crate::atp_part::{AtpPart, outbox_over};
 use crate::incoming::Incoming;
 use crate::node::refused;
-use crate::responders::{answer, release, take};
+use crate::responders::{answer, hear, release};
 use at_atp::{Frame, Key, Packet, Reception, Responder};
 use at_ddp::{Address, Bytes, Datagram, Datagrams, Outbox};
 use at_event::{Reply, Report, Seat, Service};
@@ -66,12 +67,12 @@ impl<A: Allocator + Copy> AtpPart<A> {
             × Serves S.serves result said service.old service.new }
     {
         match Incoming::in_datagram(seat, datagram) {
-            Ok(packet) => self.take_packet(service, &packet, out),
+            Ok(packet) => self.hear_at_service(service, &packet, out),
             Err(fault) => refused(fault.number()),
         }
     }
 
-    fn take_packet<S: Service<A>>(
+    fn hear_at_service<S: Service<A>>(
         &mut self,
         service: &mut S,
         packet: &Incoming<'_>,
@@ -89,7 +90,7 @@ impl<A: Allocator + Copy> AtpPart<A> {
         let Frame::Request { user, data_, .. } = packet.frame else {
             return Report::Ignored;
         };
-        take_request(
+        give_request(
             self.alloc,
             &mut self.service_responder,
             service,
@@ -103,7 +104,7 @@ impl<A: Allocator + Copy> AtpPart<A> {
 }
 
 // Takes a request for the service, with its user bytes and its data.
-fn take_request<A: Allocator + Copy, S: Service<A>>(
+fn give_request<A: Allocator + Copy, S: Service<A>>(
     alloc: A,
     records: &mut Responder<A>,
     service: &mut S,
@@ -119,7 +120,7 @@ fn take_request<A: Allocator + Copy, S: Service<A>>(
         (record a { service_responder = records.new }) out.new.items)
         × Serves S.serves result said service.old service.new }
 {
-    match take(alloc, records, own, packet, out) {
+    match hear(alloc, records, own, packet, out) {
         Err(fault) => refused(fault.number()),
         Ok(Reception::Ignored) => Report::Ignored,
         Ok(Reception::Again(_)) => Report::Again,

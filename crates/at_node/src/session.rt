@@ -1,18 +1,14 @@
 //! What a node does for its user's session: what it keeps of reports, and the calls that use it.
 ghost use Rattle.std.specs.Prelude.{◌≡◌, List};
 ghost use Rattle.at_adsp_ends.specs.Tables.{EndTable};
-ghost use Rattle.at_ddp.specs.Datagram.{content};
 ghost use Rattle.at_ddp.specs.Datagrams.{Posted};
-ghost use Rattle.at_event.specs.Outcomes.{Comes, IsStep, Through};
-ghost use Rattle.at_event.specs.Services.{Serves};
-ghost use Rattle.at_event.specs.declared.service.Reply.{Reply};
-ghost use Rattle.at_node.specs.AtpHearing.{HearsAtp};
-ghost use Rattle.at_node.specs.Nodes.{called, over_atp};
+ghost use Rattle.at_event.specs.Outcomes.{IsStep};
+ghost use Rattle.at_node.specs.Nodes.{called};
 
 use crate::node::Node;
-use at_ddp::{Datagram, Datagrams, Pascal};
-use at_event::{Call, NodeFault, Report, Service};
-use std::alloc::{AllocError, Allocator};
+use at_ddp::{Datagrams, Pascal};
+use at_event::{Call, NodeFault, Report};
+use std::alloc::Allocator;
 
 impl<A: Allocator + Copy> Node<A> {
     // Picks a zone of the zone list that was read last.
@@ -48,26 +44,5 @@ impl<A: Allocator + Copy> Node<A> {
             Some(to) => self.streams.connect(self.seat, to, out),
             None => Report::Refused(NodeFault::NotFound.number()),
         }
-    }
-
-    // Takes a datagram of ATP that is for this node. If it ends a reading with the zone list, that is kept.
-    pub(crate) fn hear_atp<S: Service<A>>(
-        &mut self,
-        service: &mut S,
-        datagram: &Datagram<'_>,
-        out: &mut Datagrams<A>,
-    ) -> Report<A>
-        ensures { (said : Reply A)
-            × Comes (Through (over_atp self.old) (HearsAtp said self.old.seat self.old.atp (content datagram.now)))
-            self.old out.old.items result self.new out.new.items
-            × Serves S.serves result said service.old service.new }
-    {
-        let list = match self.atp.list_ended_by(self.seat, datagram) {
-            Ok(list) => list,
-            Err(AllocError) => return Report::NoMemory,
-        };
-        let report = self.atp.hear(self.seat, service, datagram, out);
-        self.session.keep_list(&report, list);
-        report
     }
 }

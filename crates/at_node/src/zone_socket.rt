@@ -6,8 +6,9 @@ ghost use Rattle.at_ddp.specs.Datagrams.{Posted};
 ghost use Rattle.at_atp_frame.specs.Frames.{content, spelled_all};
 ghost use Rattle.at_atp_responder.specs.Records.{record_fault, is_key, after_answer, asked_for};
 ghost use Rattle.at_ddp.specs.Tables.{without_first};
+ghost use Rattle.at_ddp.specs.Protocols.{atp_kind};
 ghost use Rattle.at_node.specs.AtpHearing.{AtSocket, HearsAt, Zones as ZoneSocket};
-ghost use Rattle.at_node.specs.AtpParts.{AtpState, atp_kind, zones_at};
+ghost use Rattle.at_node.specs.AtpParts.{AtpState, zones_at};
 ghost use Rattle.at_event.specs.Outcomes.{Comes, IsStep, posted, sent_by};
 ghost use Rattle.at_event.specs.Services.{is_asked};
 ghost use Rattle.at_node.specs.ZoneSocket.{page_packet, set_zones_called, zone_asked};
@@ -17,7 +18,7 @@ ghost use Rattle.at_event.specs.declared.service.Reply.{Reply as Said};
 use crate::atp_part::AtpPart;
 use crate::incoming::Incoming;
 use crate::node::refused;
-use crate::responders::{answer, release, take};
+use crate::responders::{answer, hear, release};
 use at_atp::{AtpFault, Frame, Key, Packet, Reception, Responder};
 use at_ddp::{Address, Datagram, Datagrams, Pascal};
 use at_event::{NodeFault, Report, Seat};
@@ -113,7 +114,7 @@ fn serve_request<A: Allocator + Copy>(
         (record a { zone_responder = records.new }) out.new.items }
     ensures not_asked { is_asked result ≡ false }
 {
-    match take(alloc, records, own, packet, out) {
+    match hear(alloc, records, own, packet, out) {
         Err(fault) => refused(fault.number()),
         Ok(Reception::Ignored) => Report::Ignored,
         Ok(Reception::Again(_)) => Report::Again,

@@ -1,5 +1,6 @@
 -- The lines that are left to read, and the events that those before them say.
-use Rattle.std.proofs.Common.{◌≡◌, ℕ, ◌<◌, Bool, true, false, if◌then◌else◌, List, [], ◌∷◌, ◌++◌, length, Some, None, IfSome, refl, sym, ap, subst, ◌∙◌, append-nil, append_assoc}
+use Rattle.std.proofs.Common.{◌≡◌, ℕ, ◌<◌, Bool, true, false, if◌then◌else◌, List, [], ◌∷◌, ◌++◌, length, Some, None}
+use Rattle.std.proofs.Common.{IfSome, refl, sym, ap, subst, ◌∙◌, append-nil, append_assoc}
 use Rattle.std.specs.Prelude.{Option, filter}
 use Rattle.std.specs.Io.BufRead.{DropsThrough, drop_through, first_piece}
 use Rattle.std.specs.Io.KnownBytes.{IsAtEnd}
@@ -12,14 +13,16 @@ use Rattle.at_play.specs.Told.{BeginsWith}
 abbrev pub SaidSoFar : {A : Type 0} → Option (List ℕ) → Option (List ℕ) → List (Event A) → Type 0
 SaidSoFar None now es = Unit {0}
 SaidSoFar (Some all) None es = ⊥
-SaidSoFar (Some all) (Some rest) es = (said : List (List ℕ)) × (event_lines all ≡ said ++ event_lines rest) × SayAll said es
+SaidSoFar (Some all) (Some rest) es = (said : List (List ℕ)) × (event_lines all ≡ said ++ event_lines rest)
+    × SayAll said es
 
 -- one line more adds the event that it says, if it is an event line
 abbrev pub Adds : {A : Type 0} → Bool → List ℕ → List (Event A) → List (Event A) → Type 0
 Adds {A = A} true line es more = (e : Event A) × Says line e × (more ≡ es ++ e ∷ [])
 Adds false line es more = more ≡ es
 
-say_more : {A : Type 0} (lines : List (List ℕ)) (es : List (Event A)) (line : List ℕ) (e : Event A) → SayAll lines es → Says line e → SayAll (lines ++ line ∷ []) (es ++ e ∷ [])
+say_more : {A : Type 0} (lines : List (List ℕ)) (es : List (Event A)) (line : List ℕ) (e : Event A) → SayAll lines es
+    → Says line e → SayAll (lines ++ line ∷ []) (es ++ e ∷ [])
 say_more [] [] line e h says = (says, tt)
 say_more (l ∷ lines) (x ∷ es) line e h says = (h.0, say_more lines es line e h.1 says)
 say_more [] (x ∷ es) line e h says = absurd h
@@ -29,7 +32,8 @@ pub reads_none : (A : Type 0) (first now : Option (List ℕ)) → now ≡ first 
 reads_none A None now is = tt
 reads_none A (Some all) now is = rw is ([], refl, tt)
 
-pub reads_all : (A : Type 0) (first now : Option (List ℕ)) (es : List (Event A)) → SaidSoFar first now es → IsAtEnd now → IfSome first (λ text. SayAll (event_lines text) es)
+pub reads_all : (A : Type 0) (first now : Option (List ℕ)) (es : List (Event A)) → SaidSoFar first now es → IsAtEnd now
+    → IfSome first (λ text. SayAll (event_lines text) es)
 reads_all A None now es h end = tt
 reads_all A (Some all) None es h end = absurd h
 reads_all A (Some all) (Some rest) es (said, is, says) end =
@@ -38,7 +42,8 @@ reads_all A (Some all) (Some rest) es (said, is, says) end =
     subst (λ l. SayAll l es) (sym same) says
 
 -- what was read so far is said by the first event lines
-pub reads_so_far : (A : Type 0) (first now : Option (List ℕ)) (es : List (Event A)) → SaidSoFar first now es → IfSome first (λ text. BeginsWith text es)
+pub reads_so_far : (A : Type 0) (first now : Option (List ℕ)) (es : List (Event A)) → SaidSoFar first now es
+    → IfSome first (λ text. BeginsWith text es)
 reads_so_far A None now es h = tt
 reads_so_far A (Some all) None es h = absurd h
 reads_so_far A (Some all) (Some rest) es (said, is, says) = (said, event_lines rest, is, says)
@@ -51,25 +56,34 @@ none_said A (Some text) = ([], event_lines text, refl, tt)
 abbrev pub FirstLine : Type 0
 FirstLine = (rest : List ℕ) → 0 < length rest → lines_in rest ≡ first_piece 10 rest ∷ lines_in (drop_through 10 rest)
 
-filter_by : (b : Bool) (line : List ℕ) (lines : List (List ℕ)) → is_event_line line ≡ b → filter is_event_line (line ∷ lines) ≡ (if b then line ∷ filter is_event_line lines else filter is_event_line lines)
+filter_by : (b : Bool) (line : List ℕ) (lines : List (List ℕ)) → is_event_line line ≡ b
+    → filter is_event_line (line ∷ lines)
+    ≡ (if b then line ∷ filter is_event_line lines else filter is_event_line lines)
 filter_by b line lines is = ap (λ v. if v then line ∷ filter is_event_line lines else filter is_event_line lines) is
 
 -- one line more
-adds_by : (A : Type 0) (b : Bool) (line : List ℕ) (all rest : List ℕ) (lines : List (List ℕ)) (es more : List (Event A)) → SaidSoFar (Some all) (Some rest) es
-    → event_lines rest ≡ (if b then line ∷ lines else lines) → Adds b line es more → (said : List (List ℕ)) × (event_lines all ≡ said ++ lines) × SayAll said more
+adds_by : (A : Type 0) (b : Bool) (line : List ℕ) (all rest : List ℕ) (lines : List (List ℕ))
+    (es more : List (Event A)) → SaidSoFar (Some all) (Some rest) es
+    → event_lines rest ≡ (if b then line ∷ lines else lines) → Adds b line es more → (said : List (List ℕ))
+    × (event_lines all ≡ said ++ lines) × SayAll said more
 adds_by A true line all rest lines es more (said, is, says) left (e, new, added) = (
   said ++ line ∷ [],
   is ∙ ap (λ l. said ++ l) left ∙ sym (append_assoc said (line ∷ []) lines),
   subst (SayAll (said ++ line ∷ [])) (sym added) (say_more said es line e says new),
 )
-adds_by A false line all rest lines es more (said, is, says) left added = (said, is ∙ ap (λ l. said ++ l) left, subst (SayAll said) (sym added) says)
+adds_by A false line all rest lines es more (said, is, says) left added =
+    (said, is ∙ ap (λ l. said ++ l) left, subst (SayAll said) (sym added) says)
 
-pub reads_more : FirstLine → (A : Type 0) (first known new : Option (List ℕ)) (es more : List (Event A)) (piece : List ℕ) → SaidSoFar first known es → IfSome known (λ xs. (0 < length xs) × (piece ≡ first_piece 10 xs))
+pub reads_more : FirstLine
+    → (A : Type 0) (first known new : Option (List ℕ)) (es more : List (Event A)) (piece : List ℕ)
+    → SaidSoFar first known es → IfSome known (λ xs. (0 < length xs) × (piece ≡ first_piece 10 xs))
     → DropsThrough known new 10 → Adds (is_event_line piece) piece es more → SaidSoFar first new more
 reads_more law A None known new es more piece h is drops added = tt
 reads_more law A (Some all) None new es more piece h is drops added = absurd h
 reads_more law A (Some all) (Some rest) new es more piece h is drops added =
     let lines = filter is_event_line (lines_in (drop_through 10 rest)) in
     let left : event_lines rest ≡ (if is_event_line piece then piece ∷ lines else lines) =
-    ap (filter is_event_line) (law rest is.0) ∙ ap (λ l. filter is_event_line (l ∷ lines_in (drop_through 10 rest))) (sym is.1) ∙ filter_by (is_event_line piece) piece (lines_in (drop_through 10 rest)) refl in
+    ap (filter is_event_line) (law rest is.0)
+    ∙ ap (λ l. filter is_event_line (l ∷ lines_in (drop_through 10 rest))) (sym is.1)
+    ∙ filter_by (is_event_line piece) piece (lines_in (drop_through 10 rest)) refl in
     rw drops (adds_by A (is_event_line piece) piece all rest lines es more h left added)

@@ -10,5 +10,6 @@ module _ {W : Type 0} (contents : W → Option (List ℕ)) where
   pub Prints-nothing : (a : Printer W) → Prints contents a a []
   Prints-nothing a = grind (arith, common_steps, Appends-nil)
 
-  pub Prints-trans : (a b c : Printer W) (xs ys : List ℕ) → Prints contents a b xs → Prints contents b c ys → Prints contents a c (xs ++ ys)
+  pub Prints-trans : (a b c : Printer W) (xs ys : List ℕ) → Prints contents a b xs → Prints contents b c ys
+      → Prints contents a c (xs ++ ys)
   Prints-trans a b c xs ys first second = grind (arith, common_steps, Appends-trans)

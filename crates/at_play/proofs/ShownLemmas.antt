@@ -31,7 +31,8 @@ one_spelling word a b (inr p) (inr q) = cc (sym p.1 ∙ q.1)
 
 -- what a word spells is sound, if the word is shown
 pub sound_in : (word bytes : List ℕ) → Shows word → IsHex word bytes → IsSound bytes
-sound_in word bytes shows spelled = subst IsSound (one_spelling word shows.bytes bytes shows.written spelled) shows.sound
+sound_in word bytes shows spelled =
+    subst IsSound (one_spelling word shows.bytes bytes shows.written spelled) shows.sound
 
 -- what is printed of a word that spells no bytes, or for which there is no room
 pub fault_text : (word : List ℕ) (room : ℕ) (f : HexFault) → (f ≡ fault.NoHex → (bytes : List ℕ) → ¬ IsHex word bytes)

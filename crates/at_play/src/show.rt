@@ -11,21 +11,12 @@ use crate::diagnostics::Diagnostics;
 use crate::hex_reason::HexReason;
 use crate::show_names::show_names;
 use crate::show_segment::show_segment;
-use at_ddp::Datagram;
+use at_ddp::{ADSP, ATP, Datagram, NBP};
 use at_print::{Printer, Status, write_frame, write_header, write_raw};
 use at_words::{HexFault, bytes_of};
 use std::alloc::Allocator;
 use std::fmt::Display;
 use std::io::Write;
-
-/// The protocol of NBP's datagrams.
-const NBP: u8 = 2;
-
-/// The protocol of ATP's datagrams.
-const ATP: u8 = 3;
-
-/// The protocol of ADSP's datagrams.
-const ADSP: u8 = 7;
 
 /// Prints the datagram that a word spells in hexadecimal digits, its header and its packet, or the number of the first
 /// refusal. What follows the datagram is counted only. The bytes are put into the room. Why a word or a datagram is

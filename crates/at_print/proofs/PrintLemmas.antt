@@ -1,5 +1,6 @@
 -- What several prints print, one after the other.
-use Rattle.std.proofs.Common.{arith, Bool, append_assoc, ◌≡◌, ◌⊎◌, ◌+◌, ◌<◌, ◌/◌, ◌%◌, ◌++◌, ◌∷◌, [], List, ℕ, true, length, take, get_or, inl, inr, refl, sym, ap, subst, ◌∙◌}
+use Rattle.std.proofs.Common.{arith, Bool, append_assoc, ◌≡◌, ◌⊎◌, ◌+◌, ◌<◌, ◌/◌, ◌%◌, ◌++◌, ◌∷◌, [], List, ℕ, true}
+use Rattle.std.proofs.Common.{length, take, get_or, inl, inr, refl, sym, ap, subst, ◌∙◌}
 use Rattle.std.proofs.Math.ListN.{set}
 use Rattle.std.proofs.lemmas.Grind.{take-set_at}
 use Rattle.std.proofs.lemmas.List.{length-set, take_more}
@@ -16,11 +17,13 @@ use Rattle.at_print.specs.declared.printer.Printer.{Printer}
 use Rattle.at_print.specs.Printers.{HasFailed, Prints}
 
 written : {W : Type 0} (contents : W → Option (List ℕ)) (a b c : Printer W) (xs ys : List ℕ) → Prints contents b c ys
-    → HasFailed b ⊎ Appends (contents a.writer) (contents b.writer) xs → HasFailed c ⊎ Appends (contents b.writer) (contents c.writer) ys
+    → HasFailed b ⊎ Appends (contents a.writer) (contents b.writer) xs → HasFailed c
+    ⊎ Appends (contents b.writer) (contents c.writer) ys
     → HasFailed c ⊎ Appends (contents a.writer) (contents c.writer) (xs ++ ys)
 written contents a b c xs ys second p (inl failed) = inl failed
 written contents a b c xs ys second (inl failed) (inr q) = inl (subst HasFailed (sym (second.stopped failed)) failed)
-written contents a b c xs ys second (inr p) (inr q) = inr (Appends-trans (contents a.writer) (contents b.writer) (contents c.writer) xs ys p q)
+written contents a b c xs ys second (inr p) (inr q) = inr
+    (Appends-trans (contents a.writer) (contents b.writer) (contents c.writer) xs ys p q)
 
 pub Prints-trans : {W : Type 0} (contents : W → Option (List ℕ)) (a b c : Printer W) (xs ys : List ℕ)
     → Prints contents a b xs → Prints contents b c ys → Prints contents a c (xs ++ ys)
@@ -35,11 +38,14 @@ pairs-append (x ∷ xs) ys = ap (λ l. digit_glyph true (x / 16) ∷ digit_glyph
 
 -- the digits of one byte more
 pub pairs-next : (bytes : List ℕ) (i : ℕ) → i < length bytes
-    → pairs (take (i + 1) bytes) ≡ pairs (take i bytes) ++ (digit_glyph true (get_or bytes i 0 / 16) ∷ digit_glyph true (get_or bytes i 0 % 16) ∷ [])
+    → pairs (take (i + 1) bytes)
+    ≡ pairs (take i bytes) ++
+    (digit_glyph true (get_or bytes i 0 / 16) ∷ digit_glyph true (get_or bytes i 0 % 16) ∷ [])
 pairs-next bytes i lt = ap pairs (take_more bytes i 0 lt) ∙ pairs-append (take i bytes) (get_or bytes i 0 ∷ [])
 
 -- two more elements that are written after the first ones
-pub two_more : (xs : List ℕ) (i n a b : ℕ) → n ≡ i + 1 + 1 → i + 1 < length xs → take n (set (set xs i a) (i + 1) b) ≡ take i xs ++ (a ∷ b ∷ [])
+pub two_more : (xs : List ℕ) (i n a b : ℕ) → n ≡ i + 1 + 1 → i + 1 < length xs → take n (set (set xs i a) (i + 1) b)
+    ≡ take i xs ++ (a ∷ b ∷ [])
 two_more xs i n a b is lt =
     let within : i + 1 < length (set xs i a) = omega (arith, length-set xs i a) in
     take-set_at (set xs i a) (i + 1) n b is within
@@ -52,48 +58,66 @@ flat5 a b c d e r = simp append_assoc
 flat6 : (a b c d e f r : List ℕ) → (a ++ (b ++ (c ++ (d ++ (e ++ f))))) ++ r ≡ a ++ (b ++ (c ++ (d ++ (e ++ (f ++ r)))))
 flat6 a b c d e f r = simp append_assoc
 
-flat8 : (a b c d e f g h r : List ℕ) → (a ++ (b ++ (c ++ (d ++ (e ++ (f ++ (g ++ h))))))) ++ r ≡ a ++ (b ++ (c ++ (d ++ (e ++ (f ++ (g ++ (h ++ r)))))))
+flat8 : (a b c d e f g h r : List ℕ) → (a ++ (b ++ (c ++ (d ++ (e ++ (f ++ (g ++ h))))))) ++ r
+    ≡ a ++ (b ++ (c ++ (d ++ (e ++ (f ++ (g ++ (h ++ r)))))))
 flat8 a b c d e f g h r = simp append_assoc
 
 module _ {W : Type 0} (contents : W → Option (List ℕ)) where
   -- five, six or eight parts by one call, and then more
-  pub Prints-five : (x y z : Printer W) (a b c d e r : List ℕ) → Prints contents x y (a ++ (b ++ (c ++ (d ++ e)))) → Prints contents y z r
+  pub Prints-five : (x y z : Printer W) (a b c d e r : List ℕ) → Prints contents x y (a ++ (b ++ (c ++ (d ++ e))))
+      → Prints contents y z r
       → Prints contents x z (a ++ (b ++ (c ++ (d ++ (e ++ r)))))
-  Prints-five x y z a b c d e r p q = subst (Prints contents x z) (flat5 a b c d e r) (Prints-trans contents x y z _ r p q)
+  Prints-five x y z a b c d e r p q =
+      subst (Prints contents x z) (flat5 a b c d e r) (Prints-trans contents x y z _ r p q)
 
-  pub Prints-six : (x y z : Printer W) (a b c d e f r : List ℕ) → Prints contents x y (a ++ (b ++ (c ++ (d ++ (e ++ f))))) → Prints contents y z r
+  pub Prints-six : (x y z : Printer W) (a b c d e f r : List ℕ)
+      → Prints contents x y (a ++ (b ++ (c ++ (d ++ (e ++ f))))) → Prints contents y z r
       → Prints contents x z (a ++ (b ++ (c ++ (d ++ (e ++ (f ++ r))))))
-  Prints-six x y z a b c d e f r p q = subst (Prints contents x z) (flat6 a b c d e f r) (Prints-trans contents x y z _ r p q)
+  Prints-six x y z a b c d e f r p q =
+      subst (Prints contents x z) (flat6 a b c d e f r) (Prints-trans contents x y z _ r p q)
 
-  pub Prints-eight : (x y z : Printer W) (a b c d e f g h r : List ℕ) → Prints contents x y (a ++ (b ++ (c ++ (d ++ (e ++ (f ++ (g ++ h))))))) → Prints contents y z r
+  pub Prints-eight : (x y z : Printer W) (a b c d e f g h r : List ℕ)
+      → Prints contents x y (a ++ (b ++ (c ++ (d ++ (e ++ (f ++ (g ++ h))))))) → Prints contents y z r
       → Prints contents x z (a ++ (b ++ (c ++ (d ++ (e ++ (f ++ (g ++ (h ++ r))))))))
-  Prints-eight x y z a b c d e f g h r p q = subst (Prints contents x z) (flat8 a b c d e f g h r) (Prints-trans contents x y z _ r p q)
+  Prints-eight x y z a b c d e f g h r p q = subst (Prints contents x z) (flat8 a b c d e f g h r)
+      (Prints-trans contents x y z _ r p q)
 
   -- a header's line is printed in seven parts
   pub header_prints : (a b c d e f g h : Printer W) (p : Content) (rest : ℕ)
-      → Prints contents a b (codes "ddp length " ++ (decimal (13 + length p.data_) ++ (codes " hops " ++ (decimal p.hops ++ codes " sum "))))
-      → Prints contents b c (sum_text p.sum) → Prints contents c d (codes " from ") → Prints contents d e (address_text p.from)
+      → Prints contents a b (codes "ddp length "
+      ++ (decimal (13 + length p.data_) ++ (codes " hops " ++ (decimal p.hops ++ codes " sum "))))
+      → Prints contents b c (sum_text p.sum) → Prints contents c d (codes " from ")
+      → Prints contents d e (address_text p.from)
       → Prints contents e f (codes " to ") → Prints contents f g (address_text p.to)
       → Prints contents g h (codes " type " ++ (decimal p.kind ++ (codes " rest " ++ (decimal rest ++ codes "\n"))))
       → Prints contents a h (header_line p rest)
   header_prints a b c d e f g h p rest p1 p2 p3 p4 p5 p6 p7 =
       let receiver = Prints-trans contents e f h _ _ p5 (Prints-trans contents f g h _ _ p6 p7) in
       let sender = Prints-trans contents c d h _ _ p3 (Prints-trans contents d e h _ _ p4 receiver) in
-      Prints-five a b h (codes "ddp length ") _ (codes " hops ") _ (codes " sum ") _ p1 (Prints-trans contents b c h _ _ p2 sender)
+      Prints-five a b h (codes "ddp length ") _ (codes " hops ") _ (codes " sum ") _ p1
+      (Prints-trans contents b c h _ _ p2 sender)
 
   -- a request's line is printed in four parts, and a response's in two
-  pub request_prints : (a b c d e : Printer W) (mask : ℕ) (xo : Bool) (one timer tid : ℕ) (user bytes : List ℕ) → one ≡ from_bool xo
+  pub request_prints : (a b c d e : Printer W) (mask : ℕ) (xo : Bool) (one timer tid : ℕ) (user bytes : List ℕ) → one
+      ≡ from_bool xo
       → Prints contents a b (codes "atp request mask ") → Prints contents b c (pairs (mask ∷ []))
-      → Prints contents c d (codes " xo " ++ (decimal one ++ (codes " timer " ++ (decimal timer ++ (codes " id " ++ decimal tid)))))
-      → Prints contents d e (concat (parts user bytes)) → Prints contents a e (packet_line (Request mask xo timer tid user bytes))
+      → Prints contents c d (codes " xo "
+      ++ (decimal one ++ (codes " timer " ++ (decimal timer ++ (codes " id " ++ decimal tid)))))
+      → Prints contents d e (concat (parts user bytes))
+      → Prints contents a e (packet_line (Request mask xo timer tid user bytes))
   request_prints a b c d e mask xo one timer tid user bytes is p1 p2 p3 p4 =
       let fields = rw is at p3 in
       let end = Prints-six c d e (codes " xo ") _ (codes " timer ") _ (codes " id ") _ _ fields p4 in
       Prints-trans contents a b e _ _ p1 (Prints-trans contents b c e _ _ p2 end)
 
-  pub response_prints : (a b c : Printer W) (place : ℕ) (eom sts : Bool) (last asks tid : ℕ) (user bytes : List ℕ) → last ≡ from_bool eom → asks ≡ from_bool sts
-      → Prints contents a b (codes "atp response place " ++ (decimal place ++ (codes " eom " ++ (decimal last ++ (codes " sts " ++ (decimal asks ++ (codes " id " ++ decimal tid)))))))
-      → Prints contents b c (concat (parts user bytes)) → Prints contents a c (packet_line (Response place eom sts tid user bytes))
+  pub response_prints : (a b c : Printer W) (place : ℕ) (eom sts : Bool) (last asks tid : ℕ) (user bytes : List ℕ)
+      → last ≡ from_bool eom → asks ≡ from_bool sts
+      → Prints contents a b (codes "atp response place "
+      ++ (decimal place ++ (codes " eom "
+      ++ (decimal last ++ (codes " sts " ++ (decimal asks ++ (codes " id " ++ decimal tid)))))))
+      → Prints contents b c (concat (parts user bytes))
+      → Prints contents a c (packet_line (Response place eom sts tid user bytes))
   response_prints a b c place eom sts last asks tid user bytes is also p1 p2 =
       let fields = rw (is, also) at p1 in
-      Prints-eight a b c (codes "atp response place ") _ (codes " eom ") _ (codes " sts ") _ (codes " id ") _ _ fields p2
+      Prints-eight a b c (codes "atp response place ") _ (codes " eom ") _ (codes " sts ") _
+      (codes " id ") _ _ fields p2

@@ -1,5 +1,6 @@
 -- What is printed of the elements of a list, one after the other.
-use Rattle.std.proofs.Common.{◌≡◌, ℕ, ◌+◌, ◌<◌, ◌≤◌, List, [], ◌∷◌, ◌++◌, length, take, drop, get_or, refl, sym, ap, subst, ◌∙◌, append-nil, append_assoc, arith, Some, inr, drop_of_length-le, length-drop}
+use Rattle.std.proofs.Common.{◌≡◌, ℕ, ◌+◌, ◌<◌, ◌≤◌, List, [], ◌∷◌, ◌++◌, length, take, drop, get_or, refl, sym, ap}
+use Rattle.std.proofs.Common.{subst, ◌∙◌, append-nil, append_assoc, arith, Some, inr, drop_of_length-le, length-drop}
 use Rattle.std.proofs.lemmas.Grind.{flat_map-append}
 use Rattle.std.proofs.lemmas.List.{take_more, drop-append-le, length-take, length-take-le}
 use Rattle.std.proofs.lemmas.List.Concat.{flat_map-cons}
@@ -24,23 +25,31 @@ flat_map-next f xs i d x lt is =
     ∙ flat_map-append f (take i xs) (x ∷ [])
     ∙ ap (λ l. flat_map f (take i xs) ++ l) (flat_map-cons f x [] ∙ append-nil (f x))
 
-pub Prints-next : {T W : Type 0} (contents : W → Option (List ℕ)) (f : T → List ℕ) (xs : List T) (i : ℕ) (d x : T) (a b c : Printer W) → i < length xs → x ≡ get_or xs i d
-    → Prints contents a b (flat_map f (take i xs)) → Prints contents b c (f x) → Prints contents a c (flat_map f (take (i + 1) xs))
+pub Prints-next : {T W : Type 0} (contents : W → Option (List ℕ)) (f : T → List ℕ) (xs : List T) (i : ℕ) (d x : T)
+    (a b c : Printer W) → i < length xs → x ≡ get_or xs i d
+    → Prints contents a b (flat_map f (take i xs)) → Prints contents b c (f x)
+    → Prints contents a c (flat_map f (take (i + 1) xs))
 Prints-next contents f xs i d x a b c lt is p q =
     subst (Prints contents a c) (sym (flat_map-next f xs i d x lt is)) (Prints-trans contents a b c _ _ p q)
 
 -- the same after something that was printed before the first
-pub Prints-after : {T W : Type 0} (contents : W → Option (List ℕ)) (before : List ℕ) (f : T → List ℕ) (xs : List T) (i : ℕ) (d x : T) (a b c : Printer W) → i < length xs → x ≡ get_or xs i d
-    → Prints contents a b (before ++ flat_map f (take i xs)) → Prints contents b c (f x) → Prints contents a c (before ++ flat_map f (take (i + 1) xs))
+pub Prints-after : {T W : Type 0} (contents : W → Option (List ℕ)) (before : List ℕ) (f : T → List ℕ) (xs : List T)
+    (i : ℕ) (d x : T) (a b c : Printer W) → i < length xs → x ≡ get_or xs i d
+    → Prints contents a b (before ++ flat_map f (take i xs)) → Prints contents b c (f x)
+    → Prints contents a c (before ++ flat_map f (take (i + 1) xs))
 Prints-after contents before f xs i d x a b c lt is p q =
-    subst (Prints contents a c) (append_assoc before (flat_map f (take i xs)) (f x) ∙ ap (λ l. before ++ l) (sym (flat_map-next f xs i d x lt is))) (Prints-trans contents a b c _ _ p q)
+    subst (Prints contents a c)
+    (append_assoc before (flat_map f (take i xs)) (f x)
+    ∙ ap (λ l. before ++ l) (sym (flat_map-next f xs i d x lt is))) (Prints-trans contents a b c _ _ p q)
 
 -- the lines of the datagrams after the first ones
-pub sent_lines-append : (n : ℕ) (xs ys : List SentDatagram) → sent_lines n (xs ++ ys) ≡ sent_lines n xs ++ sent_lines (n + length xs) ys
+pub sent_lines-append : (n : ℕ) (xs ys : List SentDatagram) → sent_lines n (xs ++ ys)
+    ≡ sent_lines n xs ++ sent_lines (n + length xs) ys
 sent_lines-append n [] ys = ap (λ k. sent_lines k ys) (omega arith)
 sent_lines-append n (x ∷ xs) ys =
     let same : n + 1 + length xs ≡ n + length (x ∷ xs) = omega arith in
-    ap (λ l. sent_line n x ++ l) (sent_lines-append (n + 1) xs ys ∙ ap (λ k. sent_lines (n + 1) xs ++ sent_lines k ys) same)
+    ap (λ l. sent_line n x ++ l)
+    (sent_lines-append (n + 1) xs ys ∙ ap (λ k. sent_lines (n + 1) xs ++ sent_lines k ys) same)
     ∙ sym (append_assoc (sent_line n x) (sent_lines (n + 1) xs) (sent_lines (n + length (x ∷ xs)) ys))
 
 -- no line is printed before the first
@@ -50,7 +59,8 @@ sent_lines-none first sent =
     ap (sent_lines first) (drop_of_length-le (take first sent) short)
 
 -- the line of one datagram more
-pub sent_lines-next : (first i : ℕ) (sent : List SentDatagram) (d : SentDatagram) → i < length sent → first ≤ i → slice_get sent i ≡ Some d
+pub sent_lines-next : (first i : ℕ) (sent : List SentDatagram) (d : SentDatagram) → i < length sent → first ≤ i
+    → slice_get sent i ≡ Some d
     → sent_lines first (drop first (take (i + 1) sent)) ≡ sent_lines first (drop first (take i sent)) ++ sent_line i d
 sent_lines-next first i sent d lt le is =
     let here : get_or sent i d ≡ d = let e = slice_get-get_or sent i d lt in cc in
@@ -64,7 +74,8 @@ sent_lines-next first i sent d lt le is =
     ∙ ap (λ l. sent_lines first (drop first (take i sent)) ++ l) (append-nil (sent_line i d))
 
 -- a datagram's line is printed in three parts
-pub Prints-sent : {W : Type 0} (contents : W → Option (List ℕ)) (first i : ℕ) (sent : List SentDatagram) (d : SentDatagram) (to : ℕ) (bytes : List ℕ) (a b c e f : Printer W)
+pub Prints-sent : {W : Type 0} (contents : W → Option (List ℕ)) (first i : ℕ) (sent : List SentDatagram)
+    (d : SentDatagram) (to : ℕ) (bytes : List ℕ) (a b c e f : Printer W)
     → i < length sent → first ≤ i → slice_get sent i ≡ Some d → to ≡ d.to → bytes ≡ d.bytes
     → Prints contents a b (sent_lines first (drop first (take i sent)))
     → Prints contents b c (codes "sent " ++ (decimal i ++ (codes " " ++ (decimal to ++ codes " "))))
@@ -74,14 +85,16 @@ Prints-sent contents first i sent d to bytes a b c e f lt le is goes spelled p q
     let head = rw goes at q in
     let digits = rw spelled at r in
     subst (Prints contents a f) (sym (sent_lines-next first i sent d lt le is))
-    (Prints-trans contents a b f _ _ p (Prints-trans contents b c f _ _ head (Prints-trans contents c e f _ _ digits s)))
+    (Prints-trans contents a b f _ _ p
+    (Prints-trans contents b c f _ _ head (Prints-trans contents c e f _ _ digits s)))
 
 module _ {W : Type 0} (contents : W → Option (List ℕ)) where
   pub Prints-nothing : (a : Printer W) → Prints contents a a []
   Prints-nothing a = record { stopped = λ failed. refl; written = inr (Appends-nil (contents a.writer)) }
 
   -- a packet is printed in four parts
-  pub Prints-packet : (p : Packet) (a b c d e : Printer W) → Prints contents a b (codes " ") → Prints contents b c (hex_text p.user) → Prints contents c d (codes ":")
+  pub Prints-packet : (p : Packet) (a b c d e : Printer W) → Prints contents a b (codes " ")
+      → Prints contents b c (hex_text p.user) → Prints contents c d (codes ":")
       → Prints contents d e (hex_text p.data_) → Prints contents a e (packet_text p)
   Prints-packet p a b c d e p1 p2 p3 p4 =
       Prints-trans contents a b e _ _ p1 (Prints-trans contents b c e _ _ p2 (Prints-trans contents c d e _ _ p3 p4))

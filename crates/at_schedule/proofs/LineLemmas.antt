@@ -1,5 +1,7 @@
 -- The lines that are left to read.
-use Rattle.std.proofs.Common.{◌≡◌, ℕ, ◌-◌, ◌<◌, ◌==◌, ◌&&◌, nat_lt, Bool, true, false, if◌then◌else◌, List, [], ◌∷◌, ◌++◌, length, take, get_or, Some, None, Ok, Err, Result, IfOk, IfSome, rules, refl, sym, ap, subst, ◌∙◌, append-nil, append_assoc, arith}
+use Rattle.std.proofs.Common.{◌≡◌, ℕ, ◌-◌, ◌<◌, ◌==◌, ◌&&◌, nat_lt, Bool, true, false, if◌then◌else◌, List, [], ◌∷◌}
+use Rattle.std.proofs.Common.{◌++◌, length, take, get_or, Some, None, Ok, Err, Result, IfOk, IfSome, rules, refl, sym}
+use Rattle.std.proofs.Common.{ap, subst, ◌∙◌, append-nil, append_assoc, arith}
 use Rattle.std.specs.Prelude.{Option}
 use Rattle.std.specs.Io.BufRead.{DropsThrough, drop_through, first_piece, take_through, strip_last}
 use Rattle.std.specs.Io.KnownBytes.{IsAtEnd}
@@ -22,16 +24,19 @@ chosen true c xs ys = refl
 chosen false c xs ys = refl
 
 -- the last byte of some goes if it is a line feed
-strip_some : (x : ℕ) (xs : List ℕ) → strip_last 10 (x ∷ xs) ≡ (if get_or (x ∷ xs) (length xs) 0 == 10 then take (length xs) (x ∷ xs) else x ∷ xs)
+strip_some : (x : ℕ) (xs : List ℕ) → strip_last 10 (x ∷ xs)
+    ≡ (if get_or (x ∷ xs) (length xs) 0 == 10 then take (length xs) (x ∷ xs) else x ∷ xs)
 strip_some x xs =
     let last : length (x ∷ xs) - 1 ≡ length xs = omega arith in
     let some : nat_lt 0 (length (x ∷ xs)) ≡ true = search rules in
-    ap (λ b. if b && (get_or (x ∷ xs) (length (x ∷ xs) - 1) 0 == 10) then take (length (x ∷ xs) - 1) (x ∷ xs) else x ∷ xs) some
+    ap (λ b. if b && (get_or (x ∷ xs) (length (x ∷ xs) - 1) 0 == 10) then take (length (x ∷ xs) - 1)
+    (x ∷ xs) else x ∷ xs) some
     ∙ ap (λ k. if get_or (x ∷ xs) k 0 == 10 then take k (x ∷ xs) else x ∷ xs) last
 
 strip_cons : (c y : ℕ) (l : List ℕ) → strip_last 10 (c ∷ y ∷ l) ≡ c ∷ strip_last 10 (y ∷ l)
 strip_cons c y l =
-    strip_some c (y ∷ l) ∙ chosen (get_or (y ∷ l) (length l) 0 == 10) c (take (length l) (y ∷ l)) (y ∷ l) ∙ ap (λ r. c ∷ r) (sym (strip_some y l))
+    strip_some c (y ∷ l) ∙ chosen (get_or (y ∷ l) (length l) 0 == 10) c (take (length l) (y ∷ l)) (y ∷ l)
+    ∙ ap (λ r. c ∷ r) (sym (strip_some y l))
 
 strip_end : (c : ℕ) → (c == 10) ≡ true → strip_last 10 (c ∷ []) ≡ []
 strip_end c is = strip_some c [] ∙ ap (λ b. if b then [] else c ∷ []) is
@@ -39,11 +44,13 @@ strip_end c is = strip_some c [] ∙ ap (λ b. if b then [] else c ∷ []) is
 strip_one : (c : ℕ) → (c == 10) ≡ false → strip_last 10 (c ∷ []) ≡ c ∷ []
 strip_one c is = strip_some c [] ∙ ap (λ b. if b then [] else c ∷ []) is
 
-through_by : (b : Bool) (c d : ℕ) (text : List ℕ) → (d == 10) ≡ b → strip_last 10 (c ∷ take_through 10 (d ∷ text)) ≡ c ∷ first_piece 10 (d ∷ text)
+through_by : (b : Bool) (c d : ℕ) (text : List ℕ) → (d == 10) ≡ b → strip_last 10 (c ∷ take_through 10 (d ∷ text))
+    ≡ c ∷ first_piece 10 (d ∷ text)
 through_by true c d text is = rw is (strip_cons c d [])
 through_by false c d text is = rw is (strip_cons c d (take_through 10 text))
 
-first_by : (b : Bool) (c : ℕ) (text : List ℕ) → (c == 10) ≡ b → lines_in (c ∷ text) ≡ first_piece 10 (c ∷ text) ∷ lines_in (drop_through 10 (c ∷ text))
+first_by : (b : Bool) (c : ℕ) (text : List ℕ) → (c == 10) ≡ b → lines_in (c ∷ text)
+    ≡ first_piece 10 (c ∷ text) ∷ lines_in (drop_through 10 (c ∷ text))
 first_by true c text is = rw is (ap (λ l. l ∷ lines_in text) (sym (strip_end c is)))
 first_by false c [] is = rw is (ap (λ l. l ∷ []) (sym (strip_one c is)))
 first_by false c (d ∷ text) is =
@@ -52,7 +59,8 @@ first_by false c (d ∷ text) is =
     ∙ ap (λ l. l ∷ lines_in (drop_through 10 (d ∷ text))) (sym (through_by (d == 10) c d text refl)))
 
 -- the first line, and those after it
-pub line_first : (rest : List ℕ) → 0 < length rest → lines_in rest ≡ first_piece 10 rest ∷ lines_in (drop_through 10 rest)
+pub line_first : (rest : List ℕ) → 0 < length rest → lines_in rest
+    ≡ first_piece 10 rest ∷ lines_in (drop_through 10 rest)
 line_first [] some = absurd (omega arith)
 line_first (c ∷ text) some = first_by (c == 10) c text refl
 
@@ -68,16 +76,20 @@ pub left_none : (first now : Option (List ℕ)) → now ≡ first → Left first
 left_none None now is = tt
 left_none (Some all) now is = rw is refl
 
-pub left_more : (first known new : Option (List ℕ)) (read : List (List ℕ)) (piece : List ℕ) → Left first known read → IfSome known (λ xs. (0 < length xs) × (piece ≡ first_piece 10 xs)) → DropsThrough known new 10
+pub left_more : (first known new : Option (List ℕ)) (read : List (List ℕ)) (piece : List ℕ) → Left first known read
+    → IfSome known (λ xs. (0 < length xs) × (piece ≡ first_piece 10 xs)) → DropsThrough known new 10
     → Left first new (read ++ piece ∷ [])
 left_more None known new read piece h is drops = tt
 left_more (Some all) None new read piece h is drops = absurd h
 left_more (Some all) (Some rest) new read piece h is drops =
-    let next : lines_in rest ≡ piece ∷ lines_in (drop_through 10 rest) = line_first rest is.0 ∙ ap (λ l. l ∷ lines_in (drop_through 10 rest)) (sym is.1) in
+    let next : lines_in rest ≡ piece ∷ lines_in (drop_through 10 rest) = line_first rest is.0
+    ∙ ap (λ l. l ∷ lines_in (drop_through 10 rest)) (sym is.1) in
     rw drops (h ∙ ap (λ l. read ++ l) next ∙ sym (append_assoc read (piece ∷ []) (lines_in (drop_through 10 rest))))
 
-pub next_left : {X E : Type 0} (bytes : X → List ℕ) (line : Result X E) (x : X) (byte : ℕ) (first known new : Option (List ℕ)) (read : List (List ℕ)) → line ≡ Ok x → byte ≡ 10 → Left first known read
-    → IfOk line (λ y. IfSome known (λ xs. (0 < length xs) × (bytes y ≡ first_piece byte xs)) × DropsThrough known new byte) → Left first new (read ++ bytes x ∷ [])
+pub next_left : {X E : Type 0} (bytes : X → List ℕ) (line : Result X E) (x : X) (byte : ℕ)
+    (first known new : Option (List ℕ)) (read : List (List ℕ)) → line ≡ Ok x → byte ≡ 10 → Left first known read
+    → IfOk line (λ y. IfSome known (λ xs. (0 < length xs) × (bytes y ≡ first_piece byte xs))
+    × DropsThrough known new byte) → Left first new (read ++ bytes x ∷ [])
 next_left bytes line x byte first known new read was is left piece =
     let here = rw was at piece in
     let piece' = rw is at here in
@@ -85,24 +97,30 @@ next_left bytes line x byte first known new read was is left piece =
 
 -- ---- what there is of a text that was read to its end
 
-pub all_held : (A : Type 0) (first now : Option (List ℕ)) (read : List (List ℕ)) (d : Draft) (s : Setup A) → Left first now read → IsAtEnd now → IsRead A read d → ((ls : List (List (List ℕ))) → IsDraft ls d → IsSetup ls s) → HoldsSetup first s
+pub all_held : (A : Type 0) (first now : Option (List ℕ)) (read : List (List ℕ)) (d : Draft) (s : Setup A)
+    → Left first now read → IsAtEnd now → IsRead A read d → ((ls : List (List (List ℕ))) → IsDraft ls d → IsSetup ls s)
+    → HoldsSetup first s
 all_held A None now read d s left end (draft, (es, said), order, late, early) setup = tt
 all_held A (Some all) None read d s left end (draft, (es, said), order, late, early) setup = absurd left
 all_held A (Some all) (Some rest) read d s left end (draft, (es, said), order, late, early) setup =
     let whole : lines_in all ≡ read = left ∙ ap (λ l. read ++ lines_in l) end ∙ append-nil read in
     (es, subst (λ l. IsSchedule l s es) (sym whole) (setup (setup_words read) draft, said, order))
 
-pub none_held : (A : Type 0) (first now : Option (List ℕ)) (read : List (List ℕ)) (d : Draft) (number : ℕ) (rule : Rule) → Left first now read → IsAtEnd now → IsRead A read d → IsNoSetup A d → IsLineFault A first (fault.Line number rule)
+pub none_held : (A : Type 0) (first now : Option (List ℕ)) (read : List (List ℕ)) (d : Draft) (number : ℕ)
+    (rule : Rule) → Left first now read → IsAtEnd now → IsRead A read d → IsNoSetup A d
+    → IsLineFault A first (fault.Line number rule)
 none_held A None now read d number rule left end so_far never = tt
 none_held A (Some all) None read d number rule left end so_far never = absurd left
 none_held A (Some all) (Some rest) read d number rule left end so_far never = λ s es (setup, said, order).
     let whole : lines_in all ≡ read = left ∙ ap (λ l. read ++ lines_in l) end ∙ append-nil read in
     never (setup_words read) so_far.0 s (subst (λ l. IsSetup (setup_words l) s) whole setup)
 
-none_begins : (A : Type 0) (first now : Option (List ℕ)) (read : List (List ℕ)) (number : ℕ) (rule : Rule) → Left first now read → ¬ BeginSchedule A read → IsLineFault A first (fault.Line number rule)
+none_begins : (A : Type 0) (first now : Option (List ℕ)) (read : List (List ℕ)) (number : ℕ) (rule : Rule)
+    → Left first now read → ¬ BeginSchedule A read → IsLineFault A first (fault.Line number rule)
 none_begins A None now read number rule left never = tt
 none_begins A (Some all) None read number rule left never = absurd left
-none_begins A (Some all) (Some rest) read number rule left never = λ s es h. never (lines_in rest, s, es, subst (λ l. IsSchedule l s es) left h)
+none_begins A (Some all) (Some rest) read number rule left never =
+    λ s es h. never (lines_in rest, s, es, subst (λ l. IsSchedule l s es) left h)
 
 no_memory : (A : Type 0) (first : Option (List ℕ)) → IsLineFault A first fault.NoMemory
 no_memory A None = tt
@@ -118,9 +136,13 @@ abbrev pub IfBroken : LineFault → Type 0 → Type 0
 IfBroken (Unlawful rule) P = P
 IfBroken NoMemory P = Unit {0}
 
-pub line_refused : (A : Type 0) (first now : Option (List ℕ)) (read : List (List ℕ)) (why : LineFault) (number : ℕ) (told : Fault) → Left first now read → IfBroken why (¬ BeginSchedule A read) → IsToldAs why number told → IsLineFault A first told
-line_refused A first now read (Unlawful rule) number told left never (r, is) = subst (IsLineFault A first) (sym is) (none_begins A first now read number r left never)
-line_refused A first now read NoMemory number told left never is = subst (IsLineFault A first) (sym is) (no_memory A first)
+pub line_refused : (A : Type 0) (first now : Option (List ℕ)) (read : List (List ℕ)) (why : LineFault) (number : ℕ)
+    (told : Fault) → Left first now read → IfBroken why (¬ BeginSchedule A read) → IsToldAs why number told
+    → IsLineFault A first told
+line_refused A first now read (Unlawful rule) number told left never (r, is) =
+    subst (IsLineFault A first) (sym is) (none_begins A first now read number r left never)
+line_refused A first now read NoMemory number told left never is =
+    subst (IsLineFault A first) (sym is) (no_memory A first)
 
 -- a read's fault is no line's
 pub of_read : (A : Type 0) (first : Option (List ℕ)) (told : Fault) → IsOfRead told → IsLineFault A first told
@@ -131,10 +153,13 @@ of_read A first (fault.Unreadable Failed) h = tt
 of_read A first (fault.Line number rule) h = absurd h
 of_read A first fault.NoMemory h = no_memory A first
 
-pub told_of : (why : LineFault) (number : ℕ) (told : Fault) → ((rule : Rule) → why ≡ Unlawful rule → (r : Rule) × (told ≡ fault.Line number r)) → (why ≡ NoMemory → told ≡ fault.NoMemory) → IsToldAs why number told
+pub told_of : (why : LineFault) (number : ℕ) (told : Fault)
+    → ((rule : Rule) → why ≡ Unlawful rule → (r : Rule) × (told ≡ fault.Line number r))
+    → (why ≡ NoMemory → told ≡ fault.NoMemory) → IsToldAs why number told
 told_of (Unlawful rule) number told unlawful memory = unlawful rule refl
 told_of NoMemory number told unlawful memory = memory refl
 
-pub broken_of : {T : Type 0} (P Q : Type 0) (r : Result T LineFault) (why : LineFault) → r ≡ Err why → IfUnlawful r P → (P → Q) → IfBroken why Q
+pub broken_of : {T : Type 0} (P Q : Type 0) (r : Result T LineFault) (why : LineFault) → r ≡ Err why → IfUnlawful r P
+    → (P → Q) → IfBroken why Q
 broken_of P Q r (Unlawful rule) was h so = so (rw was at h)
 broken_of P Q r NoMemory was h so = tt

@@ -13,7 +13,7 @@ use crate::event_line::{call_event, delivery_event, forged_event, timer_event};
 use at_faults::{LineFault, Rule};
 use at_setup::{Event, Setup};
 use at_setup_lines::SetupDraft;
-use at_words::Words;
+use at_words::{Words, is_word};
 use std::alloc::{Allocator, Global};
 use std::marker::Model;
 
@@ -135,12 +135,6 @@ fn event_of<A: Allocator + Copy>(
         b"forge" => forged_event(alloc, words),
         _ => Err(LineFault::Unlawful(Rule::FirstWord)),
     }
-}
-
-fn is_word(word: &[u8], known: &[u8]) -> bool
-    ensures { result ≡ true ↔ word.now ≡ known.now }
-{
-    word == known
 }
 
 fn is_passed_over(line: &[u8]) -> bool

@@ -1,19 +1,10 @@
 -- A word spells one name, whose bytes are bytes.
-use Rattle.std.proofs.Common.{arith, length, ◌≡◌, ◌<◌, ℕ, List, [], ◌∷◌, ◌++◌, Result, Ok, inl, inr, refl, sym, ap, subst, ◌∙◌}
+use Rattle.std.proofs.Common.{arith, length, ◌≡◌, ◌<◌, ℕ, List, [], ◌∷◌, ◌++◌, Result, Ok, inl, inr, refl, sym, ap}
+use Rattle.std.proofs.Common.{subst, ◌∙◌}
 use Rattle.std.specs.Prelude.{codes}
+use Rattle.at_words.proofs.Digits.{same_byte, two_digits}
 use Rattle.hex.specs.Hex.{decode_of}
-use Rattle.hex.specs.declared.error.FromHexError.{FromHexError}
-use Rattle.hex.proofs.HexLemmas.{decode_of-ok}
 use Rattle.at_words.specs.Texts.{AreGlyphs, IsZoneName, SpellsFirst}
-
-abbrev one_byte : ℕ → Result (List ℕ) FromHexError
-one_byte byte = Ok (byte ∷ [])
-
-same_byte : (byte other : ℕ) → one_byte byte ≡ one_byte other → byte ≡ other
-same_byte byte other same = cc
-
-two_digits : (digits : List ℕ) (byte : ℕ) → decode_of digits ≡ Ok (byte ∷ []) → length digits ≡ 2
-two_digits digits byte decoded = let (even, each, twice, bytes) = decode_of-ok digits (byte ∷ []) decoded in omega (arith, twice)
 
 -- fronts of one length are the same
 fronts : (xs ys us vs : List ℕ) → length xs ≡ length ys → xs ++ us ≡ ys ++ vs → (xs ≡ ys) × (us ≡ vs)
@@ -26,18 +17,22 @@ fronts (x ∷ xs) (y ∷ ys) us vs long same =
     let rest = fronts xs ys us vs (omega (arith, long)) tail in
     ((λ i. head i ∷ rest.0 i), rest.1)
 
-same_first : (word rest left : List ℕ) (byte other : ℕ) → SpellsFirst word byte rest → SpellsFirst word other left → (byte ≡ other) × (rest ≡ left)
+same_first : (word rest left : List ℕ) (byte other : ℕ) → SpellsFirst word byte rest → SpellsFirst word other left
+    → (byte ≡ other) × (rest ≡ left)
 same_first word rest left byte other (p, is, inl (one, seen, apart)) (q, same, inl (two, shown, differs)) =
     let both : byte ∷ rest ≡ other ∷ left = ap (λ l. l ++ rest) (sym one) ∙ sym is ∙ same ∙ ap (λ l. l ++ left) two in
     (cc, cc)
 same_first word rest left byte other (p, is, inl (one, seen, apart)) (q, same, inr (digits, two, decoded)) =
-    let both : byte ∷ rest ≡ 37 ∷ (digits ++ left) = ap (λ l. l ++ rest) (sym one) ∙ sym is ∙ same ∙ ap (λ l. l ++ left) two in
+    let both : byte ∷ rest ≡ 37 ∷ (digits ++ left) = ap (λ l. l ++ rest) (sym one) ∙ sym is ∙ same
+    ∙ ap (λ l. l ++ left) two in
     absurd (apart cc)
 same_first word rest left byte other (p, is, inr (digits, one, decoded)) (q, same, inl (two, shown, differs)) =
-    let both : 37 ∷ (digits ++ rest) ≡ other ∷ left = ap (λ l. l ++ rest) (sym one) ∙ sym is ∙ same ∙ ap (λ l. l ++ left) two in
+    let both : 37 ∷ (digits ++ rest) ≡ other ∷ left = ap (λ l. l ++ rest) (sym one) ∙ sym is ∙ same
+    ∙ ap (λ l. l ++ left) two in
     absurd (differs cc)
 same_first word rest left byte other (p, is, inr (digits, one, decoded)) (q, same, inr (pair, two, told)) =
-    let both : 37 ∷ (digits ++ rest) ≡ 37 ∷ (pair ++ left) = ap (λ l. l ++ rest) (sym one) ∙ sym is ∙ same ∙ ap (λ l. l ++ left) two in
+    let both : 37 ∷ (digits ++ rest) ≡ 37 ∷ (pair ++ left) = ap (λ l. l ++ rest) (sym one) ∙ sym is ∙ same
+    ∙ ap (λ l. l ++ left) two in
     let tail : digits ++ rest ≡ pair ++ left = cc in
     let parts = fronts digits pair rest left (two_digits digits byte decoded ∙ sym (two_digits pair other told)) tail in
     (same_byte byte other (sym decoded ∙ ap decode_of parts.0 ∙ told), parts.1)
@@ -71,7 +66,8 @@ not_alone (x ∷ a) some (rest, (p, is, inr (digits, one, decoded)), are) =
     no_front (d ∷ digits) rest two same = cc same
 
 pub glyphs_of : (word name : List ℕ) → IsZoneName word name → AreGlyphs word name
-glyphs_of word name ((inl (percent, none), few), some) = let over : length name ≡ 0 = ap length none in absurd (omega (arith, some, over))
+glyphs_of word name ((inl (percent, none), few), some) = let over : length name
+    ≡ 0 = ap length none in absurd (omega (arith, some, over))
 glyphs_of word name ((inr are, few), some) = are
 
 pub same_name : (word a b : List ℕ) → IsZoneName word a → IsZoneName word b → a ≡ b

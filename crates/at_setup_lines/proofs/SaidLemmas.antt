@@ -1,5 +1,6 @@
 -- What is said is lawful by itself.
-use Rattle.std.proofs.Common.{◌≡◌, inl, inr, ℕ, ◌<◌, true, ◌&&◌, ◌||◌, List, [], ◌∷◌, length, nat_le, nat_lt, Option, Some, None, refl, ap, arith}
+use Rattle.std.proofs.Common.{◌≡◌, inl, inr, ℕ, ◌<◌, true, ◌&&◌, ◌||◌, List, [], ◌∷◌, length, nat_le, nat_lt, Option}
+use Rattle.std.proofs.Common.{Some, None, refl, ap, arith}
 use Rattle.std.specs.Prelude.{is_none}
 use Rattle.std.specs.List.{AllZip, list_all}
 use Rattle.std.proofs.lemmas.Bool.{and_from, and_parts, le-leb, leb-true, lt-ltb}
@@ -20,25 +21,29 @@ glyph_byte piece byte (inl (one, seen, apart)) =
     let parts = and_parts (nat_le 33 byte) (nat_le byte 126) seen in
     let small = leb-true byte 126 parts.1 in
     omega (arith, small)
-glyph_byte piece byte (inr (digits, one, decoded)) = let (even, each, twice, bytes) = decode_of-ok digits (byte ∷ []) decoded in bytes 0
+glyph_byte piece byte (inr (digits, one, decoded)) = let (even, each, twice, bytes) =
+    decode_of-ok digits (byte ∷ []) decoded in bytes 0
 
 all_bytes : (word name : List ℕ) → AreGlyphs word name → list_all is_byte name ≡ true
 all_bytes word [] h = refl
 all_bytes word (byte ∷ name) (rest, (piece, is, glyph), more) =
-    and_from (nat_lt byte 256) (list_all is_byte name) (lt-ltb byte 256 (glyph_byte piece byte glyph)) (all_bytes rest name more)
+    and_from (nat_lt byte 256) (list_all is_byte name) (lt-ltb byte 256 (glyph_byte piece byte glyph))
+    (all_bytes rest name more)
 
 pub name_said : (word name : List ℕ) → IsZoneName word name → is_name name ≡ true
 name_said word name h =
     let few = h.0.1 in
     and_from (nat_lt 0 (length name) && nat_le (length name) 32) (list_all is_byte name)
-    (and_from (nat_lt 0 (length name)) (nat_le (length name) 32) (lt-ltb 0 (length name) h.1) (le-leb (length name) 32 (omega (arith, few))))
+    (and_from (nat_lt 0 (length name)) (nat_le (length name) 32) (lt-ltb 0 (length name) h.1)
+    (le-leb (length name) 32 (omega (arith, few))))
     (all_bytes word name (glyphs_of word name h))
 
 pub names_said : (words names : List (List ℕ)) → AllZip IsZoneName words names → list_all is_name names ≡ true
 names_said [] [] h = refl
 names_said [] (x ∷ names) h = absurd h
 names_said (w ∷ words) [] h = absurd h
-names_said (w ∷ words) (x ∷ names) h = and_from (is_name x) (list_all is_name names) (name_said w x h.0) (names_said words names h.1)
+names_said (w ∷ words) (x ∷ names) h = and_from (is_name x) (list_all is_name names) (name_said w x h.0)
+    (names_said words names h.1)
 
 -- ---- a node
 
@@ -59,5 +64,6 @@ node_said ws n (w, rs, ps, is, number, router, (zs, ms, same, zone, rooms)) =
     and_from (is_lawful_node n) (is_none n.zone || is_zone n.zone)
     (and_from (nat_lt 0 n.node && nat_lt n.node 255 && is_room n.receive_room) (is_room n.send_room)
     (and_from (nat_lt 0 n.node && nat_lt n.node 255) (is_room n.receive_room)
-    (and_from (nat_lt 0 n.node) (nat_lt n.node 255) (lt-ltb 0 n.node number.1) (lt-ltb n.node 255 number.2)) room.0) room.1)
+    (and_from (nat_lt 0 n.node) (nat_lt n.node 255) (lt-ltb 0 n.node number.1) (lt-ltb n.node 255 number.2)) room.0)
+    room.1)
     (zone_said zs n.zone zone)

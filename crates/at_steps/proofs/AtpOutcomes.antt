@@ -1,11 +1,13 @@
--- What comes of events at the sockets for transactions: all that is sent is of ATP, and the report is of ATP and ZIP, or
--- nobody's.
-use Rattle.std.proofs.Common.{◌≡◌, inl, inr, ℕ, ◌+◌, Bool, true, false, cond, List, [], ◌∷◌, ◌++◌, Option, Some, None, refl, sym, subst}
+-- What comes of events at the sockets for transactions: all that is sent is of ATP, and the report is of ATP and ZIP,
+-- or nobody's.
+use Rattle.std.proofs.Common.{◌≡◌, inl, inr, ℕ, ◌+◌, Bool, true, false, cond, List, [], ◌∷◌, ◌++◌, Option, Some, None}
+use Rattle.std.proofs.Common.{refl, sym, subst}
 use Rattle.std.specs.Prelude.{MatchBool, find, length, nat_lt}
 use Rattle.std.specs.List.{AllByRecursion}
 use Rattle.std.proofs.lemmas.Bool.{true≢false}
 use Rattle.at_ddp.specs.Datagram.{Content as Datagram}
 use Rattle.at_ddp.specs.declared.address.Address.{Address}
+use Rattle.at_ddp.specs.Protocols.{atp_kind}
 use Rattle.at_atp_frame.specs.Fault as atp
 use Rattle.at_atp_frame.specs.Frames.{Content, Request, Response, Release, spelled_all}
 use Rattle.at_atp_frame.specs.Packets.{Packet}
@@ -25,18 +27,24 @@ use Rattle.at_zip.specs.Page.{Page}
 use Rattle.at_zip.specs.Zones.{table_fault}
 use Rattle.at_zip.specs.declared.fault.ZipFault.{ZipFault}
 use Rattle.at_node.specs.AtpHearing.{AtSocket, AtpSocket, HearsAt, Requester, Service, Zones as ZoneSocket}
-use Rattle.at_node.specs.AtpParts.{AtpState, Reading, after_heard, asking as asker, asks, atp_kind, packet_in, serving, tid_of, zones_at}
+use Rattle.at_node.specs.AtpParts.{AtpState, Reading, after_heard, asking as asker, asks, packet_in, serving, tid_of}
+use Rattle.at_node.specs.AtpParts.{zones_at}
 use Rattle.at_event.specs.Kinds.{Kind, Atp, Nobody, kind_of_call, kind_of_timer}
 use Rattle.at_node.specs.Nodes.{NodeState, called, timed, with_atp}
 use Rattle.at_event.specs.Outcomes.{Outcome, idle, over, refused_as, sent_by}
-use Rattle.at_node.specs.RequesterSocket.{AtRequester, after_retry, ask_called, asked_as, hears_other, reported_other, retry_fired}
+use Rattle.at_node.specs.RequesterSocket.{AtRequester, after_retry, ask_called, asked_as, hears_other, reported_other}
+use Rattle.at_node.specs.RequesterSocket.{retry_fired}
 use Rattle.at_node.specs.Responders.{expired, release_fired, released_report, records_at}
 use Rattle.at_event.specs.Seats.{at_socket}
-use Rattle.at_node.specs.ServiceSocket.{AtService, answer_called, answered_with, at_service, sent_by_reply, service_taken}
-use Rattle.at_node.specs.ZoneReading.{AsksOn, ReadsPage, TakesPage, after_failing, is_page, is_reading, names_read, page_transaction, reading_begins, zones_called}
+use Rattle.at_node.specs.ServiceSocket.{AtService, answer_called, answered_with, at_service, sent_by_reply}
+use Rattle.at_node.specs.ServiceSocket.{service_taken}
+use Rattle.at_node.specs.ZoneReading.{AsksOn, ReadsPage, TakesPage, after_failing, is_page, is_reading, names_read}
+use Rattle.at_node.specs.ZoneReading.{page_transaction, reading_begins, zones_called}
 use Rattle.at_node.specs.ZoneSocket.{AtZones, at_zones, page_packet, set_zones_called, table_set, zone_taken}
 use Rattle.at_event.specs.declared.event.Call.{Call}
-use Rattle.at_event.specs.declared.event.Call.TheVariants.{Zones, SetZones, Ask, Answer, Pick, Find, Claim, Finish, Register, Unregister, Open, Listen, Connect, Write, Read, Reset, Close}
+use Rattle.at_event.specs.declared.event.Call.TheVariants.{Zones, SetZones, Ask, Answer, Pick, Find, Claim, Finish}
+use Rattle.at_event.specs.declared.event.Call.TheVariants.{Register, Unregister, Open, Listen, Connect, Write, Read}
+use Rattle.at_event.specs.declared.event.Call.TheVariants.{Reset, Close}
 use Rattle.at_event.specs.declared.event.Report.{Report}
 use Rattle.at_event.specs.declared.event.Report.TheVariants as report
 use Rattle.at_event.specs.declared.event.Timer.{Timer}
@@ -68,7 +76,8 @@ pub record ComesOfAtp (A : Type 0) (n : NodeState) (act : Act A) (o : Outcome A 
   pub keeps : kept ≡ kept_after n.session act part.report
   pub its : IsOfTransactions A act part
 
-all_atp : (own : Address) (pushes : List (Address × List ℕ)) → AllByRecursion (λ p. p.kind ≡ atp_kind) (sent_by own atp_kind pushes)
+all_atp : (own : Address) (pushes : List (Address × List ℕ))
+    → AllByRecursion (λ p. p.kind ≡ atp_kind) (sent_by own atp_kind pushes)
 all_atp own [] = tt
 all_atp own (push ∷ pushes) = (refl, all_atp own pushes)
 
@@ -79,19 +88,25 @@ module _ (A : Type 0) (call : Call A) (a : AtpState) where
   call_refused None = (tt, tt)
   call_refused (Some k) = (tt, tt)
 
-  asking : (s : Seat) (to : Address) (user bytes : List ℕ) (wanted : ℕ) (xo : Bool) (retries : ℕ) (o : Option ℕ) → IsOfTransactions A (Calls call) (asked_as s a to user bytes wanted xo retries o)
+  asking : (s : Seat) (to : Address) (user bytes : List ℕ) (wanted : ℕ) (xo : Bool) (retries : ℕ) (o : Option ℕ)
+      → IsOfTransactions A (Calls call) (asked_as s a to user bytes wanted xo retries o)
   asking s to user bytes wanted xo retries None = call_refused (atp.number_of Full)
   asking s to user bytes wanted xo retries (Some tid) = ((refl, tt), tt)
 
-  asking_bytes : (s : Seat) (to : Address) (user bytes : List ℕ) (wanted : ℕ) (xo : Bool) (retries : ℕ) (b : Bool) → IsOfTransactions A (Calls call) (cond b (idle a (refused_as (atp.number_of AtpTooLong))) (asked_as s a to user bytes wanted xo retries (next_number a.requester)))
+  asking_bytes : (s : Seat) (to : Address) (user bytes : List ℕ) (wanted : ℕ) (xo : Bool) (retries : ℕ) (b : Bool)
+      → IsOfTransactions A (Calls call)
+      (cond b (idle a (refused_as (atp.number_of AtpTooLong)))
+      (asked_as s a to user bytes wanted xo retries (next_number a.requester)))
   asking_bytes s to user bytes wanted xo retries true = call_refused (atp.number_of AtpTooLong)
-  asking_bytes s to user bytes wanted xo retries false = asking s to user bytes wanted xo retries (next_number a.requester)
+  asking_bytes s to user bytes wanted xo retries false = asking s to user bytes wanted xo retries
+      (next_number a.requester)
 
   reading : (s : Seat) (router : ℕ) (o : Option ℕ) → IsOfTransactions A (Calls call) (reading_begins s a router o)
   reading s router None = call_refused (atp.number_of Full)
   reading s router (Some tid) = ((refl, tt), tt)
 
-  reading_zones : (s : Seat) (router : Option ℕ) (now : Option Reading) → IsOfTransactions A (Calls call) (zones_called s a router now)
+  reading_zones : (s : Seat) (router : Option ℕ) (now : Option Reading)
+      → IsOfTransactions A (Calls call) (zones_called s a router now)
   reading_zones s None now = (tt, tt)
   reading_zones s (Some router) (Some r) = (tt, tt)
   reading_zones s (Some router) None = reading s router (next_number a.requester)
@@ -100,15 +115,21 @@ module _ (A : Type 0) (call : Call A) (a : AtpState) where
   setting names None = (tt, tt)
   setting names (Some fault) = call_refused (zip.number_of fault)
 
-  setting_zones : (names : List (List ℕ)) (now : Option (List (List ℕ))) → IsOfTransactions A (Calls call) (set_zones_called a now names)
+  setting_zones : (names : List (List ℕ)) (now : Option (List (List ℕ)))
+      → IsOfTransactions A (Calls call) (set_zones_called a now names)
   setting_zones names None = (tt, tt)
   setting_zones names (Some table) = setting names (table_fault names)
 
-  answering : (s : Seat) (key : Key) (packets : List Packet) (o : Option AtpFault) → IsOfTransactions A (Calls call) (answered_with s a key packets o)
-  answering s key packets None = (all_atp (serving s.net s.number) (spelled_all (asked_for (find (is_key key) a.service_responder) key packets)), tt)
+  answering : (s : Seat) (key : Key) (packets : List Packet) (o : Option AtpFault)
+      → IsOfTransactions A (Calls call) (answered_with s a key packets o)
+  answering s key packets None = (
+    all_atp (serving s.net s.number) (spelled_all (asked_for (find (is_key key) a.service_responder) key packets)),
+    tt,
+  )
   answering s key packets (Some fault) = call_refused (atp.number_of fault)
 
-pub call_of_atp : (A : Type 0) (n : NodeState) (call : Call A) → is_atp (kind_of_call call) ≡ true → ComesOfAtp A n (Calls call) (called n call)
+pub call_of_atp : (A : Type 0) (n : NodeState) (call : Call A) → is_atp (kind_of_call call) ≡ true
+    → ComesOfAtp A n (Calls call) (called n call)
 call_of_atp A n Zones h = record {
   part = zones_called n.seat n.atp n.seat.router n.atp.reading;
   kept = n.session;
@@ -128,14 +149,17 @@ call_of_atp A n (Ask node socket user bytes wanted xo retries) h = record {
   kept = n.session;
   is = refl;
   keeps = refl;
-  its = asking_bytes A (Ask node socket user bytes wanted xo retries) n.atp n.seat (at_socket n.seat node socket) user bytes wanted xo retries (nat_lt 578 (length bytes));
+  its = asking_bytes A (Ask node socket user bytes wanted xo retries) n.atp n.seat
+      (at_socket n.seat node socket) user bytes wanted xo retries (nat_lt 578 (length bytes));
 }
 call_of_atp A n (Answer node socket tid packets) h = record {
   part = answer_called n.seat n.atp (record { from = at_socket n.seat node socket; tid = tid }) packets;
   kept = n.session;
   is = refl;
   keeps = refl;
-  its = answering A (Answer node socket tid packets) n.atp n.seat (record { from = at_socket n.seat node socket; tid = tid }) packets (answer_fault n.atp.service_responder (record { from = at_socket n.seat node socket; tid = tid }) packets);
+  its = answering A (Answer node socket tid packets) n.atp n.seat
+      (record { from = at_socket n.seat node socket; tid = tid }) packets
+      (answer_fault n.atp.service_responder (record { from = at_socket n.seat node socket; tid = tid }) packets);
 }
 call_of_atp A n (Pick zone) h = absurd (true≢false (sym h))
 call_of_atp A n (Find object kind _) h = absurd (true≢false (sym h))
@@ -156,23 +180,29 @@ module _ (A : Type 0) (a : AtpState) where
   timer_refused time None = (tt, tt)
   timer_refused time (Some k) = (tt, tt)
 
-  failing : (tid : ℕ) (after : Requests) (b : Bool) → IsOfTransactions A (Fires (timer.Retry tid)) (after_failing a tid after b)
+  failing : (tid : ℕ) (after : Requests) (b : Bool)
+      → IsOfTransactions A (Fires (timer.Retry tid)) (after_failing a tid after b)
   failing tid after true = (tt, tt)
   failing tid after false = (tt, tt)
 
-  retrying : (s : Seat) (tid : ℕ) (r : Retried) (x : Retry) → IsOfTransactions A (Fires (timer.Retry tid)) (after_retry s a tid r x)
+  retrying : (s : Seat) (tid : ℕ) (r : Retried) (x : Retry)
+      → IsOfTransactions A (Fires (timer.Retry tid)) (after_retry s a tid r x)
   retrying s tid r retry.AskedAgain = (all_atp (asker s.net s.number) (spelled_all r.sent), tt)
   retrying s tid r retry.Failed = failing tid r.after (is_reading a.reading tid)
 
-  firing : (s : Seat) (tid : ℕ) (o : Option Retried) → IsOfTransactions A (Fires (timer.Retry tid)) (retry_fired s a tid o)
+  firing : (s : Seat) (tid : ℕ) (o : Option Retried)
+      → IsOfTransactions A (Fires (timer.Retry tid)) (retry_fired s a tid o)
   firing s tid None = timer_refused (timer.Retry tid) (atp.number_of NoSuch)
   firing s tid (Some r) = retrying s tid r r.step
 
-  expiring : (own node socket tid : ℕ) (key : Key) (o : Option AtpFault) → IsOfTransactions A (Fires (timer.Release own node socket tid)) (expired a own key o)
-  expiring own node socket tid key (Some fault) = timer_refused (timer.Release own node socket tid) (atp.number_of fault)
+  expiring : (own node socket tid : ℕ) (key : Key) (o : Option AtpFault)
+      → IsOfTransactions A (Fires (timer.Release own node socket tid)) (expired a own key o)
+  expiring own node socket tid key (Some fault) =
+      timer_refused (timer.Release own node socket tid) (atp.number_of fault)
   expiring own node socket tid key None = (tt, tt)
 
-pub timer_of_atp : (A : Type 0) (n : NodeState) (time : Timer) → is_atp (kind_of_timer time) ≡ true → ComesOfAtp A n (Fires time) (timed n time)
+pub timer_of_atp : (A : Type 0) (n : NodeState) (time : Timer) → is_atp (kind_of_timer time) ≡ true
+    → ComesOfAtp A n (Fires time) (timed n time)
 timer_of_atp A n (timer.Retry tid) h = record {
   part = retry_fired n.seat n.atp tid (retried n.atp.requester tid);
   kept = n.session;
@@ -185,7 +215,8 @@ timer_of_atp A n (timer.Release own node socket tid) h = record {
   kept = n.session;
   is = refl;
   keeps = refl;
-  its = expiring A n.atp own node socket tid (record { from = at_socket n.seat node socket; tid = tid }) (expiry_fault (find (is_key (record { from = at_socket n.seat node socket; tid = tid })) (records_at n.atp own)));
+  its = expiring A n.atp own node socket tid (record { from = at_socket n.seat node socket; tid = tid })
+      (expiry_fault (find (is_key (record { from = at_socket n.seat node socket; tid = tid })) (records_at n.atp own)));
 }
 timer_of_atp A n (timer.Lookup id) h = absurd (true≢false (sym h))
 timer_of_atp A n (timer.Resend id) h = absurd (true≢false (sym h))
@@ -198,8 +229,10 @@ module _ (A : Type 0) (s : Seat) (a : AtpState) (which : ℕ) where
   ignored : (o : Outcome A AtpState) → o ≡ idle a report.Ignored → IsOfTransactions A (Gets which) o
   ignored o is = by o (idle a report.Ignored) is (tt, tt)
 
-  hearing : (o : Outcome A AtpState) (h : Heard A) (r : Report A) (now : Option Reading) → SaidOfAtp A (Gets which) r → o ≡ after_heard s a h r now → IsOfTransactions A (Gets which) o
-  hearing o h r now apart is = by o (after_heard s a h r now) is (all_atp (asker s.net s.number) (spelled_all h.sent), apart)
+  hearing : (o : Outcome A AtpState) (h : Heard A) (r : Report A) (now : Option Reading) → SaidOfAtp A (Gets which) r
+      → o ≡ after_heard s a h r now → IsOfTransactions A (Gets which) o
+  hearing o h r now apart is =
+      by o (after_heard s a h r now) is (all_atp (asker s.net s.number) (spelled_all h.sent), apart)
 
   other_told : (tid : ℕ) (x : Step A) → SaidOfAtp A (Gets which) (reported_other tid x)
   other_told tid step.Ignored = tt
@@ -208,26 +241,38 @@ module _ (A : Type 0) (s : Seat) (a : AtpState) (which : ℕ) where
   other_told tid (step.Finished packets) = tt
 
   -- what comes of a page
-  paging : (h : Heard A) (from : Address) (names : List (List ℕ)) (q : Page) (o : Outcome A AtpState) → TakesPage s a h from names q o → IsOfTransactions A (Gets which) o
+  paging : (h : Heard A) (from : Address) (names : List (List ℕ)) (q : Page) (o : Outcome A AtpState)
+      → TakesPage s a h from names q o → IsOfTransactions A (Gets which) o
   paging h from names q o = go (nat_lt 1024 (length names + length q.names)) q.last
     where
-      go : (long last : Bool) → MatchBool long (o ≡ after_heard s a h (report.ZoneFault 34) None) (MatchBool last (o ≡ after_heard s a h (report.Zones (names ++ q.names)) None) (AsksOn s a h from (names ++ q.names) o)) → IsOfTransactions A (Gets which) o
+      go : (long last : Bool) → MatchBool long (o ≡ after_heard s a h (report.ZoneFault 34) None)
+          (MatchBool last (o ≡ after_heard s a h (report.Zones (names ++ q.names)) None)
+          (AsksOn s a h from (names ++ q.names) o)) → IsOfTransactions A (Gets which) o
       go true last t = hearing o h (report.ZoneFault 34) None tt t
       go false true t = hearing o h (report.Zones (names ++ q.names)) None tt t
-      go false false t = by o (asks s (record a { requester = h.after }) (Some (record { tid = t.tid; names = names ++ q.names })) (page_transaction from (names ++ q.names) t.tid)) t.outcome ((refl, tt), tt)
+      go false false t = by o (asks s (record a { requester = h.after })
+          (Some (record { tid = t.tid; names = names ++ q.names })) (page_transaction from (names ++ q.names) t.tid))
+          t.outcome ((refl, tt), tt)
 
-  reading_page : (h : Heard A) (from : Address) (names : List (List ℕ)) (p : Packet) (o : Outcome A AtpState) → ReadsPage s a h from names p o → IsOfTransactions A (Gets which) o
+  reading_page : (h : Heard A) (from : Address) (names : List (List ℕ)) (p : Packet) (o : Outcome A AtpState)
+      → ReadsPage s a h from names p o → IsOfTransactions A (Gets which) o
   reading_page h from names p o (inl t) = paging h from names t.page o t.outcome
   reading_page h from names p o (inr t) = hearing o h (report.ZoneFault t.number) None tt t.outcome
 
-  at_requester : (from : Address) (f : Content) (o : Outcome A AtpState) → AtRequester s a from f o → IsOfTransactions A (Gets which) o
+  at_requester : (from : Address) (f : Content) (o : Outcome A AtpState) → AtRequester s a from f o
+      → IsOfTransactions A (Gets which) o
   at_requester from f o = go (is_page A a from f)
     where
-      go : (b : Bool) → MatchBool b (ReadsPage s a (heard a.requester from f) from (names_read a.reading) (packet_in f) o) (o ≡ hears_other s a (tid_of f) (heard a.requester from f)) → IsOfTransactions A (Gets which) o
+      go : (b : Bool) → MatchBool b
+          (ReadsPage s a (heard a.requester from f) from (names_read a.reading) (packet_in f) o)
+          (o ≡ hears_other s a (tid_of f) (heard a.requester from f)) → IsOfTransactions A (Gets which) o
       go true t = reading_page (heard a.requester from f) from (names_read a.reading) (packet_in f) o t
-      go false t = hearing o (heard a.requester from f) (reported_other (tid_of f) (heard {A = A} a.requester from f).step) a.reading (other_told (tid_of f) (heard {A = A} a.requester from f).step) t
+      go false t = hearing o (heard a.requester from f)
+          (reported_other (tid_of f) (heard {A = A} a.requester from f).step) a.reading
+          (other_told (tid_of f) (heard {A = A} a.requester from f).step) t
 
-  full : (b : Bool) (o q : Outcome A AtpState) → o ≡ cond b (idle a (refused_as (atp.number_of Full))) q → IsOfTransactions A (Gets which) q → IsOfTransactions A (Gets which) o
+  full : (b : Bool) (o q : Outcome A AtpState) → o ≡ cond b (idle a (refused_as (atp.number_of Full))) q
+      → IsOfTransactions A (Gets which) q → IsOfTransactions A (Gets which) o
   full true o q is h = by o (idle a (refused_as (atp.number_of Full))) is (tt, tt)
   full false o q is h = by o q is h
 
@@ -237,45 +282,57 @@ module _ (A : Type 0) (s : Seat) (a : AtpState) (which : ℕ) where
   released reception.Released = tt
   released (reception.New key) = tt
 
-  service : (t : Taken) (user bytes : List ℕ) (said : Reply A) (x : Reception) → IsOfTransactions A (Gets which) (at_service s a t user bytes said x)
+  service : (t : Taken) (user bytes : List ℕ) (said : Reply A) (x : Reception)
+      → IsOfTransactions A (Gets which) (at_service s a t user bytes said x)
   service t user bytes said reception.Ignored = (all_atp (serving s.net s.number) (spelled_all t.sent), tt)
   service t user bytes said (reception.Again count) = (all_atp (serving s.net s.number) (spelled_all t.sent), tt)
   service t user bytes said reception.Released = (all_atp (serving s.net s.number) (spelled_all t.sent), tt)
-  service t user bytes said (reception.New key) = (all_atp (serving s.net s.number) (spelled_all (sent_by_reply t.after key said)), tt)
+  service t user bytes said (reception.New key) =
+      (all_atp (serving s.net s.number) (spelled_all (sent_by_reply t.after key said)), tt)
 
-  serves : (said : Reply A) (from : Address) (f : Content) (o : Outcome A AtpState) → AtService said s a from f o → IsOfTransactions A (Gets which) o
+  serves : (said : Reply A) (from : Address) (f : Content) (o : Outcome A AtpState) → AtService said s a from f o
+      → IsOfTransactions A (Gets which) o
   serves said from (Request mask xo timer tid user bytes) o at =
       let f : Content = Request mask xo timer tid user bytes in
       let t = taken a.service_responder from f in
-      full (finds_no_place a.service_responder from f) o (at_service s a t user bytes said t.reception) at (service t user bytes said t.reception)
+      full (finds_no_place a.service_responder from f) o (at_service s a t user bytes said t.reception) at
+      (service t user bytes said t.reception)
   serves said from (Response place eom sts tid user bytes) o at = ignored o at
   serves said from (Release tid) o at =
       let t = taken a.service_responder from (Release tid) in
-      by o (service_taken s a t (released_report t.reception)) at (all_atp (serving s.net s.number) (spelled_all t.sent), released t.reception)
+      by o (service_taken s a t (released_report t.reception)) at
+      (all_atp (serving s.net s.number) (spelled_all t.sent), released t.reception)
 
   zones : (t : Taken) (packet : Packet) (x : Reception) → IsOfTransactions A (Gets which) (at_zones s a t packet x)
   zones t packet reception.Ignored = (all_atp (zones_at s.net s.number) (spelled_all t.sent), tt)
   zones t packet (reception.Again count) = (all_atp (zones_at s.net s.number) (spelled_all t.sent), tt)
   zones t packet reception.Released = (all_atp (zones_at s.net s.number) (spelled_all t.sent), tt)
-  zones t packet (reception.New key) = (all_atp (zones_at s.net s.number) (spelled_all (asked_for (find (is_key key) t.after) key (packet ∷ []))), tt)
+  zones t packet (reception.New key) =
+      (all_atp (zones_at s.net s.number) (spelled_all (asked_for (find (is_key key) t.after) key (packet ∷ []))), tt)
 
-  serves_zones : (from : Address) (table : List (List ℕ)) (f : Content) (o : Outcome A AtpState) → AtZones s a from table f o → IsOfTransactions A (Gets which) o
+  serves_zones : (from : Address) (table : List (List ℕ)) (f : Content) (o : Outcome A AtpState)
+      → AtZones s a from table f o → IsOfTransactions A (Gets which) o
   serves_zones from table (Request mask xo timer tid user bytes) o (inr at) = ignored o at.1
   serves_zones from table (Request mask xo timer tid user bytes) o (inl at) =
       let f : Content = Request mask xo timer tid user bytes in
       let t = taken a.zone_responder from f in
-      full (finds_no_place a.zone_responder from f) o (at_zones s a t (page_packet table at.start) t.reception) at.outcome (zones t (page_packet table at.start) t.reception)
+      full (finds_no_place a.zone_responder from f) o
+      (at_zones s a t (page_packet table at.start) t.reception) at.outcome
+      (zones t (page_packet table at.start) t.reception)
   serves_zones from table (Response place eom sts tid user bytes) o at = ignored o at
   serves_zones from table (Release tid) o at =
       let t = taken a.zone_responder from (Release tid) in
-      by o (zone_taken s a t (released_report t.reception)) at (all_atp (zones_at s.net s.number) (spelled_all t.sent), released t.reception)
+      by o (zone_taken s a t (released_report t.reception)) at
+      (all_atp (zones_at s.net s.number) (spelled_all t.sent), released t.reception)
 
-  at_a_socket : (said : Reply A) (from : Address) (x : AtpSocket) (f : Content) (o : Outcome A AtpState) → AtSocket said s a from (Some x) f o → IsOfTransactions A (Gets which) o
+  at_a_socket : (said : Reply A) (from : Address) (x : AtpSocket) (f : Content) (o : Outcome A AtpState)
+      → AtSocket said s a from (Some x) f o → IsOfTransactions A (Gets which) o
   at_a_socket said from Requester f o at = at_requester from f o at
   at_a_socket said from Service f o at = serves said from f o at
   at_a_socket said from (ZoneSocket table) f o at = serves_zones from table f o at
 
-  pub datagram_of_atp : (said : Reply A) (d : Datagram) (x : Option AtpSocket) (o : Outcome A AtpState) → HearsAt said s a d x o → IsOfTransactions A (Gets which) o
+  pub datagram_of_atp : (said : Reply A) (d : Datagram) (x : Option AtpSocket) (o : Outcome A AtpState)
+      → HearsAt said s a d x o → IsOfTransactions A (Gets which) o
   datagram_of_atp said d None o h = ignored o h
   datagram_of_atp said d (Some x) o (inl h) = at_a_socket said d.from x h.packet o h.outcome
   datagram_of_atp said d (Some x) o (inr h) = by o (idle a (report.Refused h.number)) h.outcome (tt, tt)

@@ -1,5 +1,6 @@
 mod Atp
 mod AtpOutcomes
+mod Entries
 mod Kept
 mod NameOutcomes
 mod Names

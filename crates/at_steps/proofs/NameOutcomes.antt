@@ -1,10 +1,12 @@
 -- What comes of events at the socket for names: all that is sent is of NBP, and the report is of names, or nobody's.
-use Rattle.std.proofs.Common.{◌≡◌, ◌⊎◌, inl, inr, ℕ, Bool, true, false, cond, List, [], ◌∷◌, Option, Some, None, refl, sym, subst}
+use Rattle.std.proofs.Common.{◌≡◌, ◌⊎◌, inl, inr, ℕ, Bool, true, false, cond, List, [], ◌∷◌, Option, Some, None, refl}
+use Rattle.std.proofs.Common.{sym, subst}
 use Rattle.std.specs.Prelude.{MatchBool, find, ◌==◌, ◌||◌}
 use Rattle.std.specs.List.{AllByRecursion}
 use Rattle.std.proofs.lemmas.Bool.{true≢false}
 use Rattle.at_ddp.specs.Datagram.{Content as Datagram}
 use Rattle.at_ddp.specs.declared.address.Address.{Address}
+use Rattle.at_ddp.specs.Protocols.{nbp_kind}
 use Rattle.at_nbp.specs.Fault.{number_of}
 use Rattle.at_nbp.specs.Lookups as lookups
 use Rattle.at_nbp.specs.Lookups.{Search, search_of}
@@ -18,15 +20,17 @@ use Rattle.at_name_socket.specs.declared.step.Finished.{Finished}
 use Rattle.at_name_socket.specs.declared.step.Finished.TheVariants as finished
 use Rattle.at_name_socket.specs.declared.step.Heard.{Heard}
 use Rattle.at_name_socket.specs.declared.step.Heard.TheVariants as heard
-use Rattle.at_event.specs.Seats.{nbp_kind}
-use Rattle.at_node.specs.NameCalls.{sent_of, becomes, refused_by, looks_up, found_as, find_called, claimed_as, claim_called, told_of, finished_as, finish_called, asked_again, lookup_fired}
+use Rattle.at_node.specs.NameCalls.{sent_of, becomes, refused_by, looks_up, found_as, find_called, claimed_as}
+use Rattle.at_node.specs.NameCalls.{claim_called, told_of, finished_as, finish_called, asked_again, lookup_fired}
 use Rattle.at_node.specs.NameCalls.{registered_as, register_called, unregistered_as, unregister_called}
 use Rattle.at_node.specs.NameHearing.{HearsName, HearsNames, HearsNbpFault, told_by}
 use Rattle.at_event.specs.Kinds.{Kind, Nbp, Nobody, kind_of_call, kind_of_timer}
 use Rattle.at_node.specs.Nodes.{NodeState, with_names, called, timed}
 use Rattle.at_event.specs.Outcomes.{Outcome, idle, over, refused_as, sent_by}
 use Rattle.at_event.specs.declared.event.Call.{Call}
-use Rattle.at_event.specs.declared.event.Call.TheVariants.{Zones, SetZones, Ask, Answer, Pick, Find, Claim, Finish, Register, Unregister, Open, Listen, Connect, Write, Read, Reset, Close}
+use Rattle.at_event.specs.declared.event.Call.TheVariants.{Zones, SetZones, Ask, Answer, Pick, Find, Claim, Finish}
+use Rattle.at_event.specs.declared.event.Call.TheVariants.{Register, Unregister, Open, Listen, Connect, Write, Read}
+use Rattle.at_event.specs.declared.event.Call.TheVariants.{Reset, Close}
 use Rattle.at_event.specs.declared.event.Report.{Report}
 use Rattle.at_event.specs.declared.event.Report.TheVariants as report
 use Rattle.at_event.specs.declared.event.Timer.{Timer}
@@ -58,7 +62,8 @@ pub record ComesOfNames (A : Type 0) (n : NodeState) (act : Act A) (o : Outcome 
   pub keeps : kept ≡ kept_after n.session act part.report
   pub its : IsOfLookups A act part
 
-all_nbp : (own : Address) (pushes : List (Address × List ℕ)) → AllByRecursion (λ p. p.kind ≡ nbp_kind) (sent_by own nbp_kind pushes)
+all_nbp : (own : Address) (pushes : List (Address × List ℕ))
+    → AllByRecursion (λ p. p.kind ≡ nbp_kind) (sent_by own nbp_kind pushes)
 all_nbp own [] = tt
 all_nbp own (push ∷ pushes) = (refl, all_nbp own pushes)
 
@@ -69,18 +74,23 @@ module _ (A : Type 0) (call : Call A) (n : SocketState) where
   call_refused None = (tt, (tt, tt))
   call_refused (Some k) = (tt, (tt, tt))
 
-  begun : (s : Seat) (id : ℕ) (pattern : Name) (new : SocketState) → IsOfLookups A (Calls call) (looks_up s n id pattern new)
+  begun : (s : Seat) (id : ℕ) (pattern : Name) (new : SocketState)
+      → IsOfLookups A (Calls call) (looks_up s n id pattern new)
   begun s id pattern new = ((refl, tt), (tt, tt))
 
   found : (s : Seat) (pattern : Name) (o : Option ℕ) → IsOfLookups A (Calls call) (found_as s n pattern o)
   found s pattern None = call_refused (number_of LookupsFull)
-  found s pattern (Some id) = begun s id pattern (record n { lookups = lookups.begun n.lookups (lookups.beginning id pattern) })
+  found s pattern (Some id) =
+      begun s id pattern (record n { lookups = lookups.begun n.lookups (lookups.beginning id pattern) })
 
-  claimed : (s : Seat) (object kind : List ℕ) (socket : ℕ) (o : Option ℕ) → IsOfLookups A (Calls call) (claimed_as s n object kind socket o)
+  claimed : (s : Seat) (object kind : List ℕ) (socket : ℕ) (o : Option ℕ)
+      → IsOfLookups A (Calls call) (claimed_as s n object kind socket o)
   claimed s object kind socket None = call_refused (number_of LookupsFull)
   claimed s object kind socket (Some id) = begun s id (any_pattern object kind) (claim_begun n id object kind socket)
 
-  claiming : (s : Seat) (object kind : List ℕ) (socket : ℕ) (b : Bool) → IsOfLookups A (Calls call) (cond b (refused_by n EmptyName) (claimed_as s n object kind socket (lookups.next_id n.lookups)))
+  claiming : (s : Seat) (object kind : List ℕ) (socket : ℕ) (b : Bool)
+      → IsOfLookups A (Calls call)
+      (cond b (refused_by n EmptyName) (claimed_as s n object kind socket (lookups.next_id n.lookups)))
   claiming s object kind socket true = call_refused (number_of EmptyName)
   claiming s object kind socket false = claimed s object kind socket (lookups.next_id n.lookups)
 
@@ -93,15 +103,18 @@ module _ (A : Type 0) (call : Call A) (n : SocketState) where
   ended id None = told (finish {A = A} n id).finished (finish {A = A} n id).state
   ended id (Some fault) = call_refused (number_of fault)
 
-  registering : (object kind : List ℕ) (socket : ℕ) (o : Option NbpFault) → IsOfLookups A (Calls call) (registered_as n object kind socket o)
+  registering : (object kind : List ℕ) (socket : ℕ) (o : Option NbpFault)
+      → IsOfLookups A (Calls call) (registered_as n object kind socket o)
   registering object kind socket None = (tt, (tt, tt))
   registering object kind socket (Some fault) = call_refused (number_of fault)
 
-unregistering : (A : Type 0) (n : SocketState) (object kind : List ℕ) (o : Option Registered) → IsOfLookups A (Calls (Unregister object kind)) (unregistered_as n object kind o)
+unregistering : (A : Type 0) (n : SocketState) (object kind : List ℕ) (o : Option Registered)
+    → IsOfLookups A (Calls (Unregister object kind)) (unregistered_as n object kind o)
 unregistering A n object kind None = call_refused A (Unregister object kind) n (number_of NoSuchName)
 unregistering A n object kind (Some name) = (tt, (tt, tt))
 
-pub call_of_names : (A : Type 0) (n : NodeState) (call : Call A) → is_nbp (kind_of_call call) ≡ true → ComesOfNames A n (Calls call) (called n call)
+pub call_of_names : (A : Type 0) (n : NodeState) (call : Call A) → is_nbp (kind_of_call call) ≡ true
+    → ComesOfNames A n (Calls call) (called n call)
 call_of_names A n Zones h = absurd (true≢false (sym h))
 call_of_names A n (SetZones names) h = absurd (true≢false (sym h))
 call_of_names A n (Ask node socket user bytes wanted xo retries) h = absurd (true≢false (sym h))
@@ -112,7 +125,8 @@ call_of_names A n (Find object kind zone) h = record {
   kept = n.session;
   is = refl;
   keeps = refl;
-  its = found A (Find object kind zone) n.names n.seat (pattern_asked n.session object kind zone) (lookups.next_id n.names.lookups);
+  its = found A (Find object kind zone) n.names n.seat (pattern_asked n.session object kind zone)
+      (lookups.next_id n.names.lookups);
 }
 call_of_names A n (Claim object kind socket) h = record {
   part = claim_called n.seat n.names object kind socket;
@@ -121,13 +135,21 @@ call_of_names A n (Claim object kind socket) h = record {
   keeps = refl;
   its = claiming A (Claim object kind socket) n.names n.seat object kind socket (is_no_text object || is_no_text kind);
 }
-call_of_names A n (Finish id) h = record { part = finish_called n.names id; kept = finds_kept n.session (finish_called {A = A} n.names id).report; is = refl; keeps = refl; its = ended A (Finish id) n.names id (finish_fault n.names id) }
+call_of_names A n (Finish id) h =
+    record {
+      part = finish_called n.names id;
+      kept = finds_kept n.session (finish_called {A = A} n.names id).report;
+      is = refl;
+      keeps = refl;
+      its = ended A (Finish id) n.names id (finish_fault n.names id);
+    }
 call_of_names A n (Register object kind socket) h = record {
   part = register_called n.names object kind socket;
   kept = n.session;
   is = refl;
   keeps = refl;
-  its = registering A (Register object kind socket) n.names object kind socket (register_fault n.names.table.names object kind);
+  its = registering A (Register object kind socket) n.names object kind socket
+      (register_fault n.names.table.names object kind);
 }
 call_of_names A n (Unregister object kind) h = record {
   part = unregister_called n.names object kind;
@@ -144,14 +166,23 @@ call_of_names A n (Read id count) h = absurd (true≢false (sym h))
 call_of_names A n (Reset id) h = absurd (true≢false (sym h))
 call_of_names A n (Close id) h = absurd (true≢false (sym h))
 
-asked : (A : Type 0) (s : Seat) (n : SocketState) (id : ℕ) (o : Option Search) → IsOfLookups A (Fires (timer.Lookup id)) (asked_again s n o)
+asked : (A : Type 0) (s : Seat) (n : SocketState) (id : ℕ) (o : Option Search)
+    → IsOfLookups A (Fires (timer.Lookup id)) (asked_again s n o)
 asked A s n id None = (tt, (tt, tt))
 asked A s n id (Some search) = ((refl, tt), (tt, tt))
 
-pub timer_of_names : (A : Type 0) (n : NodeState) (time : Timer) → is_nbp (kind_of_timer time) ≡ true → ComesOfNames A n (Fires time) (timed n time)
+pub timer_of_names : (A : Type 0) (n : NodeState) (time : Timer) → is_nbp (kind_of_timer time) ≡ true
+    → ComesOfNames A n (Fires time) (timed n time)
 timer_of_names A n (timer.Retry tid) h = absurd (true≢false (sym h))
 timer_of_names A n (timer.Release own node socket tid) h = absurd (true≢false (sym h))
-timer_of_names A n (timer.Lookup id) h = record { part = lookup_fired n.seat n.names id; kept = n.session; is = refl; keeps = refl; its = asked A n.seat n.names id (search_of n.names.lookups id) }
+timer_of_names A n (timer.Lookup id) h =
+    record {
+      part = lookup_fired n.seat n.names id;
+      kept = n.session;
+      is = refl;
+      keeps = refl;
+      its = asked A n.seat n.names id (search_of n.names.lookups id);
+    }
 timer_of_names A n (timer.Resend id) h = absurd (true≢false (sym h))
 timer_of_names A n (timer.Probe id) h = absurd (true≢false (sym h))
 
@@ -169,7 +200,9 @@ module _ (A : Type 0) (s : Seat) (n : SocketState) (which : ℕ) where
       by : (q : Outcome A SocketState) → p ≡ q → IsOfLookups A (Gets which) q → IsOfLookups A (Gets which) p
       by q is h = subst (IsOfLookups A (Gets which)) (sym is) h
 
-      go : (b : Bool) → MatchBool b (HearsName s n d.data_ p ⊎ HearsNbpFault n d.data_ p) (p ≡ idle n report.Ignored) → IsOfLookups A (Gets which) p
-      go true (inl h) = by (record { report = told_by h.step; state = h.new; out = sent_of s h.pushes }) h.outcome (all_nbp (names_of s.net s.number) h.pushes, step_told h.step)
+      go : (b : Bool) → MatchBool b (HearsName s n d.data_ p ⊎ HearsNbpFault n d.data_ p) (p ≡ idle n report.Ignored)
+          → IsOfLookups A (Gets which) p
+      go true (inl h) = by (record { report = told_by h.step; state = h.new; out = sent_of s h.pushes }) h.outcome
+          (all_nbp (names_of s.net s.number) h.pushes, step_told h.step)
       go true (inr h) = by (idle n (report.Refused h.number)) h.outcome (tt, (tt, tt))
       go false h = by (idle n report.Ignored) h (tt, (tt, tt))

@@ -5,31 +5,33 @@ use Rattle.std.specs.List.{AllByRecursion}
 use Rattle.std.proofs.lemmas.Bool.{true≢false}
 use Rattle.at_ddp.specs.Datagram.{Content as Datagram, BeginsWith, canonical}
 use Rattle.at_ddp.specs.declared.address.Address.{Address}
+use Rattle.at_ddp.specs.Protocols.{atp_kind, nbp_kind, adsp_kind}
 use Rattle.at_event.specs.Kinds.{Kind, Adsp, Atp, Nbp, Nobody, Session, kind_of_call, kind_of_timer}
 use Rattle.at_event.specs.Outcomes.{Outcome, Outgoing, Over, Through, idle, over}
-use Rattle.at_event.specs.Seats.{is_for_all, is_mine, nbp_kind}
+use Rattle.at_event.specs.Seats.{is_for_all, is_mine}
 use Rattle.at_event.specs.declared.event.Call.{Call}
-use Rattle.at_event.specs.declared.event.Call.TheVariants.{Zones, SetZones, Ask, Answer, Pick, Find, Claim, Finish, Register, Unregister, Open, Listen, Connect, Write, Read, Reset, Close}
+use Rattle.at_event.specs.declared.event.Call.TheVariants.{Zones, SetZones, Ask, Answer, Pick, Find, Claim, Finish}
+use Rattle.at_event.specs.declared.event.Call.TheVariants.{Register, Unregister, Open, Listen, Connect, Write, Read}
+use Rattle.at_event.specs.declared.event.Call.TheVariants.{Reset, Close}
 use Rattle.at_event.specs.declared.event.Report.{Report}
 use Rattle.at_event.specs.declared.event.Report.TheVariants as report
 use Rattle.at_event.specs.declared.event.Timer.{Timer}
 use Rattle.at_event.specs.declared.event.Timer.TheVariants as timer
 use Rattle.at_event.specs.declared.service.Reply.{Reply}
 use Rattle.at_node.specs.AtpHearing.{HearsAtp, atp_socket}
-use Rattle.at_node.specs.AtpParts.{atp_kind}
 use Rattle.at_node.specs.Hearing.{Hears, HearsIt, HearsMine}
 use Rattle.at_node.specs.NameHearing.{HearsNames}
 use Rattle.at_node.specs.Nodes.{NodeState, called, over_atp, timed, with_names, with_session, with_streams}
 use Rattle.at_stream_socket.specs.Hearing.{HearsStreams}
-use Rattle.at_stream_socket.specs.Sockets.{adsp_kind}
 use Rattle.at_steps.specs.Acts.{Act, Calls, Fires, Gets, IsSaid, is_adsp, is_atp, is_nbp, owner_of}
 use Rattle.at_node.specs.SessionCalls.{picked_as}
 use Rattle.at_session.specs.Sessions.{SessionState, is_listed, list_kept, picking}
-use Rattle.at_steps.specs.SessionSteps.{after as kept_after}
+use Rattle.at_steps.specs.SessionSteps.{MayPick, after as kept_after}
 use Rattle.at_steps.proofs.Kept.{in_session}
 use Rattle.at_steps.proofs.AtpOutcomes.{ComesOfAtp, call_of_atp, datagram_of_atp, timer_of_atp}
 use Rattle.at_steps.proofs.NameOutcomes.{ComesOfNames, IsOfNbp, call_of_names, datagram_of_names, timer_of_names}
-use Rattle.at_steps.proofs.StreamOutcomes.{ComesOfStreams, IsOfAdsp, call_of_streams, datagram_of_streams, timer_of_streams}
+use Rattle.at_steps.proofs.StreamOutcomes.{ComesOfStreams, IsOfAdsp, call_of_streams, datagram_of_streams}
+use Rattle.at_steps.proofs.StreamOutcomes.{timer_of_streams}
 
 abbrev pub IsNobodys : Kind → Type 0
 IsNobodys Nobody = Unit {0}
@@ -44,6 +46,7 @@ pub record ComesOfNothing (A : Type 0) (n : NodeState) (act : Act A) (o : Outcom
   pub keeps : kept ≡ kept_after n.session act report
   pub its : IsNobodys (owner_of act report)
   pub said : IsSaid act report
+  pub picks : MayPick n.session act report (owner_of act report)
 
 -- what comes of an event comes of this protocol
 abbrev pub Comes : (A : Type 0) → NodeState → Act A → Outcome A NodeState → Kind → Type 0
@@ -62,16 +65,19 @@ pub record ComesByType (A : Type 0) (n : NodeState) (which : ℕ) (o : Outcome A
   pub adsp : (kind == adsp_kind) ≡ false → is_adsp whose ≡ false
 
 -- another protocol tells of no zone list
-no_list_of_names : (A : Type 0) (s : SessionState) (which : ℕ) (r : Report A) → IsOfNbp (owner_of (Gets which) r) → s ≡ list_kept s r
+no_list_of_names : (A : Type 0) (s : SessionState) (which : ℕ) (r : Report A) → IsOfNbp (owner_of (Gets which) r) → s
+    ≡ list_kept s r
 no_list_of_names A s which (report.Zones names) h = absurd h
 no_list_of_names A s which r h = refl
 
-no_list_of_streams : (A : Type 0) (s : SessionState) (which : ℕ) (r : Report A) → IsOfAdsp (owner_of (Gets which) r) → s ≡ list_kept s r
+no_list_of_streams : (A : Type 0) (s : SessionState) (which : ℕ) (r : Report A) → IsOfAdsp (owner_of (Gets which) r)
+    → s ≡ list_kept s r
 no_list_of_streams A s which (report.Zones names) h = absurd h
 no_list_of_streams A s which r h = refl
 
 -- what is sent by one type is not of another
-pub others_sent : (kind other : ℕ) → (kind == other) ≡ false → (out : List Outgoing) → AllByRecursion (λ p. p.kind ≡ kind) out → AllByRecursion (λ p. (p.kind == other) ≡ false) out
+pub others_sent : (kind other : ℕ) → (kind == other) ≡ false → (out : List Outgoing)
+    → AllByRecursion (λ p. p.kind ≡ kind) out → AllByRecursion (λ p. (p.kind == other) ≡ false) out
 others_sent kind other apart [] h = tt
 others_sent kind other apart (o ∷ out) h = (ap (λ k. k == other) h.0 ∙ apart, others_sent kind other apart out h.1)
 
@@ -81,13 +87,31 @@ module _ (A : Type 0) (n : NodeState) where
   pub call_comes : (call : Call A) → Comes A n (Calls call) (called n call) (kind_of_call call)
   call_comes Zones = call_of_atp A n Zones refl
   call_comes (SetZones names) = call_of_atp A n (SetZones names) refl
-  call_comes (Ask node socket user bytes wanted xo retries) = call_of_atp A n (Ask node socket user bytes wanted xo retries) refl
+  call_comes (Ask node socket user bytes wanted xo retries) =
+      call_of_atp A n (Ask node socket user bytes wanted xo retries) refl
   call_comes (Answer node socket tid packets) = call_of_atp A n (Answer node socket tid packets) refl
-  call_comes (Pick zone) = picking_comes (is_listed n.session zone)
+  call_comes (Pick zone) = picking_comes (is_listed n.session zone) refl
     where
-      picking_comes : (b : Bool) → ComesOfNothing A n (Calls (Pick zone)) (over (with_session n) (picked_as n.session zone b))
-      picking_comes true = record { report = report.Picked; kept = picking n.session zone; is = refl; keeps = refl; its = tt; said = tt }
-      picking_comes false = record { report = report.Refused 61; kept = n.session; is = refl; keeps = refl; its = tt; said = tt }
+      picking_comes : (b : Bool) → is_listed n.session zone ≡ b
+          → ComesOfNothing A n (Calls (Pick zone)) (over (with_session n) (picked_as n.session zone b))
+      picking_comes true listed = record {
+        report = report.Picked;
+        kept = picking n.session zone;
+        is = refl;
+        keeps = refl;
+        its = tt;
+        said = tt;
+        picks = listed;
+      }
+      picking_comes false listed = record {
+        report = report.Refused 61;
+        kept = n.session;
+        is = refl;
+        keeps = refl;
+        its = tt;
+        said = tt;
+        picks = tt;
+      }
   call_comes (Find object kind zone) = call_of_names A n (Find object kind zone) refl
   call_comes (Claim object kind socket) = call_of_names A n (Claim object kind socket) refl
   call_comes (Finish id) = call_of_names A n (Finish id) refl
@@ -111,10 +135,12 @@ module _ (A : Type 0) (n : NodeState) where
 -- ---- datagrams
 
 module _ (A : Type 0) (n : NodeState) (which : ℕ) (said : Reply A) (o : Outcome A NodeState) where
-  pub nothing_comes : (kind : ℕ) (r : Report A) → o ≡ idle n r → n.session ≡ list_kept n.session r → IsNobodys (owner_of (Gets which) r) → IsSaid (Gets which) r → ComesByType A n which o kind
-  nothing_comes kind r is keeps its may = record {
+  pub nothing_comes : (kind : ℕ) (r : Report A) → o ≡ idle n r → n.session ≡ list_kept n.session r
+      → IsNobodys (owner_of (Gets which) r) → IsSaid (Gets which) r
+      → MayPick n.session (Gets which) r (owner_of (Gets which) r) → ComesByType A n which o kind
+  nothing_comes kind r is keeps its may picks = record {
     whose = Nobody;
-    comes = record { report = r; kept = n.session; is = is; keeps = keeps; its = its; said = may };
+    comes = record { report = r; kept = n.session; is = is; keeps = keeps; its = its; said = may; picks = picks };
     atp = λ apart. refl;
     nbp = λ apart. refl;
     adsp = λ apart. refl;
@@ -123,30 +149,59 @@ module _ (A : Type 0) (n : NodeState) (which : ℕ) (said : Reply A) (o : Outcom
   mine_comes : (d : Datagram) → HearsMine said n d o → ComesByType A n which o d.kind
   mine_comes d = atp (d.kind == atp_kind) refl
     where
-      streams : (b : Bool) → (d.kind == adsp_kind) ≡ b → MatchBool b (Over (with_streams n) (HearsStreams n.seat n.streams d) o) (o ≡ idle n report.Ignored) → ComesByType A n which o d.kind
+      streams : (b : Bool) → (d.kind == adsp_kind) ≡ b
+          → MatchBool b (Over (with_streams n) (HearsStreams n.seat n.streams d) o) (o ≡ idle n report.Ignored)
+          → ComesByType A n which o d.kind
       streams true e h = record {
         whose = Adsp;
-        comes = let its = datagram_of_streams A n.seat n.streams which d h.0 h.1 in record { part = h.0; kept = n.session; is = h.2; keeps = no_list_of_streams A n.session which h.0.report its.reports; its = its };
+        comes = let its = datagram_of_streams A n.seat n.streams which d h.0 h.1 in
+            record {
+              part = h.0;
+              kept = n.session;
+              is = h.2;
+              keeps = no_list_of_streams A n.session which h.0.report its.reports;
+              its = its;
+            };
         atp = λ apart. refl;
         nbp = λ apart. refl;
         adsp = λ apart. absurd (true≢false (sym e ∙ apart));
       }
-      streams false e h = nothing_comes d.kind report.Ignored h refl tt tt
+      streams false e h = nothing_comes d.kind report.Ignored h refl tt tt tt
 
-      names : (b : Bool) → (d.kind == nbp_kind) ≡ b → MatchBool b (Over (with_names n) (HearsNames n.seat n.names d) o) (MatchBool (d.kind == adsp_kind) (Over (with_streams n) (HearsStreams n.seat n.streams d) o) (o ≡ idle n report.Ignored)) → ComesByType A n which o d.kind
+      names : (b : Bool) → (d.kind == nbp_kind) ≡ b
+          → MatchBool b (Over (with_names n) (HearsNames n.seat n.names d) o)
+          (MatchBool (d.kind == adsp_kind) (Over (with_streams n) (HearsStreams n.seat n.streams d) o)
+          (o ≡ idle n report.Ignored)) → ComesByType A n which o d.kind
       names true e h = record {
         whose = Nbp;
-        comes = let its = datagram_of_names A n.seat n.names which d h.0 h.1 in record { part = h.0; kept = n.session; is = h.2; keeps = no_list_of_names A n.session which h.0.report its.1.0; its = its };
+        comes = let its = datagram_of_names A n.seat n.names which d h.0 h.1 in
+            record {
+              part = h.0;
+              kept = n.session;
+              is = h.2;
+              keeps = no_list_of_names A n.session which h.0.report its.1.0;
+              its = its;
+            };
         atp = λ apart. refl;
         nbp = λ apart. absurd (true≢false (sym e ∙ apart));
         adsp = λ apart. refl;
       }
       names false e h = streams (d.kind == adsp_kind) refl h
 
-      atp : (b : Bool) → (d.kind == atp_kind) ≡ b → MatchBool b (Through (over_atp n) (HearsAtp said n.seat n.atp d) o) (MatchBool (d.kind == nbp_kind) (Over (with_names n) (HearsNames n.seat n.names d) o) (MatchBool (d.kind == adsp_kind) (Over (with_streams n) (HearsStreams n.seat n.streams d) o) (o ≡ idle n report.Ignored))) → ComesByType A n which o d.kind
+      atp : (b : Bool) → (d.kind == atp_kind) ≡ b
+          → MatchBool b (Through (over_atp n) (HearsAtp said n.seat n.atp d) o)
+          (MatchBool (d.kind == nbp_kind) (Over (with_names n) (HearsNames n.seat n.names d) o)
+          (MatchBool (d.kind == adsp_kind) (Over (with_streams n) (HearsStreams n.seat n.streams d) o)
+          (o ≡ idle n report.Ignored))) → ComesByType A n which o d.kind
       atp true e h = record {
         whose = Atp;
-        comes = record { part = h.0; kept = list_kept n.session h.0.report; is = h.2; keeps = refl; its = datagram_of_atp A n.seat n.atp which said d (atp_socket n.atp d.to.socket) h.0 h.1 };
+        comes = record {
+          part = h.0;
+          kept = list_kept n.session h.0.report;
+          is = h.2;
+          keeps = refl;
+          its = datagram_of_atp A n.seat n.atp which said d (atp_socket n.atp d.to.socket) h.0 h.1;
+        };
         atp = λ apart. absurd (true≢false (sym e ∙ apart));
         nbp = λ apart. refl;
         adsp = λ apart. refl;
@@ -158,9 +213,13 @@ module _ (A : Type 0) (n : NodeState) (which : ℕ) (said : Reply A) (o : Outcom
     where
       go : (b : Bool) → MatchBool b (HearsMine said n d o) (o ≡ idle n report.Ignored) → ComesByType A n which o d.kind
       go true h = mine_comes d h
-      go false h = nothing_comes d.kind report.Ignored h refl tt tt
+      go false h = nothing_comes d.kind report.Ignored h refl tt tt tt
 
-  pub datagram_comes : ((to from : Address) (kind : ℕ) (bytes rest : List ℕ) (d : Datagram) → BeginsWith (canonical to from kind bytes) d rest → d.kind ≡ kind) →
-      (to from : Address) (kind : ℕ) (bytes : List ℕ) → Hears said n (canonical to from kind bytes) o → ComesByType A n which o kind
-  datagram_comes reads to from kind bytes (inl h) = subst (ComesByType A n which o) (reads to from kind bytes h.rest h.datagram h.begins) (it_comes h.datagram h.outcome)
-  datagram_comes reads to from kind bytes (inr h) = nothing_comes kind (report.Refused h.number) h.outcome refl tt tt
+  pub datagram_comes : ((to from : Address) (kind : ℕ) (bytes rest : List ℕ) (d : Datagram)
+      → BeginsWith (canonical to from kind bytes) d rest → d.kind ≡ kind) →
+      (to from : Address) (kind : ℕ) (bytes : List ℕ) → Hears said n (canonical to from kind bytes) o
+      → ComesByType A n which o kind
+  datagram_comes reads to from kind bytes (inl h) =
+      subst (ComesByType A n which o) (reads to from kind bytes h.rest h.datagram h.begins)
+      (it_comes h.datagram h.outcome)
+  datagram_comes reads to from kind bytes (inr h) = nothing_comes kind (report.Refused h.number) h.outcome refl tt tt tt

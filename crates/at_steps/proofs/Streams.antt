@@ -8,6 +8,7 @@ pub mod Foreign
 pub mod Holding
 pub mod Moves
 pub mod OnNet
+pub mod OnNetHistories
 pub mod Ours
 pub mod Passing
 pub mod Reading

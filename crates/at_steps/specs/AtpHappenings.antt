@@ -3,19 +3,22 @@
 use Rattle.std.specs.Prelude.{◌≡◌, ℕ, ◌^◌, ◌<◌, ◌==◌, ◌++◌, Bool, true, false, List, [], ◌∷◌, find, Option, Some, None}
 use Rattle.std.specs.List.{AllByRecursion}
 use Rattle.at_ddp.specs.declared.address.Address.{Address}
-use Rattle.at_atp_frame.specs.Frames.{spelled}
+use Rattle.at_atp_frame.specs.Frames.{spelled, Content}
 use Rattle.at_atp_requester.specs.Requests.{has_number}
 use Rattle.at_atp_responder.specs.Records.{Record, is_key}
 use Rattle.at_atp.specs.Lawfully.{IsInRange}
-use Rattle.at_atp.specs.Network.{Sent, Drawn, Happening, AllTimely, IsTimely, after, done, put}
+use Rattle.at_ddp.specs.Posts.{put}
+use Rattle.at_ddp.specs.Protocols.{atp_kind}
+use Rattle.at_steps.specs.Entries.{Coding, AreEntries}
+use Rattle.at_atp.specs.Network.{Sent, Drawn, Happening, AllTimely, IsTimely, after, done}
 use Rattle.at_atp.specs.Transactions.{Transaction, transaction_of}
 use Rattle.at_zip.specs.Zones.{IsTable}
-use Rattle.at_node.specs.AtpParts.{AtpState, Reading, asking, serving, zones_at, atp_kind}
-use Rattle.at_node.specs.Drawing.{drawn_by}
+use Rattle.at_node.specs.AtpParts.{AtpState, Reading, asking, serving, zones_at}
+use Rattle.at_node.specs.Numbers.{drawn_by}
 use Rattle.at_node.specs.Nodes.{NodeState}
 use Rattle.at_event.specs.Outcomes.{Outcome, Outgoing}
-use Rattle.at_node.specs.declared.drawing.Draw.{Draw}
-use Rattle.at_node.specs.declared.drawing.Draw.TheVariants.{Tid}
+use Rattle.at_node.specs.declared.numbers.Draw.{Draw}
+use Rattle.at_node.specs.declared.numbers.Draw.TheVariants.{Tid}
 use Rattle.at_event.specs.declared.event.Report.{Report}
 use Rattle.at_event.specs.declared.event.Report.TheVariants as report
 use Rattle.at_steps.specs.Acts.{Act, owner_of, is_atp, IsSaid}
@@ -59,17 +62,8 @@ HoldsNo who tid rs = find (is_key (record { from = who; tid = tid })) rs ≡ Non
 
 -- ---- what is sent
 
--- a datagram is this packet, which this event sent; or it is of another protocol
-abbrev pub IsEntry : ℕ → Outgoing → Option Sent → Type 0
-IsEntry event o (Some s) =
-    (o ≡ record { from = s.from; to = s.to; kind = atp_kind; data_ = spelled s.packet }) × (s.event ≡ event)
-IsEntry event o None = (o.kind == atp_kind) ≡ false
-
-abbrev pub AreEntries : ℕ → List Outgoing → List (Option Sent) → Type 0
-AreEntries event [] [] = Unit {0}
-AreEntries event (o ∷ out) (x ∷ sent) = IsEntry event o x × AreEntries event out sent
-AreEntries event [] (x ∷ sent) = ⊥
-AreEntries event (o ∷ out) [] = ⊥
+abbrev pub atp_coding : Coding Content
+atp_coding = record { kind = atp_kind; bytes = spelled }
 
 -- the transaction number that an event drew, if it drew one
 abbrev pub numbers_drawn : ℕ → Address → Option Draw → List Drawn
@@ -98,7 +92,7 @@ pub record Happens (A : Type 0) (history : List Happening) (net number : ℕ) (n
       (zones_at net number) o.state.atp.zone_responder at
   pub more : List (Option Sent)
   pub sent : (done A (after A history) happening).sent ≡ (after A history).sent ++ more
-  pub posts : AreEntries (after A history).event o.out more
+  pub posts : AreEntries atp_coding (after A history).event o.out more
   pub drawn : (done A (after A history) happening).drawn ≡ (after A history).drawn
       ++ numbers_drawn (after A history).event (asking net number) (drawn_by o.report)
   pub on_net : AllByRecursion (IsOn net) (done A (after A history) happening).asked

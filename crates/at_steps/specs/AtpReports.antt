@@ -10,7 +10,8 @@ use Rattle.at_atp_requester.specs.declared.step.Step.TheVariants as step
 use Rattle.at_atp_responder.specs.Once.{same_key}
 use Rattle.at_atp_responder.specs.declared.reception.Key.{Key}
 use Rattle.at_atp.specs.HandUps.{draws, is_handed_up, expires_there}
-use Rattle.at_atp.specs.Network.{Network, Sent, packet_at, Happening, Begins, Answers, Turns, Takes, Serves, is_fresh}
+use Rattle.at_ddp.specs.Posts.{packet_at}
+use Rattle.at_atp.specs.Network.{Network, Sent, Happening, Begins, Answers, Turns, Takes, Serves, is_fresh}
 use Rattle.at_atp.specs.Network.{done}
 use Rattle.at_atp.specs.Transactions.{answered}
 use Rattle.at_zip.specs.Request.{RequestSpells}

@@ -2,6 +2,7 @@ pub mod Acts
 pub mod AtpHappenings
 pub mod AtpReports
 pub mod AtpSteps
+pub mod Entries
 pub mod NameHappenings
 pub mod NameSteps
 pub mod Safety

@@ -6,19 +6,20 @@ use Rattle.at_ddp.specs.declared.address.Address.{Address}
 use Rattle.at_nbp.specs.Askers.{IsAskedBy}
 use Rattle.at_nbp.specs.Lawfully.{IsInRange, IsLawfulSetting}
 use Rattle.at_nbp.specs.Network.{AllAsk, AllTimely, Begun, Happening, IsAnswered, IsTimely, Sent, Setting, after, done}
-use Rattle.at_nbp.specs.Network.{put}
-use Rattle.at_nbp.specs.Packets.{spelling}
+use Rattle.at_ddp.specs.Posts.{put}
+use Rattle.at_ddp.specs.Protocols.{nbp_kind}
+use Rattle.at_steps.specs.Entries.{Coding, AreEntries}
+use Rattle.at_nbp.specs.Packets.{spelling, Content}
 use Rattle.at_nbp.specs.declared.name.Name.{Name}
 use Rattle.at_name_socket.specs.NameSockets.{names_of}
 use Rattle.at_name_socket.specs.Sockets.{IsSocket}
 use Rattle.at_name_socket.specs.Steps as sockets
-use Rattle.at_node.specs.Drawing.{drawn_by}
+use Rattle.at_node.specs.Numbers.{drawn_by}
 use Rattle.at_event.specs.Calls.{IsZone}
-use Rattle.at_event.specs.Seats.{nbp_kind}
 use Rattle.at_node.specs.Nodes.{NodeState}
-use Rattle.at_event.specs.Outcomes.{Outcome, Outgoing}
-use Rattle.at_node.specs.declared.drawing.Draw.{Draw}
-use Rattle.at_node.specs.declared.drawing.Draw.TheVariants.{Lookup}
+use Rattle.at_event.specs.Outcomes.{Outcome}
+use Rattle.at_node.specs.declared.numbers.Draw.{Draw}
+use Rattle.at_node.specs.declared.numbers.Draw.TheVariants.{Lookup}
 use Rattle.at_steps.specs.Acts.{Act, is_nbp, owner_of}
 use Rattle.at_steps.specs.NameSteps.{IsStep}
 
@@ -46,17 +47,8 @@ pub record Stands (setting : Setting) (history : List Happening) (net number : �
 
 -- ---- what is sent and drawn
 
--- a datagram is this packet, which this event sent; or it is of another protocol
-abbrev pub IsEntry : ℕ → Outgoing → Option Sent → Type 0
-IsEntry event o (Some s) =
-    (o ≡ record { from = s.from; to = s.to; kind = nbp_kind; data_ = spelling s.packet }) × (s.event ≡ event)
-IsEntry event o None = (o.kind == nbp_kind) ≡ false
-
-abbrev pub AreEntries : ℕ → List Outgoing → List (Option Sent) → Type 0
-AreEntries event [] [] = Unit {0}
-AreEntries event (o ∷ out) (x ∷ sent) = IsEntry event o x × AreEntries event out sent
-AreEntries event [] (x ∷ sent) = ⊥
-AreEntries event (o ∷ out) [] = ⊥
+abbrev pub name_coding : Coding Content
+name_coding = record { kind = nbp_kind; bytes = spelling }
 
 -- the lookups that ever began, newest first: one more, if an event drew its identifier
 abbrev pub BeginsBy : ℕ → Address → Option Draw → List Begun → List Begun → Type 0
@@ -82,7 +74,7 @@ pub record Happens {A : Type 0} (setting : Setting) (history : List Happening) (
       ≡ put (after setting history).lookups (names_of net number) o.state.names.lookups who
   pub more : List (Option Sent)
   pub sent : (done (after setting history) happening).sent ≡ (after setting history).sent ++ more
-  pub posts : AreEntries (after setting history).event o.out more
+  pub posts : AreEntries name_coding (after setting history).event o.out more
   pub begun : BeginsBy (after setting history).event (names_of net number) (drawn_by o.report)
       (after setting history).begun (done (after setting history) happening).begun
   pub socket : IsSocket o.state.names

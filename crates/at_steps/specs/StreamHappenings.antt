@@ -4,26 +4,29 @@ use Rattle.std.specs.Prelude.{option_map, Option, Some, None, ◌⊎◌}
 use Rattle.std.specs.List.{AllByRecursion}
 use Rattle.at_ddp.specs.Datagram.{IsAddress}
 use Rattle.at_ddp.specs.declared.address.Address.{Address}
-use Rattle.at_adsp_frame.specs.Segments.{spelled}
+use Rattle.at_adsp_frame.specs.Segments.{spelled, Content}
 use Rattle.at_adsp_end.specs.Positions.{wire}
 use Rattle.at_adsp_end.specs.declared.tick.Tick.TheVariants.{Probe, Retransmit}
 use Rattle.at_adsp.specs.Connections.{streams}
 use Rattle.at_adsp.specs.Lawfully.{IsInRange, IsLawfulSetting}
 use Rattle.at_adsp.specs.Network.{AllTimely, Closes, Connects, Happening, IsTimely, Listens, Other, Reads, Resets}
-use Rattle.at_adsp.specs.Network.{Sent, Setting, Strange, Takes, Ticks, Writes, after, done, put}
+use Rattle.at_ddp.specs.Posts.{put}
+use Rattle.at_ddp.specs.Protocols.{adsp_kind}
+use Rattle.at_steps.specs.Entries.{Coding, AreEntries}
+use Rattle.at_adsp.specs.Network.{Sent, Setting, Strange, Takes, Ticks, Writes, after, done}
 use Rattle.at_adsp.specs.Streams.{Stream}
 use Rattle.at_nbp.specs.declared.find.Find.{Find as Found}
 use Rattle.at_session.specs.Sessions.{SessionState, address_at}
-use Rattle.at_event.specs.Outcomes.{Outcome, Outgoing}
+use Rattle.at_event.specs.Outcomes.{Outcome}
 use Rattle.at_event.specs.declared.event.Call.TheVariants.{Close, Connect, Listen, Open, Read, Reset, Write}
 use Rattle.at_event.specs.declared.event.Report.{Report}
 use Rattle.at_event.specs.declared.event.Report.TheVariants as report
 use Rattle.at_event.specs.declared.event.Timer.TheVariants as timer
-use Rattle.at_node.specs.Drawing.{drawn_by}
+use Rattle.at_node.specs.Numbers.{drawn_by}
 use Rattle.at_node.specs.Nodes.{NodeState}
-use Rattle.at_node.specs.declared.drawing.Draw.{Draw}
-use Rattle.at_node.specs.declared.drawing.Draw.TheVariants.{Conn}
-use Rattle.at_stream_socket.specs.Sockets.{adsp_kind, streams_at}
+use Rattle.at_node.specs.declared.numbers.Draw.{Draw}
+use Rattle.at_node.specs.declared.numbers.Draw.TheVariants.{Conn}
+use Rattle.at_stream_socket.specs.Sockets.{streams_at}
 use Rattle.at_steps.specs.Acts.{Act, Calls, Fires, Gets, is_adsp, owner_of}
 use Rattle.at_steps.specs.StreamSteps.{Change, IsStep}
 
@@ -68,17 +71,8 @@ pub record Stands (setting : Setting) (history : List Happening) (net number : �
 
 -- ---- what is sent and drawn
 
--- a datagram is this segment, which this event sent; or it is of another protocol
-abbrev pub IsEntry : ℕ → Outgoing → Option Sent → Type 0
-IsEntry event o (Some s) =
-    (o ≡ record { from = s.from; to = s.to; kind = adsp_kind; data_ = spelled s.segment }) × (s.event ≡ event)
-IsEntry event o None = (o.kind == adsp_kind) ≡ false
-
-abbrev pub AreEntries : ℕ → List Outgoing → List (Option Sent) → Type 0
-AreEntries event [] [] = Unit {0}
-AreEntries event (o ∷ out) (x ∷ sent) = IsEntry event o x × AreEntries event out sent
-AreEntries event [] (x ∷ sent) = ⊥
-AreEntries event (o ∷ out) [] = ⊥
+abbrev pub stream_coding : Coding Content
+stream_coding = record { kind = adsp_kind; bytes = spelled }
 
 -- an identifier that was drawn: by which event, and at which socket
 pub record Drawn : Type 0 where
@@ -131,7 +125,7 @@ pub record Happens {A : Type 0} (setting : Setting) (history : List Happening) (
       ≡ put (after setting history).tables (streams_at net number) o.state.streams at
   pub more : List (Option Sent)
   pub sent : (done setting (after setting history) happening).sent ≡ (after setting history).sent ++ more
-  pub posts : AreEntries (after setting history).event o.out more
+  pub posts : AreEntries stream_coding (after setting history).event o.out more
   pub drawn : identifiers (streams (done setting (after setting history) happening))
       ≡ numbers_drawn (after setting history).event (streams_at net number) (drawn_by o.report)
       ++ identifiers (streams (after setting history))

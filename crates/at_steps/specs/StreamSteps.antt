@@ -6,7 +6,8 @@ use Rattle.at_ddp.specs.declared.address.Address.{Address}
 use Rattle.at_adsp_end.specs.declared.item.Item.{Item}
 use Rattle.at_adsp.specs.Connections.{begun}
 use Rattle.at_adsp.specs.Meetings.{OpensWith}
-use Rattle.at_adsp.specs.Network.{Sent, packet_at}
+use Rattle.at_ddp.specs.Posts.{packet_at}
+use Rattle.at_adsp.specs.Network.{Sent}
 use Rattle.at_adsp.specs.Streams.{Stream, GaveUp, Read as ReadItems, Wrote as WroteItems, has_number, with_deed}
 use Rattle.at_event.specs.declared.event.Call.TheVariants.{Close, Connect, Listen, Open, Read, Reset, Write}
 use Rattle.at_event.specs.declared.event.Report.{Report}

@@ -1,10 +1,12 @@
 -- What came of a call of the ends, as what the socket did.
-use Rattle.std.proofs.Common.{◌≡◌, ℕ, Bool, true, false, cond, List, [], ◌∷◌, ◌++◌, length, map, Option, Some, None, Result, Ok, Err, refl, sym, ap, subst, ◌∙◌}
+use Rattle.std.proofs.Common.{◌≡◌, ℕ, Bool, true, false, cond, List, [], ◌∷◌, ◌++◌, length, map, Option, Some, None}
+use Rattle.std.proofs.Common.{Result, Ok, Err, refl, sym, ap, subst, ◌∙◌}
 use Rattle.std.specs.Prelude.{◌==◌, ◌&&◌, min, not, take, drop}
 use Rattle.std.proofs.lemmas.List.{append-nil, drop_min, take_min}
 use Rattle.at_ddp.specs.Datagrams.{Posted}
 use Rattle.at_ddp.specs.Outbox.{Outbox, Sends, finished}
 use Rattle.at_ddp.specs.declared.address.Address.{Address}
+use Rattle.at_ddp.specs.Protocols.{adsp_kind}
 use Rattle.at_adsp_end.specs.Ends.{EndState, acknowledging, free, has_opened, is_open, spelled_all}
 use Rattle.at_adsp_end.specs.Fault.{number_of}
 use Rattle.at_adsp_end.specs.Positions.{wire}
@@ -21,11 +23,12 @@ use Rattle.at_event.specs.declared.event.Report.{Report}
 use Rattle.at_event.specs.declared.event.Report.TheVariants as report
 use Rattle.at_event.specs.declared.seat.Seat.{Seat}
 use Rattle.at_stream_socket.specs.Calls.{called}
-use Rattle.at_stream_socket.specs.Sockets.{adsp_kind, streams_at, told_by}
+use Rattle.at_stream_socket.specs.Sockets.{streams_at, told_by}
 
 -- ---- what is sent
 
-pushed_posted : (from : Address) (kind : ℕ) (pushes : List (Address × List ℕ)) → map (finished from kind) pushes ≡ map posted (sent_by from kind pushes)
+pushed_posted : (from : Address) (kind : ℕ) (pushes : List (Address × List ℕ)) → map (finished from kind) pushes
+    ≡ map posted (sent_by from kind pushes)
 pushed_posted from kind [] = refl
 pushed_posted from kind (p ∷ ps) = ap (λ l. finished from kind p ∷ l) (pushed_posted from kind ps)
 
@@ -36,11 +39,15 @@ pub record IsBox (s : Seat) (box boxed : Outbox) (before after : List Posted) : 
   pub kind : box.kind ≡ adsp_kind
   pub back : after ≡ boxed.items
 
-pub posts : (s : Seat) (box boxed : Outbox) (before after : List Posted) (pushes : List (Address × List ℕ)) → IsBox s box boxed before after → Sends box boxed pushes → after ≡ before ++ map posted (sent_by (streams_at s.net s.number) adsp_kind pushes)
+pub posts : (s : Seat) (box boxed : Outbox) (before after : List Posted) (pushes : List (Address × List ℕ))
+    → IsBox s box boxed before after → Sends box boxed pushes → after
+    ≡ before ++ map posted (sent_by (streams_at s.net s.number) adsp_kind pushes)
 posts s box boxed before after pushes b sends =
-    b.back ∙ sends.items ∙ (λ i. b.items i ++ map (finished (b.from i) (b.kind i)) pushes) ∙ ap (λ l. before ++ l) (pushed_posted (streams_at s.net s.number) adsp_kind pushes)
+    b.back ∙ sends.items ∙ (λ i. b.items i ++ map (finished (b.from i) (b.kind i)) pushes)
+    ∙ ap (λ l. before ++ l) (pushed_posted (streams_at s.net s.number) adsp_kind pushes)
 
-pub nothing_posted : (s : Seat) (box boxed : Outbox) (before after : List Posted) → IsBox s box boxed before after → Sends box boxed [] → after ≡ before
+pub nothing_posted : (s : Seat) (box boxed : Outbox) (before after : List Posted) → IsBox s box boxed before after
+    → Sends box boxed [] → after ≡ before
 nothing_posted s box boxed before after b sends = b.back ∙ sends.items ∙ append-nil box.items ∙ b.items
 
 -- ---- reports
@@ -79,12 +86,16 @@ reported told (Ok x) = told x
 reported told (Err fault) = refused_as (number_of fault)
 
 -- a refusal is one report, and changes nothing
-refused_step : (A : Type 0) (t : EndTable) (start : List Posted) (number : Option ℕ) → IsStep {A = A} (idle t (refused_as number)) t start (refused_as number) t start
+refused_step : (A : Type 0) (t : EndTable) (start : List Posted) (number : Option ℕ)
+    → IsStep {A = A} (idle t (refused_as number)) t start (refused_as number) t start
 refused_step A t start None = (refl, refl, refl)
 refused_step A t start (Some n) = (refl, refl, sym (append-nil start))
 
-pub call_step : {A X : Type 0} (s : Seat) (old new : EndTable) (told : X → Report A) (r : Result (Done X) StreamFault) (tried : Result X StreamFault) (box boxed : Outbox) (before after : List Posted) →
-    ((x : X) → wants_memory (told x) ≡ false) → ((x : X) → takes_memory (told x) ≡ true) → IsBox s box boxed before after → IsCalled r tried old new box boxed → IsStep (called s old told r) old before (reported told tried) new after
+pub call_step : {A X : Type 0} (s : Seat) (old new : EndTable) (told : X → Report A) (r : Result (Done X) StreamFault)
+    (tried : Result X StreamFault) (box boxed : Outbox) (before after : List Posted) →
+    ((x : X) → wants_memory (told x) ≡ false) → ((x : X) → takes_memory (told x) ≡ true)
+    → IsBox s box boxed before after → IsCalled r tried old new box boxed
+    → IsStep (called s old told r) old before (reported told tried) new after
 call_step s old new told (Ok d) (Ok x) box boxed before after some takes b h =
     rw (some x) (ap told h.answer_is, h.state, posts s box boxed before after (spelled_all d.sent) b h.sent)
 call_step s old new told (Ok d) (Err fault) box boxed before after some takes b h =
@@ -93,7 +104,8 @@ call_step s old new told (Ok d) (Err fault) box boxed before after some takes b 
     (nothing.state, nothing_posted s box boxed before after b nothing.sent, takes d.answer)
 call_step {A} s old new told (Err refusal) tried box boxed before after some takes b h =
     let nothing = h.1 in
-    rw (h.0, nothing.state, nothing_posted s box boxed before after b nothing.sent) (refused_step A old before (number_of refusal))
+    rw (h.0, nothing.state, nothing_posted s box boxed before after b nothing.sent)
+    (refused_step A old before (number_of refusal))
 
 -- ---- reading
 
@@ -103,27 +115,41 @@ left_at e left = record e { receiver = record e.receiver { unread = left } }
 
 abbrev read_of_it : EndTable → EndState → List Item → List Item → Done (List Item)
 read_of_it t e some left =
-    moved t some (left_at e left) (cond (is_open e.phase && (free e == 0) && not (free (left_at e left) == 0)) (acknowledging wire (left_at e left) ∷ []) [])
+    moved t some (left_at e left)
+    (cond (is_open e.phase && (free e == 0) && not (free (left_at e left) == 0))
+    (acknowledging wire (left_at e left) ∷ []) [])
 
 -- there is no more to read than there is
-read_fewer_at : (t : EndTable) (e : EndState) (n u : ℕ) (b : Bool) → ◌≡◌ {A = Result ℕ StreamFault} (cond b (Ok (length e.receiver.unread)) (Err NotOpen)) (Ok u) →
-    ◌≡◌ {A = Result (Done (List Item)) StreamFault} (cond b (Ok (read_of_it t e (take (min n u) e.receiver.unread) (drop (min n u) e.receiver.unread))) (Err NotOpen)) (cond b (Ok (read_of_it t e (take n e.receiver.unread) (drop n e.receiver.unread))) (Err NotOpen))
+read_fewer_at : (t : EndTable) (e : EndState) (n u : ℕ) (b : Bool)
+    → ◌≡◌ {A = Result ℕ StreamFault} (cond b (Ok (length e.receiver.unread)) (Err NotOpen)) (Ok u) →
+    ◌≡◌ {A = Result (Done (List Item)) StreamFault}
+    (cond b (Ok (read_of_it t e (take (min n u) e.receiver.unread) (drop (min n u) e.receiver.unread)))
+    (Err NotOpen)) (cond b (Ok (read_of_it t e (take n e.receiver.unread) (drop n e.receiver.unread)))
+    (Err NotOpen))
 read_fewer_at t e n u true is =
     let all : length e.receiver.unread ≡ u = cc in
-    subst (λ m. ◌≡◌ {A = Result (Done (List Item)) StreamFault} (Ok (read_of_it t e (take (min n m) e.receiver.unread) (drop (min n m) e.receiver.unread))) (Ok (read_of_it t e (take n e.receiver.unread) (drop n e.receiver.unread)))) all
+    subst (λ m. ◌≡◌ {A = Result (Done (List Item)) StreamFault}
+    (Ok (read_of_it t e (take (min n m) e.receiver.unread) (drop (min n m) e.receiver.unread)))
+    (Ok (read_of_it t e (take n e.receiver.unread) (drop n e.receiver.unread)))) all
     (λ i. Ok (read_of_it t e (take_min n e.receiver.unread i) (drop_min n e.receiver.unread i)))
 read_fewer_at t e n u false is = refl
 
-pub read_fewer : (t : EndTable) (n u : ℕ) (o : Option EndState) → unread_at o ≡ Ok u → read_at wire t (min n u) o ≡ read_at wire t n o
+pub read_fewer : (t : EndTable) (n u : ℕ) (o : Option EndState) → unread_at o ≡ Ok u → read_at wire t (min n u) o
+    ≡ read_at wire t n o
 read_fewer t n u None is = refl
 read_fewer t n u (Some e) is = read_fewer_at t e n u (has_opened e.phase) is
 
 -- what can be read of takes memory
-can_read_at : (t : EndTable) (e : EndState) (n u : ℕ) (b : Bool) → ◌≡◌ {A = Result ℕ StreamFault} (cond b (Ok (length e.receiver.unread)) (Err NotOpen)) (Ok u) → (A : Type 0) (s : Seat) (d : Done (List Item)) →
+can_read_at : (t : EndTable) (e : EndState) (n u : ℕ) (b : Bool)
+    → ◌≡◌ {A = Result ℕ StreamFault} (cond b (Ok (length e.receiver.unread)) (Err NotOpen)) (Ok u)
+    → (A : Type 0) (s : Seat) (d : Done (List Item)) →
     takes_memory {A = A} (called s t report.Read (cond b (Ok d) (Err NotOpen))).report ≡ true
 can_read_at t e n u true is A s d = refl
 can_read_at t e n u false is A s d = absurd (cc)
 
-pub can_read : (A : Type 0) (s : Seat) (t : EndTable) (n u : ℕ) (o : Option EndState) → unread_at o ≡ Ok u → takes_memory {A = A} (called s t report.Read (read_at wire t n o)).report ≡ true
+pub can_read : (A : Type 0) (s : Seat) (t : EndTable) (n u : ℕ) (o : Option EndState) → unread_at o ≡ Ok u
+    → takes_memory {A = A} (called s t report.Read (read_at wire t n o)).report ≡ true
 can_read A s t n u None is = absurd (cc)
-can_read A s t n u (Some e) is = can_read_at t e n u (has_opened e.phase) is A s (read_of_it t e (take n e.receiver.unread) (drop n e.receiver.unread))
+can_read A s t n u (Some e) is =
+    can_read_at t e n u (has_opened e.phase) is A s
+    (read_of_it t e (take n e.receiver.unread) (drop n e.receiver.unread))

@@ -43,16 +43,42 @@ module _ (A : Type 0) (s : Seat) (old : EndTable) (d : Datagram) (before : List 
   other_ignored other = (idle old Ignored, rw other refl, (refl, refl, sym (append-nil before)))
 
   module _ (its : (d.to.socket == 130) ≡ true) where
-    pub fault_comes : (fault : AdspFault) (r : Report A) → IsFirstFault fault d.data_ → r ≡ refused_as (number_of fault) → Comes (HearsStreams {A = A} s old d) old before r old before
+    pub fault_comes : (fault : AdspFault) (r : Report A) → IsFirstFault fault d.data_ → r
+        ≡ refused_as (number_of fault) → Comes (HearsStreams {A = A} s old d) old before r old before
     fault_comes fault r first is =
         let n = adsp_number fault d.data_ first in
-        rw (is, n.1)
-        (idle old (Refused n.0), rw its (inr (record { fault = fault; number = n.0; first = first; numbered = n.1; outcome = refl })), (refl, refl, sym (append-nil before)))
+        rw (is, n.1) (
+          idle old (Refused n.0),
+          rw its
+              (inr (record { fault = fault; number = n.0; first = first; numbered = n.1; outcome = refl })),
+          (refl, refl, sym (append-nil before)),
+        )
 
-    pub taken_comes : {E : Type 0} (new : EndTable) (segment : Content) (tried : Result Step E) (box boxed : Outbox) (after : List Posted) →
-        Spells d.data_ segment → IsBox s box boxed before after → IsTaken (received wire old d.from segment) tried old new box boxed → Comes (HearsStreams {A = A} s old d) old before (reported tried) new after
+    pub taken_comes : {E : Type 0} (new : EndTable) (segment : Content) (tried : Result Step E) (box boxed : Outbox)
+        (after : List Posted) →
+        Spells d.data_ segment → IsBox s box boxed before after
+        → IsTaken (received wire old d.from segment) tried old new box boxed
+        → Comes (HearsStreams {A = A} s old d) old before (reported tried) new after
     taken_comes new segment (Ok step) box boxed after spelled b h =
-        rw (told_some A step)
-        (segment_heard s old d.from segment, rw its (inl (record { segment = segment; spelled = spelled; outcome = refl })), (ap told_by h.answer_is, h.state, posts s box boxed before after (spelled_all (received wire old d.from segment).sent) b h.sent))
-    taken_comes new segment (Err e) box boxed after spelled b h =
-        (h.state, nothing_posted s box boxed before after b h.sent, (segment_heard s old d.from segment, rw its (inl (record { segment = segment; spelled = spelled; outcome = refl })), told_takes A (received wire old d.from segment).answer))
+        rw (told_some A step) (
+          segment_heard s old d.from segment,
+          rw its
+              (inl (record { segment = segment; spelled = spelled; outcome = refl })),
+          (
+            ap told_by h.answer_is,
+            h.state,
+            posts s box boxed before after
+                (spelled_all (received wire old d.from segment).sent) b h.sent,
+          ),
+        )
+    taken_comes new segment (Err e) box boxed after spelled b h = (
+      h.state,
+      nothing_posted s box boxed before after b h.sent,
+      (
+        segment_heard s old d.from segment,
+        rw its
+            (inl (record { segment = segment; spelled = spelled; outcome = refl })),
+        told_takes A
+            (received wire old d.from segment).answer,
+      ),
+    )

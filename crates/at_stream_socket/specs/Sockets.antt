@@ -1,6 +1,7 @@
 -- The socket of a node for streams, 130, and what comes of its ends (Inside AppleTalk, ADSP).
 use Rattle.std.specs.Prelude.{ℕ, List}
 use Rattle.at_ddp.specs.declared.address.Address.{Address}
+use Rattle.at_ddp.specs.Protocols.{adsp_kind}
 use Rattle.at_adsp_frame.specs.Segments.{Content}
 use Rattle.at_adsp_end.specs.Ends.{spelled_all}
 use Rattle.at_adsp_end.specs.declared.step.Step.{Step}
@@ -13,10 +14,6 @@ use Rattle.at_event.specs.declared.seat.Seat.{Seat}
 
 abbrev pub streams_at : ℕ → ℕ → Address
 streams_at net number = record { net = net; node = number; socket = 130 }
-
--- the protocol of ADSP's datagrams
-abbrev pub adsp_kind : ℕ
-adsp_kind = 7
 
 -- what the socket sends
 abbrev pub sent_of : Seat → List (Address × Content) → List Outgoing

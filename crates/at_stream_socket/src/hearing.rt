@@ -15,7 +15,12 @@ use std::alloc::{AllocError, Allocator};
 
 impl<A: Allocator + Copy> StreamSocket<A> {
     /// Takes a datagram of ADSP that is for this node.
-    pub fn hear(&mut self, seat: Seat, datagram: &Datagram<'_>, out: &mut Datagrams<A>) -> Report<A>
+    pub fn receive(
+        &mut self,
+        seat: Seat,
+        datagram: &Datagram<'_>,
+        out: &mut Datagrams<A>,
+    ) -> Report<A>
         ensures comes { Comes (HearsStreams seat self.old (content datagram.now)) self.old out.old.items result self.new
             out.new.items }
         ensures not_asked { is_asked result ≡ false }

@@ -8,4 +8,4 @@ mod reading;
 mod socket;
 
 pub use carrying::carried;
-pub use socket::{ADSP, STREAM_SOCKET, StreamSocket};
+pub use socket::{STREAM_SOCKET, StreamSocket};

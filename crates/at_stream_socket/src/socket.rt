@@ -1,25 +1,22 @@
 //! The socket of a node for streams, with its table of ends, and how steps and refusals of ends are reported.
 ghost use Rattle.std.specs.Prelude.{◌≡◌, Some, false, option_map};
 ghost use Rattle.std.specs.List.{AllByRecursion, list_any};
+ghost use Rattle.at_ddp.specs.Protocols.{adsp_kind};
 ghost use Rattle.at_adsp_end.specs.Ends.{FitsRooms};
 ghost use Rattle.at_adsp_end.specs.Fault.{number_of};
 ghost use Rattle.at_adsp_ends.specs.Tables.{AreEnds, AreRooms, has_remote_at, next_id, no_ends};
 ghost use Rattle.at_event.specs.Outcomes.{refused_as};
 ghost use Rattle.at_event.specs.Services.{is_asked};
-ghost use Rattle.at_stream_socket.specs.Sockets.{adsp_kind, streams_at, told_by};
+ghost use Rattle.at_stream_socket.specs.Sockets.{streams_at, told_by};
 
 use at_adsp_ends::{Ends, Rooms, Step, StreamFault};
-use at_ddp::{Datagrams, Outbox};
+use at_ddp::{ADSP, Datagrams, Outbox};
 use at_event::{Report, Seat};
 use std::alloc::{Allocator, Global};
 use std::marker::Model;
-use std::mem;
 
 /// The socket of a node for streams.
 pub const STREAM_SOCKET: u8 = 130;
-
-/// The protocol of ADSP's datagrams.
-pub const ADSP: u8 = 7;
 
 /// The socket of a node for streams, with all its ends.
 #[derive(Drop)]
@@ -81,8 +78,7 @@ pub(crate) fn outbox_over<A: Allocator + Copy>(
     ensures from { result.from ≡ streams_at seat.net seat.number }
     ensures kind { result.kind ≡ adsp_kind }
 {
-    let own = seat.at(STREAM_SOCKET);
-    Outbox::over(mem::replace(list, Datagrams::new(alloc)), own, ADSP)
+    Outbox::lent(alloc, list, seat.at(STREAM_SOCKET), ADSP)
 }
 
 // The report of a step.

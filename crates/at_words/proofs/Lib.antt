@@ -1,3 +1,4 @@
+pub mod Digits
 mod HexLemmas
 mod NumberLemmas
 mod TextLemmas

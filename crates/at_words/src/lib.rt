@@ -7,4 +7,4 @@ mod word;
 
 pub use hex_word::{HexFault, bytes_of, user_of};
 pub use text_word::{any_byte, text, zone_name};
-pub use word::{Words, byte, node_number, number, positive, two_bytes};
+pub use word::{Words, byte, is_word, node_number, number, positive, two_bytes};

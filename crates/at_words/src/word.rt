@@ -149,3 +149,10 @@ pub fn two_bytes(word: &[u8]) -> Option<u16>
 {
     u16::try_from(number(word)?).ok()
 }
+
+/// Whether a word is a known one.
+pub fn is_word(word: &[u8], known: &[u8]) -> bool
+    ensures { result ≡ true ↔ word.now ≡ known.now }
+{
+    word == known
+}

@@ -14,7 +14,8 @@ called_at (event.Timer node time) call is = absurd (cc)
 called_at (event.Forge node bytes) call is = absurd (cc)
 
 pub delivered_at : {A : Type 0} (e : Event A) (which : ℕ) → act_of e ≡ Gets which → e ≡ event.Deliver which (node_of e)
-delivered_at (event.Deliver which' node) which is = let same : which' ≡ which = cc in ap (λ i. event.Deliver i node) same
+delivered_at (event.Deliver which' node) which is = let same : which'
+    ≡ which = cc in ap (λ i. event.Deliver i node) same
 delivered_at (event.Call node call) which is = absurd (cc)
 delivered_at (event.Timer node time) which is = absurd (cc)
 delivered_at (event.Forge node bytes) which is = absurd (cc)

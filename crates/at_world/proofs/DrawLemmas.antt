@@ -3,8 +3,8 @@ use Rattle.std.proofs.Common.{◌≡◌, ℕ, Bool, false, cond, [], ◌∷◌, 
 use Rattle.std.specs.Prelude.{◌==◌, ◌&&◌}
 use Rattle.std.specs.Map.{lookup}
 use Rattle.indexmap.specs.IndexMap.{insert_entry}
-use Rattle.at_node.specs.declared.drawing.Draw.{Draw}
-use Rattle.at_node.specs.declared.drawing.Draw.TheVariants.{Conn, Lookup, Tid}
+use Rattle.at_node.specs.declared.numbers.Draw.{Draw}
+use Rattle.at_node.specs.declared.numbers.Draw.TheVariants.{Conn, Lookup, Tid}
 use Rattle.at_world.specs.Draws.{Draws, same_draw, is_number, last_of, drawn_at}
 
 -- an equality of draws that tells numbers of one kind apart, and kinds
@@ -19,7 +19,8 @@ pub record TellsApart (eq : Draw → Draw → Bool) : Type 0 where
   pub conn_tid : (a b : ℕ) → eq (Conn a) (Tid b) ≡ false
   pub conn_lookup : (a b : ℕ) → eq (Conn a) (Lookup b) ≡ false
 
-module _ (eq_node : ℕ → ℕ → Bool) (eq_draw : Draw → Draw → Bool) (nodes : (a b : ℕ) → eq_node a b ≡ (a == b)) (tells : TellsApart eq_draw) where
+module _ (eq_node : ℕ → ℕ → Bool) (eq_draw : Draw → Draw → Bool) (nodes : (a b : ℕ) → eq_node a b ≡ (a == b))
+    (tells : TellsApart eq_draw) where
   draws : (x y : Draw) → eq_draw x y ≡ same_draw x y
   draws (Tid a) (Tid b) = tells.tids a b
   draws (Lookup a) (Lookup b) = tells.lookups a b
@@ -31,13 +32,18 @@ module _ (eq_node : ℕ → ℕ → Bool) (eq_draw : Draw → Draw → Bool) (no
   draws (Conn a) (Tid b) = tells.conn_tid a b
   draws (Conn a) (Lookup b) = tells.conn_lookup a b
 
-  pub alike : (node : ℕ) (draw : Draw) (number : ℕ × Draw) → (eq_node node number.0 && eq_draw draw number.1) ≡ is_number node draw number
+  pub alike : (node : ℕ) (draw : Draw) (number : ℕ × Draw) → (eq_node node number.0 && eq_draw draw number.1)
+      ≡ is_number node draw number
   alike node draw number = λ i. nodes node number.0 i && draws draw number.1 i
 
-  pub inserted : (es : Draws) (node : ℕ) (draw : Draw) (event : ℕ) → insert_entry (λ (k l : ℕ × Draw). eq_node k.0 l.0 && eq_draw k.1 l.1) es (node, draw) event ≡ drawn_at es node draw event
+  pub inserted : (es : Draws) (node : ℕ) (draw : Draw) (event : ℕ)
+      → insert_entry (λ (k l : ℕ × Draw). eq_node k.0 l.0 && eq_draw k.1 l.1) es (node, draw) event
+      ≡ drawn_at es node draw event
   inserted [] node draw event = refl
-  inserted (e ∷ es) node draw event = λ i. cond (alike node draw e.0 i) ((e.0, event) ∷ es) (e ∷ inserted es node draw event i)
+  inserted (e ∷ es) node draw event = λ i. cond (alike node draw e.0 i) ((e.0, event) ∷ es)
+      (e ∷ inserted es node draw event i)
 
-  pub found : (es : Draws) (node : ℕ) (draw : Draw) → lookup (λ (l : ℕ × Draw). eq_node node l.0 && eq_draw draw l.1) es ≡ last_of es node draw
+  pub found : (es : Draws) (node : ℕ) (draw : Draw)
+      → lookup (λ (l : ℕ × Draw). eq_node node l.0 && eq_draw draw l.1) es ≡ last_of es node draw
   found [] node draw = refl
   found (e ∷ es) node draw = λ i. cond (alike node draw e.0 i) (Some e.1) (found es node draw i)

@@ -2,8 +2,8 @@
 use Rattle.std.proofs.Common.{Bor, ◌≡◌, ℕ, false, List, None, Some, sym, subst}
 use Rattle.std.specs.Prelude.{Result, Ok, Err, IfOk, IfErr}
 use Rattle.at_event.specs.Calls.{IsCall}
-use Rattle.at_node.specs.Drawing.{Draws as DrawsFor}
-use Rattle.at_node.specs.declared.drawing.Input.TheVariants as input
+use Rattle.at_node.specs.Numbers.{Draws as DrawsFor}
+use Rattle.at_node.specs.declared.numbers.Input.TheVariants as input
 use Rattle.at_event.specs.declared.event.Call.{Call}
 use Rattle.at_event.specs.declared.event.Report.{Report}
 use Rattle.at_event.specs.declared.event.Timer.{Timer}
@@ -12,74 +12,129 @@ use Rattle.at_setup.specs.declared.event.Event.TheVariants as event
 use Rattle.at_world.specs.declared.refusal.Refusal.TheVariants.{Limit, NoDatagram, NotForNode, Untimely}
 use Rattle.at_world.specs.declared.refusal.Fault.{Fault}
 use Rattle.at_world.specs.declared.refusal.Fault.TheVariants as fault
-use Rattle.at_world.specs.Worlds.{WorldState, is_over, DrawsFree, IsPlayable, IsNotTaken, IsFault, Plays, PlaysAt, PlaysDelivery, Takes}
+use Rattle.at_world.specs.Worlds.{WorldState, is_over, DrawsFree, IsPlayable, IsNotTaken, IsFault, Plays, PlaysAt}
+use Rattle.at_world.specs.Worlds.{PlaysDelivery, Takes}
 use Rattle.at_world.proofs.DeliveryLemmas.{refused_at}
 use Rattle.at_world.proofs.WorldLemmas.{one_stands}
 
-module _ (A : Type 0) (w w' : WorldState) (e : Event A) (k : ℕ) (time : Timer) (answer : Result (Report A) Fault) (is : e ≡ event.Timer k time) (runs : is_over w ≡ false) where
-  pub fired : IfOk answer (λ r. PlaysAt w k (Takes {A = A} (input.Timer time)) r w') → IfOk answer (λ r. DrawsFree w k (λ n x. DrawsFor {A = A} n (input.Timer time) x)) → IfOk answer (λ r. IsPlayable w e × Plays w e r w')
+module _ (A : Type 0) (w w' : WorldState) (e : Event A) (k : ℕ) (time : Timer) (answer : Result (Report A) Fault)
+    (is : e ≡ event.Timer k time) (runs : is_over w ≡ false) where
+  pub fired : IfOk answer (λ r. PlaysAt w k (Takes {A = A} (input.Timer time)) r w')
+      → IfOk answer (λ r. DrawsFree w k (λ n x. DrawsFor {A = A} n (input.Timer time) x))
+      → IfOk answer (λ r. IsPlayable w e × Plays w e r w')
   fired h free = subst (λ x. IfOk answer (λ r. IsPlayable w x × Plays w x r w')) (sym is) (go answer h free)
     where
-      go : (a : Result (Report A) Fault) → IfOk a (λ r. PlaysAt w k (Takes {A = A} (input.Timer time)) r w') → IfOk a (λ r. DrawsFree w k (λ n x. DrawsFor {A = A} n (input.Timer time) x)) → IfOk a (λ r. IsPlayable {A = A} w (event.Timer k time) × Plays w (event.Timer k time) r w')
+      go : (a : Result (Report A) Fault) → IfOk a (λ r. PlaysAt w k (Takes {A = A} (input.Timer time)) r w')
+          → IfOk a (λ r. DrawsFree w k (λ n x. DrawsFor {A = A} n (input.Timer time) x))
+          → IfOk a (λ r. IsPlayable {A = A} w (event.Timer k time) × Plays w (event.Timer k time) r w')
       go (Err f) p q = tt
-      go (Ok r) p q = (record { allowed = refused_at A w (event.Timer k time) None runs (one_stands w k p.node p.stands); timely = q }, p)
+      go (Ok r) p q = (
+        record {
+          allowed = refused_at A w (event.Timer k time) None runs
+              (one_stands w k p.node p.stands);
+          timely = q;
+        },
+        p,
+      )
 
-  pub not_fired : IfErr answer (λ f. IsNotTaken {A = A} w k (input.Timer time) f w') → IfErr answer (λ f. IsFault w e f w')
+  pub not_fired : IfErr answer (λ f. IsNotTaken {A = A} w k (input.Timer time) f w')
+      → IfErr answer (λ f. IsFault w e f w')
   not_fired h = subst (λ x. IfErr answer (λ f. IsFault w x f w')) (sym is) (go answer h)
     where
-      go : (a : Result (Report A) Fault) → IfErr a (λ f. IsNotTaken {A = A} w k (input.Timer time) f w') → IfErr a (λ f. IsFault {A = A} w (event.Timer k time) f w')
+      go : (a : Result (Report A) Fault) → IfErr a (λ f. IsNotTaken {A = A} w k (input.Timer time) f w')
+          → IfErr a (λ f. IsFault {A = A} w (event.Timer k time) f w')
       go (Ok r) p = tt
-      go (Err fault.NoMemory) p = (p.0, p.1, λ whole. record { allowed = refused_at A w (event.Timer k time) None runs p.2; timely = p.3 })
+      go (Err fault.NoMemory) p =
+          (p.0, p.1, λ whole. record { allowed = refused_at A w (event.Timer k time) None runs p.2; timely = p.3 })
       go (Err (fault.Refused Limit)) p = (refused_at A w (event.Timer k time) (Some Limit) runs p.0, p.1)
       go (Err (fault.Refused NoDatagram)) p = (refused_at A w (event.Timer k time) (Some NoDatagram) runs p.0, p.1)
       go (Err (fault.Refused NotForNode)) p = (refused_at A w (event.Timer k time) (Some NotForNode) runs p.0, p.1)
       go (Err (fault.Refused Untimely)) p = ((refused_at A w (event.Timer k time) None runs p.0, p.1), p.2)
 
 -- a call draws a number only if it is free
-module _ (A : Type 0) (w w' : WorldState) (e : Event A) (k : ℕ) (call : Call A) (lent : Bor (Call A)) (answer : Result (Report A) Fault) (is : e ≡ event.Call k call) (same : lent.now ≡ call) (runs : is_over w ≡ false) where
-  pub called_by : IfOk answer (λ r. PlaysAt w k (Takes {A = A} (input.Call lent)) r w') → IfOk answer (λ r. DrawsFree w k (λ n x. DrawsFor n (input.Call lent) x)) → IsCall call → IfOk answer (λ r. IsPlayable w e × Plays w e r w')
+module _ (A : Type 0) (w w' : WorldState) (e : Event A) (k : ℕ) (call : Call A) (lent : Bor (Call A))
+    (answer : Result (Report A) Fault) (is : e ≡ event.Call k call) (same : lent.now ≡ call)
+    (runs : is_over w ≡ false) where
+  pub called_by : IfOk answer (λ r. PlaysAt w k (Takes {A = A} (input.Call lent)) r w')
+      → IfOk answer (λ r. DrawsFree w k (λ n x. DrawsFor n (input.Call lent) x)) → IsCall call
+      → IfOk answer (λ r. IsPlayable w e × Plays w e r w')
   called_by h free range = subst (λ x. IfOk answer (λ r. IsPlayable w x × Plays w x r w')) (sym is)
-      (subst (λ (x : Call A). IfOk answer (λ r. IsPlayable w (event.Call k x) × Plays w (event.Call k x) r w')) same (go answer h free (subst (λ (x : Call A). IsCall x) (sym same) range)))
+      (subst (λ (x : Call A). IfOk answer (λ r. IsPlayable w (event.Call k x) × Plays w (event.Call k x) r w')) same
+      (go answer h free (subst (λ (x : Call A). IsCall x) (sym same) range)))
     where
-      go : (a : Result (Report A) Fault) → IfOk a (λ r. PlaysAt w k (Takes {A = A} (input.Call lent)) r w') → IfOk a (λ r. DrawsFree w k (λ n x. DrawsFor n (input.Call lent) x)) → IsCall lent.now
+      go : (a : Result (Report A) Fault) → IfOk a (λ r. PlaysAt w k (Takes {A = A} (input.Call lent)) r w')
+          → IfOk a (λ r. DrawsFree w k (λ n x. DrawsFor n (input.Call lent) x)) → IsCall lent.now
           → IfOk a (λ r. IsPlayable {A = A} w (event.Call k lent.now) × Plays w (event.Call k lent.now) r w')
       go (Err f) p q range' = tt
-      go (Ok r) p q range' = (record { allowed = refused_at A w (event.Call k lent.now) None runs (one_stands w k p.node p.stands); timely = q }, (p, range'))
+      go (Ok r) p q range' = (
+        record {
+          allowed = refused_at A w (event.Call k lent.now) None runs
+              (one_stands w k p.node p.stands);
+          timely = q;
+        },
+        (p, range'),
+      )
 
-  pub not_called : IfErr answer (λ f. IsNotTaken {A = A} w k (input.Call lent) f w') → IfErr answer (λ f. IsFault w e f w')
-  not_called h = subst (λ x. IfErr answer (λ f. IsFault w x f w')) (sym is) (subst (λ (x : Call A). IfErr answer (λ f. IsFault w (event.Call k x) f w')) same (go answer h))
+  pub not_called : IfErr answer (λ f. IsNotTaken {A = A} w k (input.Call lent) f w')
+      → IfErr answer (λ f. IsFault w e f w')
+  not_called h = subst (λ x. IfErr answer (λ f. IsFault w x f w')) (sym is)
+      (subst (λ (x : Call A). IfErr answer (λ f. IsFault w (event.Call k x) f w')) same (go answer h))
     where
-      go : (a : Result (Report A) Fault) → IfErr a (λ f. IsNotTaken {A = A} w k (input.Call lent) f w') → IfErr a (λ f. IsFault {A = A} w (event.Call k lent.now) f w')
+      go : (a : Result (Report A) Fault) → IfErr a (λ f. IsNotTaken {A = A} w k (input.Call lent) f w')
+          → IfErr a (λ f. IsFault {A = A} w (event.Call k lent.now) f w')
       go (Ok r) p = tt
-      go (Err fault.NoMemory) p = (p.0, p.1, λ whole. record { allowed = refused_at A w (event.Call k lent.now) None runs p.2; timely = p.3 })
+      go (Err fault.NoMemory) p =
+          (p.0, p.1, λ whole. record { allowed = refused_at A w (event.Call k lent.now) None runs p.2; timely = p.3 })
       go (Err (fault.Refused Limit)) p = (refused_at A w (event.Call k lent.now) (Some Limit) runs p.0, p.1)
       go (Err (fault.Refused NoDatagram)) p = (refused_at A w (event.Call k lent.now) (Some NoDatagram) runs p.0, p.1)
       go (Err (fault.Refused NotForNode)) p = (refused_at A w (event.Call k lent.now) (Some NotForNode) runs p.0, p.1)
       go (Err (fault.Refused Untimely)) p = ((refused_at A w (event.Call k lent.now) None runs p.0, p.1), p.2)
 
 -- bytes that no node sent draw a number only if it is free
-module _ (A : Type 0) (w w' : WorldState) (e : Event A) (k : ℕ) (bytes : List ℕ) (lent : Bor (List ℕ)) (answer : Result (Report A) Fault) (is : e ≡ event.Forge k bytes) (same : lent.now ≡ bytes) (runs : is_over w ≡ false) where
-  pub forged : IfOk answer (λ r. PlaysAt w k (Takes {A = A} (input.Received lent)) r w') → IfOk answer (λ r. DrawsFree w k (λ n x. DrawsFor {A = A} n (input.Received lent) x)) → IfOk answer (λ r. IsPlayable w e × Plays w e r w')
-  forged h free = subst (λ x. IfOk answer (λ r. IsPlayable w x × Plays w x r w')) (sym is) (subst (λ x. IfOk answer (λ r. IsPlayable {A = A} w (event.Forge k x) × Plays w (event.Forge k x) r w')) same (go answer h free))
+module _ (A : Type 0) (w w' : WorldState) (e : Event A) (k : ℕ) (bytes : List ℕ) (lent : Bor (List ℕ))
+    (answer : Result (Report A) Fault) (is : e ≡ event.Forge k bytes) (same : lent.now ≡ bytes)
+    (runs : is_over w ≡ false) where
+  pub forged : IfOk answer (λ r. PlaysAt w k (Takes {A = A} (input.Received lent)) r w')
+      → IfOk answer (λ r. DrawsFree w k (λ n x. DrawsFor {A = A} n (input.Received lent) x))
+      → IfOk answer (λ r. IsPlayable w e × Plays w e r w')
+  forged h free = subst (λ x. IfOk answer (λ r. IsPlayable w x × Plays w x r w')) (sym is)
+      (subst (λ x. IfOk answer (λ r. IsPlayable {A = A} w (event.Forge k x) × Plays w (event.Forge k x) r w')) same
+      (go answer h free))
     where
-      go : (a : Result (Report A) Fault) → IfOk a (λ r. PlaysAt w k (Takes {A = A} (input.Received lent)) r w') → IfOk a (λ r. DrawsFree w k (λ n x. DrawsFor {A = A} n (input.Received lent) x)) → IfOk a (λ r. IsPlayable {A = A} w (event.Forge k lent.now) × Plays w (event.Forge k lent.now) r w')
+      go : (a : Result (Report A) Fault) → IfOk a (λ r. PlaysAt w k (Takes {A = A} (input.Received lent)) r w')
+          → IfOk a (λ r. DrawsFree w k (λ n x. DrawsFor {A = A} n (input.Received lent) x))
+          → IfOk a (λ r. IsPlayable {A = A} w (event.Forge k lent.now) × Plays w (event.Forge k lent.now) r w')
       go (Err f) p q = tt
-      go (Ok r) p q = (record { allowed = refused_at A w (event.Forge k lent.now) None runs (one_stands w k p.node p.stands); timely = q }, p)
+      go (Ok r) p q = (
+        record {
+          allowed = refused_at A w (event.Forge k lent.now) None runs
+              (one_stands w k p.node p.stands);
+          timely = q;
+        },
+        p,
+      )
 
-  pub not_forged : IfErr answer (λ f. IsNotTaken {A = A} w k (input.Received lent) f w') → IfErr answer (λ f. IsFault w e f w')
-  not_forged h = subst (λ x. IfErr answer (λ f. IsFault w x f w')) (sym is) (subst (λ x. IfErr answer (λ f. IsFault {A = A} w (event.Forge k x) f w')) same (go answer h))
+  pub not_forged : IfErr answer (λ f. IsNotTaken {A = A} w k (input.Received lent) f w')
+      → IfErr answer (λ f. IsFault w e f w')
+  not_forged h = subst (λ x. IfErr answer (λ f. IsFault w x f w')) (sym is)
+      (subst (λ x. IfErr answer (λ f. IsFault {A = A} w (event.Forge k x) f w')) same (go answer h))
     where
-      go : (a : Result (Report A) Fault) → IfErr a (λ f. IsNotTaken {A = A} w k (input.Received lent) f w') → IfErr a (λ f. IsFault {A = A} w (event.Forge k lent.now) f w')
+      go : (a : Result (Report A) Fault) → IfErr a (λ f. IsNotTaken {A = A} w k (input.Received lent) f w')
+          → IfErr a (λ f. IsFault {A = A} w (event.Forge k lent.now) f w')
       go (Ok r) p = tt
-      go (Err fault.NoMemory) p = (p.0, p.1, λ whole. record { allowed = refused_at A w (event.Forge k lent.now) None runs p.2; timely = p.3 })
+      go (Err fault.NoMemory) p =
+          (p.0, p.1, λ whole. record { allowed = refused_at A w (event.Forge k lent.now) None runs p.2; timely = p.3 })
       go (Err (fault.Refused Limit)) p = (refused_at A w (event.Forge k lent.now) (Some Limit) runs p.0, p.1)
       go (Err (fault.Refused NoDatagram)) p = (refused_at A w (event.Forge k lent.now) (Some NoDatagram) runs p.0, p.1)
       go (Err (fault.Refused NotForNode)) p = (refused_at A w (event.Forge k lent.now) (Some NotForNode) runs p.0, p.1)
       go (Err (fault.Refused Untimely)) p = ((refused_at A w (event.Forge k lent.now) None runs p.0, p.1), p.2)
 
-module _ (A : Type 0) (w w' : WorldState) (e : Event A) (which k : ℕ) (answer : Result (Report A) Fault) (is : e ≡ event.Deliver which k) where
-  pub came : IfOk answer (λ r. IsPlayable {A = A} w (event.Deliver which k) × PlaysDelivery w which k r w') → IfOk answer (λ r. IsPlayable w e × Plays w e r w')
+module _ (A : Type 0) (w w' : WorldState) (e : Event A) (which k : ℕ) (answer : Result (Report A) Fault)
+    (is : e ≡ event.Deliver which k) where
+  pub came : IfOk answer (λ r. IsPlayable {A = A} w (event.Deliver which k) × PlaysDelivery w which k r w')
+      → IfOk answer (λ r. IsPlayable w e × Plays w e r w')
   came h = subst (λ x. IfOk answer (λ r. IsPlayable w x × Plays w x r w')) (sym is) h
 
-  pub not_came : IfErr answer (λ f. IsFault {A = A} w (event.Deliver which k) f w') → IfErr answer (λ f. IsFault w e f w')
+  pub not_came : IfErr answer (λ f. IsFault {A = A} w (event.Deliver which k) f w')
+      → IfErr answer (λ f. IsFault w e f w')
   not_came h = subst (λ x. IfErr answer (λ f. IsFault w x f w')) (sym is) h

@@ -1,5 +1,6 @@
 -- A play goes on by one event.
-use Rattle.std.proofs.Common.{◌≡◌, ℕ, ◌+◌, ◌<◌, List, [], ◌∷◌, ◌++◌, length, take, Option, Some, inl, refl, sym, ap, subst, ◌∙◌, get_or}
+use Rattle.std.proofs.Common.{◌≡◌, ℕ, ◌+◌, ◌<◌, List, [], ◌∷◌, ◌++◌, length, take, Option, Some, inl, refl, sym, ap}
+use Rattle.std.proofs.Common.{subst, ◌∙◌, get_or}
 use Rattle.std.proofs.lemmas.List.{take_more}
 use Rattle.std.proofs.lemmas.Option.{slice_get-get_or}
 use Rattle.std.specs.Prelude.{slice_get, IsSome}
@@ -10,19 +11,30 @@ use Rattle.at_world.specs.declared.refusal.Fault.TheVariants.{Refused, NoMemory}
 use Rattle.at_world.specs.Worlds.{WorldState, IsPlayable, Plays, IsFault}
 use Rattle.at_world.specs.Plays.{Follows, StopsAt, IsRefused}
 
-one_more : (A : Type 0) (w : WorldState) (es : List (Event A)) (rs : List (Report A)) (mid : WorldState) (e : Event A) (r : Report A) (w' : WorldState) → Follows w es rs mid → IsPlayable mid e → Plays mid e r w' → Follows w (es ++ e ∷ []) (rs ++ r ∷ []) w'
-one_more A w [] [] mid e r w' h fine plays = (w', subst (λ x. IsPlayable x e) h fine, subst (λ x. Plays x e r w') h plays, refl)
+one_more : (A : Type 0) (w : WorldState) (es : List (Event A)) (rs : List (Report A)) (mid : WorldState) (e : Event A)
+    (r : Report A) (w' : WorldState) → Follows w es rs mid → IsPlayable mid e → Plays mid e r w'
+    → Follows w (es ++ e ∷ []) (rs ++ r ∷ []) w'
+one_more A w [] [] mid e r w' h fine plays =
+    (w', subst (λ x. IsPlayable x e) h fine, subst (λ x. Plays x e r w') h plays, refl)
 one_more A w (a ∷ es) (b ∷ rs) mid e r w' h fine plays = (h.0, h.1, h.2, one_more A h.0 es rs mid e r w' h.3 fine plays)
 one_more A w [] (b ∷ rs) mid e r w' h fine plays = absurd h
 one_more A w (a ∷ es) [] mid e r w' h fine plays = absurd h
 
-pub follows_more : (A : Type 0) (w : WorldState) (es : List (Event A)) (i : ℕ) (e : Event A) (rs : List (Report A)) (mid : WorldState) (r : Report A) (w' : WorldState) → i < length es → e ≡ get_or es i e → Follows w (take i es) rs mid →
+pub follows_more : (A : Type 0) (w : WorldState) (es : List (Event A)) (i : ℕ) (e : Event A) (rs : List (Report A))
+    (mid : WorldState) (r : Report A) (w' : WorldState) → i < length es → e ≡ get_or es i e
+    → Follows w (take i es) rs mid →
     IsPlayable mid e → Plays mid e r w' → Follows w (take (i + 1) es) (rs ++ r ∷ []) w'
 follows_more A w es i e rs mid r w' within is h fine plays =
-    subst (λ l. Follows w l (rs ++ r ∷ []) w') (sym (take_more es i e within ∙ ap (λ x. take i es ++ x ∷ []) (sym is))) (one_more A w (take i es) rs mid e r w' h fine plays)
+    subst (λ l. Follows w l (rs ++ r ∷ []) w') (sym (take_more es i e within ∙ ap (λ x. take i es ++ x ∷ []) (sym is)))
+    (one_more A w (take i es) rs mid e r w' h fine plays)
 
 -- if the world's step did not play an event, the play stops there
-pub stops : (A : Type 0) (w : WorldState) (es : List (Event A)) (i : ℕ) (e : Event A) (f : Fault) (w' : WorldState) → i < length es → e ≡ get_or es i e → IsFault w e f w' → StopsAt w (slice_get es i) f i × (w'.sent ≡ w.sent)
-stops A w es i e (Refused r) w' within is h =
-    (subst (λ o. IsRefused w o r) (sym (slice_get-get_or es i e within ∙ ap (λ x. Some x) (sym is))) h.0, ap (λ (x : WorldState). x.sent) h.1)
-stops A w es i e NoMemory w' within is h = (inl (subst (λ (o : Option (Event A)). IsSome o) (sym (slice_get-get_or es i e within)) refl), h.1)
+pub stops : (A : Type 0) (w : WorldState) (es : List (Event A)) (i : ℕ) (e : Event A) (f : Fault) (w' : WorldState)
+    → i < length es → e ≡ get_or es i e → IsFault w e f w' → StopsAt w (slice_get es i) f i × (w'.sent ≡ w.sent)
+stops A w es i e (Refused r) w' within is h = (
+  subst (λ o. IsRefused w o r) (sym (slice_get-get_or es i e within ∙ ap (λ x. Some x) (sym is))) h.0,
+  ap
+      (λ (x : WorldState). x.sent) h.1,
+)
+stops A w es i e NoMemory w' within is h =
+    (inl (subst (λ (o : Option (Event A)). IsSome o) (sym (slice_get-get_or es i e within)) refl), h.1)

@@ -1,5 +1,6 @@
 -- What a lawful setup has.
-use Rattle.std.proofs.Common.{◌≡◌, ℕ, ◌<◌, ◌≤◌, Bool, true, false, cond, List, [], ◌∷◌, length, nat_le, Option, Some, None, refl, arith}
+use Rattle.std.proofs.Common.{◌≡◌, ℕ, ◌<◌, ◌≤◌, Bool, true, false, cond, List, [], ◌∷◌, length, nat_le, Option, Some}
+use Rattle.std.proofs.Common.{None, refl, arith}
 use Rattle.std.specs.Prelude.{count_by, find, is_none, option_map, ◌==◌, ◌&&◌, ◌||◌, nat_lt}
 use Rattle.std.specs.List.{list_all}
 use Rattle.at_zip.specs.Zones.{IsName, IsTable, is_name, table_fault}
@@ -8,7 +9,8 @@ use Rattle.std.proofs.lemmas.List.{length-map}
 use Rattle.at_setup.specs.declared.setup.NodeSetup.{NodeSetup}
 use Rattle.at_setup.specs.declared.setup.Setup.{Setup}
 use Rattle.at_world.specs.Plays.{opening_node, opening_world, router_of}
-use Rattle.at_setup.specs.Setups.{is_lawful_node, is_room, stands_once, has_router, are_in_zones, are_lawful_nodes, is_lawful_table, is_lawful}
+use Rattle.at_setup.specs.Setups.{is_lawful_node, is_room, stands_once, has_router, are_in_zones, are_lawful_nodes}
+use Rattle.at_setup.specs.Setups.{is_lawful_table, is_lawful}
 
 -- what the layer below promises of names and tables
 pub record SetupLaws : Type 0 where
@@ -31,11 +33,14 @@ pub lawful_has : (A : Type 0) (s : Setup A) → is_lawful s ≡ true → Lawful 
 lawful_has A s ok =
     let ns = s.nodes in
     let router = has_router ns in
-    let a = and_parts (nat_lt 0 s.net && nat_lt s.net 65536 && are_lawful_nodes ns) (is_lawful_table router s.zones) ok in
+    let a = and_parts (nat_lt 0 s.net && nat_lt s.net 65536 && are_lawful_nodes ns)
+    (is_lawful_table router s.zones) ok in
     let b = and_parts (nat_lt 0 s.net && nat_lt s.net 65536) (are_lawful_nodes ns) a.0 in
     let c = and_parts (nat_lt 0 s.net) (nat_lt s.net 65536) b.0 in
-    let d = and_parts (nat_le (length ns) 16 && list_all is_lawful_node ns && list_all (stands_once ns) ns && nat_le (count_by (λ n. n.router) ns) 1) (are_in_zones ns) b.1 in
-    let e = and_parts (nat_le (length ns) 16 && list_all is_lawful_node ns && list_all (stands_once ns) ns) (nat_le (count_by (λ n. n.router) ns) 1) d.0 in
+    let d = and_parts (nat_le (length ns) 16 && list_all is_lawful_node ns && list_all (stands_once ns) ns
+    && nat_le (count_by (λ n. n.router) ns) 1) (are_in_zones ns) b.1 in
+    let e = and_parts (nat_le (length ns) 16 && list_all is_lawful_node ns && list_all (stands_once ns) ns)
+    (nat_le (count_by (λ n. n.router) ns) 1) d.0 in
     let f = and_parts (nat_le (length ns) 16 && list_all is_lawful_node ns) (list_all (stands_once ns) ns) e.0 in
     let g = and_parts (nat_le (length ns) 16) (list_all is_lawful_node ns) f.0 in
     let h = and_parts (is_none (table_fault s.zones)) (router || (length s.zones == 0)) a.1 in
@@ -66,7 +71,11 @@ lawful_node n h =
     let b = and_parts (nat_lt 0 n.node && nat_lt n.node 255) (is_room n.receive_room) a.0 in
     let c = and_parts (nat_lt 0 n.node) (nat_lt n.node 255) b.0 in
     let d = and_parts (nat_lt 0 n.receive_room) (nat_lt n.receive_room 65536) b.1 in
-    record { some = ltb-true 0 n.node c.0; small = ltb-true n.node 255 c.1; receives = ltb-true n.receive_room 65536 d.1 }
+    record {
+      some = ltb-true 0 n.node c.0;
+      small = ltb-true n.node 255 c.1;
+      receives = ltb-true n.receive_room 65536 d.1;
+    }
 
 pub node_fits : (n : NodeSetup) → is_lawful_node n ≡ true → n.node < 255
 node_fits n h = (lawful_node n h).small
@@ -76,7 +85,8 @@ pub router_fits : (ns : List NodeSetup) (r : ℕ) → list_all is_lawful_node ns
 router_fits [] r h is = absurd (cc)
 router_fits (n ∷ ns) r h is = go (λ each g. router_fits ns r each g) n.router is
   where
-    go : (list_all is_lawful_node ns ≡ true → router_of ns ≡ Some r → r < 256) → (b : Bool) → option_map (λ (x : NodeSetup). x.node) (cond b (Some n) (find (λ x. x.router) ns)) ≡ Some r → r < 256
+    go : (list_all is_lawful_node ns ≡ true → router_of ns ≡ Some r → r < 256) → (b : Bool)
+        → option_map (λ (x : NodeSetup). x.node) (cond b (Some n) (find (λ x. x.router) ns)) ≡ Some r → r < 256
     go ih true g =
         let same : n.node ≡ r = cc in
         let parts = and_parts (is_lawful_node n) (list_all is_lawful_node ns) h in

@@ -4,6 +4,7 @@ mod CableTie
 mod Canonical
 mod DeliveryLemmas
 mod DrawLemmas
+mod Entries
 mod EventLemmas
 mod Following
 mod FreshLemmas

@@ -1,9 +1,10 @@
 -- The numbers that were drawn in a world, and what it noted of them.
-use Rattle.std.proofs.Common.{◌≡◌, ℕ, ◌+◌, ◌<◌, ◌≤◌, Bool, true, false, cond, [], ◌∷◌, Option, Some, None, refl, sym, ap, ◌∙◌, arith}
+use Rattle.std.proofs.Common.{◌≡◌, ℕ, ◌+◌, ◌<◌, ◌≤◌, Bool, true, false, cond, [], ◌∷◌, Option, Some, None, refl, sym}
+use Rattle.std.proofs.Common.{ap, ◌∙◌, arith}
 use Rattle.std.specs.Prelude.{◌==◌, ◌&&◌}
 use Rattle.std.proofs.lemmas.Bool.{true≢false, false≢true, and_parts, eq-eqb, eqb-true, leb-true}
-use Rattle.at_node.specs.declared.drawing.Draw.{Draw}
-use Rattle.at_node.specs.declared.drawing.Draw.TheVariants.{Conn, Lookup, Tid}
+use Rattle.at_node.specs.declared.numbers.Draw.{Draw}
+use Rattle.at_node.specs.declared.numbers.Draw.TheVariants.{Conn, Lookup, Tid}
 use Rattle.at_world.specs.Draws.{Draws, is_number, same_draw, last_of, drawn_at, noted, is_no_later}
 
 -- the world's list has a number that an event drew, with that event or a later one, and no event to come
@@ -14,14 +15,16 @@ pub record Noted (last : Draws) (events node : ℕ) (draw : Draw) (event : ℕ) 
   pub past : latest < events
 
 -- a number that no later event drew is not older than this one
-pub not_later : (last : Draws) (events node : ℕ) (draw : Draw) (event now : ℕ) → Noted last events node draw event → is_no_later (last_of last node draw) now ≡ true → event ≤ now
+pub not_later : (last : Draws) (events node : ℕ) (draw : Draw) (event now : ℕ) → Noted last events node draw event
+    → is_no_later (last_of last node draw) now ≡ true → event ≤ now
 not_later last events node draw event now its fresh =
     let le = leb-true its.latest now (ap (λ o. is_no_later o now) (sym its.is_there) ∙ fresh) in
     let earlier = its.later in
     omega (arith, le, earlier)
 
 -- what a draw leaves: its own number at this event, and each other as it was
-last_after : (ds : Draws) (node : ℕ) (draw : Draw) (event j : ℕ) (d : Draw) → last_of (drawn_at ds node draw event) j d ≡ cond (is_number j d (node, draw)) (Some event) (last_of ds j d)
+last_after : (ds : Draws) (node : ℕ) (draw : Draw) (event j : ℕ) (d : Draw) → last_of (drawn_at ds node draw event) j d
+    ≡ cond (is_number j d (node, draw)) (Some event) (last_of ds j d)
 last_after [] node draw event j d = refl
 last_after (e ∷ ds) node draw event j d = go (last_after ds node draw event j d) (is_number node draw e.0) refl
   where
@@ -71,7 +74,9 @@ last_after (e ∷ ds) node draw event j d = go (last_after ds node draw event j 
     both_true : node ≡ e.0.0 → draw ≡ e.0.1 → is_number node draw e.0 ≡ true
     both_true num dr = λ i. eq-eqb node e.0.0 num i && draws_alike draw e.0.1 dr i
 
-    apart : is_number node draw e.0 ≡ false → (b : Bool) → is_number j d e.0 ≡ b → cond b (Some e.1) (cond (is_number j d (node, draw)) (Some event) (last_of ds j d)) ≡ cond (is_number j d (node, draw)) (Some event) (cond b (Some e.1) (last_of ds j d))
+    apart : is_number node draw e.0 ≡ false → (b : Bool) → is_number j d e.0 ≡ b
+        → cond b (Some e.1) (cond (is_number j d (node, draw)) (Some event) (last_of ds j d))
+        ≡ cond (is_number j d (node, draw)) (Some event) (cond b (Some e.1) (last_of ds j d))
     apart h false g = refl
     apart h true g = only (is_number j d (node, draw)) refl
       where
@@ -84,27 +89,45 @@ last_after (e ∷ ds) node draw event j d = go (last_after ds node draw event j 
             let dr : draw ≡ e.0.1 = sym (same_as d draw two.1) ∙ same_as d e.0.1 one.1 in
             absurd (true≢false (sym (both_true num dr) ∙ h))
 
-    go : last_of (drawn_at ds node draw event) j d ≡ cond (is_number j d (node, draw)) (Some event) (last_of ds j d) → (b : Bool) → is_number node draw e.0 ≡ b → last_of (cond b ((e.0, event) ∷ ds) (e ∷ drawn_at ds node draw event)) j d ≡ cond (is_number j d (node, draw)) (Some event) (last_of (e ∷ ds) j d)
+    go : last_of (drawn_at ds node draw event) j d ≡ cond (is_number j d (node, draw)) (Some event) (last_of ds j d)
+        → (b : Bool) → is_number node draw e.0 ≡ b
+        → last_of (cond b ((e.0, event) ∷ ds) (e ∷ drawn_at ds node draw event)) j d
+        ≡ cond (is_number j d (node, draw)) (Some event) (last_of (e ∷ ds) j d)
     go ih true h = replaced_one (is_number j d e.0) refl
       where
-        replaced_one : (b : Bool) → is_number j d e.0 ≡ b → cond b (Some event) (last_of ds j d) ≡ cond (is_number j d (node, draw)) (Some event) (cond b (Some e.1) (last_of ds j d))
+        replaced_one : (b : Bool) → is_number j d e.0 ≡ b → cond b (Some event) (last_of ds j d)
+            ≡ cond (is_number j d (node, draw)) (Some event) (cond b (Some e.1) (last_of ds j d))
         replaced_one true g = sym (ap (λ b. cond b (Some event) (Some e.1)) (ap (is_number j d) (sym (here h)) ∙ g))
-        replaced_one false g = sym (ap (λ b. cond b (Some event) (last_of ds j d)) (ap (is_number j d) (sym (here h)) ∙ g))
+        replaced_one false g = sym
+            (ap (λ b. cond b (Some event) (last_of ds j d)) (ap (is_number j d) (sym (here h)) ∙ g))
     go ih false h = ap (λ o. cond (is_number j d e.0) (Some e.1) o) ih ∙ apart h (is_number j d e.0) refl
 
 -- an event that draws a number, or none, leaves what was noted noted
-pub stays_noted : (last : Draws) (events k : ℕ) (o : Option Draw) (node : ℕ) (d : Draw) (event : ℕ) → Noted last events node d event → Noted (noted last k events o) (events + 1) node d event
-stays_noted last events k None node d event is = let past = is.past in record { latest = is.latest; is_there = is.is_there; later = is.later; past = omega (arith, past) }
+pub stays_noted : (last : Draws) (events k : ℕ) (o : Option Draw) (node : ℕ) (d : Draw) (event : ℕ)
+    → Noted last events node d event → Noted (noted last k events o) (events + 1) node d event
+stays_noted last events k None node d event is = let past = is.past in
+    record { latest = is.latest; is_there = is.is_there; later = is.later; past = omega (arith, past) }
 stays_noted last events k (Some draw) node d event is = go (is_number node d (k, draw)) refl
   where
     go : (b : Bool) → is_number node d (k, draw) ≡ b → Noted (drawn_at last k draw events) (events + 1) node d event
     go true e =
         let past = is.past in
         let later = is.later in
-        record { latest = events; is_there = last_after last k draw events node d ∙ ap (λ b. cond b (Some events) (last_of last node d)) e; later = omega (arith, past, later); past = omega arith }
+        record {
+          latest = events;
+          is_there = last_after last k draw events node d ∙ ap (λ b. cond b (Some events) (last_of last node d)) e;
+          later = omega (arith, past, later);
+          past = omega arith;
+        }
     go false e =
         let past = is.past in
-        record { latest = is.latest; is_there = last_after last k draw events node d ∙ ap (λ b. cond b (Some events) (last_of last node d)) e ∙ is.is_there; later = is.later; past = omega (arith, past) }
+        record {
+          latest = is.latest;
+          is_there = last_after last k draw events node d ∙ ap (λ b. cond b (Some events) (last_of last node d)) e
+              ∙ is.is_there;
+          later = is.later;
+          past = omega (arith, past);
+        }
 
 same_itself : (d : Draw) → same_draw d d ≡ true
 same_itself (Tid t) = eq-eqb t t refl
@@ -115,7 +138,8 @@ same_itself (Conn id) = eq-eqb id id refl
 pub noted_now : (last : Draws) (events k : ℕ) (d : Draw) → Noted (noted last k events (Some d)) (events + 1) k d events
 noted_now last events k d = record {
   latest = events;
-  is_there = last_after last k d events k d ∙ (λ i. cond (eq-eqb k k refl i && same_itself d i) (Some events) (last_of last k d));
+  is_there = last_after last k d events k d
+      ∙ (λ i. cond (eq-eqb k k refl i && same_itself d i) (Some events) (last_of last k d));
   later = omega arith;
   past = omega arith;
 }

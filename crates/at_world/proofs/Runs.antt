@@ -1,5 +1,6 @@
 -- Every play is a run of the machine.
-use Rattle.std.proofs.Common.{◌≡◌, ◌⊎◌, inl, inr, ⊎_elim, Bool, true, false, cond, List, [], ◌∷◌, map, take, Some, None, Result, Ok, Err, refl, sym, ap, subst, ◌∙◌}
+use Rattle.std.proofs.Common.{◌≡◌, ◌⊎◌, inl, inr, ⊎_elim, Bool, true, false, cond, List, [], ◌∷◌, map, take, Some, None}
+use Rattle.std.proofs.Common.{Result, Ok, Err, refl, sym, ap, subst, ◌∙◌}
 use Rattle.at_ddp.specs.Datagrams.{Posted}
 use Rattle.std.proofs.lemmas.Bool.{true≢false}
 use Rattle.at_event.specs.declared.event.Report.{Report}
@@ -41,7 +42,8 @@ use Rattle.at_world.specs.declared.refusal.Refusal.TheVariants.{Limit}
 
 -- the machine may answer an event so, and is tied to the world after it
 abbrev pub Follow : (A : Type 0) (w : WorldState) (m : Machine) → Tied A w m → Event A → Report A → WorldState → Type 0
-Follow A w m t e r w' = (m' : Machine) × Step m e r m' × (now : Tied A w' m') × Grown A m.cable (m.atp).table (t.atp).history (now.atp).history e r × (m'.cable ≡ m.cable)
+Follow A w m t e r w' = (m' : Machine) × Step m e r m' × (now : Tied A w' m')
+    × Grown A m.cable (m.atp).table (t.atp).history (now.atp).history e r × (m'.cable ≡ m.cable)
 
 -- what the layers below promise of each part
 pub record PartLaws (A : Type 0) : Type 0 where
@@ -59,40 +61,63 @@ Nothing r n after out = (r ≡ NoMemory) × (after ≡ n) × (out ≡ [])
 abbrev pub Its : {A : Type 0} → Outcome A NodeState → Report A → NodeState → List Posted → Type 0
 Its o r after out = (r ≡ o.report) × (after ≡ o.state) × (out ≡ map posted o.out)
 
-either : (A : Type 0) (o : Outcome A NodeState) (n : NodeState) (r : Report A) (after : NodeState) (out : List Posted) → IsStep o n [] r after out → Nothing r n after out ⊎ Its o r after out
+either : (A : Type 0) (o : Outcome A NodeState) (n : NodeState) (r : Report A) (after : NodeState) (out : List Posted)
+    → IsStep o n [] r after out → Nothing r n after out ⊎ Its o r after out
 either A o n NoMemory after out h = inl (refl, h.0, h.1)
 either A o n r after out h = inr h
 
-either_coming : (A : Type 0) (P : Outcome A NodeState → Type 0) (n : NodeState) (r : Report A) (after : NodeState) (out : List Posted) → Comes P n [] r after out → Nothing r n after out ⊎ ((o : Outcome A NodeState) × P o × Its o r after out)
+either_coming : (A : Type 0) (P : Outcome A NodeState → Type 0) (n : NodeState) (r : Report A) (after : NodeState)
+    (out : List Posted) → Comes P n [] r after out → Nothing r n after out
+    ⊎ ((o : Outcome A NodeState) × P o × Its o r after out)
 either_coming A P n NoMemory after out h = inl (refl, h.0, h.1)
 either_coming A P n r after out h = inr h
 
-module _ (A : Type 0) (w : WorldState) (m : Machine) (t : Tied A w m) (e : Event A) (n : NodeState) (stands : node_at w (node_of e) ≡ Some n) where
+module _ (A : Type 0) (w : WorldState) (m : Machine) (t : Tied A w m) (e : Event A) (n : NodeState)
+    (stands : node_at w (node_of e) ≡ Some n) where
   -- each part follows an outcome
   abbrev EachFollows : Outcome A NodeState → Type 0
-  EachFollows o = FollowsAtp A w m.cable m.atp t.cable t.atp e o × GoodNames A w m.cable m.sessions m.names (t.cable).wires e o × GoodStreams A w m.cable m.sessions m.streams (t.cable).wires e o × GoodSessions A w m.cable m.sessions e n o t.sessions stands
+  EachFollows o = FollowsAtp A w m.cable m.atp t.cable t.atp e o
+      × GoodNames A w m.cable m.sessions m.names (t.cable).wires e o
+      × GoodStreams A w m.cable m.sessions m.streams (t.cable).wires e o
+      × GoodSessions A w m.cable m.sessions e n o t.sessions stands
 
   -- the parts and the cable follow an outcome together
-  together : (o : Outcome A NodeState) → KeepsSeat n o → EachFollows o → Follow A w m t e o.report (recorded w (node_of e) o.report o.state (map posted o.out))
+  together : (o : Outcome A NodeState) → KeepsSeat n o → EachFollows o
+      → Follow A w m t e o.report (recorded w (node_of e) o.report o.state (map posted o.out))
   together o seat ((said, good), names, streams, sessions) =
       let cable = cable_next A w m.cable (node_of e) n o t.cable stands seat in
-      let both = subst (λ l. (x : AtpTie A (recorded w (node_of e) o.report o.state (map posted o.out)) m.cable l good.0) × Grown A m.cable (m.atp).table (t.atp).history x.history e o.report) (sym cable.1) (good.2, good.3) in
-      let tied_names = subst (λ l. NameTie (recorded w (node_of e) o.report o.state (map posted o.out)) m.cable l names.0) (sym cable.1) names.2 in
-      let tied_streams = subst (λ l. StreamTie (recorded w (node_of e) o.report o.state (map posted o.out)) m.cable l streams.0) (sym cable.1) streams.2 in (
+      let both = subst (λ l. (x : AtpTie A (recorded w (node_of e) o.report o.state (map posted o.out)) m.cable l
+      good.0) × Grown A m.cable (m.atp).table (t.atp).history x.history e o.report) (sym cable.1)
+      (good.2, good.3) in
+      let tied_names = subst (λ l. NameTie (recorded w (node_of e) o.report o.state (map posted o.out)) m.cable l
+      names.0) (sym cable.1) names.2 in
+      let tied_streams = subst
+      (λ l. StreamTie (recorded w (node_of e) o.report o.state (map posted o.out)) m.cable l streams.0)
+      (sym cable.1) streams.2 in (
         record { cable = m.cable; atp = good.0; names = names.0; streams = streams.0; sessions = sessions.0 },
-        record { cable = record { said = said; becomes = refl }; atp = good.1; names = names.1; streams = streams.1; sessions = sessions.1 },
+        record {
+          cable = record { said = said; becomes = refl };
+          atp = good.1;
+          names = names.1;
+          streams = streams.1;
+          sessions = sessions.1;
+        },
         record { cable = cable.0; atp = both.0; names = tied_names; streams = tied_streams; sessions = sessions.2 },
         both.1,
         refl,
       )
 
-  module _ (r : Report A) (after : NodeState) (out : List Posted) (w' : WorldState) (is : w' ≡ recorded w (node_of e) r after out) where
+  module _ (r : Report A) (after : NodeState) (out : List Posted) (w' : WorldState)
+      (is : w' ≡ recorded w (node_of e) r after out) where
     of_good : (o : Outcome A NodeState) → KeepsSeat n o → EachFollows o → Its o r after out → Follow A w m t e r w'
     of_good o seat good l =
         subst (Follow A w m t e r) (sym (is ∙ (λ i. recorded w (node_of e) (l.0 i) (l.1 i) (l.2 i))))
-        (subst (λ x. Follow A w m t e x (recorded w (node_of e) o.report o.state (map posted o.out))) (sym l.0) (together o seat good))
+        (subst (λ x. Follow A w m t e x (recorded w (node_of e) o.report o.state (map posted o.out))) (sym l.0)
+        (together o seat good))
 
-    of_nothing : PartLaws A → is_over w ≡ false → is_atp (owner_of {A = A} e NoMemory) ≡ false → is_nbp (owner_of {A = A} e NoMemory) ≡ false → is_adsp (owner_of {A = A} e NoMemory) ≡ false → Nothing r n after out → Follow A w m t e r w'
+    of_nothing : PartLaws A → is_over w ≡ false → is_atp (owner_of {A = A} e NoMemory) ≡ false
+        → is_nbp (owner_of {A = A} e NoMemory) ≡ false → is_adsp (owner_of {A = A} e NoMemory) ≡ false
+        → Nothing r n after out → Follow A w m t e r w'
     of_nothing laws runs not_atp not_nbp not_adsp l =
         let has = t.sessions in
         let its = has.sessions (node_of e) n stands in
@@ -101,10 +126,14 @@ module _ (A : Type 0) (w : WorldState) (m : Machine) (t : Tied A w m) (e : Event
         let seat = seats.seats (node_of e) n stands in
         let number = seat.number in
         of_good (idle n NoMemory) refl (
-          passed A laws.atp w m.cable m.atp t.cable t.atp e n stands (idle n NoMemory) refl (record { same = refl; sends = tt; reports = not_atp; said = tt }),
-          named.passed A laws.names w m.cable m.sessions m.names t.cable t.sessions t.names e n stands (idle n NoMemory) refl (record { same = refl; sends = tt; reports = not_nbp }),
-          streamed.passed A laws.streams w m.cable m.sessions m.streams t.cable t.sessions t.streams runs e n stands (idle n NoMemory) refl (record { same = refl; sends = tt; reports = not_adsp }),
-          told.good_next A w m.cable m.sessions e n (idle n NoMemory) t.sessions stands number (told.nothing_steps A n.session (act_of e)) fits,
+          passed A laws.atp w m.cable m.atp t.cable t.atp e n stands (idle n NoMemory) refl
+              (record { same = refl; sends = tt; reports = not_atp; said = tt }),
+          named.passed A laws.names w m.cable m.sessions m.names t.cable t.sessions t.names e n stands
+              (idle n NoMemory) refl (record { same = refl; sends = tt; reports = not_nbp }),
+          streamed.passed A laws.streams w m.cable m.sessions m.streams t.cable t.sessions t.streams runs e n stands
+              (idle n NoMemory) refl (record { same = refl; sends = tt; reports = not_adsp }),
+          told.good_next A w m.cable m.sessions e n (idle n NoMemory) t.sessions stands number
+              (told.nothing_steps A n.session (act_of e)) fits,
         ) l
 
 -- ---- one event
@@ -117,7 +146,9 @@ still_runs w e allowed = go (is_over w) refl allowed
     go true is h = absurd (cc)
     go false is h = is
 
-followed : (A : Type 0) → PartLaws A → (w : WorldState) (m : Machine) (e : Event A) (r : Report A) (w' : WorldState) (t : Tied A w m) → is_forged e ≡ false → IsPlayable w e → Plays w e r w' → Follow A w m t e r w'
+followed : (A : Type 0) → PartLaws A
+    → (w : WorldState) (m : Machine) (e : Event A) (r : Report A) (w' : WorldState) (t : Tied A w m) → is_forged e
+    ≡ false → IsPlayable w e → Plays w e r w' → Follow A w m t e r w'
 followed A laws w m (event.Call k call) r w' t sent playable both =
     let timely = playable.timely in
     let runs = still_runs {A = A} w (event.Call k call) playable.allowed in
@@ -128,9 +159,12 @@ followed A laws w m (event.Call k call) r w' t sent playable both =
     (of_nothing A w m t (event.Call k call) n p.stands r p.after p.out w' p.booked laws runs refl refl refl)
     (of_good A w m t (event.Call k call) n p.stands r p.after p.out w' p.booked (called n call) seat (
       call_follows A laws.atp w m.cable m.atp t.cable t.atp k n p.stands call both.1 timely seat,
-      named.call_follows A laws.names w m.cable m.sessions m.names t.cable t.sessions t.names k n p.stands call both.1 seat,
-      streamed.call_follows A laws.streams w m.cable m.sessions m.streams t.cable t.sessions t.streams runs k n p.stands call both.1 timely seat,
-      told.call_follows A laws.sessions laws.names w m.cable m.sessions m.names t.cable t.sessions t.names k n p.stands call both.1 seat,
+      named.call_follows A laws.names w m.cable m.sessions m.names t.cable t.sessions t.names k n p.stands call both.1
+          seat,
+      streamed.call_follows A laws.streams w m.cable m.sessions m.streams t.cable t.sessions t.streams runs k n
+          p.stands call both.1 timely seat,
+      told.call_follows A laws.sessions laws.names w m.cable m.sessions m.names t.cable t.sessions t.names k n p.stands
+          call both.1 seat,
     ))
     (either A (called n call) n r p.after p.out p.steps)
 followed A laws w m (event.Timer k time) r w' t sent playable p =
@@ -142,8 +176,10 @@ followed A laws w m (event.Timer k time) r w' t sent playable p =
     (of_good A w m t (event.Timer k time) n p.stands r p.after p.out w' p.booked (timed n time) seat (
       timer_follows A laws.atp w m.cable m.atp t.cable t.atp k n p.stands time seat,
       named.timer_follows A laws.names w m.cable m.sessions m.names t.cable t.sessions t.names k n p.stands time seat,
-      streamed.timer_follows A laws.streams w m.cable m.sessions m.streams t.cable t.sessions t.streams runs k n p.stands time seat,
-      told.timer_follows A laws.sessions laws.names w m.cable m.sessions m.names t.cable t.sessions t.names k n p.stands time seat,
+      streamed.timer_follows A laws.streams w m.cable m.sessions m.streams t.cable t.sessions t.streams runs k n
+          p.stands time seat,
+      told.timer_follows A laws.sessions laws.names w m.cable m.sessions m.names t.cable t.sessions t.names k n
+          p.stands time seat,
     ))
     (either A (timed n time) n r p.after p.out p.steps)
 followed A laws w m (event.Deliver which k) r w' t sent playable d =
@@ -153,17 +189,25 @@ followed A laws w m (event.Deliver which k) r w' t sent playable d =
     let n = p.node in
     let in_time = timely d.datagram d.was_sent in
     let c = comes A laws.atp w m.cable m.atp t.cable t.atp which d.datagram d.was_sent in_time.fresh in
-    let c' = names_coming.comes A laws.names w m.cable m.names t.cable t.names which d.datagram d.was_sent in_time.fresh in
-    let c'' = streams_coming.comes A laws.streams w m.cable m.streams t.cable t.streams which d.datagram d.was_sent in_time.fresh in
+    let c' = names_coming.comes A laws.names w m.cable m.names t.cable t.names which d.datagram
+    d.was_sent in_time.fresh in
+    let c'' = streams_coming.comes A laws.streams w m.cable m.streams t.cable t.streams which d.datagram
+    d.was_sent in_time.fresh in
     let said = p.steps.0 in
     let later = p.steps.2 in
     ⊎_elim
     (of_nothing A w m t (event.Deliver which k) n p.stands r p.after p.out w' p.booked laws runs refl refl refl)
-    (λ (x : (o : Outcome A NodeState) × Hears said n (d.datagram).bytes o × Its o r p.after p.out). let seat = hearing_keeps_seat A said n (d.datagram).bytes x.0 x.1 in of_good A w m t (event.Deliver which k) n p.stands r p.after p.out w' p.booked x.0 seat (
-      datagram_follows A laws.atp w m.cable m.atp t.cable t.atp k n p.stands which d.datagram c in_time.free said x.0 (λ asked. later (ap is_asked (x.2).0 ∙ asked)) x.1 seat,
-      named.datagram_follows A laws.names w m.cable m.sessions m.names t.cable t.sessions t.names k n p.stands which d.datagram c' said x.0 x.1 seat,
-      streamed.datagram_follows A laws.streams w m.cable m.sessions m.streams t.cable t.sessions t.streams runs k n p.stands which d.datagram c'' in_time.free said x.0 x.1 seat,
-      told.datagram_follows A laws.sessions laws.names w m.cable m.sessions m.names t.cable t.sessions t.names k n p.stands which (d.datagram).bytes said x.0 x.1 seat,
+    (λ (x : (o : Outcome A NodeState) × Hears said n (d.datagram).bytes o × Its o r p.after p.out). let seat =
+    hearing_keeps_seat A said n (d.datagram).bytes x.0 x.1 in of_good A w m t
+    (event.Deliver which k) n p.stands r p.after p.out w' p.booked x.0 seat (
+      datagram_follows A laws.atp w m.cable m.atp t.cable t.atp k n p.stands which d.datagram c in_time.free said x.0
+          (λ asked. later (ap is_asked (x.2).0 ∙ asked)) x.1 seat,
+      named.datagram_follows A laws.names w m.cable m.sessions m.names t.cable t.sessions t.names k n p.stands which
+          d.datagram c' said x.0 x.1 seat,
+      streamed.datagram_follows A laws.streams w m.cable m.sessions m.streams t.cable t.sessions t.streams runs k n
+          p.stands which d.datagram c'' in_time.free said x.0 x.1 seat,
+      told.datagram_follows A laws.sessions laws.names w m.cable m.sessions m.names t.cable t.sessions t.names k n
+          p.stands which (d.datagram).bytes said x.0 x.1 seat,
     ) x.2)
     (either_coming A (Hears said n (d.datagram).bytes) n r p.after p.out p.steps.1)
 followed A laws w m (event.Forge k bytes) r w' t forged playable p = absurd (true≢false forged)
@@ -171,11 +215,16 @@ followed A laws w m (event.Forge k bytes) r w' t forged playable p = absurd (tru
 -- ---- all of them
 
 -- a run of the machine, and the history that it made
-abbrev pub Ran : (A : Type 0) (w : WorldState) (m : Machine) → Tied A w m → List (Event A) → List (Report A) → WorldState → Type 0
-Ran A w m t es rs w' = (m' : Machine) × Run m es rs m' × (now : Tied A w' m') × Tells (m.cable).net (m.atp).table (t.atp).history es rs (now.atp).history
+abbrev pub Ran : (A : Type 0) (w : WorldState) (m : Machine) → Tied A w m → List (Event A) → List (Report A)
+    → WorldState → Type 0
+Ran A w m t es rs w' = (m' : Machine) × Run m es rs m' × (now : Tied A w' m')
+    × Tells (m.cable).net (m.atp).table (t.atp).history es rs (now.atp).history
 
-pub runs : (A : Type 0) → PartLaws A → (w : WorldState) (m : Machine) (es : List (Event A)) (rs : List (Report A)) (w' : WorldState) (t : Tied A w m) → NoForge es → Follows w es rs w' → Ran A w m t es rs w'
-runs A laws w m [] [] w' t sent h = let same = subst (λ x. (now : Tied A x m) × ((now.atp).history ≡ (t.atp).history)) (sym h) (t, refl) in (m, refl, same.0, same.1)
+pub runs : (A : Type 0) → PartLaws A
+    → (w : WorldState) (m : Machine) (es : List (Event A)) (rs : List (Report A)) (w' : WorldState) (t : Tied A w m)
+    → NoForge es → Follows w es rs w' → Ran A w m t es rs w'
+runs A laws w m [] [] w' t sent h = let same = subst (λ x. (now : Tied A x m) × ((now.atp).history ≡ (t.atp).history))
+    (sym h) (t, refl) in (m, refl, same.0, same.1)
 runs A laws w m (e ∷ es) (r ∷ rs) w' t sent h =
     let playable = h.1 in
     let one = followed A laws w m e r h.0 t sent.0 playable h.2 in
@@ -184,15 +233,20 @@ runs A laws w m (e ∷ es) (r ∷ rs) w' t sent h =
     let step = one.1 in
     let table = table_follows m.cable m.atp e r (one.0).atp (owner_of e r) refl step.atp in
     let told = subst (λ l. Tells (m.cable).net (table_by e r (m.atp).table) l es rs ((rest.2).atp).history) grown.1
-    (subst (λ zones. Tells (m.cable).net zones ((one.2).atp).history es rs ((rest.2).atp).history) table (subst (λ (c : Cable). Tells c.net ((one.0).atp).table ((one.2).atp).history es rs ((rest.2).atp).history) one.4 rest.3)) in
+    (subst (λ zones. Tells (m.cable).net zones ((one.2).atp).history es rs ((rest.2).atp).history) table
+    (subst (λ (c : Cable). Tells c.net ((one.0).atp).table ((one.2).atp).history es rs ((rest.2).atp).history)
+    one.4 rest.3)) in
     (rest.0, (one.0, one.1, rest.1), rest.2, (grown.0, grown.2, grown.3, told))
 runs A laws w m [] (r ∷ rs) w' t sent h = absurd h
 runs A laws w m (e ∷ es) [] w' t sent h = absurd h
 
 -- what steps from the opening give is a run
 abbrev pub StepsRun : (A : Type 0) → Setup A → Type 0
-StepsRun A s = (events : List (Event A)) (reports : List (Report A)) (w : WorldState) → NoForge events → Follows (opening_world s) events reports w → (m : Machine) × Run (opening_machine s) events reports m
+StepsRun A s = (events : List (Event A)) (reports : List (Report A)) (w : WorldState) → NoForge events
+    → Follows (opening_world s) events reports w → (m : Machine) × Run (opening_machine s) events reports m
 
-pub play_runs : (A : Type 0) (s : Setup A) (events : List (Event A)) (answer : Result (Transcript A) (PlayFault A)) → StepsRun A s → IsPlay s events answer → IsRun s events answer
+pub play_runs : (A : Type 0) (s : Setup A) (events : List (Event A)) (answer : Result (Transcript A) (PlayFault A))
+    → StepsRun A s → IsPlay s events answer → IsRun s events answer
 play_runs A s events (Ok t) law h = λ sent. let played = h.1 in law events t.reports h.0 sent played.0
-play_runs A s events (Err f) law h = λ sent. let played = h.1 in law (take f.at events) f.transcript.reports h.0 sent played.0
+play_runs A s events (Err f) law h = λ sent. let played = h.1 in
+    law (take f.at events) f.transcript.reports h.0 sent played.0

@@ -6,14 +6,14 @@ use Rattle.std.proofs.lemmas.Bool.Decides.{nat_tests}
 use Rattle.std.proofs.lemmas.List.{length-append, length-map, take_more}
 use Rattle.at_ddp.specs.Datagrams.{Posted}
 use Rattle.at_ddp.specs.Tables.{replaced}
-use Rattle.at_nbp.proofs.DistinctLemmas.{length_replaced}
+use Rattle.at_ddp.proofs.CountLemmas.{length_replaced}
 use Rattle.at_event.specs.Outcomes.{Comes, IsStep, Outcome, posted}
 use Rattle.at_event.specs.declared.event.Call.{Call}
 use Rattle.at_event.specs.declared.event.Report.{Report}
 use Rattle.at_event.specs.declared.event.Report.TheVariants as report
 use Rattle.at_event.specs.declared.event.Timer.{Timer}
 use Rattle.at_event.specs.declared.service.Reply.{Reply}
-use Rattle.at_node.specs.Drawing.{drawn_by}
+use Rattle.at_node.specs.Numbers.{drawn_by}
 use Rattle.at_node.specs.Hearing.{Hears}
 use Rattle.at_node.specs.Limits.{IsWithin}
 use Rattle.at_node.specs.Nodes.{NodeState, called, timed}

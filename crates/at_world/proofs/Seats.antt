@@ -2,23 +2,23 @@
 use Rattle.std.proofs.Common.{◌≡◌, Bool, true, false, List, ℕ, inl, inr, refl, ap}
 use Rattle.std.specs.Prelude.{MatchBool, ◌==◌, ◌||◌}
 use Rattle.at_ddp.specs.Datagram.{Content as Datagram}
+use Rattle.at_ddp.specs.Protocols.{atp_kind, nbp_kind, adsp_kind}
 use Rattle.at_event.specs.declared.event.Call.{Call}
-use Rattle.at_event.specs.declared.event.Call.TheVariants.{Zones, SetZones, Ask, Answer, Pick, Find, Claim, Finish, Register, Unregister, Open, Listen, Connect, Write, Read, Reset, Close}
+use Rattle.at_event.specs.declared.event.Call.TheVariants.{Zones, SetZones, Ask, Answer, Pick, Find, Claim, Finish}
+use Rattle.at_event.specs.declared.event.Call.TheVariants.{Register, Unregister, Open, Listen, Connect, Write, Read}
+use Rattle.at_event.specs.declared.event.Call.TheVariants.{Reset, Close}
 use Rattle.at_event.specs.declared.event.Report.TheVariants as report
 use Rattle.at_event.specs.declared.event.Timer.{Timer}
 use Rattle.at_event.specs.declared.event.Timer.TheVariants as timer
 use Rattle.at_event.specs.declared.service.Reply.{Reply}
 use Rattle.at_node.specs.AtpHearing.{HearsAtp}
-use Rattle.at_node.specs.AtpParts.{atp_kind}
 use Rattle.at_node.specs.Hearing.{Hears, HearsIt, HearsMine}
-use Rattle.at_event.specs.Seats.{nbp_kind}
 use Rattle.at_node.specs.NameHearing.{HearsNames}
 use Rattle.at_node.specs.Nodes.{NodeState, over_atp, with_names, with_session, with_streams, called, timed}
 use Rattle.at_event.specs.Outcomes.{Outcome, Over, Through, idle, over}
 use Rattle.at_node.specs.SessionCalls.{picked_as}
 use Rattle.at_session.specs.Sessions.{is_listed}
 use Rattle.at_stream_socket.specs.Hearing.{HearsStreams}
-use Rattle.at_stream_socket.specs.Sockets.{adsp_kind}
 use Rattle.at_event.specs.Seats.{is_for_all, is_mine}
 
 abbrev pub KeepsSeat : {A : Type 0} → NodeState → Outcome A NodeState → Type 0
@@ -54,28 +54,37 @@ timer_keeps_seat A n (timer.Lookup id) = refl
 timer_keeps_seat A n (timer.Resend id) = refl
 timer_keeps_seat A n (timer.Probe id) = refl
 
-mine_keeps_seat : (A : Type 0) (said : Reply A) (n : NodeState) (d : Datagram) (o : Outcome A NodeState) → HearsMine said n d o → KeepsSeat n o
+mine_keeps_seat : (A : Type 0) (said : Reply A) (n : NodeState) (d : Datagram) (o : Outcome A NodeState)
+    → HearsMine said n d o → KeepsSeat n o
 mine_keeps_seat A said n d o = go (d.kind == atp_kind)
   where
-    streams : (b : Bool) → MatchBool b (Over (with_streams n) (HearsStreams n.seat n.streams d) o) (o ≡ idle n report.Ignored) → KeepsSeat n o
+    streams : (b : Bool) → MatchBool b (Over (with_streams n) (HearsStreams n.seat n.streams d) o)
+        (o ≡ idle n report.Ignored) → KeepsSeat n o
     streams true h = ap (λ (x : Outcome A NodeState). x.state.seat) h.2
     streams false h = ap (λ (x : Outcome A NodeState). x.state.seat) h
 
-    other : (b : Bool) → MatchBool b (Over (with_names n) (HearsNames n.seat n.names d) o) (MatchBool (d.kind == adsp_kind) (Over (with_streams n) (HearsStreams n.seat n.streams d) o) (o ≡ idle n report.Ignored)) → KeepsSeat n o
+    other : (b : Bool) → MatchBool b (Over (with_names n) (HearsNames n.seat n.names d) o)
+        (MatchBool (d.kind == adsp_kind) (Over (with_streams n) (HearsStreams n.seat n.streams d) o)
+        (o ≡ idle n report.Ignored)) → KeepsSeat n o
     other true h = ap (λ (x : Outcome A NodeState). x.state.seat) h.2
     other false h = streams (d.kind == adsp_kind) h
 
-    go : (b : Bool) → MatchBool b (Through (over_atp n) (HearsAtp said n.seat n.atp d) o) (MatchBool (d.kind == nbp_kind) (Over (with_names n) (HearsNames n.seat n.names d) o) (MatchBool (d.kind == adsp_kind) (Over (with_streams n) (HearsStreams n.seat n.streams d) o) (o ≡ idle n report.Ignored))) → KeepsSeat n o
+    go : (b : Bool) → MatchBool b (Through (over_atp n) (HearsAtp said n.seat n.atp d) o)
+        (MatchBool (d.kind == nbp_kind) (Over (with_names n) (HearsNames n.seat n.names d) o)
+        (MatchBool (d.kind == adsp_kind) (Over (with_streams n) (HearsStreams n.seat n.streams d) o)
+        (o ≡ idle n report.Ignored))) → KeepsSeat n o
     go true h = ap (λ (x : Outcome A NodeState). x.state.seat) h.2
     go false h = other (d.kind == nbp_kind) h
 
-it_keeps_seat : (A : Type 0) (said : Reply A) (n : NodeState) (d : Datagram) (o : Outcome A NodeState) → HearsIt said n d o → KeepsSeat n o
+it_keeps_seat : (A : Type 0) (said : Reply A) (n : NodeState) (d : Datagram) (o : Outcome A NodeState)
+    → HearsIt said n d o → KeepsSeat n o
 it_keeps_seat A said n d o = go (is_for_all n.seat d.kind d.to || is_mine n.seat d.to)
   where
     go : (b : Bool) → MatchBool b (HearsMine said n d o) (o ≡ idle n report.Ignored) → KeepsSeat n o
     go true h = mine_keeps_seat A said n d o h
     go false h = ap (λ (x : Outcome A NodeState). x.state.seat) h
 
-pub hearing_keeps_seat : (A : Type 0) (said : Reply A) (n : NodeState) (bytes : List ℕ) (o : Outcome A NodeState) → Hears said n bytes o → KeepsSeat n o
+pub hearing_keeps_seat : (A : Type 0) (said : Reply A) (n : NodeState) (bytes : List ℕ) (o : Outcome A NodeState)
+    → Hears said n bytes o → KeepsSeat n o
 hearing_keeps_seat A said n bytes o (inl h) = it_keeps_seat A said n h.datagram o h.outcome
 hearing_keeps_seat A said n bytes o (inr h) = ap (λ (x : Outcome A NodeState). x.state.seat) h.outcome

@@ -26,17 +26,22 @@ use Rattle.at_world.proofs.Streams.Tie.{StreamTie}
 use Rattle.at_world.proofs.Tied.{Tied}
 
 module _ (A : Type 0) (s : Setup A) where
-  seat_opens : (k : ℕ) (x : NodeSetup) → is_lawful_node x ≡ true → (x.node == k) ≡ true → SeatTie (cables.opening s) k (opening_node s x)
+  seat_opens : (k : ℕ) (x : NodeSetup) → is_lawful_node x ≡ true → (x.node == k) ≡ true
+      → SeatTie (cables.opening s) k (opening_node s x)
   seat_opens k x ok is =
       let same : x.node ≡ k = eqb-true x.node k is in
       let fits = node_fits x ok in
       record { net = refl; number = same; small = omega (arith, same, fits); router = refl }
 
-  seats_open : (ns : List NodeSetup) → list_all is_lawful_node ns ≡ true → (k : ℕ) (n : NodeState) → find (is_numbered k) (map (opening_node s) ns) ≡ Some n → SeatTie (cables.opening s) k n
+  seats_open : (ns : List NodeSetup) → list_all is_lawful_node ns ≡ true → (k : ℕ) (n : NodeState)
+      → find (is_numbered k) (map (opening_node s) ns) ≡ Some n → SeatTie (cables.opening s) k n
   seats_open [] ok k n h = absurd (cc)
   seats_open (x ∷ ns) ok k n h = go (λ each g. seats_open ns each k n g) (x.node == k) refl h
     where
-      go : (list_all is_lawful_node ns ≡ true → find (is_numbered k) (map (opening_node s) ns) ≡ Some n → SeatTie (cables.opening s) k n) → (b : Bool) → (x.node == k) ≡ b → cond b (Some (opening_node s x)) (find (is_numbered k) (map (opening_node s) ns)) ≡ Some n → SeatTie (cables.opening s) k n
+      go : (list_all is_lawful_node ns ≡ true → find (is_numbered k) (map (opening_node s) ns) ≡ Some n
+          → SeatTie (cables.opening s) k n) → (b : Bool) → (x.node == k) ≡ b
+          → cond b (Some (opening_node s x)) (find (is_numbered k) (map (opening_node s) ns)) ≡ Some n
+          → SeatTie (cables.opening s) k n
       go ih true e g =
           let parts = and_parts (is_lawful_node x) (list_all is_lawful_node ns) ok in
           let same : opening_node s x ≡ n = cc in
@@ -45,13 +50,27 @@ module _ (A : Type 0) (s : Setup A) where
 
   pub cable_at_opening : is_lawful s ≡ true → (t : CableTie (opening_world s) (cables.opening s)) × (t.wires ≡ [])
   cable_at_opening ok =
-      let has = lawful_has A s ok in
-      (record { net = has.net; router = λ r is. router_fits s.nodes r has.each is; wires = []; sent = refl; seats = λ k n is. seats_open s.nodes has.each k n is }, refl)
+      let has = lawful_has A s ok in (
+        record {
+          net = has.net;
+          router = λ r is. router_fits s.nodes r has.each is;
+          wires = [];
+          sent = refl;
+          seats = λ k n is. seats_open s.nodes has.each k n is;
+        },
+        refl,
+      )
 
-  pub tied_at_opening : SetupLaws → NameLaws A → is_lawful s ≡ true → (t : Tied A (opening_world s) (opening_machine s)) × ((t.atp).history ≡ [])
+  pub tied_at_opening : SetupLaws → NameLaws A → is_lawful s ≡ true
+      → (t : Tied A (opening_world s) (opening_machine s)) × ((t.atp).history ≡ [])
   tied_at_opening setups laws ok =
       let cable = cable_at_opening ok in
-      let both = subst (λ l. (t : AtpTie A (opening_world s) (cables.opening s) l (atp.opening s)) × (t.history ≡ [])) (sym cable.1) (atp_at_opening A s setups ok) in
-      let named = subst (λ l. NameTie (opening_world s) (cables.opening s) l (names.opening s)) (sym cable.1) (names_at_opening A laws s setups ok) in
-      let streamed = subst (λ l. StreamTie (opening_world s) (cables.opening s) l streams.opening) (sym cable.1) (streams_at_opening A s ok) in
-      (record { cable = cable.0; atp = both.0; names = named; streams = streamed; sessions = sessions_at_opening A s }, both.1)
+      let both = subst (λ l. (t : AtpTie A (opening_world s) (cables.opening s) l (atp.opening s)) × (t.history ≡ []))
+      (sym cable.1) (atp_at_opening A s setups ok) in
+      let named = subst (λ l. NameTie (opening_world s) (cables.opening s) l (names.opening s)) (sym cable.1)
+      (names_at_opening A laws s setups ok) in
+      let streamed = subst (λ l. StreamTie (opening_world s) (cables.opening s) l streams.opening) (sym cable.1)
+      (streams_at_opening A s ok) in (
+        record { cable = cable.0; atp = both.0; names = named; streams = streamed; sessions = sessions_at_opening A s },
+        both.1,
+      )

@@ -1,8 +1,8 @@
 -- The numbers that nodes drew, and the event that drew each last.
 use Rattle.std.specs.Prelude.{ℕ, ◌==◌, ◌&&◌, nat_le, if◌then◌else◌, Bool, true, false, List, [], ◌∷◌, Option, Some}
 use Rattle.std.specs.Prelude.{None}
-use Rattle.at_node.specs.declared.drawing.Draw.{Draw}
-use Rattle.at_node.specs.declared.drawing.Draw.TheVariants.{Tid, Lookup, Conn}
+use Rattle.at_node.specs.declared.numbers.Draw.{Draw}
+use Rattle.at_node.specs.declared.numbers.Draw.TheVariants.{Tid, Lookup, Conn}
 
 -- each number of each node that was ever drawn, with the event of its last draw
 abbrev pub Draws : Type 0

@@ -37,8 +37,8 @@ rooms_of n = record { receive = max n.receive_room 1; send = max n.send_room 1 }
 -- only the router has the table, and knows the zones of the other nodes
 abbrev pub opening_node : {A : Type 0} → Setup A → NodeSetup → NodeState
 opening_node s n =
-    opening s.net n.node (router_of s.nodes) n.zone (if n.router then Some s.zones else None)
-    (if n.router then Some (neighbours_of s.nodes) else None) (rooms_of n)
+    opening (record { net = s.net; number = n.node; router = router_of s.nodes }) n.zone
+    (if n.router then Some s.zones else None) (if n.router then Some (neighbours_of s.nodes) else None) (rooms_of n)
 
 -- the world before anything happened
 abbrev pub opening_world : {A : Type 0} → Setup A → WorldState

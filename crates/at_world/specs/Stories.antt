@@ -7,8 +7,9 @@ use Rattle.at_ddp.specs.declared.address.Address.{Address}
 use Rattle.at_atp_frame.specs.Frames.{spelled}
 use Rattle.at_atp_responder.specs.declared.reception.Key.{Key}
 use Rattle.at_atp.specs.Lawfully.{IsInRange}
-use Rattle.at_atp.specs.Network.{Network, Sent, Happening, AllTimely, packet_at, after, done}
-use Rattle.at_node.specs.AtpParts.{atp_kind}
+use Rattle.at_ddp.specs.Posts.{packet_at}
+use Rattle.at_ddp.specs.Protocols.{atp_kind}
+use Rattle.at_atp.specs.Network.{Network, Sent, Happening, AllTimely, after, done}
 use Rattle.at_event.specs.declared.event.Call.TheVariants.{SetZones}
 use Rattle.at_event.specs.declared.event.Report.{Report}
 use Rattle.at_steps.specs.AtpHappenings.{sets_table}

@@ -4,15 +4,15 @@ use Rattle.std.specs.Prelude.{length, map, find, slice_get, Option, Some, None}
 use Rattle.std.specs.List.{list_any}
 use Rattle.at_ddp.specs.Datagrams.{Posted}
 use Rattle.at_ddp.specs.Tables.{replaced}
-use Rattle.at_node.specs.declared.drawing.Draw.{Draw}
-use Rattle.at_node.specs.declared.drawing.Input.{Input}
-use Rattle.at_node.specs.declared.drawing.Input.TheVariants as input
+use Rattle.at_node.specs.declared.numbers.Draw.{Draw}
+use Rattle.at_node.specs.declared.numbers.Input.{Input}
+use Rattle.at_node.specs.declared.numbers.Input.TheVariants as input
 use Rattle.at_event.specs.declared.event.Report.{Report}
 use Rattle.at_event.specs.declared.service.Reply.{Reply}
 use Rattle.at_event.specs.declared.service.Reply.TheVariants as reply
 use Rattle.at_event.specs.Calls.{IsCall}
-use Rattle.at_node.specs.Drawing.{Carries, DrawsHearing, drawn_by, draw_of, holds}
-use Rattle.at_node.specs.Drawing.{Draws as DrawsFor}
+use Rattle.at_node.specs.Numbers.{Carries, DrawsHearing, drawn_by, draw_of, holds}
+use Rattle.at_node.specs.Numbers.{Draws as DrawsFor}
 use Rattle.at_node.specs.Hearing.{Hears}
 use Rattle.at_node.specs.Nodes.{NodeState, called, timed}
 use Rattle.at_event.specs.Outcomes.{IsStep, Comes}

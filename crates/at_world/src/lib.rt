@@ -4,7 +4,6 @@
 mod draws;
 mod history;
 pub mod laws;
-mod looking;
 mod opening;
 mod places;
 mod player;
@@ -12,6 +11,7 @@ mod refusal;
 mod sent;
 mod timely;
 mod transcript;
+mod view;
 mod world;
 
 pub use at_setup::{Event, NodeSetup, Setup};

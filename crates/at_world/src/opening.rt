@@ -8,7 +8,7 @@ use at_adsp_ends::Rooms;
 use at_ddp::{Listed, Pascal};
 use at_name_socket::Neighbour;
 use at_nbp::copy_of;
-use at_node::Node;
+use at_node::{Node, Seat, Settings};
 use at_setup::{NodeSetup, Setup};
 use at_zip::Zones;
 use std::alloc::{AllocError, Allocator};
@@ -25,13 +25,23 @@ pub(crate) fn opening_nodes<A: Allocator + Copy>(
     let router = router_of(setups);
     let mut nodes = Vec::new(alloc);
     for n in setups {
+        let seat = Seat {
+            net: setup.net,
+            number: n.node,
+            router,
+        };
         let zone = zone_of(n);
         let zones = table_of(alloc, n.router, setup.zones.as_slice())?;
         let neighbours = neighbours_for(alloc, n.router, setups)?;
         let rooms = rooms_of(n);
-        let node = Node::new(
-            alloc, setup.net, n.node, router, zone, zones, neighbours, rooms,
-        );
+        let settings = Settings {
+            seat,
+            zone,
+            zones,
+            neighbours,
+            rooms,
+        };
+        let node = Node::new(alloc, settings);
         node.limits();
         nodes.push(node)?;
     }

@@ -1,7 +1,7 @@
 //! The nodes of a world: where one stands, and what they hold.
 ghost use Rattle.std.specs.Prelude.{◌≡◌, ◌≤◌, ◌+◌, length};
 ghost use Rattle.std.specs.List.{list_any, position_from};
-ghost use Rattle.at_node.specs.Drawing.{holds};
+ghost use Rattle.at_node.specs.Numbers.{holds};
 ghost use Rattle.at_world.specs.Worlds.{holds_some, is_numbered};
 
 use at_node::{Draw, Node};

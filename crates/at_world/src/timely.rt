@@ -1,7 +1,7 @@
 //! Which datagrams come in time.
 ghost use Rattle.std.specs.Prelude.{◌≡◌, ℕ, false, true};
-ghost use Rattle.at_node.specs.Drawing.{Carries};
-ghost use Rattle.at_node.specs.declared.drawing.Draw.{Draw as Drawn};
+ghost use Rattle.at_node.specs.Numbers.{Carries};
+ghost use Rattle.at_node.specs.declared.numbers.Draw.{Draw as Drawn};
 ghost use Rattle.at_world.specs.Draws.{is_no_later, last_of};
 ghost use Rattle.at_world.specs.Worlds.{is_in_time};
 

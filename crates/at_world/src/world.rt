@@ -1,7 +1,7 @@
 //! The world: its nodes, all that they sent, and the step that plays one event or says why not.
 ghost use Rattle.std.specs.Prelude.{◌≡◌, Err, ◌==◌, ◌||◌, IfOk, IfErr, IsOk, IsErr, OnOk, OnErr, None, false, true};
 ghost use Rattle.std.specs.Prelude.{◌≤◌, ◌-◌, ◌++◌, length, replicate};
-ghost use Rattle.at_node.specs.Drawing.{Draws, drawn_by};
+ghost use Rattle.at_node.specs.Numbers.{Draws, drawn_by};
 ghost use Rattle.at_node.specs.Limits.{IsWithin};
 ghost use Rattle.at_world.specs.Draws.{noted};
 ghost use Rattle.at_world.specs.Plays.{opening_world};

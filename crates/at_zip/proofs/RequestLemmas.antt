@@ -4,7 +4,8 @@ use Rattle.at_ddp.specs.Fault.{number_at}
 use Rattle.at_ddp.proofs.Octets.{InBytes, high_byte, low_byte}
 use Rattle.at_zip.specs.Request.{RequestSpells}
 
-pub is_request : (user : List ℕ) (start : ℕ) → length user ≡ 4 → get_or user 0 0 ≡ 8 → InBytes user → start ≡ number_at 2 user → 1 ≤ start → RequestSpells user start
+pub is_request : (user : List ℕ) (start : ℕ) → length user ≡ 4 → get_or user 0 0 ≡ 8 → InBytes user → start
+    ≡ number_at 2 user → 1 ≤ start → RequestSpells user start
 is_request (a ∷ b ∷ c ∷ d ∷ []) start len code fits is some =
     let number : start ≡ 256 * c + d = omega arith in
     record {

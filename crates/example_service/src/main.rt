@@ -7,7 +7,7 @@ mod telling;
 use adding::Adding;
 use at_adsp_end::Rooms;
 use at_ddp::{Bytes, Datagrams};
-use at_node::{Call, Deferring, Node, PacketCount};
+use at_node::{Call, Deferring, Node, PacketCount, Report, Seat, Settings};
 use std::alloc::{AllocError, Global};
 use std::io;
 use telling::tell;
@@ -26,16 +26,38 @@ const ROOMS: Rooms = Rooms {
 const MOST_ROUNDS: u32 = 10;
 
 fn main(rt: HostRuntime) -> io::Result<()> {
-    // Both nodes are on network 10, which has no router.
-    let mut client = Node::new(rt.alloc(), 10, CLIENT, None, None, None, None, ROOMS);
-    let mut server = Node::new(rt.alloc(), 10, SERVER, None, None, None, None, ROOMS);
-    let mut sent = Datagrams::new(rt.alloc());
-    let report = client.call(&request(rt.alloc())?, &mut sent);
-    tell(&rt, CLIENT, &report)?;
+    let mut client = node(rt.alloc(), CLIENT);
+    let mut server = node(rt.alloc(), SERVER);
+    let mut sent = ask(&rt, &mut client)?;
     for _round in 0..MOST_ROUNDS {
         sent = hand_over(&rt, &mut client, &mut server, &sent)?;
     }
     println!(rt; "datagrams left: {}", sent.len())
+}
+
+// A node of network 10, which has no router.
+fn node(alloc: Global, number: u8) -> Node {
+    let seat = Seat {
+        net: 10,
+        number,
+        router: None,
+    };
+    let settings = Settings {
+        seat,
+        zone: None,
+        zones: None,
+        neighbours: None,
+        rooms: ROOMS,
+    };
+    Node::new(alloc, settings)
+}
+
+// The client asks, and the datagrams that it sends are the first list.
+fn ask<R: Print + AllocGlobal>(rt: &R, client: &mut Node) -> io::Result<Datagrams> {
+    let mut sent = Datagrams::new(rt.alloc());
+    let report = client.call(&request(rt.alloc())?, &mut sent);
+    tell(rt, CLIENT, &report)?;
+    Ok(sent)
 }
 
 // What the client asks. A node's service always has socket 129.
@@ -58,16 +80,19 @@ fn hand_over<R: Print + AllocGlobal>(
     server: &mut Node,
     sent: &Datagrams,
 ) -> io::Result<Datagrams> {
-    // The service keeps nothing between requests, so each round has one of its own.
-    let mut service = Adding { alloc: rt.alloc() };
     let mut next = Datagrams::new(rt.alloc());
     for index in 0..sent.len() {
         let (to, bytes) = (sent.node(index), sent.get(index));
         let report = match to {
-            SERVER => server.receive(&mut service, bytes, &mut next),
+            SERVER => serve(rt.alloc(), server, bytes, &mut next),
             _ => client.receive(&mut Deferring, bytes, &mut next),
         };
         tell(rt, to, &report)?;
     }
     Ok(next)
+}
+
+// The service keeps nothing between requests, so each datagram finds one of its own.
+fn serve(alloc: Global, server: &mut Node, bytes: &[u8], next: &mut Datagrams) -> Report {
+    server.receive(&mut Adding { alloc }, bytes, next)
 }

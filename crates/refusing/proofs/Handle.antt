@@ -1,5 +1,6 @@
 -- What both walks say of the handle behind `&self`: its type, and where its three fields lie.
-use Rattle.refusing.proofs.Steps.{ℕ, ◌+◌, [], ◌∷◌, Bor, Al, α, Args, a_type, dnil, dcons, size, align, up, RefOf, bounded, param, Slot, plain}
+use Rattle.refusing.proofs.Steps.{ℕ, ◌+◌, [], ◌∷◌, Bor, Al, α, Args, a_type, dnil, dcons, size, align, up, RefOf}
+use Rattle.refusing.proofs.Steps.{bounded, param, Slot, plain}
 use Rattle.refusing.specs.contracts.Refusing as refusing
 
 module _ (Z : Al) where

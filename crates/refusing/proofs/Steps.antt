@@ -1,6 +1,48 @@
 -- The names that the walks of this crate cite.
-pub use Rattle.std.proofs.Common.{◌≡◌, ℕ, ◌+◌, ◌^◌, ◌<◌, Bool, true, false, List, [], ◌∷◌, Ok, Err, refl, sym, ap, subst, w64, Bor}
-pub use Rattle.std.proofs.alloc.Calls.{Al, α, seen, token, Answer, answer_val, Answer-typed, Answer-Ok, Answer-err, Answered, answers, takes_key, Takes, at_takes, Takes-goes, Takes-gives, gives_key, Gives, at_gives, Gives-goes, Gives-Gives}
+pub use Rattle.std.proofs.Common.{
+  ◌≡◌,
+  ℕ,
+  ◌+◌,
+  ◌^◌,
+  ◌<◌,
+  Bool,
+  true,
+  false,
+  List,
+  [],
+  ◌∷◌,
+  Ok,
+  Err,
+  refl,
+  sym,
+  ap,
+  subst,
+  w64,
+  Bor,
+}
+pub use Rattle.std.proofs.alloc.Calls.{
+  Al,
+  α,
+  seen,
+  token,
+  Answer,
+  answer_val,
+  Answer-typed,
+  Answer-Ok,
+  Answer-err,
+  Answered,
+  answers,
+  takes_key,
+  Takes,
+  at_takes,
+  Takes-goes,
+  Takes-gives,
+  gives_key,
+  Gives,
+  at_gives,
+  Gives-goes,
+  Gives-Gives,
+}
 pub use Rattle.std.proofs.VecSteps.Shapes.{after, front, arm_body}
 pub use seplogic.Ra.Ura.{Ura}
 pub use lib.Dec.{T}
@@ -18,10 +60,67 @@ pub use contract.Monad.{Fun, fact}
 pub use contract.Running.{tables}
 unfoldable pub use contract.Running.{tables_of}
 pub use sound.WpLaws.{fm_of, WpFn-mono}
-pub use types.Kit.{Item, Sq, prop, ‵, raw, ◌⊛◌, some, later, given, at_ret, any_q, Post as After, ◌$◌, ◌∵◌, !, qed, by, move, keep, drop, use0, use1, use2, split, split3, join, pick, learn, fsplit, fjoin, feq_i, feq_l, flt_i, check, show, suffices, await, updating, done}
+pub use types.Kit.{
+  Item,
+  Sq,
+  prop,
+  ‵,
+  raw,
+  ◌⊛◌,
+  some,
+  later,
+  given,
+  at_ret,
+  any_q,
+  Post as After,
+  ◌$◌,
+  ◌∵◌,
+  !,
+  qed,
+  by,
+  move,
+  keep,
+  drop,
+  use0,
+  use1,
+  use2,
+  split,
+  split3,
+  join,
+  pick,
+  learn,
+  fsplit,
+  fjoin,
+  feq_i,
+  feq_l,
+  flt_i,
+  check,
+  show,
+  suffices,
+  await,
+  updating,
+  done,
+}
 pub use types.Match.{vrt}
 pub use types.Part.{whole, agg}
-pub use types.Run.{stop, fld, addr, lit, unit_lit, no_more, and_then, of_opd, first, branches, skips, exec, switches_on, returns, returns_within, enter}
+pub use types.Run.{
+  stop,
+  fld,
+  addr,
+  lit,
+  unit_lit,
+  no_more,
+  and_then,
+  of_opd,
+  first,
+  branches,
+  skips,
+  exec,
+  switches_on,
+  returns,
+  returns_within,
+  enter,
+}
 pub use types.ByLocal.{alloc_all, pass_all, free_all, look_at, get, get_tag, through, sets, lands_as, lands_last, env}
 pub use Rattle.std.specs.Allocator.{block_if_ok}
 pub use denote.RattleType.{RattleType, owns}

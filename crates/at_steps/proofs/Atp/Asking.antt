@@ -1,5 +1,6 @@
 -- What the calls that begin a transaction are in the network.
-use Rattle.std.proofs.Common.{◌≡◌, ℕ, ◌/◌, ◌%◌, ◌<◌, ◌≤◌, Bool, true, false, cond, List, [], ◌∷◌, ◌++◌, length, Option, Some, None, refl, sym, ap, subst, ◌∙◌, arith, lit<, lit≤}
+use Rattle.std.proofs.Common.{◌≡◌, ℕ, ◌/◌, ◌%◌, ◌<◌, ◌≤◌, Bool, true, false, cond, List, [], ◌∷◌, ◌++◌, length, Option}
+use Rattle.std.proofs.Common.{Some, None, refl, sym, ap, subst, ◌∙◌, arith, lit<, lit≤}
 use Rattle.std.specs.Prelude.{◌==◌, ◌||◌, nat_lt}
 use Rattle.std.proofs.lemmas.Bool.{true≢false, false≢true, eq-eqb, eqb-true}
 use Rattle.std.proofs.lemmas.Bool.Decides.{nat_tests}
@@ -17,7 +18,7 @@ use Rattle.at_zip.specs.Request.{request_user}
 use Rattle.at_zip.specs.Zones.{table_fault}
 use Rattle.at_zip.specs.declared.fault.ZipFault.{ZipFault}
 use Rattle.at_event.specs.Calls.{IsCall}
-use Rattle.at_node.specs.Drawing.{drawn_by}
+use Rattle.at_node.specs.Numbers.{drawn_by}
 use Rattle.at_node.specs.AtpParts.{Reading, asking, zones_at}
 use Rattle.at_node.specs.Nodes.{with_atp, NodeState}
 use Rattle.at_event.specs.Outcomes.{over, idle, refused_as}
@@ -25,7 +26,7 @@ use Rattle.at_node.specs.RequesterSocket.{asked_as}
 use Rattle.at_event.specs.Seats.{at_socket}
 use Rattle.at_node.specs.ZoneReading.{reading_begins, zones_called, page_transaction}
 use Rattle.at_node.specs.ZoneSocket.{set_zones_called, table_set}
-use Rattle.at_node.specs.declared.drawing.Draw.TheVariants.{Tid}
+use Rattle.at_node.specs.declared.numbers.Draw.TheVariants.{Tid}
 use Rattle.at_event.specs.declared.event.Call.TheVariants.{Zones, SetZones, Ask}
 use Rattle.at_event.specs.declared.event.Report.{Report}
 use Rattle.at_event.specs.declared.event.Report.TheVariants as report
@@ -42,7 +43,8 @@ open_more : (ts us : List requests.Transaction) (tid : ℕ) → has_number ts ti
 open_more [] us tid h = absurd (false≢true h)
 open_more (t ∷ ts) us tid h = go (t.tid == tid) h (open_more ts us tid)
   where
-    go : (b : Bool) → (b || has_number ts tid) ≡ true → (has_number ts tid ≡ true → has_number (ts ++ us) tid ≡ true) → (b || has_number (ts ++ us) tid) ≡ true
+    go : (b : Bool) → (b || has_number ts tid) ≡ true → (has_number ts tid ≡ true → has_number (ts ++ us) tid ≡ true)
+        → (b || has_number (ts ++ us) tid) ≡ true
     go true g ih = refl
     go false g ih = ih g
 
@@ -55,16 +57,19 @@ open_last (u ∷ ts) t = go (u.tid == t.tid) (open_last ts t)
     go false h = h
 
 -- a reading whose transaction begins is open
-pub begun_is_open : (q : requests.Requests) (t : requests.Transaction) (mine r : Reading) → mine.tid ≡ t.tid → Some mine ≡ Some r → has_number (requests.begun q t).standing r.tid ≡ true
+pub begun_is_open : (q : requests.Requests) (t : requests.Transaction) (mine r : Reading) → mine.tid ≡ t.tid
+    → Some mine ≡ Some r → has_number (requests.begun q t).standing r.tid ≡ true
 begun_is_open q t mine r numbered is =
     let same : mine ≡ r = cc in
-    subst (λ k. has_number (q.standing ++ t ∷ []) k ≡ true) (sym numbered ∙ ap (λ (x : Reading). x.tid) same) (open_last q.standing t)
+    subst (λ k. has_number (q.standing ++ t ∷ []) k ≡ true) (sym numbered ∙ ap (λ (x : Reading). x.tid) same)
+    (open_last q.standing t)
 
 -- the request for a page is in range
 pub asks_fit : (names : List (List ℕ)) → IsPacket (record { user = request_user (place_after names); data_ = [] })
 asks_fit names = record {
   four = refl;
-  user = All-from_recursion (λ b. b < 256) (request_user (place_after names)) (lit< tt, (lit< tt, (high (place_after names), (low (place_after names), tt))));
+  user = All-from_recursion (λ b. b < 256) (request_user (place_after names))
+      (lit< tt, (lit< tt, (high (place_after names), (low (place_after names), tt))));
   bytes = All-nil (λ b. b < 256);
   fits = lit≤ tt;
 }
@@ -77,9 +82,11 @@ asks_fit names = record {
 
 -- no responder holds a number that a step with this report draws
 abbrev pub DrawsFree : (A : Type 0) (history : List Happening) (n : NodeState) → Report A → Type 0
-DrawsFree A history n r = (tid : ℕ) → drawn_by r ≡ Some (Tid tid) → NoneHolds (after A history).responders (asking n.seat.net n.seat.number) tid
+DrawsFree A history n r = (tid : ℕ) → drawn_by r ≡ Some (Tid tid)
+    → NoneHolds (after A history).responders (asking n.seat.net n.seat.number) tid
 
-module _ (A : Type 0) (laws : CallLaws A) (history : List Happening) (n : NodeState) (st : Stands A history n.seat.net n.seat.number n) where
+module _ (A : Type 0) (laws : CallLaws A) (history : List Happening) (n : NodeState)
+    (st : Stands A history n.seat.net n.seat.number n) where
   asking_fits : IsAddress (asking n.seat.net n.seat.number)
   asking_fits = record { net = st.small_net; node = st.small_number; socket = lit< tt }
 
@@ -88,57 +95,119 @@ module _ (A : Type 0) (laws : CallLaws A) (history : List Happening) (n : NodeSt
 
   -- ---- the zone list
 
-  reading_is_open : (router tid : ℕ) → IsOpen (record n.atp { requester = requests.begun n.atp.requester (page_transaction (zones_at n.seat.net router) [] tid); reading = Some (record { tid = tid; names = [] }) })
-  reading_is_open router tid r is = begun_is_open n.atp.requester (page_transaction (zones_at n.seat.net router) [] tid) (record { tid = tid; names = [] }) r refl is
+  reading_is_open : (router tid : ℕ)
+      → IsOpen (record n.atp {
+        requester = requests.begun n.atp.requester
+            (page_transaction (zones_at n.seat.net router) [] tid);
+        reading = Some (record { tid = tid; names = [] });
+      })
+  reading_is_open router tid r is =
+      begun_is_open n.atp.requester (page_transaction (zones_at n.seat.net router) [] tid)
+      (record { tid = tid; names = [] }) r refl is
 
-  reading_begun : (router : ℕ) → n.seat.router ≡ Some router → (drawn : Option ℕ) → next_number n.atp.requester ≡ drawn → DrawsFree A history n (over (with_atp n) (reading_begins {A = A} n.seat n.atp router drawn)).report → IsIts A history n (Calls Zones) (over (with_atp n) (reading_begins n.seat n.atp router drawn))
-  reading_begun router is None is_drawn free = idle_happens A history n (Calls Zones) st (report.Refused 14) refl refl refl
+  reading_begun : (router : ℕ) → n.seat.router ≡ Some router → (drawn : Option ℕ) → next_number n.atp.requester ≡ drawn
+      → DrawsFree A history n (over (with_atp n) (reading_begins {A = A} n.seat n.atp router drawn)).report
+      → IsIts A history n (Calls Zones) (over (with_atp n) (reading_begins n.seat n.atp router drawn))
+  reading_begun router is None is_drawn free =
+      idle_happens A history n (Calls Zones) st (report.Refused 14) refl refl refl
   reading_begun router is (Some tid) is_drawn free =
-      begun_happens A history n (Calls Zones) st (zones_at n.seat.net router) (request_user 1) [] 1 false 3 tid (Some (record { tid = tid; names = [] })) is_drawn (free tid refl)
-      (record { who_fits = asking_fits; to_fits = there_fits router 6 (st.small_router router is) (lit< tt); asks = asks_fit []; few = lit≤ tt })
+      begun_happens A history n (Calls Zones) st (zones_at n.seat.net router) (request_user 1) [] 1 false 3 tid
+      (Some (record { tid = tid; names = [] })) is_drawn (free tid refl)
+      (record {
+        who_fits = asking_fits;
+        to_fits = there_fits router 6 (st.small_router router is) (lit< tt);
+        asks = asks_fit [];
+        few = lit≤ tt;
+      })
       refl (reading_is_open router tid)
-      (begins_match A n.seat.net n.seat.number n.atp.table (after A history) tid (zones_at n.seat.net router) (request_user 1) [] 1 false 3 Zones refl refl (ap next_number st.requester ∙ is_drawn))
-      (Reads (record { tid = tid; server = router; is_router = is; act = refl; report = refl; asked = refl; reading = refl }))
+      (begins_match A n.seat.net n.seat.number n.atp.table (after A history) tid (zones_at n.seat.net router)
+      (request_user 1) [] 1 false 3 Zones refl refl (ap next_number st.requester ∙ is_drawn))
+      (Reads (record {
+        tid = tid;
+        server = router;
+        is_router = is;
+        act = refl;
+        report = refl;
+        asked = refl;
+        reading = refl;
+      }))
 
-  pub zones_call : (router : Option ℕ) (reading : Option Reading) → n.seat.router ≡ router → DrawsFree A history n (over (with_atp n) (zones_called {A = A} n.seat n.atp router reading)).report → IsIts A history n (Calls Zones) (over (with_atp n) (zones_called n.seat n.atp router reading))
+  pub zones_call : (router : Option ℕ) (reading : Option Reading) → n.seat.router ≡ router
+      → DrawsFree A history n (over (with_atp n) (zones_called {A = A} n.seat n.atp router reading)).report
+      → IsIts A history n (Calls Zones) (over (with_atp n) (zones_called n.seat n.atp router reading))
   zones_call None reading is free = idle_happens A history n (Calls Zones) st (report.Refused 60) refl refl refl
-  zones_call (Some router) (Some r) is free = idle_happens A history n (Calls Zones) st (report.Refused 63) refl refl refl
+  zones_call (Some router) (Some r) is free =
+      idle_happens A history n (Calls Zones) st (report.Refused 63) refl refl refl
   zones_call (Some router) None is free = reading_begun router is (next_number n.atp.requester) refl free
 
   -- ---- the router's table
 
-  table_call : (names table : List (List ℕ)) → n.atp.table ≡ Some table → (fault : Option ZipFault) → table_fault names ≡ fault → IsIts A history n (Calls (SetZones names)) (over (with_atp n) (table_set n.atp names fault))
+  table_call : (names table : List (List ℕ)) → n.atp.table ≡ Some table → (fault : Option ZipFault) → table_fault names
+      ≡ fault → IsIts A history n (Calls (SetZones names)) (over (with_atp n) (table_set n.atp names fault))
   table_call names table has None none =
-      table_happens A history n (Calls (SetZones names)) st names (laws.tables names none) refl (Sets (record { names = names; table = table; act = refl; report = refl; was = has; becomes = refl; is_table = laws.tables names none; asked = refl; reading = refl }))
+      table_happens A history n (Calls (SetZones names)) st names (laws.tables names none) refl
+      (Sets (record {
+        names = names;
+        table = table;
+        act = refl;
+        report = refl;
+        was = has;
+        becomes = refl;
+        is_table = laws.tables names none;
+        asked = refl;
+        reading = refl;
+      }))
   table_call names table has (Some fault) is = refused (zip.number_of fault)
     where
-      refused : (number : Option ℕ) → IsIts A history n (Calls (SetZones names)) (over (with_atp n) (idle n.atp (refused_as number)))
+      refused : (number : Option ℕ)
+          → IsIts A history n (Calls (SetZones names)) (over (with_atp n) (idle n.atp (refused_as number)))
       refused None = idle_happens A history n (Calls (SetZones names)) st report.NoMemory refl refl refl
       refused (Some k) = idle_happens A history n (Calls (SetZones names)) st (report.Refused k) refl refl refl
 
-  pub set_zones_call : (names : List (List ℕ)) (table : Option (List (List ℕ))) → n.atp.table ≡ table → IsIts A history n (Calls (SetZones names)) (over (with_atp n) (set_zones_called n.atp table names))
-  set_zones_call names None has = idle_happens A history n (Calls (SetZones names)) st (report.Refused 60) refl refl refl
+  pub set_zones_call : (names : List (List ℕ)) (table : Option (List (List ℕ))) → n.atp.table ≡ table
+      → IsIts A history n (Calls (SetZones names)) (over (with_atp n) (set_zones_called n.atp table names))
+  set_zones_call names None has = idle_happens A history n (Calls (SetZones names)) st
+      (report.Refused 60) refl refl refl
   set_zones_call names (Some table) has = table_call names table has (table_fault names) refl
 
   -- ---- asking
 
   -- a transaction that begins is not the one that reads the list
-  apart_from_reading : (tid : ℕ) → next_number n.atp.requester ≡ Some tid → (r : Reading) → n.atp.reading ≡ Some r → (tid == r.tid) ≡ false
+  apart_from_reading : (tid : ℕ) → next_number n.atp.requester ≡ Some tid → (r : Reading) → n.atp.reading ≡ Some r
+      → (tid == r.tid) ≡ false
   apart_from_reading tid drawn r is = go (tid == r.tid) refl
     where
       go : (b : Bool) → (tid == r.tid) ≡ b → b ≡ false
       go false e = refl
-      go true e = absurd (true≢false (sym (st.is_open r is) ∙ ap (has_number n.atp.requester.standing) (sym (eqb-true tid r.tid e)) ∙ laws.drawn n.atp.requester tid drawn))
+      go true e = absurd (true≢false
+          (sym (st.is_open r is) ∙ ap (has_number n.atp.requester.standing) (sym (eqb-true tid r.tid e))
+          ∙ laws.drawn n.atp.requester tid drawn))
 
-  module _ (node socket : ℕ) (user bytes : List ℕ) (wanted : ℕ) (xo : Bool) (retries : ℕ) (range : IsCall {A = A} (Ask node socket user bytes wanted xo retries)) where
-    asked_for : length bytes ≤ 578 → (drawn : Option ℕ) → next_number n.atp.requester ≡ drawn → DrawsFree A history n (over (with_atp n) (asked_as {A = A} n.seat n.atp (at_socket n.seat node socket) user bytes wanted xo retries drawn)).report →
-        IsIts A history n (Calls (Ask node socket user bytes wanted xo retries)) (over (with_atp n) (asked_as n.seat n.atp (at_socket n.seat node socket) user bytes wanted xo retries drawn))
-    asked_for few None is_drawn free = idle_happens A history n (Calls (Ask node socket user bytes wanted xo retries)) st (report.Refused 14) refl refl refl
+  module _ (node socket : ℕ) (user bytes : List ℕ) (wanted : ℕ) (xo : Bool) (retries : ℕ)
+      (range : IsCall {A = A} (Ask node socket user bytes wanted xo retries)) where
+    asked_for : length bytes ≤ 578 → (drawn : Option ℕ) → next_number n.atp.requester ≡ drawn
+        → DrawsFree A history n (over (with_atp n)
+        (asked_as {A = A} n.seat n.atp (at_socket n.seat node socket) user bytes wanted xo retries drawn)).report →
+        IsIts A history n (Calls (Ask node socket user bytes wanted xo retries))
+        (over (with_atp n) (asked_as n.seat n.atp (at_socket n.seat node socket) user bytes wanted xo retries
+        drawn))
+    asked_for few None is_drawn free =
+        idle_happens A history n (Calls (Ask node socket user bytes wanted xo retries)) st
+        (report.Refused 14) refl refl refl
     asked_for few (Some tid) is_drawn free =
-        begun_happens A history n (Calls (Ask node socket user bytes wanted xo retries)) st (at_socket n.seat node socket) user bytes wanted xo retries tid n.atp.reading is_drawn (free tid refl)
-        (record { who_fits = asking_fits; to_fits = there_fits node socket range.0 range.1; asks = record { four = range.2; user = range.3; bytes = range.4; fits = few }; few = range.6 })
-        refl (λ r is. open_more n.atp.requester.standing (beginning tid (at_socket n.seat node socket) user bytes wanted xo retries ∷ []) r.tid (st.is_open r is))
-        (begins_match A n.seat.net n.seat.number n.atp.table (after A history) tid (at_socket n.seat node socket) user bytes wanted xo retries (Ask node socket user bytes wanted xo retries) refl refl (ap next_number st.requester ∙ is_drawn))
+        begun_happens A history n (Calls (Ask node socket user bytes wanted xo retries)) st
+        (at_socket n.seat node socket) user bytes wanted xo retries tid n.atp.reading is_drawn (free tid refl)
+        (record {
+          who_fits = asking_fits;
+          to_fits = there_fits node socket range.0 range.1;
+          asks = record { four = range.2; user = range.3; bytes = range.4; fits = few };
+          few = range.6;
+        })
+        refl (λ r is. open_more n.atp.requester.standing
+        (beginning tid (at_socket n.seat node socket) user bytes wanted xo retries ∷ []) r.tid (st.is_open r is))
+        (begins_match A n.seat.net n.seat.number n.atp.table (after A history) tid
+        (at_socket n.seat node socket) user bytes wanted xo retries
+        (Ask node socket user bytes wanted xo retries) refl refl (ap next_number st.requester ∙ is_drawn))
         (Begins (record {
           tid = tid;
           node = node;
@@ -150,14 +219,32 @@ module _ (A : Type 0) (laws : CallLaws A) (history : List Happening) (n : NodeSt
           retries = retries;
           act = refl;
           report = refl;
-          asked = λ i. record { requester = asking n.seat.net n.seat.number; tid = tid; responder = at_socket n.seat node socket; user = user; data_ = bytes; wanted = length-replicate {A = Option arrivals.Arrival} wanted None i; xo = xo; answers = [] } ∷ (after A history).asked;
+          asked = λ i. record {
+            requester = asking n.seat.net n.seat.number;
+            tid = tid;
+            responder = at_socket n.seat node socket;
+            user = user;
+            data_ = bytes;
+            wanted = length-replicate {A = Option arrivals.Arrival} wanted None i;
+            xo = xo;
+            answers = [];
+          } ∷
+              (after A history).asked;
           reading = refl;
           apart = apart_from_reading tid is_drawn;
         }))
 
-    pub ask_call : (b : Bool) → nat_lt 578 (length bytes) ≡ b → DrawsFree A history n (over (with_atp n) (cond b (idle {A = A} n.atp (report.Refused 13)) (asked_as n.seat n.atp (at_socket n.seat node socket) user bytes wanted xo retries (next_number n.atp.requester)))).report →
-        IsIts A history n (Calls (Ask node socket user bytes wanted xo retries)) (over (with_atp n) (cond b (idle n.atp (report.Refused 13)) (asked_as n.seat n.atp (at_socket n.seat node socket) user bytes wanted xo retries (next_number n.atp.requester))))
-    ask_call true e free = idle_happens A history n (Calls (Ask node socket user bytes wanted xo retries)) st (report.Refused 13) refl refl refl
+    pub ask_call : (b : Bool) → nat_lt 578 (length bytes) ≡ b
+        → DrawsFree A history n (over (with_atp n)
+        (cond b (idle {A = A} n.atp (report.Refused 13))
+        (asked_as n.seat n.atp (at_socket n.seat node socket) user bytes wanted xo retries
+        (next_number n.atp.requester)))).report →
+        IsIts A history n (Calls (Ask node socket user bytes wanted xo retries))
+        (over (with_atp n) (cond b (idle n.atp (report.Refused 13))
+        (asked_as n.seat n.atp (at_socket n.seat node socket) user bytes wanted xo retries
+        (next_number n.atp.requester))))
+    ask_call true e free = idle_happens A history n (Calls (Ask node socket user bytes wanted xo retries)) st
+        (report.Refused 13) refl refl refl
     ask_call false e free = asked_for (few_bytes (length bytes) e) (next_number n.atp.requester) refl free
       where
         few_bytes : (len : ℕ) → nat_lt 578 len ≡ false → len ≤ 578

@@ -1,5 +1,6 @@
 -- What each call of a node is in the network.
-use Rattle.std.proofs.Common.{◌≡◌, ℕ, Bool, true, false, cond, List, [], ◌∷◌, ◌++◌, length, Option, Some, None, refl, ap, ◌∙◌, lit<}
+use Rattle.std.proofs.Common.{◌≡◌, ℕ, Bool, true, false, cond, List, [], ◌∷◌, ◌++◌, length, Option, Some, None, refl}
+use Rattle.std.proofs.Common.{ap, ◌∙◌, lit<}
 use Rattle.std.specs.Prelude.{find, ◌&&◌, nat_lt, nat_le}
 use Rattle.std.specs.List.{AllByRecursion}
 use Rattle.std.proofs.lemmas.Bool.{and_parts, leb-true}
@@ -11,7 +12,8 @@ use Rattle.at_atp_frame.specs.declared.fault.AtpFault.TheVariants.{AtpTooLong}
 use Rattle.at_atp_responder.specs.Records.{Record, is_key, after_answer, answer_fault, record_fault, asked_for, fit}
 use Rattle.at_atp_responder.specs.declared.reception.Key.{Key}
 use Rattle.at_atp.specs.Network as network
-use Rattle.at_atp.specs.Network.{Network, Happening, after, done, put, stamped}
+use Rattle.at_ddp.specs.Posts.{put, stamped}
+use Rattle.at_atp.specs.Network.{Network, Happening, after, done}
 use Rattle.at_atp.specs.Transactions.{Asked}
 use Rattle.at_event.specs.Calls.{IsCall}
 use Rattle.at_node.specs.AtpParts.{serving}
@@ -21,7 +23,9 @@ use Rattle.at_event.specs.Outcomes.{over, idle, refused_as}
 use Rattle.at_event.specs.Seats.{at_socket}
 use Rattle.at_node.specs.ServiceSocket.{answered_with}
 use Rattle.at_event.specs.declared.event.Call.{Call}
-use Rattle.at_event.specs.declared.event.Call.TheVariants.{Zones, SetZones, Ask, Answer, Pick, Find, Claim, Finish, Register, Unregister, Open, Listen, Connect, Write, Read, Reset, Close}
+use Rattle.at_event.specs.declared.event.Call.TheVariants.{Zones, SetZones, Ask, Answer, Pick, Find, Claim, Finish}
+use Rattle.at_event.specs.declared.event.Call.TheVariants.{Register, Unregister, Open, Listen, Connect, Write, Read}
+use Rattle.at_event.specs.declared.event.Call.TheVariants.{Reset, Close}
 use Rattle.at_event.specs.declared.event.Report.TheVariants as report
 use Rattle.at_steps.specs.Acts.{Act, Calls, is_atp}
 use Rattle.at_steps.specs.AtpSteps as steps
@@ -32,78 +36,129 @@ use Rattle.at_steps.proofs.Atp.Moves.{IsIts, idle_happens, gave_happens, with_se
 use Rattle.at_steps.proofs.Atp.Stories.{answers_match}
 
 -- a refusal by the transaction protocol
-pub refused_happens : (A : Type 0) (history : List Happening) (n : NodeState) (act : Act A) (st : Stands A history n.seat.net n.seat.number n) (number : Option ℕ) → IsIts A history n act (over (with_atp n) (idle n.atp (refused_as number)))
+pub refused_happens : (A : Type 0) (history : List Happening) (n : NodeState) (act : Act A)
+    (st : Stands A history n.seat.net n.seat.number n) (number : Option ℕ)
+    → IsIts A history n act (over (with_atp n) (idle n.atp (refused_as number)))
 refused_happens A history n act st None = idle_happens A history n act st report.NoMemory refl refl refl
 refused_happens A history n act st (Some i) = idle_happens A history n act st (report.Refused i) refl refl refl
 
-module _ (A : Type 0) (laws : CallLaws A) (history : List Happening) (n : NodeState) (st : Stands A history n.seat.net n.seat.number n) where
+module _ (A : Type 0) (laws : CallLaws A) (history : List Happening) (n : NodeState)
+    (st : Stands A history n.seat.net n.seat.number n) where
   serving_fits : IsAddress (serving n.seat.net n.seat.number)
   serving_fits = record { net = st.small_net; node = st.small_number; socket = lit< tt }
 
   -- an answer that is not refused has a record, and packets that fit
-  found_record : (rs : List Record) (key : Key) (packets : List Packet) → answer_fault rs key packets ≡ None → ((r : Record) × (find (is_key key) rs ≡ Some r)) × (fit packets ≡ true)
+  found_record : (rs : List Record) (key : Key) (packets : List Packet) → answer_fault rs key packets ≡ None
+      → ((r : Record) × (find (is_key key) rs ≡ Some r)) × (fit packets ≡ true)
   found_record rs key [] h = absurd (cc)
   found_record rs key (p ∷ ps) h = go (nat_le (length (p ∷ ps)) 8) (fit (p ∷ ps)) refl h
     where
-      stands_there : (o : Option Record) → find (is_key key) rs ≡ o → record_fault o ≡ None → (r : Record) × (find (is_key key) rs ≡ Some r)
+      stands_there : (o : Option Record) → find (is_key key) rs ≡ o → record_fault o ≡ None → (r : Record)
+          × (find (is_key key) rs ≡ Some r)
       stands_there None e g = absurd (cc)
       stands_there (Some r) e g = (r, e)
 
-      go : (b c : Bool) → fit (p ∷ ps) ≡ c → cond (b && c) (record_fault (find (is_key key) rs)) (Some AtpTooLong) ≡ None → ((r : Record) × (find (is_key key) rs ≡ Some r)) × (fit (p ∷ ps) ≡ true)
+      go : (b c : Bool) → fit (p ∷ ps) ≡ c → cond (b && c) (record_fault (find (is_key key) rs)) (Some AtpTooLong)
+          ≡ None → ((r : Record) × (find (is_key key) rs ≡ Some r)) × (fit (p ∷ ps) ≡ true)
       go true true e g = (stands_there (find (is_key key) rs) refl g, e)
       go true false e g = absurd (cc)
       go false c e g = absurd (cc)
 
-  packets_fit : (packets : List Packet) → fit packets ≡ true → AllByRecursion AreWords packets → AllByRecursion IsPacket packets
+  packets_fit : (packets : List Packet) → fit packets ≡ true → AllByRecursion AreWords packets
+      → AllByRecursion IsPacket packets
   packets_fit [] h all = tt
   packets_fit (p ∷ ps) h all =
       let both = and_parts (nat_le (length p.data_) 578) (fit ps) h in
-      let a = all.0 in
-      (record { four = a.four; user = a.user; bytes = a.bytes; fits = leb-true (length p.data_) 578 both.0 }, packets_fit ps both.1 all.1)
+      let a = all.0 in (
+        record { four = a.four; user = a.user; bytes = a.bytes; fits = leb-true (length p.data_) 578 both.0 },
+        packets_fit ps both.1 all.1,
+      )
 
   module _ (node socket tid : ℕ) (packets : List Packet) (range : IsCall {A = A} (Answer node socket tid packets)) where
-    is_done : answer_fault n.atp.service_responder (record { from = at_socket n.seat node socket; tid = tid }) packets ≡ None → done A (after A history) (network.Answers (serving n.seat.net n.seat.number) (record { from = at_socket n.seat node socket; tid = tid }) packets) ≡ network.answers (after A history) (serving n.seat.net n.seat.number) (record { from = at_socket n.seat node socket; tid = tid }) packets None
-    is_done free = ap (λ f. network.answers (after A history) (serving n.seat.net n.seat.number) (record { from = at_socket n.seat node socket; tid = tid }) packets f) (ap (λ rs. answer_fault rs (record { from = at_socket n.seat node socket; tid = tid }) packets) st.service ∙ free)
+    is_done : answer_fault n.atp.service_responder (record { from = at_socket n.seat node socket; tid = tid }) packets
+        ≡ None → done A (after A history)
+        (network.Answers (serving n.seat.net n.seat.number) (record { from = at_socket n.seat node socket; tid = tid })
+        packets) ≡ network.answers (after A history) (serving n.seat.net n.seat.number)
+        (record { from = at_socket n.seat node socket; tid = tid }) packets None
+    is_done free = ap (λ f. network.answers (after A history) (serving n.seat.net n.seat.number)
+        (record { from = at_socket n.seat node socket; tid = tid }) packets f)
+        (ap (λ rs. answer_fault rs (record { from = at_socket n.seat node socket; tid = tid }) packets) st.service
+        ∙ free)
 
-    answer_call : (fault : Option AtpFault) → answer_fault n.atp.service_responder (record { from = at_socket n.seat node socket; tid = tid }) packets ≡ fault →
-        IsIts A history n (Calls (Answer node socket tid packets)) (over (with_atp n) (answered_with n.seat n.atp (record { from = at_socket n.seat node socket; tid = tid }) packets fault))
-    answer_call (Some fault) is = refused_happens A history n (Calls (Answer node socket tid packets)) st (number_of fault)
+    answer_call : (fault : Option AtpFault)
+        → answer_fault n.atp.service_responder (record { from = at_socket n.seat node socket; tid = tid }) packets
+        ≡ fault →
+        IsIts A history n (Calls (Answer node socket tid packets))
+        (over (with_atp n) (answered_with n.seat n.atp (record { from = at_socket n.seat node socket; tid = tid })
+        packets fault))
+    answer_call (Some fault) is = refused_happens A history n (Calls (Answer node socket tid packets)) st
+        (number_of fault)
     answer_call None is =
-        let found = found_record n.atp.service_responder (record { from = at_socket n.seat node socket; tid = tid }) packets is in
+        let found = found_record n.atp.service_responder (record { from = at_socket n.seat node socket; tid = tid })
+        packets is in
         let gives = laws.answers history st.timely in
-        let held = ap (find (is_key (record { from = at_socket n.seat node socket; tid = tid }))) st.service ∙ found.0.1 in
-        let asked : Asked (after A history).asked (at_socket n.seat node socket) tid (serving n.seat.net n.seat.number) = gives.recorded (serving n.seat.net n.seat.number) (record { from = at_socket n.seat node socket; tid = tid }) found.0.0 held in
+        let held = ap (find (is_key (record { from = at_socket n.seat node socket; tid = tid }))) st.service
+        ∙ found.0.1 in
+        let asked : Asked (after A history).asked (at_socket n.seat node socket) tid
+        (serving n.seat.net n.seat.number) = gives.recorded (serving n.seat.net n.seat.number)
+        (record { from = at_socket n.seat node socket; tid = tid }) found.0.0 held in
         let done_is = is_done is in
-        gave_happens A history n (Calls (Answer node socket tid packets)) st (network.Answers (serving n.seat.net n.seat.number) (record { from = at_socket n.seat node socket; tid = tid }) packets) (report.Answered (length (asked_for (find (is_key (record { from = at_socket n.seat node socket; tid = tid })) n.atp.service_responder) (record { from = at_socket n.seat node socket; tid = tid }) packets)))
-        (serving n.seat.net n.seat.number) (at_socket n.seat node socket) tid packets n.atp.zone_responder (after_answer n.atp.service_responder (record { from = at_socket n.seat node socket; tid = tid }) packets) (asked_for (find (is_key (record { from = at_socket n.seat node socket; tid = tid })) n.atp.service_responder) (record { from = at_socket n.seat node socket; tid = tid }) packets)
+        gave_happens A history n (Calls (Answer node socket tid packets)) st
+        (network.Answers (serving n.seat.net n.seat.number)
+        (record { from = at_socket n.seat node socket; tid = tid }) packets)
+        (report.Answered (length
+        (asked_for (find (is_key (record { from = at_socket n.seat node socket; tid = tid }))
+        n.atp.service_responder) (record { from = at_socket n.seat node socket; tid = tid }) packets)))
+        (serving n.seat.net n.seat.number) (at_socket n.seat node socket) tid packets n.atp.zone_responder
+        (after_answer n.atp.service_responder (record { from = at_socket n.seat node socket; tid = tid }) packets)
+        (asked_for (find (is_key (record { from = at_socket n.seat node socket; tid = tid }))
+        n.atp.service_responder) (record { from = at_socket n.seat node socket; tid = tid }) packets)
         tt (serving_fits, packets_fit packets found.1 range.3)
         (ap (λ (x : Network). x.event) done_is)
         (λ who. ap (λ (x : Network). x.requesters who) done_is)
-        (λ at. ap (λ (x : Network). x.responders at) done_is ∙ ap (λ rs. put (after A history).responders (serving n.seat.net n.seat.number) (after_answer rs (record { from = at_socket n.seat node socket; tid = tid }) packets) at) st.service ∙ with_service A history n (Calls (Answer node socket tid packets)) st (after_answer n.atp.service_responder (record { from = at_socket n.seat node socket; tid = tid }) packets) at)
-        (ap (λ (x : Network). x.sent) done_is ∙ ap (λ rs. (after A history).sent ++ stamped (after A history).event (serving n.seat.net n.seat.number) (asked_for (find (is_key (record { from = at_socket n.seat node socket; tid = tid })) rs) (record { from = at_socket n.seat node socket; tid = tid }) packets)) st.service)
+        (λ at. ap (λ (x : Network). x.responders at) done_is
+        ∙ ap (λ rs. put (after A history).responders (serving n.seat.net n.seat.number)
+        (after_answer rs (record { from = at_socket n.seat node socket; tid = tid }) packets) at) st.service
+        ∙ with_service A history n (Calls (Answer node socket tid packets)) st
+        (after_answer n.atp.service_responder (record { from = at_socket n.seat node socket; tid = tid }) packets)
+        at)
+        (ap (λ (x : Network). x.sent) done_is
+        ∙ ap (λ rs. (after A history).sent ++ stamped (after A history).event (serving n.seat.net n.seat.number)
+        (asked_for (find (is_key (record { from = at_socket n.seat node socket; tid = tid })) rs)
+        (record { from = at_socket n.seat node socket; tid = tid }) packets)) st.service)
         (ap (λ (x : Network). x.drawn) done_is)
         (ap (λ (x : Network). x.asked) done_is) refl
-        (answers_match A n.seat.net n.seat.number n.atp.table (after A history) (serving n.seat.net n.seat.number) (record { from = at_socket n.seat node socket; tid = tid }) packets node socket tid (length (asked_for (find (is_key (record { from = at_socket n.seat node socket; tid = tid })) n.atp.service_responder) (record { from = at_socket n.seat node socket; tid = tid }) packets)) refl
+        (answers_match A n.seat.net n.seat.number n.atp.table (after A history) (serving n.seat.net n.seat.number)
+        (record { from = at_socket n.seat node socket; tid = tid }) packets node socket tid
+        (length (asked_for (find (is_key (record { from = at_socket n.seat node socket; tid = tid }))
+        n.atp.service_responder) (record { from = at_socket n.seat node socket; tid = tid }) packets)) refl
         (ap (λ (x : Network). x.asked) done_is))
         (steps.Answers (record {
           node = node;
           socket = socket;
           tid = tid;
           packets = packets;
-          count = length (asked_for (find (is_key (record { from = at_socket n.seat node socket; tid = tid })) n.atp.service_responder) (record { from = at_socket n.seat node socket; tid = tid }) packets);
+          count = length (asked_for
+              (find (is_key (record { from = at_socket n.seat node socket; tid = tid })) n.atp.service_responder)
+              (record { from = at_socket n.seat node socket; tid = tid }) packets);
           act = refl;
           report = refl;
           newest = asked;
-          few = laws.few (find (is_key (record { from = at_socket n.seat node socket; tid = tid })) n.atp.service_responder) (record { from = at_socket n.seat node socket; tid = tid }) packets;
+          few = laws.few (find (is_key (record { from = at_socket n.seat node socket; tid = tid }))
+              n.atp.service_responder) (record { from = at_socket n.seat node socket; tid = tid }) packets;
           asked = refl;
           reading = refl;
         }))
 
-  pub call_happens : (call : Call A) → IsCall call → is_atp (kind_of_call call) ≡ true → DrawsFree A history n (called n call).report → IsIts A history n (Calls call) (called n call)
+  pub call_happens : (call : Call A) → IsCall call → is_atp (kind_of_call call) ≡ true
+      → DrawsFree A history n (called n call).report → IsIts A history n (Calls call) (called n call)
   call_happens Zones range own free = zones_call A laws history n st n.seat.router n.atp.reading refl free
   call_happens (SetZones names) range own free = set_zones_call A laws history n st names n.atp.table refl
-  call_happens (Ask node socket user bytes wanted xo retries) range own free = ask_call A laws history n st node socket user bytes wanted xo retries range (nat_lt 578 (length bytes)) refl free
-  call_happens (Answer node socket tid packets) range own free = answer_call node socket tid packets range (answer_fault n.atp.service_responder (record { from = at_socket n.seat node socket; tid = tid }) packets) refl
+  call_happens (Ask node socket user bytes wanted xo retries) range own free = ask_call A laws history n st node socket
+      user bytes wanted xo retries range (nat_lt 578 (length bytes)) refl free
+  call_happens (Answer node socket tid packets) range own free =
+      answer_call node socket tid packets range
+      (answer_fault n.atp.service_responder (record { from = at_socket n.seat node socket; tid = tid }) packets) refl
   call_happens (Pick zone) range own free = absurd (cc)
   call_happens (Find object kind _) range own free = absurd (cc)
   call_happens (Claim object kind socket) range own free = absurd (cc)

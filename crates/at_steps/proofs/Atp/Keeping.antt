@@ -8,7 +8,8 @@ use Rattle.at_steps.specs.Acts.{Act}
 use Rattle.at_steps.proofs.Atp.Moves.{IsIts}
 use Rattle.at_steps.proofs.Kept.{in_session}
 
-pub keeping : (A : Type 0) (history : List Happening) (n : NodeState) (act : Act A) (o : Outcome A NodeState) (kept : SessionState) → IsIts A history n act o → IsIts A history n act (in_session kept o)
+pub keeping : (A : Type 0) (history : List Happening) (n : NodeState) (act : Act A) (o : Outcome A NodeState)
+    (kept : SessionState) → IsIts A history n act o → IsIts A history n act (in_session kept o)
 keeping A history n act o kept (h, step, sends) = (
   record {
     happening = h.happening;

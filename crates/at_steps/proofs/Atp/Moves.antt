@@ -1,5 +1,7 @@
--- The kinds of happenings at a node: nothing, a requester or a responder changes, an answer joins, a transaction begins.
-use Rattle.std.proofs.Common.{◌≡◌, ℕ, Bool, true, false, cond, List, [], ◌∷◌, ◌++◌, Option, Some, None, refl, sym, ap, subst, ◌∙◌}
+-- The kinds of happenings at a node: nothing, a requester or a responder changes, an answer joins, a transaction
+-- begins.
+use Rattle.std.proofs.Common.{◌≡◌, ℕ, Bool, true, false, cond, List, [], ◌∷◌, ◌++◌, Option, Some, None, refl, sym, ap}
+use Rattle.std.proofs.Common.{subst, ◌∙◌}
 use Rattle.std.specs.Prelude.{◌==◌, ◌&&◌, length, replicate}
 use Rattle.std.specs.List.{AllByRecursion}
 use Rattle.std.proofs.lemmas.Bool.{eq-eqb, true≢false}
@@ -13,11 +15,16 @@ use Rattle.at_atp_requester.specs.Requests.{Requests, finishes, heard, next_numb
 use Rattle.at_atp_responder.specs.Records.{Record}
 use Rattle.at_atp.specs.Lawfully.{IsInRange, IsAsking}
 use Rattle.at_atp.specs.Network as network
-use Rattle.at_atp.specs.Network.{Network, Sent, Happening, Begins, Turns, Other, ComesInTime, NoneHolds, ending, number_after, packet_at, after, done, put, stamped, with_requester, with_responder, new_transaction, IsTimely}
+use Rattle.at_ddp.specs.Posts.{packet_at, put, stamped}
+use Rattle.at_ddp.proofs.PostLemmas.{put_here, put_same, put_itself}
+use Rattle.at_ddp.specs.Protocols.{atp_kind}
+use Rattle.at_steps.proofs.Entries.{entries_of, entries_foreign}
+use Rattle.at_atp.specs.Network.{Network, Sent, Happening, Begins, Turns, Other, ComesInTime, NoneHolds, ending}
+use Rattle.at_atp.specs.Network.{number_after, after, done, with_requester, with_responder, new_transaction, IsTimely}
 use Rattle.at_atp.specs.Transactions.{Transaction, is_transaction, answered}
 use Rattle.at_zip.specs.Zones.{IsTable}
-use Rattle.at_node.specs.AtpParts.{AtpState, Reading, asking, serving, zones_at, atp_kind}
-use Rattle.at_node.specs.Drawing.{drawn_by}
+use Rattle.at_node.specs.AtpParts.{AtpState, Reading, asking, serving, zones_at}
+use Rattle.at_node.specs.Numbers.{drawn_by}
 use Rattle.at_node.specs.Nodes.{NodeState, with_atp}
 use Rattle.at_event.specs.Outcomes.{Outcome, Outgoing, idle, sent_by}
 use Rattle.at_event.specs.declared.event.Report.{Report}
@@ -25,24 +32,17 @@ use Rattle.at_event.specs.declared.event.Report.TheVariants as report
 use Rattle.at_event.specs.declared.event.Timer.TheVariants as timer
 use Rattle.at_steps.specs.Acts.{Act, Calls, Fires, Gets, owner_of, is_atp, Forges}
 use Rattle.at_steps.specs.AtpReports.{Matches}
-use Rattle.at_steps.specs.AtpHappenings.{Stands, IsOn, IsOpen, AreEntries, IsHappening, IsForeign, Passes, SendsAtp, numbers_drawn}
+use Rattle.at_steps.specs.AtpHappenings.{Stands, IsOn, IsOpen, IsHappening, IsForeign, Passes, SendsAtp, numbers_drawn}
+use Rattle.at_steps.specs.AtpHappenings.{atp_coding}
 use Rattle.at_steps.specs.AtpSteps.{IsStep, Plain, is_plain}
 use Rattle.at_steps.proofs.Atp.Stories.{is_quiet, other_matches}
-use Rattle.at_steps.proofs.Atp.Values.{put_here, put_same, put_itself, put_twice}
+use Rattle.at_steps.proofs.Atp.Values.{put_twice}
 
 -- ---- what is sent
-
-pub entries_of : (event : ℕ) (own : Address) (xs : List (Address × Content)) → AreEntries event (sent_by own atp_kind (spelled_all xs)) (stamped event own xs)
-entries_of event own [] = tt
-entries_of event own (x ∷ xs) = ((refl, refl), entries_of event own xs)
 
 all_atp : (own : Address) (xs : List (Address × Content)) → SendsAtp (sent_by own atp_kind (spelled_all xs))
 all_atp own [] = tt
 all_atp own (x ∷ xs) = (refl, all_atp own xs)
-
-entries_foreign : (event : ℕ) (out : List Outgoing) → AllByRecursion (λ (o : Outgoing). (o.kind == atp_kind) ≡ false) out → AreEntries event out (replicate (length out) None)
-entries_foreign event [] all = tt
-entries_foreign event (o ∷ out) all = (all.0, entries_foreign event out all.1)
 
 -- ---- reports of other protocols
 
@@ -58,7 +58,8 @@ foreign_is_quiet A (report.Response tid packets) (Gets which) h = absurd (true�
 foreign_is_quiet A report.Done (Fires (timer.Release own node socket tid)) h = absurd (true≢false h)
 foreign_is_quiet A r act h = refl
 
-foreign_draws_nothing : (A : Type 0) (act : Act A) (r : Report A) (event : ℕ) (who : Address) → is_atp (owner_of act r) ≡ false → numbers_drawn event who (drawn_by r) ≡ []
+foreign_draws_nothing : (A : Type 0) (act : Act A) (r : Report A) (event : ℕ) (who : Address) → is_atp (owner_of act r)
+    ≡ false → numbers_drawn event who (drawn_by r) ≡ []
 foreign_draws_nothing A (Calls call) (report.Begun tid) event who h = absurd (true≢false h)
 foreign_draws_nothing A (Gets which) (report.Begun tid) event who h = absurd (true≢false h)
 foreign_draws_nothing A Forges (report.Begun tid) event who h = absurd (true≢false h)
@@ -68,48 +69,79 @@ foreign_draws_nothing A act r event who h = refl
 -- ---- lists of transactions
 
 -- what holds of each transaction, and of the one that an answer joins, once it joined
-pub answered_all : (P : Transaction → Type 0) (ts : List Transaction) (from : Address) (tid : ℕ) (packets : List Packet) → AllByRecursion P ts →
-    ((a : Transaction) → P a → P (record a { answers = a.answers ++ packets ∷ [] })) → AllByRecursion P (answered ts from tid packets)
+pub answered_all : (P : Transaction → Type 0) (ts : List Transaction) (from : Address) (tid : ℕ)
+    (packets : List Packet) → AllByRecursion P ts →
+    ((a : Transaction) → P a → P (record a { answers = a.answers ++ packets ∷ [] }))
+    → AllByRecursion P (answered ts from tid packets)
 answered_all P [] from tid packets all joins = tt
-answered_all P (t ∷ ts) from tid packets all joins = go (answered_all P ts from tid packets all.1 joins) (is_transaction from tid t)
+answered_all P (t ∷ ts) from tid packets all joins = go (answered_all P ts from tid packets all.1 joins)
+    (is_transaction from tid t)
   where
-    go : AllByRecursion P (answered ts from tid packets) → (b : Bool) → AllByRecursion P (cond b (record t { answers = t.answers ++ packets ∷ [] } ∷ ts) (t ∷ answered ts from tid packets))
+    go : AllByRecursion P (answered ts from tid packets) → (b : Bool)
+        → AllByRecursion P (cond b (record t { answers = t.answers ++ packets ∷ [] } ∷ ts)
+        (t ∷ answered ts from tid packets))
     go rest true = (joins t all.0, all.1)
     go rest false = (all.0, rest)
 
 -- a step of the part, from its transactions to these
-abbrev pub StepTo : (A : Type 0) (history : List Happening) (n : NodeState) → Act A → List Transaction → AtpState → Report A → Type 0
-StepTo A history n act ts x r = IsStep n.seat.net n.seat.number n.seat.router (record { asked = (after A history).asked; now_asked = ts; part = n.atp; now = x; act = act; report = r })
+abbrev pub StepTo : (A : Type 0) (history : List Happening) (n : NodeState) → Act A → List Transaction → AtpState
+    → Report A → Type 0
+StepTo A history n act ts x r =
+    IsStep n.seat.net n.seat.number n.seat.router
+    (record { asked = (after A history).asked; now_asked = ts; part = n.atp; now = x; act = act; report = r })
 
 abbrev pub IsIts : (A : Type 0) (history : List Happening) (n : NodeState) → Act A → Outcome A NodeState → Type 0
 IsIts A history n act o = IsHappening A history n.seat.net n.seat.number n act o
 
-module _ (A : Type 0) (history : List Happening) (n : NodeState) (act : Act A) (st : Stands A history n.seat.net n.seat.number n) where
+module _ (A : Type 0) (history : List Happening) (n : NodeState) (act : Act A)
+    (st : Stands A history n.seat.net n.seat.number n) where
   sockets_apart : same_address (serving n.seat.net n.seat.number) (zones_at n.seat.net n.seat.number) ≡ false
   sockets_apart = λ i. eq-eqb n.seat.net n.seat.net refl i && eq-eqb n.seat.number n.seat.number refl i && false
 
   -- the zone socket's records, once the service's are put
-  zones_still : (rs : List Record) → put (after A history).responders (serving n.seat.net n.seat.number) rs (zones_at n.seat.net n.seat.number) ≡ n.atp.zone_responder
-  zones_still rs = ap (λ b. cond b rs ((after A history).responders (zones_at n.seat.net n.seat.number))) sockets_apart ∙ st.zones
+  zones_still : (rs : List Record)
+      → put (after A history).responders (serving n.seat.net n.seat.number) rs (zones_at n.seat.net n.seat.number)
+      ≡ n.atp.zone_responder
+  zones_still rs = ap (λ b. cond b rs ((after A history).responders (zones_at n.seat.net n.seat.number))) sockets_apart
+      ∙ st.zones
 
-  requesters_stay : (who : Address) → (after A history).requesters who ≡ put (after A history).requesters (asking n.seat.net n.seat.number) n.atp.requester who
-  requesters_stay who = put_itself (after A history).requesters (asking n.seat.net n.seat.number) n.atp.requester st.requester who
+  requesters_stay : (who : Address) → (after A history).requesters who
+      ≡ put (after A history).requesters (asking n.seat.net n.seat.number) n.atp.requester who
+  requesters_stay who = put_itself (after A history).requesters
+      (asking n.seat.net n.seat.number) n.atp.requester st.requester who
 
-  pub with_service : (rs : List Record) (at : Address) → put (after A history).responders (serving n.seat.net n.seat.number) rs at ≡ put (put (after A history).responders (serving n.seat.net n.seat.number) rs) (zones_at n.seat.net n.seat.number) n.atp.zone_responder at
-  with_service rs at = put_itself (put (after A history).responders (serving n.seat.net n.seat.number) rs) (zones_at n.seat.net n.seat.number) n.atp.zone_responder (zones_still rs) at
+  pub with_service : (rs : List Record) (at : Address)
+      → put (after A history).responders (serving n.seat.net n.seat.number) rs at
+      ≡ put (put (after A history).responders (serving n.seat.net n.seat.number) rs)
+      (zones_at n.seat.net n.seat.number) n.atp.zone_responder at
+  with_service rs at = put_itself (put (after A history).responders (serving n.seat.net n.seat.number) rs)
+      (zones_at n.seat.net n.seat.number) n.atp.zone_responder (zones_still rs) at
 
-  pub with_served : (rs : List Record) (at : Address) → put (after A history).responders (zones_at n.seat.net n.seat.number) rs at ≡ put (put (after A history).responders (serving n.seat.net n.seat.number) n.atp.service_responder) (zones_at n.seat.net n.seat.number) rs at
-  with_served rs at = put_same (after A history).responders (put (after A history).responders (serving n.seat.net n.seat.number) n.atp.service_responder) (zones_at n.seat.net n.seat.number) rs at (put_itself (after A history).responders (serving n.seat.net n.seat.number) n.atp.service_responder st.service at)
+  pub with_served : (rs : List Record) (at : Address)
+      → put (after A history).responders (zones_at n.seat.net n.seat.number) rs at
+      ≡ put (put (after A history).responders (serving n.seat.net n.seat.number) n.atp.service_responder)
+      (zones_at n.seat.net n.seat.number) rs at
+  with_served rs at = put_same (after A history).responders
+      (put (after A history).responders (serving n.seat.net n.seat.number) n.atp.service_responder)
+      (zones_at n.seat.net n.seat.number) rs at
+      (put_itself (after A history).responders (serving n.seat.net n.seat.number) n.atp.service_responder st.service at)
 
-  responders_stay : (at : Address) → (after A history).responders at ≡ put (put (after A history).responders (serving n.seat.net n.seat.number) n.atp.service_responder) (zones_at n.seat.net n.seat.number) n.atp.zone_responder at
-  responders_stay at = put_itself (after A history).responders (serving n.seat.net n.seat.number) n.atp.service_responder st.service at ∙ with_service n.atp.service_responder at
+  responders_stay : (at : Address) → (after A history).responders at
+      ≡ put (put (after A history).responders (serving n.seat.net n.seat.number) n.atp.service_responder)
+      (zones_at n.seat.net n.seat.number) n.atp.zone_responder at
+  responders_stay at = put_itself (after A history).responders
+      (serving n.seat.net n.seat.number) n.atp.service_responder st.service at ∙ with_service n.atp.service_responder at
 
-  no_draw : (r : Report A) → drawn_by r ≡ None → (after A history).drawn ≡ (after A history).drawn ++ numbers_drawn (after A history).event (asking n.seat.net n.seat.number) (drawn_by r)
-  no_draw r none = sym (append-nil (after A history).drawn) ∙ ap (λ o. (after A history).drawn ++ numbers_drawn (after A history).event (asking n.seat.net n.seat.number) o) (sym none)
+  no_draw : (r : Report A) → drawn_by r ≡ None → (after A history).drawn
+      ≡ (after A history).drawn ++ numbers_drawn (after A history).event (asking n.seat.net n.seat.number) (drawn_by r)
+  no_draw r none = sym (append-nil (after A history).drawn)
+      ∙ ap (λ o. (after A history).drawn ++ numbers_drawn (after A history).event (asking n.seat.net n.seat.number) o)
+      (sym none)
 
   -- ---- nothing happens here
 
-  pub idle_happens : (r : Report A) → is_plain act r ≡ true → is_quiet r act ≡ true → drawn_by r ≡ None → IsIts A history n act (idle n r)
+  pub idle_happens : (r : Report A) → is_plain act r ≡ true → is_quiet r act ≡ true → drawn_by r ≡ None
+      → IsIts A history n act (idle n r)
   idle_happens r plain quiet none = (
     record {
       happening = Other 0;
@@ -134,37 +166,53 @@ module _ (A : Type 0) (history : List Happening) (n : NodeState) (act : Act A) (
 
   -- ---- a step of another protocol
 
-  passing : (o : Outcome A NodeState) → IsForeign n act o → is_quiet o.report act ≡ true → numbers_drawn (after A history).event (asking n.seat.net n.seat.number) (drawn_by o.report) ≡ [] → Passes A history n.seat.net n.seat.number n act o
+  passing : (o : Outcome A NodeState) → IsForeign n act o → is_quiet o.report act ≡ true
+      → numbers_drawn (after A history).event (asking n.seat.net n.seat.number) (drawn_by o.report) ≡ []
+      → Passes A history n.seat.net n.seat.number n act o
   passing o foreign quiet none = (
     record {
       happening = Other (length o.out);
       timely = tt;
       in_range = tt;
       same_event = refl;
-      requesters = λ who. requesters_stay who ∙ ap (λ (a : AtpState). put (after A history).requesters (asking n.seat.net n.seat.number) a.requester who) (sym foreign.same);
-      responders = λ at. responders_stay at ∙ ap (λ (a : AtpState). put (put (after A history).responders (serving n.seat.net n.seat.number) a.service_responder) (zones_at n.seat.net n.seat.number) a.zone_responder at) (sym foreign.same);
+      requesters = λ who. requesters_stay who
+          ∙ ap (λ (a : AtpState). put (after A history).requesters (asking n.seat.net n.seat.number) a.requester who)
+          (sym foreign.same);
+      responders = λ at. responders_stay at
+          ∙ ap (λ (a : AtpState). put
+          (put (after A history).responders (serving n.seat.net n.seat.number) a.service_responder)
+          (zones_at n.seat.net n.seat.number) a.zone_responder at) (sym foreign.same);
       more = replicate (length o.out) None;
       sent = refl;
-      posts = entries_foreign (after A history).event o.out foreign.sends;
+      posts = entries_foreign atp_coding (after A history).event o.out foreign.sends;
       drawn = sym (append-nil (after A history).drawn) ∙ ap (λ l. (after A history).drawn ++ l) (sym none);
       on_net = st.on_net;
       is_open = subst IsOpen (sym foreign.same) st.is_open;
       same_table = λ no. ap (λ (a : AtpState). a.table) foreign.same;
       has_table = λ table is. st.has_table table (sym (ap (λ (a : AtpState). a.table) foreign.same) ∙ is);
-      matches = other_matches A n.seat.net n.seat.number n.atp.table (after A history) (length o.out) act o.report quiet;
+      matches = other_matches A n.seat.net n.seat.number n.atp.table (after A history)
+          (length o.out) act o.report quiet;
     },
     refl,
   )
 
   pub foreign_passes : (o : Outcome A NodeState) → IsForeign n act o → Passes A history n.seat.net n.seat.number n act o
-  foreign_passes o foreign = passing o foreign (foreign_is_quiet A o.report act foreign.reports) (foreign_draws_nothing A act o.report (after A history).event (asking n.seat.net n.seat.number) foreign.reports)
+  foreign_passes o foreign = passing o foreign (foreign_is_quiet A o.report act foreign.reports)
+      (foreign_draws_nothing A act o.report (after A history).event (asking n.seat.net n.seat.number) foreign.reports)
 
   -- ---- one socket changes
 
-  pub requester_happens : (h : Happening) (x : Requests) (reading : Option Reading) (sent : List (Address × Content)) (r : Report A) → IsTimely A (after A history) h → IsInRange h →
-      done A (after A history) h ≡ with_requester (after A history) (asking n.seat.net n.seat.number) x sent → drawn_by r ≡ None → IsOpen (record n.atp { requester = x; reading = reading }) → Matches n.seat.net n.seat.number n.atp.table (after A history) h act r →
+  pub requester_happens : (h : Happening) (x : Requests) (reading : Option Reading) (sent : List (Address × Content))
+      (r : Report A) → IsTimely A (after A history) h → IsInRange h →
+      done A (after A history) h ≡ with_requester (after A history) (asking n.seat.net n.seat.number) x sent
+      → drawn_by r ≡ None → IsOpen (record n.atp { requester = x; reading = reading })
+      → Matches n.seat.net n.seat.number n.atp.table (after A history) h act r →
       StepTo A history n act (after A history).asked (record n.atp { requester = x; reading = reading }) r →
-      IsIts A history n act (record { report = r; state = with_atp n (record n.atp { requester = x; reading = reading }); out = sent_by (asking n.seat.net n.seat.number) atp_kind (spelled_all sent) })
+      IsIts A history n act (record {
+        report = r;
+        state = with_atp n (record n.atp { requester = x; reading = reading });
+        out = sent_by (asking n.seat.net n.seat.number) atp_kind (spelled_all sent);
+      })
   requester_happens h x reading sent r timely range is none opened matches step = (
     record {
       happening = h;
@@ -175,7 +223,7 @@ module _ (A : Type 0) (history : List Happening) (n : NodeState) (act : Act A) (
       responders = λ at. ap (λ (y : Network). y.responders at) is ∙ responders_stay at;
       more = stamped (after A history).event (asking n.seat.net n.seat.number) sent;
       sent = ap (λ (y : Network). y.sent) is;
-      posts = entries_of (after A history).event (asking n.seat.net n.seat.number) sent;
+      posts = entries_of atp_coding (after A history).event (asking n.seat.net n.seat.number) sent;
       drawn = ap (λ (y : Network). y.drawn) is ∙ no_draw r none;
       on_net = subst (AllByRecursion (IsOn n.seat.net)) (ap (λ (y : Network). y.asked) (sym is)) st.on_net;
       is_open = opened;
@@ -183,15 +231,27 @@ module _ (A : Type 0) (history : List Happening) (n : NodeState) (act : Act A) (
       has_table = st.has_table;
       matches = matches;
     },
-    subst (λ ts. StepTo A history n act ts (record n.atp { requester = x; reading = reading }) r) (ap (λ (y : Network). y.asked) (sym is)) step,
+    subst (λ ts. StepTo A history n act ts (record n.atp { requester = x; reading = reading }) r)
+        (ap (λ (y : Network). y.asked) (sym is)) step,
     all_atp (asking n.seat.net n.seat.number) sent,
   )
 
   -- the records of a socket that answers become these, and so those of both are these
-  responder_happens : (h : Happening) (own : Address) (rs served service : List Record) (sent : List (Address × Content)) (r : Report A) → ((at : Address) → put (after A history).responders own rs at ≡ put (put (after A history).responders (serving n.seat.net n.seat.number) service) (zones_at n.seat.net n.seat.number) served at) →
-      IsTimely A (after A history) h → IsInRange h → done A (after A history) h ≡ with_responder (after A history) own rs sent → drawn_by r ≡ None → Matches n.seat.net n.seat.number n.atp.table (after A history) h act r →
-      StepTo A history n act (after A history).asked (record n.atp { zone_responder = served; service_responder = service }) r →
-      IsIts A history n act (record { report = r; state = with_atp n (record n.atp { zone_responder = served; service_responder = service }); out = sent_by own atp_kind (spelled_all sent) })
+  responder_happens : (h : Happening) (own : Address) (rs served service : List Record)
+      (sent : List (Address × Content)) (r : Report A)
+      → ((at : Address) → put (after A history).responders own rs at
+      ≡ put (put (after A history).responders (serving n.seat.net n.seat.number) service)
+      (zones_at n.seat.net n.seat.number) served at) →
+      IsTimely A (after A history) h → IsInRange h → done A (after A history) h
+      ≡ with_responder (after A history) own rs sent → drawn_by r ≡ None
+      → Matches n.seat.net n.seat.number n.atp.table (after A history) h act r →
+      StepTo A history n act (after A history).asked
+      (record n.atp { zone_responder = served; service_responder = service }) r →
+      IsIts A history n act (record {
+        report = r;
+        state = with_atp n (record n.atp { zone_responder = served; service_responder = service });
+        out = sent_by own atp_kind (spelled_all sent);
+      })
   responder_happens h own rs served service sent r both timely range is none matches step = (
     record {
       happening = h;
@@ -202,7 +262,7 @@ module _ (A : Type 0) (history : List Happening) (n : NodeState) (act : Act A) (
       responders = λ at. ap (λ (y : Network). y.responders at) is ∙ both at;
       more = stamped (after A history).event own sent;
       sent = ap (λ (y : Network). y.sent) is;
-      posts = entries_of (after A history).event own sent;
+      posts = entries_of atp_coding (after A history).event own sent;
       drawn = ap (λ (y : Network). y.drawn) is ∙ no_draw r none;
       on_net = subst (AllByRecursion (IsOn n.seat.net)) (ap (λ (y : Network). y.asked) (sym is)) st.on_net;
       is_open = st.is_open;
@@ -210,94 +270,165 @@ module _ (A : Type 0) (history : List Happening) (n : NodeState) (act : Act A) (
       has_table = st.has_table;
       matches = matches;
     },
-    subst (λ ts. StepTo A history n act ts (record n.atp { zone_responder = served; service_responder = service }) r) (ap (λ (y : Network). y.asked) (sym is)) step,
+    subst (λ ts. StepTo A history n act ts (record n.atp { zone_responder = served; service_responder = service }) r)
+        (ap (λ (y : Network). y.asked) (sym is)) step,
     all_atp own sent,
   )
 
-  pub service_happens : (h : Happening) (rs : List Record) (sent : List (Address × Content)) (r : Report A) → IsTimely A (after A history) h → IsInRange h → done A (after A history) h ≡ with_responder (after A history) (serving n.seat.net n.seat.number) rs sent →
-      drawn_by r ≡ None → Matches n.seat.net n.seat.number n.atp.table (after A history) h act r → StepTo A history n act (after A history).asked (record n.atp { service_responder = rs }) r →
-      IsIts A history n act (record { report = r; state = with_atp n (record n.atp { service_responder = rs }); out = sent_by (serving n.seat.net n.seat.number) atp_kind (spelled_all sent) })
-  service_happens h rs sent r timely range is none matches step = responder_happens h (serving n.seat.net n.seat.number) rs n.atp.zone_responder rs sent r (with_service rs) timely range is none matches step
+  pub service_happens : (h : Happening) (rs : List Record) (sent : List (Address × Content)) (r : Report A)
+      → IsTimely A (after A history) h → IsInRange h → done A (after A history) h
+      ≡ with_responder (after A history) (serving n.seat.net n.seat.number) rs sent →
+      drawn_by r ≡ None → Matches n.seat.net n.seat.number n.atp.table (after A history) h act r
+      → StepTo A history n act (after A history).asked (record n.atp { service_responder = rs }) r →
+      IsIts A history n act (record {
+        report = r;
+        state = with_atp n (record n.atp { service_responder = rs });
+        out = sent_by (serving n.seat.net n.seat.number) atp_kind (spelled_all sent);
+      })
+  service_happens h rs sent r timely range is none matches step =
+      responder_happens h (serving n.seat.net n.seat.number) rs n.atp.zone_responder rs sent r
+      (with_service rs) timely range is none matches step
 
-  pub zones_happen : (h : Happening) (rs : List Record) (sent : List (Address × Content)) (r : Report A) → IsTimely A (after A history) h → IsInRange h → done A (after A history) h ≡ with_responder (after A history) (zones_at n.seat.net n.seat.number) rs sent →
-      drawn_by r ≡ None → Matches n.seat.net n.seat.number n.atp.table (after A history) h act r → StepTo A history n act (after A history).asked (record n.atp { zone_responder = rs }) r →
-      IsIts A history n act (record { report = r; state = with_atp n (record n.atp { zone_responder = rs }); out = sent_by (zones_at n.seat.net n.seat.number) atp_kind (spelled_all sent) })
-  zones_happen h rs sent r timely range is none matches step = responder_happens h (zones_at n.seat.net n.seat.number) rs rs n.atp.service_responder sent r (with_served rs) timely range is none matches step
+  pub zones_happen : (h : Happening) (rs : List Record) (sent : List (Address × Content)) (r : Report A)
+      → IsTimely A (after A history) h → IsInRange h → done A (after A history) h
+      ≡ with_responder (after A history) (zones_at n.seat.net n.seat.number) rs sent →
+      drawn_by r ≡ None → Matches n.seat.net n.seat.number n.atp.table (after A history) h act r
+      → StepTo A history n act (after A history).asked (record n.atp { zone_responder = rs }) r →
+      IsIts A history n act (record {
+        report = r;
+        state = with_atp n (record n.atp { zone_responder = rs });
+        out = sent_by (zones_at n.seat.net n.seat.number) atp_kind (spelled_all sent);
+      })
+  zones_happen h rs sent r timely range is none matches step =
+      responder_happens h (zones_at n.seat.net n.seat.number) rs rs n.atp.service_responder sent r
+      (with_served rs) timely range is none matches step
 
   -- ---- an answer is given at a socket of this node, whose records become these
 
-  pub gave_happens : (h : Happening) (r : Report A) (own from : Address) (tid : ℕ) (packets : List Packet) (served service : List Record) (sent : List (Address × Content)) →
-      IsTimely A (after A history) h → IsInRange h → (done A (after A history) h).event ≡ (after A history).event → ((who : Address) → (done A (after A history) h).requesters who ≡ (after A history).requesters who) →
-      ((at : Address) → (done A (after A history) h).responders at ≡ put (put (after A history).responders (serving n.seat.net n.seat.number) service) (zones_at n.seat.net n.seat.number) served at) →
-      (done A (after A history) h).sent ≡ (after A history).sent ++ stamped (after A history).event own sent → (done A (after A history) h).drawn ≡ (after A history).drawn →
-      (done A (after A history) h).asked ≡ answered (after A history).asked from tid packets → drawn_by r ≡ None → Matches n.seat.net n.seat.number n.atp.table (after A history) h act r →
-      StepTo A history n act (answered (after A history).asked from tid packets) (record n.atp { zone_responder = served; service_responder = service }) r →
-      IsIts A history n act (record { report = r; state = with_atp n (record n.atp { zone_responder = served; service_responder = service }); out = sent_by own atp_kind (spelled_all sent) })
-  gave_happens h r own from tid packets served service sent timely range event requesters responders is drawn is_asked none matches step = (
-    record {
-      happening = h;
-      timely = timely;
-      in_range = range;
-      same_event = event;
-      requesters = λ who. requesters who ∙ requesters_stay who;
-      responders = responders;
-      more = stamped (after A history).event own sent;
-      sent = is;
-      posts = entries_of (after A history).event own sent;
-      drawn = drawn ∙ no_draw r none;
-      on_net = subst (AllByRecursion (IsOn n.seat.net)) (sym is_asked) (answered_all (IsOn n.seat.net) (after A history).asked from tid packets st.on_net (λ a on. on));
-      is_open = st.is_open;
-      same_table = λ no. refl;
-      has_table = st.has_table;
-      matches = matches;
-    },
-    subst (λ ts. StepTo A history n act ts (record n.atp { zone_responder = served; service_responder = service }) r) (sym is_asked) step,
-    all_atp own sent,
-  )
+  pub gave_happens : (h : Happening) (r : Report A) (own from : Address) (tid : ℕ) (packets : List Packet)
+      (served service : List Record) (sent : List (Address × Content)) →
+      IsTimely A (after A history) h → IsInRange h → (done A (after A history) h).event ≡ (after A history).event
+      → ((who : Address) → (done A (after A history) h).requesters who ≡ (after A history).requesters who) →
+      ((at : Address) → (done A (after A history) h).responders at
+      ≡ put (put (after A history).responders (serving n.seat.net n.seat.number) service)
+      (zones_at n.seat.net n.seat.number) served at) →
+      (done A (after A history) h).sent ≡ (after A history).sent ++ stamped (after A history).event own sent
+      → (done A (after A history) h).drawn ≡ (after A history).drawn →
+      (done A (after A history) h).asked ≡ answered (after A history).asked from tid packets → drawn_by r ≡ None
+      → Matches n.seat.net n.seat.number n.atp.table (after A history) h act r →
+      StepTo A history n act (answered (after A history).asked from tid packets)
+      (record n.atp { zone_responder = served; service_responder = service }) r →
+      IsIts A history n act (record {
+        report = r;
+        state = with_atp n (record n.atp { zone_responder = served; service_responder = service });
+        out = sent_by own atp_kind (spelled_all sent);
+      })
+  gave_happens h r own from tid packets served service sent timely range event requesters responders is drawn is_asked
+      none matches step = (
+        record {
+          happening = h;
+          timely = timely;
+          in_range = range;
+          same_event = event;
+          requesters = λ who. requesters who ∙ requesters_stay who;
+          responders = responders;
+          more = stamped (after A history).event own sent;
+          sent = is;
+          posts = entries_of atp_coding (after A history).event own sent;
+          drawn = drawn ∙ no_draw r none;
+          on_net = subst (AllByRecursion (IsOn n.seat.net)) (sym is_asked)
+              (answered_all (IsOn n.seat.net) (after A history).asked from tid packets st.on_net (λ a on. on));
+          is_open = st.is_open;
+          same_table = λ no. refl;
+          has_table = st.has_table;
+          matches = matches;
+        },
+        subst (λ ts. StepTo A history n act ts (record n.atp { zone_responder = served; service_responder = service })
+            r)
+            (sym is_asked) step,
+        all_atp own sent,
+      )
 
   -- ---- a transaction begins
 
-  pub begun_happens : (to : Address) (user bytes : List ℕ) (wanted : ℕ) (xo : Bool) (retries tid : ℕ) (reading : Option Reading) → next_number n.atp.requester ≡ Some tid → NoneHolds (after A history).responders (asking n.seat.net n.seat.number) tid →
-      IsAsking (asking n.seat.net n.seat.number) to user bytes wanted → to.net ≡ n.seat.net → IsOpen (record n.atp { requester = requests.begun n.atp.requester (beginning tid to user bytes wanted xo retries); reading = reading }) →
-      Matches n.seat.net n.seat.number n.atp.table (after A history) (Begins (asking n.seat.net n.seat.number) to user bytes wanted xo retries) act (report.Begun tid) →
-      StepTo A history n act (new_transaction (asking n.seat.net n.seat.number) (beginning tid to user bytes wanted xo retries) ∷ (after A history).asked) (record n.atp { requester = requests.begun n.atp.requester (beginning tid to user bytes wanted xo retries); reading = reading }) (report.Begun tid) →
+  pub begun_happens : (to : Address) (user bytes : List ℕ) (wanted : ℕ) (xo : Bool) (retries tid : ℕ)
+      (reading : Option Reading) → next_number n.atp.requester ≡ Some tid
+      → NoneHolds (after A history).responders (asking n.seat.net n.seat.number) tid →
+      IsAsking (asking n.seat.net n.seat.number) to user bytes wanted → to.net ≡ n.seat.net
+      → IsOpen (record n.atp {
+        requester = requests.begun n.atp.requester
+            (beginning tid to user bytes wanted xo retries);
+        reading = reading;
+      }) →
+      Matches n.seat.net n.seat.number n.atp.table (after A history)
+      (Begins (asking n.seat.net n.seat.number) to user bytes wanted xo retries) act (report.Begun tid) →
+      StepTo A history n act (new_transaction (asking n.seat.net n.seat.number)
+      (beginning tid to user bytes wanted xo retries) ∷ (after A history).asked)
+      (record n.atp {
+        requester = requests.begun n.atp.requester (beginning tid to user bytes wanted xo retries);
+        reading = reading;
+      }) (report.Begun tid) →
       IsIts A history n act (record {
         report = report.Begun tid;
-        state = with_atp n (record n.atp { requester = requests.begun n.atp.requester (beginning tid to user bytes wanted xo retries); reading = reading });
-        out = sent_by (asking n.seat.net n.seat.number) atp_kind (spelled_all ((to, request_by (beginning tid to user bytes wanted xo retries)) ∷ []));
+        state = with_atp n (record
+            n.atp {
+              requester = requests.begun n.atp.requester (beginning tid to user bytes wanted xo retries);
+              reading = reading;
+            });
+        out = sent_by (asking n.seat.net n.seat.number) atp_kind
+            (spelled_all ((to, request_by (beginning tid to user bytes wanted xo retries)) ∷ []));
       })
   begun_happens to user bytes wanted xo retries tid reading drawn free range on_net opened matches step = (
     record {
       happening = Begins (asking n.seat.net n.seat.number) to user bytes wanted xo retries;
-      timely = λ number is. let same : tid ≡ number = some_number tid number (sym drawn ∙ ap next_number (sym st.requester) ∙ is) in subst (NoneHolds (after A history).responders (asking n.seat.net n.seat.number)) same free;
+      timely = λ number is. let same : tid
+          ≡ number = some_number tid number (sym drawn ∙ ap next_number (sym st.requester) ∙ is) in subst
+          (NoneHolds (after A history).responders (asking n.seat.net n.seat.number)) same free;
       in_range = range;
       same_event = ap (λ (y : Network). y.event) is;
-      requesters = λ who. ap (λ (y : Network). y.requesters who) is ∙ ap (λ r. put (after A history).requesters (asking n.seat.net n.seat.number) (requests.begun r (beginning tid to user bytes wanted xo retries)) who) st.requester;
+      requesters = λ who. ap (λ (y : Network). y.requesters who) is
+          ∙ ap (λ r. put (after A history).requesters (asking n.seat.net n.seat.number)
+          (requests.begun r (beginning tid to user bytes wanted xo retries)) who) st.requester;
       responders = λ at. ap (λ (y : Network). y.responders at) is ∙ responders_stay at;
-      more = stamped (after A history).event (asking n.seat.net n.seat.number) ((to, request_by (beginning tid to user bytes wanted xo retries)) ∷ []);
+      more = stamped (after A history).event (asking n.seat.net n.seat.number)
+          ((to, request_by (beginning tid to user bytes wanted xo retries)) ∷ []);
       sent = ap (λ (y : Network). y.sent) is;
-      posts = entries_of (after A history).event (asking n.seat.net n.seat.number) ((to, request_by (beginning tid to user bytes wanted xo retries)) ∷ []);
+      posts = entries_of atp_coding (after A history).event (asking n.seat.net n.seat.number)
+          ((to, request_by (beginning tid to user bytes wanted xo retries)) ∷ []);
       drawn = ap (λ (y : Network). y.drawn) is;
-      on_net = subst (AllByRecursion (IsOn n.seat.net)) (ap (λ (y : Network). y.asked) (sym is)) ((refl, on_net), st.on_net);
+      on_net = subst (AllByRecursion (IsOn n.seat.net)) (ap (λ (y : Network). y.asked) (sym is))
+          ((refl, on_net), st.on_net);
       is_open = opened;
       same_table = λ no. refl;
       has_table = st.has_table;
       matches = matches;
     },
-    subst (λ ts. StepTo A history n act ts (record n.atp { requester = requests.begun n.atp.requester (beginning tid to user bytes wanted xo retries); reading = reading }) (report.Begun tid)) (ap (λ (y : Network). y.asked) (sym is)) step,
+    subst (λ ts. StepTo A history n act ts
+        (record n.atp {
+          requester = requests.begun n.atp.requester (beginning tid to user bytes wanted xo retries);
+          reading = reading;
+        }) (report.Begun tid)) (ap (λ (y : Network). y.asked) (sym is)) step,
     all_atp (asking n.seat.net n.seat.number) ((to, request_by (beginning tid to user bytes wanted xo retries)) ∷ []),
   )
     where
       some_number : (a b : ℕ) → Some a ≡ Some b → a ≡ b
       some_number a b h = cc
 
-      is : done A (after A history) (Begins (asking n.seat.net n.seat.number) to user bytes wanted xo retries) ≡ network.begun (after A history) (asking n.seat.net n.seat.number) (beginning tid to user bytes wanted xo retries)
-      is = ap (λ o. network.begins (after A history) (asking n.seat.net n.seat.number) to user bytes wanted xo retries o) (ap next_number st.requester ∙ drawn)
+      is : done A (after A history) (Begins (asking n.seat.net n.seat.number) to user bytes wanted xo retries)
+          ≡ network.begun (after A history) (asking n.seat.net n.seat.number)
+          (beginning tid to user bytes wanted xo retries)
+      is = ap (λ o. network.begins (after A history) (asking n.seat.net n.seat.number) to user bytes wanted xo retries
+          o) (ap next_number st.requester ∙ drawn)
 
   -- ---- the router gets another table
 
-  pub table_happens : (names : List (List ℕ)) → IsTable names → is_quiet {A = A} report.TableSet act ≡ true → StepTo A history n act (after A history).asked (record n.atp { table = Some names }) report.TableSet →
-      IsIts A history n act (record { report = report.TableSet; state = with_atp n (record n.atp { table = Some names }); out = [] })
+  pub table_happens : (names : List (List ℕ)) → IsTable names → is_quiet {A = A} report.TableSet act ≡ true
+      → StepTo A history n act (after A history).asked (record n.atp { table = Some names }) report.TableSet →
+      IsIts A history n act (record {
+        report = report.TableSet;
+        state = with_atp n (record n.atp { table = Some names });
+        out = [];
+      })
   table_happens names is_table quiet step = (
     record {
       happening = Other 0;
@@ -322,8 +453,11 @@ module _ (A : Type 0) (history : List Happening) (n : NodeState) (act : Act A) (
 
   -- ---- a packet ends a transaction, and the next one begins
 
-  module _ (which : ℕ) (s : Sent) (user : List ℕ) (times tid : ℕ) (was_sent : packet_at (after A history).sent which ≡ Some s) (to_is : s.to ≡ asking n.seat.net n.seat.number) (ends : finishes A n.atp.requester s.from s.packet ≡ true)
-      (drawn : next_number (heard {A = A} n.atp.requester s.from s.packet).after ≡ Some tid) (nothing : (heard {A = A} n.atp.requester s.from s.packet).sent ≡ []) where
+  module _ (which : ℕ) (s : Sent) (user : List ℕ) (times tid : ℕ)
+      (was_sent : packet_at (after A history).sent which ≡ Some s) (to_is : s.to ≡ asking n.seat.net n.seat.number)
+      (ends : finishes A n.atp.requester s.from s.packet ≡ true)
+      (drawn : next_number (heard {A = A} n.atp.requester s.from s.packet).after ≡ Some tid)
+      (nothing : (heard {A = A} n.atp.requester s.from s.packet).sent ≡ []) where
     its : (after A history).requesters s.to ≡ n.atp.requester
     its = ap (after A history).requesters to_is ∙ st.requester
 
@@ -331,26 +465,52 @@ module _ (A : Type 0) (history : List Happening) (n : NodeState) (act : Act A) (
     next = beginning tid s.from user [] 1 false times
 
     pub it_ends : ending A (after A history) (packet_at (after A history).sent which) ≡ Some s
-    it_ends = ap (ending A (after A history)) was_sent ∙ ap (λ b. cond b (Some s) None) (ap (λ r. finishes A r s.from s.packet) its ∙ ends)
+    it_ends = ap (ending A (after A history)) was_sent
+        ∙ ap (λ b. cond b (Some s) None) (ap (λ r. finishes A r s.from s.packet) its ∙ ends)
 
     pub it_draws : number_after A (after A history) s ≡ Some tid
     it_draws = ap (λ r. next_number (heard {A = A} r s.from s.packet).after) its ∙ drawn
 
-    turned : done A (after A history) (Turns which user times) ≡ network.begun (with_requester (after A history) (asking n.seat.net n.seat.number) (heard {A = A} n.atp.requester s.from s.packet).after []) (asking n.seat.net n.seat.number) (beginning tid s.from user [] 1 false times)
+    turned : done A (after A history) (Turns which user times)
+        ≡ network.begun (with_requester (after A history) (asking n.seat.net n.seat.number)
+        (heard {A = A} n.atp.requester s.from s.packet).after []) (asking n.seat.net n.seat.number)
+        (beginning tid s.from user [] 1 false times)
     turned =
         ap (network.turns A (after A history) user times) it_ends
         ∙ ap (network.begins (network.hears A (after A history) (Some s)) s.to s.from user [] 1 false times) it_draws
-        ∙ (λ i. network.begun (with_requester (after A history) (to_is i) (heard {A = A} (its i) s.from s.packet).after (heard {A = A} (its i) s.from s.packet).sent) (to_is i) (beginning tid s.from user [] 1 false times))
-        ∙ ap (λ l. network.begun (with_requester (after A history) (asking n.seat.net n.seat.number) (heard {A = A} n.atp.requester s.from s.packet).after l) (asking n.seat.net n.seat.number) (beginning tid s.from user [] 1 false times)) nothing
+        ∙ (λ i. network.begun (with_requester (after A history) (to_is i) (heard {A = A} (its i) s.from s.packet).after
+        (heard {A = A} (its i) s.from s.packet).sent) (to_is i) (beginning tid s.from user [] 1 false times))
+        ∙ ap (λ l. network.begun
+        (with_requester (after A history) (asking n.seat.net n.seat.number)
+        (heard {A = A} n.atp.requester s.from s.packet).after l) (asking n.seat.net n.seat.number)
+        (beginning tid s.from user [] 1 false times)) nothing
 
-    pub turned_happens : (reading : Option Reading) → ComesInTime (after A history) which → NoneHolds (after A history).responders (asking n.seat.net n.seat.number) tid → IsPacket (record { user = user; data_ = [] }) → (s.from).net ≡ n.seat.net →
-        IsOpen (record n.atp { requester = requests.begun (heard {A = A} n.atp.requester s.from s.packet).after (beginning tid s.from user [] 1 false times); reading = reading }) →
+    pub turned_happens : (reading : Option Reading) → ComesInTime (after A history) which
+        → NoneHolds (after A history).responders (asking n.seat.net n.seat.number) tid
+        → IsPacket (record { user = user; data_ = [] }) → (s.from).net ≡ n.seat.net →
+        IsOpen (record n.atp {
+          requester = requests.begun (heard {A = A} n.atp.requester s.from s.packet).after
+              (beginning tid s.from user [] 1 false times);
+          reading = reading;
+        }) →
         Matches n.seat.net n.seat.number n.atp.table (after A history) (Turns which user times) act (report.Begun tid) →
-        StepTo A history n act (new_transaction (asking n.seat.net n.seat.number) (beginning tid s.from user [] 1 false times) ∷ (after A history).asked) (record n.atp { requester = requests.begun (heard {A = A} n.atp.requester s.from s.packet).after (beginning tid s.from user [] 1 false times); reading = reading }) (report.Begun tid) →
+        StepTo A history n act (new_transaction (asking n.seat.net n.seat.number)
+        (beginning tid s.from user [] 1 false times) ∷ (after A history).asked)
+        (record n.atp {
+          requester = requests.begun (heard {A = A} n.atp.requester s.from s.packet).after
+              (beginning tid s.from user [] 1 false times);
+          reading = reading;
+        }) (report.Begun tid) →
         IsIts A history n act (record {
           report = report.Begun tid;
-          state = with_atp n (record n.atp { requester = requests.begun (heard {A = A} n.atp.requester s.from s.packet).after (beginning tid s.from user [] 1 false times); reading = reading });
-          out = sent_by (asking n.seat.net n.seat.number) atp_kind (spelled_all ((s.from, request_by (beginning tid s.from user [] 1 false times)) ∷ []));
+          state = with_atp n (record
+              n.atp {
+                requester = requests.begun (heard {A = A} n.atp.requester s.from s.packet).after
+                    (beginning tid s.from user [] 1 false times);
+                reading = reading;
+              });
+          out = sent_by (asking n.seat.net n.seat.number) atp_kind
+              (spelled_all ((s.from, request_by (beginning tid s.from user [] 1 false times)) ∷ []));
         })
     turned_happens reading in_time free asks on_net opened matches step = (
       record {
@@ -360,26 +520,47 @@ module _ (A : Type 0) (history : List Happening) (n : NodeState) (act : Act A) (
           λ x k is drew.
               let same : s ≡ x = some_sent (sym it_ends ∙ is) in
               let number : tid ≡ k = some_number (sym it_draws ∙ ap (number_after A (after A history)) same ∙ drew) in
-              subst (λ y. NoneHolds (after A history).responders y k) (sym to_is ∙ ap (λ (y : Sent). y.to) same) (subst (NoneHolds (after A history).responders (asking n.seat.net n.seat.number)) number free),
+              subst (λ y. NoneHolds (after A history).responders y k) (sym to_is ∙ ap (λ (y : Sent). y.to) same)
+              (subst (NoneHolds (after A history).responders (asking n.seat.net n.seat.number)) number free),
         );
         in_range = asks;
         same_event = ap (λ (y : Network). y.event) turned;
         requesters = λ who. ap (λ (y : Network). y.requesters who) turned
-            ∙ put_twice (after A history).requesters (asking n.seat.net n.seat.number) (heard {A = A} n.atp.requester s.from s.packet).after (requests.begun (put (after A history).requesters (asking n.seat.net n.seat.number) (heard {A = A} n.atp.requester s.from s.packet).after (asking n.seat.net n.seat.number)) (beginning tid s.from user [] 1 false times)) who
-            ∙ ap (λ r. put (after A history).requesters (asking n.seat.net n.seat.number) (requests.begun r (beginning tid s.from user [] 1 false times)) who) (put_here (after A history).requesters (asking n.seat.net n.seat.number) (heard {A = A} n.atp.requester s.from s.packet).after);
+            ∙ put_twice (after A history).requesters (asking n.seat.net n.seat.number)
+            (heard {A = A} n.atp.requester s.from s.packet).after
+            (requests.begun (put (after A history).requesters (asking n.seat.net n.seat.number)
+            (heard {A = A} n.atp.requester s.from s.packet).after (asking n.seat.net n.seat.number))
+            (beginning tid s.from user [] 1 false times)) who
+            ∙ ap (λ r. put (after A history).requesters (asking n.seat.net n.seat.number)
+            (requests.begun r (beginning tid s.from user [] 1 false times)) who)
+            (put_here (after A history).requesters (asking n.seat.net n.seat.number)
+            (heard {A = A} n.atp.requester s.from s.packet).after);
         responders = λ at. ap (λ (y : Network). y.responders at) turned ∙ responders_stay at;
-        more = stamped (after A history).event (asking n.seat.net n.seat.number) ((s.from, request_by (beginning tid s.from user [] 1 false times)) ∷ []);
-        sent = ap (λ (y : Network). y.sent) turned ∙ ap (λ l. l ++ stamped (after A history).event (asking n.seat.net n.seat.number) ((s.from, request_by (beginning tid s.from user [] 1 false times)) ∷ [])) (append-nil (after A history).sent);
-        posts = entries_of (after A history).event (asking n.seat.net n.seat.number) ((s.from, request_by (beginning tid s.from user [] 1 false times)) ∷ []);
+        more = stamped (after A history).event (asking n.seat.net n.seat.number)
+            ((s.from, request_by (beginning tid s.from user [] 1 false times)) ∷ []);
+        sent = ap (λ (y : Network). y.sent) turned
+            ∙ ap (λ l. l ++ stamped (after A history).event (asking n.seat.net n.seat.number)
+            ((s.from, request_by (beginning tid s.from user [] 1 false times)) ∷ []))
+            (append-nil (after A history).sent);
+        posts = entries_of atp_coding (after A history).event (asking n.seat.net n.seat.number)
+            ((s.from, request_by (beginning tid s.from user [] 1 false times)) ∷ []);
         drawn = ap (λ (y : Network). y.drawn) turned;
-        on_net = subst (AllByRecursion (IsOn n.seat.net)) (ap (λ (y : Network). y.asked) (sym turned)) ((refl, on_net), st.on_net);
+        on_net = subst (AllByRecursion (IsOn n.seat.net)) (ap (λ (y : Network). y.asked) (sym turned))
+            ((refl, on_net), st.on_net);
         is_open = opened;
         same_table = λ no. refl;
         has_table = st.has_table;
         matches = matches;
       },
-      subst (λ ts. StepTo A history n act ts (record n.atp { requester = requests.begun (heard {A = A} n.atp.requester s.from s.packet).after (beginning tid s.from user [] 1 false times); reading = reading }) (report.Begun tid)) (ap (λ (y : Network). y.asked) (sym turned)) step,
-      all_atp (asking n.seat.net n.seat.number) ((s.from, request_by (beginning tid s.from user [] 1 false times)) ∷ []),
+      subst (λ ts. StepTo A history n act ts
+          (record n.atp {
+            requester = requests.begun (heard {A = A} n.atp.requester s.from s.packet).after
+                (beginning tid s.from user [] 1 false times);
+            reading = reading;
+          }) (report.Begun tid))
+          (ap (λ (y : Network). y.asked) (sym turned)) step,
+      all_atp (asking n.seat.net n.seat.number)
+          ((s.from, request_by (beginning tid s.from user [] 1 false times)) ∷ []),
     )
       where
         some_number : {a b : ℕ} → Some a ≡ Some b → a ≡ b

@@ -1,5 +1,6 @@
 -- What a request or a release that comes to the router's zone socket is in the network.
-use Rattle.std.proofs.Common.{◌≡◌, ℕ, Bool, true, false, cond, List, [], ◌∷◌, ◌++◌, length, Some, None, refl, sym, ap, subst, ◌∙◌}
+use Rattle.std.proofs.Common.{◌≡◌, ℕ, Bool, true, false, cond, List, [], ◌∷◌, ◌++◌, length, Some, None, refl, sym, ap}
+use Rattle.std.proofs.Common.{subst, ◌∙◌}
 use Rattle.std.specs.Prelude.{find, nat_le, ◌&&◌}
 use Rattle.std.proofs.lemmas.Bool.{le-leb}
 use Rattle.std.proofs.lemmas.List.{append-nil}
@@ -7,17 +8,20 @@ use Rattle.at_atp_frame.specs.Frames.{Content, Request, Release, number_of}
 use Rattle.at_atp_frame.specs.Packets.{IsPacket}
 use Rattle.at_atp_frame.specs.declared.fault.AtpFault.TheVariants.{AtpTooLong}
 use Rattle.at_atp_responder.specs.Once.{is_new_of}
-use Rattle.at_atp_responder.specs.Records.{Record, is_key, after_answer, taken, finds_no_place, record_fault, answer_fault, asked_for}
+use Rattle.at_atp_responder.specs.Records.{Record, is_key, after_answer, taken, finds_no_place, record_fault}
+use Rattle.at_atp_responder.specs.Records.{answer_fault, asked_for}
 use Rattle.at_atp_responder.specs.declared.reception.Key.{Key}
 use Rattle.at_atp_responder.specs.declared.reception.Reception.{Reception}
 use Rattle.at_atp_responder.specs.declared.reception.Reception.TheVariants as reception
 use Rattle.at_atp.specs.Network as network
-use Rattle.at_atp.specs.Network.{Network, Sent, Happening, packet_at, Takes, after, done, put, stamped, with_responder, is_fresh}
+use Rattle.at_ddp.specs.Posts.{packet_at, put, stamped}
+use Rattle.at_ddp.proofs.PostLemmas.{put_here}
+use Rattle.at_atp.specs.Network.{Network, Sent, Happening, Takes, after, done, with_responder, is_fresh}
 use Rattle.at_atp.specs.Transactions.{Asked, answered}
 use Rattle.at_zip.specs.Page.{page_of, page_data}
 use Rattle.at_zip.specs.Request.{RequestSpells}
 use Rattle.at_node.specs.AtpParts.{AtpState, zones_at}
-use Rattle.at_node.specs.Drawing.{drawn_by}
+use Rattle.at_node.specs.Numbers.{drawn_by}
 use Rattle.at_node.specs.Nodes.{with_atp, NodeState}
 use Rattle.at_event.specs.Outcomes.{over, Outcome, idle}
 use Rattle.at_node.specs.Responders.{released_report}
@@ -34,83 +38,167 @@ use Rattle.at_steps.proofs.Atp.Coming.{in_time}
 use Rattle.at_steps.proofs.Atp.Moves.{IsIts, idle_happens, zones_happen, gave_happens, with_served}
 use Rattle.at_steps.proofs.Atp.Requested.{asks, release_is_plain}
 use Rattle.at_steps.proofs.Atp.Stories.{is_quiet, takes_quietly, serves_new, release_is_old, release_is_quiet}
-use Rattle.at_steps.proofs.Atp.Values.{put_here, put_twice}
+use Rattle.at_steps.proofs.Atp.Values.{put_twice}
 
-module _ (A : Type 0) (laws : HearingLaws A) (history : List Happening) (n : NodeState) (st : Stands A history n.seat.net n.seat.number n) (which : ℕ) (s : Sent) (was_sent : packet_at (after A history).sent which ≡ Some s) (fresh : is_fresh (after A history).drawn s ≡ true) (to_is : s.to ≡ zones_at n.seat.net n.seat.number) where
+module _ (A : Type 0) (laws : HearingLaws A) (history : List Happening) (n : NodeState)
+    (st : Stands A history n.seat.net n.seat.number n) (which : ℕ) (s : Sent)
+    (was_sent : packet_at (after A history).sent which ≡ Some s) (fresh : is_fresh (after A history).drawn s ≡ true)
+    (to_is : s.to ≡ zones_at n.seat.net n.seat.number) where
   its_records : (after A history).responders s.to ≡ n.atp.zone_responder
   its_records = ap (after A history).responders to_is ∙ st.zones
 
   module _ (f : Content) (packet_is : s.packet ≡ f) where
-    is_taken : done A (after A history) (Takes which) ≡ with_responder (after A history) (zones_at n.seat.net n.seat.number) (taken n.atp.zone_responder s.from f).after (taken n.atp.zone_responder s.from f).sent
-    is_taken = ap (network.takes_in (after A history)) was_sent ∙ (λ i. with_responder (after A history) (to_is i) (taken (its_records i) s.from (packet_is i)).after (taken (its_records i) s.from (packet_is i)).sent)
+    is_taken : done A (after A history) (Takes which)
+        ≡ with_responder (after A history) (zones_at n.seat.net n.seat.number)
+        (taken n.atp.zone_responder s.from f).after (taken n.atp.zone_responder s.from f).sent
+    is_taken = ap (network.takes_in (after A history)) was_sent
+        ∙ (λ i. with_responder (after A history) (to_is i) (taken (its_records i) s.from (packet_is i)).after
+        (taken (its_records i) s.from (packet_is i)).sent)
 
     -- a packet that is not answered anew
-    quietly : (r : Report A) (x : Reception) → (taken n.atp.zone_responder s.from f).reception ≡ x → ((key : Key) → is_new_of key x ≡ false) → is_quiet r (Gets which) ≡ true → is_plain (Gets which) r ≡ true → drawn_by r ≡ None →
-        IsIts A history n (Gets which) (over (with_atp n) (zone_taken n.seat n.atp (taken n.atp.zone_responder s.from f) r))
+    quietly : (r : Report A) (x : Reception) → (taken n.atp.zone_responder s.from f).reception ≡ x
+        → ((key : Key) → is_new_of key x ≡ false) → is_quiet r (Gets which) ≡ true → is_plain (Gets which) r ≡ true
+        → drawn_by r ≡ None →
+        IsIts A history n (Gets which)
+        (over (with_atp n) (zone_taken n.seat n.atp (taken n.atp.zone_responder s.from f) r))
     quietly r x is old quiet plain none =
-        zones_happen A history n (Gets which) st (Takes which) (taken n.atp.zone_responder s.from f).after (taken n.atp.zone_responder s.from f).sent r (in_time (after A history) which s was_sent fresh) tt is_taken none
-        (takes_quietly A n.seat.net n.seat.number n.atp.table (after A history) which s was_sent r x ((λ i. (taken (its_records i) s.from (packet_is i)).reception) ∙ is) old quiet)
+        zones_happen A history n (Gets which) st (Takes which) (taken n.atp.zone_responder s.from f).after
+        (taken n.atp.zone_responder s.from f).sent r (in_time (after A history) which s was_sent fresh) tt is_taken
+        none
+        (takes_quietly A n.seat.net n.seat.number n.atp.table (after A history) which s was_sent r x
+        ((λ i. (taken (its_records i) s.from (packet_is i)).reception) ∙ is) old quiet)
         (Plain (record { plain = plain; asked = refl; reading = refl }))
 
   -- ---- a release
 
-  pub zone_release : (tid : ℕ) → s.packet ≡ Release tid → IsIts A history n (Gets which) (over (with_atp n) (zone_released n.seat n.atp (taken n.atp.zone_responder s.from (Release tid))))
+  pub zone_release : (tid : ℕ) → s.packet ≡ Release tid
+      → IsIts A history n (Gets which)
+      (over (with_atp n) (zone_released n.seat n.atp (taken n.atp.zone_responder s.from (Release tid))))
   zone_release tid packet_is =
       let plain = release_is_plain A which (taken n.atp.zone_responder s.from (Release tid)).reception in
-      quietly (Release tid) packet_is (released_report (taken n.atp.zone_responder s.from (Release tid)).reception) (taken n.atp.zone_responder s.from (Release tid)).reception refl
-      (λ key. release_is_old n.atp.zone_responder (record { from = s.from; tid = tid }) (find (is_key (record { from = s.from; tid = tid })) n.atp.zone_responder) key)
+      quietly (Release tid) packet_is (released_report (taken n.atp.zone_responder s.from (Release tid)).reception)
+      (taken n.atp.zone_responder s.from (Release tid)).reception refl
+      (λ key. release_is_old n.atp.zone_responder (record { from = s.from; tid = tid })
+      (find (is_key (record { from = s.from; tid = tid })) n.atp.zone_responder) key)
       (release_is_quiet A which (taken n.atp.zone_responder s.from (Release tid)).reception) plain.0 plain.1
 
   -- ---- a request
 
-  module _ (mask : ℕ) (xo : Bool) (timer tid : ℕ) (user bytes : List ℕ) (packet_is : s.packet ≡ Request mask xo timer tid user bytes) (table : List (List ℕ)) (is_table : n.atp.table ≡ Some table) (start : ℕ) (asks_from : RequestSpells user start) where
+  module _ (mask : ℕ) (xo : Bool) (timer tid : ℕ) (user bytes : List ℕ)
+      (packet_is : s.packet ≡ Request mask xo timer tid user bytes) (table : List (List ℕ))
+      (is_table : n.atp.table ≡ Some table) (start : ℕ) (asks_from : RequestSpells user start) where
     page_fits : IsPacket (page_packet table start)
-    page_fits = record { four = refl; user = laws.user table start; bytes = laws.bytes table start (st.has_table table is_table); fits = laws.fits table start }
+    page_fits = record {
+      four = refl;
+      user = laws.user table start;
+      bytes = laws.bytes table start (st.has_table table is_table);
+      fits = laws.fits table start;
+    }
 
     -- the page can be answered
-    no_fault : (rs : List Record) (key : Key) → record_fault (find (is_key key) rs) ≡ None → answer_fault rs key (page_packet table start ∷ []) ≡ None
-    no_fault rs key waits = ap (λ b. cond (nat_le 1 8 && (b && true)) (record_fault (find (is_key key) rs)) (Some AtpTooLong)) (le-leb (length (page_data (page_of table start))) 578 (laws.fits table start)) ∙ waits
+    no_fault : (rs : List Record) (key : Key) → record_fault (find (is_key key) rs) ≡ None
+        → answer_fault rs key (page_packet table start ∷ []) ≡ None
+    no_fault rs key waits = ap
+        (λ b. cond (nat_le 1 8 && (b && true)) (record_fault (find (is_key key) rs)) (Some AtpTooLong))
+        (le-leb (length (page_data (page_of table start))) 578 (laws.fits table start)) ∙ waits
 
     -- the network once the request came and was answered
-    is_answered : (key : Key) → (taken n.atp.zone_responder s.from (Request mask xo timer tid user bytes)).reception ≡ reception.New key →
-        done A (after A history) (network.Serves which (page_packet table start ∷ [])) ≡ network.answers (with_responder (after A history) (zones_at n.seat.net n.seat.number) (taken n.atp.zone_responder s.from (Request mask xo timer tid user bytes)).after (taken n.atp.zone_responder s.from (Request mask xo timer tid user bytes)).sent) (zones_at n.seat.net n.seat.number) key (page_packet table start ∷ []) None
+    is_answered : (key : Key) → (taken n.atp.zone_responder s.from (Request mask xo timer tid user bytes)).reception
+        ≡ reception.New key →
+        done A (after A history) (network.Serves which (page_packet table start ∷ []))
+        ≡ network.answers (with_responder (after A history) (zones_at n.seat.net n.seat.number)
+        (taken n.atp.zone_responder s.from (Request mask xo timer tid user bytes)).after
+        (taken n.atp.zone_responder s.from (Request mask xo timer tid user bytes)).sent)
+        (zones_at n.seat.net n.seat.number) key (page_packet table start ∷ []) None
     is_answered key is =
         let waits = laws.new_waits n.atp.zone_responder s.from (Request mask xo timer tid user bytes) key is in
         ap (network.serves (after A history) (page_packet table start ∷ [])) was_sent
-        ∙ (λ i. network.handed_up (with_responder (after A history) (to_is i) (taken (its_records i) s.from (packet_is i)).after (taken (its_records i) s.from (packet_is i)).sent) (to_is i) (page_packet table start ∷ []) (taken (its_records i) s.from (packet_is i)).reception)
-        ∙ ap (network.handed_up (with_responder (after A history) (zones_at n.seat.net n.seat.number) (taken n.atp.zone_responder s.from (Request mask xo timer tid user bytes)).after (taken n.atp.zone_responder s.from (Request mask xo timer tid user bytes)).sent) (zones_at n.seat.net n.seat.number) (page_packet table start ∷ [])) is
-        ∙ ap (network.answers (with_responder (after A history) (zones_at n.seat.net n.seat.number) (taken n.atp.zone_responder s.from (Request mask xo timer tid user bytes)).after (taken n.atp.zone_responder s.from (Request mask xo timer tid user bytes)).sent) (zones_at n.seat.net n.seat.number) key (page_packet table start ∷ []))
-        (ap (λ rs. answer_fault rs key (page_packet table start ∷ [])) (put_here (after A history).responders (zones_at n.seat.net n.seat.number) (taken n.atp.zone_responder s.from (Request mask xo timer tid user bytes)).after) ∙ no_fault (taken n.atp.zone_responder s.from (Request mask xo timer tid user bytes)).after key waits.0)
+        ∙ (λ i. network.handed_up
+        (with_responder (after A history) (to_is i) (taken (its_records i) s.from (packet_is i)).after
+        (taken (its_records i) s.from (packet_is i)).sent) (to_is i) (page_packet table start ∷ [])
+        (taken (its_records i) s.from (packet_is i)).reception)
+        ∙ ap (network.handed_up (with_responder (after A history) (zones_at n.seat.net n.seat.number)
+        (taken n.atp.zone_responder s.from (Request mask xo timer tid user bytes)).after
+        (taken n.atp.zone_responder s.from (Request mask xo timer tid user bytes)).sent)
+        (zones_at n.seat.net n.seat.number) (page_packet table start ∷ [])) is
+        ∙ ap (network.answers (with_responder (after A history) (zones_at n.seat.net n.seat.number)
+        (taken n.atp.zone_responder s.from (Request mask xo timer tid user bytes)).after
+        (taken n.atp.zone_responder s.from (Request mask xo timer tid user bytes)).sent)
+        (zones_at n.seat.net n.seat.number) key (page_packet table start ∷ []))
+        (ap (λ rs. answer_fault rs key (page_packet table start ∷ []))
+        (put_here (after A history).responders (zones_at n.seat.net n.seat.number)
+        (taken n.atp.zone_responder s.from (Request mask xo timer tid user bytes)).after)
+        ∙ no_fault (taken n.atp.zone_responder s.from (Request mask xo timer tid user bytes)).after key waits.0)
 
-    served : (key : Key) → (taken n.atp.zone_responder s.from (Request mask xo timer tid user bytes)).reception ≡ reception.New key → IsIts A history n (Gets which) (over (with_atp n) (zone_served n.seat n.atp (taken n.atp.zone_responder s.from (Request mask xo timer tid user bytes)) key (page_packet table start)))
+    served : (key : Key) → (taken n.atp.zone_responder s.from (Request mask xo timer tid user bytes)).reception
+        ≡ reception.New key → IsIts A history n (Gets which)
+        (over (with_atp n) (zone_served n.seat n.atp
+        (taken n.atp.zone_responder s.from (Request mask xo timer tid user bytes)) key (page_packet table start)))
     served key is =
         let waits = laws.new_waits n.atp.zone_responder s.from (Request mask xo timer tid user bytes) key is in
         let d = is_answered key is in
         let a = asks A laws history n st which s was_sent fresh mask xo timer tid user bytes packet_is in
-        let here = put_here (after A history).responders (zones_at n.seat.net n.seat.number) (taken n.atp.zone_responder s.from (Request mask xo timer tid user bytes)).after in
-        let joined = ap (λ (x : Network). x.asked) d ∙ (λ i. answered (after A history).asked (waits.2 i).from (waits.2 i).tid (page_packet table start ∷ [])) in
-        let newest : Asked (after A history).asked s.from tid (zones_at n.seat.net n.seat.number) = record { transaction = (a.0).transaction; newest = (a.0).newest; asked_it = (a.0).asked_it ∙ to_is } in
-        gave_happens A history n (Gets which) st (network.Serves which (page_packet table start ∷ [])) (report.Served (length (asked_for (find (is_key key) (taken n.atp.zone_responder s.from (Request mask xo timer tid user bytes)).after) key (page_packet table start ∷ []))))
-        (zones_at n.seat.net n.seat.number) s.from tid (page_packet table start ∷ []) (after_answer (taken n.atp.zone_responder s.from (Request mask xo timer tid user bytes)).after key (page_packet table start ∷ [])) n.atp.service_responder
-        (asked_for (find (is_key key) (taken n.atp.zone_responder s.from (Request mask xo timer tid user bytes)).after) key (page_packet table start ∷ []))
+        let here = put_here (after A history).responders (zones_at n.seat.net n.seat.number)
+        (taken n.atp.zone_responder s.from (Request mask xo timer tid user bytes)).after in
+        let joined = ap (λ (x : Network). x.asked) d
+        ∙ (λ i. answered (after A history).asked (waits.2 i).from (waits.2 i).tid (page_packet table start ∷ [])) in
+        let newest : Asked (after A history).asked s.from tid (zones_at n.seat.net n.seat.number) =
+        record { transaction = (a.0).transaction; newest = (a.0).newest; asked_it = (a.0).asked_it ∙ to_is } in
+        gave_happens A history n (Gets which) st (network.Serves which (page_packet table start ∷ []))
+        (report.Served (length (asked_for
+        (find (is_key key) (taken n.atp.zone_responder s.from (Request mask xo timer tid user bytes)).after) key
+        (page_packet table start ∷ []))))
+        (zones_at n.seat.net n.seat.number) s.from tid (page_packet table start ∷ [])
+        (after_answer (taken n.atp.zone_responder s.from (Request mask xo timer tid user bytes)).after key
+        (page_packet table start ∷ [])) n.atp.service_responder
+        (asked_for (find (is_key key) (taken n.atp.zone_responder s.from (Request mask xo timer tid user bytes)).after)
+        key (page_packet table start ∷ []))
         (in_time (after A history) which s was_sent fresh) (page_fits, tt)
         (ap (λ (x : Network). x.event) d)
         (λ who. ap (λ (x : Network). x.requesters who) d)
         (λ at. ap (λ (x : Network). x.responders at) d
-        ∙ ap (λ rs. put (put (after A history).responders (zones_at n.seat.net n.seat.number) (taken n.atp.zone_responder s.from (Request mask xo timer tid user bytes)).after) (zones_at n.seat.net n.seat.number) (after_answer rs key (page_packet table start ∷ [])) at) here
-        ∙ put_twice (after A history).responders (zones_at n.seat.net n.seat.number) (taken n.atp.zone_responder s.from (Request mask xo timer tid user bytes)).after (after_answer (taken n.atp.zone_responder s.from (Request mask xo timer tid user bytes)).after key (page_packet table start ∷ [])) at
-        ∙ with_served A history n (Gets which) st (after_answer (taken n.atp.zone_responder s.from (Request mask xo timer tid user bytes)).after key (page_packet table start ∷ [])) at)
+        ∙ ap (λ rs. put (put (after A history).responders (zones_at n.seat.net n.seat.number)
+        (taken n.atp.zone_responder s.from (Request mask xo timer tid user bytes)).after)
+        (zones_at n.seat.net n.seat.number) (after_answer rs key (page_packet table start ∷ [])) at) here
+        ∙ put_twice (after A history).responders (zones_at n.seat.net n.seat.number)
+        (taken n.atp.zone_responder s.from (Request mask xo timer tid user bytes)).after
+        (after_answer (taken n.atp.zone_responder s.from (Request mask xo timer tid user bytes)).after key
+        (page_packet table start ∷ [])) at
+        ∙ with_served A history n (Gets which) st
+        (after_answer (taken n.atp.zone_responder s.from (Request mask xo timer tid user bytes)).after key
+        (page_packet table start ∷ [])) at)
         (ap (λ (x : Network). x.sent) d
-        ∙ (λ i. ((after A history).sent ++ stamped (after A history).event (zones_at n.seat.net n.seat.number) (waits.1 i)) ++ stamped (after A history).event (zones_at n.seat.net n.seat.number) (asked_for (find (is_key key) (here i)) key (page_packet table start ∷ [])))
-        ∙ ap (λ l. l ++ stamped (after A history).event (zones_at n.seat.net n.seat.number) (asked_for (find (is_key key) (taken n.atp.zone_responder s.from (Request mask xo timer tid user bytes)).after) key (page_packet table start ∷ []))) (append-nil (after A history).sent))
+        ∙ (λ i. ((after A history).sent ++ stamped (after A history).event (zones_at n.seat.net n.seat.number)
+        (waits.1 i)) ++ stamped (after A history).event (zones_at n.seat.net n.seat.number)
+        (asked_for (find (is_key key) (here i)) key (page_packet table start ∷ [])))
+        ∙ ap (λ l. l ++ stamped (after A history).event (zones_at n.seat.net n.seat.number)
+        (asked_for (find (is_key key)
+        (taken n.atp.zone_responder s.from (Request mask xo timer tid user bytes)).after) key
+        (page_packet table start ∷ []))) (append-nil (after A history).sent))
         (ap (λ (x : Network). x.drawn) d)
         joined refl
-        (serves_new A n.seat.net n.seat.number n.atp.table (after A history) which s was_sent key (page_packet table start ∷ []) (length (asked_for (find (is_key key) (taken n.atp.zone_responder s.from (Request mask xo timer tid user bytes)).after) key (page_packet table start ∷ []))) ((λ i. (taken (its_records i) s.from (packet_is i)).reception) ∙ is) (waits.2 ∙ ap (λ f. record { from = s.from; tid = number_of f }) (sym packet_is))
-        (joined ∙ (λ i. answered (after A history).asked s.from (number_of (sym packet_is i)) (page_packet table start ∷ [])))
-        (record { zones = table; is_table = is_table; request = s; was_sent = was_sent; start = start; asks_from = subst (λ f. AsksFrom f start) (sym packet_is) asks_from; page = refl }))
+        (serves_new A n.seat.net n.seat.number n.atp.table (after A history) which s was_sent key
+        (page_packet table start ∷ [])
+        (length (asked_for (find (is_key key)
+        (taken n.atp.zone_responder s.from (Request mask xo timer tid user bytes)).after) key
+        (page_packet table start ∷ []))) ((λ i. (taken (its_records i) s.from (packet_is i)).reception) ∙ is)
+        (waits.2 ∙ ap (λ f. record { from = s.from; tid = number_of f }) (sym packet_is))
+        (joined ∙ (λ i. answered (after A history).asked s.from (number_of (sym packet_is i))
+        (page_packet table start ∷ [])))
+        (record {
+          zones = table;
+          is_table = is_table;
+          request = s;
+          was_sent = was_sent;
+          start = start;
+          asks_from = subst (λ f. AsksFrom f start) (sym packet_is) asks_from;
+          page = refl;
+        }))
         (steps.Serves (record {
           which = which;
-          count = length (asked_for (find (is_key key) (taken n.atp.zone_responder s.from (Request mask xo timer tid user bytes)).after) key (page_packet table start ∷ []));
+          count = length (asked_for
+              (find (is_key key) (taken n.atp.zone_responder s.from (Request mask xo timer tid user bytes)).after) key
+              (page_packet table start ∷ []));
           act = refl;
           report = refl;
           table = table;
@@ -120,20 +208,40 @@ module _ (A : Type 0) (laws : HearingLaws A) (history : List Happening) (n : Nod
           newest = newest;
           start = start;
           asks_from = subst (λ u. RequestSpells u start) (sym a.1) asks_from;
-          one = laws.few (find (is_key key) (taken n.atp.zone_responder s.from (Request mask xo timer tid user bytes)).after) key (page_packet table start ∷ []);
+          one = laws.few (find (is_key key)
+              (taken n.atp.zone_responder s.from (Request mask xo timer tid user bytes)).after) key
+              (page_packet table start ∷ []);
           asked = refl;
           reading = refl;
         }))
 
-    by_reception : (o : Outcome A AtpState) (r : Reception) → (taken n.atp.zone_responder s.from (Request mask xo timer tid user bytes)).reception ≡ r → o ≡ at_zones n.seat n.atp (taken n.atp.zone_responder s.from (Request mask xo timer tid user bytes)) (page_packet table start) r → IsIts A history n (Gets which) (over (with_atp n) o)
-    by_reception o reception.Ignored is at = subst (λ p. IsIts A history n (Gets which) (over (with_atp n) p)) (sym at) (quietly (Request mask xo timer tid user bytes) packet_is report.Ignored reception.Ignored is (λ key. refl) refl refl refl)
-    by_reception o (reception.Again count) is at = subst (λ p. IsIts A history n (Gets which) (over (with_atp n) p)) (sym at) (quietly (Request mask xo timer tid user bytes) packet_is report.Again (reception.Again count) is (λ key. refl) refl refl refl)
-    by_reception o reception.Released is at = subst (λ p. IsIts A history n (Gets which) (over (with_atp n) p)) (sym at) (quietly (Request mask xo timer tid user bytes) packet_is report.Released reception.Released is (λ key. refl) refl refl refl)
-    by_reception o (reception.New key) is at = subst (λ p. IsIts A history n (Gets which) (over (with_atp n) p)) (sym at) (served key is)
+    by_reception : (o : Outcome A AtpState) (r : Reception)
+        → (taken n.atp.zone_responder s.from (Request mask xo timer tid user bytes)).reception ≡ r → o
+        ≡ at_zones n.seat n.atp (taken n.atp.zone_responder s.from (Request mask xo timer tid user bytes))
+        (page_packet table start) r → IsIts A history n (Gets which) (over (with_atp n) o)
+    by_reception o reception.Ignored is at = subst (λ p. IsIts A history n (Gets which) (over (with_atp n) p)) (sym at)
+        (quietly (Request mask xo timer tid user bytes) packet_is report.Ignored reception.Ignored is
+        (λ key. refl) refl refl refl)
+    by_reception o (reception.Again count) is at = subst (λ p. IsIts A history n (Gets which) (over (with_atp n) p))
+        (sym at) (quietly (Request mask xo timer tid user bytes) packet_is report.Again (reception.Again count) is
+        (λ key. refl) refl refl refl)
+    by_reception o reception.Released is at = subst (λ p. IsIts A history n (Gets which) (over (with_atp n) p))
+        (sym at) (quietly (Request mask xo timer tid user bytes) packet_is report.Released reception.Released is
+        (λ key. refl) refl refl refl)
+    by_reception o (reception.New key) is at = subst (λ p. IsIts A history n (Gets which) (over (with_atp n) p))
+        (sym at) (served key is)
 
-    pub zone_request : (o : Outcome A AtpState) → o ≡ zone_asked n.seat n.atp s.from (Request mask xo timer tid user bytes) table start → IsIts A history n (Gets which) (over (with_atp n) o)
+    pub zone_request : (o : Outcome A AtpState) → o
+        ≡ zone_asked n.seat n.atp s.from (Request mask xo timer tid user bytes) table start
+        → IsIts A history n (Gets which) (over (with_atp n) o)
     zone_request o at = go (finds_no_place n.atp.zone_responder s.from (Request mask xo timer tid user bytes)) at
       where
-        go : (b : Bool) → o ≡ cond b (idle n.atp (report.Refused 14)) (at_zones n.seat n.atp (taken n.atp.zone_responder s.from (Request mask xo timer tid user bytes)) (page_packet table start) (taken n.atp.zone_responder s.from (Request mask xo timer tid user bytes)).reception) → IsIts A history n (Gets which) (over (with_atp n) o)
-        go true e = subst (λ p. IsIts A history n (Gets which) (over (with_atp n) p)) (sym e) (idle_happens A history n (Gets which) st (report.Refused 14) refl refl refl)
-        go false e = by_reception o (taken n.atp.zone_responder s.from (Request mask xo timer tid user bytes)).reception refl e
+        go : (b : Bool) → o ≡ cond b (idle n.atp (report.Refused 14))
+            (at_zones n.seat n.atp (taken n.atp.zone_responder s.from (Request mask xo timer tid user bytes))
+            (page_packet table start)
+            (taken n.atp.zone_responder s.from (Request mask xo timer tid user bytes)).reception)
+            → IsIts A history n (Gets which) (over (with_atp n) o)
+        go true e = subst (λ p. IsIts A history n (Gets which) (over (with_atp n) p)) (sym e)
+            (idle_happens A history n (Gets which) st (report.Refused 14) refl refl refl)
+        go false e = by_reception o
+            (taken n.atp.zone_responder s.from (Request mask xo timer tid user bytes)).reception refl e

@@ -6,10 +6,13 @@ use Rattle.at_ddp.specs.Address.{same_address}
 use Rattle.at_ddp.specs.declared.address.Address.{Address}
 use Rattle.at_atp.specs.HandUps.{brings, is_drawn, is_drawn_after}
 use Rattle.at_atp_frame.specs.Frames.{number_of}
-use Rattle.at_atp.specs.Network.{Network, Sent, ending, number_after, packet_at, Begins, Turns, Answers, Hears, Takes, Serves, Expires, Retries, Other, Happening, done}
+use Rattle.at_ddp.specs.Posts.{packet_at}
+use Rattle.at_atp.specs.Network.{Network, Sent, ending, number_after, Begins, Turns, Answers, Hears, Takes, Serves}
+use Rattle.at_atp.specs.Network.{Expires, Retries, Other, Happening, done}
 use Rattle.at_atp_responder.specs.Once.{is_new_of, same_key}
 use Rattle.at_atp_frame.specs.Packets.{Packet}
-use Rattle.at_atp_responder.specs.Records.{Record, State, Waiting, Answered, Released, is_key, came_again, released, release_came, taken, expiry_fault}
+use Rattle.at_atp_responder.specs.Records.{Record, State, Waiting, Answered, Released, is_key, came_again, released}
+use Rattle.at_atp_responder.specs.Records.{release_came, taken, expiry_fault}
 use Rattle.at_atp.specs.Transactions.{answered}
 use Rattle.at_atp_requester.specs.Requests.{next_number}
 use Rattle.at_atp_responder.specs.declared.reception.Key.{Key}
@@ -23,7 +26,8 @@ use Rattle.at_event.specs.declared.event.Report.{Report}
 use Rattle.at_event.specs.declared.event.Report.TheVariants as report
 use Rattle.at_event.specs.declared.event.Timer.TheVariants as timer
 use Rattle.at_steps.specs.Acts.{Act, Calls, Fires, Gets, Forges}
-use Rattle.at_steps.specs.AtpReports.{IsPageAsked, Matches, Joins, Finishes, Ends, asks_once, asks_for, began_under, expired_at, handed_up_by, came_under}
+use Rattle.at_steps.specs.AtpReports.{IsPageAsked, Matches, Joins, Finishes, Ends, asks_once, asks_for, began_under}
+use Rattle.at_steps.specs.AtpReports.{expired_at, handed_up_by, came_under}
 
 -- an event whose report tells of no beginning, no request, no response and no expiry
 abbrev pub is_quiet : {A : Type 0} → Report A → Act A → Bool
@@ -35,11 +39,13 @@ is_quiet (report.Response tid packets) (Gets which) = false
 is_quiet report.Done (Fires (timer.Release own node socket tid)) = false
 is_quiet r act = true
 
-no_begin : (A : Type 0) (net number : ℕ) (act : Act A) (r : Report A) (key : Key) → is_quiet r act ≡ true → began_under net number act r key ≡ false
+no_begin : (A : Type 0) (net number : ℕ) (act : Act A) (r : Report A) (key : Key) → is_quiet r act ≡ true
+    → began_under net number act r key ≡ false
 no_begin A net number act (report.Begun tid) key q = absurd (false≢true q)
 no_begin A net number act r key q = refl
 
-no_hand_up : (A : Type 0) (sent : List (Option Sent)) (act : Act A) (r : Report A) (key : Key) → is_quiet r act ≡ true → handed_up_by sent act r key ≡ false
+no_hand_up : (A : Type 0) (sent : List (Option Sent)) (act : Act A) (r : Report A) (key : Key) → is_quiet r act ≡ true
+    → handed_up_by sent act r key ≡ false
 no_hand_up A sent (Calls call) r key q = refl
 no_hand_up A sent (Gets which) (report.Served count) key q = absurd (false≢true q)
 no_hand_up A sent (Gets which) (report.Asked k user bytes) key q = absurd (false≢true q)
@@ -47,7 +53,8 @@ no_hand_up A sent (Gets which) r key q = refl
 no_hand_up A sent (Fires time) r key q = refl
 no_hand_up A sent Forges r key q = refl
 
-no_expiry : (A : Type 0) (net number : ℕ) (act : Act A) (r : Report A) (at : Address) (key : Key) → is_quiet r act ≡ true → expired_at net number act r at key ≡ false
+no_expiry : (A : Type 0) (net number : ℕ) (act : Act A) (r : Report A) (at : Address) (key : Key) → is_quiet r act
+    ≡ true → expired_at net number act r at key ≡ false
 no_expiry A net number (Calls call) r at key q = refl
 no_expiry A net number (Gets which) r at key q = refl
 no_expiry A net number (Fires (timer.Retry tid)) r at key q = refl
@@ -58,7 +65,8 @@ no_expiry A net number (Fires (timer.Resend id)) r at key q = refl
 no_expiry A net number (Fires (timer.Probe id)) r at key q = refl
 no_expiry A net number Forges r at key q = refl
 
-no_end : (A : Type 0) (net number : ℕ) (n : Network) (act : Act A) (r : Report A) → is_quiet r act ≡ true → Finishes net number n act r
+no_end : (A : Type 0) (net number : ℕ) (n : Network) (act : Act A) (r : Report A) → is_quiet r act ≡ true
+    → Finishes net number n act r
 no_end A net number n (Calls call) r q = tt
 no_end A net number n (Gets which) (report.Served count) q = absurd (false≢true q)
 no_end A net number n (Gets which) (report.Response tid packets) q = absurd (false≢true q)
@@ -66,7 +74,8 @@ no_end A net number n (Gets which) r q = tt
 no_end A net number n (Fires time) r q = tt
 no_end A net number n Forges r q = tt
 
-no_answer : (A : Type 0) (net : ℕ) (n : Network) (h : Happening) (act : Act A) (r : Report A) → is_quiet r act ≡ true → Joins net n h r act
+no_answer : (A : Type 0) (net : ℕ) (n : Network) (h : Happening) (act : Act A) (r : Report A) → is_quiet r act ≡ true
+    → Joins net n h r act
 no_answer A net n h (Calls call) (report.Answered count) q = absurd (false≢true q)
 no_answer A net n h (Gets which) (report.Served count) q = absurd (false≢true q)
 no_answer A net n h (Fires time) (report.Answered count) q = tt
@@ -75,33 +84,106 @@ no_answer A net n h Forges (report.Served count) q = tt
 no_answer A net n h act r q = tt
 
 module _ (A : Type 0) (net number : ℕ) (table : Option (List (List ℕ))) (n : Network) where
-  pub other_matches : (count : ℕ) (act : Act A) (r : Report A) → is_quiet r act ≡ true → Matches net number table n (Other count) act r
-  other_matches count act r q = record { draws_it = λ key. sym (no_begin A net number act r key q); expires_it = λ at key. sym (no_expiry A net number act r at key q); hands_up = λ key. sym (no_hand_up A n.sent act r key q); takes_in = tt; begins_as = tt; answers_as = tt; joins = no_answer A net n (Other count) act r q; finishes = no_end A net number n act r q }
+  pub other_matches : (count : ℕ) (act : Act A) (r : Report A) → is_quiet r act ≡ true
+      → Matches net number table n (Other count) act r
+  other_matches count act r q =
+      record {
+        draws_it = λ key. sym (no_begin A net number act r key q);
+        expires_it = λ at key. sym (no_expiry A net number act r at key q);
+        hands_up = λ key. sym (no_hand_up A n.sent act r key q);
+        takes_in = tt;
+        begins_as = tt;
+        answers_as = tt;
+        joins = no_answer A net n (Other count) act r q;
+        finishes = no_end A net number n act r q;
+      }
 
-  pub answers_match : (at : Address) (key : Key) (packets : List Packet) (k socket tid count : ℕ) → key ≡ record { from = record { net = net; node = k; socket = socket }; tid = tid } →
-      (done A n (Answers at key packets)).asked ≡ answered n.asked (record { net = net; node = k; socket = socket }) tid packets → Matches {A = A} net number table n (Answers at key packets) (Calls (Answer k socket tid packets)) (report.Answered count)
-  answers_match at key packets k socket tid count its joins = record { draws_it = λ x. refl; expires_it = λ at x. refl; hands_up = λ x. refl; takes_in = tt; begins_as = tt; answers_as = (k, socket, tid, count, refl, refl, its); joins = joins; finishes = tt }
+  pub answers_match : (at : Address) (key : Key) (packets : List Packet) (k socket tid count : ℕ) → key
+      ≡ record { from = record { net = net; node = k; socket = socket }; tid = tid } →
+      (done A n (Answers at key packets)).asked
+      ≡ answered n.asked (record { net = net; node = k; socket = socket }) tid packets
+      → Matches {A = A} net number table n (Answers at key packets) (Calls (Answer k socket tid packets))
+      (report.Answered count)
+  answers_match at key packets k socket tid count its joins =
+      record {
+        draws_it = λ x. refl;
+        expires_it = λ at x. refl;
+        hands_up = λ x. refl;
+        takes_in = tt;
+        begins_as = tt;
+        answers_as = (k, socket, tid, count, refl, refl, its);
+        joins = joins;
+        finishes = tt;
+      }
 
-  pub hears_matches : (which : ℕ) (act : Act A) (r : Report A) → is_quiet r act ≡ true → Matches net number table n (Hears which) act r
-  hears_matches which act r q = record { draws_it = λ key. sym (no_begin A net number act r key q); expires_it = λ at key. sym (no_expiry A net number act r at key q); hands_up = λ key. sym (no_hand_up A n.sent act r key q); takes_in = tt; begins_as = tt; answers_as = tt; joins = no_answer A net n (Hears which) act r q; finishes = no_end A net number n act r q }
+  pub hears_matches : (which : ℕ) (act : Act A) (r : Report A) → is_quiet r act ≡ true
+      → Matches net number table n (Hears which) act r
+  hears_matches which act r q =
+      record {
+        draws_it = λ key. sym (no_begin A net number act r key q);
+        expires_it = λ at key. sym (no_expiry A net number act r at key q);
+        hands_up = λ key. sym (no_hand_up A n.sent act r key q);
+        takes_in = tt;
+        begins_as = tt;
+        answers_as = tt;
+        joins = no_answer A net n (Hears which) act r q;
+        finishes = no_end A net number n act r q;
+      }
 
   -- a packet that ends a transaction
-  pub ends_match : (which tid : ℕ) (packets : List Packet) → Ends A net number n which tid packets → Matches {A = A} net number table n (Hears which) (Gets which) (report.Response tid packets)
-  ends_match which tid packets ends = record { draws_it = λ key. refl; expires_it = λ at key. refl; hands_up = λ key. refl; takes_in = tt; begins_as = tt; answers_as = tt; joins = tt; finishes = ends }
+  pub ends_match : (which tid : ℕ) (packets : List Packet) → Ends A net number n which tid packets
+      → Matches {A = A} net number table n (Hears which) (Gets which) (report.Response tid packets)
+  ends_match which tid packets ends =
+      record {
+        draws_it = λ key. refl;
+        expires_it = λ at key. refl;
+        hands_up = λ key. refl;
+        takes_in = tt;
+        begins_as = tt;
+        answers_as = tt;
+        joins = tt;
+        finishes = ends;
+      }
 
-  pub retries_match : (who : Address) (tid : ℕ) (act : Act A) (r : Report A) → is_quiet r act ≡ true → Matches net number table n (Retries who tid) act r
-  retries_match who tid act r q = record { draws_it = λ key. sym (no_begin A net number act r key q); expires_it = λ at key. sym (no_expiry A net number act r at key q); hands_up = λ key. sym (no_hand_up A n.sent act r key q); takes_in = tt; begins_as = tt; answers_as = tt; joins = no_answer A net n (Retries who tid) act r q; finishes = no_end A net number n act r q }
+  pub retries_match : (who : Address) (tid : ℕ) (act : Act A) (r : Report A) → is_quiet r act ≡ true
+      → Matches net number table n (Retries who tid) act r
+  retries_match who tid act r q =
+      record {
+        draws_it = λ key. sym (no_begin A net number act r key q);
+        expires_it = λ at key. sym (no_expiry A net number act r at key q);
+        hands_up = λ key. sym (no_hand_up A n.sent act r key q);
+        takes_in = tt;
+        begins_as = tt;
+        answers_as = tt;
+        joins = no_answer A net n (Retries who tid) act r q;
+        finishes = no_end A net number n act r q;
+      }
 
   -- a transaction begins under the next number
-  pub begins_match : (tid : ℕ) (to : Address) (user bytes : List ℕ) (wanted : ℕ) (xo : Bool) (retries : ℕ) (call : Call A) → asks_once (Calls call) ≡ xo → asks_for (Calls call) ≡ wanted → next_number (n.requesters (asking net number)) ≡ Some tid →
-      Matches net number table n (Begins (asking net number) to user bytes wanted xo retries) (Calls call) (report.Begun tid)
-  begins_match tid to user bytes wanted xo retries call once many drawn = record { draws_it = λ key. ap (λ o. is_drawn (asking net number) o key) drawn; expires_it = λ at key. refl; hands_up = λ key. refl; takes_in = tt; begins_as = (once, many); answers_as = tt; joins = tt; finishes = tt }
+  pub begins_match : (tid : ℕ) (to : Address) (user bytes : List ℕ) (wanted : ℕ) (xo : Bool) (retries : ℕ)
+      (call : Call A) → asks_once (Calls call) ≡ xo → asks_for (Calls call) ≡ wanted
+      → next_number (n.requesters (asking net number)) ≡ Some tid →
+      Matches net number table n (Begins (asking net number) to user bytes wanted xo retries) (Calls call)
+      (report.Begun tid)
+  begins_match tid to user bytes wanted xo retries call once many drawn =
+      record {
+        draws_it = λ key. ap (λ o. is_drawn (asking net number) o key) drawn;
+        expires_it = λ at key. refl;
+        hands_up = λ key. refl;
+        takes_in = tt;
+        begins_as = (once, many);
+        answers_as = tt;
+        joins = tt;
+        finishes = tt;
+      }
 
   -- a packet ends a transaction, and the next one begins
-  pub turns_match : (which : ℕ) (s : Sent) (user : List ℕ) (times tid : ℕ) → ending A n (packet_at n.sent which) ≡ Some s → number_after A n s ≡ Some tid → s.to ≡ asking net number →
+  pub turns_match : (which : ℕ) (s : Sent) (user : List ℕ) (times tid : ℕ) → ending A n (packet_at n.sent which)
+      ≡ Some s → number_after A n s ≡ Some tid → s.to ≡ asking net number →
       Matches {A = A} net number table n (Turns which user times) (Gets which) (report.Begun tid)
   turns_match which s user times tid ends drawn to_is = record {
-    draws_it = λ key. ap (λ o. is_drawn_after A n o key) ends ∙ ap (λ o. is_drawn s.to o key) drawn ∙ ap (λ who. same_key (record { from = who; tid = tid }) key) to_is;
+    draws_it = λ key. ap (λ o. is_drawn_after A n o key) ends ∙ ap (λ o. is_drawn s.to o key) drawn
+        ∙ ap (λ who. same_key (record { from = who; tid = tid }) key) to_is;
     expires_it = λ at key. refl;
     hands_up = λ key. refl;
     takes_in = refl;
@@ -113,11 +195,14 @@ module _ (A : Type 0) (net number : ℕ) (table : Option (List (List ℕ))) (n :
 
   module _ (which : ℕ) (s : Sent) (was_sent : packet_at n.sent which ≡ Some s) where
     -- a packet that hands nothing up
-    pub takes_quietly : (r : Report A) (x : Reception) → (taken (n.responders s.to) s.from s.packet).reception ≡ x → ((key : Key) → is_new_of key x ≡ false) → is_quiet r (Gets which) ≡ true → Matches net number table n (Takes which) (Gets which) r
+    pub takes_quietly : (r : Report A) (x : Reception) → (taken (n.responders s.to) s.from s.packet).reception ≡ x
+        → ((key : Key) → is_new_of key x ≡ false) → is_quiet r (Gets which) ≡ true
+        → Matches net number table n (Takes which) (Gets which) r
     takes_quietly r x is old q = record {
       draws_it = λ key. sym (no_begin A net number (Gets which) r key q);
       expires_it = λ at key. sym (no_expiry A net number (Gets which) r at key q);
-      hands_up = λ key. ap (brings n key) was_sent ∙ ap (is_new_of key) is ∙ old key ∙ sym (no_hand_up A n.sent (Gets which) r key q);
+      hands_up = λ key. ap (brings n key) was_sent ∙ ap (is_new_of key) is ∙ old key
+          ∙ sym (no_hand_up A n.sent (Gets which) r key q);
       takes_in = refl;
       begins_as = tt;
       answers_as = tt;
@@ -126,16 +211,33 @@ module _ (A : Type 0) (net number : ℕ) (table : Option (List (List ℕ))) (n :
     }
 
     -- a request that is delivered
-    pub takes_new : (key : Key) (user bytes : List ℕ) → (taken (n.responders s.to) s.from s.packet).reception ≡ reception.New key → Matches {A = A} net number table n (Takes which) (Gets which) (report.Asked key user bytes)
-    takes_new new user bytes is = record { draws_it = λ key. refl; expires_it = λ at key. refl; hands_up = λ key. ap (brings n key) was_sent ∙ ap (is_new_of key) is; takes_in = refl; begins_as = tt; answers_as = tt; joins = tt; finishes = tt }
+    pub takes_new : (key : Key) (user bytes : List ℕ) → (taken (n.responders s.to) s.from s.packet).reception
+        ≡ reception.New key → Matches {A = A} net number table n (Takes which) (Gets which)
+        (report.Asked key user bytes)
+    takes_new new user bytes is =
+        record {
+          draws_it = λ key. refl;
+          expires_it = λ at key. refl;
+          hands_up = λ key. ap (brings n key) was_sent ∙ ap (is_new_of key) is;
+          takes_in = refl;
+          begins_as = tt;
+          answers_as = tt;
+          joins = tt;
+          finishes = tt;
+        }
 
     -- a request that is answered at once
-    pub serves_new : (key : Key) (packets : List Packet) (count : ℕ) → (taken (n.responders s.to) s.from s.packet).reception ≡ reception.New key → key ≡ record { from = s.from; tid = number_of s.packet } →
-        (done A n (Serves which packets)).asked ≡ answered n.asked s.from (number_of s.packet) packets → IsPageAsked table n which packets → Matches {A = A} net number table n (Serves which packets) (Gets which) (report.Served count)
+    pub serves_new : (key : Key) (packets : List Packet) (count : ℕ)
+        → (taken (n.responders s.to) s.from s.packet).reception ≡ reception.New key → key
+        ≡ record { from = s.from; tid = number_of s.packet } →
+        (done A n (Serves which packets)).asked ≡ answered n.asked s.from (number_of s.packet) packets
+        → IsPageAsked table n which packets
+        → Matches {A = A} net number table n (Serves which packets) (Gets which) (report.Served count)
     serves_new new packets count is its joins page = record {
       draws_it = λ key. refl;
       expires_it = λ at key. refl;
-      hands_up = λ key. ap (brings n key) was_sent ∙ ap (is_new_of key) is ∙ ap (λ x. same_key x key) its ∙ ap (λ o. came_under o key) (sym was_sent);
+      hands_up = λ key. ap (brings n key) was_sent ∙ ap (is_new_of key) is ∙ ap (λ x. same_key x key) its
+          ∙ ap (λ o. came_under o key) (sym was_sent);
       takes_in = refl;
       begins_as = tt;
       answers_as = (count, refl, refl, page);
@@ -144,8 +246,12 @@ module _ (A : Type 0) (net number : ℕ) (table : Option (List (List ℕ))) (n :
     }
 
   -- a record that expires
-  pub expires_match : (own node socket tid : ℕ) (place : Address) (key : Key) → place ≡ record { net = net; node = number; socket = own } → key ≡ record { from = record { net = net; node = node; socket = socket }; tid = tid } →
-      expiry_fault (find (is_key key) (n.responders place)) ≡ None → Matches {A = A} net number table n (Expires place key) (Fires (timer.Release own node socket tid)) report.Done
+  pub expires_match : (own node socket tid : ℕ) (place : Address) (key : Key) → place
+      ≡ record { net = net; node = number; socket = own } → key
+      ≡ record { from = record { net = net; node = node; socket = socket }; tid = tid } →
+      expiry_fault (find (is_key key) (n.responders place)) ≡ None
+      → Matches {A = A} net number table n (Expires place key)
+      (Fires (timer.Release own node socket tid)) report.Done
   expires_match own node socket tid place key here its free = record {
     draws_it = λ x. refl;
     expires_it = λ at x. λ i. is_none (free i) && same_address (here i) at && same_key (its i) x;
@@ -158,7 +264,8 @@ module _ (A : Type 0) (net number : ℕ) (table : Option (List (List ℕ))) (n :
   }
 
 -- a release is not delivered
-pub release_is_old : (rs : List Record) (k : Key) (o : Option Record) (key : Key) → is_new_of key (release_came rs k o).reception ≡ false
+pub release_is_old : (rs : List Record) (k : Key) (o : Option Record) (key : Key)
+    → is_new_of key (release_came rs k o).reception ≡ false
 release_is_old rs k None key = refl
 release_is_old rs k (Some r) key = go r.state
   where
@@ -167,7 +274,8 @@ release_is_old rs k (Some r) key = go r.state
     go (Answered packets) = refl
     go Released = refl
 
-pub release_is_quiet : (A : Type 0) (which : ℕ) (r : Reception) → is_quiet (released_report {A = A} r) (Gets which) ≡ true
+pub release_is_quiet : (A : Type 0) (which : ℕ) (r : Reception) → is_quiet (released_report {A = A} r) (Gets which)
+    ≡ true
 release_is_quiet A which reception.Ignored = refl
 release_is_quiet A which (reception.New key) = refl
 release_is_quiet A which (reception.Again count) = refl

@@ -1,5 +1,6 @@
 -- What each timer of a node is in the network.
-use Rattle.std.proofs.Common.{◌≡◌, ℕ, zero, suc, Bool, true, false, cond, List, [], Option, Some, None, refl, sym, ap, ◌∙◌, lit<}
+use Rattle.std.proofs.Common.{◌≡◌, ℕ, zero, suc, Bool, true, false, cond, List, [], Option, Some, None, refl, sym, ap}
+use Rattle.std.proofs.Common.{◌∙◌, lit<}
 use Rattle.std.specs.Prelude.{find, option_map, ◌==◌}
 use Rattle.std.proofs.lemmas.List.{append-nil}
 use Rattle.std.proofs.lemmas.Bool.{true≢false, false≢true, eq-eqb, eqb-true}
@@ -14,7 +15,8 @@ use Rattle.at_atp_requester.specs.declared.step.Retry.TheVariants as retry
 use Rattle.at_atp_responder.specs.Records.{Record, expiry_fault, is_key}
 use Rattle.at_atp_responder.specs.declared.reception.Key.{Key}
 use Rattle.at_atp.specs.Network as network
-use Rattle.at_atp.specs.Network.{Network, Happening, Expires, Retries, after, done, put, with_requester, with_responder}
+use Rattle.at_ddp.specs.Posts.{put}
+use Rattle.at_atp.specs.Network.{Network, Happening, Expires, Retries, after, done, with_requester, with_responder}
 use Rattle.at_node.specs.AtpParts.{AtpState, Reading, serving, zones_at, asking}
 use Rattle.at_event.specs.Kinds.{kind_of_timer}
 use Rattle.at_node.specs.Nodes.{with_atp, NodeState, timed}
@@ -39,21 +41,26 @@ use Rattle.at_steps.proofs.Atp.Stories.{expires_match, retries_match}
 failed_sends : (r : Requests) (tid : ℕ) (x : Retried) → retried r tid ≡ Some x → x.step ≡ retry.Failed → x.sent ≡ []
 failed_sends r tid x is failed = go (find (is_numbered tid) r.standing) is
   where
-    quiet : (t : Transaction) (n : ℕ) → (retried_with r tid t n).step ≡ retry.Failed → (retried_with r tid t n).sent ≡ []
+    quiet : (t : Transaction) (n : ℕ) → (retried_with r tid t n).step ≡ retry.Failed → (retried_with r tid t n).sent
+        ≡ []
     quiet t zero h = refl
     quiet t (suc n) h = absurd (cc)
 
-    go : (o : Option Transaction) → option_map (λ (t : Transaction). retried_with r tid t t.retries) o ≡ Some x → x.sent ≡ []
+    go : (o : Option Transaction) → option_map (λ (t : Transaction). retried_with r tid t t.retries) o ≡ Some x
+        → x.sent ≡ []
     go None g = absurd (cc)
-    go (Some t) g = let same : retried_with r tid t t.retries ≡ x = cc in ap (λ (y : Retried). y.sent) (sym same) ∙ quiet t t.retries (ap (λ (y : Retried). y.step) same ∙ failed)
+    go (Some t) g = let same : retried_with r tid t t.retries ≡ x = cc in ap (λ (y : Retried). y.sent) (sym same)
+        ∙ quiet t t.retries (ap (λ (y : Retried). y.step) same ∙ failed)
 
 -- the transaction of this number reads the list
-pub reads_it : (reading : Option Reading) (tid : ℕ) → is_reading reading tid ≡ true → (r : Reading) × (reading ≡ Some r) × (r.tid ≡ tid)
+pub reads_it : (reading : Option Reading) (tid : ℕ) → is_reading reading tid ≡ true → (r : Reading)
+    × (reading ≡ Some r) × (r.tid ≡ tid)
 reads_it None tid h = absurd (false≢true h)
 reads_it (Some r) tid h = (r, refl, eqb-true r.tid tid h)
 
 -- the transaction of this number is not the one that reads the list
-pub reads_another : (reading : Option Reading) (tid : ℕ) (r : Reading) → is_reading reading tid ≡ false → reading ≡ Some r → (tid == r.tid) ≡ false
+pub reads_another : (reading : Option Reading) (tid : ℕ) (r : Reading) → is_reading reading tid ≡ false → reading
+    ≡ Some r → (tid == r.tid) ≡ false
 reads_another reading tid r h is = turned (tid == r.tid) refl (ap (λ o. is_reading o tid) (sym is) ∙ h)
   where
     turned : (b : Bool) → (tid == r.tid) ≡ b → (r.tid == tid) ≡ false → b ≡ false
@@ -65,87 +72,149 @@ abbrev pub expired_in : {A : Type 0} → AtpState → List Record → Bool → B
 expired_in a rs x y key (Some fault) = idle a (refused_as (number_of fault))
 expired_in a rs x y key None = record {
   report = report.Done;
-  state = cond x (record a { service_responder = without_first (is_key key) rs }) (cond y (record a { zone_responder = without_first (is_key key) rs }) a);
+  state = cond x (record a { service_responder = without_first (is_key key) rs })
+      (cond y (record a { zone_responder = without_first (is_key key) rs }) a);
   out = [];
 }
 
-module _ (A : Type 0) (stays : StaysOpen) (history : List Happening) (n : NodeState) (st : Stands A history n.seat.net n.seat.number n) (tid : ℕ) where
+module _ (A : Type 0) (stays : StaysOpen) (history : List Happening) (n : NodeState)
+    (st : Stands A history n.seat.net n.seat.number n) (tid : ℕ) where
   asking_fits : IsAddress (asking n.seat.net n.seat.number)
   asking_fits = record { net = st.small_net; node = st.small_number; socket = lit< tt }
 
-  is_done : (r : Retried) → retried n.atp.requester tid ≡ Some r → done A (after A history) (Retries (asking n.seat.net n.seat.number) tid) ≡ with_requester (after A history) (asking n.seat.net n.seat.number) r.after r.sent
-  is_done r is = ap (network.retries (after A history) (asking n.seat.net n.seat.number)) (ap (λ q. retried q tid) st.requester ∙ is)
+  is_done : (r : Retried) → retried n.atp.requester tid ≡ Some r
+      → done A (after A history) (Retries (asking n.seat.net n.seat.number) tid)
+      ≡ with_requester (after A history) (asking n.seat.net n.seat.number) r.after r.sent
+  is_done r is = ap (network.retries (after A history) (asking n.seat.net n.seat.number))
+      (ap (λ q. retried q tid) st.requester ∙ is)
 
   -- a reading whose transaction is another, or asks again, goes on
-  goes_on : (r : Retried) → retried n.atp.requester tid ≡ Some r → (r.step ≡ retry.Failed → is_reading n.atp.reading tid ≡ false) → IsOpen (record n.atp { requester = r.after })
-  goes_on r is away read reads = stays n.atp.requester tid read.tid r is (st.is_open read reads) (λ failed. reads_another n.atp.reading tid read (away failed) reads)
+  goes_on : (r : Retried) → retried n.atp.requester tid ≡ Some r
+      → (r.step ≡ retry.Failed → is_reading n.atp.reading tid ≡ false) → IsOpen (record n.atp { requester = r.after })
+  goes_on r is away read reads = stays n.atp.requester tid read.tid r is (st.is_open read reads)
+      (λ failed. reads_another n.atp.reading tid read (away failed) reads)
 
   nothing_open : (x : Requests) → IsOpen (record n.atp { requester = x; reading = None })
   nothing_open x read reads = absurd (cc)
 
-  failing : (r : Retried) → retried n.atp.requester tid ≡ Some r → r.step ≡ retry.Failed → (b : Bool) → is_reading n.atp.reading tid ≡ b → IsIts A history n (Fires (timer.Retry tid)) (over (with_atp n) (after_failing n.atp tid r.after b))
+  failing : (r : Retried) → retried n.atp.requester tid ≡ Some r → r.step ≡ retry.Failed → (b : Bool)
+      → is_reading n.atp.reading tid ≡ b
+      → IsIts A history n (Fires (timer.Retry tid)) (over (with_atp n) (after_failing n.atp tid r.after b))
   failing r is failed true e =
-      requester_happens A history n (Fires (timer.Retry tid)) st (Retries (asking n.seat.net n.seat.number) tid) r.after None [] report.ZonesFailed tt asking_fits
-      (is_done r is ∙ ap (with_requester (after A history) (asking n.seat.net n.seat.number) r.after) (failed_sends n.atp.requester tid r is failed)) refl
+      requester_happens A history n (Fires (timer.Retry tid)) st
+      (Retries (asking n.seat.net n.seat.number) tid) r.after None [] report.ZonesFailed tt asking_fits
+      (is_done r is ∙ ap (with_requester (after A history) (asking n.seat.net n.seat.number) r.after)
+      (failed_sends n.atp.requester tid r is failed)) refl
       (nothing_open r.after)
-      (retries_match A n.seat.net n.seat.number n.atp.table (after A history) (asking n.seat.net n.seat.number) tid (Fires (timer.Retry tid)) report.ZonesFailed refl)
-      (let it = reads_it n.atp.reading tid e in Fails (record { time = timer.Retry tid; act = refl; report = refl; read = it.0; reads = it.1; asked = refl; reading = refl }))
+      (retries_match A n.seat.net n.seat.number n.atp.table (after A history) (asking n.seat.net n.seat.number) tid
+      (Fires (timer.Retry tid)) report.ZonesFailed refl)
+      (let it = reads_it n.atp.reading tid e in
+      Fails (record {
+        time = timer.Retry tid;
+        act = refl;
+        report = refl;
+        read = it.0;
+        reads = it.1;
+        asked = refl;
+        reading = refl;
+      }))
   failing r is failed false e =
-      requester_happens A history n (Fires (timer.Retry tid)) st (Retries (asking n.seat.net n.seat.number) tid) r.after n.atp.reading [] (report.Failed tid) tt asking_fits
-      (is_done r is ∙ ap (with_requester (after A history) (asking n.seat.net n.seat.number) r.after) (failed_sends n.atp.requester tid r is failed)) refl
+      requester_happens A history n (Fires (timer.Retry tid)) st
+      (Retries (asking n.seat.net n.seat.number) tid) r.after n.atp.reading [] (report.Failed tid) tt asking_fits
+      (is_done r is ∙ ap (with_requester (after A history) (asking n.seat.net n.seat.number) r.after)
+      (failed_sends n.atp.requester tid r is failed)) refl
       (goes_on r is (λ f. e))
-      (retries_match A n.seat.net n.seat.number n.atp.table (after A history) (asking n.seat.net n.seat.number) tid (Fires (timer.Retry tid)) (report.Failed tid) refl)
+      (retries_match A n.seat.net n.seat.number n.atp.table (after A history) (asking n.seat.net n.seat.number) tid
+      (Fires (timer.Retry tid)) (report.Failed tid) refl)
       (Plain (record { plain = refl; asked = refl; reading = refl }))
 
-  retried_so : (r : Retried) → retried n.atp.requester tid ≡ Some r → (s : Retry) → r.step ≡ s → IsIts A history n (Fires (timer.Retry tid)) (over (with_atp n) (after_retry n.seat n.atp tid r s))
+  retried_so : (r : Retried) → retried n.atp.requester tid ≡ Some r → (s : Retry) → r.step ≡ s
+      → IsIts A history n (Fires (timer.Retry tid)) (over (with_atp n) (after_retry n.seat n.atp tid r s))
   retried_so r is retry.AskedAgain step =
-      requester_happens A history n (Fires (timer.Retry tid)) st (Retries (asking n.seat.net n.seat.number) tid) r.after n.atp.reading r.sent report.Again tt asking_fits (is_done r is) refl
+      requester_happens A history n (Fires (timer.Retry tid)) st
+      (Retries (asking n.seat.net n.seat.number) tid) r.after n.atp.reading r.sent report.Again tt asking_fits
+      (is_done r is) refl
       (goes_on r is (λ failed. absurd (never r.step step failed)))
-      (retries_match A n.seat.net n.seat.number n.atp.table (after A history) (asking n.seat.net n.seat.number) tid (Fires (timer.Retry tid)) report.Again refl)
+      (retries_match A n.seat.net n.seat.number n.atp.table (after A history) (asking n.seat.net n.seat.number) tid
+      (Fires (timer.Retry tid)) report.Again refl)
       (Plain (record { plain = refl; asked = refl; reading = refl }))
     where
       never : (x : Retry) → x ≡ retry.AskedAgain → x ≡ retry.Failed → ⊥
       never x a b = cc
   retried_so r is retry.Failed step = failing r is step (is_reading n.atp.reading tid) refl
 
-  retry_happens : (o : Option Retried) → retried n.atp.requester tid ≡ o → IsIts A history n (Fires (timer.Retry tid)) (over (with_atp n) (retry_fired n.seat n.atp tid o))
+  retry_happens : (o : Option Retried) → retried n.atp.requester tid ≡ o
+      → IsIts A history n (Fires (timer.Retry tid)) (over (with_atp n) (retry_fired n.seat n.atp tid o))
   retry_happens None is = idle_happens A history n (Fires (timer.Retry tid)) st (report.Refused 15) refl refl refl
   retry_happens (Some r) is = retried_so r is r.step refl
 
 -- the release timer of a record
-module _ (A : Type 0) (history : List Happening) (n : NodeState) (st : Stands A history n.seat.net n.seat.number n) (own node socket tid : ℕ) where
+module _ (A : Type 0) (history : List Happening) (n : NodeState) (st : Stands A history n.seat.net n.seat.number n)
+    (own node socket tid : ℕ) where
   -- a record is taken away, and nothing is sent
-  expired_is : (at : Address) (rs : List Record) → (after A history).responders at ≡ rs → expiry_fault (find (is_key (record { from = at_socket n.seat node socket; tid = tid })) rs) ≡ None →
-      done A (after A history) (Expires at (record { from = at_socket n.seat node socket; tid = tid })) ≡ with_responder (after A history) at (without_first (is_key (record { from = at_socket n.seat node socket; tid = tid })) rs) []
+  expired_is : (at : Address) (rs : List Record) → (after A history).responders at ≡ rs
+      → expiry_fault (find (is_key (record { from = at_socket n.seat node socket; tid = tid })) rs) ≡ None →
+      done A (after A history) (Expires at (record { from = at_socket n.seat node socket; tid = tid }))
+      ≡ with_responder (after A history) at
+      (without_first (is_key (record { from = at_socket n.seat node socket; tid = tid })) rs) []
   expired_is at rs is free =
-      ap (network.expires (after A history) at (record { from = at_socket n.seat node socket; tid = tid })) (ap (λ l. expiry_fault (find (is_key (record { from = at_socket n.seat node socket; tid = tid })) l)) is ∙ free)
-      ∙ (λ i. record (after A history) { responders = put (after A history).responders at (without_first (is_key (record { from = at_socket n.seat node socket; tid = tid })) (is i)); sent = sym (append-nil (after A history).sent) i })
+      ap (network.expires (after A history) at (record { from = at_socket n.seat node socket; tid = tid }))
+      (ap (λ l. expiry_fault (find (is_key (record { from = at_socket n.seat node socket; tid = tid })) l)) is
+      ∙ free)
+      ∙ (λ i. record (after A history) {
+        responders = put (after A history).responders at
+            (without_first (is_key (record { from = at_socket n.seat node socket; tid = tid })) (is i));
+        sent = sym (append-nil (after A history).sent) i;
+      })
 
-  expiry_matches : (at : Address) (rs : List Record) → at ≡ at_socket n.seat n.seat.number own → (after A history).responders at ≡ rs → expiry_fault (find (is_key (record { from = at_socket n.seat node socket; tid = tid })) rs) ≡ None →
-      Matches {A = A} n.seat.net n.seat.number n.atp.table (after A history) (Expires at (record { from = at_socket n.seat node socket; tid = tid })) (Fires (timer.Release own node socket tid)) report.Done
+  expiry_matches : (at : Address) (rs : List Record) → at ≡ at_socket n.seat n.seat.number own
+      → (after A history).responders at ≡ rs
+      → expiry_fault (find (is_key (record { from = at_socket n.seat node socket; tid = tid })) rs) ≡ None →
+      Matches {A = A} n.seat.net n.seat.number n.atp.table (after A history)
+      (Expires at (record { from = at_socket n.seat node socket; tid = tid }))
+      (Fires (timer.Release own node socket tid)) report.Done
   expiry_matches at rs here is free =
-      expires_match A n.seat.net n.seat.number n.atp.table (after A history) own node socket tid at (record { from = at_socket n.seat node socket; tid = tid }) here refl
+      expires_match A n.seat.net n.seat.number n.atp.table (after A history) own node socket tid at
+      (record { from = at_socket n.seat node socket; tid = tid }) here refl
       (ap (λ l. expiry_fault (find (is_key (record { from = at_socket n.seat node socket; tid = tid })) l)) is ∙ free)
 
-  release_happens : (x y : Bool) (fault : Option AtpFault) → (own == 129) ≡ x → (own == 6) ≡ y → expiry_fault (find (is_key (record { from = at_socket n.seat node socket; tid = tid })) (cond x n.atp.service_responder (cond y n.atp.zone_responder []))) ≡ fault →
-      IsIts A history n (Fires (timer.Release own node socket tid)) (over (with_atp n) (expired_in n.atp (cond x n.atp.service_responder (cond y n.atp.zone_responder [])) x y (record { from = at_socket n.seat node socket; tid = tid }) fault))
-  release_happens x y (Some fault) ex ey is = refused_happens A history n (Fires (timer.Release own node socket tid)) st (number_of fault)
+  release_happens : (x y : Bool) (fault : Option AtpFault) → (own == 129) ≡ x → (own == 6) ≡ y
+      → expiry_fault (find (is_key (record { from = at_socket n.seat node socket; tid = tid }))
+      (cond x n.atp.service_responder (cond y n.atp.zone_responder []))) ≡ fault →
+      IsIts A history n (Fires (timer.Release own node socket tid))
+      (over (with_atp n) (expired_in n.atp (cond x n.atp.service_responder (cond y n.atp.zone_responder [])) x y
+      (record { from = at_socket n.seat node socket; tid = tid }) fault))
+  release_happens x y (Some fault) ex ey is =
+      refused_happens A history n (Fires (timer.Release own node socket tid)) st (number_of fault)
   release_happens true y None ex ey is =
-      service_happens A history n (Fires (timer.Release own node socket tid)) st (Expires (serving n.seat.net n.seat.number) (record { from = at_socket n.seat node socket; tid = tid })) (without_first (is_key (record { from = at_socket n.seat node socket; tid = tid })) n.atp.service_responder) [] report.Done tt tt
+      service_happens A history n (Fires (timer.Release own node socket tid)) st
+      (Expires (serving n.seat.net n.seat.number) (record { from = at_socket n.seat node socket; tid = tid }))
+      (without_first (is_key (record { from = at_socket n.seat node socket; tid = tid })) n.atp.service_responder)
+      [] report.Done tt tt
       (expired_is (serving n.seat.net n.seat.number) n.atp.service_responder st.service is) refl
-      (expiry_matches (serving n.seat.net n.seat.number) n.atp.service_responder (ap (at_socket n.seat n.seat.number) (sym (eqb-true own 129 ex))) st.service is)
+      (expiry_matches (serving n.seat.net n.seat.number) n.atp.service_responder
+      (ap (at_socket n.seat n.seat.number) (sym (eqb-true own 129 ex))) st.service is)
       (Plain (record { plain = refl; asked = refl; reading = refl }))
   release_happens false true None ex ey is =
-      zones_happen A history n (Fires (timer.Release own node socket tid)) st (Expires (zones_at n.seat.net n.seat.number) (record { from = at_socket n.seat node socket; tid = tid })) (without_first (is_key (record { from = at_socket n.seat node socket; tid = tid })) n.atp.zone_responder) [] report.Done tt tt
+      zones_happen A history n (Fires (timer.Release own node socket tid)) st
+      (Expires (zones_at n.seat.net n.seat.number) (record { from = at_socket n.seat node socket; tid = tid }))
+      (without_first (is_key (record { from = at_socket n.seat node socket; tid = tid })) n.atp.zone_responder) []
+      report.Done tt tt
       (expired_is (zones_at n.seat.net n.seat.number) n.atp.zone_responder st.zones is) refl
-      (expiry_matches (zones_at n.seat.net n.seat.number) n.atp.zone_responder (ap (at_socket n.seat n.seat.number) (sym (eqb-true own 6 ey))) st.zones is)
+      (expiry_matches (zones_at n.seat.net n.seat.number) n.atp.zone_responder
+      (ap (at_socket n.seat n.seat.number) (sym (eqb-true own 6 ey))) st.zones is)
       (Plain (record { plain = refl; asked = refl; reading = refl }))
   release_happens false false None ex ey is = absurd (cc)
 
-pub timer_happens : (A : Type 0) (stays : StaysOpen) (history : List Happening) (n : NodeState) (st : Stands A history n.seat.net n.seat.number n) (time : Timer) → is_atp (kind_of_timer time) ≡ true → IsIts A history n (Fires time) (timed n time)
-timer_happens A stays history n st (timer.Retry tid) its = retry_happens A stays history n st tid (retried n.atp.requester tid) refl
+pub timer_happens : (A : Type 0) (stays : StaysOpen) (history : List Happening) (n : NodeState)
+    (st : Stands A history n.seat.net n.seat.number n) (time : Timer) → is_atp (kind_of_timer time) ≡ true
+    → IsIts A history n (Fires time) (timed n time)
+timer_happens A stays history n st (timer.Retry tid) its =
+    retry_happens A stays history n st tid (retried n.atp.requester tid) refl
 timer_happens A stays history n st (timer.Release own node socket tid) its =
-    release_happens A history n st own node socket tid (own == 129) (own == 6) (expiry_fault (find (is_key (record { from = at_socket n.seat node socket; tid = tid })) (records_at n.atp own))) refl refl refl
+    release_happens A history n st own node socket tid (own == 129) (own == 6)
+    (expiry_fault (find (is_key (record { from = at_socket n.seat node socket; tid = tid }))
+    (records_at n.atp own))) refl refl refl
 timer_happens A stays history n st (timer.Lookup id) its = absurd (cc)
 timer_happens A stays history n st (timer.Resend id) its = absurd (cc)
 timer_happens A stays history n st (timer.Probe id) its = absurd (cc)

@@ -12,21 +12,25 @@ use Rattle.at_nbp.specs.declared.fault.NbpFault.{NbpFault}
 use Rattle.at_nbp.specs.declared.fault.NbpFault.TheVariants.{EmptyName, LookupsFull, NoSuchName}
 use Rattle.at_nbp.specs.declared.find.Find.{Find as Found}
 use Rattle.at_nbp.specs.declared.names.Registered.{Registered}
-use Rattle.at_name_socket.specs.NameSockets.{SocketState, any_pattern, claim_begun, claim_ended, claim_fault, ended, ending, fault_of, finish, finish_fault, names_of, taker}
+use Rattle.at_name_socket.specs.NameSockets.{SocketState, any_pattern, claim_begun, claim_ended, claim_fault, ended}
+use Rattle.at_name_socket.specs.NameSockets.{ending, fault_of, finish, finish_fault, names_of, taker}
 use Rattle.at_name_socket.specs.Sockets.{Closes, Opens, Stays, changed, claim_of, open_at}
 use Rattle.at_name_socket.specs.Steps.{StandsLawfully}
 use Rattle.at_name_socket.specs.declared.claim.Claim.{Claim as Claimed}
 use Rattle.at_name_socket.specs.declared.step.Finished.{Finished}
 use Rattle.at_name_socket.specs.declared.step.Finished.TheVariants as finished
 use Rattle.at_event.specs.Calls.{IsCall, IsZone}
-use Rattle.at_node.specs.Drawing.{drawn_by}
+use Rattle.at_node.specs.Numbers.{drawn_by}
 use Rattle.at_event.specs.Kinds.{kind_of_call}
-use Rattle.at_node.specs.NameCalls.{claimed_as, finish_called, finished_as, found_as, refused_by, registered_as, told_of, unregistered_as, without_name}
+use Rattle.at_node.specs.NameCalls.{claimed_as, finish_called, finished_as, found_as, refused_by, registered_as}
+use Rattle.at_node.specs.NameCalls.{told_of, unregistered_as, without_name}
 use Rattle.at_session.specs.Sessions.{SessionState, finds_kept, pattern_asked, zone_asked, zone_picked}
 use Rattle.at_node.specs.Nodes.{NodeState, called, with_names}
 use Rattle.at_event.specs.Outcomes.{over}
 use Rattle.at_event.specs.declared.event.Call.{Call}
-use Rattle.at_event.specs.declared.event.Call.TheVariants.{Zones, SetZones, Ask, Answer, Pick, Find, Claim, Finish, Register, Unregister, Open, Listen, Connect, Write, Read, Reset, Close}
+use Rattle.at_event.specs.declared.event.Call.TheVariants.{Zones, SetZones, Ask, Answer, Pick, Find, Claim, Finish}
+use Rattle.at_event.specs.declared.event.Call.TheVariants.{Register, Unregister, Open, Listen, Connect, Write, Read}
+use Rattle.at_event.specs.declared.event.Call.TheVariants.{Reset, Close}
 use Rattle.at_event.specs.declared.event.Report.TheVariants as report
 use Rattle.at_steps.specs.Acts.{Calls, is_nbp}
 use Rattle.at_steps.specs.NameHappenings.{Stands}
@@ -57,43 +61,84 @@ none_found : (s : SocketState) (finds : List Found) (claim : Claimed) → taker 
 none_found s [] claim none = refl
 none_found s (f ∷ fs) claim none = absurd (cc)
 
-module _ (A : Type 0) (laws : CallLaws A) (setting : Setting) (history : List Happening) (n : NodeState) (st : Stands setting history n.seat.net n.seat.number n) where
+module _ (A : Type 0) (laws : CallLaws A) (setting : Setting) (history : List Happening) (n : NodeState)
+    (st : Stands setting history n.seat.net n.seat.number n) where
   lawful : StandsLawfully (after setting history) (names_of n.seat.net n.seat.number) n.names
   lawful = stands_lawfully A setting history n st (laws.stood setting history st.all_ask st.timely)
 
-  refusing : (call : Call A) (number : NbpFault) → IsIts A setting history n (Calls call) (over (with_names n) (refused_by n.names number))
-  refusing call fault = refused_moves A setting history n st (laws.stood setting history st.all_ask st.timely) laws.nothing (Calls call) (number_of fault)
+  refusing : (call : Call A) (number : NbpFault)
+      → IsIts A setting history n (Calls call) (over (with_names n) (refused_by n.names number))
+  refusing call fault = refused_moves A setting history n st
+      (laws.stood setting history st.all_ask st.timely) laws.nothing (Calls call) (number_of fault)
 
   -- ---- lookups begin
 
-  finding : (object kind : List ℕ) (zone : Option (List ℕ)) → IsString object → IsString kind → IsZone zone → (o : Option ℕ) → next_id n.names.lookups ≡ o
-      → IsIts A setting history n (Calls (Find object kind zone)) (over (with_names n) (found_as n.seat n.names (pattern_asked n.session object kind zone) o))
+  finding : (object kind : List ℕ) (zone : Option (List ℕ)) → IsString object → IsString kind → IsZone zone
+      → (o : Option ℕ) → next_id n.names.lookups ≡ o
+      → IsIts A setting history n (Calls (Find object kind zone))
+      (over (with_names n) (found_as n.seat n.names (pattern_asked n.session object kind zone) o))
   finding object kind zone object_fits kind_fits fits None e = refusing (Find object kind zone) LookupsFull
   finding object kind zone object_fits kind_fits fits (Some id) e =
-      let h = laws.looks (after setting history) (names_of n.seat.net n.seat.number) n.names id (pattern_asked n.session object kind zone) lawful (record { object = object_fits; kind = kind_fits; zone = zone_fits n.session zone st.picked fits }) e in
+      let h = laws.looks (after setting history) (names_of n.seat.net n.seat.number) n.names id
+      (pattern_asked n.session object kind zone) lawful
+      (record { object = object_fits; kind = kind_fits; zone = zone_fits n.session zone st.picked fits }) e in
       let i = h.is in
       let b = i.becomes in (
-        moved A setting history n st (Calls (Find object kind zone)) (report.Looking id) (record n.names { lookups = lookups.begun n.names.lookups (beginning id (pattern_asked n.session object kind zone)) })
-            (Opens id (pattern_asked n.session object kind zone) None) (sent_question n.names.lookups (beginning id (pattern_asked n.session object kind zone)) ∷ []) h (λ now is. (pattern_asked n.session object kind zone, is)),
-        Looks (record { id = id; object = object; kind = kind; zone = zone; act = refl; report = refl; table = refl; lookups = b.opened }),
+        moved A setting history n st (Calls (Find object kind zone)) (report.Looking id)
+            (record n.names {
+              lookups = lookups.begun n.names.lookups
+                  (beginning id (pattern_asked n.session object kind zone));
+            })
+            (Opens id (pattern_asked n.session object kind zone) None)
+            (sent_question n.names.lookups (beginning id (pattern_asked n.session object kind zone)) ∷ []) h
+            (λ now is. (pattern_asked n.session object kind zone, is)),
+        Looks (record {
+          id = id;
+          object = object;
+          kind = kind;
+          zone = zone;
+          act = refl;
+          report = refl;
+          table = refl;
+          lookups = b.opened;
+        }),
       )
 
-  claiming : (object kind : List ℕ) (socket : ℕ) → IsString object → IsString kind → socket < 256 → (o : Option ℕ) → next_id n.names.lookups ≡ o
-      → IsIts A setting history n (Calls (Claim object kind socket)) (over (with_names n) (claimed_as n.seat n.names object kind socket o))
+  claiming : (object kind : List ℕ) (socket : ℕ) → IsString object → IsString kind → socket < 256 → (o : Option ℕ)
+      → next_id n.names.lookups ≡ o
+      → IsIts A setting history n (Calls (Claim object kind socket))
+      (over (with_names n) (claimed_as n.seat n.names object kind socket o))
   claiming object kind socket object_fits kind_fits fits None e = refusing (Claim object kind socket) LookupsFull
   claiming object kind socket object_fits kind_fits fits (Some id) e =
-      let h = laws.claims (after setting history) (names_of n.seat.net n.seat.number) n.names id object kind socket lawful object_fits kind_fits fits e in
+      let h = laws.claims (after setting history) (names_of n.seat.net n.seat.number) n.names id object kind socket
+      lawful object_fits kind_fits fits e in
       let i = h.is in
       let b = i.becomes in (
-        moved A setting history n st (Calls (Claim object kind socket)) (report.Looking id) (claim_begun n.names id object kind socket)
-            (Opens id (any_pattern object kind) (Some (record { id = id; object = object; kind = kind; socket = socket }))) (sent_question n.names.lookups (beginning id (any_pattern object kind)) ∷ []) h (λ now is. (any_pattern object kind, is)),
-        Claims (record { id = id; object = object; kind = kind; socket = socket; act = refl; report = refl; table = refl; lookups = b.opened }),
+        moved A setting history n st (Calls (Claim object kind socket)) (report.Looking id)
+            (claim_begun n.names id object kind socket)
+            (Opens id (any_pattern object kind)
+            (Some (record { id = id; object = object; kind = kind; socket = socket })))
+            (sent_question n.names.lookups (beginning id (any_pattern object kind)) ∷ []) h
+            (λ now is. (any_pattern object kind, is)),
+        Claims (record {
+          id = id;
+          object = object;
+          kind = kind;
+          socket = socket;
+          act = refl;
+          report = refl;
+          table = refl;
+          lookups = b.opened;
+        }),
       )
 
   claiming_name : (object kind : List ℕ) (socket : ℕ) → IsString object → IsString kind → socket < 256 → (b : Bool)
-      → IsIts A setting history n (Calls (Claim object kind socket)) (over (with_names n) (cond b (refused_by n.names EmptyName) (claimed_as n.seat n.names object kind socket (next_id n.names.lookups))))
+      → IsIts A setting history n (Calls (Claim object kind socket))
+      (over (with_names n) (cond b (refused_by n.names EmptyName)
+      (claimed_as n.seat n.names object kind socket (next_id n.names.lookups))))
   claiming_name object kind socket object_fits kind_fits fits true = refusing (Claim object kind socket) EmptyName
-  claiming_name object kind socket object_fits kind_fits fits false = claiming object kind socket object_fits kind_fits fits (next_id n.names.lookups) refl
+  claiming_name object kind socket object_fits kind_fits fits false =
+      claiming object kind socket object_fits kind_fits fits (next_id n.names.lookups) refl
 
   -- ---- lookups end
 
@@ -102,69 +147,148 @@ module _ (A : Type 0) (laws : CallLaws A) (setting : Setting) (history : List Ha
     abbrev Closed : SocketState → Type 0
     Closed new = (i : ℕ) → open_at new i ≡ changed (Closes id) (open_at n.names) i
 
-    by_taker : (search : Search) → search_of n.names.lookups id ≡ Some search → (claim : Claimed) → claim_of n.names id ≡ Some claim → (t : Option Found) → taker n.names search.finds claim ≡ t → claim_fault n.names claim t ≡ None
-        → Closed (claim_ended {A = A} n.names id claim t).state → StepTo A n (Calls (Finish id)) (claim_ended {A = A} n.names id claim t).state (told_of (claim_ended {A = A} n.names id claim t).finished)
+    by_taker : (search : Search) → search_of n.names.lookups id ≡ Some search → (claim : Claimed) → claim_of n.names id
+        ≡ Some claim → (t : Option Found) → taker n.names search.finds claim ≡ t → claim_fault n.names claim t ≡ None
+        → Closed (claim_ended {A = A} n.names id claim t).state
+        → StepTo A n (Calls (Finish id)) (claim_ended {A = A} n.names id claim t).state
+        (told_of (claim_ended {A = A} n.names id claim t).finished)
     by_taker search e claim is (Some f) has free closed =
-        HasLost (record { id = id; claim = claim; finds = search.finds; owner = f; act = refl; report = refl; stands = record { looked = search; stands = e; claims = is; found = refl }; taken = has; table = refl; lookups = closed })
+        HasLost (record {
+          id = id;
+          claim = claim;
+          finds = search.finds;
+          owner = f;
+          act = refl;
+          report = refl;
+          stands = record { looked = search; stands = e; claims = is; found = refl };
+          taken = has;
+          table = refl;
+          lookups = closed;
+        })
     by_taker search e claim is None has free closed =
-        HasClaimed (record { id = id; claim = claim; act = refl; report = refl; stands = record { looked = search; stands = e; claims = is; found = none_found n.names search.finds claim has }; allowed = free; table = laws.least claim.object claim.kind claim.socket n.names.table; lookups = closed })
+        HasClaimed (record {
+          id = id;
+          claim = claim;
+          act = refl;
+          report = refl;
+          stands = record {
+            looked = search;
+            stands = e;
+            claims = is;
+            found = none_found n.names search.finds claim has;
+          };
+          allowed = free;
+          table = laws.least claim.object claim.kind claim.socket n.names.table;
+          lookups = closed;
+        })
 
-    by_claim : (search : Search) → search_of n.names.lookups id ≡ Some search → (y : Option Claimed) → claim_of n.names id ≡ y → fault_of n.names (Some search) y ≡ None
-        → Closed (ended {A = A} n.names id search.finds y).state → StepTo A n (Calls (Finish id)) (ended {A = A} n.names id search.finds y).state (told_of (ended {A = A} n.names id search.finds y).finished)
-    by_claim search e None is free closed = Finds (record { id = id; finds = search.finds; act = refl; report = refl; stands = record { looked = search; stands = e; claims = is; found = refl }; table = refl; lookups = closed })
-    by_claim search e (Some claim) is free closed = by_taker search e claim is (taker n.names search.finds claim) refl free closed
+    by_claim : (search : Search) → search_of n.names.lookups id ≡ Some search → (y : Option Claimed)
+        → claim_of n.names id ≡ y → fault_of n.names (Some search) y ≡ None
+        → Closed (ended {A = A} n.names id search.finds y).state
+        → StepTo A n (Calls (Finish id)) (ended {A = A} n.names id search.finds y).state
+        (told_of (ended {A = A} n.names id search.finds y).finished)
+    by_claim search e None is free closed =
+        Finds (record {
+          id = id;
+          finds = search.finds;
+          act = refl;
+          report = refl;
+          stands = record { looked = search; stands = e; claims = is; found = refl };
+          table = refl;
+          lookups = closed;
+        })
+    by_claim search e (Some claim) is free closed =
+        by_taker search e claim is (taker n.names search.finds claim) refl free closed
 
     by_search : (x : Option Search) → search_of n.names.lookups id ≡ x → fault_of n.names x (claim_of n.names id) ≡ None
-        → Closed (ending {A = A} n.names id x).state → StepTo A n (Calls (Finish id)) (ending {A = A} n.names id x).state (told_of (ending {A = A} n.names id x).finished)
+        → Closed (ending {A = A} n.names id x).state
+        → StepTo A n (Calls (Finish id)) (ending {A = A} n.names id x).state
+        (told_of (ending {A = A} n.names id x).finished)
     by_search None e free closed = absurd (cc)
     by_search (Some search) e free closed = by_claim search e (claim_of n.names id) refl free closed
 
-    finishing : (fault : Option NbpFault) → finish_fault n.names id ≡ fault → IsIts A setting history n (Calls (Finish id)) (over (with_names n) (finished_as n.names id fault))
+    finishing : (fault : Option NbpFault) → finish_fault n.names id ≡ fault
+        → IsIts A setting history n (Calls (Finish id)) (over (with_names n) (finished_as n.names id fault))
     finishing (Some fault) e = refusing (Finish id) fault
     finishing None e =
         let h = laws.finishes (after setting history) (names_of n.seat.net n.seat.number) n.names id lawful e in
         let i = h.is in
         let b = i.becomes in (
-          moved A setting history n st (Calls (Finish id)) (told_of (finish {A = A} n.names id).finished) (finish {A = A} n.names id).state (Closes id) [] h
-              (λ now is. draws_none (after setting history).event (names_of n.seat.net n.seat.number) (drawn_by (told_of (finish {A = A} n.names id).finished)) (after setting history).begun now (ends_without A (finish {A = A} n.names id).finished) is),
+          moved A setting history n st (Calls (Finish id)) (told_of (finish {A = A} n.names id).finished)
+              (finish {A = A} n.names id).state (Closes id) [] h
+              (λ now is. draws_none (after setting history).event (names_of n.seat.net n.seat.number)
+              (drawn_by (told_of (finish {A = A} n.names id).finished)) (after setting history).begun now
+              (ends_without A (finish {A = A} n.names id).finished) is),
           by_search (search_of n.names.lookups id) refl e b.opened,
         )
 
   -- ---- names
 
-  registering : (object kind : List ℕ) (socket : ℕ) → IsString object → IsString kind → socket < 256 → (fault : Option NbpFault) → register_fault n.names.table.names object kind ≡ fault
-      → IsIts A setting history n (Calls (Register object kind socket)) (over (with_names n) (registered_as n.names object kind socket fault))
-  registering object kind socket object_fits kind_fits fits (Some fault) e = refusing (Register object kind socket) fault
+  registering : (object kind : List ℕ) (socket : ℕ) → IsString object → IsString kind → socket < 256
+      → (fault : Option NbpFault) → register_fault n.names.table.names object kind ≡ fault
+      → IsIts A setting history n (Calls (Register object kind socket))
+      (over (with_names n) (registered_as n.names object kind socket fault))
+  registering object kind socket object_fits kind_fits fits (Some fault) e =
+      refusing (Register object kind socket) fault
   registering object kind socket object_fits kind_fits fits None e =
-      let h = laws.registers (after setting history) (names_of n.seat.net n.seat.number) n.names object kind socket lawful object_fits kind_fits fits e in
+      let h = laws.registers (after setting history) (names_of n.seat.net n.seat.number) n.names object kind socket
+      lawful object_fits kind_fits fits e in
       let i = h.is in
       let b = i.becomes in (
-        moved A setting history n st (Calls (Register object kind socket)) report.Registered (record n.names { table = registered n.names.table object kind socket }) Stays [] h (λ now is. is),
-        Registers (record { object = object; kind = kind; socket = socket; act = refl; report = refl; allowed = e; table = laws.least object kind socket n.names.table; lookups = b.opened }),
+        moved A setting history n st (Calls (Register object kind socket)) report.Registered
+            (record n.names { table = registered n.names.table object kind socket }) Stays [] h (λ now is. is),
+        Registers (record {
+          object = object;
+          kind = kind;
+          socket = socket;
+          act = refl;
+          report = refl;
+          allowed = e;
+          table = laws.least object kind socket n.names.table;
+          lookups = b.opened;
+        }),
       )
 
   unregistering : (object kind : List ℕ) (o : Option Registered) → find (is_called object kind) n.names.table.names ≡ o
-      → IsIts A setting history n (Calls (Unregister object kind)) (over (with_names n) (unregistered_as n.names object kind o))
+      → IsIts A setting history n (Calls (Unregister object kind))
+      (over (with_names n) (unregistered_as n.names object kind o))
   unregistering object kind None e = refusing (Unregister object kind) NoSuchName
   unregistering object kind (Some name) e =
       let h = laws.unregisters (after setting history) (names_of n.seat.net n.seat.number) n.names object kind lawful in
       let i = h.is in
       let b = i.becomes in (
-        moved A setting history n st (Calls (Unregister object kind)) report.Done (without_name n.names object kind) Stays [] h (λ now is. is),
-        Unregisters (record { object = object; kind = kind; name = name; act = refl; report = refl; stood = e; table = refl; lookups = b.opened }),
+        moved A setting history n st (Calls (Unregister object kind)) report.Done
+            (without_name n.names object kind) Stays [] h (λ now is. is),
+        Unregisters (record {
+          object = object;
+          kind = kind;
+          name = name;
+          act = refl;
+          report = refl;
+          stood = e;
+          table = refl;
+          lookups = b.opened;
+        }),
       )
 
-  pub call_happens : (call : Call A) → IsCall call → is_nbp (kind_of_call call) ≡ true → IsIts A setting history n (Calls call) (called n call)
+  pub call_happens : (call : Call A) → IsCall call → is_nbp (kind_of_call call) ≡ true
+      → IsIts A setting history n (Calls call) (called n call)
   call_happens Zones range its = absurd (cc)
   call_happens (SetZones names) range its = absurd (cc)
   call_happens (Ask node socket user bytes wanted xo retries) range its = absurd (cc)
   call_happens (Answer node socket tid packets) range its = absurd (cc)
   call_happens (Pick zone) range its = absurd (cc)
-  call_happens (Find object kind zone) range its = finding object kind zone range.0 range.1 range.2 (next_id n.names.lookups) refl
-  call_happens (Claim object kind socket) range its = claiming_name object kind socket range.0 range.1 range.2 (is_no_text object || is_no_text kind)
-  call_happens (Finish id) range its = keeping A setting history n (Calls (Finish id)) (over (with_names n) (finish_called n.names id)) (finds_kept n.session (finish_called {A = A} n.names id).report) (finishing id (finish_fault n.names id) refl)
-  call_happens (Register object kind socket) range its = registering object kind socket range.0 range.1 range.2 (register_fault n.names.table.names object kind) refl
-  call_happens (Unregister object kind) range its = unregistering object kind (find (is_called object kind) n.names.table.names) refl
+  call_happens (Find object kind zone) range its =
+      finding object kind zone range.0 range.1 range.2 (next_id n.names.lookups) refl
+  call_happens (Claim object kind socket) range its = claiming_name object kind socket range.0 range.1 range.2
+      (is_no_text object || is_no_text kind)
+  call_happens (Finish id) range its =
+      keeping A setting history n (Calls (Finish id)) (over (with_names n) (finish_called n.names id))
+      (finds_kept n.session (finish_called {A = A} n.names id).report) (finishing id (finish_fault n.names id) refl)
+  call_happens (Register object kind socket) range its = registering object kind socket range.0 range.1 range.2
+      (register_fault n.names.table.names object kind) refl
+  call_happens (Unregister object kind) range its =
+      unregistering object kind (find (is_called object kind) n.names.table.names) refl
   call_happens (Open index) range its = absurd (cc)
   call_happens (Listen on) range its = absurd (cc)
   call_happens (Connect node socket) range its = absurd (cc)

@@ -4,16 +4,14 @@ use Rattle.std.specs.Prelude.{◌==◌}
 use Rattle.std.proofs.lemmas.Bool.{true≢false}
 use Rattle.at_ddp.specs.Datagram.{Content as Datagram, BeginsWith, canonical}
 use Rattle.at_ddp.specs.declared.address.Address.{Address}
+use Rattle.at_ddp.specs.Protocols.{atp_kind, nbp_kind, adsp_kind}
 use Rattle.at_event.specs.Kinds.{Kind, Adsp, Atp, Nbp, Nobody, Session, kind_of_call, kind_of_timer}
 use Rattle.at_event.specs.Outcomes.{Outcome}
-use Rattle.at_event.specs.Seats.{nbp_kind}
 use Rattle.at_event.specs.declared.event.Call.{Call}
 use Rattle.at_event.specs.declared.event.Timer.{Timer}
 use Rattle.at_event.specs.declared.service.Reply.{Reply}
-use Rattle.at_node.specs.AtpParts.{atp_kind}
 use Rattle.at_node.specs.Hearing.{Hears}
 use Rattle.at_node.specs.Nodes.{NodeState, called, timed}
-use Rattle.at_stream_socket.specs.Sockets.{adsp_kind}
 use Rattle.at_steps.specs.Acts.{Act, Calls, Fires, Gets, is_nbp, owner_of}
 use Rattle.at_steps.specs.NameHappenings.{IsForeign}
 use Rattle.at_steps.proofs.Outcomes.{Comes, IsNobodys, call_comes, datagram_comes, others_sent, timer_comes}
@@ -42,7 +40,8 @@ apart_nobody Nobody h = refl
 apart_nobody Session h = refl
 
 -- what comes of another protocol is foreign
-foreign : (A : Type 0) (n : NodeState) (act : Act A) (o : Outcome A NodeState) (k : Kind) → is_nbp k ≡ false → Comes A n act o k → IsForeign n act o
+foreign : (A : Type 0) (n : NodeState) (act : Act A) (o : Outcome A NodeState) (k : Kind) → is_nbp k ≡ false
+    → Comes A n act o k → IsForeign n act o
 foreign A n act o Atp apart h = subst (IsForeign n act) (sym h.is) (record {
   same = refl;
   sends = others_sent atp_kind nbp_kind refl h.part.out h.its.0;
@@ -65,15 +64,22 @@ foreign A n act o Session apart h = subst (IsForeign n act) (sym h.is) (record {
 })
 foreign A n act o Nbp apart h = absurd (true≢false apart)
 
-pub call_is_foreign : (A : Type 0) (n : NodeState) (call : Call A) → is_nbp (kind_of_call call) ≡ false → IsForeign n (Calls call) (called n call)
-call_is_foreign A n call apart = foreign A n (Calls call) (called n call) (kind_of_call call) apart (call_comes A n call)
+pub call_is_foreign : (A : Type 0) (n : NodeState) (call : Call A) → is_nbp (kind_of_call call) ≡ false
+    → IsForeign n (Calls call) (called n call)
+call_is_foreign A n call apart = foreign A n (Calls call) (called n call) (kind_of_call call) apart
+    (call_comes A n call)
 
-pub timer_is_foreign : (A : Type 0) (n : NodeState) (time : Timer) → is_nbp (kind_of_timer time) ≡ false → IsForeign {A = A} n (Fires time) (timed n time)
-timer_is_foreign A n time apart = foreign A n (Fires time) (timed n time) (kind_of_timer time) apart (timer_comes A n time)
+pub timer_is_foreign : (A : Type 0) (n : NodeState) (time : Timer) → is_nbp (kind_of_timer time) ≡ false
+    → IsForeign {A = A} n (Fires time) (timed n time)
+timer_is_foreign A n time apart = foreign A n (Fires time) (timed n time) (kind_of_timer time) apart
+    (timer_comes A n time)
 
 module _ (A : Type 0) (n : NodeState) (which : ℕ) (said : Reply A) (o : Outcome A NodeState) where
-  pub datagram_is_foreign : ((to from : Address) (kind : ℕ) (bytes rest : List ℕ) (d : Datagram) → BeginsWith (canonical to from kind bytes) d rest → d.kind ≡ kind) →
-      (to from : Address) (kind : ℕ) (bytes : List ℕ) → (kind == nbp_kind) ≡ false → Hears said n (canonical to from kind bytes) o → IsForeign n (Gets which) o
+  pub datagram_is_foreign :
+      ((to from : Address) (kind : ℕ) (bytes rest : List ℕ) (d : Datagram)
+      → BeginsWith (canonical to from kind bytes) d rest → d.kind ≡ kind) →
+      (to from : Address) (kind : ℕ) (bytes : List ℕ) → (kind == nbp_kind) ≡ false
+      → Hears said n (canonical to from kind bytes) o → IsForeign n (Gets which) o
   datagram_is_foreign reads to from kind bytes apart h =
       let c = datagram_comes A n which said o reads to from kind bytes h in
       foreign A n (Gets which) o c.whose (c.nbp apart) c.comes

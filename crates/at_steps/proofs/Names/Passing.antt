@@ -6,39 +6,33 @@ use Rattle.std.proofs.lemmas.Bool.{true≢false}
 use Rattle.at_ddp.specs.Address.{same_address}
 use Rattle.at_ddp.specs.declared.address.Address.{Address}
 use Rattle.at_ddp.proofs.Octets.{same_address-true}
-use Rattle.at_nbp.specs.Network.{Begun, Happening, Other, Setting, after, put}
+use Rattle.at_ddp.specs.Posts.{put}
+use Rattle.at_ddp.proofs.PostLemmas.{put_itself}
+use Rattle.at_ddp.specs.Protocols.{nbp_kind}
+use Rattle.at_steps.proofs.Entries.{entries_foreign}
+use Rattle.at_nbp.specs.Network.{Begun, Happening, Other, Setting, after}
 use Rattle.at_name_socket.specs.NameSockets.{SocketState, names_of}
 use Rattle.at_name_socket.specs.Sockets.{IsSocket}
-use Rattle.at_node.specs.Drawing.{drawn_by}
-use Rattle.at_event.specs.Seats.{nbp_kind}
+use Rattle.at_node.specs.Numbers.{drawn_by}
 use Rattle.at_node.specs.Nodes.{NodeState}
 use Rattle.at_event.specs.Outcomes.{Outcome, Outgoing}
 use Rattle.at_event.specs.declared.event.Report.{Report}
 use Rattle.at_event.specs.declared.event.Report.TheVariants as report
 use Rattle.at_steps.specs.Acts.{Act, Calls, Fires, Gets, is_nbp, owner_of, Forges}
-use Rattle.at_steps.specs.NameHappenings.{AreEntries, BeginsBy, Happens, IsForeign, Stands}
-
--- putting what is there changes nothing
-put_itself : {X : Type 0} (f : Address → X) (at : Address) (x : X) → f at ≡ x → (a : Address) → f a ≡ put f at x a
-put_itself f at x is a = go (same_address at a) refl
-  where
-    go : (b : Bool) → same_address at a ≡ b → f a ≡ cond b x (f a)
-    go true e = ap f (sym (same_address-true at a e)) ∙ is
-    go false e = refl
-
-entries_foreign : (event : ℕ) (out : List Outgoing) → AllByRecursion (λ (o : Outgoing). (o.kind == nbp_kind) ≡ false) out → AreEntries event out (replicate (length out) None)
-entries_foreign event [] all = tt
-entries_foreign event (o ∷ out) all = (all.0, entries_foreign event out all.1)
+use Rattle.at_steps.specs.NameHappenings.{BeginsBy, Happens, IsForeign, Stands, name_coding}
 
 -- the report of another protocol draws no identifier
-foreign_begins : (A : Type 0) (act : Act A) (r : Report A) (event : ℕ) (who : Address) (before : List Begun) → is_nbp (owner_of act r) ≡ false → BeginsBy event who (drawn_by r) before before
+foreign_begins : (A : Type 0) (act : Act A) (r : Report A) (event : ℕ) (who : Address) (before : List Begun)
+    → is_nbp (owner_of act r) ≡ false → BeginsBy event who (drawn_by r) before before
 foreign_begins A (Calls call) (report.Looking id) event who before h = absurd (true≢false h)
 foreign_begins A (Gets which) (report.Looking id) event who before h = absurd (true≢false h)
 foreign_begins A Forges (report.Looking id) event who before h = absurd (true≢false h)
 foreign_begins A (Fires time) (report.Looking id) event who before h = absurd (true≢false h)
 foreign_begins A act r event who before h = refl
 
-pub foreign_passes : (A : Type 0) (setting : Setting) (history : List Happening) (n : NodeState) (act : Act A) → Stands setting history n.seat.net n.seat.number n → (o : Outcome A NodeState) → IsForeign n act o → Happens setting history n.seat.net n.seat.number n act o
+pub foreign_passes : (A : Type 0) (setting : Setting) (history : List Happening) (n : NodeState) (act : Act A)
+    → Stands setting history n.seat.net n.seat.number n → (o : Outcome A NodeState) → IsForeign n act o
+    → Happens setting history n.seat.net n.seat.number n act o
 foreign_passes A setting history n act st o foreign =
     let here = st.stands in
     record {
@@ -48,12 +42,15 @@ foreign_passes A setting history n act st o foreign =
       in_range = tt;
       asked = tt;
       same_event = refl;
-      tables = put_itself (after setting history).tables (names_of n.seat.net n.seat.number) o.state.names.table (here.table ∙ ap (λ (s : SocketState). s.table) (sym foreign.same));
-      lookups = put_itself (after setting history).lookups (names_of n.seat.net n.seat.number) o.state.names.lookups (here.lookups ∙ ap (λ (s : SocketState). s.lookups) (sym foreign.same));
+      tables = put_itself (after setting history).tables (names_of n.seat.net n.seat.number) o.state.names.table
+          (here.table ∙ ap (λ (s : SocketState). s.table) (sym foreign.same));
+      lookups = put_itself (after setting history).lookups (names_of n.seat.net n.seat.number) o.state.names.lookups
+          (here.lookups ∙ ap (λ (s : SocketState). s.lookups) (sym foreign.same));
       more = replicate (length o.out) None;
       sent = refl;
-      posts = entries_foreign (after setting history).event o.out foreign.sends;
-      begun = foreign_begins A act o.report (after setting history).event (names_of n.seat.net n.seat.number) (after setting history).begun foreign.reports;
+      posts = entries_foreign name_coding (after setting history).event o.out foreign.sends;
+      begun = foreign_begins A act o.report (after setting history).event (names_of n.seat.net n.seat.number)
+          (after setting history).begun foreign.reports;
       socket = subst IsSocket (sym foreign.same) st.socket;
       own = ap (λ (s : SocketState). s.table.own) foreign.same ∙ st.own;
     }

@@ -19,17 +19,22 @@ use Rattle.at_steps.specs.NameSteps.{Plain}
 use Rattle.at_steps.proofs.Names.Below.{TimerLaws}
 use Rattle.at_steps.proofs.Names.Moves.{IsIts, moved, refused_moves, stands_lawfully}
 
-module _ (A : Type 0) (laws : TimerLaws) (setting : Setting) (history : List Happening) (n : NodeState) (st : Stands setting history n.seat.net n.seat.number n) where
-  asking : (id : ℕ) (o : Option Search) → search_of n.names.lookups id ≡ o → IsIts A setting history n (Fires (timer.Lookup id)) (over (with_names n) (asked_again n.seat n.names o))
-  asking id None e = refused_moves A setting history n st (laws.stood setting history st.all_ask st.timely) laws.nothing (Fires (timer.Lookup id)) (number_of NoSuchLookup)
+module _ (A : Type 0) (laws : TimerLaws) (setting : Setting) (history : List Happening) (n : NodeState)
+    (st : Stands setting history n.seat.net n.seat.number n) where
+  asking : (id : ℕ) (o : Option Search) → search_of n.names.lookups id ≡ o
+      → IsIts A setting history n (Fires (timer.Lookup id)) (over (with_names n) (asked_again n.seat n.names o))
+  asking id None e = refused_moves A setting history n st
+      (laws.stood setting history st.all_ask st.timely) laws.nothing (Fires (timer.Lookup id)) (number_of NoSuchLookup)
   asking id (Some search) e =
       let lawful = stands_lawfully A setting history n st (laws.stood setting history st.all_ask st.timely) in
       let h = laws.retries (after setting history) (names_of n.seat.net n.seat.number) n.names id search lawful e in (
-        moved A setting history n st (Fires (timer.Lookup id)) report.Again n.names Stays (sent_question n.names.lookups search ∷ []) h (λ now is. is),
+        moved A setting history n st (Fires (timer.Lookup id)) report.Again n.names Stays
+            (sent_question n.names.lookups search ∷ []) h (λ now is. is),
         Plain (record { plain = refl; table = refl; lookups = λ i. refl }),
       )
 
-  pub timer_happens : (time : Timer) → is_nbp (kind_of_timer time) ≡ true → IsIts A setting history n (Fires time) (timed n time)
+  pub timer_happens : (time : Timer) → is_nbp (kind_of_timer time) ≡ true
+      → IsIts A setting history n (Fires time) (timed n time)
   timer_happens (timer.Retry tid) its = absurd (cc)
   timer_happens (timer.Release own node socket tid) its = absurd (cc)
   timer_happens (timer.Lookup id) its = asking id (search_of n.names.lookups id) refl

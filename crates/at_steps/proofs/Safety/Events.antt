@@ -3,11 +3,12 @@ use Rattle.std.proofs.Common.{◌≡◌, inl, inr, ℕ, Bool, true, false, List,
 use Rattle.std.proofs.Common.{refl, ap, arith}
 use Rattle.std.specs.Prelude.{MatchBool, nat_lt, ◌==◌, ◌||◌}
 use Rattle.at_ddp.specs.Datagram.{Content as Datagram}
+use Rattle.at_ddp.specs.Protocols.{atp_kind, nbp_kind, adsp_kind}
 use Rattle.at_atp_responder.specs.Records.{answer_fault}
 use Rattle.at_atp_responder.specs.declared.reception.Key.{Key}
 use Rattle.at_adsp_end.specs.declared.tick.Tick.TheVariants as tick
 use Rattle.at_event.specs.Outcomes.{Outcome, Over, Through, idle, over}
-use Rattle.at_event.specs.Seats.{at_socket, is_for_all, is_mine, nbp_kind}
+use Rattle.at_event.specs.Seats.{at_socket, is_for_all, is_mine}
 use Rattle.at_event.specs.declared.event.Call.{Call}
 use Rattle.at_event.specs.declared.event.Call.TheVariants as call
 use Rattle.at_event.specs.declared.event.Report.TheVariants as report
@@ -16,7 +17,7 @@ use Rattle.at_event.specs.declared.event.Timer.TheVariants as timer
 use Rattle.at_event.specs.declared.fault.NodeFault.TheVariants as nodes
 use Rattle.at_event.specs.declared.service.Reply.{Reply}
 use Rattle.at_node.specs.AtpHearing.{HearsAtp}
-use Rattle.at_node.specs.AtpParts.{AtpState, atp_kind}
+use Rattle.at_node.specs.AtpParts.{AtpState}
 use Rattle.at_node.specs.Hearing.{Hears, HearsIt, HearsMine}
 use Rattle.at_node.specs.Limits.{IsWithin}
 use Rattle.at_node.specs.NameCalls.{claim_called, find_called, finish_called, lookup_fired, register_called}
@@ -37,7 +38,6 @@ use Rattle.at_session.specs.Sessions.{address_at, is_listed, pattern_asked}
 use Rattle.at_stream_socket.specs.Calls.{close_called, connect_called, listen_called, read_called, reset_called}
 use Rattle.at_stream_socket.specs.Calls.{tick_fired, write_called}
 use Rattle.at_stream_socket.specs.Hearing.{HearsStreams}
-use Rattle.at_stream_socket.specs.Sockets.{adsp_kind}
 use Rattle.at_steps.specs.Safety.{IsPlaceOf, IsPlaceOfCall, IsSafe, OfDatagrams, OfNodes, Place, Records}
 use Rattle.at_steps.proofs.Safety.By.{by, faulted, quiet, refused, through}
 use Rattle.at_steps.proofs.Safety.Names as names

@@ -5,6 +5,7 @@ use Rattle.std.specs.Prelude.{MatchBool, find, is_some, nat_le, ◌==◌, ◌||�
 use Rattle.std.proofs.lemmas.Bool.Decides.{nat_tests}
 use Rattle.at_ddp.specs.Datagram.{Content as Datagram}
 use Rattle.at_ddp.specs.declared.address.Address.{Address}
+use Rattle.at_ddp.specs.Protocols.{nbp_kind}
 use Rattle.at_nbp.specs.Fault as nbp
 use Rattle.at_nbp.specs.Lookups.{Lookups, Search, next_id, search_of}
 use Rattle.at_nbp.specs.NameTables.{AreNames, is_called, is_no_text, register_fault}
@@ -21,7 +22,6 @@ use Rattle.at_name_socket.specs.declared.step.Finished.TheVariants as finished
 use Rattle.at_name_socket.specs.declared.step.Heard.{Heard}
 use Rattle.at_name_socket.specs.declared.step.Heard.TheVariants as heard
 use Rattle.at_event.specs.Outcomes.{Outcome, idle}
-use Rattle.at_event.specs.Seats.{nbp_kind}
 use Rattle.at_event.specs.declared.event.Report.TheVariants as report
 use Rattle.at_node.specs.Limits.{IsWithin}
 use Rattle.at_node.specs.NameCalls.{asked_again, claim_called, claimed_as, find_called, finish_called, finished_as}

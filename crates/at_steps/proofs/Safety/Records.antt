@@ -4,6 +4,7 @@ use Rattle.std.proofs.Common.{Option, Some, None, refl, subst, arith}
 use Rattle.std.specs.Prelude.{find, nat_le, ◌&&◌}
 use Rattle.std.proofs.lemmas.Bool.Decides.{nat_tests}
 use Rattle.at_ddp.specs.declared.address.Address.{Address}
+use Rattle.at_ddp.specs.Protocols.{atp_kind}
 use Rattle.at_atp_frame.specs.Fault as atp
 use Rattle.at_atp_frame.specs.Frames.{Content}
 use Rattle.at_atp_frame.specs.Packets.{Packet}
@@ -18,7 +19,7 @@ use Rattle.at_zip.specs.Zones.{table_fault}
 use Rattle.at_zip.specs.declared.fault.ZipFault.{ZipFault}
 use Rattle.at_event.specs.Outcomes.{Outcome}
 use Rattle.at_event.specs.declared.fault.NodeFault.TheVariants as nodes
-use Rattle.at_node.specs.AtpParts.{AtpState, atp_kind, serving}
+use Rattle.at_node.specs.AtpParts.{AtpState, serving}
 use Rattle.at_node.specs.Nodes.{NodeState}
 use Rattle.at_node.specs.Responders.{expired, records_at, release_fired}
 use Rattle.at_node.specs.ServiceSocket.{answered_with}

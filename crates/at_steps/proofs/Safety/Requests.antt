@@ -4,6 +4,7 @@ use Rattle.std.proofs.Common.{List, [], ◌∷◌, ◌++◌, length, Option, Som
 use Rattle.std.specs.Prelude.{IsSome, MatchBool, find, nat_lt, option_map}
 use Rattle.std.proofs.lemmas.Bool.Decides.{nat_tests}
 use Rattle.at_ddp.specs.declared.address.Address.{Address}
+use Rattle.at_ddp.specs.Protocols.{atp_kind}
 use Rattle.at_atp_frame.specs.Fault as atp
 use Rattle.at_atp_frame.specs.Frames.{Content, Request, Response, Release}
 use Rattle.at_atp_frame.specs.Packets.{Packet}
@@ -22,7 +23,7 @@ use Rattle.at_event.specs.Outcomes.{Outcome, idle, refused_as}
 use Rattle.at_event.specs.declared.event.Report.{Report}
 use Rattle.at_event.specs.declared.event.Report.TheVariants as report
 use Rattle.at_event.specs.declared.fault.NodeFault.TheVariants as nodes
-use Rattle.at_node.specs.AtpParts.{AtpState, Reading, after_heard, asking as asking_at, asks, atp_kind, packet_in}
+use Rattle.at_node.specs.AtpParts.{AtpState, Reading, after_heard, asking as asking_at, asks, packet_in}
 use Rattle.at_node.specs.AtpParts.{tid_of}
 use Rattle.at_node.specs.Nodes.{NodeState}
 use Rattle.at_node.specs.RequesterSocket.{AtRequester, after_retry, asked_as, hears_other, reported_other, retry_fired}

@@ -5,6 +5,7 @@ use Rattle.std.specs.Prelude.{find, is_none, nat_le, option_map, ◌==◌, ◌&&
 use Rattle.std.proofs.lemmas.Bool.Decides.{nat_tests}
 use Rattle.at_ddp.specs.Datagram.{Content as Datagram}
 use Rattle.at_ddp.specs.declared.address.Address.{Address}
+use Rattle.at_ddp.specs.Protocols.{atp_kind}
 use Rattle.at_atp_frame.specs.Fault as atp
 use Rattle.at_atp_frame.specs.Frames.{Content, Request, Response, Release, Spells, spelled_all}
 use Rattle.at_atp_frame.specs.Packets.{Packet}
@@ -22,7 +23,7 @@ use Rattle.at_event.specs.declared.service.Reply.{Reply}
 use Rattle.at_event.specs.declared.service.Reply.TheVariants as reply
 use Rattle.at_node.specs.AtpHearing.{AtSocket, AtpSocket, HearsAt, HearsAtp, Requester, Service, Zones as ZoneSocket}
 use Rattle.at_node.specs.AtpHearing.{atp_socket}
-use Rattle.at_node.specs.AtpParts.{AtpState, atp_kind, serving, zones_at}
+use Rattle.at_node.specs.AtpParts.{AtpState, serving, zones_at}
 use Rattle.at_node.specs.Nodes.{NodeState}
 use Rattle.at_node.specs.Responders.{records_at, released_report}
 use Rattle.at_node.specs.ServiceSocket.{AtService, at_service, handed_up, sent_by_reply, service_taken}

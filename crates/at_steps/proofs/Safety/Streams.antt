@@ -6,6 +6,7 @@ use Rattle.std.specs.List.{AllByRecursion}
 use Rattle.std.proofs.lemmas.List.{length-map}
 use Rattle.at_ddp.specs.Datagram.{Content as Datagram}
 use Rattle.at_ddp.specs.declared.address.Address.{Address}
+use Rattle.at_ddp.specs.Protocols.{adsp_kind}
 use Rattle.at_adsp_frame.specs.Segments.{Content, spelled}
 use Rattle.at_adsp_end.specs.Calls.{reading, ticked}
 use Rattle.at_adsp_end.specs.Ends.{EndState, FitsRooms, has_opened, is_closed, is_open, spelled_all}
@@ -31,7 +32,7 @@ use Rattle.at_node.specs.SessionCalls.{open_called}
 use Rattle.at_stream_socket.specs.Calls.{called, close_called, connect_called, listen_called, read_called, reset_called}
 use Rattle.at_stream_socket.specs.Calls.{tick_fired, write_called}
 use Rattle.at_stream_socket.specs.Hearing.{HearsAdspFault, HearsSegment, HearsStreams, segment_heard}
-use Rattle.at_stream_socket.specs.Sockets.{adsp_kind, answered, sent_of, streams_at, told_by}
+use Rattle.at_stream_socket.specs.Sockets.{answered, sent_of, streams_at, told_by}
 use Rattle.at_steps.specs.Safety.{IsSafe, IsTrueOf, OfNodes, OfSegments, OfStreams, Place, number_told}
 use Rattle.at_steps.proofs.Safety.By.{by, faulted, quiet, refused, sent_few}
 

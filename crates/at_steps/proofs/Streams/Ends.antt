@@ -1,5 +1,6 @@
 -- Ends that are found at a node, and ends that a segment's step names.
-use Rattle.std.proofs.Common.{◌≡◌, ℕ, ◌≤◌, Bool, true, false, cond, List, [], ◌∷◌, length, map, take, Option, Some, None, Result, Ok, Err, refl, sym, ap, subst, ◌∙◌, arith}
+use Rattle.std.proofs.Common.{◌≡◌, ℕ, ◌≤◌, Bool, true, false, cond, List, [], ◌∷◌, length, map, take, Option, Some}
+use Rattle.std.proofs.Common.{None, Result, Ok, Err, refl, sym, ap, subst, ◌∙◌, arith}
 use Rattle.std.specs.Prelude.{find, ◌==◌, ◌&&◌}
 use Rattle.std.specs.List.{AllByRecursion}
 use Rattle.std.proofs.lemmas.Bool.{true≢false, eq-eqb}
@@ -9,10 +10,13 @@ use Rattle.at_ddp.specs.declared.address.Address.{Address}
 use Rattle.at_ddp.proofs.Alls.{all_found}
 use Rattle.at_adsp_frame.specs.Segments.{Content, Open, Part}
 use Rattle.at_adsp_frame.specs.declared.segment.OpenKind.{OpenKind}
-use Rattle.at_adsp_frame.specs.declared.segment.OpenKind.TheVariants.{Request, Acknowledgement, RequestAndAcknowledgement, Denial}
+use Rattle.at_adsp_frame.specs.declared.segment.OpenKind.TheVariants.{Request, Acknowledgement}
+use Rattle.at_adsp_frame.specs.declared.segment.OpenKind.TheVariants.{RequestAndAcknowledgement, Denial}
 use Rattle.at_adsp_end.specs.Calls.{reading}
-use Rattle.at_adsp_end.specs.Ends.{Change, EndState, answering, confirming, has_opened, has_remote, is_half, is_open, is_opening, places}
-use Rattle.at_adsp_end.specs.Hearing.{Advises, Answers, Asks, Brings, Closes, Resets, Saying, after_hearing, heard, is_empty, told}
+use Rattle.at_adsp_end.specs.Ends.{Change, EndState, answering, confirming, has_opened, has_remote, is_half, is_open}
+use Rattle.at_adsp_end.specs.Ends.{is_opening, places}
+use Rattle.at_adsp_end.specs.Hearing.{Advises, Answers, Asks, Brings, Closes, Resets, Saying, after_hearing, heard}
+use Rattle.at_adsp_end.specs.Hearing.{is_empty, told}
 use Rattle.at_adsp_end.specs.Positions.{wire}
 use Rattle.at_adsp_end.specs.Sending.{acks, hearing}
 use Rattle.at_adsp_end.specs.declared.fault.StreamFault.{StreamFault}
@@ -24,7 +28,8 @@ use Rattle.at_adsp_end.specs.declared.remote.Remote.{Remote}
 use Rattle.at_adsp_end.specs.declared.step.Step.{Step}
 use Rattle.at_adsp_end.specs.declared.step.Step.TheVariants as step
 use Rattle.at_adsp_ends.specs.Calls.{finds_no_room, read_at, reset_at, wrote, wrote_some}
-use Rattle.at_adsp_ends.specs.Openings.{ack_came, answer_came, answers_again, confirms_again, connected_to, denial_came, ignored, is_answered, opened, request_came, room_for}
+use Rattle.at_adsp_ends.specs.Openings.{ack_came, answer_came, answers_again, confirms_again, connected_to, denial_came}
+use Rattle.at_adsp_ends.specs.Openings.{ignored, is_answered, opened, request_came, room_for}
 use Rattle.at_adsp_ends.specs.Receiving.{any_request_came, opening_came, part_came, received, segment_came, settled}
 use Rattle.at_adsp_ends.specs.Tables.{Done, EndTable, by_id, by_remote, freed, has_id, moved, next_id, stayed}
 use Rattle.at_adsp.specs.Network.{Made, is_end}
@@ -42,20 +47,25 @@ found_id t id e is = (all_found (λ (x : EndState). Unit {0}) (has_id id) t.ends
     each (x ∷ es) = (tt, each es)
 
 -- what one test finds, another that it passes finds too, or something before it
-found_too : {X : Type 0} (p q : X → Bool) (x : X) (xs : List X) → find q xs ≡ Some x → p x ≡ true → (o : X) × (find p xs ≡ Some o)
+found_too : {X : Type 0} (p q : X → Bool) (x : X) (xs : List X) → find q xs ≡ Some x → p x ≡ true → (o : X)
+    × (find p xs ≡ Some o)
 found_too p q x [] is passes = absurd (cc)
 found_too {X} p q x (z ∷ zs) is passes = go (λ f. found_too p q x zs f passes) (p z) refl (q z) is
   where
-    go : (find q zs ≡ Some x → (o : X) × (find p zs ≡ Some o)) → (a : Bool) → p z ≡ a → (b : Bool) → cond b (Some z) (find q zs) ≡ Some x → (o : X) × (find p (z ∷ zs) ≡ Some o)
+    go : (find q zs ≡ Some x → (o : X) × (find p zs ≡ Some o)) → (a : Bool) → p z ≡ a → (b : Bool)
+        → cond b (Some z) (find q zs) ≡ Some x → (o : X) × (find p (z ∷ zs) ≡ Some o)
     go ih true e b f = (z, ap (λ c. cond c (Some z) (find p zs)) e)
     go ih false e true f = let same : z ≡ x = cc in absurd (true≢false (sym passes ∙ ap p (sym same) ∙ e))
     go ih false e false f = let more = ih f in (more.0, ap (λ c. cond c (Some z) (find p zs)) e ∙ more.1)
 
-pub find_mapped : (at : Address) (id : ℕ) (made : List Made) (m : Made) → find (is_end at id) made ≡ Some m → find (has_number at id) (map (λ (x : Made). x.stream) made) ≡ Some m.stream
+pub find_mapped : (at : Address) (id : ℕ) (made : List Made) (m : Made) → find (is_end at id) made ≡ Some m
+    → find (has_number at id) (map (λ (x : Made). x.stream) made) ≡ Some m.stream
 find_mapped at id [] m is = absurd (cc)
 find_mapped at id (x ∷ made) m is = go (λ g. find_mapped at id made m g) (has_number at id x.stream) is
   where
-    go : (find (is_end at id) made ≡ Some m → find (has_number at id) (map (λ (y : Made). y.stream) made) ≡ Some m.stream) → (b : Bool) → cond b (Some x) (find (is_end at id) made) ≡ Some m → cond b (Some x.stream) (find (has_number at id) (map (λ (y : Made). y.stream) made)) ≡ Some m.stream
+    go : (find (is_end at id) made ≡ Some m → find (has_number at id) (map (λ (y : Made). y.stream) made)
+        ≡ Some m.stream) → (b : Bool) → cond b (Some x) (find (is_end at id) made) ≡ Some m
+        → cond b (Some x.stream) (find (has_number at id) (map (λ (y : Made). y.stream) made)) ≡ Some m.stream
     go ih true g = let same : x ≡ m = cc in ap (λ (y : Made). Some y.stream) same
     go ih false g = ih g
 
@@ -73,36 +83,44 @@ module _ (t : EndTable) (id : ℕ) where
   abbrev Has : Option EndState → Type 0
   Has o = (e : EndState) × (o ≡ Some e)
 
-  wrote_some_ok : (items : List Item) (o : Option EndState) (d : Done ℕ) → wrote wire t items o ≡ Ok d → Has o × (d.answer ≤ length items)
+  wrote_some_ok : (items : List Item) (o : Option EndState) (d : Done ℕ) → wrote wire t items o ≡ Ok d → Has o
+      × (d.answer ≤ length items)
   wrote_some_ok items None d is = absurd (cc)
   wrote_some_ok items (Some e) d is = ((e, refl), go (is_open e.phase) (finds_no_room e items) is)
     where
-      go : (b c : Bool) → ◌≡◌ {A = Result (Done ℕ) StreamFault} (cond b (cond c (Err NoRoom) (Ok (wrote_some wire t items e))) (Err NotOpen)) (Ok d) → d.answer ≤ length items
+      go : (b c : Bool) → ◌≡◌ {A = Result (Done ℕ) StreamFault}
+          (cond b (cond c (Err NoRoom) (Ok (wrote_some wire t items e))) (Err NotOpen)) (Ok d) → d.answer ≤ length items
       go true true h = absurd (cc)
       go true false h =
-          let answer : length (take (places e) items) ≡ d.answer = ap (λ (x : Done ℕ). x.answer) (ok_same (wrote_some wire t items e) d h) in
+          let answer : length (take (places e) items)
+          ≡ d.answer = ap (λ (x : Done ℕ). x.answer) (ok_same (wrote_some wire t items e) d h) in
           let few = length-take (places e) items in
           omega (arith, answer, few)
       go false c h = absurd (cc)
 
-  pub wrote_ok : (items : List Item) (d : Done ℕ) → wrote wire t items (by_id t id) ≡ Ok d → Finds t id × (d.answer ≤ length items)
+  pub wrote_ok : (items : List Item) (d : Done ℕ) → wrote wire t items (by_id t id) ≡ Ok d → Finds t id
+      × (d.answer ≤ length items)
   wrote_ok items d is = wrote_some_ok items (by_id t id) d is
 
-  read_some_ok : (count : ℕ) (o : Option EndState) (d : Done (List Item)) → read_at wire t count o ≡ Ok d → Has o × (length d.answer ≤ count)
+  read_some_ok : (count : ℕ) (o : Option EndState) (d : Done (List Item)) → read_at wire t count o ≡ Ok d → Has o
+      × (length d.answer ≤ count)
   read_some_ok count None d is = absurd (cc)
   read_some_ok count (Some e) d is = ((e, refl), go (has_opened e.phase) is)
     where
       its : Done (List Item)
       its = moved t (take count e.receiver.unread) (reading wire e count).after (reading wire e count).sent
 
-      go : (b : Bool) → ◌≡◌ {A = Result (Done (List Item)) StreamFault} (cond b (Ok its) (Err NotOpen)) (Ok d) → length d.answer ≤ count
+      go : (b : Bool) → ◌≡◌ {A = Result (Done (List Item)) StreamFault} (cond b (Ok its) (Err NotOpen)) (Ok d)
+          → length d.answer ≤ count
       go true h =
-          let answer : length (take count e.receiver.unread) ≡ length d.answer = ap (λ (x : Done (List Item)). length x.answer) (ok_same its d h) in
+          let answer : length (take count e.receiver.unread)
+          ≡ length d.answer = ap (λ (x : Done (List Item)). length x.answer) (ok_same its d h) in
           let few = length-take count e.receiver.unread in
           omega (arith, answer, few)
       go false h = absurd (cc)
 
-  pub read_ok : (count : ℕ) (d : Done (List Item)) → read_at wire t count (by_id t id) ≡ Ok d → Finds t id × (length d.answer ≤ count)
+  pub read_ok : (count : ℕ) (d : Done (List Item)) → read_at wire t count (by_id t id) ≡ Ok d → Finds t id
+      × (length d.answer ≤ count)
   read_ok count d is = read_some_ok count (by_id t id) d is
 
   reset_some_ok : (o : Option EndState) (d : Done (Unit {0})) → reset_at wire t o ≡ Ok d → Has o
@@ -129,7 +147,8 @@ hearing_id e window None = refl
 hearing_id e window (Some k) = refl
 
 module _ (t : EndTable) where
-  after_hearing_came : (c : Change) (ack : Bool) (s : Saying) → Finds t c.after.id → IsCame t (after_hearing wire c ack s).step
+  after_hearing_came : (c : Change) (ack : Bool) (s : Saying) → Finds t c.after.id
+      → IsCame t (after_hearing wire c ack s).step
   after_hearing_came c ack (Brings items) f = f
   after_hearing_came c ack Asks f = f
   after_hearing_came c ack Closes f = f
@@ -172,11 +191,14 @@ module _ (t : EndTable) where
         go true = finds_it t (has_id dest) e is
         go false = tt
 
-    answered_came : (dest : ℕ) (it o : Option EndState) → by_id t dest ≡ o → IsCame t (answer_came wire t r s it o).answer
+    answered_came : (dest : ℕ) (it o : Option EndState) → by_id t dest ≡ o
+        → IsCame t (answer_came wire t r s it o).answer
     answered_came dest it None is = tt
     answered_came dest it (Some e) is = go (is_answered e r it) (confirms_again e r)
       where
-        go : (b c : Bool) → IsCame t (cond b (opened wire t (connected_to e r) s (confirming wire (connected_to e r) ∷ [])) (cond c (stayed t step.Again e (confirming wire e ∷ [])) (ignored t))).answer
+        go : (b c : Bool) → IsCame t
+            (cond b (opened wire t (connected_to e r) s (confirming wire (connected_to e r) ∷ []))
+            (cond c (stayed t step.Again e (confirming wire e ∷ [])) (ignored t))).answer
         go true c = finds_it t (has_id dest) e is
         go false true = tt
         go false false = tt
@@ -196,7 +218,9 @@ module _ (t : EndTable) where
         go : (b : Bool) → IsCame t (cond b (settled t (heard wire e (told wire e s))) (ignored t)).answer
         go true =
             let c = hearing wire e s.window (acks wire e.sender s.next) in
-            after_hearing_came c s.ack (told wire e s).saying (subst (Finds t) (sym (hearing_id e s.window (acks wire e.sender s.next))) (finds_it t (has_remote r) e is))
+            after_hearing_came c s.ack (told wire e s).saying
+            (subst (Finds t) (sym (hearing_id e s.window (acks wire e.sender s.next)))
+            (finds_it t (has_remote r) e is))
         go false = tt
 
     opening_came_so : (kind : OpenKind) (dest : ℕ) → IsCame t (opening_came wire t r s kind dest).answer

@@ -2,7 +2,8 @@
 use Rattle.std.proofs.Common.{◌≡◌, ℕ, Bool, true, List, [], ◌∷◌, ap, ◌∙◌}
 use Rattle.std.specs.List.{AllByRecursion}
 use Rattle.at_ddp.specs.declared.address.Address.{Address}
-use Rattle.at_adsp.specs.Network.{Closes, Connects, Happening, Listens, Other, Reads, Resets, Setting, Strange, Takes, Ticks, Writes}
+use Rattle.at_adsp.specs.Network.{Closes, Connects, Happening, Listens, Other, Reads, Resets, Setting, Strange, Takes}
+use Rattle.at_adsp.specs.Network.{Ticks, Writes}
 use Rattle.at_adsp.specs.Pairs.{HappensHere}
 use Rattle.at_steps.specs.StreamHappenings.{IsHere, is_streams_socket}
 
@@ -22,6 +23,8 @@ module _ (net : ℕ) (setting : Setting) (ours : setting.ours ≡ is_streams_soc
   one_ours (Strange at from segment) is = absurd is
   one_ours (Other count) is = tt
 
-pub all_ours : (net : ℕ) (setting : Setting) (history : List Happening) → setting.ours ≡ is_streams_socket net → AllByRecursion (IsHere net) history → AllByRecursion (HappensHere setting) history
+pub all_ours : (net : ℕ) (setting : Setting) (history : List Happening) → setting.ours ≡ is_streams_socket net
+    → AllByRecursion (IsHere net) history → AllByRecursion (HappensHere setting) history
 all_ours net setting [] ours all = tt
-all_ours net setting (h ∷ history) ours all = (one_ours net setting ours h all.0, all_ours net setting history ours all.1)
+all_ours net setting (h ∷ history) ours all =
+    (one_ours net setting ours h all.0, all_ours net setting history ours all.1)

@@ -7,30 +7,23 @@ use Rattle.at_ddp.specs.Address.{same_address}
 use Rattle.at_ddp.specs.declared.address.Address.{Address}
 use Rattle.at_ddp.proofs.Octets.{same_address-true}
 use Rattle.at_adsp.specs.Connections.{streams}
-use Rattle.at_adsp.specs.Network.{Happening, Other, Setting, after, put}
+use Rattle.at_ddp.specs.Posts.{put}
+use Rattle.at_ddp.proofs.PostLemmas.{put_itself}
+use Rattle.at_ddp.specs.Protocols.{adsp_kind}
+use Rattle.at_steps.proofs.Entries.{entries_foreign}
+use Rattle.at_adsp.specs.Network.{Happening, Other, Setting, after}
 use Rattle.at_event.specs.Outcomes.{Outcome, Outgoing}
 use Rattle.at_event.specs.declared.event.Report.{Report}
 use Rattle.at_event.specs.declared.event.Report.TheVariants as report
-use Rattle.at_node.specs.Drawing.{drawn_by}
+use Rattle.at_node.specs.Numbers.{drawn_by}
 use Rattle.at_node.specs.Nodes.{NodeState}
-use Rattle.at_stream_socket.specs.Sockets.{adsp_kind, streams_at}
+use Rattle.at_stream_socket.specs.Sockets.{streams_at}
 use Rattle.at_steps.specs.Acts.{Act, Calls, Fires, Gets, is_adsp, owner_of, Forges}
-use Rattle.at_steps.specs.StreamHappenings.{AreEntries, Drawn, IsForeign, Passes, Stands, identifiers, numbers_drawn}
-
--- putting what is there changes nothing
-pub put_itself : {X : Type 0} (f : Address → X) (at : Address) (x : X) → f at ≡ x → (a : Address) → f a ≡ put f at x a
-put_itself f at x is a = go (same_address at a) refl
-  where
-    go : (b : Bool) → same_address at a ≡ b → f a ≡ cond b x (f a)
-    go true e = ap f (sym (same_address-true at a e)) ∙ is
-    go false e = refl
-
-entries_foreign : (event : ℕ) (out : List Outgoing) → AllByRecursion (λ (o : Outgoing). (o.kind == adsp_kind) ≡ false) out → AreEntries event out (replicate (length out) None)
-entries_foreign event [] all = tt
-entries_foreign event (o ∷ out) all = (all.0, entries_foreign event out all.1)
+use Rattle.at_steps.specs.StreamHappenings.{Drawn, IsForeign, Passes, Stands, identifiers, numbers_drawn, stream_coding}
 
 -- the report of another protocol draws no identifier
-foreign_draws : (A : Type 0) (act : Act A) (r : Report A) (event : ℕ) (who : Address) → is_adsp (owner_of act r) ≡ false → numbers_drawn event who (drawn_by r) ≡ []
+foreign_draws : (A : Type 0) (act : Act A) (r : Report A) (event : ℕ) (who : Address) → is_adsp (owner_of act r)
+    ≡ false → numbers_drawn event who (drawn_by r) ≡ []
 foreign_draws A (Calls call) (report.Opening id) event who h = absurd (true≢false h)
 foreign_draws A (Gets which) (report.Opening id) event who h = absurd (true≢false h)
 foreign_draws A Forges (report.Opening id) event who h = absurd (true≢false h)
@@ -43,7 +36,9 @@ foreign_draws A act (report.Begun tid) event who h = refl
 foreign_draws A act (report.Looking id) event who h = refl
 foreign_draws A act r event who h = refl
 
-pub foreign_passes : (A : Type 0) (setting : Setting) (history : List Happening) (n : NodeState) (act : Act A) → Stands setting history n.seat.net n.seat.number n → (o : Outcome A NodeState) → IsForeign n act o → Passes setting history n.seat.net n.seat.number n act o
+pub foreign_passes : (A : Type 0) (setting : Setting) (history : List Happening) (n : NodeState) (act : Act A)
+    → Stands setting history n.seat.net n.seat.number n → (o : Outcome A NodeState) → IsForeign n act o
+    → Passes setting history n.seat.net n.seat.number n act o
 foreign_passes A setting history n act st o foreign = (
   record {
     happening = Other (length o.out);
@@ -52,11 +47,14 @@ foreign_passes A setting history n act st o foreign = (
     here = tt;
     is_of = inr (length o.out, refl);
     same_event = refl;
-    tables = put_itself (after setting history).tables (streams_at n.seat.net n.seat.number) o.state.streams (st.stands ∙ sym foreign.same);
+    tables = put_itself (after setting history).tables (streams_at n.seat.net n.seat.number) o.state.streams
+        (st.stands ∙ sym foreign.same);
     more = replicate (length o.out) None;
     sent = refl;
-    posts = entries_foreign (after setting history).event o.out foreign.sends;
-    drawn = ap (λ (l : List Drawn). l ++ identifiers (streams (after setting history))) (sym (foreign_draws A act o.report (after setting history).event (streams_at n.seat.net n.seat.number) foreign.reports));
+    posts = entries_foreign stream_coding (after setting history).event o.out foreign.sends;
+    drawn = ap (λ (l : List Drawn). l ++ identifiers (streams (after setting history)))
+        (sym (foreign_draws A act o.report (after setting history).event
+        (streams_at n.seat.net n.seat.number) foreign.reports));
   },
   refl,
 )

@@ -26,29 +26,42 @@ use Rattle.at_steps.proofs.Streams.Ours.{all_ours}
 
 -- what is read reads from a peer
 abbrev pub ReadsFromPeer : Type 0
-ReadsFromPeer = (setting : Setting) (history : List Happening) (at : Address) (id count : ℕ) (d : Done (List Item)) → AllTimely setting history → AllByRecursion (HappensHere setting) history → setting.ours at ≡ true →
-    read_at setting.numbers ((after setting history).tables at) count (by_id ((after setting history).tables at) id) ≡ Ok d → ReadsInOrder (after setting (Reads at id count ∷ history)) → ReadsWith (streams (after setting history)) at id d.answer
+ReadsFromPeer = (setting : Setting) (history : List Happening) (at : Address) (id count : ℕ) (d : Done (List Item))
+    → AllTimely setting history → AllByRecursion (HappensHere setting) history → setting.ours at ≡ true →
+    read_at setting.numbers ((after setting history).tables at) count (by_id ((after setting history).tables at) id)
+    ≡ Ok d → ReadsInOrder (after setting (Reads at id count ∷ history))
+    → ReadsWith (streams (after setting history)) at id d.answer
 
 items_same : {A : Type 0} (a b : List Item) → ◌≡◌ {A = Report A} (report.Read a) (report.Read b) → a ≡ b
 items_same a b h = cc
 
 -- a refusal reads nothing
-no_read : (A : Type 0) (number : Option ℕ) (items : List Item) → ◌≡◌ {A = Report A} (refused_as number) (report.Read items) → ⊥
+no_read : (A : Type 0) (number : Option ℕ) (items : List Item)
+    → ◌≡◌ {A = Report A} (refused_as number) (report.Read items) → ⊥
 no_read A None items h = absurd (cc)
 no_read A (Some k) items h = absurd (cc)
 
-pub read_with : (A : Type 0) → ReadsFromPeer → (setting : Setting) (history : List Happening) (n : NodeState) (id count : ℕ) (items : List Item) → Stands setting history n.seat.net n.seat.number n → (called {A = A} n (Read id count)).report ≡ report.Read items →
-    ReadsInOrder (after setting (Reads (streams_at n.seat.net n.seat.number) id count ∷ history)) → ReadsWith (streams (after setting history)) (streams_at n.seat.net n.seat.number) id items
-read_with A law setting history n id count items st told order = go (read_at wire n.streams count (by_id n.streams id)) refl told
+pub read_with : (A : Type 0) → ReadsFromPeer
+    → (setting : Setting) (history : List Happening) (n : NodeState) (id count : ℕ) (items : List Item)
+    → Stands setting history n.seat.net n.seat.number n → (called {A = A} n (Read id count)).report
+    ≡ report.Read items →
+    ReadsInOrder (after setting (Reads (streams_at n.seat.net n.seat.number) id count ∷ history))
+    → ReadsWith (streams (after setting history)) (streams_at n.seat.net n.seat.number) id items
+read_with A law setting history n id count items st told order =
+    go (read_at wire n.streams count (by_id n.streams id)) refl told
   where
     at : Address
     at = streams_at n.seat.net n.seat.number
 
-    same : read_at setting.numbers ((after setting history).tables at) count (by_id ((after setting history).tables at) id) ≡ read_at wire n.streams count (by_id n.streams id)
+    same : read_at setting.numbers ((after setting history).tables at) count
+        (by_id ((after setting history).tables at) id) ≡ read_at wire n.streams count (by_id n.streams id)
     same = λ i. read_at (st.numbers i) (st.stands i) count (by_id (st.stands i) id)
 
-    go : (r : Result (Done (List Item)) StreamFault) → read_at wire n.streams count (by_id n.streams id) ≡ r → (sockets.called {A = A} n.seat n.streams report.Read r).report ≡ report.Read items → ReadsWith (streams (after setting history)) at id items
+    go : (r : Result (Done (List Item)) StreamFault) → read_at wire n.streams count (by_id n.streams id) ≡ r
+        → (sockets.called {A = A} n.seat n.streams report.Read r).report ≡ report.Read items
+        → ReadsWith (streams (after setting history)) at id items
     go (Err fault) e h = absurd (no_read A (number_of fault) items h)
     go (Ok d) e h =
         subst (ReadsWith (streams (after setting history)) at id) (items_same d.answer items h)
-        (law setting history at id count d st.timely (all_ours n.seat.net setting history st.ours st.here) (ap (λ (f : Address → Bool). f at) st.ours ∙ its_own A setting history n st) (same ∙ e) order)
+        (law setting history at id count d st.timely (all_ours n.seat.net setting history st.ours st.here)
+        (ap (λ (f : Address → Bool). f at) st.ours ∙ its_own A setting history n st) (same ∙ e) order)

@@ -8,22 +8,23 @@ ghost use Rattle.at_adsp.specs.Lawfully.{IsLawfullySent};
 ghost use Rattle.at_adsp.specs.Connections.{streams};
 ghost use Rattle.at_adsp.specs.Meetings.{ReadsWith};
 ghost use Rattle.at_adsp.specs.Network.{Happening, NoneNames, Reads, Sent, Setting, after, dest_of, is_fresh};
-ghost use Rattle.at_adsp.specs.Network.{packet_at};
+ghost use Rattle.at_ddp.specs.Posts.{packet_at};
+ghost use Rattle.at_ddp.specs.Protocols.{adsp_kind};
 ghost use Rattle.at_adsp.specs.Orders.{ReadsInOrder};
 ghost use Rattle.at_adsp_end.specs.declared.item.Item.{Item};
 ghost use Rattle.at_event.specs.Calls.{IsCall};
-ghost use Rattle.at_node.specs.Drawing.{Carries, drawn_by, holds};
+ghost use Rattle.at_node.specs.Numbers.{Carries, drawn_by, holds};
 ghost use Rattle.at_node.specs.Hearing.{Hears};
 ghost use Rattle.at_event.specs.Kinds.{kind_of_call, kind_of_timer};
 ghost use Rattle.at_node.specs.Nodes.{NodeState, called, timed};
 ghost use Rattle.at_event.specs.Outcomes.{Outcome};
-ghost use Rattle.at_node.specs.declared.drawing.Draw.TheVariants.{Conn};
+ghost use Rattle.at_node.specs.declared.numbers.Draw.TheVariants.{Conn};
 ghost use Rattle.at_event.specs.declared.event.Call.{Call};
 ghost use Rattle.at_event.specs.declared.event.Call.TheVariants.{Read};
 ghost use Rattle.at_event.specs.declared.event.Report.TheVariants as report;
 ghost use Rattle.at_event.specs.declared.event.Timer.{Timer};
 ghost use Rattle.at_event.specs.declared.service.Reply.{Reply};
-ghost use Rattle.at_stream_socket.specs.Sockets.{adsp_kind, streams_at};
+ghost use Rattle.at_stream_socket.specs.Sockets.{streams_at};
 ghost use Rattle.at_steps.specs.Acts.{Act, Calls, Fires, Gets, is_adsp};
 ghost use Rattle.at_steps.specs.StreamHappenings.{IsForeign, IsHappening, Passes, Stands};
 
@@ -59,7 +60,7 @@ pub fn a_packet_is_a_happening<A: Allocator>()
         → packet_at (after setting history).sent which ≡ Some s → is_fresh (after setting history).made s ≡ true
         → ((id : ℕ) → drawn_by o.report ≡ Some (Conn id)
         → NoneNames (after setting history) (streams_at n.seat.net n.seat.number) id)
-        → Hears said n (canonical s.to s.from adsp_kind (spelled s.segment)) o
+        → Hears said n (canonical s.to s.from adsp_kind (spelled s.packet)) o
         → IsHappening setting history n.seat.net n.seat.number n (Gets which) o }
 {
     at_ddp::laws::what_is_written_is_read();
@@ -104,10 +105,10 @@ pub fn another_protocols_event_is_foreign<A: Allocator>()
 
 /// A segment in a datagram carries the identifier of the end that sent it, and that of its destination; 0 is none.
 pub fn a_segment_carries_its_identifiers()
-    ensures source { (s : Sent) → IsLawfullySent s → s.segment.source ≢ 0
-        → Carries (canonical s.to s.from adsp_kind (spelled s.segment)) s.from.node (Conn s.segment.source) }
-    ensures dest { (s : Sent) → IsLawfullySent s → dest_of s.segment.body ≢ 0
-        → Carries (canonical s.to s.from adsp_kind (spelled s.segment)) s.to.node (Conn (dest_of s.segment.body)) }
+    ensures source { (s : Sent) → IsLawfullySent s → s.packet.source ≢ 0
+        → Carries (canonical s.to s.from adsp_kind (spelled s.packet)) s.from.node (Conn s.packet.source) }
+    ensures dest { (s : Sent) → IsLawfullySent s → dest_of s.packet.body ≢ 0
+        → Carries (canonical s.to s.from adsp_kind (spelled s.packet)) s.to.node (Conn (dest_of s.packet.body)) }
 {
     at_ddp::laws::what_is_written_is_read();
     at_adsp::laws::what_is_written_is_read();

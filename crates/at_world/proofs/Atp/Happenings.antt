@@ -6,13 +6,13 @@ use Rattle.at_atp.specs.Transactions.{Transaction, transaction_of}
 use Rattle.at_zip.specs.Zones.{IsTable}
 use Rattle.at_node.specs.AtpParts.{asking, serving, zones_at}
 use Rattle.at_event.specs.Calls.{IsCall}
-use Rattle.at_node.specs.Drawing.{DrawsHearing, draw_of}
+use Rattle.at_node.specs.Numbers.{DrawsHearing, draw_of}
 use Rattle.at_node.specs.Hearing.{Hears}
 use Rattle.at_event.specs.Kinds.{Kind, Atp, kind_of_call, kind_of_timer}
 use Rattle.at_node.specs.Nodes.{NodeState, called, timed}
 use Rattle.at_event.specs.Outcomes.{Outcome}
 use Rattle.at_event.specs.Services.{is_asked}
-use Rattle.at_node.specs.declared.drawing.Draw.TheVariants.{Tid}
+use Rattle.at_node.specs.declared.numbers.Draw.TheVariants.{Tid}
 use Rattle.at_event.specs.declared.event.Call.{Call}
 use Rattle.at_event.specs.declared.event.Report.{Report}
 use Rattle.at_event.specs.declared.event.Timer.{Timer}
@@ -37,15 +37,18 @@ use Rattle.at_world.proofs.Atp.Tie.{Laws, AtpTie, Good, IsReading, good_next}
 use Rattle.at_world.proofs.Atp.Times.{none_holds}
 
 -- at a report of another protocol a moment passes
-moment_passes : (A : Type 0) (c : Cable) (m : AtpMachine) (e : Event A) (r : Report A) (k : Kind) → is_atp k ≡ false → StepBy c m e r (next m) k
+moment_passes : (A : Type 0) (c : Cable) (m : AtpMachine) (e : Event A) (r : Report A) (k : Kind) → is_atp k ≡ false
+    → StepBy c m e r (next m) k
 moment_passes A c m e r Atp h = absurd (cc)
 moment_passes A c m e r other h = refl
 
 -- the report is one that there is, and the machine follows
-abbrev pub Follows : (A : Type 0) (w : WorldState) (c : Cable) (m : AtpMachine) (ct : CableTie w c) → AtpTie A w c ct.wires m → Event A → Outcome A NodeState → Type 0
+abbrev pub Follows : (A : Type 0) (w : WorldState) (c : Cable) (m : AtpMachine) (ct : CableTie w c)
+    → AtpTie A w c ct.wires m → Event A → Outcome A NodeState → Type 0
 Follows A w c m ct t e o = IsSaid e o.report × Good A w c m ct.wires t e o
 
-module _ (A : Type 0) (laws : Laws A) (w : WorldState) (c : Cable) (m : AtpMachine) (ct : CableTie w c) (t : AtpTie A w c ct.wires m) (e : Event A) (n : NodeState) (stands : node_at w (node_of e) ≡ Some n) where
+module _ (A : Type 0) (laws : Laws A) (w : WorldState) (c : Cable) (m : AtpMachine) (ct : CableTie w c)
+    (t : AtpTie A w c ct.wires m) (e : Event A) (n : NodeState) (stands : node_at w (node_of e) ≡ Some n) where
   its : SeatTie c (node_of e) n
   its = ct.seats (node_of e) n stands
 
@@ -56,10 +59,12 @@ module _ (A : Type 0) (laws : Laws A) (w : WorldState) (c : Cable) (m : AtpMachi
   at_place : (P : ℕ → ℕ → Type 0) → P n.seat.net n.seat.number → P c.net (node_of e)
   at_place P p = subst (λ i. P i (node_of e)) its.net (subst (P n.seat.net) its.number p)
 
-  once_at_least : (k : ℕ) (y : NodeState) → node_at w k ≡ Some y → ReadsAtLeastOnce (after A t.history).asked (asking c.net k) y.atp
+  once_at_least : (k : ℕ) (y : NodeState) → node_at w k ≡ Some y
+      → ReadsAtLeastOnce (after A t.history).asked (asking c.net k) y.atp
   once_at_least k y is read reads one newest =
       let r = subst (IsReading c m k) reads (t.readings k y is) in
-      let same = some_transaction one (r.first).transaction (sym newest ∙ ap (λ ts. transaction_of ts (asking c.net k) read.tid) t.asked ∙ (r.first).newest) in
+      let same = some_transaction one (r.first).transaction
+      (sym newest ∙ ap (λ ts. transaction_of ts (asking c.net k) read.tid) t.asked ∙ (r.first).newest) in
       ap (λ (x : Transaction). x.xo) same ∙ r.xo
 
   stands_there : Stands A t.history n.seat.net n.seat.number n
@@ -87,42 +92,81 @@ module _ (A : Type 0) (laws : Laws A) (w : WorldState) (c : Cable) (m : AtpMachi
       where
         go : IsHappening A t.history c.net (node_of e) n (act_of e) o → Follows A w c m ct t e o
         go (x, step, sends) =
-            let b = step_becomes A laws w c m ct.wires e n o.state o.report t stands x.same_table its.router (done A (after A t.history) x.happening).asked
-            (subst (λ ts. IsStep c.net (node_of e) n.seat.router (record { asked = ts; now_asked = (done A (after A t.history) x.happening).asked; part = n.atp; now = o.state.atp; act = act_of e; report = o.report })) t.asked step) in
-            (b.0, good_next A laws w c ct.wires m e n o t stands x mine (done A (after A t.history) x.happening).asked refl b.1)
+            let b = step_becomes A laws w c m ct.wires e n o.state o.report t stands x.same_table its.router
+            (done A (after A t.history) x.happening).asked
+            (subst (λ ts. IsStep c.net (node_of e) n.seat.router
+            (record {
+              asked = ts;
+              now_asked = (done A (after A t.history) x.happening).asked;
+              part = n.atp;
+              now = o.state.atp;
+              act = act_of e;
+              report = o.report;
+            })) t.asked step) in (
+              b.0,
+              good_next A laws w c ct.wires m e n o t stands x mine
+                  (done A (after A t.history) x.happening).asked refl b.1,
+            )
 
     -- a step of another protocol
     pub passed : IsForeign n (act_of e) o → Follows A w c m ct t e o
-    passed foreign = (foreign.said, go (at_place (λ net k. Passes A t.history net k n (act_of e) o) (laws.passes t.history n (act_of e) o stands_there foreign)))
+    passed foreign = (
+      foreign.said,
+      go
+          (at_place (λ net k. Passes A t.history net k n (act_of e) o)
+          (laws.passes t.history n (act_of e) o stands_there foreign)),
+    )
       where
         go : Passes A t.history c.net (node_of e) n (act_of e) o → Good A w c m ct.wires t e o
-        go (x, same) = good_next A laws w c ct.wires m e n o t stands x mine (done A (after A t.history) x.happening).asked refl
-            (pass_becomes A laws w c m ct.wires e n o.state o.report t stands x.same_table (done A (after A t.history) x.happening).asked (same ∙ t.asked) foreign.same (moment_passes A c m e o.report (owner_of e o.report) foreign.reports))
+        go (x, same) = good_next A laws w c ct.wires m e n o t stands x mine
+            (done A (after A t.history) x.happening).asked refl
+            (pass_becomes A laws w c m ct.wires e n o.state o.report t stands x.same_table
+            (done A (after A t.history) x.happening).asked (same ∙ t.asked) foreign.same
+            (moment_passes A c m e o.report (owner_of e o.report) foreign.reports))
 
   -- a number that is drawn is free in the network
-  draws_free : (tid : ℕ) → IsFree w (node_of e) (Tid tid) → NoneHolds (after A t.history).responders (asking n.seat.net n.seat.number) tid
-  draws_free tid free = at_seat (λ net k. NoneHolds (after A t.history).responders (asking net k) tid) (none_holds laws.unheld c.net (node_of e) tid w.nodes (after A t.history).responders t.responders free)
+  draws_free : (tid : ℕ) → IsFree w (node_of e) (Tid tid)
+      → NoneHolds (after A t.history).responders (asking n.seat.net n.seat.number) tid
+  draws_free tid free = at_seat (λ net k. NoneHolds (after A t.history).responders (asking net k) tid)
+      (none_holds laws.unheld c.net (node_of e) tid w.nodes (after A t.history).responders t.responders free)
 
 -- ---- each event
 
-module _ (A : Type 0) (laws : Laws A) (w : WorldState) (c : Cable) (m : AtpMachine) (ct : CableTie w c) (t : AtpTie A w c ct.wires m) (k : ℕ) (n : NodeState) (stands : node_at w k ≡ Some n) where
-  pub call_follows : (call : Call A) → IsCall call → DrawsFree w k (λ y draw. draw_of y call ≡ Some draw) → (called n call).state.seat ≡ n.seat → Follows A w c m ct t (event.Call k call) (called n call)
+module _ (A : Type 0) (laws : Laws A) (w : WorldState) (c : Cable) (m : AtpMachine) (ct : CableTie w c)
+    (t : AtpTie A w c ct.wires m) (k : ℕ) (n : NodeState) (stands : node_at w k ≡ Some n) where
+  pub call_follows : (call : Call A) → IsCall call → DrawsFree w k (λ y draw. draw_of y call ≡ Some draw)
+      → (called n call).state.seat ≡ n.seat → Follows A w c m ct t (event.Call k call) (called n call)
   call_follows call range free seat = go (is_atp (kind_of_call call)) refl
     where
       go : (b : Bool) → is_atp (kind_of_call call) ≡ b → Follows A w c m ct t (event.Call k call) (called n call)
       go true own = happened A laws w c m ct t (event.Call k call) n stands (called n call) seat
-          (laws.called t.history n call (stands_there A laws w c m ct t (event.Call k call) n stands) range own (λ tid is. draws_free A laws w c m ct t (event.Call k call) n stands tid (free n stands (Tid tid) is)))
-      go false other = passed A laws w c m ct t (event.Call k call) n stands (called n call) seat (laws.foreign_call n call other)
+          (laws.called t.history n call (stands_there A laws w c m ct t (event.Call k call) n stands) range own
+          (λ tid is. draws_free A laws w c m ct t (event.Call k call) n stands tid (free n stands (Tid tid) is)))
+      go false other = passed A laws w c m ct t (event.Call k call) n stands (called n call) seat
+          (laws.foreign_call n call other)
 
-  pub timer_follows : (time : Timer) → (timed {A = A} n time).state.seat ≡ n.seat → Follows A w c m ct t (event.Timer k time) (timed n time)
+  pub timer_follows : (time : Timer) → (timed {A = A} n time).state.seat ≡ n.seat
+      → Follows A w c m ct t (event.Timer k time) (timed n time)
   timer_follows time seat = go (is_atp (kind_of_timer time)) refl
     where
       go : (b : Bool) → is_atp (kind_of_timer time) ≡ b → Follows A w c m ct t (event.Timer k time) (timed n time)
-      go true own = happened A laws w c m ct t (event.Timer k time) n stands (timed n time) seat (laws.timed t.history n time (stands_there A laws w c m ct t (event.Timer k time) n stands) own)
-      go false other = passed A laws w c m ct t (event.Timer k time) n stands (timed n time) seat (laws.foreign_timer n time other)
+      go true own = happened A laws w c m ct t (event.Timer k time) n stands (timed n time) seat
+          (laws.timed t.history n time (stands_there A laws w c m ct t (event.Timer k time) n stands) own)
+      go false other = passed A laws w c m ct t (event.Timer k time) n stands (timed n time) seat
+          (laws.foreign_timer n time other)
 
-  pub datagram_follows : (which : ℕ) (d : SentDatagram) → Comes A w c m ct t which d → DrawsFree w k (λ y draw. DrawsHearing A y d.bytes draw) → (said : Reply A) (o : Outcome A NodeState) → (is_asked o.report ≡ true → said ≡ Later) → Hears said n d.bytes o → o.state.seat ≡ n.seat → Follows A w c m ct t (event.Deliver which k) o
-  datagram_follows which d (inr x) free said o later hears seat = passed A laws w c m ct t (event.Deliver which k) n stands o seat
-      (laws.foreign_datagram n which (x.0).to (x.0).from (x.0).kind (x.0).data_ said o x.2 (subst (λ (y : SentDatagram). Hears said n y.bytes o) x.1 hears))
-  datagram_follows which d (inl comes) free said o later hears seat = happened A laws w c m ct t (event.Deliver which k) n stands o seat
-      (laws.heard t.history n which comes.packet said o (stands_there A laws w c m ct t (event.Deliver which k) n stands) comes.was_sent comes.fresh (λ tid is. draws_free A laws w c m ct t (event.Deliver which k) n stands tid (free n stands (Tid tid) (record { said = said; outcome = o; hears = hears; tells = is }))) later (subst (λ (x : SentDatagram). Hears said n x.bytes o) comes.spells hears))
+  pub datagram_follows : (which : ℕ) (d : SentDatagram) → Comes A w c m ct t which d
+      → DrawsFree w k (λ y draw. DrawsHearing A y d.bytes draw) → (said : Reply A) (o : Outcome A NodeState)
+      → (is_asked o.report ≡ true → said ≡ Later) → Hears said n d.bytes o → o.state.seat ≡ n.seat
+      → Follows A w c m ct t (event.Deliver which k) o
+  datagram_follows which d (inr x) free said o later hears seat =
+      passed A laws w c m ct t (event.Deliver which k) n stands o seat
+      (laws.foreign_datagram n which (x.0).to (x.0).from (x.0).kind (x.0).data_ said o x.2
+      (subst (λ (y : SentDatagram). Hears said n y.bytes o) x.1 hears))
+  datagram_follows which d (inl comes) free said o later hears seat =
+      happened A laws w c m ct t (event.Deliver which k) n stands o seat
+      (laws.heard t.history n which comes.packet said o
+      (stands_there A laws w c m ct t (event.Deliver which k) n stands) comes.was_sent comes.fresh
+      (λ tid is. draws_free A laws w c m ct t (event.Deliver which k) n stands tid
+      (free n stands (Tid tid) (record { said = said; outcome = o; hears = hears; tells = is }))) later
+      (subst (λ (x : SentDatagram). Hears said n x.bytes o) comes.spells hears))

@@ -1,5 +1,6 @@
 -- An exactly-once request runs at most once.
-use Rattle.std.proofs.Common.{◌≡◌, ◌⊎◌, inl, inr, ℕ, ◌+◌, ◌≤◌, Bool, true, false, cond, List, [], ◌∷◌, length, take, Some, Result, Ok, Err, refl, sym, ap, subst, ◌∙◌, arith, lit<}
+use Rattle.std.proofs.Common.{◌≡◌, ◌⊎◌, inl, inr, ℕ, ◌+◌, ◌≤◌, Bool, true, false, cond, List, [], ◌∷◌, length, take}
+use Rattle.std.proofs.Common.{Some, Result, Ok, Err, refl, sym, ap, subst, ◌∙◌, arith, lit<}
 use Rattle.std.specs.Prelude.{◌==◌, MatchBool}
 use Rattle.std.proofs.lemmas.Bool.{and_parts, eqb-true}
 use Rattle.at_ddp.specs.Address.{same_address}
@@ -8,7 +9,9 @@ use Rattle.std.specs.List.{AllByRecursion, Contains}
 use Rattle.at_atp.specs.Askings as asking
 use Rattle.at_atp.specs.HandUps.{AnswersOnce, hand_ups_since}
 use Rattle.at_atp.specs.Lawfully.{IsInRange, IsLawfullySent}
-use Rattle.at_atp.specs.Network.{Network, AllSent, Happening, Answers, Serves, AllTimely, after, done}
+use Rattle.at_ddp.specs.Posts.{AllSent}
+use Rattle.at_ddp.proofs.PostLemmas.{sent_at}
+use Rattle.at_atp.specs.Network.{Network, Happening, Answers, Serves, AllTimely, after, done}
 use Rattle.at_atp_responder.specs.Once.{same_key}
 use Rattle.at_atp_frame.specs.Packets.{Packet}
 use Rattle.at_atp.specs.Transactions.{Transaction, transaction_of, answered}
@@ -17,7 +20,9 @@ use Rattle.at_node.specs.AtpParts.{asking}
 use Rattle.at_event.specs.declared.event.Call.TheVariants.{Answer}
 use Rattle.at_event.specs.declared.event.Report.{Report}
 use Rattle.at_event.specs.declared.event.Report.TheVariants as report
-use Rattle.at_world.specs.ExactlyOnce.{Played, onto, since, is_once, CameFrom, HandsUpBy, IsGivenBy, IsPageFor, GivesBy, SomeGives, table_after, Gives, NoneGives, AtMostOneGives, RanOnce, wanted_by, SomeHandsUp, AllLive, EndsBy, RunsOnce, IsOnce}
+use Rattle.at_world.specs.ExactlyOnce.{Played, onto, since, is_once, CameFrom, HandsUpBy, IsGivenBy, IsPageFor, GivesBy}
+use Rattle.at_world.specs.ExactlyOnce.{SomeGives, table_after, Gives, NoneGives, AtMostOneGives, RanOnce, wanted_by}
+use Rattle.at_world.specs.ExactlyOnce.{SomeHandsUp, AllLive, EndsBy, RunsOnce, IsOnce}
 use Rattle.at_world.specs.Plays.{opening_world, Follows, IsPlay}
 use Rattle.at_world.specs.Sents.{SentDatagram}
 use Rattle.at_steps.specs.AtpReports as reports
@@ -32,8 +37,10 @@ use Rattle.at_setup.specs.declared.setup.Setup.{Setup}
 use Rattle.at_world.specs.declared.transcript.Transcript.{Transcript}
 use Rattle.at_world.specs.declared.transcript.PlayFault.{PlayFault}
 use Rattle.at_world.specs.Worlds.{WorldState}
-use Rattle.at_world.proofs.Atp.Newest.{NewestIs, HasAnswers, has_kept, kept_newest, one_answer_more, Has, had_or_gave, none_yet, once_newest}
-use Rattle.at_world.proofs.Atp.Told.{OnceLaws, Told, all_in, all_lived, came_so, key_parts, came_as, hands_complete, lawful, most_of, some_of, within_before}
+use Rattle.at_world.proofs.Atp.Newest.{NewestIs, HasAnswers, has_kept, kept_newest, one_answer_more, Has, had_or_gave}
+use Rattle.at_world.proofs.Atp.Newest.{none_yet, once_newest}
+use Rattle.at_world.proofs.Atp.Told.{OnceLaws, Told, all_lived, came_so, key_parts, came_as, hands_complete}
+use Rattle.at_world.proofs.Atp.Told.{lawful, most_of, some_of, within_before}
 
 -- ---- the promise
 
@@ -42,52 +49,79 @@ module _ (A : Type 0) (laws : OnceLaws A) (net : ℕ) (zones : List (List ℕ)) 
   some_one a b h = cc
 
   -- the page that the router gives to what came is that of the packet which the list of datagrams has
-  page_for : (which : ℕ) (table : List (List ℕ)) (n : Network) (packets : List Packet) (key : Key) (answer : List Packet) → Within sent n → AllSent IsLawfullySent n.sent → IsPageAsked (Some table) n which packets → CameFrom sent which key → packets ≡ answer → IsPageFor sent table which key answer
+  page_for : (which : ℕ) (table : List (List ℕ)) (n : Network) (packets : List Packet) (key : Key)
+      (answer : List Packet) → Within sent n → AllSent IsLawfullySent n.sent → IsPageAsked (Some table) n which packets
+      → CameFrom sent which key → packets ≡ answer → IsPageFor sent table which key answer
   page_for which table n packets key answer within ok p came gave =
       let s = p.request in
-      let packet = came_as A laws net zones sent which key s (within which s p.was_sent) (all_in A laws net zones sent IsLawfullySent n.sent which s ok p.was_sent) came in
-      record { came = came; start = p.start; asks_from = subst (λ f. AsksFrom f p.start) packet.0 p.asks_from; page = sym gave ∙ p.page ∙ ap (λ zs. page_answer zs p.start) (some_table p.zones table (sym p.is_table)) }
+      let packet = came_as A laws net zones sent which key s (within which s p.was_sent)
+      (sent_at IsLawfullySent n.sent which s ok p.was_sent) came in
+      record {
+        came = came;
+        start = p.start;
+        asks_from = subst (λ f. AsksFrom f p.start) packet.0 p.asks_from;
+        page = sym gave ∙ p.page ∙ ap (λ zs. page_answer zs p.start) (some_table p.zones table (sym p.is_table));
+      }
     where
       some_table : (a b : List (List ℕ)) → Some a ≡ Some b → a ≡ b
       some_table a b h = cc
 
   -- what gives an answer in the network is a step that gives it
-  step_gives : (e : Event A) (r : Report A) (table : List (List ℕ)) (n : Network) (h : Happening) (key : Key) (answer : List Packet) → Within sent n → AllSent IsLawfullySent n.sent → Matches net table n h e r → asking.Gives n h key answer → GivesBy net sent table e r key answer
+  step_gives : (e : Event A) (r : Report A) (table : List (List ℕ)) (n : Network) (h : Happening) (key : Key)
+      (answer : List Packet) → Within sent n → AllSent IsLawfullySent n.sent → Matches net table n h e r
+      → asking.Gives n h key answer → GivesBy net sent table e r key answer
   step_gives e r table n (Answers at k packets) key answer within ok m g =
       let gives = m.answers_as in
-      subst (λ x. GivesBy net sent table x r key answer) (sym (called_at e (Answer gives.0 gives.1 gives.2 packets) gives.4))
-      (subst (λ x. GivesBy net sent table (event.Call (node_of e) (Answer gives.0 gives.1 gives.2 packets)) x key answer) (sym gives.5) (ap (λ x. same_key x key) (sym gives.6) ∙ g.0, g.1))
+      subst (λ x. GivesBy net sent table x r key answer)
+      (sym (called_at e (Answer gives.0 gives.1 gives.2 packets) gives.4))
+      (subst (λ x. GivesBy net sent table (event.Call (node_of e) (Answer gives.0 gives.1 gives.2 packets)) x key
+      answer) (sym gives.5) (ap (λ x. same_key x key) (sym gives.6) ∙ g.0, g.1))
   step_gives e r table n (Serves which packets) key answer within ok m g =
       let gives = m.answers_as in
       let is = delivered_at e which gives.1 in
       let up = hands_complete A laws net zones sent e r n key within ok m.finishes (sym (m.hands_up key) ∙ g.0) in
-      let came = subst (λ x. HandsUpBy sent (event.Deliver which (node_of e)) x key) gives.2 (subst (λ x. HandsUpBy sent x r key) is up) in
-      subst (λ x. GivesBy net sent table x r key answer) (sym is) (subst (λ x. GivesBy net sent table (event.Deliver which (node_of e)) x key answer) (sym gives.2)
+      let came = subst (λ x. HandsUpBy sent (event.Deliver which (node_of e)) x key) gives.2
+      (subst (λ x. HandsUpBy sent x r key) is up) in
+      subst (λ x. GivesBy net sent table x r key answer) (sym is)
+      (subst (λ x. GivesBy net sent table (event.Deliver which (node_of e)) x key answer) (sym gives.2)
       (page_for which table n packets key answer within ok gives.3 came g.1))
   step_gives e r table n h key answer within ok m g = absurd g
 
-  gives_of : (past : List (Played A)) (hs : List Happening) (key : Key) (answer : List Packet) → Told A net zones past hs → Within sent (after A hs) → AllByRecursion IsInRange hs → Has (after A hs).asked key answer → SomeGives net zones sent key answer past
+  gives_of : (past : List (Played A)) (hs : List Happening) (key : Key) (answer : List Packet)
+      → Told A net zones past hs → Within sent (after A hs) → AllByRecursion IsInRange hs
+      → Has (after A hs).asked key answer → SomeGives net zones sent key answer past
   gives_of [] [] key answer told within range has = let none = has.1 in absurd (cc)
   gives_of [] (h ∷ hs) key answer told within range has = absurd told
   gives_of (x ∷ xs) [] key answer told within range has = absurd told
-  gives_of (x ∷ xs) (h ∷ hs) key answer told within range has = go (λ g. gives_of xs hs key answer told.2 (within_before A sent h hs told.1 within) range.1 g) (began_under net x.event x.report key) refl
+  gives_of (x ∷ xs) (h ∷ hs) key answer told within range has =
+      go (λ g. gives_of xs hs key answer told.2 (within_before A sent h hs told.1 within) range.1 g)
+      (began_under net x.event x.report key) refl
     where
       m : Matches net (table_after zones xs) (after A hs) h x.event x.report
       m = told.0
 
-      either : (Has (after A hs).asked key answer → SomeGives net zones sent key answer xs) → Has (after A hs).asked key answer ⊎ asking.Gives (after A hs) h key answer → GivesBy net sent (table_after zones xs) x.event x.report key answer ⊎ SomeGives net zones sent key answer xs
+      either : (Has (after A hs).asked key answer → SomeGives net zones sent key answer xs)
+          → Has (after A hs).asked key answer ⊎ asking.Gives (after A hs) h key answer
+          → GivesBy net sent (table_after zones xs) x.event x.report key answer ⊎ SomeGives net zones sent key answer xs
       either before (inl old) = inr (before old)
-      either before (inr gave) = inl (step_gives x.event x.report (table_after zones xs) (after A hs) h key answer (within_before A sent h hs told.1 within) (lawful A laws net zones sent hs range.1) m gave)
+      either before (inr gave) = inl
+          (step_gives x.event x.report (table_after zones xs) (after A hs) h key answer
+          (within_before A sent h hs told.1 within) (lawful A laws net zones sent hs range.1) m gave)
 
-      go : (Has (after A hs).asked key answer → SomeGives net zones sent key answer xs) → (b : Bool) → began_under net x.event x.report key ≡ b → MatchBool b ⊥ (GivesBy net sent (table_after zones xs) x.event x.report key answer ⊎ SomeGives net zones sent key answer xs)
+      go : (Has (after A hs).asked key answer → SomeGives net zones sent key answer xs) → (b : Bool)
+          → began_under net x.event x.report key ≡ b
+          → MatchBool b ⊥ (GivesBy net sent (table_after zones xs) x.event x.report key answer
+          ⊎ SomeGives net zones sent key answer xs)
       go before true e = none_yet A laws.changes (after A hs) h key answer (m.draws_it key ∙ e) has
       go before false e = either before (had_or_gave A laws.changes (after A hs) h key answer (m.draws_it key ∙ e) has)
 
   -- an answer that a step gives joins the transaction of its key
-  joins_it : (e : Event A) (r : Report A) (n : Network) (h : Happening) (key : Key) → Within sent n → AllSent IsLawfullySent n.sent → reports.Joins net n h r (act_of e) → IsGivenBy net sent e r key →
+  joins_it : (e : Event A) (r : Report A) (n : Network) (h : Happening) (key : Key) → Within sent n
+      → AllSent IsLawfullySent n.sent → reports.Joins net n h r (act_of e) → IsGivenBy net sent e r key →
       (packets : List Packet) × ((done A n h).asked ≡ answered n.asked key.from key.tid packets)
   joins_it (event.Call node (Answer k socket tid packets)) (report.Answered count) n h key within ok j g =
-      let both = and_parts (same_address (record { net = net; node = k; socket = socket }) key.from) (tid == key.tid) g in
+      let both = and_parts (same_address (record { net = net; node = k; socket = socket }) key.from)
+      (tid == key.tid) g in
       let from = same_address-true (record { net = net; node = k; socket = socket }) key.from both.0 in
       let number = eqb-true tid key.tid both.1 in
       (packets, j ∙ (λ i. answered n.asked (from i) (number i) packets))
@@ -95,7 +129,8 @@ module _ (A : Type 0) (laws : OnceLaws A) (net : ℕ) (zones : List (List ℕ)) 
   joins_it (event.Call node call) r n h key within ok j g = absurd g
   joins_it (event.Deliver which node) (report.Served count) n h key within ok j g =
       let s = j.0 in
-      let same = came_so A laws net zones sent which key s (within which s j.1) (all_in A laws net zones sent IsLawfullySent n.sent which s ok j.1) g in
+      let same = came_so A laws net zones sent which key s (within which s j.1)
+      (sent_at IsLawfullySent n.sent which s ok j.1) g in
       let parts = key_parts A laws net zones sent s key same in
       (j.2.0, j.2.1 ∙ (λ i. answered n.asked (parts.0 i) (parts.1 i) j.2.0))
   joins_it (event.Deliver which node) r n h key within ok j g = absurd g
@@ -103,16 +138,23 @@ module _ (A : Type 0) (laws : OnceLaws A) (net : ℕ) (zones : List (List ℕ)) 
   joins_it (event.Forge node bytes) r n h key within ok j g = absurd g
 
   -- the newest transaction of a key after a step that answers it, one that had so many answers
-  more_answers : (x : Played A) (table : List (List ℕ)) (n : Network) (h : Happening) (key : Key) (count : ℕ) → Within sent n → AllSent IsLawfullySent n.sent → Matches net table n h x.event x.report → NewestIs (HasAnswers count) n.asked key → Gives net sent key x → NewestIs (HasAnswers (count + 1)) (done A n h).asked key
+  more_answers : (x : Played A) (table : List (List ℕ)) (n : Network) (h : Happening) (key : Key) (count : ℕ)
+      → Within sent n → AllSent IsLawfullySent n.sent → Matches net table n h x.event x.report
+      → NewestIs (HasAnswers count) n.asked key → Gives net sent key x
+      → NewestIs (HasAnswers (count + 1)) (done A n h).asked key
   more_answers x table n h key count within ok m newest gives =
       let joined = joins_it x.event x.report n h key within ok m.joins gives in
-      subst (λ ts. NewestIs (HasAnswers (count + 1)) ts key) (sym joined.1) (one_answer_more n.asked key joined.0 count newest)
+      subst (λ ts. NewestIs (HasAnswers (count + 1)) ts key) (sym joined.1)
+      (one_answer_more n.asked key joined.0 count newest)
 
   -- a transaction without answers was given none since it began
-  none_given : (past : List (Played A)) (hs : List Happening) (key : Key) → Told A net zones past hs → Within sent (after A hs) → AllByRecursion IsInRange hs → is_once net past key ≡ true → NewestIs (λ t. length t.answers ≡ 0) (after A hs).asked key → NoneGives net sent key (since net past key)
+  none_given : (past : List (Played A)) (hs : List Happening) (key : Key) → Told A net zones past hs
+      → Within sent (after A hs) → AllByRecursion IsInRange hs → is_once net past key ≡ true
+      → NewestIs (λ t. length t.answers ≡ 0) (after A hs).asked key → NoneGives net sent key (since net past key)
   none_given [] hs key told within range once none = tt
   none_given (x ∷ xs) [] key told within range once none = absurd told
-  none_given (x ∷ xs) (h ∷ hs) key told within range once none = go (λ o z. none_given xs hs key told.2 earlier range.1 o z) (began_under net x.event x.report key) refl once
+  none_given (x ∷ xs) (h ∷ hs) key told within range once none =
+      go (λ o z. none_given xs hs key told.2 earlier range.1 o z) (began_under net x.event x.report key) refl once
     where
       m : Matches net (table_after zones xs) (after A hs) h x.event x.report
       m = told.0
@@ -130,21 +172,31 @@ module _ (A : Type 0) (laws : OnceLaws A) (net : ℕ) (zones : List (List ℕ)) 
       one : (count : ℕ) → count + 1 ≡ 0 → ⊥
       one count e = absurd (omega (arith, e))
 
-      go : (is_once net xs key ≡ true → NewestIs (λ t. length t.answers ≡ 0) (after A hs).asked key → NoneGives net sent key (since net xs key)) → (b : Bool) → began_under net x.event x.report key ≡ b → cond b (asks_once x.event) (is_once net xs key) ≡ true → NoneGives net sent key (cond b [] (x ∷ since net xs key))
+      go : (is_once net xs key ≡ true → NewestIs (λ t. length t.answers ≡ 0) (after A hs).asked key
+          → NoneGives net sent key (since net xs key)) → (b : Bool) → began_under net x.event x.report key ≡ b
+          → cond b (asks_once x.event) (is_once net xs key) ≡ true
+          → NoneGives net sent key (cond b [] (x ∷ since net xs key))
       go before true e is = tt
       go before false e is =
           let t = once_newest A laws.changes net zones xs hs key told.2 is in
           let k = length (t.0).answers in
-          let kept = kept_newest A laws.changes (HasAnswers (length (t.0).answers)) (has_kept (length (t.0).answers)) (after A hs) h key (m.draws_it key ∙ e) (t.0, t.1, omega arith) in (
-            (λ gives. one 0 (few (0 + 1) (more_answers x (table_after zones xs) (after A hs) h key 0 earlier (lawful A laws net zones sent hs range.1) m (t.0, t.1, omega arith) gives))),
+          let kept = kept_newest A laws.changes (HasAnswers (length (t.0).answers)) (has_kept (length (t.0).answers))
+          (after A hs) h key (m.draws_it key ∙ e) (t.0, t.1, omega arith) in (
+            (λ gives. one 0 (few (0 + 1)
+                (more_answers x (table_after zones xs) (after A hs) h key 0 earlier
+                (lawful A laws net zones sent hs range.1) m (t.0, t.1, omega arith) gives))),
             before is (t.0, t.1, few (length (t.0).answers) kept),
           )
 
   -- a transaction that must not run twice was given one answer at most
-  one_given : (past : List (Played A)) (hs : List Happening) (key : Key) → Told A net zones past hs → Within sent (after A hs) → AllTimely A hs → AllByRecursion IsInRange hs → AllLive net sent past → is_once net past key ≡ true → AtMostOneGives net sent key (since net past key)
+  one_given : (past : List (Played A)) (hs : List Happening) (key : Key) → Told A net zones past hs
+      → Within sent (after A hs) → AllTimely A hs → AllByRecursion IsInRange hs → AllLive net sent past
+      → is_once net past key ≡ true → AtMostOneGives net sent key (since net past key)
   one_given [] hs key told within timely range live once = tt
   one_given (x ∷ xs) [] key told within timely range live once = absurd told
-  one_given (x ∷ xs) (h ∷ hs) key told within timely range live once = go (λ o. one_given xs hs key told.2 earlier timely.1 range.1 live.1 o) (began_under net x.event x.report key) refl once
+  one_given (x ∷ xs) (h ∷ hs) key told within timely range live once =
+      go (λ o. one_given xs hs key told.2 earlier timely.1 range.1 live.1 o)
+      (began_under net x.event x.report key) refl once
     where
       m : Matches net (table_after zones xs) (after A hs) h x.event x.report
       m = told.0
@@ -153,7 +205,7 @@ module _ (A : Type 0) (laws : OnceLaws A) (net : ℕ) (zones : List (List ℕ)) 
       earlier = within_before A sent h hs told.1 within
 
       law : AnswersOnce A (h ∷ hs)
-      law = laws.once (h ∷ hs) timely (all_lived A laws net zones sent (x ∷ xs) (h ∷ hs) told within live)
+      law = laws.once (h ∷ hs) timely (all_lived A laws net zones sent (x ∷ xs) (h ∷ hs) told within range live)
 
       -- so many answers are one at most
       few : (count : ℕ) → NewestIs (HasAnswers count) (done A (after A hs) h).asked key → count ≤ 1
@@ -167,49 +219,80 @@ module _ (A : Type 0) (laws : OnceLaws A) (net : ℕ) (zones : List (List ℕ)) 
       none : (k : ℕ) → k + 1 ≤ 1 → k ≡ 0
       none k e = omega (arith, e)
 
-      go : (is_once net xs key ≡ true → AtMostOneGives net sent key (since net xs key)) → (b : Bool) → began_under net x.event x.report key ≡ b → cond b (asks_once x.event) (is_once net xs key) ≡ true → AtMostOneGives net sent key (cond b [] (x ∷ since net xs key))
+      go : (is_once net xs key ≡ true → AtMostOneGives net sent key (since net xs key)) → (b : Bool)
+          → began_under net x.event x.report key ≡ b → cond b (asks_once x.event) (is_once net xs key) ≡ true
+          → AtMostOneGives net sent key (cond b [] (x ∷ since net xs key))
       go before true e is = tt
       go before false e is =
           let t = once_newest A laws.changes net zones xs hs key told.2 is in (
-            (λ gives. none_given xs hs key told.2 earlier range.1 is (t.0, t.1, none (length (t.0).answers) (few (length (t.0).answers + 1) (more_answers x (table_after zones xs) (after A hs) h key (length (t.0).answers) earlier (lawful A laws net zones sent hs range.1) m (t.0, t.1, omega arith) gives)))),
+            (λ gives. none_given xs hs key told.2 earlier range.1 is (
+              t.0,
+              t.1,
+              none (length (t.0).answers)
+                  (few (length (t.0).answers + 1)
+                  (more_answers x (table_after zones xs) (after A hs) h key (length (t.0).answers) earlier
+                  (lawful A laws net zones sent hs range.1) m (t.0, t.1, omega arith) gives)),
+            )),
             before is,
           )
 
-  one_moment : (past : List (Played A)) (hs : List Happening) → Told A net zones past hs → Within sent (after A hs) → AllTimely A hs → AllByRecursion IsInRange hs → AllLive net sent past → (key : Key) → is_once net past key ≡ true → RanOnce net sent past key
+  one_moment : (past : List (Played A)) (hs : List Happening) → Told A net zones past hs → Within sent (after A hs)
+      → AllTimely A hs → AllByRecursion IsInRange hs → AllLive net sent past → (key : Key) → is_once net past key
+      ≡ true → RanOnce net sent past key
   one_moment past hs told within timely range live key once =
       let t = once_newest A laws.changes net zones past hs key told once in
-      let law = laws.once hs timely (all_lived A laws net zones sent past hs told within live) in
-      (most_of A laws net zones sent past hs key told within range (law.once key.from key.tid t.0 t.1 t.2.0).0, one_given past hs key told within timely range live once)
+      let law = laws.once hs timely (all_lived A laws net zones sent past hs told within range live) in (
+        most_of A laws net zones sent past hs key told within range
+            (law.once key.from key.tid t.0 t.1 t.2.0).0,
+        one_given past hs key told within timely range live once,
+      )
 
-  ended : (past : List (Played A)) (hs : List Happening) (which node tid : ℕ) (packets : List Packet) → Told A net zones past hs → Within sent (after A hs) → AllTimely A hs → AllByRecursion IsInRange hs → AllLive net sent past → reports.Ends A net node (after A hs) which tid packets →
-      is_once net past (record { from = asking net node; tid = tid }) ≡ true → SomeHandsUp sent (record { from = asking net node; tid = tid }) (since net past (record { from = asking net node; tid = tid }))
-      × ((answer : List Packet) × SomeGives net zones sent (record { from = asking net node; tid = tid }) answer past × (packets ≡ take (wanted_by net past (record { from = asking net node; tid = tid })) answer))
+  ended : (past : List (Played A)) (hs : List Happening) (which node tid : ℕ) (packets : List Packet)
+      → Told A net zones past hs → Within sent (after A hs) → AllTimely A hs → AllByRecursion IsInRange hs
+      → AllLive net sent past → reports.Ends A net node (after A hs) which tid packets →
+      is_once net past (record { from = asking net node; tid = tid }) ≡ true
+      → SomeHandsUp sent (record { from = asking net node; tid = tid })
+      (since net past (record { from = asking net node; tid = tid }))
+      × ((answer : List Packet) × SomeGives net zones sent (record { from = asking net node; tid = tid }) answer past
+      × (packets ≡ take (wanted_by net past (record { from = asking net node; tid = tid })) answer))
   ended past hs which node tid packets told within timely range live ends once =
       let s = ends.packet in
       let t = once_newest A laws.changes net zones past hs (record { from = asking net node; tid = tid }) told once in
-      let law = laws.once hs timely (all_lived A laws net zones sent past hs told within live) in
+      let law = laws.once hs timely (all_lived A laws net zones sent past hs told within range live) in
       let a = ((laws.answers hs timely).finished which s packets ends.was_sent ends.fresh ends.ends).0 in
-      let same : a.transaction ≡ t.0 = some_one a.transaction t.0 (sym a.newest ∙ (λ i. transaction_of (after A hs).asked (ends.comes_to i) (ends.numbered i)) ∙ t.1) in
-      let done_once = law.finished which s packets ends.was_sent ends.fresh ends.ends a (ap (λ (x : Transaction). x.xo) same ∙ t.2.0) in
-      let here : hand_ups_since A hs (record { from = asking net node; tid = tid }) ≡ 1 = (λ i. hand_ups_since A hs (record { from = sym ends.comes_to i; tid = sym ends.numbered i })) ∙ done_once.0 in
+      let same : a.transaction
+      ≡ t.0 = some_one a.transaction t.0
+      (sym a.newest ∙ (λ i. transaction_of (after A hs).asked (ends.comes_to i) (ends.numbered i)) ∙ t.1) in
+      let done_once = law.finished which s packets ends.was_sent ends.fresh ends.ends a
+      (ap (λ (x : Transaction). x.xo) same ∙ t.2.0) in
+      let here : hand_ups_since A hs (record { from = asking net node; tid = tid })
+      ≡ 1 = (λ i. hand_ups_since A hs (record { from = sym ends.comes_to i; tid = sym ends.numbered i }))
+      ∙ done_once.0 in
       let answers : (t.0).answers ≡ done_once.1 ∷ [] = ap (λ (x : Transaction). x.answers) (sym same) ∙ done_once.2 in
-      let among : Contains (t.0).answers done_once.1 = subst (λ (l : List (List Packet)). Contains l done_once.1) (sym answers) (0, lit< tt, refl) in (
-        some_of A laws net zones sent past hs (record { from = asking net node; tid = tid }) told within range (omega (arith, here)),
+      let among : Contains (t.0).answers done_once.1 = subst (λ (l : List (List Packet)). Contains l done_once.1)
+      (sym answers) (0, lit< tt, refl) in (
+        some_of A laws net zones sent past hs (record { from = asking net node; tid = tid }) told within range
+            (omega (arith, here)),
         (
           done_once.1,
-          gives_of past hs (record { from = asking net node; tid = tid }) done_once.1 told within range (t.0, t.1, among),
+          gives_of past hs (record { from = asking net node; tid = tid }) done_once.1 told within range
+              (t.0, t.1, among),
           done_once.3 ∙ ap (λ k. take k done_once.1) (ap (λ (x : Transaction). x.wanted) same ∙ t.2.1),
         ),
       )
 
-  ends_by : (e : Event A) (r : Report A) (past : List (Played A)) (hs : List Happening) → Told A net zones past hs → Within sent (after A hs) → AllTimely A hs → AllByRecursion IsInRange hs → AllLive net sent past → reports.Finishes net (node_of e) (after A hs) (act_of e) r → EndsBy net zones sent e r past
+  ends_by : (e : Event A) (r : Report A) (past : List (Played A)) (hs : List Happening) → Told A net zones past hs
+      → Within sent (after A hs) → AllTimely A hs → AllByRecursion IsInRange hs → AllLive net sent past
+      → reports.Finishes net (node_of e) (after A hs) (act_of e) r → EndsBy net zones sent e r past
   ends_by (event.Call node call) r past hs told within timely range live f = tt
-  ends_by (event.Deliver which node) (report.Response tid packets) past hs told within timely range live f = ended past hs which node tid packets told within timely range live f
+  ends_by (event.Deliver which node) (report.Response tid packets) past hs told within timely range live f =
+      ended past hs which node tid packets told within timely range live f
   ends_by (event.Deliver which node) r past hs told within timely range live f = tt
   ends_by (event.Timer node time) r past hs told within timely range live f = tt
   ends_by (event.Forge node bytes) r past hs told within timely range live f = tt
 
-  pub runs_once : (past : List (Played A)) (hs : List Happening) → Told A net zones past hs → Within sent (after A hs) → AllTimely A hs → AllByRecursion IsInRange hs → AllLive net sent past → RunsOnce net zones sent past
+  pub runs_once : (past : List (Played A)) (hs : List Happening) → Told A net zones past hs → Within sent (after A hs)
+      → AllTimely A hs → AllByRecursion IsInRange hs → AllLive net sent past → RunsOnce net zones sent past
   runs_once [] [] told within timely range live = tt
   runs_once [] (h ∷ hs) told within timely range live = tt
   runs_once (x ∷ xs) [] told within timely range live = absurd told
@@ -223,10 +306,17 @@ module _ (A : Type 0) (laws : OnceLaws A) (net : ℕ) (zones : List (List ℕ)) 
 
 -- what steps from the opening give runs once
 abbrev pub StepsOnce : (A : Type 0) → Setup A → Type 0
-StepsOnce A s = (events : List (Event A)) (reports : List (Report A)) (w : WorldState) → NoForge events → Follows (opening_world s) events reports w → AllLive s.net w.sent (onto [] events reports) → RunsOnce s.net s.zones w.sent (onto [] events reports)
+StepsOnce A s = (events : List (Event A)) (reports : List (Report A)) (w : WorldState) → NoForge events
+    → Follows (opening_world s) events reports w → AllLive s.net w.sent (onto [] events reports)
+    → RunsOnce s.net s.zones w.sent (onto [] events reports)
 
-pub play_is_once : (A : Type 0) (s : Setup A) (events : List (Event A)) (answer : Result (Transcript A) (PlayFault A)) → StepsOnce A s → IsPlay s events answer → IsOnce s events answer
+pub play_is_once : (A : Type 0) (s : Setup A) (events : List (Event A)) (answer : Result (Transcript A) (PlayFault A))
+    → StepsOnce A s → IsPlay s events answer → IsOnce s events answer
 play_is_once A s events (Ok t) law h = λ forged_none. let played = h.1 in
-    subst (λ sent. AllLive s.net sent (onto [] events t.reports) → RunsOnce s.net s.zones sent (onto [] events t.reports)) (sym played.1) (law events t.reports h.0 forged_none played.0)
+    subst (λ sent. AllLive s.net sent (onto [] events t.reports)
+    → RunsOnce s.net s.zones sent (onto [] events t.reports)) (sym played.1)
+    (law events t.reports h.0 forged_none played.0)
 play_is_once A s events (Err f) law h = λ forged_none. let played = h.1 in
-    subst (λ sent. AllLive s.net sent (onto [] (take f.at events) f.transcript.reports) → RunsOnce s.net s.zones sent (onto [] (take f.at events) f.transcript.reports)) (sym played.1) (law (take f.at events) f.transcript.reports h.0 forged_none played.0)
+    subst (λ sent. AllLive s.net sent (onto [] (take f.at events) f.transcript.reports)
+    → RunsOnce s.net s.zones sent (onto [] (take f.at events) f.transcript.reports)) (sym played.1)
+    (law (take f.at events) f.transcript.reports h.0 forged_none played.0)

@@ -1,5 +1,6 @@
 -- The tie of the part of ATP and ZIP before anything happened.
-use Rattle.std.proofs.Common.{◌≡◌, ℕ, ◌+◌, ◌≤◌, Bool, true, false, cond, List, [], ◌∷◌, map, Some, None, refl, sym, ap, subst, ◌∙◌, arith}
+use Rattle.std.proofs.Common.{◌≡◌, ℕ, ◌+◌, ◌≤◌, Bool, true, false, cond, List, [], ◌∷◌, map, Some, None, refl, sym, ap}
+use Rattle.std.proofs.Common.{subst, ◌∙◌, arith}
 use Rattle.std.specs.Prelude.{find, option_map, count_by, ◌==◌, ◌&&◌}
 use Rattle.std.proofs.lemmas.Bool.{eqb-true}
 use Rattle.std.proofs.lemmas.List.Sums.{sum_by-cons}
@@ -18,7 +19,8 @@ use Rattle.at_world.proofs.Atp.Places.{requester_of, requester_at, service_of, s
 use Rattle.at_world.proofs.Atp.Tie.{IsReading, AtpTie}
 use Rattle.at_world.proofs.LawfulSetups.{SetupLaws, lawful_has}
 
-routers-cons : (x : NodeSetup) (ns : List NodeSetup) → count_by (λ n. n.router) (x ∷ ns) ≡ cond x.router 1 0 + count_by (λ n. n.router) ns
+routers-cons : (x : NodeSetup) (ns : List NodeSetup) → count_by (λ n. n.router) (x ∷ ns)
+    ≡ cond x.router 1 0 + count_by (λ n. n.router) ns
 routers-cons x ns = sum_by-cons (λ (n : NodeSetup). cond n.router 1 0) x ns
 
 -- if a router is found, one is counted
@@ -26,7 +28,9 @@ router_counts : (ns : List NodeSetup) (k : ℕ) → router_of ns ≡ Some k → 
 router_counts [] k is = absurd (cc)
 router_counts (x ∷ ns) k is = rw (routers-cons x ns) (go (router_counts ns k) x.router is)
   where
-    go : (router_of ns ≡ Some k → 1 ≤ count_by (λ n. n.router) ns) → (b : Bool) → option_map (λ (n : NodeSetup). n.node) (cond b (Some x) (find (λ n. n.router) ns)) ≡ Some k → 1 ≤ cond b 1 0 + count_by (λ n. n.router) ns
+    go : (router_of ns ≡ Some k → 1 ≤ count_by (λ n. n.router) ns) → (b : Bool)
+        → option_map (λ (n : NodeSetup). n.node) (cond b (Some x) (find (λ n. n.router) ns)) ≡ Some k
+        → 1 ≤ cond b 1 0 + count_by (λ n. n.router) ns
     go ih true g = omega arith
     go ih false g = let rest = ih g in omega (arith, rest)
 
@@ -34,41 +38,55 @@ router_counts (x ∷ ns) k is = rw (routers-cons x ns) (go (router_counts ns k) 
 
 module _ (A : Type 0) (s : Setup A) where
   -- of at most one router, a node that has a table is the first
-  router_is : (ns : List NodeSetup) → count_by (λ n. n.router) ns ≤ 1 → (k : ℕ) (n : NodeState) → find (is_numbered k) (map (opening_node s) ns) ≡ Some n → (t : List (List ℕ)) → n.atp.table ≡ Some t → router_of ns ≡ Some k
+  router_is : (ns : List NodeSetup) → count_by (λ n. n.router) ns ≤ 1 → (k : ℕ) (n : NodeState)
+      → find (is_numbered k) (map (opening_node s) ns) ≡ Some n → (t : List (List ℕ)) → n.atp.table ≡ Some t
+      → router_of ns ≡ Some k
   router_is [] few k n h t has = absurd (cc)
-  router_is (x ∷ ns) few k n h t has = go (λ less g. router_is ns less k n g t has) x.router (x.node == k) refl (subst (λ m. m ≤ 1) (routers-cons x ns) few) h
+  router_is (x ∷ ns) few k n h t has = go (λ less g. router_is ns less k n g t has) x.router (x.node == k) refl
+      (subst (λ m. m ≤ 1) (routers-cons x ns) few) h
     where
       opened : Bool → NodeState
-      opened b = opening s.net x.node (router_of s.nodes) x.zone (cond b (Some s.zones) None) (cond b (Some (neighbours_of s.nodes)) None) (rooms_of x)
+      opened b = opening (record { net = s.net; number = x.node; router = router_of s.nodes }) x.zone
+          (cond b (Some s.zones) None) (cond b (Some (neighbours_of s.nodes)) None) (rooms_of x)
 
-      go : (count_by (λ n. n.router) ns ≤ 1 → find (is_numbered k) (map (opening_node s) ns) ≡ Some n → router_of ns ≡ Some k) → (b c : Bool) → (x.node == k) ≡ c → cond b 1 0 + count_by (λ n. n.router) ns ≤ 1 → cond c (Some (opened b)) (find (is_numbered k) (map (opening_node s) ns)) ≡ Some n
+      go : (count_by (λ n. n.router) ns ≤ 1 → find (is_numbered k) (map (opening_node s) ns) ≡ Some n → router_of ns
+          ≡ Some k) → (b c : Bool) → (x.node == k) ≡ c → cond b 1 0 + count_by (λ n. n.router) ns ≤ 1
+          → cond c (Some (opened b)) (find (is_numbered k) (map (opening_node s) ns)) ≡ Some n
           → option_map (λ (n : NodeSetup). n.node) (cond b (Some x) (find (λ n. n.router) ns)) ≡ Some k
       go ih true true e less g = ap Some (eqb-true x.node k e)
-      go ih true false e less g = let one = router_counts ns k (ih (omega (arith, less)) g) in absurd (omega (arith, one, less))
-      go ih false true e less g = let same : opened false ≡ n = cc in let none : None ≡ Some t = ap (λ (y : NodeState). y.atp.table) same ∙ has in absurd (cc)
+      go ih true false e less g = let one = router_counts ns k (ih (omega (arith, less)) g) in
+          absurd (omega (arith, one, less))
+      go ih false true e less g = let same : opened false ≡ n = cc in let none : None
+          ≡ Some t = ap (λ (y : NodeState). y.atp.table) same ∙ has in absurd (cc)
       go ih false false e less g = ih (omega (arith, less)) g
 
   -- the table of a node that has one is that of the setup
-  table_is : (ns : List NodeSetup) (k : ℕ) (n : NodeState) → find (is_numbered k) (map (opening_node s) ns) ≡ Some n → (t : List (List ℕ)) → n.atp.table ≡ Some t → t ≡ s.zones
+  table_is : (ns : List NodeSetup) (k : ℕ) (n : NodeState) → find (is_numbered k) (map (opening_node s) ns) ≡ Some n
+      → (t : List (List ℕ)) → n.atp.table ≡ Some t → t ≡ s.zones
   table_is [] k n h t has = absurd (cc)
   table_is (x ∷ ns) k n h t has = go (λ g. table_is ns k n g t has) x.router (x.node == k) h
     where
       opened : Bool → NodeState
-      opened b = opening s.net x.node (router_of s.nodes) x.zone (cond b (Some s.zones) None) (cond b (Some (neighbours_of s.nodes)) None) (rooms_of x)
+      opened b = opening (record { net = s.net; number = x.node; router = router_of s.nodes }) x.zone
+          (cond b (Some s.zones) None) (cond b (Some (neighbours_of s.nodes)) None) (rooms_of x)
 
       of_one : (b : Bool) → opened b ≡ n → t ≡ s.zones
       of_one true same = let some : Some s.zones ≡ Some t = ap (λ (y : NodeState). y.atp.table) same ∙ has in cc
       of_one false same = let none : None ≡ Some t = ap (λ (y : NodeState). y.atp.table) same ∙ has in absurd (cc)
 
-      go : (find (is_numbered k) (map (opening_node s) ns) ≡ Some n → t ≡ s.zones) → (b c : Bool) → cond c (Some (opened b)) (find (is_numbered k) (map (opening_node s) ns)) ≡ Some n → t ≡ s.zones
+      go : (find (is_numbered k) (map (opening_node s) ns) ≡ Some n → t ≡ s.zones) → (b c : Bool)
+          → cond c (Some (opened b)) (find (is_numbered k) (map (opening_node s) ns)) ≡ Some n → t ≡ s.zones
       go ih b true g = let same : opened b ≡ n = cc in of_one b same
       go ih b false g = ih g
 
-  nothing_begun : (ns : List NodeSetup) (k : ℕ) → requester_of (find (is_numbered k) (map (opening_node s) ns)) ≡ no_requests
+  nothing_begun : (ns : List NodeSetup) (k : ℕ) → requester_of (find (is_numbered k) (map (opening_node s) ns))
+      ≡ no_requests
   nothing_begun [] k = refl
   nothing_begun (x ∷ ns) k = go (nothing_begun ns k) (x.node == k)
     where
-      go : requester_of (find (is_numbered k) (map (opening_node s) ns)) ≡ no_requests → (b : Bool) → requester_of (cond b (Some (opening_node s x)) (find (is_numbered k) (map (opening_node s) ns))) ≡ no_requests
+      go : requester_of (find (is_numbered k) (map (opening_node s) ns)) ≡ no_requests → (b : Bool)
+          → requester_of (cond b (Some (opening_node s x)) (find (is_numbered k) (map (opening_node s) ns)))
+          ≡ no_requests
       go ih true = refl
       go ih false = ih
 
@@ -76,7 +94,8 @@ module _ (A : Type 0) (s : Setup A) where
   nothing_came [] k = refl
   nothing_came (x ∷ ns) k = go (nothing_came ns k) (x.node == k)
     where
-      go : service_of (find (is_numbered k) (map (opening_node s) ns)) ≡ [] → (b : Bool) → service_of (cond b (Some (opening_node s x)) (find (is_numbered k) (map (opening_node s) ns))) ≡ []
+      go : service_of (find (is_numbered k) (map (opening_node s) ns)) ≡ [] → (b : Bool)
+          → service_of (cond b (Some (opening_node s x)) (find (is_numbered k) (map (opening_node s) ns))) ≡ []
       go ih true = refl
       go ih false = ih
 
@@ -84,29 +103,36 @@ module _ (A : Type 0) (s : Setup A) where
   nothing_served [] k = refl
   nothing_served (x ∷ ns) k = go (nothing_served ns k) (x.node == k)
     where
-      go : served_of (find (is_numbered k) (map (opening_node s) ns)) ≡ [] → (b : Bool) → served_of (cond b (Some (opening_node s x)) (find (is_numbered k) (map (opening_node s) ns))) ≡ []
+      go : served_of (find (is_numbered k) (map (opening_node s) ns)) ≡ [] → (b : Bool)
+          → served_of (cond b (Some (opening_node s x)) (find (is_numbered k) (map (opening_node s) ns))) ≡ []
       go ih true = refl
       go ih false = ih
 
-  nothing_read : (ns : List NodeSetup) (k : ℕ) (n : NodeState) → find (is_numbered k) (map (opening_node s) ns) ≡ Some n → n.atp.reading ≡ None
+  nothing_read : (ns : List NodeSetup) (k : ℕ) (n : NodeState) → find (is_numbered k) (map (opening_node s) ns)
+      ≡ Some n → n.atp.reading ≡ None
   nothing_read [] k n h = absurd (cc)
   nothing_read (x ∷ ns) k n h = go (nothing_read ns k n) (x.node == k) h
     where
-      go : (find (is_numbered k) (map (opening_node s) ns) ≡ Some n → n.atp.reading ≡ None) → (b : Bool) → cond b (Some (opening_node s x)) (find (is_numbered k) (map (opening_node s) ns)) ≡ Some n → n.atp.reading ≡ None
+      go : (find (is_numbered k) (map (opening_node s) ns) ≡ Some n → n.atp.reading ≡ None) → (b : Bool)
+          → cond b (Some (opening_node s x)) (find (is_numbered k) (map (opening_node s) ns)) ≡ Some n → n.atp.reading
+          ≡ None
       go ih true g = let same : opening_node s x ≡ n = cc in ap (λ (y : NodeState). y.atp.reading) (sym same)
       go ih false g = ih g
 
   requester_opens : (who : Address) → no_requests ≡ requester_at s.net (map (opening_node s) s.nodes) who
   requester_opens who = go ((s.net == who.net) && (128 == who.socket))
     where
-      go : (b : Bool) → no_requests ≡ cond b (requester_of (find (is_numbered who.node) (map (opening_node s) s.nodes))) no_requests
+      go : (b : Bool) → no_requests
+          ≡ cond b (requester_of (find (is_numbered who.node) (map (opening_node s) s.nodes))) no_requests
       go true = sym (nothing_begun s.nodes who.node)
       go false = refl
 
   responder_opens : (at : Address) → [] ≡ records_at s.net (map (opening_node s) s.nodes) at
   responder_opens at = go (s.net == at.net) (129 == at.socket) (6 == at.socket)
     where
-      go : (a b c : Bool) → [] ≡ cond a (cond b (service_of (find (is_numbered at.node) (map (opening_node s) s.nodes))) (cond c (served_of (find (is_numbered at.node) (map (opening_node s) s.nodes))) [])) []
+      go : (a b c : Bool) → []
+          ≡ cond a (cond b (service_of (find (is_numbered at.node) (map (opening_node s) s.nodes)))
+          (cond c (served_of (find (is_numbered at.node) (map (opening_node s) s.nodes))) [])) []
       go false b c = refl
       go true true c = sym (nothing_came s.nodes at.node)
       go true false true = sym (nothing_served s.nodes at.node)
@@ -115,7 +141,8 @@ module _ (A : Type 0) (s : Setup A) where
   none_read : {P : Type 0} (read : Reading) → None ≡ Some read → P
   none_read read h = absurd (cc)
 
-  pub atp_at_opening : SetupLaws → is_lawful s ≡ true → (t : AtpTie A (opening_world s) (cables.opening s) [] (atp.opening s)) × (t.history ≡ [])
+  pub atp_at_opening : SetupLaws → is_lawful s ≡ true
+      → (t : AtpTie A (opening_world s) (cables.opening s) [] (atp.opening s)) × (t.history ≡ [])
   atp_at_opening laws ok =
       let law = lawful_has A s ok in (
         record {
@@ -131,7 +158,8 @@ module _ (A : Type 0) (s : Setup A) where
           asked = refl;
           tables = λ k n is t has. (table_is s.nodes k n is t has, router_is s.nodes law.one k n is t has);
           opened = λ k n is read reads. none_read read (sym (nothing_read s.nodes k n is) ∙ reads);
-          readings = λ k n is. subst (IsReading (cables.opening s) (atp.opening s) k) (sym (nothing_read s.nodes k n is)) tt;
+          readings = λ k n is. subst (IsReading (cables.opening s) (atp.opening s) k)
+              (sym (nothing_read s.nodes k n is)) tt;
           on_net = tt;
         },
         refl,

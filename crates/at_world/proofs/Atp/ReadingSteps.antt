@@ -1,5 +1,6 @@
 -- What the steps of a reading of the zone list are in the machine.
-use Rattle.std.proofs.Common.{◌≤◌, ◌≡◌, ℕ, false, cond, List, [], ◌∷◌, ◌++◌, length, Some, None, refl, sym, ap, subst, ◌∙◌, arith}
+use Rattle.std.proofs.Common.{◌≤◌, ◌≡◌, ℕ, false, cond, List, [], ◌∷◌, ◌++◌, length, Some, None, refl, sym, ap, subst}
+use Rattle.std.proofs.Common.{◌∙◌, arith}
 use Rattle.std.specs.Prelude.{find, option_map, ◌==◌, ◌&&◌}
 use Rattle.std.proofs.lemmas.Bool.{eq-eqb}
 use Rattle.at_ddp.proofs.Octets.{same_address_itself}
@@ -12,7 +13,8 @@ use Rattle.at_event.specs.declared.event.Call.TheVariants.{Zones}
 use Rattle.at_event.specs.declared.event.Report.{Report}
 use Rattle.at_event.specs.declared.event.Report.TheVariants as report
 use Rattle.at_steps.specs.AtpHappenings.{sets_table}
-use Rattle.at_steps.specs.AtpSteps.{Change, ComesToReading, BeginsReading, TurnsPage, EndsReading, FailsReading, Tells, All, TooMany, Faulty, page_asked}
+use Rattle.at_steps.specs.AtpSteps.{Change, ComesToReading, BeginsReading, TurnsPage, EndsReading, FailsReading, Tells}
+use Rattle.at_steps.specs.AtpSteps.{All, TooMany, Faulty, page_asked}
 use Rattle.at_world.specs.AtpGuards.{AtpMachine, Reading, StoodSince, since_of, without_reading}
 use Rattle.at_world.specs.Cables.{Cable, IsSaid}
 use Rattle.at_world.specs.Events.{act_of, node_of}
@@ -22,11 +24,14 @@ use Rattle.at_setup.specs.declared.event.Event.TheVariants as event
 use Rattle.at_world.proofs.Acts.{called_at, delivered_at, fired_at}
 use Rattle.at_world.proofs.CableTie.{Wire}
 use Rattle.at_world.proofs.Atp.Lists.{no_answers, others_left}
-use Rattle.at_world.proofs.Atp.Readings.{Reads, all_stays, comes_from_router, fits, goes_on, has_all, longer, no_fault, stood_before}
+use Rattle.at_world.proofs.Atp.Readings.{Reads, all_stays, comes_from_router, fits, goes_on, has_all, longer, no_fault}
+use Rattle.at_world.proofs.Atp.Readings.{stood_before}
 use Rattle.at_world.proofs.Atp.Tie.{Laws, Becomes, IsReading, AtpTie, moved}
 use Rattle.at_world.proofs.Atp.Staying.{Allows, so_at, table_kept, still_theirs}
 
-module _ (A : Type 0) (laws : Laws A) (w : WorldState) (cable : Cable) (m : AtpMachine) (wires : List Wire) (e : Event A) (n x : NodeState) (r : Report A) (t : AtpTie A w cable wires m) (stands : node_at w (node_of e) ≡ Some n)
+module _ (A : Type 0) (laws : Laws A) (w : WorldState) (cable : Cable) (m : AtpMachine) (wires : List Wire)
+    (e : Event A) (n x : NodeState) (r : Report A) (t : AtpTie A w cable wires m)
+    (stands : node_at w (node_of e) ≡ Some n)
     (keeps : sets_table r ≡ false → x.atp.table ≡ n.atp.table) where
   -- what a step is in words of transactions
   abbrev Changed : List Transaction → Change A
@@ -34,7 +39,9 @@ module _ (A : Type 0) (laws : Laws A) (w : WorldState) (cable : Cable) (m : AtpM
 
   -- ---- readings that end
 
-  no_longer : (ts : List Transaction) → ts ≡ m.asked → x.atp.reading ≡ None → sets_table r ≡ false → Allows cable m e r (moved m m.table m.asked (without_reading m.readings (node_of e))) → IsSaid e r × Becomes A cable m e x r ts
+  no_longer : (ts : List Transaction) → ts ≡ m.asked → x.atp.reading ≡ None → sets_table r ≡ false
+      → Allows cable m e r (moved m m.table m.asked (without_reading m.readings (node_of e))) → IsSaid e r
+      × Becomes A cable m e x r ts
   no_longer ts same none sets allows = (
     allows.0,
     subst (Becomes A cable m e x r) (sym same) (record {
@@ -44,23 +51,27 @@ module _ (A : Type 0) (laws : Laws A) (w : WorldState) (cable : Cable) (m : AtpM
       allows = allows.1;
       here = table_kept A laws w cable m wires e n x r t stands keeps sets;
       elsewhere = λ j y apart h. h;
-      reading = subst (IsReading cable (moved m m.table m.asked (without_reading m.readings (node_of e))) (node_of e)) (sym none) tt;
+      reading = subst (IsReading cable (moved m m.table m.asked (without_reading m.readings (node_of e))) (node_of e))
+          (sym none) tt;
       others = λ j apart. others_left m.readings (node_of e) j apart;
       still = λ j tid server apart. all_stays m.table m.asked (asking cable.net j) tid (zones_at cable.net server);
     }),
   )
 
-  reads : (read : ZoneReading) → n.atp.reading ≡ Some read → Reads cable.net cable.router m.past m.asked m.readings (node_of e) read
+  reads : (read : ZoneReading) → n.atp.reading ≡ Some read
+      → Reads cable.net cable.router m.past m.asked m.readings (node_of e) read
   reads read is = subst (IsReading cable m (node_of e)) is (t.readings (node_of e) n stands)
 
   pub fails_step : (ts : List Transaction) → FailsReading (Changed ts) → IsSaid e r × Becomes A cable m e x r ts
   fails_step ts s =
       let its = reads s.read s.reads in
       no_longer ts s.asked s.reading (ap sets_table s.report)
-      (so_at A cable m (moved m m.table m.asked (without_reading m.readings (node_of e))) e (event.Timer (node_of e) s.time) r report.ZonesFailed (fired_at e s.time s.act) s.report
+      (so_at A cable m (moved m m.table m.asked (without_reading m.readings (node_of e))) e
+      (event.Timer (node_of e) s.time) r report.ZonesFailed (fired_at e s.time s.act) s.report
       (tt, record { since = its.since; began = its.began; becomes = refl }))
 
-  pub reading_ends_step : (ts : List Transaction) → EndsReading cable.net (node_of e) (Changed ts) → IsSaid e r × Becomes A cable m e x r ts
+  pub reading_ends_step : (ts : List Transaction) → EndsReading cable.net (node_of e) (Changed ts) → IsSaid e r
+      × Becomes A cable m e x r ts
   reading_ends_step ts s = go s.tells
     where
       came : ComesToReading cable.net (node_of e) (Changed ts)
@@ -72,32 +83,45 @@ module _ (A : Type 0) (laws : Laws A) (w : WorldState) (cable : Cable) (m : AtpM
       go : Tells (came.read).names came.packet r → IsSaid e r × Becomes A cable m e x r ts
       go (All h) =
           no_longer ts s.asked s.reading (ap sets_table h.tells)
-          (so_at A cable m (moved m m.table m.asked (without_reading m.readings (node_of e))) e (event.Deliver came.which (node_of e)) r (report.Zones ((came.read).names ++ (h.page).names)) (delivered_at e came.which came.act) h.tells (
+          (so_at A cable m (moved m m.table m.asked (without_reading m.readings (node_of e))) e
+          (event.Deliver came.which (node_of e)) r (report.Zones ((came.read).names ++ (h.page).names))
+          (delivered_at e came.which came.act) h.tells (
             tt,
             record {
               since = its.since;
               began = its.began;
-              tells = λ stood. has_all laws.reading cable.net cable.router m.past m.asked m.readings (node_of e) came.read its came.from came.newest came.place came.ends came.packet came.part h.page h.spelled h.last m.table stood;
+              tells = λ stood. has_all laws.reading cable.net cable.router m.past m.asked m.readings
+                  (node_of e) came.read its came.from came.newest came.place came.ends came.packet came.part h.page
+                  h.spelled h.last m.table stood;
               becomes = refl;
             },
           ))
       go (TooMany h) =
-          let few = fits laws.reading cable.net cable.router m.past m.asked m.readings (node_of e) came.read its came.from came.newest came.place came.ends came.packet came.part h.page h.spelled in
+          let few = fits laws.reading cable.net cable.router m.past m.asked m.readings
+          (node_of e) came.read its came.from came.newest came.place came.ends came.packet came.part h.page
+          h.spelled in
           let many = h.many in
           absurd (omega (arith, few, many))
-      go (Faulty h) = absurd (no_fault laws.reading cable.net cable.router m.past m.asked m.readings (node_of e) came.read its came.from came.newest came.place came.ends came.packet came.part h.fault h.first)
+      go (Faulty h) = absurd (no_fault laws.reading cable.net cable.router m.past m.asked m.readings
+          (node_of e) came.read its came.from came.newest came.place came.ends came.packet came.part h.fault h.first)
 
   -- ---- readings that begin and go on
 
   -- the node asks the router for the page after these names
-  asks_page : (server tid : ℕ) (names : List (List ℕ)) (readings : List Reading) (since : ℕ) → cable.router ≡ Some server → length names ≤ 1024 → since_of readings (node_of e) ≡ Some since → since ≤ length m.past →
-      ((table : List (List ℕ)) → StoodSince (m.past ++ m.table ∷ []) since table → BeginsTable table names) → IsReading cable (moved m m.table (page_asked cable.net (node_of e) (zones_at cable.net server) names tid ∷ m.asked) readings) (node_of e) (Some (record { tid = tid; names = names }))
+  asks_page : (server tid : ℕ) (names : List (List ℕ)) (readings : List Reading) (since : ℕ) → cable.router
+      ≡ Some server → length names ≤ 1024 → since_of readings (node_of e) ≡ Some since → since ≤ length m.past →
+      ((table : List (List ℕ)) → StoodSince (m.past ++ m.table ∷ []) since table → BeginsTable table names)
+      → IsReading cable (moved m m.table
+      (page_asked cable.net (node_of e) (zones_at cable.net server) names tid ∷ m.asked) readings) (node_of e)
+      (Some (record { tid = tid; names = names }))
   asks_page server tid names readings since is_router few began begun begins = record {
     server = server;
     is_router = is_router;
     first = record {
       transaction = page_asked cable.net (node_of e) (zones_at cable.net server) names tid;
-      newest = λ i. cond (same_address_itself (asking cable.net (node_of e)) i && eq-eqb tid tid refl i) (Some (page_asked cable.net (node_of e) (zones_at cable.net server) names tid)) (transaction_of m.asked (asking cable.net (node_of e)) tid);
+      newest = λ i. cond (same_address_itself (asking cable.net (node_of e)) i && eq-eqb tid tid refl i)
+          (Some (page_asked cable.net (node_of e) (zones_at cable.net server) names tid))
+          (transaction_of m.asked (asking cable.net (node_of e)) tid);
       asked_it = refl;
     };
     user = refl;
@@ -110,7 +134,8 @@ module _ (A : Type 0) (laws : Laws A) (w : WorldState) (cable : Cable) (m : AtpM
     pages = λ answer among. no_answers answer among;
   }
 
-  pub reads_step : n.seat.router ≡ cable.router → (ts : List Transaction) → BeginsReading cable.net (node_of e) n.seat.router (Changed ts) → IsSaid e r × Becomes A cable m e x r ts
+  pub reads_step : n.seat.router ≡ cable.router → (ts : List Transaction)
+      → BeginsReading cable.net (node_of e) n.seat.router (Changed ts) → IsSaid e r × Becomes A cable m e x r ts
   reads_step routed ts s = (
     allows.0,
     subst (Becomes A cable m e x r) (sym s.asked) (record {
@@ -121,8 +146,14 @@ module _ (A : Type 0) (laws : Laws A) (w : WorldState) (cable : Cable) (m : AtpM
       here = table_kept A laws w cable m wires e n x r t stands keeps (ap sets_table s.report);
       elsewhere = λ j y apart h. h;
       reading = subst (IsReading cable (moved m m.table (new ∷ m.asked) readings) (node_of e)) (sym s.reading)
-          (asks_page s.server s.tid [] readings (length m.past) is_router (omega arith) (ap (λ b. option_map (λ (y : Reading). y.since) (cond b (Some (record { node = node_of e; since = length m.past })) (find (λ (y : Reading). y.node == node_of e) m.readings))) (eq-eqb (node_of e) (node_of e) refl)) (omega arith) (λ table stood. record { rest = table; begins = refl }));
-      others = λ j apart. ap (λ b. option_map (λ (y : Reading). y.since) (cond b (Some (record { node = node_of e; since = length m.past })) (find (λ (y : Reading). y.node == j) m.readings))) apart;
+          (asks_page s.server s.tid [] readings (length m.past) is_router (omega arith)
+          (ap (λ b. option_map (λ (y : Reading). y.since)
+          (cond b (Some (record { node = node_of e; since = length m.past }))
+          (find (λ (y : Reading). y.node == node_of e) m.readings))) (eq-eqb (node_of e) (node_of e) refl))
+          (omega arith) (λ table stood. record { rest = table; begins = refl }));
+      others = λ j apart. ap (λ b. option_map (λ (y : Reading). y.since)
+          (cond b (Some (record { node = node_of e; since = length m.past }))
+          (find (λ (y : Reading). y.node == j) m.readings))) apart;
       still = still_theirs A laws w cable m wires e n x r t stands keeps new refl;
     }),
   )
@@ -137,24 +168,30 @@ module _ (A : Type 0) (laws : Laws A) (w : WorldState) (cable : Cable) (m : AtpM
       readings = record { node = node_of e; since = length m.past } ∷ m.readings
 
       allows : Allows cable m e r (moved m m.table (new ∷ m.asked) readings)
-      allows = so_at A cable m (moved m m.table (new ∷ m.asked) readings) e (event.Call (node_of e) Zones) r (report.Begun s.tid) (called_at e Zones s.act) s.report
+      allows = so_at A cable m (moved m m.table (new ∷ m.asked) readings) e (event.Call (node_of e) Zones) r
+          (report.Begun s.tid) (called_at e Zones s.act) s.report
           (tt, record { router = s.server; is_router = is_router; becomes = refl })
 
   -- a page came that is not the last
-  pub turns_step : (ts : List Transaction) → TurnsPage cable.net (node_of e) (Changed ts) → IsSaid e r × Becomes A cable m e x r ts
+  pub turns_step : (ts : List Transaction) → TurnsPage cable.net (node_of e) (Changed ts) → IsSaid e r
+      × Becomes A cable m e x r ts
   turns_step ts s = (
     allows.0,
-    subst (Becomes A cable m e x r) (sym (s.asked ∙ ap (λ a. page_asked cable.net (node_of e) a names s.tid ∷ m.asked) from_router)) (record {
-      table = m.table;
-      is_table = t.table;
-      readings = m.readings;
-      allows = allows.1;
-      here = table_kept A laws w cable m wires e n x r t stands keeps (ap sets_table s.report);
-      elsewhere = λ j y apart h. h;
-      reading = subst (IsReading cable (moved m m.table (new ∷ m.asked) m.readings) (node_of e)) (sym s.reading) (asks_page its.server s.tid names m.readings its.since its.is_router few its.began (let lt = its.begun in omega (arith, lt)) (λ table stood. begin table (stood_before m.past m.table its.since table stood)));
-      others = λ j apart. refl;
-      still = still_theirs A laws w cable m wires e n x r t stands keeps new refl;
-    }),
+    subst (Becomes A cable m e x r)
+        (sym (s.asked ∙ ap (λ a. page_asked cable.net (node_of e) a names s.tid ∷ m.asked) from_router)) (record {
+          table = m.table;
+          is_table = t.table;
+          readings = m.readings;
+          allows = allows.1;
+          here = table_kept A laws w cable m wires e n x r t stands keeps (ap sets_table s.report);
+          elsewhere = λ j y apart h. h;
+          reading = subst (IsReading cable (moved m m.table (new ∷ m.asked) m.readings) (node_of e)) (sym s.reading)
+              (asks_page its.server s.tid names m.readings its.since its.is_router few its.began
+              (let lt = its.begun in omega (arith, lt))
+              (λ table stood. begin table (stood_before m.past m.table its.since table stood)));
+          others = λ j apart. refl;
+          still = still_theirs A laws w cable m wires e n x r t stands keeps new refl;
+        }),
   )
     where
       came : ComesToReading cable.net (node_of e) (Changed ts)
@@ -167,10 +204,13 @@ module _ (A : Type 0) (laws : Laws A) (w : WorldState) (cable : Cable) (m : AtpM
       names = (came.read).names ++ (s.page).names
 
       from_router : came.from ≡ zones_at cable.net its.server
-      from_router = comes_from_router laws.reading cable.net cable.router m.past m.asked m.readings (node_of e) came.read its came.from came.newest came.place came.ends came.packet came.part
+      from_router = comes_from_router laws.reading cable.net cable.router m.past m.asked m.readings
+          (node_of e) came.read its came.from came.newest came.place came.ends came.packet came.part
 
       begin : (table : List (List ℕ)) → StoodSince m.past its.since table → BeginsTable table names
-      begin table stood = goes_on laws.reading cable.net cable.router m.past m.asked m.readings (node_of e) came.read its came.from came.newest came.place came.ends came.packet came.part s.page s.spelled table stood
+      begin table stood = goes_on laws.reading cable.net cable.router m.past m.asked m.readings
+          (node_of e) came.read its came.from came.newest came.place came.ends came.packet came.part s.page s.spelled
+          table stood
 
       few : length names ≤ 1024
       few = let most = s.few in omega (arith, most, length-append (came.read).names (s.page).names)
@@ -179,5 +219,17 @@ module _ (A : Type 0) (laws : Laws A) (w : WorldState) (cable : Cable) (m : AtpM
       new = page_asked cable.net (node_of e) (zones_at cable.net its.server) names s.tid
 
       allows : Allows cable m e r (moved m m.table (new ∷ m.asked) m.readings)
-      allows = so_at A cable m (moved m m.table (new ∷ m.asked) m.readings) e (event.Deliver came.which (node_of e)) r (report.Begun s.tid) (delivered_at e came.which came.act) s.report
-          (tt, record { router = its.server; is_router = its.is_router; since = its.since; began = its.began; names = names; few = few; tells = λ stood. begin m.table stood; becomes = refl })
+      allows = so_at A cable m (moved m m.table (new ∷ m.asked) m.readings) e (event.Deliver came.which (node_of e)) r
+          (report.Begun s.tid) (delivered_at e came.which came.act) s.report (
+            tt,
+            record {
+              router = its.server;
+              is_router = its.is_router;
+              since = its.since;
+              began = its.began;
+              names = names;
+              few = few;
+              tells = λ stood. begin m.table stood;
+              becomes = refl;
+            },
+          )

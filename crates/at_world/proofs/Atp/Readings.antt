@@ -1,5 +1,6 @@
 -- A node that reads the zone list, page by page: what is known of its names, and of the answers to its transaction.
-use Rattle.std.proofs.Common.{◌≡◌, ◌⊎◌, inl, inr, ℕ, zero, suc, ◌+◌, ◌-◌, ◌^◌, ◌<◌, ◌≤◌, Bool, true, false, cond, List, [], ◌∷◌, ◌++◌, length, Option, Some, refl, sym, ap, subst, ◌∙◌, append-nil, arith, lit<}
+use Rattle.std.proofs.Common.{◌≡◌, ◌⊎◌, inl, inr, ℕ, zero, suc, ◌+◌, ◌-◌, ◌^◌, ◌<◌, ◌≤◌, Bool, true, false, cond, List}
+use Rattle.std.proofs.Common.{[], ◌∷◌, ◌++◌, length, Option, Some, refl, sym, ap, subst, ◌∙◌, append-nil, arith, lit<}
 use Rattle.std.specs.Prelude.{slice_get, slice_index_or}
 use Rattle.std.specs.List.{Contains}
 use Rattle.std.proofs.lemmas.List.{length-append, length-drop}
@@ -26,15 +27,19 @@ pub record ReadingLaws : Type 0 where
   pub lawful : (table : List (List ℕ)) (start : ℕ) → IsTable table → IsLawfulPage (page_of table start)
   pub one_start : (user : List ℕ) (m k : ℕ) → RequestSpells user m → RequestSpells user k → m ≡ k
   pub one_page : (user bytes : List ℕ) (p q : Page) → Spells user bytes p → Spells user bytes q → p ≡ q
-  pub faultless : (user bytes : List ℕ) (p : Page) → Spells user bytes p → (fault : ZipFault) → IsFirstFault fault user bytes → ⊥
+  pub faultless : (user bytes : List ℕ) (p : Page) → Spells user bytes p → (fault : ZipFault)
+      → IsFirstFault fault user bytes → ⊥
   pub longest : (table : List (List ℕ)) (start : ℕ) → IsPageFrom table start (page_of table start)
-  pub begins : (table read : List (List ℕ)) → BeginsTable table read → BeginsTable table (read ++ (page_of table (place_after read)).names)
-  pub whole : (table read : List (List ℕ)) → BeginsTable table read → (page_of table (place_after read)).last ≡ true → read ++ (page_of table (place_after read)).names ≡ table
+  pub begins : (table read : List (List ℕ)) → BeginsTable table read
+      → BeginsTable table (read ++ (page_of table (place_after read)).names)
+  pub whole : (table read : List (List ℕ)) → BeginsTable table read → (page_of table (place_after read)).last ≡ true
+      → read ++ (page_of table (place_after read)).names ≡ table
 
 -- ---- what is known of a reading
 
 -- an answer is the page after these names of the table at some moment since then
-pub record PageAt (past : List (List (List ℕ))) (since : ℕ) (names : List (List ℕ)) (answer : List Packet) : Type 0 where
+pub record PageAt (past : List (List (List ℕ))) (since : ℕ) (names : List (List ℕ))
+    (answer : List Packet) : Type 0 where
   pub moment : ℕ
   pub late : since ≤ moment
   pub within : moment < length past
@@ -43,7 +48,8 @@ pub record PageAt (past : List (List (List ℕ))) (since : ℕ) (names : List (L
 
 -- A node that reads the list has a transaction that asked the router for the page after the names that it has. These
 -- begin the table that stood since the reading began, and each answer is the page of a table since then.
-pub record Reads (net : ℕ) (router : Option ℕ) (past : List (List (List ℕ))) (asked : List Transaction) (readings : List Reading) (k : ℕ) (r : ZoneReading) : Type 0 where
+pub record Reads (net : ℕ) (router : Option ℕ) (past : List (List (List ℕ))) (asked : List Transaction)
+    (readings : List Reading) (k : ℕ) (r : ZoneReading) : Type 0 where
   pub server : ℕ
   pub is_router : router ≡ Some server
   pub first : Asked asked (asking net k) r.tid (zones_at net server)
@@ -60,50 +66,74 @@ pub record Reads (net : ℕ) (router : Option ℕ) (past : List (List (List ℕ)
 pub record Stays (table : List (List ℕ)) (before after : Transaction) : Type 0 where
   pub user : after.user ≡ before.user
   pub xo : after.xo ≡ before.xo
-  pub answers : (answer : List Packet) → Contains after.answers answer → Contains before.answers answer ⊎ ((start : ℕ) × RequestSpells before.user start × (answer ≡ page_answer table start))
+  pub answers : (answer : List Packet) → Contains after.answers answer → Contains before.answers answer
+      ⊎ ((start : ℕ) × RequestSpells before.user start × (answer ≡ page_answer table start))
 
 -- the newest transaction of a number that asked a router stays so
-abbrev pub StaysAsked : List (List ℕ) → (before after : List Transaction) → (who : Address) (tid : ℕ) (at : Address) → Type 0
-StaysAsked table before after who tid at = (a : Asked before who tid at) → (b : Asked after who tid at) × Stays table a.transaction b.transaction
+abbrev pub StaysAsked : List (List ℕ) → (before after : List Transaction) → (who : Address) (tid : ℕ) (at : Address)
+    → Type 0
+StaysAsked table before after who tid at = (a : Asked before who tid at) → (b : Asked after who tid at)
+    × Stays table a.transaction b.transaction
 
 -- an answer joins its transaction: it is a page of the table, if that transaction asked this address
-pub joined_stays : (table : List (List ℕ)) (ts : List Transaction) (from : Address) (tid : ℕ) (packets : List Packet) (who : Address) (k : ℕ) (at : Address) →
-    ((u : Transaction) → transaction_of ts from tid ≡ Some u → u.responder ≡ at → (start : ℕ) × RequestSpells u.user start × (packets ≡ page_answer table start)) → StaysAsked table ts (answered ts from tid packets) who k at
-joined_stays table ts from tid packets who k at page a = let more = answer_joins ts from tid packets who k a.transaction a.newest in go more.0 more.1 more.2
+pub joined_stays : (table : List (List ℕ)) (ts : List Transaction) (from : Address) (tid : ℕ) (packets : List Packet)
+    (who : Address) (k : ℕ) (at : Address) →
+    ((u : Transaction) → transaction_of ts from tid ≡ Some u → u.responder ≡ at → (start : ℕ)
+    × RequestSpells u.user start × (packets ≡ page_answer table start))
+    → StaysAsked table ts (answered ts from tid packets) who k at
+joined_stays table ts from tid packets who k at page a = let more =
+    answer_joins ts from tid packets who k a.transaction a.newest in go more.0 more.1 more.2
   where
-    go : (v : Transaction) → transaction_of (answered ts from tid packets) who k ≡ Some v → Becomes from tid packets who k a.transaction v → (b : Asked (answered ts from tid packets) who k at) × Stays table a.transaction b.transaction
+    go : (v : Transaction) → transaction_of (answered ts from tid packets) who k ≡ Some v
+        → Becomes from tid packets who k a.transaction v → (b : Asked (answered ts from tid packets) who k at)
+        × Stays table a.transaction b.transaction
     go v is (inl same) = (
       record { transaction = v; newest = is; asked_it = ap (λ (t : Transaction). t.responder) same ∙ a.asked_it },
-      record { user = ap (λ (t : Transaction). t.user) same; xo = ap (λ (t : Transaction). t.xo) same; answers = λ answer among. inl (subst (λ (t : Transaction). Contains t.answers answer) same among) },
+      record {
+        user = ap (λ (t : Transaction). t.user) same;
+        xo = ap (λ (t : Transaction). t.xo) same;
+        answers = λ answer among. inl (subst (λ (t : Transaction). Contains t.answers answer) same among);
+      },
     )
     go v is (inr (from_is, tid_is, same)) = (
       record { transaction = v; newest = is; asked_it = ap (λ (t : Transaction). t.responder) same ∙ a.asked_it },
       record {
         user = ap (λ (t : Transaction). t.user) same;
         xo = ap (λ (t : Transaction). t.xo) same;
-        answers = λ answer among. new answer (Contains-append_cases (a.transaction).answers (packets ∷ []) answer (subst (λ (t : Transaction). Contains t.answers answer) same among));
+        answers = λ answer among. new answer
+            (Contains-append_cases (a.transaction).answers (packets ∷ []) answer
+            (subst (λ (t : Transaction). Contains t.answers answer) same among));
       },
     )
       where
-        new : (answer : List Packet) → Contains (a.transaction).answers answer ⊎ Contains (packets ∷ []) answer → Contains (a.transaction).answers answer ⊎ ((start : ℕ) × RequestSpells (a.transaction).user start × (answer ≡ page_answer table start))
+        new : (answer : List Packet) → Contains (a.transaction).answers answer ⊎ Contains (packets ∷ []) answer
+            → Contains (a.transaction).answers answer
+            ⊎ ((start : ℕ) × RequestSpells (a.transaction).user start × (answer ≡ page_answer table start))
         new answer (inl old) = inl old
         new answer (inr one) =
             let its = page a.transaction ((λ i. transaction_of ts (from_is i) (tid_is i)) ∙ a.newest) a.asked_it in
             inr (its.0, its.1, sym (one_answer packets answer one) ∙ its.2)
 
 -- what was asked stays if another number is drawn
-pub drawn_stays : (table : List (List ℕ)) (ts : List Transaction) (new : Transaction) (who : Address) (k : ℕ) (at : Address) → is_transaction who k new ≡ false → StaysAsked table ts (new ∷ ts) who k at
+pub drawn_stays : (table : List (List ℕ)) (ts : List Transaction) (new : Transaction) (who : Address) (k : ℕ)
+    (at : Address) → is_transaction who k new ≡ false → StaysAsked table ts (new ∷ ts) who k at
 drawn_stays table ts new who k at apart a = (
-  record { transaction = a.transaction; newest = ap (λ b. cond b (Some new) (transaction_of ts who k)) apart ∙ a.newest; asked_it = a.asked_it },
+  record {
+    transaction = a.transaction;
+    newest = ap (λ b. cond b (Some new) (transaction_of ts who k)) apart ∙ a.newest;
+    asked_it = a.asked_it;
+  },
   record { user = refl; xo = refl; answers = λ answer among. inl among },
 )
 
-pub all_stays : (table : List (List ℕ)) (ts : List Transaction) (who : Address) (k : ℕ) (at : Address) → StaysAsked table ts ts who k at
+pub all_stays : (table : List (List ℕ)) (ts : List Transaction) (who : Address) (k : ℕ) (at : Address)
+    → StaysAsked table ts ts who k at
 all_stays table ts who k at a = (a, record { user = refl; xo = refl; answers = λ answer among. inl among })
 
 -- ---- readings that go on
 
-at_later : (past : List (List (List ℕ))) (x : List (List ℕ)) (i : ℕ) → i < length past → slice_index_or (past ++ x ∷ []) i [] ≡ slice_index_or past i []
+at_later : (past : List (List (List ℕ))) (x : List (List ℕ)) (i : ℕ) → i < length past
+    → slice_index_or (past ++ x ∷ []) i [] ≡ slice_index_or past i []
 at_later [] x i lt = absurd (omega (arith, lt))
 at_later (y ∷ past) x zero lt = refl
 at_later (y ∷ past) x (suc i) lt = at_later past x i (omega (arith, lt))
@@ -116,10 +146,13 @@ pub longer : (past : List (List (List ℕ))) (x : List (List ℕ)) → length (p
 longer past x = length-append past (x ∷ [])
 
 -- a table that stood until now stood until the moment before
-pub stood_before : (past : List (List (List ℕ))) (x : List (List ℕ)) (since : ℕ) (table : List (List ℕ)) → StoodSince (past ++ x ∷ []) since table → StoodSince past since table
-stood_before past x since table stood moment late within = sym (at_later past x moment within) ∙ stood moment late (omega (arith, within, longer past x))
+pub stood_before : (past : List (List (List ℕ))) (x : List (List ℕ)) (since : ℕ) (table : List (List ℕ))
+    → StoodSince (past ++ x ∷ []) since table → StoodSince past since table
+stood_before past x since table stood moment late within = sym (at_later past x moment within)
+    ∙ stood moment late (omega (arith, within, longer past x))
 
-later_page : (past : List (List (List ℕ))) (x : List (List ℕ)) (since : ℕ) (names : List (List ℕ)) (answer : List Packet) → PageAt past since names answer → PageAt (past ++ x ∷ []) since names answer
+later_page : (past : List (List (List ℕ))) (x : List (List ℕ)) (since : ℕ) (names : List (List ℕ))
+    (answer : List Packet) → PageAt past since names answer → PageAt (past ++ x ∷ []) since names answer
 later_page past x since names answer p = record {
   moment = p.moment;
   late = p.late;
@@ -129,7 +162,9 @@ later_page past x since names answer p = record {
 }
 
 -- the page of the table of this moment
-page_now : (past : List (List (List ℕ))) (x : List (List ℕ)) (since : ℕ) (names : List (List ℕ)) (answer : List Packet) → since < length past → IsTable x → answer ≡ page_answer x (place_after names) → PageAt (past ++ x ∷ []) since names answer
+page_now : (past : List (List (List ℕ))) (x : List (List ℕ)) (since : ℕ) (names : List (List ℕ)) (answer : List Packet)
+    → since < length past → IsTable x → answer ≡ page_answer x (place_after names)
+    → PageAt (past ++ x ∷ []) since names answer
 page_now past x since names answer lt table is = record {
   moment = length past;
   late = omega (arith, lt);
@@ -139,8 +174,13 @@ page_now past x since names answer lt table is = record {
 }
 
 -- a reading whose transaction stays what it was
-pub still_reads : (laws : ReadingLaws) (net : ℕ) (router : Option ℕ) (past : List (List (List ℕ))) (table : List (List ℕ)) (asked asked' : List Transaction) (readings readings' : List Reading) (k : ℕ) (read : ZoneReading) → IsTable table →
-    (r : Reads net router past asked readings k read) (b : Asked asked' (asking net k) read.tid (zones_at net r.server)) → Stays table (r.first).transaction b.transaction → since_of readings' k ≡ since_of readings k → Reads net router (past ++ table ∷ []) asked' readings' k read
+pub still_reads : (laws : ReadingLaws) (net : ℕ) (router : Option ℕ) (past : List (List (List ℕ)))
+    (table : List (List ℕ)) (asked asked' : List Transaction) (readings readings' : List Reading) (k : ℕ)
+    (read : ZoneReading) → IsTable table →
+    (r : Reads net router past asked readings k read)
+    (b : Asked asked' (asking net k) read.tid (zones_at net r.server))
+    → Stays table (r.first).transaction b.transaction → since_of readings' k ≡ since_of readings k
+    → Reads net router (past ++ table ∷ []) asked' readings' k read
 still_reads laws net router past table asked asked' readings readings' k read is_table r b s since = record {
   server = r.server;
   is_router = r.is_router;
@@ -155,12 +195,15 @@ still_reads laws net router past table asked asked' readings readings' k read is
   pages = λ answer among. page answer (s.answers answer among);
 }
   where
-    page : (answer : List Packet) → Contains ((r.first).transaction).answers answer ⊎ ((start : ℕ) × RequestSpells ((r.first).transaction).user start × (answer ≡ page_answer table start)) → PageAt (past ++ table ∷ []) r.since read.names answer
+    page : (answer : List Packet) → Contains ((r.first).transaction).answers answer
+        ⊎ ((start : ℕ) × RequestSpells ((r.first).transaction).user start × (answer ≡ page_answer table start))
+        → PageAt (past ++ table ∷ []) r.since read.names answer
     page answer (inl old) = later_page past table r.since read.names answer (r.pages answer old)
     page answer (inr now) =
         let few = r.few in
         let asks = laws.asks (place_after read.names) (omega arith) (small (length read.names) few) in
-        let start : now.0 ≡ place_after read.names = laws.one_start (request_user (place_after read.names)) now.0 (place_after read.names) (subst (λ l. RequestSpells l now.0) r.user now.1) asks in
+        let start : now.0 ≡ place_after read.names = laws.one_start (request_user (place_after read.names)) now.0
+        (place_after read.names) (subst (λ l. RequestSpells l now.0) r.user now.1) asks in
         page_now past table r.since read.names answer r.begun is_table (now.2 ∙ ap (page_answer table) start)
       where
         small : (n : ℕ) → n ≤ 1024 → 1 + n < 2 ^ 16
@@ -168,8 +211,10 @@ still_reads laws net router past table asked asked' readings readings' k read is
 
 -- ---- the page that comes to a reading
 
-module _ (laws : ReadingLaws) (net : ℕ) (router : Option ℕ) (past : List (List (List ℕ))) (asked : List Transaction) (readings : List Reading) (k : ℕ) (read : ZoneReading) (r : Reads net router past asked readings k read)
-    (from : Address) (newest : Asked asked (asking net k) read.tid from) (place : ℕ) (ends : Bool) (packet : Packet) (part : IsPart newest.transaction place ends packet) where
+module _ (laws : ReadingLaws) (net : ℕ) (router : Option ℕ) (past : List (List (List ℕ))) (asked : List Transaction)
+    (readings : List Reading) (k : ℕ) (read : ZoneReading) (r : Reads net router past asked readings k read)
+    (from : Address) (newest : Asked asked (asking net k) read.tid from) (place : ℕ) (ends : Bool) (packet : Packet)
+    (part : IsPart newest.transaction place ends packet) where
   one : newest.transaction ≡ (r.first).transaction
   one = some_transaction newest.transaction (r.first).transaction (sym newest.newest ∙ (r.first).newest)
 
@@ -183,38 +228,50 @@ module _ (laws : ReadingLaws) (net : ℕ) (router : Option ℕ) (past : List (Li
   table_then = slice_index_or past its.moment []
 
   is_packet : page_packet table_then (place_after read.names) ≡ packet
-  is_packet = only_packet (page_packet table_then (place_after read.names)) packet place (ap (λ l. slice_get l place) (sym its.is) ∙ part.there)
+  is_packet = only_packet (page_packet table_then (place_after read.names)) packet place
+      (ap (λ l. slice_get l place) (sym its.is) ∙ part.there)
 
   abbrev then_page : Page
   then_page = page_of table_then (place_after read.names)
 
   spells_it : Spells packet.user packet.data_ then_page
   spells_it = subst (λ (p : Packet). Spells p.user p.data_ then_page) is_packet
-      (subst (λ l. Spells (page_user then_page) l then_page) (append-nil (page_data then_page)) (laws.written then_page [] (laws.lawful table_then (place_after read.names) its.is_table)))
+      (subst (λ l. Spells (page_user then_page) l then_page) (append-nil (page_data then_page))
+      (laws.written then_page [] (laws.lawful table_then (place_after read.names) its.is_table)))
 
   is_page : (page : Page) → Spells packet.user packet.data_ page → page ≡ then_page
   is_page page spells = laws.one_page packet.user packet.data_ page then_page spells spells_it
 
   -- it is the page of a table that stood
-  page_of_stood : (page : Page) → Spells packet.user packet.data_ page → (table : List (List ℕ)) → StoodSince past r.since table → page ≡ page_of table (place_after read.names)
-  page_of_stood page spells table stood = is_page page spells ∙ ap (λ t. page_of t (place_after read.names)) (stood its.moment its.late its.within)
+  page_of_stood : (page : Page) → Spells packet.user packet.data_ page → (table : List (List ℕ))
+      → StoodSince past r.since table → page ≡ page_of table (place_after read.names)
+  page_of_stood page spells table stood = is_page page spells
+      ∙ ap (λ t. page_of t (place_after read.names)) (stood its.moment its.late its.within)
 
-  pub goes_on : (page : Page) → Spells packet.user packet.data_ page → (table : List (List ℕ)) → StoodSince past r.since table → BeginsTable table (read.names ++ page.names)
-  goes_on page spells table stood = subst (λ (p : Page). BeginsTable table (read.names ++ p.names)) (sym (page_of_stood page spells table stood)) (laws.begins table read.names (r.begins table stood))
+  pub goes_on : (page : Page) → Spells packet.user packet.data_ page → (table : List (List ℕ))
+      → StoodSince past r.since table → BeginsTable table (read.names ++ page.names)
+  goes_on page spells table stood = subst (λ (p : Page). BeginsTable table (read.names ++ p.names))
+      (sym (page_of_stood page spells table stood)) (laws.begins table read.names (r.begins table stood))
 
-  pub has_all : (page : Page) → Spells packet.user packet.data_ page → page.last ≡ true → (table : List (List ℕ)) → StoodSince past r.since table → read.names ++ page.names ≡ table
+  pub has_all : (page : Page) → Spells packet.user packet.data_ page → page.last ≡ true → (table : List (List ℕ))
+      → StoodSince past r.since table → read.names ++ page.names ≡ table
   has_all page spells last table stood =
       let same = page_of_stood page spells table stood in
-      ap (λ (p : Page). read.names ++ p.names) same ∙ laws.whole table read.names (r.begins table stood) (ap (λ (p : Page). p.last) (sym same) ∙ last)
+      ap (λ (p : Page). read.names ++ p.names) same
+      ∙ laws.whole table read.names (r.begins table stood) (ap (λ (p : Page). p.last) (sym same) ∙ last)
 
   pub fits : (page : Page) → Spells packet.user packet.data_ page → length read.names + length page.names ≤ 1024
-  fits page spells = subst (λ (p : Page). length read.names + length p.names ≤ 1024) (sym (is_page page spells)) (few table_then its.is_table (laws.longest table_then (place_after read.names)))
+  fits page spells = subst (λ (p : Page). length read.names + length p.names ≤ 1024) (sym (is_page page spells))
+      (few table_then its.is_table (laws.longest table_then (place_after read.names)))
     where
-      few : (table : List (List ℕ)) → IsTable table → IsPageFrom table (place_after read.names) then_page → length read.names + length then_page.names ≤ 1024
+      few : (table : List (List ℕ)) → IsTable table → IsPageFrom table (place_after read.names) then_page
+          → length read.names + length then_page.names ≤ 1024
       few table is p =
           let least = r.few in
           let most = is.count in
-          let left : length table - (place_after read.names - 1) ≡ length (then_page.names ++ p.rest) = sym (length-drop (place_after read.names - 1) table) ∙ ap (length {A = List ℕ}) p.begins in
+          let left : length table - (place_after read.names - 1)
+          ≡ length (then_page.names ++ p.rest) = sym (length-drop (place_after read.names - 1) table)
+          ∙ ap (length {A = List ℕ}) p.begins in
           omega (arith, least, most, left, length-append then_page.names p.rest)
 
   pub no_fault : (fault : ZipFault) → IsFirstFault fault packet.user packet.data_ → ⊥

@@ -28,11 +28,14 @@ use Rattle.at_world.proofs.Atp.Tie.{Laws, Becomes, HasTable, IsReading, AtpTie, 
 abbrev pub Allows : {A : Type 0} → Cable → AtpMachine → Event A → Report A → AtpMachine → Type 0
 Allows c m e r m' = IsSaid e r × StepBy c m e r m' (owner_of e r)
 
-pub so_at : (A : Type 0) (c : Cable) (m m' : AtpMachine) (e e' : Event A) (r r' : Report A) → e ≡ e' → r ≡ r' → Allows c m e' r' m' → Allows c m e r m'
-so_at A c m m' e e' r r' same told allows = subst (λ x. Allows c m x r m') (sym same) (subst (λ x. Allows c m e' x m') (sym told) allows)
+pub so_at : (A : Type 0) (c : Cable) (m m' : AtpMachine) (e e' : Event A) (r r' : Report A) → e ≡ e' → r ≡ r'
+    → Allows c m e' r' m' → Allows c m e r m'
+so_at A c m m' e e' r r' same told allows =
+    subst (λ x. Allows c m x r m') (sym same) (subst (λ x. Allows c m e' x m') (sym told) allows)
 
 -- a report that says nothing of transactions leaves the machine as it was
-pub plainly : (A : Type 0) (c : Cable) (m : AtpMachine) (e : Event A) (r : Report A) → is_plain (act_of e) r ≡ true → Allows c m e r (next m)
+pub plainly : (A : Type 0) (c : Cable) (m : AtpMachine) (e : Event A) (r : Report A) → is_plain (act_of e) r ≡ true
+    → Allows c m e r (next m)
 plainly A c m (event.Call node call) (report.Refused number) h = (tt, refl)
 plainly A c m (event.Call node call) report.NoMemory h = (tt, refl)
 plainly A c m (event.Deliver which node) (report.Refused number) h = (tt, refl)
@@ -58,30 +61,42 @@ plain_sets_none (Fires time) report.TableSet h = absurd (false≢true h)
 plain_sets_none Forges report.TableSet h = absurd (false≢true h)
 plain_sets_none act r h = refl
 
-module _ (A : Type 0) (laws : Laws A) (w : WorldState) (cable : Cable) (m : AtpMachine) (wires : List Wire) (e : Event A) (n x : NodeState) (r : Report A) (t : AtpTie A w cable wires m) (stands : node_at w (node_of e) ≡ Some n)
+module _ (A : Type 0) (laws : Laws A) (w : WorldState) (cable : Cable) (m : AtpMachine) (wires : List Wire)
+    (e : Event A) (n x : NodeState) (r : Report A) (t : AtpTie A w cable wires m)
+    (stands : node_at w (node_of e) ≡ Some n)
     (keeps : sets_table r ≡ false → x.atp.table ≡ n.atp.table) where
   -- ---- readings and tables that stay
 
   -- the newest transaction by which the node reads stays what it was
   abbrev pub StaysMine : List (List ℕ) → List Transaction → Type 0
-  StaysMine table ts = (read : ZoneReading) (server : ℕ) → n.atp.reading ≡ Some read → StaysAsked table m.asked ts (asking cable.net (node_of e)) read.tid (zones_at cable.net server)
+  StaysMine table ts = (read : ZoneReading) (server : ℕ) → n.atp.reading ≡ Some read
+      → StaysAsked table m.asked ts (asking cable.net (node_of e)) read.tid (zones_at cable.net server)
 
   -- and so do those of the other nodes
   abbrev pub StaysTheirs : List (List ℕ) → List Transaction → Type 0
-  StaysTheirs table ts = (j tid server : ℕ) → (node_of e == j) ≡ false → StaysAsked table m.asked ts (asking cable.net j) tid (zones_at cable.net server)
+  StaysTheirs table ts = (j tid server : ℕ) → (node_of e == j) ≡ false
+      → StaysAsked table m.asked ts (asking cable.net j) tid (zones_at cable.net server)
 
-  pub still_mine : (table : List (List ℕ)) (ts : List Transaction) → IsTable table → StaysMine table ts → IsReading cable (moved m table ts m.readings) (node_of e) n.atp.reading
+  pub still_mine : (table : List (List ℕ)) (ts : List Transaction) → IsTable table → StaysMine table ts
+      → IsReading cable (moved m table ts m.readings) (node_of e) n.atp.reading
   still_mine table ts is_table stays = go n.atp.reading (t.readings (node_of e) n stands) stays
     where
-      go : (reading : Option ZoneReading) → IsReading cable m (node_of e) reading → ((read : ZoneReading) (server : ℕ) → reading ≡ Some read → StaysAsked table m.asked ts (asking cable.net (node_of e)) read.tid (zones_at cable.net server)) → IsReading cable (moved m table ts m.readings) (node_of e) reading
+      go : (reading : Option ZoneReading) → IsReading cable m (node_of e) reading
+          → ((read : ZoneReading) (server : ℕ) → reading ≡ Some read
+          → StaysAsked table m.asked ts (asking cable.net (node_of e)) read.tid (zones_at cable.net server))
+          → IsReading cable (moved m table ts m.readings) (node_of e) reading
       go None h same = tt
-      go (Some read) h same = let more = same read h.server refl h.first in still_reads laws.reading cable.net cable.router m.past table m.asked ts m.readings m.readings (node_of e) read is_table h more.0 more.1 refl
+      go (Some read) h same = let more = same read h.server refl h.first in
+          still_reads laws.reading cable.net cable.router m.past table m.asked ts m.readings m.readings
+          (node_of e) read is_table h more.0 more.1 refl
 
   pub table_kept : sets_table r ≡ false → HasTable cable m.table (node_of e) x
   table_kept none table is = t.tables (node_of e) n stands table (sym (keeps none) ∙ is)
 
   -- the table stays, and so does the reading of the node
-  pub goes_by : (ts now : List Transaction) → now ≡ ts → x.atp.reading ≡ n.atp.reading → sets_table r ≡ false → StaysMine m.table ts → StaysTheirs m.table ts → Allows cable m e r (moved m m.table ts m.readings) → IsSaid e r × Becomes A cable m e x r now
+  pub goes_by : (ts now : List Transaction) → now ≡ ts → x.atp.reading ≡ n.atp.reading → sets_table r ≡ false
+      → StaysMine m.table ts → StaysTheirs m.table ts → Allows cable m e r (moved m m.table ts m.readings) → IsSaid e r
+      × Becomes A cable m e x r now
   goes_by ts now same reading none mine theirs allows = (
     allows.0,
     subst (Becomes A cable m e x r) (sym same) (record {
@@ -91,13 +106,15 @@ module _ (A : Type 0) (laws : Laws A) (w : WorldState) (cable : Cable) (m : AtpM
       allows = allows.1;
       here = table_kept none;
       elsewhere = λ j y apart h. h;
-      reading = subst (IsReading cable (moved m m.table ts m.readings) (node_of e)) (sym reading) (still_mine m.table ts t.table mine);
+      reading = subst (IsReading cable (moved m m.table ts m.readings) (node_of e)) (sym reading)
+          (still_mine m.table ts t.table mine);
       others = λ j apart. refl;
       still = theirs;
     }),
   )
 
-  pub nothing_asked : (now : List Transaction) → now ≡ m.asked → x.atp.reading ≡ n.atp.reading → sets_table r ≡ false → Allows cable m e r (next m) → IsSaid e r × Becomes A cable m e x r now
+  pub nothing_asked : (now : List Transaction) → now ≡ m.asked → x.atp.reading ≡ n.atp.reading → sets_table r ≡ false
+      → Allows cable m e r (next m) → IsSaid e r × Becomes A cable m e x r now
   nothing_asked now same reading none allows =
       goes_by m.asked now same reading none
       (λ read server is. all_stays m.table m.asked (asking cable.net (node_of e)) read.tid (zones_at cable.net server))
@@ -107,8 +124,12 @@ module _ (A : Type 0) (laws : Laws A) (w : WorldState) (cable : Cable) (m : AtpM
   -- ---- beginnings
 
   -- a transaction of another node is not the new one
-  apart_from : (j tid : ℕ) (new : Transaction) → new.requester ≡ asking cable.net (node_of e) → (node_of e == j) ≡ false → is_transaction (asking cable.net j) tid new ≡ false
-  apart_from j tid new is apart = ap (λ (y : Address). same_address y (asking cable.net j) && (new.tid == tid)) is ∙ (λ i. eq-eqb cable.net cable.net refl i && apart i && true && (new.tid == tid))
+  apart_from : (j tid : ℕ) (new : Transaction) → new.requester ≡ asking cable.net (node_of e) → (node_of e == j)
+      ≡ false → is_transaction (asking cable.net j) tid new ≡ false
+  apart_from j tid new is apart = ap (λ (y : Address). same_address y (asking cable.net j) && (new.tid == tid)) is
+      ∙ (λ i. eq-eqb cable.net cable.net refl i && apart i && true && (new.tid == tid))
 
-  pub still_theirs : (new : Transaction) → new.requester ≡ asking cable.net (node_of e) → StaysTheirs m.table (new ∷ m.asked)
-  still_theirs new is j tid server apart = drawn_stays m.table m.asked new (asking cable.net j) tid (zones_at cable.net server) (apart_from j tid new is apart)
+  pub still_theirs : (new : Transaction) → new.requester ≡ asking cable.net (node_of e)
+      → StaysTheirs m.table (new ∷ m.asked)
+  still_theirs new is j tid server apart = drawn_stays m.table m.asked new (asking cable.net j) tid
+      (zones_at cable.net server) (apart_from j tid new is apart)

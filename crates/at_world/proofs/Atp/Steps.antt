@@ -13,7 +13,9 @@ use Rattle.at_event.specs.declared.event.Report.{Report}
 use Rattle.at_event.specs.declared.event.Report.TheVariants as report
 use Rattle.at_steps.specs.AtpHappenings.{sets_table}
 use Rattle.at_steps.specs.AtpSteps as steps
-use Rattle.at_steps.specs.AtpSteps.{Change, ComesToReading, IsPlain, BeginsAsking, BeginsReading, SetsTable, GivesAnswer, ServesPage, HandsUp, Finishes, TurnsPage, EndsReading, FailsReading, IsStep, Tells, All, TooMany, Faulty, is_plain, page_answer, page_asked}
+use Rattle.at_steps.specs.AtpSteps.{Change, ComesToReading, IsPlain, BeginsAsking, BeginsReading, SetsTable}
+use Rattle.at_steps.specs.AtpSteps.{GivesAnswer, ServesPage, HandsUp, Finishes, TurnsPage, EndsReading, FailsReading}
+use Rattle.at_steps.specs.AtpSteps.{IsStep, Tells, All, TooMany, Faulty, is_plain, page_answer, page_asked}
 use Rattle.at_world.specs.AtpGuards.{AtpMachine, StepBy, next}
 use Rattle.at_world.specs.Cables.{Cable, IsSaid, owner_of}
 use Rattle.at_world.specs.Events.{act_of, node_of}
@@ -25,26 +27,36 @@ use Rattle.at_world.proofs.CableTie.{Wire}
 use Rattle.at_world.proofs.Atp.Lists.{some_transaction}
 use Rattle.at_world.proofs.Atp.Readings.{all_stays, drawn_stays, joined_stays}
 use Rattle.at_world.proofs.Atp.Tie.{Laws, Becomes, IsReading, AtpTie, moved}
-use Rattle.at_world.proofs.Atp.Staying.{Allows, so_at, plainly, plain_sets_none, still_mine, goes_by, nothing_asked, still_theirs, StaysMine}
+use Rattle.at_world.proofs.Atp.Staying.{Allows, so_at, plainly, plain_sets_none, still_mine, goes_by, nothing_asked}
+use Rattle.at_world.proofs.Atp.Staying.{still_theirs, StaysMine}
 use Rattle.at_world.proofs.Atp.ReadingSteps.{fails_step, reading_ends_step, reads_step, turns_step}
 
-module _ (A : Type 0) (laws : Laws A) (w : WorldState) (cable : Cable) (m : AtpMachine) (wires : List Wire) (e : Event A) (n x : NodeState) (r : Report A) (t : AtpTie A w cable wires m) (stands : node_at w (node_of e) ≡ Some n)
+module _ (A : Type 0) (laws : Laws A) (w : WorldState) (cable : Cable) (m : AtpMachine) (wires : List Wire)
+    (e : Event A) (n x : NodeState) (r : Report A) (t : AtpTie A w cable wires m)
+    (stands : node_at w (node_of e) ≡ Some n)
     (keeps : sets_table r ≡ false → x.atp.table ≡ n.atp.table) where
   -- what a step is in words of transactions
   abbrev Changed : List Transaction → Change A
   Changed ts = record { asked = m.asked; now_asked = ts; part = n.atp; now = x.atp; act = act_of e; report = r }
 
   plain_step : (ts : List Transaction) → IsPlain (Changed ts) → IsSaid e r × Becomes A cable m e x r ts
-  plain_step ts p = nothing_asked A laws w cable m wires e n x r t stands keeps ts p.asked p.reading (plain_sets_none (act_of e) r p.plain) (plainly A cable m e r p.plain)
+  plain_step ts p = nothing_asked A laws w cable m wires e n x r t stands keeps ts p.asked p.reading
+      (plain_sets_none (act_of e) r p.plain) (plainly A cable m e r p.plain)
 
-  delivers_step : (ts : List Transaction) → HandsUp cable.net (node_of e) (Changed ts) → IsSaid e r × Becomes A cable m e x r ts
-  delivers_step ts s = nothing_asked A laws w cable m wires e n x r t stands keeps ts s.asked s.reading (ap sets_table s.report)
-      (so_at A cable m (next m) e (event.Deliver s.which (node_of e)) r (report.Asked s.key s.user s.bytes) (delivered_at e s.which s.act) s.report
+  delivers_step : (ts : List Transaction) → HandsUp cable.net (node_of e) (Changed ts) → IsSaid e r
+      × Becomes A cable m e x r ts
+  delivers_step ts s = nothing_asked A laws w cable m wires e n x r t stands keeps ts s.asked s.reading
+      (ap sets_table s.report)
+      (so_at A cable m (next m) e (event.Deliver s.which (node_of e)) r (report.Asked s.key s.user s.bytes)
+      (delivered_at e s.which s.act) s.report
       (tt, (record { asked = s.newest; is_user = s.is_user; is_data = s.is_data }, refl)))
 
-  ends_step : (ts : List Transaction) → Finishes cable.net (node_of e) (Changed ts) → IsSaid e r × Becomes A cable m e x r ts
-  ends_step ts s = nothing_asked A laws w cable m wires e n x r t stands keeps ts s.asked s.reading (ap sets_table s.report)
-      (so_at A cable m (next m) e (event.Deliver s.which (node_of e)) r (report.Response s.tid s.packets) (delivered_at e s.which s.act) s.report
+  ends_step : (ts : List Transaction) → Finishes cable.net (node_of e) (Changed ts) → IsSaid e r
+      × Becomes A cable m e x r ts
+  ends_step ts s = nothing_asked A laws w cable m wires e n x r t stands keeps ts s.asked s.reading
+      (ap sets_table s.report)
+      (so_at A cable m (next m) e (event.Deliver s.which (node_of e)) r (report.Response s.tid s.packets)
+      (delivered_at e s.which s.act) s.report
       (tt, (record { transaction = s.transaction; newest = s.newest; response = s.response }, refl)))
 
   -- ---- a table that is set
@@ -58,8 +70,12 @@ module _ (A : Type 0) (laws : Laws A) (w : WorldState) (cable : Cable) (m : AtpM
       readings = m.readings;
       allows = allows.1;
       here = λ table is. (some_table table s.names (sym is ∙ s.becomes), whole.1);
-      elsewhere = λ j y apart has table is. absurd (false≢true (sym apart ∙ eq-eqb (node_of e) j (some_number (node_of e) j (sym whole.1 ∙ (has table is).1))));
-      reading = subst (IsReading cable (moved m s.names m.asked m.readings) (node_of e)) (sym s.reading) (still_mine A laws w cable m wires e n x r t stands keeps s.names m.asked s.is_table (λ read server is. all_stays s.names m.asked (asking cable.net (node_of e)) read.tid (zones_at cable.net server)));
+      elsewhere = λ j y apart has table is. absurd
+          (false≢true (sym apart ∙ eq-eqb (node_of e) j (some_number (node_of e) j (sym whole.1 ∙ (has table is).1))));
+      reading = subst (IsReading cable (moved m s.names m.asked m.readings) (node_of e)) (sym s.reading)
+          (still_mine A laws w cable m wires e n x r t stands keeps s.names m.asked s.is_table
+          (λ read server is. all_stays s.names m.asked (asking cable.net (node_of e)) read.tid
+          (zones_at cable.net server)));
       others = λ j apart. refl;
       still = λ j tid server apart. all_stays s.names m.asked (asking cable.net j) tid (zones_at cable.net server);
     }),
@@ -75,63 +91,99 @@ module _ (A : Type 0) (laws : Laws A) (w : WorldState) (cable : Cable) (m : AtpM
       some_number a b h = cc
 
       allows : Allows cable m e r (moved m s.names m.asked m.readings)
-      allows = so_at A cable m (moved m s.names m.asked m.readings) e (event.Call (node_of e) (SetZones s.names)) r report.TableSet (called_at e (SetZones s.names) s.act) s.report
+      allows = so_at A cable m (moved m s.names m.asked m.readings) e
+          (event.Call (node_of e) (SetZones s.names)) r report.TableSet (called_at e (SetZones s.names) s.act) s.report
           (tt, record { is_router = whole.1; is_table = s.is_table; becomes = refl })
 
   -- ---- answers
 
-  answers_step : (ts : List Transaction) → GivesAnswer cable.net (node_of e) (Changed ts) → IsSaid e r × Becomes A cable m e x r ts
+  answers_step : (ts : List Transaction) → GivesAnswer cable.net (node_of e) (Changed ts) → IsSaid e r
+      × Becomes A cable m e x r ts
   answers_step ts s =
-      goes_by A laws w cable m wires e n x r t stands keeps (answered m.asked from s.tid s.packets) ts s.asked s.reading (ap sets_table s.report)
-      (λ read server is. joined_stays m.table m.asked from s.tid s.packets (asking cable.net (node_of e)) read.tid (zones_at cable.net server) (elsewhere server))
-      (λ j tid server apart. joined_stays m.table m.asked from s.tid s.packets (asking cable.net j) tid (zones_at cable.net server) (elsewhere server))
-      (so_at A cable m (moved m m.table (answered m.asked from s.tid s.packets) m.readings) e (event.Call (node_of e) (Answer s.node s.socket s.tid s.packets)) r (report.Answered s.count) (called_at e (Answer s.node s.socket s.tid s.packets) s.act) s.report
+      goes_by A laws w cable m wires e n x r t stands keeps (answered m.asked from s.tid s.packets) ts s.asked
+      s.reading (ap sets_table s.report)
+      (λ read server is. joined_stays m.table m.asked from s.tid s.packets (asking cable.net (node_of e)) read.tid
+      (zones_at cable.net server) (elsewhere server))
+      (λ j tid server apart. joined_stays m.table m.asked from s.tid s.packets (asking cable.net j) tid
+      (zones_at cable.net server) (elsewhere server))
+      (so_at A cable m (moved m m.table (answered m.asked from s.tid s.packets) m.readings) e
+      (event.Call (node_of e) (Answer s.node s.socket s.tid s.packets)) r (report.Answered s.count)
+      (called_at e (Answer s.node s.socket s.tid s.packets) s.act) s.report
       (tt, record { asked = s.newest; few = s.few; becomes = refl }))
     where
       from : Address
       from = record { net = cable.net; node = s.node; socket = s.socket }
 
       -- what asked the service did not ask a router for its zones
-      elsewhere : (server : ℕ) (u : Transaction) → transaction_of m.asked from s.tid ≡ Some u → u.responder ≡ zones_at cable.net server → (start : ℕ) × RequestSpells u.user start × (s.packets ≡ page_answer m.table start)
+      elsewhere : (server : ℕ) (u : Transaction) → transaction_of m.asked from s.tid ≡ Some u → u.responder
+          ≡ zones_at cable.net server → (start : ℕ) × RequestSpells u.user start
+          × (s.packets ≡ page_answer m.table start)
       elsewhere server u is here =
           let one = some_transaction (s.newest).transaction u (sym (s.newest).newest ∙ is) in
-          let wrong : 129 ≡ 6 = ap (λ (y : Address). y.socket) (sym (s.newest).asked_it ∙ ap (λ (y : Transaction). y.responder) one ∙ here) in
+          let wrong : 129 ≡ 6 = ap (λ (y : Address). y.socket)
+          (sym (s.newest).asked_it ∙ ap (λ (y : Transaction). y.responder) one ∙ here) in
           absurd (omega (arith, wrong))
 
-  serves_step : (ts : List Transaction) → ServesPage cable.net (node_of e) (Changed ts) → IsSaid e r × Becomes A cable m e x r ts
+  serves_step : (ts : List Transaction) → ServesPage cable.net (node_of e) (Changed ts) → IsSaid e r
+      × Becomes A cable m e x r ts
   serves_step ts s =
-      goes_by A laws w cable m wires e n x r t stands keeps (answered m.asked s.requester s.tid (page_answer m.table s.start)) ts (s.asked ∙ ap (λ l. answered m.asked s.requester s.tid (page_answer l s.start)) whole.0) s.reading (ap sets_table s.report)
-      (λ read server is. joined_stays m.table m.asked s.requester s.tid (page_answer m.table s.start) (asking cable.net (node_of e)) read.tid (zones_at cable.net server) (page server))
-      (λ j tid server apart. joined_stays m.table m.asked s.requester s.tid (page_answer m.table s.start) (asking cable.net j) tid (zones_at cable.net server) (page server))
-      (so_at A cable m (moved m m.table (answered m.asked s.requester s.tid (page_answer m.table s.start)) m.readings) e (event.Deliver s.which (node_of e)) r (report.Served s.count) (delivered_at e s.which s.act) s.report
-      (tt, record { is_router = whole.1; requester = s.requester; tid = s.tid; asked = s.newest; start = s.start; asks_from = s.asks_from; one = s.one; becomes = refl }))
+      goes_by A laws w cable m wires e n x r t stands keeps
+      (answered m.asked s.requester s.tid (page_answer m.table s.start)) ts
+      (s.asked ∙ ap (λ l. answered m.asked s.requester s.tid (page_answer l s.start)) whole.0) s.reading
+      (ap sets_table s.report)
+      (λ read server is. joined_stays m.table m.asked s.requester s.tid (page_answer m.table s.start)
+      (asking cable.net (node_of e)) read.tid (zones_at cable.net server) (page server))
+      (λ j tid server apart. joined_stays m.table m.asked s.requester s.tid (page_answer m.table s.start)
+      (asking cable.net j) tid (zones_at cable.net server) (page server))
+      (so_at A cable m (moved m m.table (answered m.asked s.requester s.tid (page_answer m.table s.start)) m.readings)
+      e (event.Deliver s.which (node_of e)) r (report.Served s.count) (delivered_at e s.which s.act) s.report (
+        tt,
+        record {
+          is_router = whole.1;
+          requester = s.requester;
+          tid = s.tid;
+          asked = s.newest;
+          start = s.start;
+          asks_from = s.asks_from;
+          one = s.one;
+          becomes = refl;
+        },
+      ))
     where
       whole : (s.table ≡ m.table) × (cable.router ≡ Some (node_of e))
       whole = t.tables (node_of e) n stands s.table s.is_table
 
-      page : (server : ℕ) (u : Transaction) → transaction_of m.asked s.requester s.tid ≡ Some u → u.responder ≡ zones_at cable.net server → (start : ℕ) × RequestSpells u.user start × (page_answer m.table s.start ≡ page_answer m.table start)
+      page : (server : ℕ) (u : Transaction) → transaction_of m.asked s.requester s.tid ≡ Some u → u.responder
+          ≡ zones_at cable.net server → (start : ℕ) × RequestSpells u.user start
+          × (page_answer m.table s.start ≡ page_answer m.table start)
       page server u is here =
           let one = some_transaction (s.newest).transaction u (sym (s.newest).newest ∙ is) in
           (s.start, subst (λ (y : Transaction). RequestSpells y.user s.start) one s.asks_from, refl)
 
   -- ---- beginnings
 
-  begins_step : (ts : List Transaction) → BeginsAsking cable.net (node_of e) (Changed ts) → IsSaid e r × Becomes A cable m e x r ts
+  begins_step : (ts : List Transaction) → BeginsAsking cable.net (node_of e) (Changed ts) → IsSaid e r
+      × Becomes A cable m e x r ts
   begins_step ts s =
-      goes_by A laws w cable m wires e n x r t stands keeps (new ∷ m.asked) ts s.asked s.reading (ap sets_table s.report) mine (still_theirs A laws w cable m wires e n x r t stands keeps new refl)
-      (so_at A cable m (moved m m.table (new ∷ m.asked) m.readings) e (event.Call (node_of e) (Ask s.node s.socket s.user s.bytes s.wanted s.xo s.retries)) r (report.Begun s.tid)
+      goes_by A laws w cable m wires e n x r t stands keeps (new ∷ m.asked) ts s.asked s.reading
+      (ap sets_table s.report) mine (still_theirs A laws w cable m wires e n x r t stands keeps new refl)
+      (so_at A cable m (moved m m.table (new ∷ m.asked) m.readings) e
+      (event.Call (node_of e) (Ask s.node s.socket s.user s.bytes s.wanted s.xo s.retries)) r (report.Begun s.tid)
       (called_at e (Ask s.node s.socket s.user s.bytes s.wanted s.xo s.retries) s.act) s.report
       (tt, record { becomes = refl }))
     where
       new : Transaction
-      new = steps.new_transaction cable.net (node_of e) (record { net = cable.net; node = s.node; socket = s.socket }) s.user s.bytes s.wanted s.xo s.tid
+      new = steps.new_transaction cable.net (node_of e) (record { net = cable.net; node = s.node; socket = s.socket })
+          s.user s.bytes s.wanted s.xo s.tid
 
       mine : StaysMine A laws w cable m wires e n x r t stands keeps m.table (new ∷ m.asked)
-      mine read server is = drawn_stays m.table m.asked new (asking cable.net (node_of e)) read.tid (zones_at cable.net server) (λ i. same_address_itself (asking cable.net (node_of e)) i && s.apart read is i)
+      mine read server is = drawn_stays m.table m.asked new (asking cable.net (node_of e)) read.tid
+          (zones_at cable.net server) (λ i. same_address_itself (asking cable.net (node_of e)) i && s.apart read is i)
 
   -- ---- each of them
 
-  pub step_becomes : n.seat.router ≡ cable.router → (ts : List Transaction) → IsStep cable.net (node_of e) n.seat.router (Changed ts) → IsSaid e r × Becomes A cable m e x r ts
+  pub step_becomes : n.seat.router ≡ cable.router → (ts : List Transaction)
+      → IsStep cable.net (node_of e) n.seat.router (Changed ts) → IsSaid e r × Becomes A cable m e x r ts
   step_becomes routed ts (steps.Plain s) = plain_step ts s
   step_becomes routed ts (steps.Begins s) = begins_step ts s
   step_becomes routed ts (steps.Reads s) = reads_step A laws w cable m wires e n x r t stands keeps routed ts s
@@ -145,7 +197,8 @@ module _ (A : Type 0) (laws : Laws A) (w : WorldState) (cable : Cable) (m : AtpM
   step_becomes routed ts (steps.Fails s) = fails_step A laws w cable m wires e n x r t stands keeps ts s
 
   -- a step of another protocol
-  pub pass_becomes : (ts : List Transaction) → ts ≡ m.asked → x.atp ≡ n.atp → StepBy cable m e r (next m) (owner_of e r) → Becomes A cable m e x r ts
+  pub pass_becomes : (ts : List Transaction) → ts ≡ m.asked → x.atp ≡ n.atp
+      → StepBy cable m e r (next m) (owner_of e r) → Becomes A cable m e x r ts
   pass_becomes ts same part allows = subst (Becomes A cable m e x r) (sym same) (record {
     table = m.table;
     is_table = t.table;
@@ -153,7 +206,11 @@ module _ (A : Type 0) (laws : Laws A) (w : WorldState) (cable : Cable) (m : AtpM
     allows = allows;
     here = λ table is. t.tables (node_of e) n stands table (ap (λ (a : AtpState). a.table) (sym part) ∙ is);
     elsewhere = λ j y apart h. h;
-    reading = subst (IsReading cable (moved m m.table m.asked m.readings) (node_of e)) (ap (λ (a : AtpState). a.reading) (sym part)) (still_mine A laws w cable m wires e n x r t stands keeps m.table m.asked t.table (λ read server is. all_stays m.table m.asked (asking cable.net (node_of e)) read.tid (zones_at cable.net server)));
+    reading = subst (IsReading cable (moved m m.table m.asked m.readings) (node_of e))
+        (ap (λ (a : AtpState). a.reading) (sym part))
+        (still_mine A laws w cable m wires e n x r t stands keeps m.table m.asked t.table
+        (λ read server is. all_stays m.table m.asked (asking cable.net (node_of e)) read.tid
+        (zones_at cable.net server)));
     others = λ j apart. refl;
     still = λ j tid server apart. all_stays m.table m.asked (asking cable.net j) tid (zones_at cable.net server);
   })

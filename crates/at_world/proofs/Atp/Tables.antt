@@ -16,9 +16,11 @@ IsTableBy m e r m' = m'.table ≡ table_by e r m.table
 table_of : {m m' : AtpMachine} → m ≡ m' → m.table ≡ m'.table
 table_of e = ap (λ (m : AtpMachine). m.table) e
 
-says_table : {A : Type 0} (c : Cable) (m : AtpMachine) (e : Event A) (r : Report A) (m' : AtpMachine) → Says c m e r m' → IsTableBy m e r m'
+says_table : {A : Type 0} (c : Cable) (m : AtpMachine) (e : Event A) (r : Report A) (m' : AtpMachine) → Says c m e r m'
+    → IsTableBy m e r m'
 says_table c m (event.Call node Zones) (report.Begun tid) m' h = table_of h.becomes
-says_table c m (event.Call node (Ask k socket user bytes wanted xo retries)) (report.Begun tid) m' h = table_of h.becomes
+says_table c m (event.Call node (Ask k socket user bytes wanted xo retries)) (report.Begun tid) m' h =
+    table_of h.becomes
 says_table c m (event.Call node call) (report.Begun tid) m' h = absurd h
 says_table c m (event.Call node (Answer k socket tid packets)) (report.Answered count) m' h = table_of h.becomes
 says_table c m (event.Call node call) (report.Answered count) m' h = absurd h
@@ -37,14 +39,16 @@ says_table c m (event.Timer node timer) report.ZonesFailed m' h = table_of h.bec
 says_table c m e r m' h = absurd h
 
 -- a report that sets the table is of this part
-moment_table : {A : Type 0} (m : AtpMachine) (e : Event A) (r : Report A) (m' : AtpMachine) → m'.table ≡ m.table → (owner_of e r ≡ Atp → ⊥) → IsTableBy m e r m'
+moment_table : {A : Type 0} (m : AtpMachine) (e : Event A) (r : Report A) (m' : AtpMachine) → m'.table ≡ m.table
+    → (owner_of e r ≡ Atp → ⊥) → IsTableBy m e r m'
 moment_table m (event.Call node call) report.TableSet m' same other = absurd (other refl)
 moment_table m (event.Deliver which node) report.TableSet m' same other = absurd (other refl)
 moment_table m (event.Timer node timer) report.TableSet m' same other = absurd (other refl)
 moment_table m (event.Forge node bytes) report.TableSet m' same other = absurd (other refl)
 moment_table m e r m' same other = same
 
-pub table_follows : {A : Type 0} (c : Cable) (m : AtpMachine) (e : Event A) (r : Report A) (m' : AtpMachine) (owner : Kind) → owner_of e r ≡ owner → StepBy c m e r m' owner → IsTableBy m e r m'
+pub table_follows : {A : Type 0} (c : Cable) (m : AtpMachine) (e : Event A) (r : Report A) (m' : AtpMachine)
+    (owner : Kind) → owner_of e r ≡ owner → StepBy c m e r m' owner → IsTableBy m e r m'
 table_follows c m e r m' Atp its h = says_table c m e r m' h
 table_follows c m e r m' Nbp its h = moment_table m e r m' (table_of h) (λ is. cc)
 table_follows c m e r m' Adsp its h = moment_table m e r m' (table_of h) (λ is. cc)

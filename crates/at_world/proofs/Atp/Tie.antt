@@ -1,6 +1,7 @@
 -- What ties a world to what the machine knows of transactions and of the zone list, through a history of the network of
 -- its requesters and responders.
-use Rattle.std.proofs.Common.{◌≡◌, ℕ, ◌+◌, true, false, cond, List, [], ◌∷◌, ◌++◌, map, Option, Some, None, refl, sym, ap, subst, ◌∙◌}
+use Rattle.std.proofs.Common.{◌≡◌, ℕ, ◌+◌, true, false, cond, List, [], ◌∷◌, ◌++◌, map, Option, Some, None, refl, sym}
+use Rattle.std.proofs.Common.{ap, subst, ◌∙◌}
 use Rattle.std.specs.Prelude.{◌==◌}
 use Rattle.std.specs.List.{AllByRecursion}
 use Rattle.at_ddp.specs.Address.{same_address}
@@ -8,19 +9,23 @@ use Rattle.at_ddp.specs.Datagram.{canonical, IsAddress}
 use Rattle.at_ddp.specs.declared.address.Address.{Address}
 use Rattle.at_atp_frame.specs.Frames.{Content, IsLawful, spelled, owner, number_of}
 use Rattle.at_atp.specs.Lawfully.{IsInRange, IsLawfullySent}
-use Rattle.at_atp.specs.Network.{Network, Sent, AllSent, Happening, Answers, Serves, NoneHolds, after, done, put, is_fresh, packet_at, AllTimely}
+use Rattle.at_ddp.specs.Posts.{AllSent, packet_at, put}
+use Rattle.at_ddp.proofs.PostLemmas.{put_same}
+use Rattle.at_ddp.specs.Protocols.{atp_kind}
+use Rattle.at_world.proofs.Entries.{Entries, entries_both, entries_of}
+use Rattle.at_atp.specs.Network.{Network, Sent, Happening, Answers, Serves, NoneHolds, after, done, is_fresh, AllTimely}
 use Rattle.at_atp.specs.Transactions.{Transaction}
 use Rattle.at_zip.specs.Zones.{IsTable}
 use Rattle.at_event.specs.Calls.{IsCall}
-use Rattle.at_node.specs.Drawing.{Carries, drawn_by, holds}
-use Rattle.at_node.specs.AtpParts.{Reading as ZoneReading, asking, serving, zones_at, atp_kind}
+use Rattle.at_node.specs.Numbers.{Carries, drawn_by, holds}
+use Rattle.at_node.specs.AtpParts.{Reading as ZoneReading, asking, serving, zones_at}
 use Rattle.at_node.specs.Hearing.{Hears}
 use Rattle.at_event.specs.Kinds.{kind_of_call, kind_of_timer}
 use Rattle.at_node.specs.Nodes.{NodeState, called, timed}
 use Rattle.at_event.specs.Outcomes.{Outcome, Outgoing, posted}
 use Rattle.at_event.specs.Services.{is_asked}
-use Rattle.at_node.specs.declared.drawing.Draw.{Draw}
-use Rattle.at_node.specs.declared.drawing.Draw.TheVariants.{Tid}
+use Rattle.at_node.specs.declared.numbers.Draw.{Draw}
+use Rattle.at_node.specs.declared.numbers.Draw.TheVariants.{Tid}
 use Rattle.at_event.specs.declared.event.Call.{Call}
 use Rattle.at_event.specs.declared.event.Report.{Report}
 use Rattle.at_event.specs.declared.event.Timer.{Timer}
@@ -30,7 +35,8 @@ use Rattle.at_steps.specs.Acts.{Act, Calls, Fires, Gets, is_atp}
 use Rattle.at_steps.specs.AtpReports as reports
 use Rattle.at_steps.specs.AtpReports.{AnswersAs}
 use Rattle.at_steps.specs.AtpSteps.{page_answer}
-use Rattle.at_steps.specs.AtpHappenings.{AreEntries, Happens, HoldsNo, IsForeign, IsHappening, IsOn, IsOpen, Passes, Stands, numbers_drawn}
+use Rattle.at_steps.specs.AtpHappenings.{Happens, HoldsNo, IsForeign, IsHappening, IsOn, IsOpen, Passes, Stands}
+use Rattle.at_steps.specs.AtpHappenings.{numbers_drawn, atp_coding}
 use Rattle.at_world.specs.Draws.{noted as noted_in}
 use Rattle.at_world.specs.AtpGuards.{AtpMachine, Reading, StepBy, since_of, next}
 use Rattle.at_world.specs.Cables.{Cable, owner_of}
@@ -45,18 +51,38 @@ use Rattle.at_world.proofs.Atp.Times.{IsNoted, all_noted, drawn_too}
 
 -- what the layers below promise
 pub record Laws (A : Type 0) : Type 0 where
-  pub foreign_call : (n : NodeState) (call : Call A) → is_atp (kind_of_call call) ≡ false → IsForeign n (Calls call) (called n call)
-  pub foreign_timer : (n : NodeState) (time : Timer) → is_atp (kind_of_timer time) ≡ false → IsForeign {A = A} n (Fires time) (timed n time)
-  pub foreign_datagram : (n : NodeState) (which : ℕ) (to from : Address) (kind : ℕ) (bytes : List ℕ) (said : Reply A) (o : Outcome A NodeState) → (kind == atp_kind) ≡ false → Hears said n (canonical to from kind bytes) o → IsForeign n (Gets which) o
-  pub called : (history : List Happening) (n : NodeState) (call : Call A) → Stands A history n.seat.net n.seat.number n → IsCall call → is_atp (kind_of_call call) ≡ true → ((tid : ℕ) → drawn_by (called n call).report ≡ Some (Tid tid) → NoneHolds (after A history).responders (asking n.seat.net n.seat.number) tid)
+  pub foreign_call : (n : NodeState) (call : Call A) → is_atp (kind_of_call call) ≡ false
+      → IsForeign n (Calls call) (called n call)
+  pub foreign_timer : (n : NodeState) (time : Timer) → is_atp (kind_of_timer time) ≡ false
+      → IsForeign {A = A} n (Fires time) (timed n time)
+  pub foreign_datagram : (n : NodeState) (which : ℕ) (to from : Address) (kind : ℕ) (bytes : List ℕ) (said : Reply A)
+      (o : Outcome A NodeState) → (kind == atp_kind) ≡ false → Hears said n (canonical to from kind bytes) o
+      → IsForeign n (Gets which) o
+  pub called : (history : List Happening) (n : NodeState) (call : Call A) → Stands A history n.seat.net n.seat.number n
+      → IsCall call → is_atp (kind_of_call call) ≡ true
+      → ((tid : ℕ) → drawn_by (called n call).report ≡ Some (Tid tid)
+      → NoneHolds (after A history).responders (asking n.seat.net n.seat.number) tid)
       → IsHappening A history n.seat.net n.seat.number n (Calls call) (called n call)
-  pub timed : (history : List Happening) (n : NodeState) (time : Timer) → Stands A history n.seat.net n.seat.number n → is_atp (kind_of_timer time) ≡ true → IsHappening A history n.seat.net n.seat.number n (Fires time) (timed n time)
-  pub heard : (history : List Happening) (n : NodeState) (which : ℕ) (s : Sent) (said : Reply A) (o : Outcome A NodeState) → Stands A history n.seat.net n.seat.number n → packet_at (after A history).sent which ≡ Some s → is_fresh (after A history).drawn s ≡ true → ((tid : ℕ) → drawn_by o.report ≡ Some (Tid tid) → NoneHolds (after A history).responders (asking n.seat.net n.seat.number) tid) → (is_asked o.report ≡ true → said ≡ Later)
-      → Hears said n (canonical s.to s.from atp_kind (spelled s.packet)) o → IsHappening A history n.seat.net n.seat.number n (Gets which) o
-  pub passes : (history : List Happening) (n : NodeState) (act : Act A) (o : Outcome A NodeState) → Stands A history n.seat.net n.seat.number n → IsForeign n act o → Passes A history n.seat.net n.seat.number n act o
-  pub unheld : (net k tid : ℕ) (n : NodeState) → holds n k (Tid tid) ≡ false → HoldsNo (asking net k) tid n.atp.service_responder × HoldsNo (asking net k) tid n.atp.zone_responder
-  pub carries : (to from : Address) (f : Content) → IsAddress to → IsAddress from → IsLawful f → Carries (canonical to from atp_kind (spelled f)) (owner from to f).node (Tid (number_of f))
-  pub lawful_sent : (history : List Happening) → AllByRecursion IsInRange history → AllSent IsLawfullySent (after A history).sent
+  pub timed : (history : List Happening) (n : NodeState) (time : Timer) → Stands A history n.seat.net n.seat.number n
+      → is_atp (kind_of_timer time) ≡ true
+      → IsHappening A history n.seat.net n.seat.number n (Fires time) (timed n time)
+  pub heard : (history : List Happening) (n : NodeState) (which : ℕ) (s : Sent) (said : Reply A)
+      (o : Outcome A NodeState) → Stands A history n.seat.net n.seat.number n → packet_at (after A history).sent which
+      ≡ Some s → is_fresh (after A history).drawn s ≡ true
+      → ((tid : ℕ) → drawn_by o.report ≡ Some (Tid tid)
+      → NoneHolds (after A history).responders (asking n.seat.net n.seat.number) tid)
+      → (is_asked o.report ≡ true → said ≡ Later)
+      → Hears said n (canonical s.to s.from atp_kind (spelled s.packet)) o
+      → IsHappening A history n.seat.net n.seat.number n (Gets which) o
+  pub passes : (history : List Happening) (n : NodeState) (act : Act A) (o : Outcome A NodeState)
+      → Stands A history n.seat.net n.seat.number n → IsForeign n act o
+      → Passes A history n.seat.net n.seat.number n act o
+  pub unheld : (net k tid : ℕ) (n : NodeState) → holds n k (Tid tid) ≡ false
+      → HoldsNo (asking net k) tid n.atp.service_responder × HoldsNo (asking net k) tid n.atp.zone_responder
+  pub carries : (to from : Address) (f : Content) → IsAddress to → IsAddress from → IsLawful f
+      → Carries (canonical to from atp_kind (spelled f)) (owner from to f).node (Tid (number_of f))
+  pub lawful_sent : (history : List Happening) → AllByRecursion IsInRange history
+      → AllSent IsLawfullySent (after A history).sent
   pub reading : ReadingLaws
 
 -- ---- what is known of a world
@@ -64,27 +90,6 @@ pub record Laws (A : Type 0) : Type 0 where
 -- a node that has a zone table is the router, and the table is the machine's
 abbrev pub HasTable : Cable → List (List ℕ) → ℕ → NodeState → Type 0
 HasTable c table k n = (t : List (List ℕ)) → n.atp.table ≡ Some t → (t ≡ table) × (c.router ≡ Some k)
-
--- a packet as it was sent
-abbrev pub wire_of : Sent → Wire
-wire_of s = record { event = s.event; from = s.from; to = s.to; kind = atp_kind; data_ = spelled s.packet }
-
--- what was sent at a place: a packet of this protocol, or a datagram of another
-abbrev pub IsEntry : Wire → Option Sent → Type 0
-IsEntry x (Some s) = x ≡ wire_of s
-IsEntry x None = (x.kind == atp_kind) ≡ false
-
-abbrev pub Entries : List Wire → List (Option Sent) → Type 0
-Entries [] [] = Unit {0}
-Entries (x ∷ xs) (y ∷ ys) = IsEntry x y × Entries xs ys
-Entries [] (y ∷ ys) = ⊥
-Entries (x ∷ xs) [] = ⊥
-
-pub entries_both : (xs xs' : List Wire) (ys ys' : List (Option Sent)) → Entries xs ys → Entries xs' ys' → Entries (xs ++ xs') (ys ++ ys')
-entries_both [] xs' [] ys' a b = b
-entries_both (x ∷ xs) xs' (y ∷ ys) ys' a b = (a.0, entries_both xs xs' ys ys' a.1 b)
-entries_both [] xs' (y ∷ ys) ys' a b = absurd a
-entries_both (x ∷ xs) xs' [] ys' a b = absurd a
 
 abbrev pub IsReading : Cable → AtpMachine → ℕ → Option ZoneReading → Type 0
 IsReading c m k None = Unit {0}
@@ -98,7 +103,7 @@ pub record AtpTie (A : Type 0) (w : WorldState) (c : Cable) (wires : List Wire) 
   pub events : w.events ≡ (after A history).event
   pub requesters : (who : Address) → (after A history).requesters who ≡ requester_at c.net w.nodes who
   pub responders : (at : Address) → (after A history).responders at ≡ records_at c.net w.nodes at
-  pub sent : Entries wires (after A history).sent
+  pub sent : Entries atp_coding wires (after A history).sent
   pub drawn : AllByRecursion (IsNoted w.last w.events) (after A history).drawn
   pub asked : (after A history).asked ≡ m.asked
   pub tables : (k : ℕ) (n : NodeState) → node_at w k ≡ Some n → HasTable c m.table k n
@@ -110,23 +115,14 @@ pub record AtpTie (A : Type 0) (w : WorldState) (c : Cable) (wires : List Wire) 
 abbrev pub moved : AtpMachine → List (List ℕ) → List Transaction → List Reading → AtpMachine
 moved m table asked readings = next (record m { table = table; asked = asked; readings = readings })
 
-pub put_same : {X : Type 0} (f g : Address → X) (at : Address) (x : X) (a : Address) → f a ≡ g a → put f at x a ≡ put g at x a
-put_same f g at x a same = ap (λ y. cond (same_address at a) x y) same
-
 -- ---- what a node sends
-
-entries_of : (event event' : ℕ) (out : List Outgoing) (more : List (Option Sent)) → event ≡ event' → AreEntries event' out more → Entries (map (wire event) out) more
-entries_of event event' [] [] same all = tt
-entries_of event event' (o ∷ out) (Some s ∷ more) same all = (ap (wire event) all.0.0 ∙ (λ i. wire_of (record s { event = (same ∙ sym all.0.1) i })), entries_of event event' out more same all.1)
-entries_of event event' (o ∷ out) (None ∷ more) same all = (all.0, entries_of event event' out more same all.1)
-entries_of event event' [] (x ∷ more) same all = absurd all
-entries_of event event' (o ∷ out) [] same all = absurd all
 
 -- ---- one step
 
 -- What a step does to what the machine knows: which transactions and readings there are after it, as far as the tie of
 -- the nodes needs it. The step is of node k, which becomes x.
-pub record Becomes (A : Type 0) (c : Cable) (m : AtpMachine) (e : Event A) (x : NodeState) (r : Report A) (asked : List Transaction) : Type 0 where
+pub record Becomes (A : Type 0) (c : Cable) (m : AtpMachine) (e : Event A) (x : NodeState) (r : Report A)
+    (asked : List Transaction) : Type 0 where
   pub table : List (List ℕ)
   pub is_table : IsTable table
   pub readings : List Reading
@@ -135,37 +131,80 @@ pub record Becomes (A : Type 0) (c : Cable) (m : AtpMachine) (e : Event A) (x : 
   pub elsewhere : (j : ℕ) (y : NodeState) → (node_of e == j) ≡ false → HasTable c m.table j y → HasTable c table j y
   pub reading : IsReading c (moved m table asked readings) (node_of e) x.atp.reading
   pub others : (j : ℕ) → (node_of e == j) ≡ false → since_of readings j ≡ since_of m.readings j
-  pub still : (j tid server : ℕ) → (node_of e == j) ≡ false → StaysAsked table m.asked asked (asking c.net j) tid (zones_at c.net server)
+  pub still : (j tid server : ℕ) → (node_of e == j) ≡ false
+      → StaysAsked table m.asked asked (asking c.net j) tid (zones_at c.net server)
 
 -- the history grew by one happening, which is what the event and its report say
-abbrev pub Grown : (A : Type 0) (cable : Cable) (table : List (List ℕ)) (before now : List Happening) → Event A → Report A → Type 0
-Grown A cable table before now e r = (h : Happening) × (now ≡ h ∷ before) × Matches cable.net table (after A before) h e r × Grows A (after A before) h
+abbrev pub Grown : (A : Type 0) (cable : Cable) (table : List (List ℕ)) (before now : List Happening) → Event A
+    → Report A → Type 0
+Grown A cable table before now e r = (h : Happening) × (now ≡ h ∷ before)
+    × Matches cable.net table (after A before) h e r × Grows A (after A before) h
 
 -- what matches with the table of a node matches with the machine's table, if that is the node's
-with_table : (A : Type 0) (net number : ℕ) (its : Option (List (List ℕ))) (table : List (List ℕ)) (n : Network) (h : Happening) (act : Act A) (r : Report A) → ((t : List (List ℕ)) → its ≡ Some t → t ≡ table) → reports.Matches net number its n h act r → reports.Matches net number (Some table) n h act r
-with_table A net number its table n h act r same m = record { draws_it = m.draws_it; expires_it = m.expires_it; hands_up = m.hands_up; takes_in = m.takes_in; begins_as = m.begins_as; answers_as = as_it_is h m.answers_as; joins = m.joins; finishes = m.finishes }
+with_table : (A : Type 0) (net number : ℕ) (its : Option (List (List ℕ))) (table : List (List ℕ)) (n : Network)
+    (h : Happening) (act : Act A) (r : Report A) → ((t : List (List ℕ)) → its ≡ Some t → t ≡ table)
+    → reports.Matches net number its n h act r → reports.Matches net number (Some table) n h act r
+with_table A net number its table n h act r same m =
+    record {
+      draws_it = m.draws_it;
+      expires_it = m.expires_it;
+      hands_up = m.hands_up;
+      takes_in = m.takes_in;
+      begins_as = m.begins_as;
+      answers_as = as_it_is h m.answers_as;
+      joins = m.joins;
+      finishes = m.finishes;
+    }
   where
     as_it_is : (h : Happening) → AnswersAs net its n h act r → AnswersAs net (Some table) n h act r
     as_it_is (Answers at key packets) g = g
-    as_it_is (Serves which packets) g = let p = g.3 in (g.0, g.1, g.2, record { zones = table; is_table = refl; request = p.request; was_sent = p.was_sent; start = p.start; asks_from = p.asks_from; page = p.page ∙ ap (λ zones. page_answer zones p.start) (same p.zones p.is_table) })
+    as_it_is (Serves which packets) g = let p = g.3 in (
+      g.0,
+      g.1,
+      g.2,
+      record {
+        zones = table;
+        is_table = refl;
+        request = p.request;
+        was_sent = p.was_sent;
+        start = p.start;
+        asks_from = p.asks_from;
+        page = p.page ∙ ap (λ zones. page_answer zones p.start) (same p.zones p.is_table);
+      },
+    )
     as_it_is h g = tt
 
 -- the machine follows this outcome of a node's step
-abbrev pub Good : (A : Type 0) (w : WorldState) (c : Cable) (m : AtpMachine) (wires : List Wire) → AtpTie A w c wires m → Event A → Outcome A NodeState → Type 0
+abbrev pub Good : (A : Type 0) (w : WorldState) (c : Cable) (m : AtpMachine) (wires : List Wire) → AtpTie A w c wires m
+    → Event A → Outcome A NodeState → Type 0
 Good A w c m wires t e o =
-    (m' : AtpMachine) × StepBy c m e o.report m' (owner_of e o.report) × (now : AtpTie A (recorded w (node_of e) o.report o.state (map posted o.out)) c (wires ++ map (wire w.events) o.out) m') × Grown A c m.table t.history now.history e o.report
+    (m' : AtpMachine) × StepBy c m e o.report m' (owner_of e o.report)
+    × (now : AtpTie A (recorded w (node_of e) o.report o.state (map posted o.out)) c
+    (wires ++ map (wire w.events) o.out) m') × Grown A c m.table t.history now.history e o.report
 
-module _ (A : Type 0) (laws : Laws A) (w : WorldState) (c : Cable) (wires : List Wire) (m : AtpMachine) (e : Event A) (n : NodeState) (o : Outcome A NodeState) (t : AtpTie A w c wires m) (stands : node_at w (node_of e) ≡ Some n) (h : Happens A t.history c.net (node_of e) n (act_of e) o)
-    (mine : SeatTie c (node_of e) o.state) (asked : List Transaction) (is_asked : (done A (after A t.history) h.happening).asked ≡ asked) (b : Becomes A c m e o.state o.report asked) where
-  reading_kept : (j : ℕ) (y : NodeState) (reading : Option ZoneReading) → (node_of e == j) ≡ false → IsReading c m j reading → IsReading c (moved m b.table asked b.readings) j reading
+module _ (A : Type 0) (laws : Laws A) (w : WorldState) (c : Cable) (wires : List Wire) (m : AtpMachine) (e : Event A)
+    (n : NodeState) (o : Outcome A NodeState) (t : AtpTie A w c wires m) (stands : node_at w (node_of e) ≡ Some n)
+    (h : Happens A t.history c.net (node_of e) n (act_of e) o)
+    (mine : SeatTie c (node_of e) o.state) (asked : List Transaction)
+    (is_asked : (done A (after A t.history) h.happening).asked ≡ asked)
+    (b : Becomes A c m e o.state o.report asked) where
+  reading_kept : (j : ℕ) (y : NodeState) (reading : Option ZoneReading) → (node_of e == j) ≡ false
+      → IsReading c m j reading → IsReading c (moved m b.table asked b.readings) j reading
   reading_kept j y None apart r = tt
-  reading_kept j y (Some read) apart r = let more = b.still j read.tid r.server apart r.first in still_reads laws.reading c.net c.router m.past b.table m.asked asked m.readings b.readings j read b.is_table r more.0 more.1 (b.others j apart)
+  reading_kept j y (Some read) apart r = let more = b.still j read.tid r.server apart r.first in
+      still_reads laws.reading c.net c.router m.past b.table m.asked asked m.readings b.readings j read b.is_table r
+      more.0 more.1 (b.others j apart)
 
-  noted : (d : Option Draw) → (done A (after A t.history) h.happening).drawn ≡ (after A t.history).drawn ++ numbers_drawn (after A t.history).event (asking c.net (node_of e)) d → AllByRecursion (IsNoted (noted_in w.last (node_of e) w.events d) (w.events + 1)) (done A (after A t.history) h.happening).drawn
+  noted : (d : Option Draw) → (done A (after A t.history) h.happening).drawn
+      ≡ (after A t.history).drawn ++ numbers_drawn (after A t.history).event (asking c.net (node_of e)) d
+      → AllByRecursion (IsNoted (noted_in w.last (node_of e) w.events d) (w.events + 1))
+      (done A (after A t.history) h.happening).drawn
   noted d is = subst (AllByRecursion (IsNoted (noted_in w.last (node_of e) w.events d) (w.events + 1))) (sym is)
-      (drawn_too w.last w.events (after A t.history).event c.net (node_of e) d (after A t.history).drawn t.events (all_noted w.last w.events (node_of e) d (after A t.history).drawn t.drawn))
+      (drawn_too w.last w.events (after A t.history).event c.net (node_of e) d (after A t.history).drawn t.events
+      (all_noted w.last w.events (node_of e) d (after A t.history).drawn t.drawn))
 
-  tied_next : (now : AtpTie A (recorded w (node_of e) o.report o.state (map posted o.out)) c (wires ++ map (wire w.events) o.out) (moved m b.table asked b.readings)) × (now.history ≡ h.happening ∷ t.history)
+  tied_next : (now : AtpTie A (recorded w (node_of e) o.report o.state (map posted o.out)) c
+      (wires ++ map (wire w.events) o.out) (moved m b.table asked b.readings)) × (now.history ≡ h.happening ∷ t.history)
   tied_next = (
     record {
       table = b.is_table;
@@ -173,20 +212,46 @@ module _ (A : Type 0) (laws : Laws A) (w : WorldState) (c : Cable) (wires : List
       timely = (h.timely, t.timely);
       in_range = (h.in_range, t.in_range);
       events = ap (λ i. i + 1) (t.events ∙ sym h.same_event);
-      requesters = λ who. h.requesters who ∙ put_same (after A t.history).requesters (requester_at c.net w.nodes) (asking c.net (node_of e)) o.state.atp.requester who (t.requesters who) ∙ sym (requester_after c.net w.nodes (node_of e) n o.state mine.number stands who);
+      requesters = λ who. h.requesters who
+          ∙ put_same (after A t.history).requesters (requester_at c.net w.nodes)
+          (asking c.net (node_of e)) o.state.atp.requester who (t.requesters who)
+          ∙ sym (requester_after c.net w.nodes (node_of e) n o.state mine.number stands who);
       responders = λ at. h.responders at
-          ∙ put_same (put (after A t.history).responders (serving c.net (node_of e)) o.state.atp.service_responder) (put (records_at c.net w.nodes) (serving c.net (node_of e)) o.state.atp.service_responder) (zones_at c.net (node_of e)) o.state.atp.zone_responder at (put_same (after A t.history).responders (records_at c.net w.nodes) (serving c.net (node_of e)) o.state.atp.service_responder at (t.responders at))
+          ∙ put_same (put (after A t.history).responders (serving c.net (node_of e)) o.state.atp.service_responder)
+          (put (records_at c.net w.nodes) (serving c.net (node_of e)) o.state.atp.service_responder)
+          (zones_at c.net (node_of e)) o.state.atp.zone_responder at
+          (put_same (after A t.history).responders (records_at c.net w.nodes)
+          (serving c.net (node_of e)) o.state.atp.service_responder at (t.responders at))
           ∙ sym (records_after c.net w.nodes (node_of e) n o.state mine.number stands at);
-      sent = subst (Entries (wires ++ map (wire w.events) o.out)) (sym h.sent) (entries_both wires (map (wire w.events) o.out) (after A t.history).sent h.more t.sent (entries_of w.events (after A t.history).event o.out h.more t.events h.posts));
+      sent = subst (Entries atp_coding (wires ++ map (wire w.events) o.out)) (sym h.sent)
+          (entries_both atp_coding wires (map (wire w.events) o.out) (after A t.history).sent h.more t.sent
+          (entries_of atp_coding w.events (after A t.history).event o.out h.more t.events h.posts));
       drawn = noted (drawn_by o.report) h.drawn;
       asked = is_asked;
-      tables = λ j y is. found_after (node_of e) j o.state n y w.nodes (HasTable c b.table j) mine.number stands is (λ same. subst (λ i. HasTable c b.table i o.state) same b.here) (λ apart g. b.elsewhere j y apart (t.tables j y g));
-      opened = λ j y is. found_after (node_of e) j o.state n y w.nodes (λ z. IsOpen z.atp) mine.number stands is (λ same. h.is_open) (λ apart g. t.opened j y g);
-      readings = λ j y is. found_after (node_of e) j o.state n y w.nodes (λ z. IsReading c (moved m b.table asked b.readings) j z.atp.reading) mine.number stands is (λ same. subst (λ i. IsReading c (moved m b.table asked b.readings) i o.state.atp.reading) same b.reading) (λ apart g. reading_kept j y y.atp.reading apart (t.readings j y g));
+      tables = λ j y is. found_after (node_of e) j o.state n y w.nodes (HasTable c b.table j) mine.number stands is
+          (λ same. subst (λ i. HasTable c b.table i o.state) same b.here)
+          (λ apart g. b.elsewhere j y apart (t.tables j y g));
+      opened = λ j y is. found_after (node_of e) j o.state n y w.nodes (λ z. IsOpen z.atp) mine.number stands is
+          (λ same. h.is_open) (λ apart g. t.opened j y g);
+      readings = λ j y is. found_after (node_of e) j o.state n y w.nodes
+          (λ z. IsReading c (moved m b.table asked b.readings) j z.atp.reading) mine.number stands is
+          (λ same. subst (λ i. IsReading c (moved m b.table asked b.readings) i o.state.atp.reading) same b.reading)
+          (λ apart g. reading_kept j y y.atp.reading apart (t.readings j y g));
       on_net = subst (AllByRecursion (IsOn c.net)) is_asked h.on_net;
     },
     refl,
   )
 
   pub good_next : Good A w c m wires t e o
-  good_next = let now = tied_next in (moved m b.table asked b.readings, b.allows, now.0, (h.happening, now.1, with_table A c.net (node_of e) n.atp.table m.table (after A t.history) h.happening (act_of e) o.report (λ table is. (t.tables (node_of e) n stands table is).0) h.matches, (h.more, h.sent)))
+  good_next = let now = tied_next in (
+    moved m b.table asked b.readings,
+    b.allows,
+    now.0,
+    (
+      h.happening,
+      now.1,
+      with_table A c.net (node_of e) n.atp.table m.table (after A t.history) h.happening
+          (act_of e) o.report (λ table is. (t.tables (node_of e) n stands table is).0) h.matches,
+      (h.more, h.sent),
+    ),
+  )

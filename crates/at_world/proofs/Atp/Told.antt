@@ -1,5 +1,6 @@
 -- A play and its history side by side, and how often each delivers a request.
-use Rattle.std.proofs.Common.{◌≡◌, inl, inr, ℕ, zero, suc, ◌+◌, ◌<◌, ◌≤◌, Bool, true, false, cond, List, [], ◌∷◌, ◌++◌, length, Option, Some, refl, sym, ap, subst, ◌∙◌, arith, lit<}
+use Rattle.std.proofs.Common.{◌≡◌, inl, inr, ℕ, zero, suc, ◌+◌, ◌<◌, ◌≤◌, Bool, true, false, cond, List, [], ◌∷◌, ◌++◌}
+use Rattle.std.proofs.Common.{length, Option, Some, refl, sym, ap, subst, ◌∙◌, arith, lit<}
 use Rattle.std.specs.Prelude.{slice_get, IfSome, ◌||◌, ◌==◌, ◌&&◌}
 use Rattle.std.specs.List.{AllByRecursion}
 use Rattle.std.proofs.lemmas.Bool.{false≢true, eq-eqb, eqb-true, and_parts}
@@ -11,16 +12,20 @@ use Rattle.at_ddp.proofs.Octets.{same_address-true, same_address_itself}
 use Rattle.at_atp_frame.specs.Frames.{Content, Request, IsLawful, Spells, spelled}
 use Rattle.at_atp.specs.Askings.{ChangesAsked}
 use Rattle.at_atp.specs.HandUps as HandUps
-use Rattle.at_atp.specs.HandUps.{brings, draws, is_drawn, is_handed_up, expires_there, hand_ups_since, has_expired as record_expired, AllLived, AnswersOnce}
+use Rattle.at_atp.specs.HandUps.{brings, draws, is_drawn, is_handed_up, expires_there, hand_ups_since}
+use Rattle.at_atp.specs.HandUps.{has_expired as record_expired, AllLived, AnswersOnce}
 use Rattle.at_atp.specs.Lawfully.{IsInRange, IsLawfullySent}
 use Rattle.at_atp_frame.specs.Frames.{number_of}
-use Rattle.at_atp.specs.Network.{Network, Sent, AllSent, packet_at, Happening, Takes, Serves, AllTimely, GivesAnswers, after}
+use Rattle.at_ddp.specs.Posts.{AllSent, packet_at}
+use Rattle.at_ddp.specs.Protocols.{atp_kind}
+use Rattle.at_ddp.proofs.PostLemmas.{sent_at}
+use Rattle.at_atp.specs.Network.{Network, Sent, Happening, Takes, Serves, AllTimely, GivesAnswers, after}
 use Rattle.at_atp_responder.specs.Once.{same_key}
 use Rattle.at_atp_responder.specs.declared.reception.Key.{Key}
-use Rattle.at_node.specs.AtpParts.{atp_kind}
 use Rattle.at_event.specs.declared.event.Report.{Report}
 use Rattle.at_event.specs.declared.event.Report.TheVariants as report
-use Rattle.at_world.specs.ExactlyOnce.{Played, onto, since, table_after, CameFrom, HandsUpBy, HandsUp, NoneHandsUp, AtMostOneHandsUp, SomeHandsUp, has_expired, LivesBy, AllLive}
+use Rattle.at_world.specs.ExactlyOnce.{Played, onto, since, table_after, CameFrom, HandsUpBy, HandsUp, NoneHandsUp}
+use Rattle.at_world.specs.ExactlyOnce.{AtMostOneHandsUp, SomeHandsUp, has_expired, LivesBy, AllLive}
 use Rattle.at_world.specs.Sents.{SentDatagram}
 use Rattle.at_steps.specs.AtpReports.{came_under}
 use Rattle.at_steps.specs.AtpReports as reports
@@ -34,10 +39,13 @@ use Rattle.at_setup.specs.declared.event.Event.TheVariants as event
 pub record OnceLaws (A : Type 0) : Type 0 where
   pub answers : (history : List Happening) → AllTimely A history → GivesAnswers A (after A history)
   pub once : (history : List Happening) → AllTimely A history → AllLived A history → AnswersOnce A history
-  pub lawful_sent : (history : List Happening) → AllByRecursion IsInRange history → AllSent IsLawfullySent (after A history).sent
-  pub reads : (to from : Address) (kind : ℕ) (bytes rest : List ℕ) → IsAddress to → IsAddress from → kind < 256 → AreBytes bytes → length bytes ≤ 586
+  pub lawful_sent : (history : List Happening) → AllByRecursion IsInRange history
+      → AllSent IsLawfullySent (after A history).sent
+  pub reads : (to from : Address) (kind : ℕ) (bytes rest : List ℕ) → IsAddress to → IsAddress from → kind < 256
+      → AreBytes bytes → length bytes ≤ 586
       → BeginsWith (canonical to from kind bytes ++ rest) (written to from kind bytes) rest
-  pub alone : (input : List ℕ) (d e : Datagram) (x y : List ℕ) → BeginsWith input d x → BeginsWith input e y → (d ≡ e) × (x ≡ y)
+  pub alone : (input : List ℕ) (d e : Datagram) (x y : List ℕ) → BeginsWith input d x → BeginsWith input e y → (d ≡ e)
+      × (x ≡ y)
   pub packet_reads : (f : Content) → IsLawful f → Spells (spelled f) f
   pub packet_alone : (input : List ℕ) (f g : Content) → Spells input f → Spells input g → f ≡ g
   pub changes : (n : Network) (h : Happening) → ChangesAsked A n h
@@ -47,74 +55,110 @@ pub record OnceLaws (A : Type 0) : Type 0 where
 
 abbrev pub Told : (A : Type 0) → ℕ → List (List ℕ) → List (Played A) → List Happening → Type 0
 Told A net zones [] [] = Unit {0}
-Told A net zones (x ∷ xs) (h ∷ hs) = Matches net (table_after zones xs) (after A hs) h x.event x.report × Grows A (after A hs) h × Told A net zones xs hs
+Told A net zones (x ∷ xs) (h ∷ hs) = Matches net (table_after zones xs) (after A hs) h x.event x.report
+    × Grows A (after A hs) h × Told A net zones xs hs
 Told A net zones [] (h ∷ hs) = ⊥
 Told A net zones (x ∷ xs) [] = ⊥
 
-pub told_of : (A : Type 0) (net : ℕ) (zones : List (List ℕ)) (past : List (Played A)) (before : List Happening) (es : List (Event A)) (rs : List (Report A)) (history : List Happening) → Told A net zones past before → Tells net (table_after zones past) before es rs history → Told A net zones (onto past es rs) history
+pub told_of : (A : Type 0) (net : ℕ) (zones : List (List ℕ)) (past : List (Played A)) (before : List Happening)
+    (es : List (Event A)) (rs : List (Report A)) (history : List Happening) → Told A net zones past before
+    → Tells net (table_after zones past) before es rs history → Told A net zones (onto past es rs) history
 told_of A net zones past before [] [] history told h = subst (Told A net zones past) (sym h) told
-told_of A net zones past before (e ∷ es) (r ∷ rs) history told h = told_of A net zones (record { event = e; report = r } ∷ past) (h.0 ∷ before) es rs history (h.1, h.2, told) h.3
+told_of A net zones past before (e ∷ es) (r ∷ rs) history told h =
+    told_of A net zones (record { event = e; report = r } ∷ past) (h.0 ∷ before) es rs history (h.1, h.2, told) h.3
 told_of A net zones past before [] (r ∷ rs) history told h = absurd h
 told_of A net zones past before (e ∷ es) [] history told h = absurd h
 
-pub get_more : (xs ys : List (Option Sent)) (i : ℕ) (x : Sent) → packet_at xs i ≡ Some x → packet_at (xs ++ ys) i ≡ Some x
+pub get_more : (xs ys : List (Option Sent)) (i : ℕ) (x : Sent) → packet_at xs i ≡ Some x → packet_at (xs ++ ys) i
+    ≡ Some x
 get_more [] ys i x h = absurd (cc)
 get_more (y ∷ xs) ys zero x h = h
 get_more (y ∷ xs) ys (suc i) x h = get_more xs ys i x h
 
-pub within_before : (A : Type 0) (sent : List SentDatagram) (h : Happening) (hs : List Happening) → Grows A (after A hs) h → Within sent (after A (h ∷ hs)) → Within sent (after A hs)
-within_before A sent h hs g within i s is = within i s (ap (λ l. packet_at l i) g.1 ∙ get_more (after A hs).sent g.0 i s is)
+pub within_before : (A : Type 0) (sent : List SentDatagram) (h : Happening) (hs : List Happening)
+    → Grows A (after A hs) h → Within sent (after A (h ∷ hs)) → Within sent (after A hs)
+within_before A sent h hs g within i s is =
+    within i s (ap (λ l. packet_at l i) g.1 ∙ get_more (after A hs).sent g.0 i s is)
 
 -- ---- what is delivered
 
 module _ (A : Type 0) (laws : OnceLaws A) (net : ℕ) (zones : List (List ℕ)) (sent : List SentDatagram) where
-  pub all_in : (P : Sent → Type 0) (xs : List (Option Sent)) (i : ℕ) (s : Sent) → AllSent P xs → packet_at xs i ≡ Some s → P s
-  all_in P [] i s all is = absurd (cc)
-  all_in P (x ∷ xs) zero s all is = subst (λ (o : Option Sent). IfSome o P) is all.0
-  all_in P (x ∷ xs) (suc i) s all is = all_in P xs i s all.1 is
-
-  pub begins : (s : Sent) → IsLawfullySent s → BeginsWith (posted_packet s).bytes (written s.to s.from atp_kind (spelled s.packet)) []
+  pub begins : (s : Sent) → IsLawfullySent s
+      → BeginsWith (posted_packet s).bytes (written s.to s.from atp_kind (spelled s.packet)) []
   begins s ok =
       let fits = laws.packet_fits s.packet ok.lawful in
-      subst (λ bytes. BeginsWith bytes (written s.to s.from atp_kind (spelled s.packet)) []) (append-nil (canonical s.to s.from atp_kind (spelled s.packet)))
+      subst (λ bytes. BeginsWith bytes (written s.to s.from atp_kind (spelled s.packet)) [])
+      (append-nil (canonical s.to s.from atp_kind (spelled s.packet)))
       (laws.reads s.to s.from atp_kind (spelled s.packet) [] ok.to_fits ok.from_fits (lit< tt) fits.0 fits.1)
 
-  pub key_parts : (s : Sent) (key : Key) → same_key (record { from = s.from; tid = number_of s.packet }) key ≡ true → (s.from ≡ key.from) × (number_of s.packet ≡ key.tid)
-  key_parts s key h = let both = and_parts (same_address s.from key.from) (number_of s.packet == key.tid) h in (same_address-true s.from key.from both.0, eqb-true (number_of s.packet) key.tid both.1)
+  pub key_parts : (s : Sent) (key : Key) → same_key (record { from = s.from; tid = number_of s.packet }) key ≡ true
+      → (s.from ≡ key.from) × (number_of s.packet ≡ key.tid)
+  key_parts s key h = let both = and_parts (same_address s.from key.from) (number_of s.packet == key.tid) h in
+      (same_address-true s.from key.from both.0, eqb-true (number_of s.packet) key.tid both.1)
 
-  pub came_there : (which : ℕ) (key : Key) (s : Sent) → slice_get sent which ≡ Some (posted_packet s) → IsLawfullySent s → same_key (record { from = s.from; tid = number_of s.packet }) key ≡ true → CameFrom sent which key
+  pub came_there : (which : ℕ) (key : Key) (s : Sent) → slice_get sent which ≡ Some (posted_packet s)
+      → IsLawfullySent s → same_key (record { from = s.from; tid = number_of s.packet }) key ≡ true
+      → CameFrom sent which key
   came_there which key s is ok same =
       let parts = key_parts s key same in
-      record { datagram = posted_packet s; was_sent = is; header = written s.to s.from atp_kind (spelled s.packet); rest = []; begins = begins s ok; packet = s.packet; spells = laws.packet_reads s.packet ok.lawful; sender = parts.0; numbered = parts.1 }
+      record {
+        datagram = posted_packet s;
+        was_sent = is;
+        header = written s.to s.from atp_kind (spelled s.packet);
+        rest = [];
+        begins = begins s ok;
+        packet = s.packet;
+        spells = laws.packet_reads s.packet ok.lawful;
+        sender = parts.0;
+        numbered = parts.1;
+      }
 
   -- the packet that came at a place is the one that was sent there, from the same address
-  pub came_as : (which : ℕ) (key : Key) (s : Sent) → slice_get sent which ≡ Some (posted_packet s) → IsLawfullySent s → (c : CameFrom sent which key) → (s.packet ≡ c.packet) × (s.from ≡ key.from)
+  pub came_as : (which : ℕ) (key : Key) (s : Sent) → slice_get sent which ≡ Some (posted_packet s) → IsLawfullySent s
+      → (c : CameFrom sent which key) → (s.packet ≡ c.packet) × (s.from ≡ key.from)
   came_as which key s is ok c =
       let one : posted_packet s ≡ c.datagram = some_one (posted_packet s) c.datagram (sym is ∙ c.was_sent) in
-      let header : written s.to s.from atp_kind (spelled s.packet) ≡ c.header = (laws.alone (posted_packet s).bytes (written s.to s.from atp_kind (spelled s.packet)) c.header [] c.rest (begins s ok) (subst (λ (d : SentDatagram). BeginsWith d.bytes c.header c.rest) (sym one) c.begins)).0 in
-      (laws.packet_alone (spelled s.packet) s.packet c.packet (laws.packet_reads s.packet ok.lawful) (subst (λ (d : Datagram). Spells d.data_ c.packet) (sym header) c.spells), ap (λ (d : Datagram). d.from) header ∙ c.sender)
+      let header : written s.to s.from atp_kind (spelled s.packet)
+      ≡ c.header = (laws.alone (posted_packet s).bytes
+      (written s.to s.from atp_kind (spelled s.packet)) c.header [] c.rest (begins s ok)
+      (subst (λ (d : SentDatagram). BeginsWith d.bytes c.header c.rest) (sym one) c.begins)).0 in (
+        laws.packet_alone (spelled s.packet) s.packet c.packet (laws.packet_reads s.packet ok.lawful)
+            (subst (λ (d : Datagram). Spells d.data_ c.packet) (sym header) c.spells),
+        ap
+            (λ (d : Datagram). d.from) header ∙ c.sender,
+      )
     where
       some_one : (a b : SentDatagram) → Some a ≡ Some b → a ≡ b
       some_one a b h = cc
 
-  pub came_so : (which : ℕ) (key : Key) (s : Sent) → slice_get sent which ≡ Some (posted_packet s) → IsLawfullySent s → CameFrom sent which key → same_key (record { from = s.from; tid = number_of s.packet }) key ≡ true
+  pub came_so : (which : ℕ) (key : Key) (s : Sent) → slice_get sent which ≡ Some (posted_packet s) → IsLawfullySent s
+      → CameFrom sent which key → same_key (record { from = s.from; tid = number_of s.packet }) key ≡ true
   came_so which key s is ok c =
       let both = came_as which key s is ok c in
       let tid : number_of s.packet ≡ key.tid = ap number_of both.0 ∙ c.numbered in
-      (λ i. same_address (both.1 i) key.from && tid i == key.tid) ∙ (λ i. same_address_itself key.from i && eq-eqb key.tid key.tid refl i)
+      (λ i. same_address (both.1 i) key.from && tid i == key.tid)
+      ∙ (λ i. same_address_itself key.from i && eq-eqb key.tid key.tid refl i)
 
   -- what the network delivers is what the reports say was delivered
-  pub hands_sound : (e : Event A) (r : Report A) (n : Network) (key : Key) → Within sent n → AllSent IsLawfullySent n.sent → reports.Finishes net (node_of e) n (act_of e) r → HandsUpBy sent e r key → reports.handed_up_by n.sent (act_of e) r key ≡ true
+  pub hands_sound : (e : Event A) (r : Report A) (n : Network) (key : Key) → Within sent n
+      → AllSent IsLawfullySent n.sent → reports.Finishes net (node_of e) n (act_of e) r → HandsUpBy sent e r key
+      → reports.handed_up_by n.sent (act_of e) r key ≡ true
   hands_sound (event.Call node call) r n key within ok f h = absurd h
-  hands_sound (event.Deliver which node) (report.Served count) n key within ok f h = let it = f.0 in ap (λ o. came_under o key) f.1 ∙ came_so which key it (within which it f.1) (all_in IsLawfullySent n.sent which it ok f.1) h
+  hands_sound (event.Deliver which node) (report.Served count) n key within ok f h = let it = f.0 in
+      ap (λ o. came_under o key) f.1
+      ∙ came_so which key it (within which it f.1) (sent_at IsLawfullySent n.sent which it ok f.1) h
   hands_sound (event.Deliver which node) (report.Asked k user bytes) n key within ok f h = h
   hands_sound (event.Deliver which node) r n key within ok f h = absurd h
   hands_sound (event.Timer node time) r n key within ok f h = absurd h
   hands_sound (event.Forge node bytes) r n key within ok f h = absurd h
 
-  pub hands_complete : (e : Event A) (r : Report A) (n : Network) (key : Key) → Within sent n → AllSent IsLawfullySent n.sent → reports.Finishes net (node_of e) n (act_of e) r → reports.handed_up_by n.sent (act_of e) r key ≡ true → HandsUpBy sent e r key
+  pub hands_complete : (e : Event A) (r : Report A) (n : Network) (key : Key) → Within sent n
+      → AllSent IsLawfullySent n.sent → reports.Finishes net (node_of e) n (act_of e) r
+      → reports.handed_up_by n.sent (act_of e) r key ≡ true → HandsUpBy sent e r key
   hands_complete (event.Call node call) r n key within ok f h = absurd (false≢true h)
-  hands_complete (event.Deliver which node) (report.Served count) n key within ok f h = let it = f.0 in came_there which key it (within which it f.1) (all_in IsLawfullySent n.sent which it ok f.1) (sym (ap (λ o. came_under o key) f.1) ∙ h)
+  hands_complete (event.Deliver which node) (report.Served count) n key within ok f h = let it = f.0 in
+      came_there which key it (within which it f.1) (sent_at IsLawfullySent n.sent which it ok f.1)
+      (sym (ap (λ o. came_under o key) f.1) ∙ h)
   hands_complete (event.Deliver which node) (report.Asked k user bytes) n key within ok f h = h
   hands_complete (event.Deliver which node) r n key within ok f h = absurd (false≢true h)
   hands_complete (event.Timer node time) r n key within ok f h = absurd (false≢true h)
@@ -125,61 +169,84 @@ module _ (A : Type 0) (laws : OnceLaws A) (net : ℕ) (zones : List (List ℕ)) 
   pub lawful : (hs : List Happening) → AllByRecursion IsInRange hs → AllSent IsLawfullySent (after A hs).sent
   lawful hs range = laws.lawful_sent hs range
 
-  pub none_go : (x : Played A) (xs : List (Played A)) (key : Key) (k : ℕ) (b u : Bool) → (HandsUp sent key x → u ≡ true) → cond b 0 (cond u (k + 1) k) ≡ 0 → (k ≡ 0 → NoneHandsUp sent key (since net xs key)) → NoneHandsUp sent key (cond b [] (x ∷ since net xs key))
+  pub none_go : (x : Played A) (xs : List (Played A)) (key : Key) (k : ℕ) (b u : Bool)
+      → (HandsUp sent key x → u ≡ true) → cond b 0 (cond u (k + 1) k) ≡ 0
+      → (k ≡ 0 → NoneHandsUp sent key (since net xs key)) → NoneHandsUp sent key (cond b [] (x ∷ since net xs key))
   none_go x xs key k true u sound is before = tt
   none_go x xs key k false true sound is before = absurd (omega (arith, is))
   none_go x xs key k false false sound is before = ((λ hands. false≢true (sound hands)), before is)
 
-  pub none_of : (past : List (Played A)) (hs : List Happening) (key : Key) → Told A net zones past hs → Within sent (after A hs) → AllByRecursion IsInRange hs → hand_ups_since A hs key ≡ 0 → NoneHandsUp sent key (since net past key)
+  pub none_of : (past : List (Played A)) (hs : List Happening) (key : Key) → Told A net zones past hs
+      → Within sent (after A hs) → AllByRecursion IsInRange hs → hand_ups_since A hs key ≡ 0
+      → NoneHandsUp sent key (since net past key)
   none_of [] [] key told within range is = tt
   none_of [] (h ∷ hs) key told within range is = absurd told
   none_of (x ∷ xs) [] key told within range is = absurd told
   none_of (x ∷ xs) (h ∷ hs) key told within range is =
       let m = told.0 in
       let earlier = within_before A sent h hs told.1 within in
-      none_go x xs key (hand_ups_since A hs key) (began_under net x.event x.report key) (is_handed_up (after A hs) h key)
-      (λ hands. m.hands_up key ∙ hands_sound x.event x.report (after A hs) key earlier (lawful hs range.1) m.finishes hands)
-      (ap (λ b. cond b 0 (cond (is_handed_up (after A hs) h key) (hand_ups_since A hs key + 1) (hand_ups_since A hs key))) (sym (m.draws_it key)) ∙ is)
+      none_go x xs key (hand_ups_since A hs key) (began_under net x.event x.report key)
+      (is_handed_up (after A hs) h key)
+      (λ hands. m.hands_up key
+      ∙ hands_sound x.event x.report (after A hs) key earlier (lawful hs range.1) m.finishes hands)
+      (ap (λ b. cond b 0 (cond (is_handed_up (after A hs) h key) (hand_ups_since A hs key + 1)
+      (hand_ups_since A hs key))) (sym (m.draws_it key)) ∙ is)
       (λ zero. none_of xs hs key told.2 earlier range.1 zero)
 
-  pub most_go : (x : Played A) (xs : List (Played A)) (key : Key) (k : ℕ) (b u : Bool) → (HandsUp sent key x → u ≡ true) → cond b 0 (cond u (k + 1) k) ≤ 1 → (k ≡ 0 → NoneHandsUp sent key (since net xs key)) → (k ≤ 1 → AtMostOneHandsUp sent key (since net xs key)) →
+  pub most_go : (x : Played A) (xs : List (Played A)) (key : Key) (k : ℕ) (b u : Bool)
+      → (HandsUp sent key x → u ≡ true) → cond b 0 (cond u (k + 1) k) ≤ 1
+      → (k ≡ 0 → NoneHandsUp sent key (since net xs key)) → (k ≤ 1 → AtMostOneHandsUp sent key (since net xs key)) →
       AtMostOneHandsUp sent key (cond b [] (x ∷ since net xs key))
   most_go x xs key k true u sound few none most = tt
   most_go x xs key k false true sound few none most = ((λ hands. none (omega (arith, few))), most (omega (arith, few)))
   most_go x xs key k false false sound few none most = ((λ hands. absurd (false≢true (sound hands))), most few)
 
-  pub most_of : (past : List (Played A)) (hs : List Happening) (key : Key) → Told A net zones past hs → Within sent (after A hs) → AllByRecursion IsInRange hs → hand_ups_since A hs key ≤ 1 → AtMostOneHandsUp sent key (since net past key)
+  pub most_of : (past : List (Played A)) (hs : List Happening) (key : Key) → Told A net zones past hs
+      → Within sent (after A hs) → AllByRecursion IsInRange hs → hand_ups_since A hs key ≤ 1
+      → AtMostOneHandsUp sent key (since net past key)
   most_of [] [] key told within range few = tt
   most_of [] (h ∷ hs) key told within range few = absurd told
   most_of (x ∷ xs) [] key told within range few = absurd told
   most_of (x ∷ xs) (h ∷ hs) key told within range few =
       let m = told.0 in
       let earlier = within_before A sent h hs told.1 within in
-      most_go x xs key (hand_ups_since A hs key) (began_under net x.event x.report key) (is_handed_up (after A hs) h key)
-      (λ hands. m.hands_up key ∙ hands_sound x.event x.report (after A hs) key earlier (lawful hs range.1) m.finishes hands)
-      (subst (λ b. cond b 0 (cond (is_handed_up (after A hs) h key) (hand_ups_since A hs key + 1) (hand_ups_since A hs key)) ≤ 1) (m.draws_it key) few)
+      most_go x xs key (hand_ups_since A hs key) (began_under net x.event x.report key)
+      (is_handed_up (after A hs) h key)
+      (λ hands. m.hands_up key
+      ∙ hands_sound x.event x.report (after A hs) key earlier (lawful hs range.1) m.finishes hands)
+      (subst (λ b. cond b 0 (cond (is_handed_up (after A hs) h key) (hand_ups_since A hs key + 1)
+      (hand_ups_since A hs key)) ≤ 1) (m.draws_it key) few)
       (λ zero. none_of xs hs key told.2 earlier range.1 zero) (λ one. most_of xs hs key told.2 earlier range.1 one)
 
-  pub some_go : (x : Played A) (xs : List (Played A)) (key : Key) (k : ℕ) (b u : Bool) → (u ≡ true → HandsUp sent key x) → 1 ≤ cond b 0 (cond u (k + 1) k) → (1 ≤ k → SomeHandsUp sent key (since net xs key)) → SomeHandsUp sent key (cond b [] (x ∷ since net xs key))
+  pub some_go : (x : Played A) (xs : List (Played A)) (key : Key) (k : ℕ) (b u : Bool)
+      → (u ≡ true → HandsUp sent key x) → 1 ≤ cond b 0 (cond u (k + 1) k)
+      → (1 ≤ k → SomeHandsUp sent key (since net xs key)) → SomeHandsUp sent key (cond b [] (x ∷ since net xs key))
   some_go x xs key k true u complete some before = absurd (omega (arith, some))
   some_go x xs key k false true complete some before = inl (complete refl)
   some_go x xs key k false false complete some before = inr (before some)
 
-  pub some_of : (past : List (Played A)) (hs : List Happening) (key : Key) → Told A net zones past hs → Within sent (after A hs) → AllByRecursion IsInRange hs → 1 ≤ hand_ups_since A hs key → SomeHandsUp sent key (since net past key)
+  pub some_of : (past : List (Played A)) (hs : List Happening) (key : Key) → Told A net zones past hs
+      → Within sent (after A hs) → AllByRecursion IsInRange hs → 1 ≤ hand_ups_since A hs key
+      → SomeHandsUp sent key (since net past key)
   some_of [] [] key told within range some = absurd (omega (arith, some))
   some_of [] (h ∷ hs) key told within range some = absurd told
   some_of (x ∷ xs) [] key told within range some = absurd told
   some_of (x ∷ xs) (h ∷ hs) key told within range some =
       let m = told.0 in
       let earlier = within_before A sent h hs told.1 within in
-      some_go x xs key (hand_ups_since A hs key) (began_under net x.event x.report key) (is_handed_up (after A hs) h key)
-      (λ up. hands_complete x.event x.report (after A hs) key earlier (lawful hs range.1) m.finishes (sym (m.hands_up key) ∙ up))
-      (subst (λ b. 1 ≤ cond b 0 (cond (is_handed_up (after A hs) h key) (hand_ups_since A hs key + 1) (hand_ups_since A hs key))) (m.draws_it key) some)
+      some_go x xs key (hand_ups_since A hs key) (began_under net x.event x.report key)
+      (is_handed_up (after A hs) h key)
+      (λ up. hands_complete x.event x.report (after A hs) key earlier (lawful hs range.1) m.finishes
+      (sym (m.hands_up key) ∙ up))
+      (subst (λ b. 1 ≤ cond b 0
+      (cond (is_handed_up (after A hs) h key) (hand_ups_since A hs key + 1) (hand_ups_since A hs key)))
+      (m.draws_it key) some)
       (λ one. some_of xs hs key told.2 earlier range.1 one)
 
   -- ---- records that live
 
-  pub same_expiry : (past : List (Played A)) (hs : List Happening) (at : Address) (key : Key) → Told A net zones past hs → record_expired A hs at key ≡ has_expired net past at key
+  pub same_expiry : (past : List (Played A)) (hs : List Happening) (at : Address) (key : Key)
+      → Told A net zones past hs → record_expired A hs at key ≡ has_expired net past at key
   same_expiry [] [] at key told = refl
   same_expiry [] (h ∷ hs) at key told = absurd told
   same_expiry (x ∷ xs) [] at key told = absurd told
@@ -188,22 +255,36 @@ module _ (A : Type 0) (laws : OnceLaws A) (net : ℕ) (zones : List (List ℕ)) 
       let before = same_expiry xs hs at key told.2 in
       λ i. cond (m.draws_it key i) false (m.expires_it at key i || before i)
 
-  pub lives_in : (e : Event A) (past : List (Played A)) (hs : List Happening) (which node : ℕ) → e ≡ event.Deliver which node → Told A net zones past hs → Within sent (after A hs) → LivesBy net sent e past →
-      (s : Sent) (mask : ℕ) (xo : Bool) (timer tid : ℕ) (user bytes : List ℕ) → packet_at (after A hs).sent which ≡ Some s → s.packet ≡ Request mask xo timer tid user bytes → record_expired A hs s.to (record { from = s.from; tid = tid }) ≡ false
-  lives_in e past hs which node is told within lives s mask xo timer tid user bytes was_sent packet_is =
+  pub lives_in : (e : Event A) (past : List (Played A)) (hs : List Happening) (which node : ℕ)
+      → e ≡ event.Deliver which node → Told A net zones past hs → Within sent (after A hs)
+      → AllByRecursion IsInRange hs → LivesBy net sent e past → (s : Sent) (mask : ℕ) (xo : Bool) (timer tid : ℕ)
+      (user bytes : List ℕ) → packet_at (after A hs).sent which ≡ Some s
+      → s.packet ≡ Request mask xo timer tid user bytes
+      → record_expired A hs s.to (record { from = s.from; tid = tid }) ≡ false
+  lives_in e past hs which node is told within range lives s mask xo timer tid user bytes was_sent packet_is =
+      let ok = sent_at IsLawfullySent (after A hs).sent which s (lawful hs range) was_sent in
+      let parts = subst IsLawful packet_is ok.lawful in
       same_expiry past hs s.to (record { from = s.from; tid = tid }) told
-      ∙ subst (λ x. LivesBy net sent x past) is lives (posted_packet s) s.to s.from mask xo timer tid user bytes (within which s was_sent) (ap (λ f. canonical s.to s.from atp_kind (spelled f)) packet_is)
+      ∙ subst (λ x. LivesBy net sent x past) is lives (posted_packet s) s.to s.from mask xo timer tid user bytes
+      parts.1
+      (within which s was_sent) (ap (λ f. canonical s.to s.from atp_kind (spelled f)) packet_is)
 
-  pub all_lived : (past : List (Played A)) (hs : List Happening) → Told A net zones past hs → Within sent (after A hs) → AllLive net sent past → AllLived A hs
-  all_lived [] [] told within live = tt
-  all_lived [] (h ∷ hs) told within live = absurd told
-  all_lived (x ∷ xs) [] told within live = absurd told
-  all_lived (x ∷ xs) (h ∷ hs) told within live = (lived h told.0, all_lived xs hs told.2 earlier live.1)
+  pub all_lived : (past : List (Played A)) (hs : List Happening) → Told A net zones past hs → Within sent (after A hs)
+      → AllByRecursion IsInRange hs → AllLive net sent past → AllLived A hs
+  all_lived [] [] told within range live = tt
+  all_lived [] (h ∷ hs) told within range live = absurd told
+  all_lived (x ∷ xs) [] told within range live = absurd told
+  all_lived (x ∷ xs) (h ∷ hs) told within range live =
+      (lived h told.0, all_lived xs hs told.2 earlier range.1 live.1)
     where
       earlier : Within sent (after A hs)
       earlier = within_before A sent h hs told.1 within
 
-      lived : (g : Happening) → Matches net (table_after zones xs) (after A hs) g x.event x.report → HandUps.Lives A hs g
-      lived (Takes which) m = lives_in x.event xs hs which (node_of x.event) (delivered_at x.event which m.takes_in) told.2 earlier live.0
-      lived (Serves which packets) m = lives_in x.event xs hs which (node_of x.event) (delivered_at x.event which m.takes_in) told.2 earlier live.0
+      lived : (g : Happening) → Matches net (table_after zones xs) (after A hs) g x.event x.report
+          → HandUps.Lives A hs g
+      lived (Takes which) m = lives_in x.event xs hs which (node_of x.event)
+          (delivered_at x.event which m.takes_in) told.2 earlier range.1 live.0
+      lived (Serves which packets) m =
+          lives_in x.event xs hs which (node_of x.event) (delivered_at x.event which m.takes_in) told.2 earlier range.1
+          live.0
       lived g m = tt

@@ -1,5 +1,6 @@
 -- The names at each moment: those of the network after so many happenings.
-use Rattle.std.proofs.Common.{◌≡◌, ℕ, zero, suc, ◌+◌, ◌-◌, ◌≤◌, true, false, List, [], ◌∷◌, ◌++◌, length, drop, Some, refl, sym, ap, ◌∙◌, arith}
+use Rattle.std.proofs.Common.{◌≡◌, ℕ, zero, suc, ◌+◌, ◌-◌, ◌≤◌, true, false, List, [], ◌∷◌, ◌++◌, length, drop, Some}
+use Rattle.std.proofs.Common.{refl, sym, ap, ◌∙◌, arith}
 use Rattle.std.specs.Prelude.{slice_get, nat_lt, ◌==◌, ◌&&◌}
 use Rattle.std.proofs.lemmas.Bool.{and_parts, eqb-true}
 use Rattle.std.proofs.lemmas.List.{length-append}
@@ -37,17 +38,31 @@ get_left [] ys i x is = absurd cc
 get_left (y ∷ xs) ys zero x is = is
 get_left (y ∷ xs) ys (suc i) x is = get_left xs ys i x is
 
-pub past_next : (net : ℕ) (setting : Setting) (history : List Happening) (h : Happening) (past : List Directory) (now : Directory) → Past net setting history past → Moment net (after setting (h ∷ history)) now → Past net setting (h ∷ history) (past ++ now ∷ [])
-past_next net setting history h past now p m = record { count = let count = p.count in omega (arith, count, length-append past (now ∷ [])); each = each }
+pub past_next : (net : ℕ) (setting : Setting) (history : List Happening) (h : Happening) (past : List Directory)
+    (now : Directory) → Past net setting history past → Moment net (after setting (h ∷ history)) now
+    → Past net setting (h ∷ history) (past ++ now ∷ [])
+past_next net setting history h past now p m =
+    record { count = let count = p.count in omega (arith, count, length-append past (now ∷ [])); each = each }
   where
     each : (ago : ℕ) → ago ≤ length (h ∷ history) → Ago net setting (h ∷ history) (past ++ now ∷ []) ago
-    each zero le = let count = p.count in record { directory = now; stands = get_last past now (length (h ∷ history) - 0) (omega (arith, count)); moment = m }
+    each zero le = let count = p.count in
+        record {
+          directory = now;
+          stands = get_last past now (length (h ∷ history) - 0) (omega (arith, count));
+          moment = m;
+        }
     each (suc ago) le =
         let older = p.each ago (omega (arith, le)) in
         let same : length history - ago ≡ length (h ∷ history) - suc ago = omega arith in
-        record { directory = older.directory; stands = ap (slice_get (past ++ now ∷ [])) (sym same) ∙ get_left past (now ∷ []) (length history - ago) older.directory older.stands; moment = older.moment }
+        record {
+          directory = older.directory;
+          stands = ap (slice_get (past ++ now ∷ [])) (sym same)
+              ∙ get_left past (now ∷ []) (length history - ago) older.directory older.stands;
+          moment = older.moment;
+        }
 
-pub first_moment : (net : ℕ) (setting : Setting) (now : Directory) → Moment net (after setting []) now → Past net setting [] (now ∷ [])
+pub first_moment : (net : ℕ) (setting : Setting) (now : Directory) → Moment net (after setting []) now
+    → Past net setting [] (now ∷ [])
 first_moment net setting now m = record { count = refl; each = each }
   where
     each : (ago : ℕ) → ago ≤ 0 → Ago net setting [] (now ∷ []) ago

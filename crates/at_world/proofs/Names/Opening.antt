@@ -1,5 +1,6 @@
 -- The tie of names before anything happened.
-use Rattle.std.proofs.Common.{◌≡◌, ℕ, ◌<◌, Bool, true, false, cond, List, [], ◌∷◌, find, map, Option, Some, None, refl, sym, ap, subst, ◌∙◌, lit<, lit≤, arith}
+use Rattle.std.proofs.Common.{◌≡◌, ℕ, ◌<◌, Bool, true, false, cond, List, [], ◌∷◌, find, map, Option, Some, None, refl}
+use Rattle.std.proofs.Common.{sym, ap, subst, ◌∙◌, lit<, lit≤, arith}
 use Rattle.std.specs.Prelude.{is_none, ◌==◌}
 use Rattle.std.specs.List.{AllByRecursion, list_all}
 use Rattle.std.proofs.lemmas.Bool.{and_parts, eqb-true, false≢true}
@@ -40,14 +41,16 @@ no_zone_fits (Some name) h = absurd (false≢true h)
 abbrev IsPlaced : NodeSetup → Type 0
 IsPlaced n = IsString (own_zone n.zone)
 
-all_by : (p : NodeSetup → Bool) → ((n : NodeSetup) → p n ≡ true → IsPlaced n) → (ns : List NodeSetup) → list_all p ns ≡ true → AllByRecursion IsPlaced ns
+all_by : (p : NodeSetup → Bool) → ((n : NodeSetup) → p n ≡ true → IsPlaced n) → (ns : List NodeSetup) → list_all p ns
+    ≡ true → AllByRecursion IsPlaced ns
 all_by p fits [] h = tt
 all_by p fits (n ∷ ns) h = let parts = and_parts (p n) (list_all p ns) h in (fits n parts.0, all_by p fits ns parts.1)
 
 all_placed : SetupLaws → (ns : List NodeSetup) → are_in_zones ns ≡ true → AllByRecursion IsPlaced ns
 all_placed laws ns = go (has_router ns)
   where
-    go : (b : Bool) → cond b (list_all (λ n. is_zone n.zone) ns) (list_all (λ n. is_none n.zone) ns) ≡ true → AllByRecursion IsPlaced ns
+    go : (b : Bool) → cond b (list_all (λ n. is_zone n.zone) ns) (list_all (λ n. is_none n.zone) ns) ≡ true
+        → AllByRecursion IsPlaced ns
     go true h = all_by (λ n. is_zone n.zone) (λ n. zone_fits laws n.zone) ns h
     go false h = all_by (λ n. is_none n.zone) (λ n. no_zone_fits n.zone) ns h
 
@@ -59,11 +62,14 @@ zone_known (n ∷ ns) k all = go (zone_known ns k all.1) (n.node == k)
     go rest true = all.0
     go rest false = rest
 
-neighbours_fit : (ns : List NodeSetup) → AllByRecursion IsPlaced ns → AllByRecursion (λ (n : Neighbour). IsString n.zone) (neighbours_of ns)
+neighbours_fit : (ns : List NodeSetup) → AllByRecursion IsPlaced ns
+    → AllByRecursion (λ (n : Neighbour). IsString n.zone) (neighbours_of ns)
 neighbours_fit [] all = tt
 neighbours_fit (n ∷ ns) all = go (neighbours_fit ns all.1) n.zone all.0
   where
-    go : AllByRecursion (λ (x : Neighbour). IsString x.zone) (neighbours_of ns) → (o : Option (List ℕ)) → IsString (own_zone o) → AllByRecursion (λ (x : Neighbour). IsString x.zone) (joined n.node o (neighbours_of ns))
+    go : AllByRecursion (λ (x : Neighbour). IsString x.zone) (neighbours_of ns) → (o : Option (List ℕ))
+        → IsString (own_zone o) → AllByRecursion (λ (x : Neighbour). IsString x.zone)
+        (joined n.node o (neighbours_of ns))
     go rest None fits = rest
     go rest (Some name) fits = (fits, rest)
 
@@ -88,48 +94,77 @@ module _ (A : Type 0) (laws : NameLaws A) (s : Setup A) where
   -- a node as it opens, among these
   record Opened (ns : List NodeSetup) (k : ℕ) (n : NodeState) : Type 0 where
     pub small : k < 255
-    pub is : (x : NodeSetup) × (IsPlaced x) × (own_zone x.zone ≡ zone_at ns k) × (n ≡ opening_node s (record x { node = k }))
+    pub is : (x : NodeSetup) × (IsPlaced x) × (own_zone x.zone ≡ zone_at ns k)
+        × (n ≡ opening_node s (record x { node = k }))
 
-  opened : (ns : List NodeSetup) → list_all is_lawful_node ns ≡ true → AllByRecursion IsPlaced ns → (k : ℕ) (n : NodeState) → find (is_numbered k) (map (opening_node s) ns) ≡ Some n → Opened ns k n
+  opened : (ns : List NodeSetup) → list_all is_lawful_node ns ≡ true → AllByRecursion IsPlaced ns
+      → (k : ℕ) (n : NodeState) → find (is_numbered k) (map (opening_node s) ns) ≡ Some n → Opened ns k n
   opened [] ok placed k n h = absurd (cc)
   opened (x ∷ ns) ok placed k n h = go (λ each. opened ns each placed.1 k n) (x.node == k) refl h
     where
-      go : (list_all is_lawful_node ns ≡ true → find (is_numbered k) (map (opening_node s) ns) ≡ Some n → Opened ns k n) → (b : Bool) → (x.node == k) ≡ b → cond b (Some (opening_node s x)) (find (is_numbered k) (map (opening_node s) ns)) ≡ Some n → Opened (x ∷ ns) k n
+      go : (list_all is_lawful_node ns ≡ true → find (is_numbered k) (map (opening_node s) ns) ≡ Some n
+          → Opened ns k n) → (b : Bool) → (x.node == k) ≡ b
+          → cond b (Some (opening_node s x)) (find (is_numbered k) (map (opening_node s) ns)) ≡ Some n
+          → Opened (x ∷ ns) k n
       go ih true e g =
           let parts = and_parts (is_lawful_node x) (list_all is_lawful_node ns) ok in
           let same : x.node ≡ k = eqb-true x.node k e in
           let small = node_fits x parts.0 in
           let is : opening_node s x ≡ n = cc in
-          record { small = omega (arith, small, same); is = (x, placed.0, sym (ap (λ b. cond b (own_zone x.zone) (zone_at ns k)) e), sym is ∙ (λ i. opening_node s (record x { node = same i }))) }
+          record {
+            small = omega (arith, small, same);
+            is = (
+              x,
+              placed.0,
+              sym (ap (λ b. cond b (own_zone x.zone) (zone_at ns k)) e),
+              sym is
+                  ∙ (λ i. opening_node s (record x { node = same i })),
+            );
+          }
       go ih false e g =
           let parts = and_parts (is_lawful_node x) (list_all is_lawful_node ns) ok in
           let later = ih parts.1 g in
           let it = later.is in
-          record { small = later.small; is = (it.0, it.1, it.2 ∙ sym (ap (λ b. cond b (own_zone x.zone) (zone_at ns k)) e), it.3) }
+          record {
+            small = later.small;
+            is = (it.0, it.1, it.2 ∙ sym (ap (λ b. cond b (own_zone x.zone) (zone_at ns k)) e), it.3);
+          }
 
-  has_socket : AllByRecursion IsPlaced s.nodes → (k : ℕ) (n : NodeState) → Opened s.nodes k n → HasSocket s.net setting [] (names.opening s) k n
+  has_socket : AllByRecursion IsPlaced s.nodes → (k : ℕ) (n : NodeState) → Opened s.nodes k n
+      → HasSocket s.net setting [] (names.opening s) k n
   has_socket placed k n o =
       let it = o.is in
       let x : NodeSetup = record it.0 { node = k } in
       subst (HasSocket s.net setting [] (names.opening s) k) (sym it.3) (record {
         small = o.small;
-        stands = record { table = λ i. record { own = names_of s.net k; zone = sym it.2 i; names = [] }; lookups = refl };
-        socket = laws.opens s.net k (router_of s.nodes) x.zone (cond x.router (Some (neighbours_of s.nodes)) None) it.1 (λ ns is. known x.router ns is);
+        stands = record {
+          table = λ i. record { own = names_of s.net k; zone = sym it.2 i; names = [] };
+          lookups = refl;
+        };
+        socket = laws.opens s.net k (router_of s.nodes) x.zone (cond x.router (Some (neighbours_of s.nodes)) None) it.1
+            (λ ns is. known x.router ns is);
         own = refl;
         known = λ id. tt;
       })
     where
-      known : (b : Bool) (ns : List Neighbour) → cond b (Some (neighbours_of s.nodes)) None ≡ Some ns → AllByRecursion (λ (y : Neighbour). IsString y.zone) ns
-      known true ns is = let same : neighbours_of s.nodes ≡ ns = cc in subst (AllByRecursion (λ (y : Neighbour). IsString y.zone)) same (neighbours_fit s.nodes placed)
+      known : (b : Bool) (ns : List Neighbour) → cond b (Some (neighbours_of s.nodes)) None ≡ Some ns
+          → AllByRecursion (λ (y : Neighbour). IsString y.zone) ns
+      known true ns is = let same : neighbours_of s.nodes
+          ≡ ns = cc in subst (AllByRecursion (λ (y : Neighbour). IsString y.zone)) same (neighbours_fit s.nodes placed)
       known false ns is = absurd cc
 
-  pub names_at_opening : SetupLaws → is_lawful s ≡ true → NameTie (opening_world s) (cables.opening s) [] (names.opening s)
+  pub names_at_opening : SetupLaws → is_lawful s ≡ true
+      → NameTie (opening_world s) (cables.opening s) [] (names.opening s)
   names_at_opening names ok =
       let has = lawful_has A s ok in
       let placed = all_placed names s.nodes has.placed in
       let lawful : IsLawfulSetting setting = record {
         zone = λ at. zone_known s.nodes at.node placed;
-        to = λ at fits. record { net = has.net; node = asked_fits (router_of s.nodes) (λ r is. router_fits s.nodes r has.each is); socket = lit< tt };
+        to = λ at fits. record {
+          net = has.net;
+          node = asked_fits (router_of s.nodes) (λ r is. router_fits s.nodes r has.each is);
+          socket = lit< tt;
+        };
       } in
       record {
         setting = setting;

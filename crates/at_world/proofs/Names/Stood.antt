@@ -1,5 +1,6 @@
 -- What a lookup found stood at some moment of the machine.
-use Rattle.std.proofs.Common.{◌≡◌, ℕ, ◌+◌, ◌-◌, Bool, true, false, List, [], ◌∷◌, length, drop, refl, ap, subst, ◌∙◌, arith}
+use Rattle.std.proofs.Common.{◌≡◌, ℕ, ◌+◌, ◌-◌, Bool, true, false, List, [], ◌∷◌, length, drop, refl, ap, subst, ◌∙◌}
+use Rattle.std.proofs.Common.{arith}
 use Rattle.std.specs.Prelude.{Contains}
 use Rattle.std.specs.List.{AllByRecursion}
 use Rattle.at_ddp.specs.declared.address.Address.{Address}
@@ -20,7 +21,9 @@ none_there r [] is (k, within, at) = absurd (omega (arith, within))
 none_there r (x ∷ names) is there = absurd cc
 
 -- what stood in the network since an event stood in the machine since the moment after it
-pub stood_since : (net : ℕ) (setting : Setting) (history : List Happening) (past : List Directory) → Past net setting history past → (event since : ℕ) → since ≡ event + 1 → (pattern : Name) (f : Find) → FindStood setting history event pattern f → Stood past since pattern f
+pub stood_since : (net : ℕ) (setting : Setting) (history : List Happening) (past : List Directory)
+    → Past net setting history past → (event since : ℕ) → since ≡ event + 1 → (pattern : Name) (f : Find)
+    → FindStood setting history event pattern f → Stood past since pattern f
 stood_since net setting history past p event since is pattern f found = go (is_names_socket net at) refl
   where
     at : Address
@@ -36,7 +39,9 @@ stood_since net setting history past p event since is pattern f found = go (is_n
         let s = found.stood in
         let within = s.since in
         let then = p.each s.ago (omega (arith, within)) in
-        let same : (after setting (drop s.ago history)).tables at ≡ then.directory at.node = ap (after setting (drop s.ago history)).tables (is_socket_of net at e) ∙ (then.moment).here at.node in
+        let same : (after setting (drop s.ago history)).tables at
+        ≡ then.directory at.node = ap (after setting (drop s.ago history)).tables (is_socket_of net at e)
+        ∙ (then.moment).here at.node in
         record {
           moment = length history - s.ago;
           later = omega (arith, within, is);
@@ -48,6 +53,9 @@ stood_since net setting history past p event since is pattern f found = go (is_n
           is = found.is ∙ ap (find_of pattern) (s.is ∙ ap (λ (t : Table). entry_in t s.name) same);
         }
 
-pub all_stood : (net : ℕ) (setting : Setting) (history : List Happening) (past : List Directory) → Past net setting history past → (event since : ℕ) → since ≡ event + 1 → (pattern : Name) (finds : List Find) →
+pub all_stood : (net : ℕ) (setting : Setting) (history : List Happening) (past : List Directory)
+    → Past net setting history past → (event since : ℕ) → since ≡ event + 1 → (pattern : Name) (finds : List Find) →
     AllByRecursion (FindStood setting history event pattern) finds → AllByRecursion (Stood past since pattern) finds
-all_stood net setting history past p event since is pattern finds each = all_implied (FindStood setting history event pattern) (Stood past since pattern) finds (stood_since net setting history past p event since is pattern) each
+all_stood net setting history past p event since is pattern finds each =
+    all_implied (FindStood setting history event pattern) (Stood past since pattern) finds
+    (stood_since net setting history past p event since is pattern) each

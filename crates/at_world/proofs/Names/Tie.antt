@@ -1,13 +1,17 @@
 -- What ties a world to what the machine knows of names and lookups, through a history of the network of its sockets for
 -- names.
-use Rattle.std.proofs.Common.{◌≡◌, ℕ, ◌<◌, true, false, cond, List, [], ◌∷◌, ◌++◌, length, map, Option, Some, None, sym, ap, ◌∙◌}
+use Rattle.std.proofs.Common.{◌≡◌, ℕ, ◌<◌, true, false, cond, List, [], ◌∷◌, ◌++◌, length, map, Option, Some, None, sym}
+use Rattle.std.proofs.Common.{ap, ◌∙◌}
 use Rattle.std.specs.Prelude.{IfSome, ◌==◌}
 use Rattle.std.specs.List.{AllByRecursion}
 use Rattle.at_ddp.specs.Datagram.{canonical}
 use Rattle.at_ddp.specs.declared.address.Address.{Address}
 use Rattle.at_nbp.specs.Askers.{IsAskedBy}
 use Rattle.at_nbp.specs.Lawfully.{IsInRange, IsLawfulSetting, IsLawfullySent, IsNamed}
-use Rattle.at_nbp.specs.Network.{AllAsk, AllTimely, FindsStood, Happening, Sent, Setting, after, is_fresh, packet_at}
+use Rattle.at_ddp.specs.Posts.{packet_at}
+use Rattle.at_ddp.specs.Protocols.{nbp_kind}
+use Rattle.at_world.proofs.Entries.{Entries}
+use Rattle.at_nbp.specs.Network.{AllAsk, AllTimely, FindsStood, Happening, Sent, Setting, after, is_fresh}
 use Rattle.at_nbp.specs.Packets.{spelling}
 use Rattle.at_nbp.specs.Tuples.{IsString}
 use Rattle.at_nbp.specs.declared.function.Function.TheVariants as function
@@ -17,19 +21,18 @@ use Rattle.at_name_socket.specs.Sockets.{Change, IsSocket, changed, open_at}
 use Rattle.at_name_socket.specs.Steps as socket_steps
 use Rattle.at_name_socket.specs.declared.neighbour.Neighbour.{Neighbour}
 use Rattle.at_event.specs.Calls.{IsCall}
-use Rattle.at_node.specs.Drawing.{Carries, drawn_by}
+use Rattle.at_node.specs.Numbers.{Carries, drawn_by}
 use Rattle.at_node.specs.Hearing.{Hears}
 use Rattle.at_event.specs.Kinds.{kind_of_call, kind_of_timer}
-use Rattle.at_event.specs.Seats.{nbp_kind}
 use Rattle.at_node.specs.Nodes.{NodeState, called, timed}
 use Rattle.at_event.specs.Outcomes.{Outcome, Outgoing}
-use Rattle.at_node.specs.declared.drawing.Draw.TheVariants.{Lookup as Identifier}
+use Rattle.at_node.specs.declared.numbers.Draw.TheVariants.{Lookup as Identifier}
 use Rattle.at_event.specs.declared.event.Call.{Call}
 use Rattle.at_event.specs.declared.event.Report.{Report}
 use Rattle.at_event.specs.declared.event.Timer.{Timer}
 use Rattle.at_event.specs.declared.service.Reply.{Reply}
 use Rattle.at_steps.specs.Acts.{Act, Calls, Fires, Gets, is_nbp}
-use Rattle.at_steps.specs.NameHappenings.{AreEntries, Happens, IsForeign, IsHappening, Stands, is_names_socket}
+use Rattle.at_steps.specs.NameHappenings.{Happens, IsForeign, IsHappening, Stands, is_names_socket, name_coding}
 use Rattle.at_world.specs.Cables.{Cable, owner_of}
 use Rattle.at_world.specs.Events.{node_of}
 use Rattle.at_world.specs.NameGuards.{Directory, NameMachine, StepBy, next}
@@ -43,40 +46,48 @@ use Rattle.at_world.proofs.Names.Times.{IsNoted}
 
 -- what the layers below promise
 pub record NameLaws (A : Type 0) : Type 0 where
-  pub foreign_call : (n : NodeState) (call : Call A) → is_nbp (kind_of_call call) ≡ false → IsForeign n (Calls call) (called n call)
-  pub foreign_timer : (n : NodeState) (time : Timer) → is_nbp (kind_of_timer time) ≡ false → IsForeign {A = A} n (Fires time) (timed n time)
-  pub foreign_datagram : (n : NodeState) (which : ℕ) (to from : Address) (kind : ℕ) (bytes : List ℕ) (said : Reply A) (o : Outcome A NodeState) → (kind == nbp_kind) ≡ false → Hears said n (canonical to from kind bytes) o → IsForeign n (Gets which) o
-  pub called : (setting : Setting) (history : List Happening) (n : NodeState) (call : Call A) → Stands setting history n.seat.net n.seat.number n → IsCall call → is_nbp (kind_of_call call) ≡ true → IsHappening setting history n.seat.net n.seat.number n (Calls call) (called n call)
-  pub timed : (setting : Setting) (history : List Happening) (n : NodeState) (time : Timer) → Stands setting history n.seat.net n.seat.number n → is_nbp (kind_of_timer time) ≡ true → IsHappening {A = A} setting history n.seat.net n.seat.number n (Fires time) (timed n time)
-  pub heard : (setting : Setting) (history : List Happening) (n : NodeState) (which : ℕ) (s : Sent) (said : Reply A) (o : Outcome A NodeState) → Stands setting history n.seat.net n.seat.number n → packet_at (after setting history).sent which ≡ Some s
-      → (s.packet.function ≡ function.Reply → is_fresh (after setting history).begun s ≡ true) → Hears said n (canonical s.to s.from nbp_kind (spelling s.packet)) o → IsHappening setting history n.seat.net n.seat.number n (Gets which) o
-  pub passes : (setting : Setting) (history : List Happening) (n : NodeState) (act : Act A) (o : Outcome A NodeState) → Stands setting history n.seat.net n.seat.number n → IsForeign n act o → Happens setting history n.seat.net n.seat.number n act o
-  pub carries : (s : Sent) → IsLawfullySent s → s.packet.function ≡ function.Reply → Carries (canonical s.to s.from nbp_kind (spelling s.packet)) s.to.node (Identifier s.packet.id)
-  pub lawful_sent : (setting : Setting) (history : List Happening) → IsLawfulSetting setting → AllTimely setting history → AllByRecursion IsInRange history → AllByRecursion (λ o. IfSome o IsLawfullySent) (after setting history).sent
-  pub named : (setting : Setting) (history : List Happening) → IsLawfulSetting setting → AllTimely setting history → AllByRecursion IsInRange history → (at : Address) → AllByRecursion IsNamed ((after setting history).tables at).names
-  pub found : (setting : Setting) (history : List Happening) → AllAsk setting → AllTimely setting history → FindsStood setting history
-  pub opens : (net node : ℕ) (router : Option ℕ) (zone : Option (List ℕ)) (neighbours : Option (List Neighbour)) → IsString (own_zone zone) → ((ns : List Neighbour) → neighbours ≡ Some ns → AllByRecursion (λ n. IsString n.zone) ns)
+  pub foreign_call : (n : NodeState) (call : Call A) → is_nbp (kind_of_call call) ≡ false
+      → IsForeign n (Calls call) (called n call)
+  pub foreign_timer : (n : NodeState) (time : Timer) → is_nbp (kind_of_timer time) ≡ false
+      → IsForeign {A = A} n (Fires time) (timed n time)
+  pub foreign_datagram : (n : NodeState) (which : ℕ) (to from : Address) (kind : ℕ) (bytes : List ℕ) (said : Reply A)
+      (o : Outcome A NodeState) → (kind == nbp_kind) ≡ false → Hears said n (canonical to from kind bytes) o
+      → IsForeign n (Gets which) o
+  pub called : (setting : Setting) (history : List Happening) (n : NodeState) (call : Call A)
+      → Stands setting history n.seat.net n.seat.number n → IsCall call → is_nbp (kind_of_call call) ≡ true
+      → IsHappening setting history n.seat.net n.seat.number n (Calls call) (called n call)
+  pub timed : (setting : Setting) (history : List Happening) (n : NodeState) (time : Timer)
+      → Stands setting history n.seat.net n.seat.number n → is_nbp (kind_of_timer time) ≡ true
+      → IsHappening {A = A} setting history n.seat.net n.seat.number n (Fires time) (timed n time)
+  pub heard : (setting : Setting) (history : List Happening) (n : NodeState) (which : ℕ) (s : Sent) (said : Reply A)
+      (o : Outcome A NodeState) → Stands setting history n.seat.net n.seat.number n
+      → packet_at (after setting history).sent which ≡ Some s
+      → (s.packet.function ≡ function.Reply → is_fresh (after setting history).begun s ≡ true)
+      → Hears said n (canonical s.to s.from nbp_kind (spelling s.packet)) o
+      → IsHappening setting history n.seat.net n.seat.number n (Gets which) o
+  pub passes : (setting : Setting) (history : List Happening) (n : NodeState) (act : Act A) (o : Outcome A NodeState)
+      → Stands setting history n.seat.net n.seat.number n → IsForeign n act o
+      → Happens setting history n.seat.net n.seat.number n act o
+  pub carries : (s : Sent) → IsLawfullySent s → s.packet.function ≡ function.Reply
+      → Carries (canonical s.to s.from nbp_kind (spelling s.packet)) s.to.node (Identifier s.packet.id)
+  pub lawful_sent : (setting : Setting) (history : List Happening) → IsLawfulSetting setting
+      → AllTimely setting history → AllByRecursion IsInRange history
+      → AllByRecursion (λ o. IfSome o IsLawfullySent) (after setting history).sent
+  pub named : (setting : Setting) (history : List Happening) → IsLawfulSetting setting → AllTimely setting history
+      → AllByRecursion IsInRange history → (at : Address)
+      → AllByRecursion IsNamed ((after setting history).tables at).names
+  pub found : (setting : Setting) (history : List Happening) → AllAsk setting → AllTimely setting history
+      → FindsStood setting history
+  pub opens : (net node : ℕ) (router : Option ℕ) (zone : Option (List ℕ)) (neighbours : Option (List Neighbour))
+      → IsString (own_zone zone)
+      → ((ns : List Neighbour) → neighbours ≡ Some ns → AllByRecursion (λ n. IsString n.zone) ns)
       → IsSocket (sockets.opening net node router zone neighbours)
 
 -- ---- what is known of a world
 
--- a packet as it was sent
-abbrev pub wire_of : Sent → Wire
-wire_of s = record { event = s.event; from = s.from; to = s.to; kind = nbp_kind; data_ = spelling s.packet }
-
--- what was sent at a place: a packet of this protocol, or a datagram of another
-abbrev pub IsEntry : Wire → Option Sent → Type 0
-IsEntry x (Some s) = x ≡ wire_of s
-IsEntry x None = (x.kind == nbp_kind) ≡ false
-
-abbrev pub Entries : List Wire → List (Option Sent) → Type 0
-Entries [] [] = Unit {0}
-Entries (x ∷ xs) (y ∷ ys) = IsEntry x y × Entries xs ys
-Entries [] (y ∷ ys) = ⊥
-Entries (x ∷ xs) [] = ⊥
-
 -- a node's socket is that of the network at its address
-pub record HasSocket (net : ℕ) (setting : Setting) (history : List Happening) (lookups : NameMachine) (k : ℕ) (n : NodeState) : Type 0 where
+pub record HasSocket (net : ℕ) (setting : Setting) (history : List Happening) (lookups : NameMachine) (k : ℕ)
+    (n : NodeState) : Type 0 where
   pub small : k < 255
   pub stands : socket_steps.Stands (after setting history) (names_of net k) n.names
   pub socket : IsSocket n.names
@@ -94,7 +105,7 @@ pub record NameTie (w : WorldState) (c : Cable) (wires : List Wire) (m : NameMac
   pub events : w.events ≡ (after setting history).event
   pub count : (after setting history).event ≡ length history
   pub sockets : (k : ℕ) (n : NodeState) → node_at w k ≡ Some n → HasSocket c.net setting history m k n
-  pub sent : Entries wires (after setting history).sent
+  pub sent : Entries name_coding wires (after setting history).sent
   pub begun : AllByRecursion (IsNoted w.last w.events) (after setting history).begun
   pub now : (k : ℕ) → (after setting history).tables (names_of c.net k) ≡ m.names k
   pub elsewhere : (at : Address) → is_names_socket c.net at ≡ false → ((after setting history).tables at).names ≡ []
@@ -105,7 +116,8 @@ abbrev pub moved : NameMachine → Directory → ℕ → Change → NameMachine
 moved m names k change = next (record m { names = names; lookups = lookups_after m.lookups (length m.past) k change })
 
 -- What a step does to what the machine knows. The step is of node k, which becomes x.
-pub record Becomes (A : Type 0) (ss : Sessions) (m : NameMachine) (e : Event A) (n x : NodeState) (r : Report A) : Type 0 where
+pub record Becomes (A : Type 0) (ss : Sessions) (m : NameMachine) (e : Event A) (n x : NodeState)
+    (r : Report A) : Type 0 where
   pub names : Directory
   pub change : Change
   pub allows : StepBy ss m e r (moved m names (node_of e) change) (owner_of e r)
@@ -114,16 +126,3 @@ pub record Becomes (A : Type 0) (ss : Sessions) (m : NameMachine) (e : Event A) 
   pub drawn : IsDrawn change (drawn_by r)
 
 -- ---- what a node sends
-
-pub entries_both : (xs xs' : List Wire) (ys ys' : List (Option Sent)) → Entries xs ys → Entries xs' ys' → Entries (xs ++ xs') (ys ++ ys')
-entries_both [] xs' [] ys' a b = b
-entries_both (x ∷ xs) xs' (y ∷ ys) ys' a b = (a.0, entries_both xs xs' ys ys' a.1 b)
-entries_both [] xs' (y ∷ ys) ys' a b = absurd a
-entries_both (x ∷ xs) xs' [] ys' a b = absurd a
-
-pub entries_of : (event event' : ℕ) (out : List Outgoing) (more : List (Option Sent)) → event ≡ event' → AreEntries event' out more → Entries (map (wire event) out) more
-entries_of event event' [] [] same all = tt
-entries_of event event' (o ∷ out) (Some s ∷ more) same all = (ap (wire event) all.0.0 ∙ (λ i. wire_of (record s { event = (same ∙ sym all.0.1) i })), entries_of event event' out more same all.1)
-entries_of event event' (o ∷ out) (None ∷ more) same all = (all.0, entries_of event event' out more same all.1)
-entries_of event event' [] (x ∷ more) same all = absurd all
-entries_of event event' (o ∷ out) [] same all = absurd all

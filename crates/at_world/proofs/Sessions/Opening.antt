@@ -12,11 +12,14 @@ use Rattle.at_setup.specs.declared.setup.Setup.{Setup}
 use Rattle.at_world.proofs.Sessions.Tie.{HasSession, SessionTie}
 
 module _ (A : Type 0) (s : Setup A) where
-  opened : (ns : List NodeSetup) (k : ℕ) (n : NodeState) → find (is_numbered k) (map (opening_node s) ns) ≡ Some n → HasSession s.net new_session n
+  opened : (ns : List NodeSetup) (k : ℕ) (n : NodeState) → find (is_numbered k) (map (opening_node s) ns) ≡ Some n
+      → HasSession s.net new_session n
   opened [] k n h = absurd (cc)
   opened (x ∷ ns) k n h = go (opened ns k n) (x.node == k) h
     where
-      go : (find (is_numbered k) (map (opening_node s) ns) ≡ Some n → HasSession s.net new_session n) → (b : Bool) → cond b (Some (opening_node s x)) (find (is_numbered k) (map (opening_node s) ns)) ≡ Some n → HasSession s.net new_session n
+      go : (find (is_numbered k) (map (opening_node s) ns) ≡ Some n → HasSession s.net new_session n) → (b : Bool)
+          → cond b (Some (opening_node s x)) (find (is_numbered k) (map (opening_node s) ns)) ≡ Some n
+          → HasSession s.net new_session n
       go ih true g =
           let same : opening_node s x ≡ n = cc in
           subst (HasSession s.net new_session) same (record { same = refl; fits = record { picked = tt; finds = tt } })

@@ -14,10 +14,10 @@ use Rattle.at_event.specs.declared.service.Reply.{Reply}
 use Rattle.at_adsp.specs.Meetings.{ReadsWith}
 use Rattle.at_adsp.specs.Orders.{ReadsInOrder}
 use Rattle.at_stream_socket.specs.Sockets.{streams_at}
-use Rattle.at_node.specs.Drawing.{DrawsHearing, drawn_by}
+use Rattle.at_node.specs.Numbers.{DrawsHearing, drawn_by}
 use Rattle.at_node.specs.Hearing.{Hears}
 use Rattle.at_node.specs.Nodes.{NodeState, called, timed}
-use Rattle.at_node.specs.declared.drawing.Draw.TheVariants.{Conn}
+use Rattle.at_node.specs.declared.numbers.Draw.TheVariants.{Conn}
 use Rattle.at_steps.specs.Acts.{is_adsp}
 use Rattle.at_steps.specs.StreamHappenings.{IsForeign, IsHappening, Passes, Stands}
 use Rattle.at_world.specs.Cables.{Cable, owner_of}
@@ -38,14 +38,17 @@ use Rattle.at_world.proofs.Streams.Tie as tie
 use Rattle.at_world.proofs.Sessions.Tie.{HasSession, SessionTie}
 
 -- at a report of another protocol nothing changes
-nothing_changes : (A : Type 0) (c : Cable) (ss : Sessions) (m : StreamMachine) (e : Event A) (r : Report A) (k : Kind) → is_adsp k ≡ false → StepBy c ss m e r (next m) k
+nothing_changes : (A : Type 0) (c : Cable) (ss : Sessions) (m : StreamMachine) (e : Event A) (r : Report A) (k : Kind)
+    → is_adsp k ≡ false → StepBy c ss m e r (next m) k
 nothing_changes A c ss m e r Adsp h = absurd (cc)
 nothing_changes A c ss m e r other h = refl
 
 same_call : {A : Type 0} (node : ℕ) (a b : Call A) → event.Call node a ≡ event.Call node b → a ≡ b
 same_call node a b h = cc
 
-module _ (A : Type 0) (laws : StreamLaws A) (w : WorldState) (c : Cable) (ss : Sessions) (m : StreamMachine) (ct : CableTie w c) (st : SessionTie w c ss) (t : StreamTie w c ct.wires m) (runs : is_over w ≡ false) (e : Event A) (n : NodeState) (stands : node_at w (node_of e) ≡ Some n) where
+module _ (A : Type 0) (laws : StreamLaws A) (w : WorldState) (c : Cable) (ss : Sessions) (m : StreamMachine)
+    (ct : CableTie w c) (st : SessionTie w c ss) (t : StreamTie w c ct.wires m) (runs : is_over w ≡ false)
+    (e : Event A) (n : NodeState) (stands : node_at w (node_of e) ≡ Some n) where
   its : SeatTie c (node_of e) n
   its = ct.seats (node_of e) n stands
 
@@ -77,61 +80,91 @@ module _ (A : Type 0) (laws : StreamLaws A) (w : WorldState) (c : Cable) (ss : S
       })
 
   -- a number that is free in the world is no end's remote
-  pub draws_free : (r : Report A) → ((id : ℕ) → drawn_by r ≡ Some (Conn id) → IsFree w (node_of e) (Conn id)) → tie.DrawsFree t.setting t.history n.seat.net n.seat.number r
-  draws_free r free = at_seat (λ net k. tie.DrawsFree t.setting t.history net k r) (λ id draws. none_names A laws w c m ct.wires t (node_of e) id (free id draws))
+  pub draws_free : (r : Report A) → ((id : ℕ) → drawn_by r ≡ Some (Conn id) → IsFree w (node_of e) (Conn id))
+      → tie.DrawsFree t.setting t.history n.seat.net n.seat.number r
+  draws_free r free = at_seat (λ net k. tie.DrawsFree t.setting t.history net k r)
+      (λ id draws. none_names A laws w c m ct.wires t (node_of e) id (free id draws))
 
   module _ (o : Outcome A NodeState) (seat : o.state.seat ≡ n.seat) where
     number : o.state.seat.number ≡ node_of e
     number = (λ i. (seat i).number) ∙ its.number
 
-    pub happened : ReadsAt A w c m ct t e n o → IsHappening t.setting t.history n.seat.net n.seat.number n (act_of e) o → Good A w c ss m ct.wires e o
+    pub happened : ReadsAt A w c m ct t e n o → IsHappening t.setting t.history n.seat.net n.seat.number n (act_of e) o
+        → Good A w c ss m ct.wires e o
     happened reads h = go (at_place (λ net k. IsHappening t.setting t.history net k n (act_of e) o) h)
       where
         go : IsHappening t.setting t.history c.net (node_of e) n (act_of e) o → Good A w c ss m ct.wires e o
-        go (x, step) = good_next A w c ss ct.wires m e n o t stands x number (step_allows A laws w c ss m ct e n o t runs (let told = told_there in told.same) x reads step)
+        go (x, step) = good_next A w c ss ct.wires m e n o t stands x number
+            (step_allows A laws w c ss m ct e n o t runs (let told = told_there in told.same) x reads step)
 
     -- a step of another protocol
     pub passed : IsForeign n (act_of e) o → Good A w c ss m ct.wires e o
-    passed foreign = go (at_place (λ net k. Passes t.setting t.history net k n (act_of e) o) (laws.passes t.setting t.history n (act_of e) o stands_there foreign))
+    passed foreign = go (at_place (λ net k. Passes t.setting t.history net k n (act_of e) o)
+        (laws.passes t.setting t.history n (act_of e) o stands_there foreign))
       where
         go : Passes t.setting t.history c.net (node_of e) n (act_of e) o → Good A w c ss m ct.wires e o
         go (x, same) =
-            let becomes : moved m (streams (done t.setting (after t.setting t.history) x.happening)) ≡ next m = ap (moved m) (same ∙ sym t.streams_are) in
-            good_next A w c ss ct.wires m e n o t stands x number (subst (λ y. StepBy c ss m e o.report y (owner_of e o.report)) (sym becomes) (nothing_changes A c ss m e o.report (owner_of e o.report) foreign.reports))
+            let becomes : moved m (streams (done t.setting (after t.setting t.history) x.happening))
+            ≡ next m = ap (moved m) (same ∙ sym t.streams_are) in
+            good_next A w c ss ct.wires m e n o t stands x number
+            (subst (λ y. StepBy c ss m e o.report y (owner_of e o.report)) (sym becomes)
+            (nothing_changes A c ss m e o.report (owner_of e o.report) foreign.reports))
 
 -- ---- each event
 
-module _ (A : Type 0) (laws : StreamLaws A) (w : WorldState) (c : Cable) (ss : Sessions) (m : StreamMachine) (ct : CableTie w c) (st : SessionTie w c ss) (t : StreamTie w c ct.wires m) (runs : is_over w ≡ false) (k : ℕ) (n : NodeState) (stands : node_at w k ≡ Some n) where
-  pub call_follows : (call : Call A) → IsCall call → DrawsFree w k (λ x draw. drawn_by (called x call).report ≡ Some draw) → (called n call).state.seat ≡ n.seat → Good A w c ss m ct.wires (event.Call k call) (called n call)
+module _ (A : Type 0) (laws : StreamLaws A) (w : WorldState) (c : Cable) (ss : Sessions) (m : StreamMachine)
+    (ct : CableTie w c) (st : SessionTie w c ss) (t : StreamTie w c ct.wires m) (runs : is_over w ≡ false) (k : ℕ)
+    (n : NodeState) (stands : node_at w k ≡ Some n) where
+  pub call_follows : (call : Call A) → IsCall call
+      → DrawsFree w k (λ x draw. drawn_by (called x call).report ≡ Some draw) → (called n call).state.seat ≡ n.seat
+      → Good A w c ss m ct.wires (event.Call k call) (called n call)
   call_follows call range free seat = go (is_adsp (kind_of_call call)) refl
     where
       reads : ReadsAt A w c m ct t (event.Call k call) n (called n call)
       reads id count items is told order =
           let its = ct.seats k n stands in
           let call_is : call ≡ Read id count = same_call k call (Read id count) is in
-          let told' : (called n (Read id count)).report ≡ report.Read items = subst (λ (x : Call A). (called n x).report ≡ report.Read items) call_is told in
-          let at : streams_at n.seat.net n.seat.number ≡ streams_at c.net k = λ i. streams_at (its.net i) (its.number i) in
-          subst (λ a. ReadsInOrder (after t.setting (Reads a id count ∷ t.history)) → ReadsWith (streams (after t.setting t.history)) a id items) at
-          (laws.reads t.setting t.history n id count items (stands_there A laws w c ss m ct st t runs (event.Call k call) n stands) told') order
+          let told' : (called n (Read id count)).report
+          ≡ report.Read items = subst (λ (x : Call A). (called n x).report ≡ report.Read items) call_is told in
+          let at : streams_at n.seat.net n.seat.number
+          ≡ streams_at c.net k = λ i. streams_at (its.net i) (its.number i) in
+          subst (λ a. ReadsInOrder (after t.setting (Reads a id count ∷ t.history))
+          → ReadsWith (streams (after t.setting t.history)) a id items) at
+          (laws.reads t.setting t.history n id count items
+          (stands_there A laws w c ss m ct st t runs (event.Call k call) n stands) told') order
 
       go : (b : Bool) → is_adsp (kind_of_call call) ≡ b → Good A w c ss m ct.wires (event.Call k call) (called n call)
       go true own = happened A laws w c ss m ct st t runs (event.Call k call) n stands (called n call) seat reads
-          (laws.called t.setting t.history n call (stands_there A laws w c ss m ct st t runs (event.Call k call) n stands) range own
-          (draws_free A laws w c ss m ct st t runs (event.Call k call) n stands (called n call).report (λ id draws. free n stands (Conn id) draws)))
-      go false other = passed A laws w c ss m ct st t runs (event.Call k call) n stands (called n call) seat (laws.foreign_call n call other)
+          (laws.called t.setting t.history n call
+          (stands_there A laws w c ss m ct st t runs (event.Call k call) n stands) range own
+          (draws_free A laws w c ss m ct st t runs (event.Call k call) n stands (called n call).report
+          (λ id draws. free n stands (Conn id) draws)))
+      go false other = passed A laws w c ss m ct st t runs (event.Call k call) n stands (called n call) seat
+          (laws.foreign_call n call other)
 
-  pub timer_follows : (time : Timer) → (timed {A = A} n time).state.seat ≡ n.seat → Good A w c ss m ct.wires (event.Timer k time) (timed n time)
+  pub timer_follows : (time : Timer) → (timed {A = A} n time).state.seat ≡ n.seat
+      → Good A w c ss m ct.wires (event.Timer k time) (timed n time)
   timer_follows time seat = go (is_adsp (kind_of_timer time)) refl
     where
       go : (b : Bool) → is_adsp (kind_of_timer time) ≡ b → Good A w c ss m ct.wires (event.Timer k time) (timed n time)
-      go true own = happened A laws w c ss m ct st t runs (event.Timer k time) n stands (timed n time) seat (λ id count items is. absurd (cc))
-          (laws.timed t.setting t.history n time (stands_there A laws w c ss m ct st t runs (event.Timer k time) n stands) own)
-      go false other = passed A laws w c ss m ct st t runs (event.Timer k time) n stands (timed n time) seat (laws.foreign_timer n time other)
+      go true own = happened A laws w c ss m ct st t runs (event.Timer k time) n stands (timed n time) seat
+          (λ id count items is. absurd (cc))
+          (laws.timed t.setting t.history n time
+          (stands_there A laws w c ss m ct st t runs (event.Timer k time) n stands) own)
+      go false other = passed A laws w c ss m ct st t runs (event.Timer k time) n stands (timed n time) seat
+          (laws.foreign_timer n time other)
 
-  pub datagram_follows : (which : ℕ) (d : SentDatagram) → Comes w c m ct.wires t which d → DrawsFree w k (λ x draw. DrawsHearing A x d.bytes draw) → (said : Reply A) (o : Outcome A NodeState) → Hears said n d.bytes o → o.state.seat ≡ n.seat → Good A w c ss m ct.wires (event.Deliver which k) o
-  datagram_follows which d (inr x) free said o hears seat = passed A laws w c ss m ct st t runs (event.Deliver which k) n stands o seat
-      (laws.foreign_datagram n which (x.0).to (x.0).from (x.0).kind (x.0).data_ said o x.2 (subst (λ (y : SentDatagram). Hears said n y.bytes o) x.1 hears))
-  datagram_follows which d (inl comes) free said o hears seat = happened A laws w c ss m ct st t runs (event.Deliver which k) n stands o seat (λ id count items is. absurd (cc))
-      (laws.heard t.setting t.history n which comes.packet said o (stands_there A laws w c ss m ct st t runs (event.Deliver which k) n stands) comes.was_sent comes.fresh
-      (draws_free A laws w c ss m ct st t runs (event.Deliver which k) n stands o.report (λ id draws. free n stands (Conn id) (record { said = said; outcome = o; hears = hears; tells = draws })))
+  pub datagram_follows : (which : ℕ) (d : SentDatagram) → Comes w c m ct.wires t which d
+      → DrawsFree w k (λ x draw. DrawsHearing A x d.bytes draw) → (said : Reply A) (o : Outcome A NodeState)
+      → Hears said n d.bytes o → o.state.seat ≡ n.seat → Good A w c ss m ct.wires (event.Deliver which k) o
+  datagram_follows which d (inr x) free said o hears seat =
+      passed A laws w c ss m ct st t runs (event.Deliver which k) n stands o seat
+      (laws.foreign_datagram n which (x.0).to (x.0).from (x.0).kind (x.0).data_ said o x.2
+      (subst (λ (y : SentDatagram). Hears said n y.bytes o) x.1 hears))
+  datagram_follows which d (inl comes) free said o hears seat =
+      happened A laws w c ss m ct st t runs (event.Deliver which k) n stands o seat (λ id count items is. absurd (cc))
+      (laws.heard t.setting t.history n which comes.packet said o
+      (stands_there A laws w c ss m ct st t runs (event.Deliver which k) n stands) comes.was_sent comes.fresh
+      (draws_free A laws w c ss m ct st t runs (event.Deliver which k) n stands o.report
+      (λ id draws. free n stands (Conn id) (record { said = said; outcome = o; hears = hears; tells = draws })))
       (subst (λ (y : SentDatagram). Hears said n y.bytes o) comes.spells hears))

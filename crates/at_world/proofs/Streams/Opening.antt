@@ -1,5 +1,6 @@
 -- The tie of streams before anything happened.
-use Rattle.std.proofs.Common.{◌≡◌, ℕ, ◌<◌, ◌^◌, Bool, true, false, cond, List, [], ◌∷◌, find, map, Some, refl, sym, ap, ◌∙◌, lit<, arith}
+use Rattle.std.proofs.Common.{◌≡◌, ℕ, ◌<◌, ◌^◌, Bool, true, false, cond, List, [], ◌∷◌, find, map, Some, refl, sym, ap}
+use Rattle.std.proofs.Common.{◌∙◌, lit<, arith}
 use Rattle.std.specs.Prelude.{◌==◌}
 use Rattle.std.specs.List.{list_all}
 use Rattle.std.proofs.Math.Nat.{mod-lt}
@@ -30,9 +31,11 @@ rooms_at (n ∷ ns) k = cond (n.node == k) (rooms_of n) (rooms_at ns k)
 
 rooms_fit : (ns : List NodeSetup) (k : ℕ) → list_all is_lawful_node ns ≡ true → (rooms_at ns k).receive < 2 ^ 16
 rooms_fit [] k ok = lit< tt
-rooms_fit (n ∷ ns) k ok = let parts = and_parts (is_lawful_node n) (list_all is_lawful_node ns) ok in go parts.0 (rooms_fit ns k parts.1) (n.node == k)
+rooms_fit (n ∷ ns) k ok = let parts = and_parts (is_lawful_node n) (list_all is_lawful_node ns) ok in
+    go parts.0 (rooms_fit ns k parts.1) (n.node == k)
   where
-    go : is_lawful_node n ≡ true → (rooms_at ns k).receive < 2 ^ 16 → (b : Bool) → (cond b (rooms_of n) (rooms_at ns k)).receive < 2 ^ 16
+    go : is_lawful_node n ≡ true → (rooms_at ns k).receive < 2 ^ 16 → (b : Bool)
+        → (cond b (rooms_of n) (rooms_at ns k)).receive < 2 ^ 16
     go its rest true = let fits = (lawful_node n its).receives in omega (arith, fits)
     go its rest false = rest
 
@@ -46,11 +49,16 @@ module _ (A : Type 0) (s : Setup A) where
     pub small : k < 255
     pub is : n.streams ≡ no_ends (rooms_at ns k)
 
-  opened : (ns : List NodeSetup) → list_all is_lawful_node ns ≡ true → (k : ℕ) (n : NodeState) → find (is_numbered k) (map (opening_node s) ns) ≡ Some n → Opened ns k n
+  opened : (ns : List NodeSetup) → list_all is_lawful_node ns ≡ true → (k : ℕ) (n : NodeState)
+      → find (is_numbered k) (map (opening_node s) ns) ≡ Some n → Opened ns k n
   opened [] ok k n h = absurd (cc)
-  opened (x ∷ ns) ok k n h = let parts = and_parts (is_lawful_node x) (list_all is_lawful_node ns) ok in go parts.0 (opened ns parts.1 k n) (x.node == k) refl h
+  opened (x ∷ ns) ok k n h = let parts = and_parts (is_lawful_node x) (list_all is_lawful_node ns) ok in
+      go parts.0 (opened ns parts.1 k n) (x.node == k) refl h
     where
-      go : is_lawful_node x ≡ true → (find (is_numbered k) (map (opening_node s) ns) ≡ Some n → Opened ns k n) → (b : Bool) → (x.node == k) ≡ b → cond b (Some (opening_node s x)) (find (is_numbered k) (map (opening_node s) ns)) ≡ Some n → Opened (x ∷ ns) k n
+      go : is_lawful_node x ≡ true → (find (is_numbered k) (map (opening_node s) ns) ≡ Some n → Opened ns k n)
+          → (b : Bool) → (x.node == k) ≡ b
+          → cond b (Some (opening_node s x)) (find (is_numbered k) (map (opening_node s) ns)) ≡ Some n
+          → Opened (x ∷ ns) k n
       go lawful ih true e g =
           let same : x.node ≡ k = eqb-true x.node k e in
           let it = lawful_node x lawful in
@@ -60,16 +68,22 @@ module _ (A : Type 0) (s : Setup A) where
           record {
             some = omega (arith, some, same);
             small = omega (arith, small, same);
-            is = sym (ap (λ (y : NodeState). y.streams) is) ∙ sym (ap (λ b. no_ends (cond b (rooms_of x) (rooms_at ns k))) e);
+            is = sym (ap (λ (y : NodeState). y.streams) is)
+                ∙ sym (ap (λ b. no_ends (cond b (rooms_of x) (rooms_at ns k))) e);
           }
       go lawful ih false e g =
           let later = ih g in
-          record { some = later.some; small = later.small; is = later.is ∙ sym (ap (λ b. no_ends (cond b (rooms_of x) (rooms_at ns k))) e) }
+          record {
+            some = later.some;
+            small = later.small;
+            is = later.is ∙ sym (ap (λ b. no_ends (cond b (rooms_of x) (rooms_at ns k))) e);
+          }
 
   pub streams_at_opening : is_lawful s ≡ true → StreamTie (opening_world s) (cables.opening s) [] guards.opening
   streams_at_opening ok =
       let has = lawful_has A s ok in
-      let lawful : IsLawfulSetting setting = record { numbers = λ p. mod-lt p (lit< tt); rooms = λ at. rooms_fit s.nodes at.node has.each } in
+      let lawful : IsLawfulSetting setting =
+      record { numbers = λ p. mod-lt p (lit< tt); rooms = λ at. rooms_fit s.nodes at.node has.each } in
       record {
         setting = setting;
         history = [];
@@ -80,7 +94,8 @@ module _ (A : Type 0) (s : Setup A) where
         in_range = tt;
         here = tt;
         events = refl;
-        ends = λ k n is. let o = opened s.nodes has.each k n is in record { some = o.some; small = o.small; stands = sym o.is };
+        ends = λ k n is. let o = opened s.nodes has.each k n is in
+            record { some = o.some; small = o.small; stands = sym o.is };
         elsewhere = λ at none. refl;
         sent = tt;
         drawn = tt;

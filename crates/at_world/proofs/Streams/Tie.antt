@@ -1,5 +1,6 @@
 -- What ties a world to what the machine knows of streams, through a history of the network of its ends.
-use Rattle.std.proofs.Common.{◌≡◌, ℕ, ◌<◌, ◌≤◌, Bool, true, false, List, [], ◌∷◌, ◌++◌, length, map, Option, Some, None, refl, sym, ap, subst, ◌∙◌, arith}
+use Rattle.std.proofs.Common.{◌≡◌, ℕ, ◌<◌, ◌≤◌, Bool, true, false, List, [], ◌∷◌, ◌++◌, length, map, Option, Some, None}
+use Rattle.std.proofs.Common.{refl, sym, ap, subst, ◌∙◌, arith}
 use Rattle.std.specs.Prelude.{is_some, ◌==◌, ◌&&◌}
 use Rattle.std.specs.List.{AllByRecursion}
 use Rattle.at_ddp.specs.Address.{same_address}
@@ -13,7 +14,10 @@ use Rattle.at_adsp.specs.Cables.{few_segments, wire_numbered}
 use Rattle.at_adsp.specs.Connections.{streams}
 use Rattle.at_adsp.specs.Lawfully.{IsInRange, IsLawfulSetting, IsLawfullySent}
 use Rattle.at_adsp.specs.Meetings.{ReadsWith}
-use Rattle.at_adsp.specs.Network.{AllSent, AllTimely, Happening, NoneNames, Reads, Sent, Setting, after, dest_of, is_fresh, packet_at}
+use Rattle.at_ddp.specs.Posts.{AllSent, packet_at}
+use Rattle.at_ddp.specs.Protocols.{adsp_kind}
+use Rattle.at_world.proofs.Entries.{Entries}
+use Rattle.at_adsp.specs.Network.{AllTimely, Happening, NoneNames, Reads, Sent, Setting, after, dest_of, is_fresh}
 use Rattle.at_adsp.specs.Orders.{ReadsInOrder}
 use Rattle.at_event.specs.Calls.{IsCall}
 use Rattle.at_event.specs.Kinds.{kind_of_call, kind_of_timer}
@@ -24,13 +28,14 @@ use Rattle.at_event.specs.declared.event.Report.TheVariants as report
 use Rattle.at_event.specs.declared.event.Report.{Report}
 use Rattle.at_event.specs.declared.event.Timer.{Timer}
 use Rattle.at_event.specs.declared.service.Reply.{Reply}
-use Rattle.at_node.specs.Drawing.{Carries, drawn_by, holds}
+use Rattle.at_node.specs.Numbers.{Carries, drawn_by, holds}
 use Rattle.at_node.specs.Hearing.{Hears}
 use Rattle.at_node.specs.Nodes.{NodeState, called, called as node_called, timed}
-use Rattle.at_node.specs.declared.drawing.Draw.TheVariants.{Conn}
+use Rattle.at_node.specs.declared.numbers.Draw.TheVariants.{Conn}
 use Rattle.at_steps.specs.Acts.{Act, Calls, Fires, Gets, is_adsp}
-use Rattle.at_steps.specs.StreamHappenings.{AreEntries, IsForeign, IsHappening, IsHere, Passes, Stands, identifiers, is_streams_socket}
-use Rattle.at_stream_socket.specs.Sockets.{adsp_kind, streams_at}
+use Rattle.at_steps.specs.StreamHappenings.{IsForeign, IsHappening, IsHere, Passes, Stands, identifiers}
+use Rattle.at_steps.specs.StreamHappenings.{is_streams_socket, stream_coding}
+use Rattle.at_stream_socket.specs.Sockets.{streams_at}
 use Rattle.at_world.specs.Cables.{Cable}
 use Rattle.at_world.specs.StreamGuards.{StreamMachine}
 use Rattle.at_world.specs.Worlds.{WorldState, node_at}
@@ -39,43 +44,52 @@ use Rattle.at_world.proofs.Streams.Times.{IsNoted}
 
 -- an end that this node's event makes gets a number that no end has as its remote
 abbrev pub DrawsFree : {A : Type 0} → Setting → List Happening → ℕ → ℕ → Report A → Type 0
-DrawsFree setting history net number r = (id : ℕ) → drawn_by r ≡ Some (Conn id) → NoneNames (after setting history) (streams_at net number) id
+DrawsFree setting history net number r = (id : ℕ) → drawn_by r ≡ Some (Conn id)
+    → NoneNames (after setting history) (streams_at net number) id
 
 -- what the layers below promise
 pub record StreamLaws (A : Type 0) : Type 0 where
-  pub foreign_call : (n : NodeState) (call : Call A) → is_adsp (kind_of_call call) ≡ false → IsForeign n (Calls call) (called n call)
-  pub foreign_timer : (n : NodeState) (time : Timer) → is_adsp (kind_of_timer time) ≡ false → IsForeign {A = A} n (Fires time) (timed n time)
-  pub foreign_datagram : (n : NodeState) (which : ℕ) (to from : Address) (kind : ℕ) (bytes : List ℕ) (said : Reply A) (o : Outcome A NodeState) → (kind == adsp_kind) ≡ false → Hears said n (canonical to from kind bytes) o → IsForeign n (Gets which) o
-  pub called : (setting : Setting) (history : List Happening) (n : NodeState) (call : Call A) → Stands setting history n.seat.net n.seat.number n → IsCall call → is_adsp (kind_of_call call) ≡ true → DrawsFree setting history n.seat.net n.seat.number (called n call).report
+  pub foreign_call : (n : NodeState) (call : Call A) → is_adsp (kind_of_call call) ≡ false
+      → IsForeign n (Calls call) (called n call)
+  pub foreign_timer : (n : NodeState) (time : Timer) → is_adsp (kind_of_timer time) ≡ false
+      → IsForeign {A = A} n (Fires time) (timed n time)
+  pub foreign_datagram : (n : NodeState) (which : ℕ) (to from : Address) (kind : ℕ) (bytes : List ℕ) (said : Reply A)
+      (o : Outcome A NodeState) → (kind == adsp_kind) ≡ false → Hears said n (canonical to from kind bytes) o
+      → IsForeign n (Gets which) o
+  pub called : (setting : Setting) (history : List Happening) (n : NodeState) (call : Call A)
+      → Stands setting history n.seat.net n.seat.number n → IsCall call → is_adsp (kind_of_call call) ≡ true
+      → DrawsFree setting history n.seat.net n.seat.number (called n call).report
       → IsHappening setting history n.seat.net n.seat.number n (Calls call) (called n call)
-  pub timed : (setting : Setting) (history : List Happening) (n : NodeState) (time : Timer) → Stands setting history n.seat.net n.seat.number n → is_adsp (kind_of_timer time) ≡ true → IsHappening {A = A} setting history n.seat.net n.seat.number n (Fires time) (timed n time)
-  pub heard : (setting : Setting) (history : List Happening) (n : NodeState) (which : ℕ) (s : Sent) (said : Reply A) (o : Outcome A NodeState) → Stands setting history n.seat.net n.seat.number n → packet_at (after setting history).sent which ≡ Some s
-      → is_fresh (after setting history).made s ≡ true → DrawsFree setting history n.seat.net n.seat.number o.report → Hears said n (canonical s.to s.from adsp_kind (spelled s.segment)) o → IsHappening setting history n.seat.net n.seat.number n (Gets which) o
-  pub passes : (setting : Setting) (history : List Happening) (n : NodeState) (act : Act A) (o : Outcome A NodeState) → Stands setting history n.seat.net n.seat.number n → IsForeign n act o → Passes setting history n.seat.net n.seat.number n act o
-  pub carries_source : (s : Sent) → IsLawfullySent s → ((s.segment.source ≡ 0) → ⊥) → Carries (canonical s.to s.from adsp_kind (spelled s.segment)) s.from.node (Conn s.segment.source)
-  pub carries_dest : (s : Sent) → IsLawfullySent s → ((dest_of s.segment.body ≡ 0) → ⊥) → Carries (canonical s.to s.from adsp_kind (spelled s.segment)) s.to.node (Conn (dest_of s.segment.body))
-  pub lawful_sent : (setting : Setting) (history : List Happening) → IsLawfulSetting setting → AllByRecursion IsInRange history → AllSent IsLawfullySent (after setting history).sent
-  pub unheld : (n : NodeState) (k id : ℕ) (at : Address) → holds n k (Conn id) ≡ false → at.node ≡ k → by_remote n.streams (record { address = at; id = id }) ≡ None
-  pub reads : (setting : Setting) (history : List Happening) (n : NodeState) (id count : ℕ) (items : List Item) → Stands setting history n.seat.net n.seat.number n → (node_called {A = A} n (Read id count)).report ≡ report.Read items
-      → ReadsInOrder (after setting (Reads (streams_at n.seat.net n.seat.number) id count ∷ history)) → ReadsWith (streams (after setting history)) (streams_at n.seat.net n.seat.number) id items
-  pub in_order : (setting : Setting) (history : List Happening) → setting.numbers ≡ wire_numbers → AllTimely setting history → length (after setting history).sent ≤ few_segments → ReadsInOrder (after setting history)
+  pub timed : (setting : Setting) (history : List Happening) (n : NodeState) (time : Timer)
+      → Stands setting history n.seat.net n.seat.number n → is_adsp (kind_of_timer time) ≡ true
+      → IsHappening {A = A} setting history n.seat.net n.seat.number n (Fires time) (timed n time)
+  pub heard : (setting : Setting) (history : List Happening) (n : NodeState) (which : ℕ) (s : Sent) (said : Reply A)
+      (o : Outcome A NodeState) → Stands setting history n.seat.net n.seat.number n
+      → packet_at (after setting history).sent which ≡ Some s
+      → is_fresh (after setting history).made s ≡ true → DrawsFree setting history n.seat.net n.seat.number o.report
+      → Hears said n (canonical s.to s.from adsp_kind (spelled s.packet)) o
+      → IsHappening setting history n.seat.net n.seat.number n (Gets which) o
+  pub passes : (setting : Setting) (history : List Happening) (n : NodeState) (act : Act A) (o : Outcome A NodeState)
+      → Stands setting history n.seat.net n.seat.number n → IsForeign n act o
+      → Passes setting history n.seat.net n.seat.number n act o
+  pub carries_source : (s : Sent) → IsLawfullySent s → ((s.packet.source ≡ 0) → ⊥)
+      → Carries (canonical s.to s.from adsp_kind (spelled s.packet)) s.from.node (Conn s.packet.source)
+  pub carries_dest : (s : Sent) → IsLawfullySent s → ((dest_of s.packet.body ≡ 0) → ⊥)
+      → Carries (canonical s.to s.from adsp_kind (spelled s.packet)) s.to.node (Conn (dest_of s.packet.body))
+  pub lawful_sent : (setting : Setting) (history : List Happening) → IsLawfulSetting setting
+      → AllByRecursion IsInRange history → AllSent IsLawfullySent (after setting history).sent
+  pub unheld : (n : NodeState) (k id : ℕ) (at : Address) → holds n k (Conn id) ≡ false → at.node ≡ k
+      → by_remote n.streams (record { address = at; id = id }) ≡ None
+  pub reads : (setting : Setting) (history : List Happening) (n : NodeState) (id count : ℕ) (items : List Item)
+      → Stands setting history n.seat.net n.seat.number n → (node_called {A = A} n (Read id count)).report
+      ≡ report.Read items
+      → ReadsInOrder (after setting (Reads (streams_at n.seat.net n.seat.number) id count ∷ history))
+      → ReadsWith (streams (after setting history)) (streams_at n.seat.net n.seat.number) id items
+  pub in_order : (setting : Setting) (history : List Happening) → setting.numbers ≡ wire_numbers
+      → AllTimely setting history → length (after setting history).sent ≤ few_segments
+      → ReadsInOrder (after setting history)
 
 -- ---- what is known of a world
-
--- a segment as it was sent
-abbrev pub wire_of : Sent → Wire
-wire_of s = record { event = s.event; from = s.from; to = s.to; kind = adsp_kind; data_ = spelled s.segment }
-
--- what was sent at a place: a segment, or a datagram of another protocol
-abbrev pub IsEntry : Wire → Option Sent → Type 0
-IsEntry x (Some s) = x ≡ wire_of s
-IsEntry x None = (x.kind == adsp_kind) ≡ false
-
-abbrev pub Entries : List Wire → List (Option Sent) → Type 0
-Entries [] [] = Unit {0}
-Entries (x ∷ xs) (y ∷ ys) = IsEntry x y × Entries xs ys
-Entries [] (y ∷ ys) = ⊥
-Entries (x ∷ xs) [] = ⊥
 
 -- a node's ends are those of the network at its address
 pub record HasEnds (net : ℕ) (setting : Setting) (history : List Happening) (k : ℕ) (n : NodeState) : Type 0 where
@@ -99,36 +113,20 @@ pub record StreamTie (w : WorldState) (c : Cable) (wires : List Wire) (m : Strea
   pub events : w.events ≡ (after setting history).event
   pub ends : (k : ℕ) (n : NodeState) → node_at w k ≡ Some n → HasEnds c.net setting history k n
   pub elsewhere : (at : Address) → is_nodes_socket w c.net at ≡ false → ((after setting history).tables at).ends ≡ []
-  pub sent : Entries wires (after setting history).sent
+  pub sent : Entries stream_coding wires (after setting history).sent
   pub drawn : AllByRecursion (IsNoted w.last w.events) (identifiers (streams (after setting history)))
   pub streams_are : m.streams ≡ streams (after setting history)
   pub count : m.events ≡ (after setting history).event
 
 -- ---- what a node sends
 
-pub entries_both : (xs xs' : List Wire) (ys ys' : List (Option Sent)) → Entries xs ys → Entries xs' ys' → Entries (xs ++ xs') (ys ++ ys')
-entries_both [] xs' [] ys' a b = b
-entries_both (x ∷ xs) xs' (y ∷ ys) ys' a b = (a.0, entries_both xs xs' ys ys' a.1 b)
-entries_both [] xs' (y ∷ ys) ys' a b = absurd a
-entries_both (x ∷ xs) xs' [] ys' a b = absurd a
-
-pub entries_of : (event event' : ℕ) (out : List Outgoing) (more : List (Option Sent)) → event ≡ event' → AreEntries event' out more → Entries (map (wire event) out) more
-entries_of event event' [] [] same all = tt
-entries_of event event' (o ∷ out) (Some s ∷ more) same all = (ap (wire event) all.0.0 ∙ (λ i. wire_of (record s { event = (same ∙ sym all.0.1) i })), entries_of event event' out more same all.1)
-entries_of event event' (o ∷ out) (None ∷ more) same all = (all.0, entries_of event event' out more same all.1)
-entries_of event event' [] (x ∷ more) same all = absurd all
-entries_of event event' (o ∷ out) [] same all = absurd all
-
--- as many datagrams were sent as stand in the network
-pub as_many : (xs : List Wire) (ys : List (Option Sent)) → Entries xs ys → length ys ≡ length xs
-as_many [] [] h = refl
-as_many (x ∷ xs) (y ∷ ys) h = let rest = as_many xs ys h.1 in omega (arith, rest)
-as_many [] (y ∷ ys) h = absurd h
-as_many (x ∷ xs) [] h = absurd h
-
 -- what is read is in order where numbers are those of the cable
-pub read_in_order : ((setting : Setting) (history : List Happening) → AllTimely (wire_numbered setting) history → length (after (wire_numbered setting) history).sent ≤ few_segments → ReadsInOrder (after (wire_numbered setting) history)) →
-    (setting : Setting) (history : List Happening) → setting.numbers ≡ wire_numbers → AllTimely setting history → length (after setting history).sent ≤ few_segments → ReadsInOrder (after setting history)
+pub read_in_order : ((setting : Setting) (history : List Happening) → AllTimely (wire_numbered setting) history
+    → length (after (wire_numbered setting) history).sent ≤ few_segments
+    → ReadsInOrder (after (wire_numbered setting) history)) →
+    (setting : Setting) (history : List Happening) → setting.numbers ≡ wire_numbers → AllTimely setting history
+    → length (after setting history).sent ≤ few_segments → ReadsInOrder (after setting history)
 read_in_order law setting history numbers timely few =
     let same : wire_numbered setting ≡ setting = λ i. record setting { numbers = sym numbers i } in
-    subst (λ (x : Setting). AllTimely x history → length (after x history).sent ≤ few_segments → ReadsInOrder (after x history)) same (law setting history) timely few
+    subst (λ (x : Setting). AllTimely x history → length (after x history).sent ≤ few_segments
+    → ReadsInOrder (after x history)) same (law setting history) timely few

@@ -5,4 +5,6 @@ use Rattle.at_adsp_end.specs.declared.item.Item.TheVariants.{Byte}
 use Rattle.at_adsp_end.proofs.arrival.keep_bytes.Given as goal
 
 abbrev pub invariant-loop-byte : goal.invariant-loop-byte
-invariant-loop-byte g l = l.unread ≡ buffer (l.fn.unread.items ++ take (l.fn.unread.capacity - length l.fn.unread.items) (map Byte (take l.byte-index l.bytes))) l.fn.unread.capacity
+invariant-loop-byte g l = l.unread
+    ≡ buffer (l.fn.unread.items ++ take (l.fn.unread.capacity - length l.fn.unread.items)
+    (map Byte (take l.byte-index l.bytes))) l.fn.unread.capacity

@@ -6,4 +6,5 @@ use Rattle.at_adsp_end.proofs.arrival.new_items.Goals as goal
 
 pub returns-in-Some : goal.returns-in-Some
 returns-in-Some c =
-    rw c.in-Some.is (ap (items_in c.args.end) (take_rest c.args.bytes.now c.in-Some.count) ∙ sym (items_dropped c.args.end c.args.bytes.now c.in-Some.count c.if-count-bytes.true))
+    rw c.in-Some.is (ap (items_in c.args.end) (take_rest c.args.bytes.now c.in-Some.count)
+    ∙ sym (items_dropped c.args.end c.args.bytes.now c.in-Some.count c.if-count-bytes.true))

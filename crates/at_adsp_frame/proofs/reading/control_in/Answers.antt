@@ -1,5 +1,6 @@
 use Rattle.std.proofs.Common.{arith}
-use Rattle.at_adsp_frame.specs.declared.segment.OpenKind.TheVariants.{Request, Acknowledgement, RequestAndAcknowledgement, Denial}
+use Rattle.at_adsp_frame.specs.declared.segment.OpenKind.TheVariants.{Request, Acknowledgement}
+use Rattle.at_adsp_frame.specs.declared.segment.OpenKind.TheVariants.{RequestAndAcknowledgement, Denial}
 use Rattle.at_adsp_frame.proofs.reading.control_in.Goals as goal
 
 pub returns-in_default-code-clause-fault : goal.returns-in_default-code-clause-fault

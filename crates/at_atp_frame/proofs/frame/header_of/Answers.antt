@@ -9,7 +9,15 @@ returns-in-Request c = rw (c.in-Request.is, c.header.ensures, c.from.ensures, bo
 
 pub returns-in-Response : goal.returns-in-Response
 unfolding spelled
-returns-in-Response c = rw (c.in-Response.is, c.header-in-Response.ensures, c.from-in-Response.ensures, c.from-in-Response-2.ensures, bool_bit c.in-Response.eom, bool_bit c.in-Response.sts) refl
+returns-in-Response c = rw (
+  c.in-Response.is,
+  c.header-in-Response.ensures,
+  c.from-in-Response.ensures,
+  c.from-in-Response-2.ensures,
+  bool_bit
+      c.in-Response.eom,
+  bool_bit c.in-Response.sts,
+) refl
 
 pub returns-in-Release : goal.returns-in-Release
 unfolding spelled

@@ -2,14 +2,15 @@ use Rattle.std.proofs.Common.{◌≡◌, ◌/◌, ◌%◌, get_or, refl}
 use Rattle.std.specs.Prelude.{◌==◌, not, bit_and}
 use Rattle.std.proofs.lemmas.List.{take_rest}
 use Rattle.at_ddp.proofs.Octets.{number_in}
+use Rattle.at_ddp.proofs.BitLemmas.{bit_test}
 use Rattle.at_atp_frame.specs.Reading.{tid_in}
-use Rattle.at_atp_frame.proofs.FrameLemmas.{bit_test}
 use Rattle.at_atp_frame.proofs.frame.response_in.Goals as goal
 
 pub returns : goal.returns
 returns c =
     let control = get_or c.args.input.now 0 0 in
-    let tid : c.read_u16.result ≡ tid_in c.args.input.now = number_in 2 c.args.input.now c.read_u16.result c.read_u16.ensures in
+    let tid : c.read_u16.result
+    ≡ tid_in c.args.input.now = number_in 2 c.args.input.now c.read_u16.result c.read_u16.ensures in
     let eom : not (bit_and control 16 == 0) ≡ (control / 16 % 2 == 1) = bit_test control 4 in
     let sts : not (bit_and control 8 == 0) ≡ (control / 8 % 2 == 1) = bit_test control 3 in
     rw (tid, c.user_in.ensures, eom, sts, take_rest) refl

@@ -1,5 +1,5 @@
-use Rattle.at_atp_frame.proofs.FrameLemmas.{written_fits}
 use Rattle.at_atp_frame.proofs.laws.what_is_written_fits.Goals as goal
+use Rattle.at_atp_frame.proofs.SpellingLemmas.{written_fits}
 
 pub returns : goal.returns
 returns c = written_fits

@@ -6,7 +6,7 @@ use Rattle.at_atp_requester.proofs.numbers.next_of.Goals as goal
 
 pub returns-then-open-lt-OPEN-clause-some : goal.returns-then-open-lt-OPEN-clause-some
 returns-then-open-lt-OPEN-clause-some g c = λ few. subst (λ o. IsSome o) (sym c.free_number.ensures)
-    (draws_one _ c.args.next _ (omega arith) (omega arith) (omega (arith, length-append c.args.front.now c.args.back.now)))
+    (draws_one _ c.args.next _ (omega arith) (omega (arith, length-append c.args.front.now c.args.back.now)))
 
 pub returns-else-open-lt-OPEN-clause-number : goal.returns-else-open-lt-OPEN-clause-number
 returns-else-open-lt-OPEN-clause-number g c = grind (arith, common_steps)

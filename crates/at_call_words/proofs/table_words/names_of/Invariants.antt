@@ -4,4 +4,5 @@ use Rattle.at_call_words.proofs.WordLemmas.{SaidSoFar}
 use Rattle.at_call_words.proofs.table_words.names_of.Given as goal
 
 abbrev pub invariant-loop-word : goal.invariant-loop-word
-invariant-loop-word g l = SaidSoFar IsText (words_of l.fn.words.rest.now) (words_of l.word-iterator.rest.now) l.names.items
+invariant-loop-word g l =
+    SaidSoFar IsText (words_of l.fn.words.rest.now) (words_of l.word-iterator.rest.now) l.names.items

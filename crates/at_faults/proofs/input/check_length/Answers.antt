@@ -11,12 +11,19 @@ pub returns-in-Ok-eq0 : goal.returns-in-Ok-eq0
 returns-in-Ok-eq0 g c =
     let read = rw c.in-Ok-eq0.is at c.read.ensures.bytes in
     let room : 0 < length c.read.new.buf = omega (arith, c.read.auto.buf) in
-    few_read _ _ _ c.read.new.buf c.loop.left c.in-Ok-eq0.field-0 c.loop.invariant read.0 c.in-Ok-eq0.field-0-test (read.1 c.in-Ok-eq0.field-0-test room)
+    few_read _ _ _ c.read.new.buf c.loop.left c.in-Ok-eq0.field-0 c.loop.invariant read.0 c.in-Ok-eq0.field-0-test
+    (read.1 c.in-Ok-eq0.field-0-test room)
 
 pub loop-preserved : goal.loop-preserved
 loop-preserved g c = elim c.match-read.branch [
   | in-Ok-2 w ↦
       let read = w.in-Ok.ensures in
-      part_read _ _ _ c.read.new.buf c.loop.left w.in-Ok.len c.match-read.left c.loop.invariant read.bytes.0 read.bound.0 (omega (arith, w.left-is, w.if-len-left.false))
-  | in-Err w ↦ subst (IsLeft _ _) (sym w.left-is) (c.loop.invariant.0, c.loop.invariant.1, Consumes-kept _ _ _ c.loop.invariant.0 c.loop.invariant.2 (rw w.in-Err.is at c.read.ensures.bytes))
+      part_read _ _ _ c.read.new.buf c.loop.left w.in-Ok.len c.match-read.left c.loop.invariant read.bytes.0
+      read.bound.0 (omega (arith, w.left-is, w.if-len-left.false))
+  | in-Err w ↦ subst (IsLeft _ _) (sym w.left-is) (
+    c.loop.invariant.0,
+    c.loop.invariant.1,
+    Consumes-kept _ _ _ c.loop.invariant.0 c.loop.invariant.2
+        (rw w.in-Err.is at c.read.ensures.bytes),
+  )
 ]

@@ -10,7 +10,8 @@ pub returns-in-Ok-eq0-clause-whole : goal.returns-in-Ok-eq0-clause-whole
 returns-in-Ok-eq0-clause-whole g c =
     let read = rw c.in-Ok-eq0.is at c.read.ensures.bytes in
     let room : 0 < length c.read.new.buf = omega (arith, c.read.auto.buf) in
-    all_read _ _ _ c.loop.bytes.items c.read.new.buf c.in-Ok-eq0.field-0 c.loop.invariant.taken read.0 c.in-Ok-eq0.field-0-test (read.1 c.in-Ok-eq0.field-0-test room)
+    all_read _ _ _ c.loop.bytes.items c.read.new.buf c.in-Ok-eq0.field-0 c.loop.invariant.taken read.0
+    c.in-Ok-eq0.field-0-test (read.1 c.in-Ok-eq0.field-0-test room)
 
 pub loop-preserved : goal.loop-preserved
 loop-preserved g c = elim c.match-read.branch [
@@ -18,7 +19,8 @@ loop-preserved g c = elim c.match-read.branch [
       let items = ap (λ bytes. bytes.items) w.bytes-is ∙ w.in_ok-extend_from_slice-in-Ok-2.ensures.items in
       record {
         fits = rw w.bytes-is (grind (arith, common_steps));
-        taken = subst (Consumes _ _) (sym items) (Consumes-trans _ _ _ c.loop.bytes.items _ c.loop.invariant.taken w.in-Ok.ensures.bytes.0);
+        taken = subst (Consumes _ _) (sym items)
+            (Consumes-trans _ _ _ c.loop.bytes.items _ c.loop.invariant.taken w.in-Ok.ensures.bytes.0);
       }
   | in-Err w ↦ record {
     fits = rw w.bytes-is c.loop.invariant.fits;

@@ -6,7 +6,8 @@ use Rattle.at_nbp.proofs.search.joining.Goals as goal
 use Rattle.at_nbp.proofs.search.joining.Goals.{then-joins, else-joins}
 
 pub find_of-find-requires : goal.find_of-find-requires
-find_of-find-requires c = fits_at c.args.tuples.now c.loop-tuple.tuple-index _ _ c.loop-tuple-test.true refl c.requires.short
+find_of-find-requires c =
+    fits_at c.args.tuples.now c.loop-tuple.tuple-index _ _ c.loop-tuple-test.true refl c.requires.short
 
 pub loop-tuple-preserved : goal.loop-tuple-preserved
 loop-tuple-preserved c =
@@ -14,10 +15,16 @@ loop-tuple-preserved c =
     let finds = c.args.finds.now in
     let items = c.loop-tuple.joining.items in
     let f = c.find_of-find.result in
-    let test : joins pattern (finds ++ items) f ≡ c.joins.result = (λ i. joins pattern (finds ++ sym c.deref.ensures.0 i) f) ∙ sym c.joins.ensures in
+    let test : joins pattern (finds ++ items) f
+    ≡ c.joins.result = (λ i. joins pattern (finds ++ sym c.deref.ensures.0 i) f) ∙ sym c.joins.ensures in
     elim c.if-joins.branch [
-      | then-joins w ↦ subst (AreJoined pattern finds c.args.tuples.now (c.loop-tuple.tuple-index + 1)) (ap (λ v. v.items) (sym w.joining-is))
-          (joined_more pattern finds c.args.tuples.now c.loop-tuple.tuple-index items w.push.new.self.items _ _ f c.loop-tuple.invariant c.loop-tuple-test.true refl c.find_of-find.ensures (test ∙ w.if-joins.true) w.push.ensures.items)
-      | else-joins w ↦ subst (AreJoined pattern finds c.args.tuples.now (c.loop-tuple.tuple-index + 1)) (ap (λ v. v.items) (sym w.joining-is))
-          (joined_same pattern finds c.args.tuples.now c.loop-tuple.tuple-index items _ _ f c.loop-tuple.invariant c.loop-tuple-test.true refl c.find_of-find.ensures (test ∙ w.if-joins.false))
+      | then-joins w ↦ subst (AreJoined pattern finds c.args.tuples.now (c.loop-tuple.tuple-index + 1))
+          (ap (λ v. v.items) (sym w.joining-is))
+          (joined_more pattern finds c.args.tuples.now c.loop-tuple.tuple-index items w.push.new.self.items _ _ f
+          c.loop-tuple.invariant c.loop-tuple-test.true refl c.find_of-find.ensures
+          (test ∙ w.if-joins.true) w.push.ensures.items)
+      | else-joins w ↦ subst (AreJoined pattern finds c.args.tuples.now (c.loop-tuple.tuple-index + 1))
+          (ap (λ v. v.items) (sym w.joining-is))
+          (joined_same pattern finds c.args.tuples.now c.loop-tuple.tuple-index items _ _ f c.loop-tuple.invariant
+          c.loop-tuple-test.true refl c.find_of-find.ensures (test ∙ w.if-joins.false))
     ]

@@ -12,7 +12,10 @@ returns-in_default g c = record {
   told = (
     opened g.row.A.Denot c.args.setup.now,
     Prints-nothing g.W.Write.contents c.args.printer.now,
-    (stops_unread g.row.A.Denot (opening_world c.args.setup.now) 0 c.no_memory.result refl c.no_memory.ensures, none_said g.row.A.Denot (g.R.Read.remaining c.args.reader.now)),
+    (
+      stops_unread g.row.A.Denot (opening_world c.args.setup.now) 0 c.no_memory.result refl c.no_memory.ensures,
+      none_said g.row.A.Denot (g.R.Read.remaining c.args.reader.now),
+    ),
   );
 }
 
@@ -20,9 +23,13 @@ pub returns-in_err-line-items : goal.returns-in_err-line-items
 returns-in_err-line-items g c =
     let p = err_from_is_err_and c.from_residual.result c.from_residual.ensures.1 in
     record {
-      told = sofar_stopped g.row.A.Denot g.W.Write.contents c.args.setup.now (g.R.Read.remaining c.args.reader.now) (opening_world c.args.setup.now) c.args.printer.now c.args.printer.now c.args.printer.now c.from_residual.result p.0 p.1 refl
-          (sofar_opened g.row.A.Denot g.W.Write.contents c.args.setup.now (opening_world c.args.setup.now) c.args.printer.now refl)
-          (stops_unread g.row.A.Denot (opening_world c.args.setup.now) 0 p.0 refl p.2) (none_said g.row.A.Denot (g.R.Read.remaining c.args.reader.now));
+      told = sofar_stopped g.row.A.Denot g.W.Write.contents c.args.setup.now (g.R.Read.remaining c.args.reader.now)
+          (opening_world c.args.setup.now) c.args.printer.now c.args.printer.now c.args.printer.now
+          c.from_residual.result p.0 p.1 refl
+          (sofar_opened g.row.A.Denot g.W.Write.contents c.args.setup.now
+          (opening_world c.args.setup.now) c.args.printer.now refl)
+          (stops_unread g.row.A.Denot (opening_world c.args.setup.now) 0 p.0 refl p.2)
+          (none_said g.row.A.Denot (g.R.Read.remaining c.args.reader.now));
     }
 
 pub loop-line-init : goal.loop-line-init
@@ -37,15 +44,22 @@ pub loop-line-preserved : goal.loop-line-preserved
 loop-line-preserved g c =
     let steps = c.in-Some.ensures.steps in
     let before = c.loop-line.invariant in
-    let after = line_played g.row.A.Denot g.W.Write.contents c.args.setup.now c.first_line.ensures vec_items c.in-Some.line (g.R.Read.remaining c.args.reader.now) _ _ _ c.loop-line.world c.play_line.new.world
-    c.args.printer.now c.loop-line.printer c.play_line.new.printer before.0 before.2 before.1 steps.2 c.in_ok-play_line.ensures.told in
+    let after = line_played g.row.A.Denot g.W.Write.contents c.args.setup.now c.first_line.ensures vec_items
+    c.in-Some.line (g.R.Read.remaining c.args.reader.now) _ _ _ c.loop-line.world c.play_line.new.world
+    c.args.printer.now c.loop-line.printer c.play_line.new.printer before.0 before.2 before.1 steps.2
+    c.in_ok-play_line.ensures.told in
     (after.0, after.1, steps.1 ∙ before.2)
 
 pub returns : goal.returns
 returns g c =
     let before = c.loop-line.invariant in
     record {
-      told = (before.0.0, before.0.2, reads_all g.row.A.Denot (g.R.Read.remaining c.args.reader.now) _ ((before.0).0).events before.1 c.in-None.ensures.steps.2);
+      told = (
+        before.0.0,
+        before.0.2,
+        reads_all g.row.A.Denot (g.R.Read.remaining c.args.reader.now) _
+            ((before.0).0).events before.1 c.in-None.ensures.steps.2,
+      );
     }
 
 pub returns-in_err-play_line : goal.returns-in_err-play_line
@@ -53,7 +67,10 @@ returns-in_err-play_line g c =
     let p = err_from_is_err_and c.from_residual-in_err-play_line.result c.from_residual-in_err-play_line.ensures.1 in
     let stopped = c.in_err-play_line.ensures.stopped in
     record {
-      told = sofar_stopped g.row.A.Denot g.W.Write.contents c.args.setup.now (g.R.Read.remaining c.args.reader.now) c.loop-line.world c.args.printer.now c.loop-line.printer c.play_line.new.printer
+      told = sofar_stopped g.row.A.Denot g.W.Write.contents c.args.setup.now
+          (g.R.Read.remaining c.args.reader.now) c.loop-line.world c.args.printer.now c.loop-line.printer
+          c.play_line.new.printer
           c.from_residual-in_err-play_line.result p.0 p.1 stopped.0 c.loop-line.invariant.0
-          (rw p.2 stopped.1) (reads_so_far g.row.A.Denot (g.R.Read.remaining c.args.reader.now) _ ((c.loop-line.invariant.0).0).events c.loop-line.invariant.1);
+          (rw p.2 stopped.1) (reads_so_far g.row.A.Denot (g.R.Read.remaining c.args.reader.now) _
+          ((c.loop-line.invariant.0).0).events c.loop-line.invariant.1);
     }

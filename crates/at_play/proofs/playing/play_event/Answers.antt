@@ -12,7 +12,8 @@ returns-in-Ok g c =
         playable = played.0;
         plays = played.1;
         safe = c.in-Ok.ensures.safe;
-        printed = Prints-trans g.W.Write.contents c.args.printer.now c.write_event.new.printer c.write_sent.new.printer _ _ line sent;
+        printed = Prints-trans g.W.Write.contents c.args.printer.now c.write_event.new.printer c.write_sent.new.printer
+            _ _ line sent;
       };
       stopped = tt;
     }

@@ -9,5 +9,6 @@ returns-clause-ended g c =
       text = told.0;
       plays = told.1;
       done = λ done. (c.end.ensures.done done).0;
-      printed = Prints-trans g.W.Write.contents c.args.printer.now c.play_again-played.new.printer c.end.new.printer told.0 _ told.2 c.end.ensures.printed;
+      printed = Prints-trans g.W.Write.contents c.args.printer.now c.play_again-played.new.printer c.end.new.printer
+          told.0 _ told.2 c.end.ensures.printed;
     }

@@ -20,8 +20,12 @@ returns-in-Ok-clause-done g c = (
 pub returns-in-Ok-clause-printed : goal.returns-in-Ok-clause-printed
 returns-in-Ok-clause-printed g c =
     let printed = c.show_datagram.ensures.printed in
-    let d = content c.in-Ok.datagram in
-    (header_line d (length c.in-Ok.rest.now) ++ printed.0, Begin d c.in-Ok.rest.now printed.0 c.in-Ok.ensures.found printed.1, printed.2)
+    let d = content c.in-Ok.datagram in (
+      header_line d (length c.in-Ok.rest.now) ++ printed.0,
+      Begin d c.in-Ok.rest.now printed.0 c.in-Ok.ensures.found
+          printed.1,
+      printed.2,
+    )
 
 pub returns-in-Err-clause-done : goal.returns-in-Err-clause-done
 returns-in-Err-clause-done g c = (
@@ -30,5 +34,9 @@ returns-in-Err-clause-done g c = (
 )
 
 pub returns-in-Err-clause-printed : goal.returns-in-Err-clause-printed
-returns-in-Err-clause-printed g c =
-    (refusal_line (number_of c.in-Err.refusal), Stop c.in-Err.refusal c.in-Err.ensures.fault, rw c.number.ensures at c.show_refusal.ensures.printed)
+returns-in-Err-clause-printed g c = (
+  refusal_line (number_of c.in-Err.refusal),
+  Stop c.in-Err.refusal c.in-Err.ensures.fault,
+  rw c.number.ensures at
+      c.show_refusal.ensures.printed,
+)

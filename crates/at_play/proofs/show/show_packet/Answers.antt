@@ -9,5 +9,9 @@ returns-in-Ok-clause-printed g c =
     (packet_line (content c.in-Ok.frame), Read (content c.in-Ok.frame) c.in-Ok.ensures.found, c.write_frame.ensures)
 
 pub returns-in-Err-clause-printed : goal.returns-in-Err-clause-printed
-returns-in-Err-clause-printed g c =
-    (refusal_line (number_of c.in-Err.fault), Refused c.in-Err.fault c.in-Err.ensures.fault, rw c.number.ensures at c.show_refusal.ensures.printed)
+returns-in-Err-clause-printed g c = (
+  refusal_line (number_of c.in-Err.fault),
+  Refused c.in-Err.fault c.in-Err.ensures.fault,
+  rw c.number.ensures at
+      c.show_refusal.ensures.printed,
+)

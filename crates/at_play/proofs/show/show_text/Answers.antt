@@ -18,7 +18,8 @@ returns-clause-only g c shows room written = elim c.match-bytes_of.branch [
   | in-Err w ↦
       let never = elim w.in-Err.fault as (λ f. c.bytes_of.result ≡ Err f → ⊥) [
         | NoHex ↦ λ is. c.bytes_of.ensures.fault is shows.bytes shows.written
-        | NoMemory ↦ λ is. let lacks : vec_capacity c.args.room.now < length c.args.word.now / 2 = c.bytes_of.ensures.memory is in omega arith
+        | NoMemory ↦ λ is. let lacks : vec_capacity c.args.room.now < length c.args.word.now / 2 =
+            c.bytes_of.ensures.memory is in omega arith
       ] in
       absurd (never w.in-Err.is)
 ]
@@ -32,15 +33,18 @@ returns-clause-printed g c = elim c.match-bytes_of.branch [
         shown.0,
         Spelled c.bytes_of.new.room.items shown.0 w.in-Ok.ensures.found text,
         subst (Prints g.W.Write.contents c.args.printer.now c.finish.new.self) (append-nil shown.0)
-            (Prints-trans g.W.Write.contents c.args.printer.now w.show_bytes-status.new.printer c.finish.new.self shown.0 [] shown.2 flushed),
+            (Prints-trans g.W.Write.contents c.args.printer.now w.show_bytes-status.new.printer c.finish.new.self
+            shown.0 [] shown.2 flushed),
       )
   | in-Err w ↦
       let fault = w.in-Err.fault in
       let flushed = rw w.printer-is at c.finish.ensures.printed in (
         fault_line fault,
         fault_text c.args.word.now (vec_capacity c.args.room.now) fault
-            (λ e. c.bytes_of.ensures.fault (w.in-Err.is ∙ ap Err e)) (λ e. c.bytes_of.ensures.memory (w.in-Err.is ∙ ap Err e)),
+            (λ e. c.bytes_of.ensures.fault (w.in-Err.is ∙ ap Err e))
+            (λ e. c.bytes_of.ensures.memory (w.in-Err.is ∙ ap Err e)),
         subst (Prints g.W.Write.contents c.args.printer.now c.finish.new.self) (append-nil (fault_line fault))
-            (Prints-trans g.W.Write.contents c.args.printer.now w.show_fault-status.new.printer c.finish.new.self (fault_line fault) [] w.show_fault-status.ensures.printed flushed),
+            (Prints-trans g.W.Write.contents c.args.printer.now w.show_fault-status.new.printer c.finish.new.self
+            (fault_line fault) [] w.show_fault-status.ensures.printed flushed),
       )
 ]

@@ -12,5 +12,9 @@ returns-in-Ok-clause-printed g c = (
 )
 
 pub returns-in-Err-clause-printed : goal.returns-in-Err-clause-printed
-returns-in-Err-clause-printed g c =
-    (refusal_line (number_of c.in-Err.fault), Misnamed c.in-Err.fault c.in-Err.ensures.fault, rw c.number.ensures at c.show_refusal.ensures.printed)
+returns-in-Err-clause-printed g c = (
+  refusal_line (number_of c.in-Err.fault),
+  Misnamed c.in-Err.fault c.in-Err.ensures.fault,
+  rw c.number.ensures at
+      c.show_refusal.ensures.printed,
+)

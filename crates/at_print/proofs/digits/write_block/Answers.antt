@@ -14,10 +14,12 @@ loop-place-preserved g c =
     let within : place < length c.args.block.now = omega arith in
     let room : 2 * place + 1 < length c.loop-place.digits = omega (arith, c.loop-place.invariant.0) in
     let written = two_more c.loop-place.digits (2 * place) (2 * (place + 1)) high low (omega arith) room in (
-      length-set (set c.loop-place.digits (2 * place) high) (2 * place + 1) low ∙ length-set c.loop-place.digits (2 * place) high ∙ c.loop-place.invariant.0,
+      length-set (set c.loop-place.digits (2 * place) high) (2 * place + 1) low
+          ∙ length-set c.loop-place.digits (2 * place) high ∙ c.loop-place.invariant.0,
       written
           ∙ ap (λ l. l ++ (high ∷ low ∷ [])) c.loop-place.invariant.1
           ∙ ap (λ d. pairs (take place c.args.block.now) ++ (d ∷ low ∷ [])) c.digit.ensures
-          ∙ ap (λ d. pairs (take place c.args.block.now) ++ (digit_glyph true (get_or c.args.block.now place 0 / 16) ∷ d ∷ [])) c.digit-in-loop-place.ensures
+          ∙ ap (λ d. pairs (take place c.args.block.now)
+          ++ (digit_glyph true (get_or c.args.block.now place 0 / 16) ∷ d ∷ [])) c.digit-in-loop-place.ensures
           ∙ sym (pairs-next c.args.block.now place within),
     )

@@ -7,4 +7,5 @@ abbrev pub decreases-loop-block : goal.decreases-loop-block
 decreases-loop-block g l = length l.rest
 
 abbrev pub invariant-loop-block : goal.invariant-loop-block
-invariant-loop-block g l = (printed : List ℕ) × (l.fn.bytes ≡ printed ++ l.rest) × Prints g.W.Write.contents l.fn.printer l.printer (pairs printed)
+invariant-loop-block g l = (printed : List ℕ) × (l.fn.bytes ≡ printed ++ l.rest)
+    × Prints g.W.Write.contents l.fn.printer l.printer (pairs printed)

@@ -6,4 +6,5 @@ use Rattle.at_print.specs.Reports.{found_text}
 use Rattle.at_print.proofs.name_reports.write_found.Given as goal
 
 abbrev pub invariant-loop-find : goal.invariant-loop-find
-invariant-loop-find g l = Prints g.W.Write.contents l.fn.printer l.printer (codes "found" ++ flat_map found_text (take l.find-index l.finds))
+invariant-loop-find g l =
+    Prints g.W.Write.contents l.fn.printer l.printer (codes "found" ++ flat_map found_text (take l.find-index l.finds))

@@ -7,4 +7,6 @@ use Rattle.at_print.specs.Reports.{packet_text}
 use Rattle.at_print.proofs.print.write_response.Given as goal
 
 abbrev pub invariant-loop-packet : goal.invariant-loop-packet
-invariant-loop-packet g l = Prints g.W.Write.contents l.fn.printer l.printer ((codes "response " ++ decimal l.fn.tid) ++ flat_map packet_text (take l.packet-index l.packets))
+invariant-loop-packet g l =
+    Prints g.W.Write.contents l.fn.printer l.printer
+    ((codes "response " ++ decimal l.fn.tid) ++ flat_map packet_text (take l.packet-index l.packets))

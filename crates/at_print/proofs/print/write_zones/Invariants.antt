@@ -6,4 +6,5 @@ use Rattle.at_print.specs.Reports.{zone_text}
 use Rattle.at_print.proofs.print.write_zones.Given as goal
 
 abbrev pub invariant-loop-zone : goal.invariant-loop-zone
-invariant-loop-zone g l = Prints g.W.Write.contents l.fn.printer l.printer (codes "zones" ++ flat_map zone_text (take l.zone-index l.zones))
+invariant-loop-zone g l =
+    Prints g.W.Write.contents l.fn.printer l.printer (codes "zones" ++ flat_map zone_text (take l.zone-index l.zones))

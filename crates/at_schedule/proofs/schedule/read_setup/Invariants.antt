@@ -9,5 +9,6 @@ use Rattle.at_schedule.proofs.schedule.read_setup.Given as goal
 abbrev pub invariant-loop-line : goal.invariant-loop-line
 invariant-loop-line g l =
     ((read : List (List ℕ)) × IsRead g.row.A.Denot read l.draft
-    × Left (g.R.Read.remaining l.fn.reader) (split_known_bytes (reader_remaining (λ r. g.R.Read.remaining r.now)) l.line-iterator) read)
+    × Left (g.R.Read.remaining l.fn.reader)
+    (split_known_bytes (reader_remaining (λ r. g.R.Read.remaining r.now)) l.line-iterator) read)
     × (split_byte l.line-iterator ≡ 10)

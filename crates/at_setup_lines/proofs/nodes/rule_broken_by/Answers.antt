@@ -13,9 +13,12 @@ returns-then-not-fits_zones-clause-broken c = λ _ b.
 
 pub returns-else-not-fits_zones-clause-fits : goal.returns-else-not-fits_zones-clause-fits
 returns-else-not-fits_zones-clause-fits c = λ none b node.
-    begin_with c.args.nodes.now c.args.node.now b node c.if-nodes-ge-MAX_NODES.false (sym c.has_number.ensures ∙ c.if-has_number.false)
-    (sym c.fits_zones.ensures ∙ c.if-not-fits_zones.false) (sym c.router_rule_broken_by.ensures ∙ none_is c.router_rule_broken_by.result none)
+    begin_with c.args.nodes.now c.args.node.now b node c.if-nodes-ge-MAX_NODES.false
+    (sym c.has_number.ensures ∙ c.if-has_number.false)
+    (sym c.fits_zones.ensures ∙ c.if-not-fits_zones.false)
+    (sym c.router_rule_broken_by.ensures ∙ none_is c.router_rule_broken_by.result none)
 
 pub returns-else-not-fits_zones-clause-broken : goal.returns-else-not-fits_zones-clause-broken
 returns-else-not-fits_zones-clause-broken c = λ some b.
-    false≢true (sym (some_is c.router_rule_broken_by.result some) ∙ c.router_rule_broken_by.ensures ∙ router_if c.args.nodes.now c.args.node.now b)
+    false≢true (sym (some_is c.router_rule_broken_by.result some) ∙ c.router_rule_broken_by.ensures
+    ∙ router_if c.args.nodes.now c.args.node.now b)

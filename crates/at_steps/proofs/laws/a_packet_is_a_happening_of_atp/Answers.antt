@@ -19,4 +19,5 @@ returns g c =
       bytes = fit.bytes;
       fits = fit.fits;
     } in
-    λ history n which s said o st was_sent fresh free later heard. datagram_happens A laws history n st which s was_sent fresh said o free later heard
+    λ history n which s said o st was_sent fresh free later heard. datagram_happens A laws history n st which s
+    was_sent fresh said o free later heard

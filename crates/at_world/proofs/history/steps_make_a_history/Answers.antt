@@ -1,10 +1,13 @@
 use Rattle.std.proofs.Common.{◌≡◌, ℕ, zero, suc, List, [], ◌∷◌, map, Option, Some, None, ap, subst, ◌∙◌}
 use Rattle.std.specs.Prelude.{slice_get}
-use Rattle.at_atp.specs.Network.{Sent, packet_at, after}
+use Rattle.at_ddp.specs.Posts.{packet_at}
+use Rattle.at_steps.specs.AtpHappenings.{atp_coding}
+use Rattle.at_world.proofs.Entries.{Entries}
+use Rattle.at_atp.specs.Network.{Sent, after}
 use Rattle.at_world.specs.Machine.{opening_machine}
 use Rattle.at_world.specs.Plays.{opening_world}
 use Rattle.at_world.specs.Stories.{Tells, posted_packet}
-use Rattle.at_world.proofs.Atp.Tie.{Laws, Entries}
+use Rattle.at_world.proofs.Atp.Tie.{Laws}
 use Rattle.at_world.proofs.CableTie.{Wire, spelled_wire}
 use Rattle.at_world.proofs.LawfulSetups.{SetupLaws}
 use Rattle.at_world.proofs.Names.Tie.{NameLaws}
@@ -15,11 +18,13 @@ use Rattle.at_world.proofs.TiedAtOpening.{tied_at_opening}
 use Rattle.at_world.proofs.history.steps_make_a_history.Goals as goal
 
 -- each packet of the network stands at its place
-stands_at : (wires : List Wire) (sent : List (Option Sent)) (which : ℕ) (s : Sent) → Entries wires sent → packet_at sent which ≡ Some s → slice_get (map spelled_wire wires) which ≡ Some (posted_packet s)
+stands_at : (wires : List Wire) (sent : List (Option Sent)) (which : ℕ) (s : Sent) → Entries atp_coding wires sent
+    → packet_at sent which ≡ Some s → slice_get (map spelled_wire wires) which ≡ Some (posted_packet s)
 stands_at [] [] which s all is = absurd (cc)
 stands_at [] (y ∷ sent) which s all is = absurd all
 stands_at (x ∷ wires) [] which s all is = absurd all
-stands_at (x ∷ wires) (Some y ∷ sent) zero s all is = let same : y ≡ s = cc in ap (λ z. Some (spelled_wire z)) all.0 ∙ ap (λ (z : Sent). Some (posted_packet z)) same
+stands_at (x ∷ wires) (Some y ∷ sent) zero s all is = let same : y ≡ s = cc in ap (λ z. Some (spelled_wire z)) all.0
+    ∙ ap (λ (z : Sent). Some (posted_packet z)) same
 stands_at (x ∷ wires) (None ∷ sent) zero s all is = absurd (cc)
 stands_at (x ∷ wires) (y ∷ sent) (suc i) s all is = stands_at wires sent i s all.1 is
 
@@ -87,7 +92,8 @@ returns g c s events reports w lawful =
       lawful_sent = c.what_is_sent_is_lawful-3.ensures;
       unheld = c.an_identifier_that_is_not_held_has_no_end.ensures;
       reads = c.what_is_read_reads_from_a_peer.ensures;
-      in_order = λ setting history numbers timely few. read_in_order c.what_is_read_on_the_cable_was_written_in_order.ensures setting history numbers timely few;
+      in_order = λ setting history numbers timely few. read_in_order
+          c.what_is_read_on_the_cable_was_written_in_order.ensures setting history numbers timely few;
     } in
     let told = c.an_event_is_a_step_of_the_session.ensures in
     let sessions : SessionLaws A = record { called = told.call; timed = told.timer; heard = told.datagram } in
@@ -105,7 +111,8 @@ returns g c s events reports w lawful =
           timely = atp.timely;
           in_range = atp.in_range;
           tells = subst (λ before. Tells s.net s.zones before events reports atp.history) opened.1 ran.3;
-          is_sent = λ which s there. ap (λ l. slice_get l which) cable.sent ∙ stands_at cable.wires (after A atp.history).sent which s atp.sent there;
+          is_sent = λ which s there. ap (λ l. slice_get l which) cable.sent
+              ∙ stands_at cable.wires (after A atp.history).sent which s atp.sent there;
         },
       ),
     )

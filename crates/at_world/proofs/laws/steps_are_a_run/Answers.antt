@@ -5,4 +5,5 @@ pub returns-clause-sent : goal.returns-clause-sent
 returns-clause-sent g c s events reports w = follows_canonically g.row.A.Denot s events reports w
 
 pub returns-clause-machine : goal.returns-clause-machine
-returns-clause-machine g c s events reports w lawful sent follows = (c.steps_make_a_history.ensures s events reports w lawful sent follows).0
+returns-clause-machine g c s events reports w lawful sent follows =
+    (c.steps_make_a_history.ensures s events reports w lawful sent follows).0

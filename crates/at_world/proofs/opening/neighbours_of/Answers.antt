@@ -12,6 +12,8 @@ loop-n-preserved g c =
       | in-Some+in_ok-push w ↦
           ap (λ v. v.items) w.neighbours-is ∙ w.in_ok-push.ensures.items
           ∙ (λ i. c.loop-n.invariant i ++ record { node = (c.n-item.is i).node; zone = w.copy_of.ensures i } ∷ [])
-          ∙ sym (more (Some w.in-Some.zone) c.loop-n-test.true (ap (λ (x : NodeSetup). x.zone) (sym c.n-item.is) ∙ w.in-Some.is))
-      | in_default w ↦ ap (λ v. v.items) w.neighbours-is ∙ c.loop-n.invariant ∙ sym (append-nil _) ∙ sym (more None c.loop-n-test.true (ap (λ (x : NodeSetup). x.zone) (sym c.n-item.is) ∙ w.in_default.is))
+          ∙ sym (more (Some w.in-Some.zone) c.loop-n-test.true
+          (ap (λ (x : NodeSetup). x.zone) (sym c.n-item.is) ∙ w.in-Some.is))
+      | in_default w ↦ ap (λ v. v.items) w.neighbours-is ∙ c.loop-n.invariant ∙ sym (append-nil _)
+          ∙ sym (more None c.loop-n-test.true (ap (λ (x : NodeSetup). x.zone) (sym c.n-item.is) ∙ w.in_default.is))
     ]

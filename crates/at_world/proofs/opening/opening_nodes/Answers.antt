@@ -1,4 +1,5 @@
-use Rattle.std.proofs.Common.{◌≡◌, ℕ, ◌∷◌, ◌++◌, [], List, Some, None, cond, get_or, map, take, sym, ap, subst, ◌∙◌, arith}
+use Rattle.std.proofs.Common.{◌≡◌, ℕ, ◌∷◌, ◌++◌, [], List, Some, None, cond, get_or, map, take, sym, ap, subst, ◌∙◌}
+use Rattle.std.proofs.Common.{arith}
 use Rattle.std.proofs.lemmas.List.{map-append, take_all, take_more}
 use Rattle.at_ddp.proofs.Alls.{all_both}
 use Rattle.at_node.specs.Limits.{IsWithin}
@@ -17,12 +18,18 @@ loop-n-preserved g c =
     let same : setups ≡ s.nodes = c.as_slice-setups.ensures in
     let router = c.router_of-router.ensures ∙ ap router_of same in
     let zones = c.in_ok-zones.ensures ∙ ap (λ (z : List (List ℕ)). cond n.router (Some z) None) c.as_slice.ensures in
-    let known = c.in_ok-neighbours.ensures ∙ ap (λ (l : List NodeSetup). cond n.router (Some (neighbours_of l)) None) same in
-    let node : c.new-node.result ≡ opening_node s n = c.new-node.ensures ∙ (λ k. opening s.net n.node (router k) (c.zone_of-zone.ensures k) (zones k) (known k) (c.rooms_of-rooms.ensures.value k)) in
+    let known = c.in_ok-neighbours.ensures
+    ∙ ap (λ (l : List NodeSetup). cond n.router (Some (neighbours_of l)) None) same in
+    let node : c.new-node.result ≡ opening_node s n = c.new-node.ensures
+    ∙ (λ k. opening (record { net = s.net; number = n.node; router = router k }) (c.zone_of-zone.ensures k)
+    (zones k) (known k) (c.rooms_of-rooms.ensures.value k)) in
     let name : get_or setups i n ≡ n = sym c.n-item.is in (
       c.in_ok-push.ensures.items ∙ (λ k. c.loop-n.invariant.0 k ++ node k ∷ [])
-          ∙ sym (ap (map (opening_node s)) (take_more setups i n c.loop-n-test.true) ∙ map-append (opening_node s) (take i setups) (get_or setups i n ∷ []) ∙ ap (λ x. map (opening_node s) (take i setups) ++ opening_node s x ∷ []) name),
-      subst AreWithin (sym c.in_ok-push.ensures.items) (all_both IsWithin c.loop-n.nodes.items (c.new-node.result ∷ []) c.loop-n.invariant.1 (c.limits.ensures, tt)),
+          ∙ sym (ap (map (opening_node s)) (take_more setups i n c.loop-n-test.true)
+          ∙ map-append (opening_node s) (take i setups) (get_or setups i n ∷ [])
+          ∙ ap (λ x. map (opening_node s) (take i setups) ++ opening_node s x ∷ []) name),
+      subst AreWithin (sym c.in_ok-push.ensures.items)
+          (all_both IsWithin c.loop-n.nodes.items (c.new-node.result ∷ []) c.loop-n.invariant.1 (c.limits.ensures, tt)),
     )
 
 pub returns-clause-nodes : goal.returns-clause-nodes
@@ -30,7 +37,8 @@ returns-clause-nodes g c =
     let s = c.args.setup.now in
     let setups = c.as_slice-setups.result.now in
     let same : setups ≡ s.nodes = c.as_slice-setups.ensures in
-    c.loop-n.invariant.0 ∙ ap (map (opening_node s)) (take_all c.loop-n.n-index setups (omega (arith, c.loop-n-test.false)) ∙ same)
+    c.loop-n.invariant.0 ∙ ap (map (opening_node s))
+    (take_all c.loop-n.n-index setups (omega (arith, c.loop-n-test.false)) ∙ same)
 
 pub returns-clause-within : goal.returns-clause-within
 returns-clause-within g c = c.loop-n.invariant.1

@@ -10,9 +10,12 @@ returns-in-empty g t c = sought_nowhere (is_numbered c.args.number) c.args.place
 pub returns-in-len1-up : goal.returns-in-len1-up
 returns-in-len1-up g t c =
     let n = c.first-item.result in
-    sought_here (is_numbered c.args.number) c.args.place c.args.nodes.now n c.in-len1-up.len_at_least c.first-item.is (eq-eqb n.seat.number c.args.number (sym c.number.ensures ∙ c.if-number.true))
+    sought_here (is_numbered c.args.number) c.args.place c.args.nodes.now n c.in-len1-up.len_at_least c.first-item.is
+    (eq-eqb n.seat.number c.args.number (sym c.number.ensures ∙ c.if-number.true))
 
 pub returns-in-len1-up-2 : goal.returns-in-len1-up-2
 returns-in-len1-up-2 g t c =
     let n = c.first-item.result in
-    sought_further (is_numbered c.args.number) c.args.place c.args.nodes.now n c.place_from.result c.in-len1-up.len_at_least c.first-item.is (ne_eqb n.seat.number c.args.number (λ is. c.if-number.false (c.number.ensures ∙ is))) c.place_from.ensures
+    sought_further (is_numbered c.args.number) c.args.place c.args.nodes.now n c.place_from.result
+    c.in-len1-up.len_at_least c.first-item.is
+    (ne_eqb n.seat.number c.args.number (λ is. c.if-number.false (c.number.ensures ∙ is))) c.place_from.ensures

@@ -11,14 +11,22 @@ use Rattle.at_world.proofs.player.play_all.Goals as goal
 
 pub returns-in-Err-clause-follows : goal.returns-in-Err-clause-follows
 returns-in-Err-clause-follows g c =
-    let says = c.unopened.ensures in
-    (opening_world c.args.setup.now, (rw (says.at, says.reports, c.new-reports.ensures.items) refl, says.sent), rw (says.fault, says.at) (inr refl))
+    let says = c.unopened.ensures in (
+      opening_world c.args.setup.now,
+      (rw (says.at, says.reports, c.new-reports.ensures.items) refl, says.sent),
+      rw
+          (says.fault, says.at) (inr refl),
+    )
 
 pub returns-in-Err-step-clause-follows : goal.returns-in-Err-step-clause-follows
 returns-in-Err-step-clause-follows g c =
     let says = c.stopped-in-Err-step.ensures in
-    let both = stops g.row.A.Denot c.loop-at.world c.args.events.now c.loop-at.at c.index-events-at.result c.in-Err-step.fault c.step.new.self c.loop-at-test.true c.index-events-at.is c.in-Err-step.ensures.not_played in
-    (c.loop-at.world, (rw (says.at, says.reports, c.reserve.ensures.items) c.loop-at.invariant.0, says.sent ∙ both.1), rw (says.at, says.fault) both.0)
+    let both = stops g.row.A.Denot c.loop-at.world c.args.events.now c.loop-at.at c.index-events-at.result
+    c.in-Err-step.fault c.step.new.self c.loop-at-test.true c.index-events-at.is c.in-Err-step.ensures.not_played in (
+      c.loop-at.world,
+      (rw (says.at, says.reports, c.reserve.ensures.items) c.loop-at.invariant.0, says.sent ∙ both.1),
+      rw (says.at, says.fault) both.0,
+    )
 
 pub loop-at-preserved : goal.loop-at-preserved
 loop-at-preserved g c =
@@ -42,20 +50,27 @@ loop-at-preserved g c =
 
 pub loop-at-init : goal.loop-at-init
 loop-at-init g c =
-    rw (c.new-reports.ensures.items, c.in-Ok.ensures) (refl, refl, opening_few g.row.A.Denot c.args.setup.now c.requires)
+    rw (c.new-reports.ensures.items, c.in-Ok.ensures)
+    (refl, refl, opening_few g.row.A.Denot c.args.setup.now c.requires)
 
 pub returns-clause-follows : goal.returns-clause-follows
 returns-clause-follows g c =
     let says = c.transcript.ensures in
-    let followed = subst (λ l. Follows (opening_world c.args.setup.now) l c.loop-at.reports.items c.loop-at.world) (take_all c.loop-at.at c.args.events.now c.loop-at-test.false) c.loop-at.invariant.0 in
+    let followed = subst (λ l. Follows (opening_world c.args.setup.now) l c.loop-at.reports.items c.loop-at.world)
+    (take_all c.loop-at.at c.args.events.now c.loop-at-test.false) c.loop-at.invariant.0 in
     (c.loop-at.world, (rw says.reports followed, says.sent))
 
 -- no memory for one report more, where an event is
 pub returns-in_default-clause-follows : goal.returns-in_default-clause-follows
 returns-in_default-clause-follows g c =
     let says = c.stopped.ensures in
-    let there = subst (λ o. IsSome o) (sym (slice_get-get_or c.args.events.now c.loop-at.at c.index-events-at.result c.loop-at-test.true)) refl in
-    (c.loop-at.world, (rw (says.at, says.reports, c.reserve.ensures.items) c.loop-at.invariant.0, says.sent), rw (says.at, says.fault) (inl there))
+    let there = subst (λ o. IsSome o)
+    (sym (slice_get-get_or c.args.events.now c.loop-at.at c.index-events-at.result c.loop-at-test.true)) refl in (
+      c.loop-at.world,
+      (rw (says.at, says.reports, c.reserve.ensures.items) c.loop-at.invariant.0, says.sent),
+      rw
+          (says.at, says.fault) (inl there),
+    )
 
 pub returns-in-Err-clause-safe : goal.returns-in-Err-clause-safe
 returns-in-Err-clause-safe g c =
@@ -65,13 +80,15 @@ returns-in-Err-clause-safe g c =
 pub returns-in-Err-step-clause-safe : goal.returns-in-Err-step-clause-safe
 returns-in-Err-step-clause-safe g c =
     let says = c.stopped-in-Err-step.ensures in
-    let both = stops g.row.A.Denot c.loop-at.world c.args.events.now c.loop-at.at c.index-events-at.result c.in-Err-step.fault c.step.new.self c.loop-at-test.true c.index-events-at.is c.in-Err-step.ensures.not_played in
+    let both = stops g.row.A.Denot c.loop-at.world c.args.events.now c.loop-at.at c.index-events-at.result
+    c.in-Err-step.fault c.step.new.self c.loop-at-test.true c.index-events-at.is c.in-Err-step.ensures.not_played in
     (c.loop-at.world, rw (says.at, says.reports, c.reserve.ensures.items) c.loop-at.invariant.1, says.sent ∙ both.1)
 
 pub returns-clause-safe : goal.returns-clause-safe
 returns-clause-safe g c =
     let says = c.transcript.ensures in
-    let safe = subst (λ l. Safely (opening_world c.args.setup.now) l c.loop-at.reports.items c.loop-at.world) (take_all c.loop-at.at c.args.events.now c.loop-at-test.false) c.loop-at.invariant.1 in
+    let safe = subst (λ l. Safely (opening_world c.args.setup.now) l c.loop-at.reports.items c.loop-at.world)
+    (take_all c.loop-at.at c.args.events.now c.loop-at-test.false) c.loop-at.invariant.1 in
     (c.loop-at.world, rw says.reports safe, says.sent)
 
 pub returns-in_default-clause-safe : goal.returns-in_default-clause-safe

@@ -4,7 +4,8 @@ use Rattle.at_ddp.proofs.Octets.{number_in}
 use Rattle.at_zip.specs.Fault.{flag_of}
 use Rattle.at_zip.proofs.PageLemmas.{is_front, is_spelled}
 use Rattle.at_zip.proofs.page_view.parse.Goals as goal
-use Rattle.at_zip.proofs.page_view.parse.Goals.{else-not-last-via-then-not-last+else-count-eq0, else-not-last-via-else-not-last}
+use Rattle.at_zip.proofs.page_view.parse.Goals.{else-not-last-via-then-not-last+else-count-eq0}
+use Rattle.at_zip.proofs.page_view.parse.Goals.{else-not-last-via-else-not-last}
 
 -- a flag that is not 0 says that the page is the last
 is_last : (flag count : ℕ) → ¬ (flag ≡ 0) → not (nat_eq flag 0) ≡ false → 0 < count
@@ -23,5 +24,6 @@ invariant_of-result c =
 
 pub returns-clause-found : goal.returns-clause-found
 returns-clause-found c =
-    is_spelled c.args.user.now c.args.bytes.now c.read_u16-count.result c.requires (λ i. omega (arith, c.type_inv.user i))
+    is_spelled c.args.user.now c.args.bytes.now c.read_u16-count.result c.requires
+    (λ i. omega (arith, c.type_inv.user i))
     (number_in 2 c.args.user.now c.read_u16-count.result c.read_u16-count.ensures) (invariant_of-result c)

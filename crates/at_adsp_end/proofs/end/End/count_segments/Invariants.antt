@@ -4,6 +4,7 @@ use Rattle.at_adsp_end.proofs.end.End.count_segments.Given as goal
 
 abbrev pub invariant-loop-index : goal.invariant-loop-index
 invariant-loop-index g l = record {
-  counted : Counted l.counting.segments l.counting.filled (stretch l.fn.self.sender l.fn.from l.fn.count) (take (l.index-end - l.index) (drop l.index (queued l.fn.self.sender)));
+  counted : Counted l.counting.segments l.counting.filled (stretch l.fn.self.sender l.fn.from l.fn.count)
+      (take (l.index-end - l.index) (drop l.index (queued l.fn.self.sender)));
   filled : l.counting.filled ≤ 572;
 }

@@ -7,8 +7,8 @@ use Rattle.at_adsp_end.specs.declared.phase.Phase.TheVariants as phase
 use Rattle.at_adsp_end.proofs.HearingLemmas.{room_moved}
 use Rattle.at_adsp_end.proofs.end.End.open.Goals as goal
 
-pub note-requires-clause-room : goal.note-requires-clause-room
-note-requires-clause-room g c =
+pub note_acknowledgement-requires-clause-room : goal.note_acknowledgement-requires-clause-room
+note_acknowledgement-requires-clause-room g c =
     let o = c.self.inside in
     let e : EndState = record {
       id = o.id;

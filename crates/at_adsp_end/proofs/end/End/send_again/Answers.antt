@@ -15,4 +15,5 @@ returns g c =
     let s = c.args.self.now.sender in
     let n = c.sent.ensures ∙ ap (λ (e : EndState). length e.sender.unacknowledged) c.self.view_is in
     let first = c.front-first.ensures ∙ ap (λ (e : EndState). e.sender.front) c.self.view_is in
-    sent_again _ _ c.args.self.now _ s.front _ _ first ((λ i. stretch s 0 (n i)) ∙ sent_stretch s) c.send_items.ensures.sent
+    sent_again _ _ c.args.self.now _ s.front _ _ first
+    ((λ i. stretch s 0 (n i)) ∙ sent_stretch s) c.send_items.ensures.sent

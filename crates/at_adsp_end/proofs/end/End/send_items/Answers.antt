@@ -15,8 +15,10 @@ loop-index-preserved g c =
 
 pub returns-then-not-is_empty-clause-room : goal.returns-then-not-is_empty-clause-room
 returns-then-not-is_empty-clause-room g c n h =
-    c.send.ensures.room n (far_last _ _ _ _ _ _ _ _ (none_left _ _ _ c.loop-index-test.false) (sym c.is_empty.ensures ∙ c.if-not-is_empty.true) c.loop-index.invariant n h)
+    c.send.ensures.room n (far_last _ _ _ _ _ _ _ _ (none_left _ _ _ c.loop-index-test.false)
+    (sym c.is_empty.ensures ∙ c.if-not-is_empty.true) c.loop-index.invariant n h)
 
 pub returns-else-not-is_empty-clause-room : goal.returns-else-not-is_empty-clause-room
 returns-else-not-is_empty-clause-room g c n h =
-    far_done _ _ _ _ _ _ _ _ (none_left _ _ _ c.loop-index-test.false) (sym c.is_empty.ensures ∙ c.if-not-is_empty.false) c.loop-index.invariant n h
+    far_done _ _ _ _ _ _ _ _ (none_left _ _ _ c.loop-index-test.false)
+    (sym c.is_empty.ensures ∙ c.if-not-is_empty.false) c.loop-index.invariant n h

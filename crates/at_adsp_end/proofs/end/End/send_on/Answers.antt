@@ -12,7 +12,8 @@ send_items-requires-clause-room g c =
     let same = ap (λ (e : EndState). e.sender) c.self.view_is in
     let n = c.sent.ensures ∙ ap (λ (s : Sender). length s.unacknowledged) same in
     let m = c.count_going-going.ensures.count ∙ ap (λ (s : Sender). length (going s)) same in
-    room_for_just c.args.out.now c.args.self.now (s.front + length s.unacknowledged) _ _ ((λ i. stretch s (n i) (m i)) ∙ going_stretch s) c.requires
+    room_for_just c.args.out.now c.args.self.now (s.front + length s.unacknowledged) _ _
+    ((λ i. stretch s (n i) (m i)) ∙ going_stretch s) c.requires
 
 pub returns-clause-change : goal.returns-clause-change
 returns-clause-change g c =
@@ -23,7 +24,8 @@ returns-clause-change g c =
     let first = c.next_unsent-first.ensures ∙ ap (λ (s : Sender). next_unsent wire s) same in
     record {
       state = rw (c.advance.ensures, ← c.self.view_is) refl;
-      sent = sent_all _ _ c.args.self.now _ (s.front + length s.unacknowledged) _ _ first ((λ i. stretch s (n i) (m i)) ∙ going_stretch s) c.send_items.ensures.sent;
+      sent = sent_all _ _ c.args.self.now _ (s.front + length s.unacknowledged) _ _ first
+          ((λ i. stretch s (n i) (m i)) ∙ going_stretch s) c.send_items.ensures.sent;
     }
 
 pub returns-clause-room : goal.returns-clause-room
@@ -32,4 +34,6 @@ returns-clause-room g c k h =
     let same = ap (λ (e : EndState). e.sender) c.self.view_is in
     let n = c.sent.ensures ∙ ap (λ (s : Sender). length s.unacknowledged) same in
     let m = c.count_going-going.ensures.count ∙ ap (λ (s : Sender). length (going s)) same in
-    c.send_items.ensures.room k (room_for_all c.args.out.now c.args.self.now (s.front + length s.unacknowledged) k _ _ ((λ i. stretch s (n i) (m i)) ∙ going_stretch s) h)
+    c.send_items.ensures.room k
+    (room_for_all c.args.out.now c.args.self.now (s.front + length s.unacknowledged) k _ _
+    ((λ i. stretch s (n i) (m i)) ∙ going_stretch s) h)

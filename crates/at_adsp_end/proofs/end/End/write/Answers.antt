@@ -19,4 +19,6 @@ send_on-requires g c =
       receive_room = o.unread.capacity;
       send_room = c.append-count.new.self.room;
     } in
-    subst (λ (m : ℕ). HasRoomFor c.room.new.self m 585) (c.count_segments-segments.ensures.count ∙ room_for_sending e _ _ c.sent.ensures c.count_going-going.ensures.count) c.in-Ok.ensures.ok
+    subst (λ (m : ℕ). HasRoomFor c.room.new.self m 585)
+    (c.count_segments-segments.ensures.count
+    ∙ room_for_sending e _ _ c.sent.ensures c.count_going-going.ensures.count) c.in-Ok.ensures.ok

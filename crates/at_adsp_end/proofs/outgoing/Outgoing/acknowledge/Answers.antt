@@ -12,4 +12,13 @@ returns g c =
     let k = c.args.k in
     let fits : k ≤ s = omega (arith, asked, some) in
     let within : k ≤ length q = omega (arith, fits, c.self.invariant.0) in
-    rw (c.number_after-self-inside.ensures, c.credit_with-self-inside.ensures, c.truncate_front.ensures, c.len.ensures.len, ← c.self.view_is, left_last k q within, left_sent s k q fits, left_waiting s k q fits) refl
+    rw (
+      c.number_after-self-inside.ensures,
+      c.credit_with-self-inside.ensures,
+      c.truncate_front.ensures,
+      c.len.ensures.len,
+      ← c.self.view_is,
+      left_last k q within,
+      left_sent s k q fits,
+      left_waiting s k q fits,
+    ) refl

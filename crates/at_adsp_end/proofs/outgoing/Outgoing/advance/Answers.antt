@@ -6,7 +6,8 @@ use Rattle.at_adsp_end.proofs.outgoing.Outgoing.advance.Goals as goal
 pub returns : goal.returns
 returns g c =
     let o = c.self.inside in
-    rw (c.count_going-count.ensures.count, ← c.self.view_is) (λ i. record { sender = advanced o.front o.sent o.credit o.queue.items o.resetting i; room = o.queue.capacity })
+    rw (c.count_going-count.ensures.count, ← c.self.view_is)
+    (λ i. record { sender = advanced o.front o.sent o.credit o.queue.items o.resetting i; room = o.queue.capacity })
 
 pub overflow_add-self : goal.overflow_add-self
 overflow_add-self g c =

@@ -12,4 +12,11 @@ returns g c =
     let rest = length-drop s q in
     let fits : s + n ≤ length q = omega (arith, asked, rest, c.self.invariant.0) in
     let few : s ≤ length q - n = omega (arith, fits) in
-    rw (c.truncate_back.ensures, c.len.ensures.len, ← c.self.view_is, take-take s (length q - n) q few, back_waiting s n q fits) refl
+    rw (
+      c.truncate_back.ensures,
+      c.len.ensures.len,
+      ← c.self.view_is,
+      take-take s
+          (length q - n) q few,
+      back_waiting s n q fits,
+    ) refl

@@ -5,4 +5,5 @@ use Rattle.at_adsp_ends.proofs.TableLaws.{none_lawful}
 use Rattle.at_adsp_ends.proofs.ends.Ends.new.Goals as goal
 
 pub invariant_of-result : goal.invariant_of-result
-invariant_of-result g c = subst (λ (l : List EndState). AreEnds (record (no_ends c.args.rooms) { ends = l })) (sym c.new.ensures.items) (none_lawful c.args.rooms c.requires)
+invariant_of-result g c = subst (λ (l : List EndState). AreEnds (record (no_ends c.args.rooms) { ends = l }))
+    (sym c.new.ensures.items) (none_lawful c.args.rooms c.requires)

@@ -11,76 +11,105 @@ use Rattle.at_atp_requester.proofs.requester.Requester.retry.Goals as goal
 pub returns-in_default-clause-missing : goal.returns-in_default-clause-missing
 returns-in_default-clause-missing g c =
     let r : Requests = record { next = c.self.inside.next; standing = c.self.inside.standing.items } in
-    let none = not_open r c.args.tid (none_by (is_numbered c.args.tid) c.self.inside.standing.items c.deref.result.now c.index_numbered.result c.deref.ensures.value c.index_numbered.ensures.first c.in_default.is) in
+    let none = not_open r c.args.tid
+    (none_by (is_numbered c.args.tid) c.self.inside.standing.items c.deref.result.now c.index_numbered.result
+    c.deref.ensures.value c.index_numbered.ensures.first c.in_default.is) in
     rw (← c.self.view_is) (λ wrong. none, λ nothing. refl)
 
 pub returns-in_default-clause-closes : goal.returns-in_default-clause-closes
 returns-in_default-clause-closes g c =
     let r : Requests = record { next = c.self.inside.next; standing = c.self.inside.standing.items } in
-    let none = not_open r c.args.tid (none_by (is_numbered c.args.tid) c.self.inside.standing.items c.deref.result.now c.index_numbered.result c.deref.ensures.value c.index_numbered.ensures.first c.in_default.is) in
+    let none = not_open r c.args.tid
+    (none_by (is_numbered c.args.tid) c.self.inside.standing.items c.deref.result.now c.index_numbered.result
+    c.deref.ensures.value c.index_numbered.ensures.first c.in_default.is) in
     rw (← c.self.view_is) (closes_nothing r c.args.tid _ none)
 
 pub index_mut-transaction-requires : goal.index_mut-transaction-requires
 index_mut-transaction-requires g c =
-    let f = found_by (is_numbered c.args.tid) c.self.inside.standing.items c.deref.result.now c.index_numbered.result c.in-Some.index c.deref.ensures.value c.index_numbered.ensures.first c.in-Some.is in
+    let f = found_by (is_numbered c.args.tid) c.self.inside.standing.items c.deref.result.now c.index_numbered.result
+    c.in-Some.index c.deref.ensures.value c.index_numbered.ensures.first c.in-Some.is in
     omega (arith, f.within, c.self.inside.standing.ok.0)
 
 pub remove-requires : goal.remove-requires
 remove-requires g c =
-    let f = found_by (is_numbered c.args.tid) c.self.inside.standing.items c.deref.result.now c.index_numbered.result c.in-Some.index c.deref.ensures.value c.index_numbered.ensures.first c.in-Some.is in
+    let f = found_by (is_numbered c.args.tid) c.self.inside.standing.items c.deref.result.now c.index_numbered.result
+    c.in-Some.index c.deref.ensures.value c.index_numbered.ensures.first c.in-Some.is in
     omega (arith, f.within, c.self.inside.standing.ok.0)
 
 pub returns-in-Err-clause-missing : goal.returns-in-Err-clause-missing
 returns-in-Err-clause-missing g c =
     let r : Requests = record { next = c.self.inside.next; standing = c.self.inside.standing.items } in
-    let f = found_by (is_numbered c.args.tid) c.self.inside.standing.items c.deref.result.now c.index_numbered.result c.in-Some.index c.deref.ensures.value c.index_numbered.ensures.first c.in-Some.is in
+    let f = found_by (is_numbered c.args.tid) c.self.inside.standing.items c.deref.result.now c.index_numbered.result
+    c.in-Some.index c.deref.ensures.value c.index_numbered.ensures.first c.in-Some.is in
     rw (← c.self.view_is) (λ wrong. absurd (cc), λ none. absurd (is_open r c.args.tid c.in-Some.index f none))
 
 pub returns-in-Err-clause-closes : goal.returns-in-Err-clause-closes
 returns-in-Err-clause-closes g c =
     let r : Requests = record { next = c.self.inside.next; standing = c.self.inside.standing.items } in
-    let f = found_by (is_numbered c.args.tid) c.self.inside.standing.items c.deref.result.now c.index_numbered.result c.in-Some.index c.deref.ensures.value c.index_numbered.ensures.first c.in-Some.is in
-    let entry : c.index_mut-transaction.result.now ≡ f.entry = c.index_mut-transaction.ensures.value ∙ f.at c.index_mut-transaction.result.now in
+    let f = found_by (is_numbered c.args.tid) c.self.inside.standing.items c.deref.result.now c.index_numbered.result
+    c.in-Some.index c.deref.ensures.value c.index_numbered.ensures.first c.in-Some.is in
+    let entry : c.index_mut-transaction.result.now ≡ f.entry = c.index_mut-transaction.ensures.value
+    ∙ f.at c.index_mut-transaction.result.now in
     let left = rw entry at c.in-Err.ensures.none in
     rw (← c.self.view_is) (not_closing r c.args.tid c.in-Some.index f _ (λ zero. let wrong = left zero in absurd (cc)))
 
 pub returns-in-Ok-true-clause-ok : goal.returns-in-Ok-true-clause-ok
 returns-in-Ok-true-clause-ok g c =
     let r : Requests = record { next = c.self.inside.next; standing = c.self.inside.standing.items } in
-    let f = found_by (is_numbered c.args.tid) c.self.inside.standing.items c.deref.result.now c.index_numbered.result c.in-Some.index c.deref.ensures.value c.index_numbered.ensures.first c.in-Some.is in
-    let entry : c.index_mut-transaction.result.now ≡ f.entry = c.index_mut-transaction.ensures.value ∙ f.at c.index_mut-transaction.result.now in
-    rw (← c.self.view_is) (asked_again r c.args.tid c.in-Some.index f c.index_mut-transaction.result.now c.take_retry.new.self c.args.out.now c.take_retry.new.out entry (sym c.in-Ok-true.field-0-test ∙ c.in-Ok-true.ensures.taken) c.in-Ok-true.ensures.state c.in-Ok-true.ensures.sent)
+    let f = found_by (is_numbered c.args.tid) c.self.inside.standing.items c.deref.result.now c.index_numbered.result
+    c.in-Some.index c.deref.ensures.value c.index_numbered.ensures.first c.in-Some.is in
+    let entry : c.index_mut-transaction.result.now ≡ f.entry = c.index_mut-transaction.ensures.value
+    ∙ f.at c.index_mut-transaction.result.now in
+    rw (← c.self.view_is) (asked_again r c.args.tid c.in-Some.index f c.index_mut-transaction.result.now
+    c.take_retry.new.self c.args.out.now c.take_retry.new.out entry
+    (sym c.in-Ok-true.field-0-test ∙ c.in-Ok-true.ensures.taken) c.in-Ok-true.ensures.state
+    c.in-Ok-true.ensures.sent)
 
 pub returns-in-Ok-true-clause-missing : goal.returns-in-Ok-true-clause-missing
 returns-in-Ok-true-clause-missing g c =
     let r : Requests = record { next = c.self.inside.next; standing = c.self.inside.standing.items } in
-    let f = found_by (is_numbered c.args.tid) c.self.inside.standing.items c.deref.result.now c.index_numbered.result c.in-Some.index c.deref.ensures.value c.index_numbered.ensures.first c.in-Some.is in
+    let f = found_by (is_numbered c.args.tid) c.self.inside.standing.items c.deref.result.now c.index_numbered.result
+    c.in-Some.index c.deref.ensures.value c.index_numbered.ensures.first c.in-Some.is in
     rw (← c.self.view_is) (λ wrong. absurd (cc), λ none. absurd (is_open r c.args.tid c.in-Some.index f none))
 
 pub returns-in-Ok-false-clause-ok : goal.returns-in-Ok-false-clause-ok
 returns-in-Ok-false-clause-ok g c =
     let r : Requests = record { next = c.self.inside.next; standing = c.self.inside.standing.items } in
-    let f = found_by (is_numbered c.args.tid) c.self.inside.standing.items c.deref.result.now c.index_numbered.result c.in-Some.index c.deref.ensures.value c.index_numbered.ensures.first c.in-Some.is in
-    let entry : c.index_mut-transaction.result.now ≡ f.entry = c.index_mut-transaction.ensures.value ∙ f.at c.index_mut-transaction.result.now in
-    rw (← c.self.view_is) (closed r c.args.tid c.in-Some.index f c.index_mut-transaction.result.now c.take_retry.new.self c.remove.new.self.items c.args.out.now c.take_retry.new.out entry (sym c.in-Ok-false.field-0-test ∙ c.in-Ok-false.ensures.taken) c.in-Ok-false.ensures.sent c.remove.ensures.items)
+    let f = found_by (is_numbered c.args.tid) c.self.inside.standing.items c.deref.result.now c.index_numbered.result
+    c.in-Some.index c.deref.ensures.value c.index_numbered.ensures.first c.in-Some.is in
+    let entry : c.index_mut-transaction.result.now ≡ f.entry = c.index_mut-transaction.ensures.value
+    ∙ f.at c.index_mut-transaction.result.now in
+    rw (← c.self.view_is) (closed r c.args.tid c.in-Some.index f c.index_mut-transaction.result.now
+    c.take_retry.new.self c.remove.new.self.items c.args.out.now c.take_retry.new.out entry
+    (sym c.in-Ok-false.field-0-test ∙ c.in-Ok-false.ensures.taken) c.in-Ok-false.ensures.sent
+    c.remove.ensures.items)
 
 pub returns-in-Ok-false-clause-missing : goal.returns-in-Ok-false-clause-missing
 returns-in-Ok-false-clause-missing g c =
     let r : Requests = record { next = c.self.inside.next; standing = c.self.inside.standing.items } in
-    let f = found_by (is_numbered c.args.tid) c.self.inside.standing.items c.deref.result.now c.index_numbered.result c.in-Some.index c.deref.ensures.value c.index_numbered.ensures.first c.in-Some.is in
+    let f = found_by (is_numbered c.args.tid) c.self.inside.standing.items c.deref.result.now c.index_numbered.result
+    c.in-Some.index c.deref.ensures.value c.index_numbered.ensures.first c.in-Some.is in
     rw (← c.self.view_is) (λ wrong. absurd (cc), λ none. absurd (is_open r c.args.tid c.in-Some.index f none))
 
 pub invariant_of-self-in-Ok-true : goal.invariant_of-self-in-Ok-true
 invariant_of-self-in-Ok-true g c =
     let r : Requests = record { next = c.self.inside.next; standing = c.self.inside.standing.items } in
-    let f = found_by (is_numbered c.args.tid) c.self.inside.standing.items c.deref.result.now c.index_numbered.result c.in-Some.index c.deref.ensures.value c.index_numbered.ensures.first c.in-Some.is in
-    let entry : c.index_mut-transaction.result.now ≡ f.entry = c.index_mut-transaction.ensures.value ∙ f.at c.index_mut-transaction.result.now in
-    let same : (c.take_retry.new.self).tid ≡ (f.entry).tid = ap (λ (t : Transaction). t.tid) c.in-Ok-true.ensures.state ∙ ap (λ (t : Transaction). t.tid) entry in
-    set_lawful r c.args.tid c.in-Some.index (is_numbered c.args.tid) c.take_retry.new.self (λ x p. eqb-true x.tid c.args.tid p) f same c.self.invariant
+    let f = found_by (is_numbered c.args.tid) c.self.inside.standing.items c.deref.result.now c.index_numbered.result
+    c.in-Some.index c.deref.ensures.value c.index_numbered.ensures.first c.in-Some.is in
+    let entry : c.index_mut-transaction.result.now ≡ f.entry = c.index_mut-transaction.ensures.value
+    ∙ f.at c.index_mut-transaction.result.now in
+    let same : (c.take_retry.new.self).tid ≡ (f.entry).tid = ap (λ (t : Transaction). t.tid) c.in-Ok-true.ensures.state
+    ∙ ap (λ (t : Transaction). t.tid) entry in
+    set_lawful r c.args.tid c.in-Some.index (is_numbered c.args.tid) c.take_retry.new.self
+    (λ x p. eqb-true x.tid c.args.tid p) f same c.self.invariant
 
 pub invariant_of-self-in-Ok-false : goal.invariant_of-self-in-Ok-false
 invariant_of-self-in-Ok-false g c =
     let r : Requests = record { next = c.self.inside.next; standing = c.self.inside.standing.items } in
-    let f = found_by (is_numbered c.args.tid) c.self.inside.standing.items c.deref.result.now c.index_numbered.result c.in-Some.index c.deref.ensures.value c.index_numbered.ensures.first c.in-Some.is in
-    let gone : c.remove.new.self.items ≡ without_first (is_numbered c.args.tid) c.self.inside.standing.items = c.remove.ensures.items ∙ remove-set c.self.inside.standing.items c.in-Some.index c.take_retry.new.self ∙ sym f.gone_is in
-    subst (λ l. IsRequester (record { next = c.self.inside.next; standing = l })) (sym gone) (without_lawful r (is_numbered c.args.tid) c.self.invariant)
+    let f = found_by (is_numbered c.args.tid) c.self.inside.standing.items c.deref.result.now c.index_numbered.result
+    c.in-Some.index c.deref.ensures.value c.index_numbered.ensures.first c.in-Some.is in
+    let gone : c.remove.new.self.items ≡ without_first (is_numbered c.args.tid) c.self.inside.standing.items =
+    c.remove.ensures.items ∙ remove-set c.self.inside.standing.items c.in-Some.index c.take_retry.new.self
+    ∙ sym f.gone_is in
+    subst (λ l. IsRequester (record { next = c.self.inside.next; standing = l })) (sym gone)
+    (without_lawful r (is_numbered c.args.tid) c.self.invariant)

@@ -7,4 +7,5 @@ use Rattle.at_atp_requester.proofs.transaction.Transaction.wants.Goals as goal
 pub returns-clause-within : goal.returns-clause-within
 returns-clause-within g c = λ h.
     let parts = c.deref.ensures.value ∙ ap (λ (t : Transaction). t.parts) c.self.view_is in
-    wanted-within c.args.self.now.parts c.args.sequence_number (ap (λ l. is_wanted l c.args.sequence_number) (sym parts) ∙ sym c.is_wanted.ensures ∙ h)
+    wanted-within c.args.self.now.parts c.args.sequence_number
+    (ap (λ l. is_wanted l c.args.sequence_number) (sym parts) ∙ sym c.is_wanted.ensures ∙ h)

@@ -9,7 +9,11 @@ use Rattle.at_atp_responder.proofs.responder.Responder.receive.Goals as goal
 pub returns-in-Release-clause-ok : goal.returns-in-Release-clause-ok
 returns-in-Release-clause-ok g c =
     let key : Key = record { from = c.args.from; tid = c.in-Release.tid } in
-    let reception = c.take_release.ensures.reception ∙ ap (λ (rs : List Record). (release_came rs key (find (is_key key) rs)).reception) c.self.view_is in
-    let after = c.take_release.ensures.after ∙ ap (λ (rs : List Record). (release_came rs key (find (is_key key) rs)).after) c.self.view_is in
-    subst (λ f. IsTaken (taken c.args.self.now c.args.from (content f)) c.take_release.result c.take_release.new.records.items c.args.out.now c.args.out.now) (sym c.in-Release.is)
-    (taken_release c.args.self.now c.take_release.new.records.items key c.take_release.result c.args.out.now reception after)
+    let reception = c.hear_release.ensures.reception
+    ∙ ap (λ (rs : List Record). (release_came rs key (find (is_key key) rs)).reception) c.self.view_is in
+    let after = c.hear_release.ensures.after
+    ∙ ap (λ (rs : List Record). (release_came rs key (find (is_key key) rs)).after) c.self.view_is in
+    subst (λ f. IsTaken (taken c.args.self.now c.args.from (content f)) c.hear_release.result
+    c.hear_release.new.records.items c.args.out.now c.args.out.now) (sym c.in-Release.is)
+    (taken_release c.args.self.now c.hear_release.new.records.items key c.hear_release.result c.args.out.now reception
+    after)

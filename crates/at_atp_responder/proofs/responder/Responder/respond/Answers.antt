@@ -10,13 +10,22 @@ pub returns-clause-ok : goal.returns-clause-ok
 returns-clause-ok g c =
     let same = c.deref.ensures.value ∙ c.self.view_is in record {
       is_new = c.settle_copy.ensures.settled ∙ ap (λ rs. after_answer rs c.args.key c.args.packets.now) c.self.view_is;
-      sends = subst (λ (rs : List Record). Sends c.args.out.now c.send_asked.new.out (spelled_all (asked_for (find (is_key c.args.key) rs) c.args.key c.args.packets.now))) same c.in_ok-count.ensures.sent;
-      counts = c.in_ok-count.ensures.counts ∙ ap (λ (rs : List Record). length (asked_for (find (is_key c.args.key) rs) c.args.key c.args.packets.now)) same;
+      sends = subst (λ (rs : List Record). Sends c.args.out.now c.send_asked.new.out
+          (spelled_all (asked_for (find (is_key c.args.key) rs) c.args.key c.args.packets.now))) same
+          c.in_ok-count.ensures.sent;
+      counts = c.in_ok-count.ensures.counts
+          ∙ ap (λ (rs : List Record). length (asked_for (find (is_key c.args.key) rs) c.args.key c.args.packets.now))
+          same;
     }
 
 pub returns-clause-refuses : goal.returns-clause-refuses
-returns-clause-refuses g c = subst (λ (rs : List Record). IfSome (answer_fault rs c.args.key c.args.packets.now) (λ fault. Ok c.in_ok-count.count ≡ Err fault)) (c.deref.ensures.value ∙ c.self.view_is) c.in_ok-count.ensures.refuses
+returns-clause-refuses g c =
+    subst (λ (rs : List Record). IfSome (answer_fault rs c.args.key c.args.packets.now)
+    (λ fault. Ok c.in_ok-count.count ≡ Err fault))
+    (c.deref.ensures.value ∙ c.self.view_is) c.in_ok-count.ensures.refuses
 
 pub returns-in_err-count-clause-memory : goal.returns-in_err-count-clause-memory
 returns-in_err-count-clause-memory g c = λ h.
-    let told = c.in_err-count.ensures.memory (ap (λ (rs : List Record). answer_fault rs c.args.key c.args.packets.now) (c.deref.ensures.value ∙ c.self.view_is) ∙ h) in grind (told, arith, common_steps)
+    let told = c.in_err-count.ensures.memory
+    (ap (λ (rs : List Record). answer_fault rs c.args.key c.args.packets.now)
+    (c.deref.ensures.value ∙ c.self.view_is) ∙ h) in grind (told, arith, common_steps)

@@ -13,7 +13,8 @@ use Rattle.at_name_socket.proofs.socket.NameSocket.answer.Goals as goal
 pub name-requires : goal.name-requires
 name-requires g c =
     let same : c.deref.result.now ≡ c.args.packet.now.tuples.items = c.deref.ensures.0 in
-    one_fits c.deref.result.now _ (ap (length {A = Tuple}) same ∙ c.requires.one) (subst (λ (l : List Tuple). All FitsStrings (map content l)) (sym same) c.requires.short)
+    one_fits c.deref.result.now _ (ap (length {A = Tuple}) same ∙ c.requires.one)
+    (subst (λ (l : List Tuple). All FitsStrings (map content l)) (sym same) c.requires.short)
 
 pub returns-then-count-eq0-clause-ok : goal.returns-then-count-eq0-clause-ok
 returns-then-count-eq0-clause-ok g c = grind (arith, common_steps)
@@ -26,8 +27,13 @@ returns-in_err-count-clause-owed g c =
     let items = c.args.packet.now.tuples.items in
     let same : c.deref.result.now ≡ items = c.deref.ensures.0 in
     let t : Tuple = get_or items 0 blank_tuple in
-    let name : c.name.result ≡ pattern_of (content t) = c.name.ensures ∙ ap (λ (l : List Tuple). pattern_of (content (get_or l 0 blank_tuple))) same in
-    let some : (replies : List (List Entry)) × AreReplies (matching c.args.self.now.table (pattern_of (content t))) replies =
+    let name : c.name.result ≡ pattern_of (content t) = c.name.ensures
+    ∙ ap (λ (l : List Tuple). pattern_of (content (get_or l 0 blank_tuple))) same in
+    let some : (replies : List (List Entry))
+    × AreReplies (matching c.args.self.now.table (pattern_of (content t))) replies =
     subst (λ (n : Name). (replies : List (List Entry)) × AreReplies (matching c.args.self.now.table n) replies) name
-    (subst (λ (s : SocketState). (replies : List (List Entry)) × AreReplies (matching s.table c.name.result) replies) c.self.view_is c.in_err-count.ensures.owed) in
-    on_err c.from_residual.result _ (answers_some c.args.self.now c.args.packet.now.id (content t) some (map content items) (one_content items blank_tuple c.requires.one))
+    (subst (λ (s : SocketState). (replies : List (List Entry)) × AreReplies (matching s.table c.name.result) replies)
+    c.self.view_is c.in_err-count.ensures.owed) in
+    on_err c.from_residual.result _
+    (answers_some c.args.self.now c.args.packet.now.id (content t) some (map content items)
+    (one_content items blank_tuple c.requires.one))

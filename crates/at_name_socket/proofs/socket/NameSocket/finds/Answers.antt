@@ -10,8 +10,10 @@ loop-place-preserved g c =
     let place = c.loop-place.place in
     let found = c.find.result.now in
     let there : slice_get (finds_in (search_of c.args.self.now.lookups c.args.id)) place ≡ Some found =
-    subst (λ (l : Lookups). slice_get (finds_in (search_of l c.args.id)) place ≡ Some found) (ap (λ (s : SocketState). s.lookups) c.self.view_is) c.find.ensures in
+    subst (λ (l : Lookups). slice_get (finds_in (search_of l c.args.id)) place ≡ Some found)
+    (ap (λ (s : SocketState). s.lookups) c.self.view_is) c.find.ensures in
     let pushed = rw c.unwrap.ensures at c.push.ensures.items in (
-      pushed ∙ (λ i. c.loop-place.invariant.0 i ++ c.copy.ensures i ∷ []) ∙ sym (take_found (finds_in (search_of c.args.self.now.lookups c.args.id)) place found there),
+      pushed ∙ (λ i. c.loop-place.invariant.0 i ++ c.copy.ensures i ∷ [])
+          ∙ sym (take_found (finds_in (search_of c.args.self.now.lookups c.args.id)) place found there),
       omega (arith, c.loop-place.invariant.1, c.push.ensures.capacity),
     )

@@ -13,7 +13,8 @@ returns-in_ok-heard-in-Reply-clause-ok g c = (
     packet = packet_content c.in_ok-packet.packet;
     rest = c.in_ok-packet.field-0-1.now;
     begins = c.in_ok-packet.ensures.found;
-    takes = subst (λ f. Takes c.args.self.now (packet_content c.in_ok-packet.packet) f c.in_ok-heard-in-Reply.heard c.keep.new.self []) (sym c.in-Reply.is) c.in_ok-heard-in-Reply.ensures.ok;
+    takes = subst (λ f. Takes c.args.self.now (packet_content c.in_ok-packet.packet) f c.in_ok-heard-in-Reply.heard
+        c.keep.new.self []) (sym c.in-Reply.is) c.in_ok-heard-in-Reply.ensures.ok;
   },
   sends_nothing c.args.out.now,
 )
@@ -22,17 +23,21 @@ pub returns-in_err-heard-in-LookUp-clause-owed : goal.returns-in_err-heard-in-Lo
 returns-in_err-heard-in-LookUp-clause-owed g c =
     let p = packet_content c.in_ok-packet.packet in
     let some = c.in_err-heard-in-LookUp.ensures.owed in
-    owed c.from_residual-in_err-heard-in-LookUp.result c.args.self.now c.args.bytes.now c.in_ok-packet.field-0-1.now p c.in_ok-packet.ensures.found
+    owed c.from_residual-in_err-heard-in-LookUp.result c.args.self.now c.args.bytes.now c.in_ok-packet.field-0-1.now p
+    c.in_ok-packet.ensures.found
     (subst (SomeStep c.args.self.now p) (sym c.in-LookUp.is) (some.0, c.args.self.now, some.1, (some.2, refl)))
 
 pub returns-in_err-heard-in-Reply-clause-owed : goal.returns-in_err-heard-in-Reply-clause-owed
 returns-in_err-heard-in-Reply-clause-owed g c =
     let p = packet_content c.in_ok-packet.packet in
-    owed c.from_residual-in_err-heard-in-Reply.result c.args.self.now c.args.bytes.now c.in_ok-packet.field-0-1.now p c.in_ok-packet.ensures.found
-    (one_step c.args.self.now p p.function (λ is_lookup. let both : Reply ≡ LookUp = sym c.in-Reply.is ∙ is_lookup in absurd (cc)))
+    owed c.from_residual-in_err-heard-in-Reply.result c.args.self.now c.args.bytes.now c.in_ok-packet.field-0-1.now p
+    c.in_ok-packet.ensures.found
+    (one_step c.args.self.now p p.function
+    (λ is_lookup. let both : Reply ≡ LookUp = sym c.in-Reply.is ∙ is_lookup in absurd (cc)))
 
 pub returns-in_err-heard-in_default-clause-owed : goal.returns-in_err-heard-in_default-clause-owed
 returns-in_err-heard-in_default-clause-owed g c =
     let p = packet_content c.in_ok-packet.packet in
-    owed c.from_residual-in_err-heard-in_default.result c.args.self.now c.args.bytes.now c.in_ok-packet.field-0-1.now p c.in_ok-packet.ensures.found
+    owed c.from_residual-in_err-heard-in_default.result c.args.self.now c.args.bytes.now c.in_ok-packet.field-0-1.now p
+    c.in_ok-packet.ensures.found
     (one_step c.args.self.now p p.function (λ is_lookup. c.in_default.not-LookUp is_lookup))

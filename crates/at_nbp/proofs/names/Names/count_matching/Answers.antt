@@ -21,10 +21,19 @@ loop-name-preserved g c =
       | then-is_match w ↦ (
         m.0,
         subst (AreCounted table c.args.pattern.now (i + 1)) (sym w.count-is)
-            (counted_more table c.args.pattern.now i c.loop-name.count r m.1 lt (test ∙ w.if-is_match.true) (subst FitsStrings (w.tuple_of-tuple.ensures.entry ∙ ap (entry_in table) name) w.tuple_of-tuple.ensures.short)),
+            (counted_more table c.args.pattern.now i c.loop-name.count r m.1 lt (test ∙ w.if-is_match.true)
+            (subst FitsStrings (w.tuple_of-tuple.ensures.entry ∙ ap (entry_in table) name)
+            w.tuple_of-tuple.ensures.short)),
       )
-      | else-is_match w ↦ (m.0, subst (AreCounted table c.args.pattern.now (i + 1)) (sym w.count-is) (counted_same table c.args.pattern.now i c.loop-name.count r m.1 lt (test ∙ w.if-is_match.false)))
+      | else-is_match w ↦ (
+        m.0,
+        subst (AreCounted table c.args.pattern.now (i + 1)) (sym w.count-is)
+            (counted_same table c.args.pattern.now i c.loop-name.count r m.1 lt (test ∙ w.if-is_match.false)),
+      )
     ]
 
 pub returns-clause-short : goal.returns-clause-short
-returns-clause-short g c = counted_all c.args.self.now c.args.pattern.now c.loop-name.name-index c.loop-name.count c.loop-name.invariant.1 (subst (λ (l : List Registered). length l ≤ c.loop-name.name-index) c.loop-name.invariant.0 (omega (arith, c.loop-name-test.false)))
+returns-clause-short g c =
+    counted_all c.args.self.now c.args.pattern.now c.loop-name.name-index c.loop-name.count c.loop-name.invariant.1
+    (subst (λ (l : List Registered). length l ≤ c.loop-name.name-index) c.loop-name.invariant.0
+    (omega (arith, c.loop-name-test.false)))

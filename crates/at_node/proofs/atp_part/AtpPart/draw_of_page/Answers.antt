@@ -5,7 +5,7 @@ use Rattle.at_atp_frame.specs.Packets.{Packet}
 use Rattle.at_atp_requester.specs.Requests.{Requests, finishes, heard, next_number}
 use Rattle.at_zip.specs.Page as pages
 use Rattle.at_node.specs.AtpParts.{AtpState, packet_in, tid_of}
-use Rattle.at_node.specs.Drawing.{drawn_by}
+use Rattle.at_node.specs.Numbers.{drawn_by}
 use Rattle.at_node.specs.ZoneReading.{is_page, is_reading}
 use Rattle.at_node.proofs.ReadingLemmas.{asks_parts, no_page_begins_none, page_draws}
 use Rattle.at_node.proofs.atp_part.AtpPart.draw_of_page.Goals as goal
@@ -20,9 +20,14 @@ returns-in-Ok-clause-found g c =
     let mine : is_page A now from f ≡ true = sym c.is_page.ensures.page ∙ c.if-not-is_page.false in
     let parts = and_parts (is_reading now.reading (tid_of f)) (finishes A now.requester from f) mine in
     let requester = ap (λ (a : AtpState). a.requester) c.self.view_is in
-    let turns = c.next_number.ensures.turn from f (subst (λ (r : Requests). finishes A r from f ≡ true) (sym requester) parts.1) (sym (ap (λ x. Some (number_of (content x))) c.in-Response.is)) in
-    let asks = asks_parts now.reading c.asks_on.result c.in-Ok.page.last (tid_of f) (length c.in-Ok.page.names) c.asks_on.ensures c.if-asks_on.true parts.0 in
-    page_draws A c.args.packet.now.seat now from f mine c.in-Ok.page (subst (λ (x : Packet). pages.Spells x.user x.data_ c.in-Ok.page) (sym same) c.in-Ok.ensures.found) asks.1 asks.0 c.next_number.result
+    let turns = c.next_number.ensures.turn from f
+    (subst (λ (r : Requests). finishes A r from f ≡ true) (sym requester) parts.1)
+    (sym (ap (λ x. Some (number_of (content x))) c.in-Response.is)) in
+    let asks = asks_parts now.reading c.asks_on.result c.in-Ok.page.last (tid_of f)
+    (length c.in-Ok.page.names) c.asks_on.ensures c.if-asks_on.true parts.0 in
+    page_draws A c.args.packet.now.seat now from f mine c.in-Ok.page
+    (subst (λ (x : Packet). pages.Spells x.user x.data_ c.in-Ok.page) (sym same) c.in-Ok.ensures.found) asks.1
+    asks.0 c.next_number.result
     (subst (λ (r : Requests). c.next_number.result ≡ next_number (heard {A = A} r from f).after) requester turns)
 
 pub returns-in_default-read_page-2-clause-only : goal.returns-in_default-read_page-2-clause-only
@@ -30,6 +35,8 @@ returns-in_default-read_page-2-clause-only g c = λ o at tid is.
     let f : Content = content c.args.packet.now.frame in
     let same = ap (λ x. packet_in (content x)) c.in-Response.is in
     let none = no_page_begins_none g.row.A.Denot c.args.packet.now.seat c.args.self.now c.args.packet.now.from f
-    (λ p spelled. let both = sym c.in_default-read_page.is ∙ c.read_page.ensures.only p (subst (λ (x : Packet). pages.Spells x.user x.data_ p) same spelled) in absurd (cc)) o at in
+    (λ p spelled. let both = sym c.in_default-read_page.is
+    ∙ c.read_page.ensures.only p (subst (λ (x : Packet). pages.Spells x.user x.data_ p) same spelled) in absurd
+    (cc)) o at in
     let both = sym none ∙ ap drawn_by is in
     absurd (cc)

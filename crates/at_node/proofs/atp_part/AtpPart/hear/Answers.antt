@@ -15,31 +15,40 @@ for_requester a socket e = rw (eq-eqb socket 128 e) refl
 
 for_service : (a : AtpState) (socket : ℕ) → socket ≡ 129 → atp_socket a socket ≡ Some Service
 for_service a socket e =
-    let apart : (socket == 128) ≡ false = ne_eqb socket 128 (λ f. let wrong : ◌≡◌ {A = ℕ} 129 128 = sym e ∙ f in omega arith) in
+    let apart : (socket == 128)
+    ≡ false = ne_eqb socket 128 (λ f. let wrong : ◌≡◌ {A = ℕ} 129 128 = sym e ∙ f in omega arith) in
     rw (apart, eq-eqb socket 129 e) refl
 
 for_router : (a : AtpState) (socket : ℕ) → socket ≡ 6 → atp_socket a socket ≡ option_map Zones a.table
 for_router a socket e =
-    let apart : (socket == 128) ≡ false = ne_eqb socket 128 (λ f. let wrong : ◌≡◌ {A = ℕ} 6 128 = sym e ∙ f in omega arith) in
-    let other : (socket == 129) ≡ false = ne_eqb socket 129 (λ f. let wrong : ◌≡◌ {A = ℕ} 6 129 = sym e ∙ f in omega arith) in
+    let apart : (socket == 128)
+    ≡ false = ne_eqb socket 128 (λ f. let wrong : ◌≡◌ {A = ℕ} 6 128 = sym e ∙ f in omega arith) in
+    let other : (socket == 129)
+    ≡ false = ne_eqb socket 129 (λ f. let wrong : ◌≡◌ {A = ℕ} 6 129 = sym e ∙ f in omega arith) in
     rw (apart, other, eq-eqb socket 6 e) refl
 
-for_nobody : (a : AtpState) (socket : ℕ) → (socket ≡ 128 → ⊥) → (socket ≡ 129 → ⊥) → (socket ≡ 6 → ⊥) → atp_socket a socket ≡ None
+for_nobody : (a : AtpState) (socket : ℕ) → (socket ≡ 128 → ⊥) → (socket ≡ 129 → ⊥) → (socket ≡ 6 → ⊥)
+    → atp_socket a socket ≡ None
 for_nobody a socket x y z = rw (ne_eqb socket 128 x, ne_eqb socket 129 y, ne_eqb socket 6 z) refl
 
 pub returns : goal.returns
 returns g c = (
   Later,
-  comes_ignored (HearsAtp Later c.args.seat c.args.self.now (content c.args.datagram.now)) c.args.self.now c.args.out.now.items
-      (rw (for_nobody c.args.self.now (content c.args.datagram.now).to.socket c.if-datagram.false c.if-datagram-2.false c.if-datagram-eq-ZONE_SOCKET.false) refl),
+  comes_ignored (HearsAtp Later c.args.seat c.args.self.now (content c.args.datagram.now)) c.args.self.now
+      c.args.out.now.items
+      (rw (for_nobody c.args.self.now (content c.args.datagram.now).to.socket c.if-datagram.false c.if-datagram-2.false
+      c.if-datagram-eq-ZONE_SOCKET.false) refl),
   refl,
 )
 
 pub returns-then-datagram : goal.returns-then-datagram
 returns-then-datagram g c = (
   Later,
-  subst (λ socket. Comes (HearsAt Later c.args.seat c.args.self.now (content c.args.datagram.now) socket) c.args.self.now c.args.out.now.items c.hear_response.result c.hear_response.new.self c.hear_response.new.out.items)
-      (sym (for_requester c.args.self.now (content c.args.datagram.now).to.socket c.if-datagram.true)) (c.hear_response.ensures.comes Later),
+  subst (λ socket. Comes (HearsAt Later c.args.seat c.args.self.now (content c.args.datagram.now) socket)
+      c.args.self.now c.args.out.now.items c.hear_response.result c.hear_response.new.self
+      c.hear_response.new.out.items)
+      (sym (for_requester c.args.self.now (content c.args.datagram.now).to.socket c.if-datagram.true))
+      (c.hear_response.ensures.comes Later),
   not_served _ c.hear_response.result Later c.args.service.now c.hear_response.ensures.not_asked,
 )
 
@@ -47,7 +56,9 @@ pub returns-then-datagram-2 : goal.returns-then-datagram-2
 returns-then-datagram-2 g c =
     let r = c.hear_request.ensures in (
       r.0,
-      subst (λ socket. Comes (HearsAt r.0 c.args.seat c.args.self.now (content c.args.datagram.now) socket) c.args.self.now c.args.out.now.items c.hear_request.result c.hear_request.new.self c.hear_request.new.out.items)
+      subst (λ socket. Comes (HearsAt r.0 c.args.seat c.args.self.now (content c.args.datagram.now) socket)
+          c.args.self.now c.args.out.now.items c.hear_request.result c.hear_request.new.self
+          c.hear_request.new.out.items)
           (sym (for_service c.args.self.now (content c.args.datagram.now).to.socket c.if-datagram-2.true)) r.1,
       r.2,
     )
@@ -55,7 +66,10 @@ returns-then-datagram-2 g c =
 pub returns-then-datagram-eq-ZONE_SOCKET : goal.returns-then-datagram-eq-ZONE_SOCKET
 returns-then-datagram-eq-ZONE_SOCKET g c = (
   Later,
-  subst (λ socket. Comes (HearsAt Later c.args.seat c.args.self.now (content c.args.datagram.now) socket) c.args.self.now c.args.out.now.items c.hear_zone_request.result c.hear_zone_request.new.self c.hear_zone_request.new.out.items)
-      (sym (for_router c.args.self.now (content c.args.datagram.now).to.socket c.if-datagram-eq-ZONE_SOCKET.true)) (c.hear_zone_request.ensures.comes Later),
+  subst (λ socket. Comes (HearsAt Later c.args.seat c.args.self.now (content c.args.datagram.now) socket)
+      c.args.self.now c.args.out.now.items c.hear_zone_request.result c.hear_zone_request.new.self
+      c.hear_zone_request.new.out.items)
+      (sym (for_router c.args.self.now (content c.args.datagram.now).to.socket c.if-datagram-eq-ZONE_SOCKET.true))
+      (c.hear_zone_request.ensures.comes Later),
   not_served _ c.hear_zone_request.result Later c.args.service.now c.hear_zone_request.ensures.not_asked,
 )

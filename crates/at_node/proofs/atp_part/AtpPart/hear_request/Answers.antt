@@ -11,16 +11,28 @@ pub returns-in-Err : goal.returns-in-Err
 returns-in-Err g c =
     let number = atp_number c.in-Err.fault _ c.in-Err.ensures.fault in (
       Later,
-      comes_refused (HearsAt Later c.args.seat c.args.self.now (written c.args.datagram.now) (Some Service)) c.args.self.now c.args.out.now.items c.refused.result c.number.result number.0 (c.number.ensures ∙ number.1) c.refused.ensures.report
-          (inr (record { fault = c.in-Err.fault; number = number.0; first = c.in-Err.ensures.fault; numbered = number.1; outcome = refl })),
+      comes_refused (HearsAt Later c.args.seat c.args.self.now (written c.args.datagram.now) (Some Service))
+          c.args.self.now c.args.out.now.items c.refused.result c.number.result number.0
+          (c.number.ensures ∙ number.1) c.refused.ensures.report
+          (inr (record {
+            fault = c.in-Err.fault;
+            number = number.0;
+            first = c.in-Err.ensures.fault;
+            numbered = number.1;
+            outcome = refl;
+          })),
       not_served _ c.refused.result Later c.args.service.now c.refused.ensures.not_asked,
     )
 
 pub returns-in-Ok : goal.returns-in-Ok
 returns-in-Ok g c =
-    let r = c.take_packet.ensures in (
+    let r = c.hear_at_service.ensures in (
       r.0,
-      comes_wider (AtSocket r.0 c.args.seat c.args.self.now (c.args.datagram.now).from (Some Service) (content c.in-Ok.packet.frame)) (HearsAt r.0 c.args.seat c.args.self.now (written c.args.datagram.now) (Some Service)) c.args.self.now c.args.out.now.items c.take_packet.result c.take_packet.new.self c.take_packet.new.out.items
-          (λ o p. inl (record { packet = content c.in-Ok.packet.frame; spelled = c.in-Ok.ensures.found; outcome = p })) (rw (c.in-Ok.ensures.seat, c.in-Ok.ensures.from) at r.1),
+      comes_wider (AtSocket r.0 c.args.seat c.args.self.now (c.args.datagram.now).from (Some Service)
+          (content c.in-Ok.packet.frame))
+          (HearsAt r.0 c.args.seat c.args.self.now (written c.args.datagram.now) (Some Service)) c.args.self.now
+          c.args.out.now.items c.hear_at_service.result c.hear_at_service.new.self c.hear_at_service.new.out.items
+          (λ o p. inl (record { packet = content c.in-Ok.packet.frame; spelled = c.in-Ok.ensures.found; outcome = p }))
+          (rw (c.in-Ok.ensures.seat, c.in-Ok.ensures.from) at r.1),
       r.2,
     )

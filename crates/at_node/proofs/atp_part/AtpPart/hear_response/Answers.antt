@@ -9,12 +9,26 @@ use Rattle.at_node.proofs.atp_part.AtpPart.hear_response.Goals as goal
 pub returns-in-Err-clause-comes : goal.returns-in-Err-clause-comes
 returns-in-Err-clause-comes g c = λ said.
     let number = atp_number c.in-Err.fault _ c.in-Err.ensures.fault in
-    comes_refused (HearsAt said c.args.seat c.args.self.now (written c.args.datagram.now) (Some Requester)) c.args.self.now c.args.out.now.items c.refused.result c.number.result number.0 (c.number.ensures ∙ number.1) c.refused.ensures.report
-    (inr (record { fault = c.in-Err.fault; number = number.0; first = c.in-Err.ensures.fault; numbered = number.1; outcome = refl }))
+    comes_refused (HearsAt said c.args.seat c.args.self.now (written c.args.datagram.now) (Some Requester))
+    c.args.self.now c.args.out.now.items c.refused.result c.number.result number.0
+    (c.number.ensures ∙ number.1) c.refused.ensures.report
+    (inr (record {
+      fault = c.in-Err.fault;
+      number = number.0;
+      first = c.in-Err.ensures.fault;
+      numbered = number.1;
+      outcome = refl;
+    }))
 
 pub returns-in-Ok-clause-comes : goal.returns-in-Ok-clause-comes
 returns-in-Ok-clause-comes g c = λ said.
-    let came : Comes (AtSocket said c.in-Ok.packet.seat c.args.self.now c.in-Ok.packet.from (Some Requester) (content c.in-Ok.packet.frame)) c.args.self.now c.args.out.now.items c.take_response.result c.take_response.new.self c.take_response.new.out.items =
-    c.take_response.ensures.comes said in
-    comes_wider (AtSocket said c.args.seat c.args.self.now (c.args.datagram.now).from (Some Requester) (content c.in-Ok.packet.frame)) (HearsAt said c.args.seat c.args.self.now (written c.args.datagram.now) (Some Requester)) c.args.self.now c.args.out.now.items c.take_response.result c.take_response.new.self c.take_response.new.out.items
-    (λ o p. inl (record { packet = content c.in-Ok.packet.frame; spelled = c.in-Ok.ensures.found; outcome = p })) (rw (c.in-Ok.ensures.seat, c.in-Ok.ensures.from) at came)
+    let came : Comes (AtSocket said c.in-Ok.packet.seat c.args.self.now c.in-Ok.packet.from (Some Requester)
+    (content c.in-Ok.packet.frame)) c.args.self.now c.args.out.now.items c.hear_at_requester.result
+    c.hear_at_requester.new.self c.hear_at_requester.new.out.items =
+    c.hear_at_requester.ensures.comes said in
+    comes_wider (AtSocket said c.args.seat c.args.self.now (c.args.datagram.now).from (Some Requester)
+    (content c.in-Ok.packet.frame))
+    (HearsAt said c.args.seat c.args.self.now (written c.args.datagram.now) (Some Requester)) c.args.self.now
+    c.args.out.now.items c.hear_at_requester.result c.hear_at_requester.new.self c.hear_at_requester.new.out.items
+    (λ o p. inl (record { packet = content c.in-Ok.packet.frame; spelled = c.in-Ok.ensures.found; outcome = p }))
+    (rw (c.in-Ok.ensures.seat, c.in-Ok.ensures.from) at came)

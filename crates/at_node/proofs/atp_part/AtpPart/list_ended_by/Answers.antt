@@ -20,10 +20,13 @@ returns-in-Ok-clause-ended g c =
     let d : Datagram = written c.args.datagram.now in
     let p = c.in-Ok.packet in
     ok_implied c.list_in.result
-    (λ list. (o : Outcome A AtpState) → AtRequester p.seat now p.from (content p.frame) o → (names : List (List ℕ)) → o.report ≡ Zones names → list ≡ Some names)
-    (λ list. (said : Reply A) (o : Outcome A AtpState) → HearsAtp said c.args.seat now d o → (names : List (List ℕ)) → o.report ≡ Zones names → list ≡ Some names)
+    (λ list. (o : Outcome A AtpState) → AtRequester p.seat now p.from (content p.frame) o → (names : List (List ℕ))
+    → o.report ≡ Zones names → list ≡ Some names)
+    (λ list. (said : Reply A) (o : Outcome A AtpState) → HearsAtp said c.args.seat now d o → (names : List (List ℕ))
+    → o.report ≡ Zones names → list ≡ Some names)
     (λ list ends said o h names tells.
-    let b = by_asker A (List (List ℕ)) listed_by (lists_nothing A) said c.args.seat now d o h names (ap listed_by tells) in
+    let b = by_asker A (List (List ℕ)) listed_by (lists_nothing A) said c.args.seat now d o h names
+    (ap listed_by tells) in
     let packet : content p.frame ≡ b.packet = c.in-Ok.ensures.only b.packet b.spelled in
     ends o
     (subst (λ (x : Seat). AtRequester x now p.from (content p.frame) o) (sym c.in-Ok.ensures.seat)

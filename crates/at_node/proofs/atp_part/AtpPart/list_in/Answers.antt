@@ -29,10 +29,13 @@ returns-in-Ok-clause-ended g c =
     let reads = and_parts (is_reading now.reading (tid_of f)) (finishes A now.requester from f) mine in
     let same = ap (λ x. packet_in (content x)) c.in-Response.is in
     ok_implied c.list_after.result (λ list. IfSome now.reading (λ r. list ≡ list_after r.names page))
-    (λ list. (o : Outcome A AtpState) → AtRequester seat now from f o → (names : List (List ℕ)) → o.report ≡ Zones names → list ≡ Some names)
+    (λ list. (o : Outcome A AtpState) → AtRequester seat now from f o → (names : List (List ℕ)) → o.report
+    ≡ Zones names → list ≡ Some names)
     (λ list is o at names tells.
     let e = ends_reading A seat now from f o at names tells in
-    let its : page ≡ e.page = same_page page e.page (c.in-Ok.ensures.only e.page (subst (λ (x : Packet). pages.Spells x.user x.data_ e.page) same e.spelled)) in
+    let its : page ≡ e.page =
+    same_page page e.page (c.in-Ok.ensures.only e.page
+    (subst (λ (x : Packet). pages.Spells x.user x.data_ e.page) same e.spelled)) in
     list_of now.reading (tid_of f) page list reads.0 is ∙ ap (list_after (names_read now.reading)) its ∙ e.list)
     c.list_after.ensures.list
 
@@ -49,13 +52,17 @@ returns-in-Ok-clause-wanted g c =
     let same = ap (λ x. packet_in (content x)) c.in-Response.is in
     err_implied c.list_after.result (IfSome now.reading (λ r. IsSome (list_after r.names page)))
     ((o : Outcome A AtpState) × AtRequester seat now from f o × (takes_memory o.report ≡ true))
-    (λ some. may_end A seat now from f mine page (subst (λ (x : Packet). pages.Spells x.user x.data_ page) (sym same) c.in-Ok.ensures.found) (some_of now.reading (tid_of f) page reads.0 some))
+    (λ some. may_end A seat now from f mine page
+    (subst (λ (x : Packet). pages.Spells x.user x.data_ page) (sym same) c.in-Ok.ensures.found)
+    (some_of now.reading (tid_of f) page reads.0 some))
     c.list_after.ensures.memory
 
 pub returns-in-Err-clause-ended : goal.returns-in-Err-clause-ended
 returns-in-Err-clause-ended g c = λ o at names tells.
     let f : Content = content c.args.packet.now.frame in
     let same = ap (λ x. packet_in (content x)) c.in-Response.is in
-    let e = ends_reading g.row.A.Denot c.args.packet.now.seat c.args.self.now c.args.packet.now.from f o at names tells in
-    let both = sym c.in-Err.is ∙ c.read_page.ensures.only e.page (subst (λ (x : Packet). pages.Spells x.user x.data_ e.page) same e.spelled) in
+    let e = ends_reading g.row.A.Denot c.args.packet.now.seat c.args.self.now c.args.packet.now.from f o at names
+    tells in
+    let both = sym c.in-Err.is
+    ∙ c.read_page.ensures.only e.page (subst (λ (x : Packet). pages.Spells x.user x.data_ e.page) same e.spelled) in
     absurd (cc)

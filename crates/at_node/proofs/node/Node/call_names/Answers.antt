@@ -9,22 +9,50 @@ use Rattle.at_node.proofs.node.Node.call_names.Goals as goal
 
 pub returns-in-Register : goal.returns-in-Register
 returns-in-Register g c =
-    let inside : NodeState = record { seat = c.self.inside.seat; atp = c.self.inside.atp; names = c.self.inside.names; streams = c.self.inside.streams; session = c.self.inside.session } in
-    let new : NodeState = record { seat = c.self.inside.seat; atp = c.self.inside.atp; names = c.register.new.self; streams = c.self.inside.streams; session = c.self.inside.session } in
+    let inside : NodeState =
+    record {
+      seat = c.self.inside.seat;
+      atp = c.self.inside.atp;
+      names = c.self.inside.names;
+      streams = c.self.inside.streams;
+      session = c.self.inside.session;
+    } in
+    let new : NodeState = record {
+      seat = c.self.inside.seat;
+      atp = c.self.inside.atp;
+      names = c.register.new.self;
+      streams = c.self.inside.streams;
+      session = c.self.inside.session;
+    } in
     let items = c.args.out.now.items in
     let i = c.in-Register in
     let call : Call g.row.A.Denot = Register i.object i.kind i.socket in
     rw i.is
     (subst (λ (n : NodeState). IsStep (called n call) n items c.register.result new items) c.self.view_is
-    (step_over (with_names inside) inside inside.names refl items c.register.result c.register.new.self items (register_called inside.names i.object i.kind i.socket) (c.register.ensures items)))
+    (step_over (with_names inside) inside inside.names refl items c.register.result c.register.new.self items
+    (register_called inside.names i.object i.kind i.socket) (c.register.ensures items)))
 
 pub returns-in-Unregister : goal.returns-in-Unregister
 returns-in-Unregister g c =
-    let inside : NodeState = record { seat = c.self.inside.seat; atp = c.self.inside.atp; names = c.self.inside.names; streams = c.self.inside.streams; session = c.self.inside.session } in
-    let new : NodeState = record { seat = c.self.inside.seat; atp = c.self.inside.atp; names = c.unregister.new.self; streams = c.self.inside.streams; session = c.self.inside.session } in
+    let inside : NodeState =
+    record {
+      seat = c.self.inside.seat;
+      atp = c.self.inside.atp;
+      names = c.self.inside.names;
+      streams = c.self.inside.streams;
+      session = c.self.inside.session;
+    } in
+    let new : NodeState = record {
+      seat = c.self.inside.seat;
+      atp = c.self.inside.atp;
+      names = c.unregister.new.self;
+      streams = c.self.inside.streams;
+      session = c.self.inside.session;
+    } in
     let items = c.args.out.now.items in
     let i = c.in-Unregister in
     let call : Call g.row.A.Denot = Unregister i.object i.kind in
     rw i.is
     (subst (λ (n : NodeState). IsStep (called n call) n items c.unregister.result new items) c.self.view_is
-    (step_over (with_names inside) inside inside.names refl items c.unregister.result c.unregister.new.self items (unregister_called inside.names i.object i.kind) (c.unregister.ensures items)))
+    (step_over (with_names inside) inside inside.names refl items c.unregister.result c.unregister.new.self items
+    (unregister_called inside.names i.object i.kind) (c.unregister.ensures items)))

@@ -9,10 +9,24 @@ use Rattle.at_node.proofs.node.Node.call_streams.Goals as goal
 
 pub returns-in-Listen : goal.returns-in-Listen
 returns-in-Listen g c =
-    let inside : NodeState = record { seat = c.self.inside.seat; atp = c.self.inside.atp; names = c.self.inside.names; streams = c.self.inside.streams; session = c.self.inside.session } in
-    let new : NodeState = record { seat = c.self.inside.seat; atp = c.self.inside.atp; names = c.self.inside.names; streams = c.listen.new.self; session = c.self.inside.session } in
+    let inside : NodeState =
+    record {
+      seat = c.self.inside.seat;
+      atp = c.self.inside.atp;
+      names = c.self.inside.names;
+      streams = c.self.inside.streams;
+      session = c.self.inside.session;
+    } in
+    let new : NodeState = record {
+      seat = c.self.inside.seat;
+      atp = c.self.inside.atp;
+      names = c.self.inside.names;
+      streams = c.listen.new.self;
+      session = c.self.inside.session;
+    } in
     let items = c.args.out.now.items in
     let call : Call g.row.A.Denot = Listen c.in-Listen.on in
     rw c.in-Listen.is
     (subst (λ (n : NodeState). IsStep (called n call) n items c.listen.result new items) c.self.view_is
-    (step_over (with_streams inside) inside inside.streams refl items c.listen.result c.listen.new.self items (listen_called inside.streams c.in-Listen.on) (c.listen.ensures items)))
+    (step_over (with_streams inside) inside inside.streams refl items c.listen.result c.listen.new.self items
+    (listen_called inside.streams c.in-Listen.on) (c.listen.ensures items)))

@@ -1,9 +1,9 @@
 use Rattle.std.proofs.Common.{◌≡◌, ◌∙◌, Some, None, ap, subst, sym}
 use Rattle.at_ddp.specs.Datagram.{content as written}
 use Rattle.at_node.specs.Nodes.{NodeState}
-use Rattle.at_node.specs.declared.drawing.Draw.TheVariants.{Conn}
+use Rattle.at_node.specs.declared.numbers.Draw.TheVariants.{Conn}
 use Rattle.at_stream_socket.specs.Hearing.{Makes}
-use Rattle.at_node.proofs.DrawingLemmas.{nat_same}
+use Rattle.at_node.proofs.NumberLemmas.{nat_same}
 use Rattle.at_node.proofs.node.Node.draw_of_segment.Goals as goal
 
 pub returns-in-Some-clause-only : goal.returns-in-Some-clause-only

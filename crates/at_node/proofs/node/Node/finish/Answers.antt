@@ -7,11 +7,27 @@ use Rattle.at_node.proofs.node.Node.finish.Goals as goal
 
 pub keep_finds-requires : goal.keep_finds-requires
 keep_finds-requires g c = λ found tells.
-    c.in-Ok.ensures.copy ∙ finds_are_told g.row.A.Denot c.self.inside.names c.args.id c.finish-report.result c.finish-report.new.self (c.finish-report.ensures []) found tells
+    c.in-Ok.ensures.copy ∙ finds_are_told g.row.A.Denot c.self.inside.names c.args.id c.finish-report.result
+    c.finish-report.new.self (c.finish-report.ensures []) found tells
 
 pub returns : goal.returns
 returns g c = λ sent.
-    let inside : NodeState = record { seat = c.self.inside.seat; atp = c.self.inside.atp; names = c.self.inside.names; streams = c.self.inside.streams; session = c.self.inside.session } in
-    let new : NodeState = record { seat = c.self.inside.seat; atp = c.self.inside.atp; names = c.finish-report.new.self; streams = c.self.inside.streams; session = c.keep_finds.new.self } in
-    subst (λ (n : NodeState). IsStep (over_finish n (finish_called {A = g.row.A.Denot} n.names c.args.id)) n sent c.finish-report.result new sent) c.self.view_is
-    (finish_over g.row.A.Denot inside c.args.id sent c.finish-report.result c.finish-report.new.self c.keep_finds.new.self (c.finish-report.ensures sent) c.keep_finds.ensures)
+    let inside : NodeState =
+    record {
+      seat = c.self.inside.seat;
+      atp = c.self.inside.atp;
+      names = c.self.inside.names;
+      streams = c.self.inside.streams;
+      session = c.self.inside.session;
+    } in
+    let new : NodeState = record {
+      seat = c.self.inside.seat;
+      atp = c.self.inside.atp;
+      names = c.finish-report.new.self;
+      streams = c.self.inside.streams;
+      session = c.keep_finds.new.self;
+    } in
+    subst (λ (n : NodeState). IsStep (over_finish n (finish_called {A = g.row.A.Denot} n.names c.args.id)) n sent
+    c.finish-report.result new sent) c.self.view_is
+    (finish_over g.row.A.Denot inside c.args.id sent c.finish-report.result c.finish-report.new.self
+    c.keep_finds.new.self (c.finish-report.ensures sent) c.keep_finds.ensures)

@@ -12,19 +12,44 @@ use Rattle.at_node.proofs.node.Node.hear_atp.Goals as goal
 pub returns-in-Err : goal.returns-in-Err
 returns-in-Err g c =
     let n : NodeState = c.args.self.now in
-    let inside : NodeState = record { seat = c.self.inside.seat; atp = c.self.inside.atp; names = c.self.inside.names; streams = c.self.inside.streams; session = c.self.inside.session } in
+    let inside : NodeState =
+    record {
+      seat = c.self.inside.seat;
+      atp = c.self.inside.atp;
+      names = c.self.inside.names;
+      streams = c.self.inside.streams;
+      session = c.self.inside.session;
+    } in
     let d = content c.args.datagram.now in
-    let wanted = subst (λ (x : NodeState). (said : Reply g.row.A.Denot) → (o : Outcome g.row.A.Denot AtpState) × HearsAtp said x.seat x.atp d o × (takes_memory o.report ≡ true)) c.self.view_is c.in-Err.ensures.wanted Later in
+    let wanted = subst (λ (x : NodeState). (said : Reply g.row.A.Denot) → (o : Outcome g.row.A.Denot AtpState)
+    × HearsAtp said x.seat x.atp d o × (takes_memory o.report ≡ true)) c.self.view_is c.in-Err.ensures.wanted
+    Later in
     (Later, (refl, refl, (over_atp n wanted.0, (wanted.0, wanted.1, refl), wanted.2)), refl)
 
 pub returns : goal.returns
 returns g c =
-    let inside : NodeState = record { seat = c.self.inside.seat; atp = c.self.inside.atp; names = c.self.inside.names; streams = c.self.inside.streams; session = c.self.inside.session } in
-    let new : NodeState = record { seat = c.self.inside.seat; atp = c.hear-report.new.self; names = c.self.inside.names; streams = c.self.inside.streams; session = c.keep_list.new.self } in
+    let inside : NodeState =
+    record {
+      seat = c.self.inside.seat;
+      atp = c.self.inside.atp;
+      names = c.self.inside.names;
+      streams = c.self.inside.streams;
+      session = c.self.inside.session;
+    } in
+    let new : NodeState = record {
+      seat = c.self.inside.seat;
+      atp = c.hear-report.new.self;
+      names = c.self.inside.names;
+      streams = c.self.inside.streams;
+      session = c.keep_list.new.self;
+    } in
     let d = content c.args.datagram.now in
     let r = c.hear-report.ensures in (
       r.0,
-      subst (λ (n : NodeState). Comes (Through (over_atp n) (HearsAtp r.0 n.seat n.atp d)) n c.args.out.now.items c.hear-report.result new c.hear-report.new.out.items) c.self.view_is
-          (heard_over g.row.A.Denot inside (HearsAtp r.0 inside.seat inside.atp d) c.args.out.now.items c.hear-report.result c.hear-report.new.self c.hear-report.new.out.items c.keep_list.new.self r.1 c.keep_list.ensures),
+      subst (λ (n : NodeState). Comes (Through (over_atp n) (HearsAtp r.0 n.seat n.atp d)) n c.args.out.now.items
+          c.hear-report.result new c.hear-report.new.out.items) c.self.view_is
+          (heard_over g.row.A.Denot inside (HearsAtp r.0 inside.seat inside.atp d) c.args.out.now.items
+          c.hear-report.result c.hear-report.new.self c.hear-report.new.out.items c.keep_list.new.self r.1
+          c.keep_list.ensures),
       r.2,
     )

@@ -10,16 +10,30 @@ pub returns-in-Err : goal.returns-in-Err
 returns-in-Err g c =
     let number = ddp_number c.in-Err.fault c.args.bytes.now c.in-Err.ensures.fault in (
       Later,
-      comes_refused (Hears Later c.args.self.now c.args.bytes.now) c.args.self.now c.args.out.now.items c.refused.result c.number.result number.0 (c.number.ensures ∙ number.1) c.refused.ensures.report
-          (inr (record { fault = c.in-Err.fault; number = number.0; first = c.in-Err.ensures.fault; numbered = number.1; outcome = refl })),
+      comes_refused (Hears Later c.args.self.now c.args.bytes.now) c.args.self.now c.args.out.now.items
+          c.refused.result c.number.result number.0 (c.number.ensures ∙ number.1) c.refused.ensures.report
+          (inr (record {
+            fault = c.in-Err.fault;
+            number = number.0;
+            first = c.in-Err.ensures.fault;
+            numbered = number.1;
+            outcome = refl;
+          })),
       not_served _ c.refused.result Later c.args.service.now c.refused.ensures.not_asked,
     )
 
 pub returns-in-Ok : goal.returns-in-Ok
 returns-in-Ok g c =
-    let r = c.take_in.ensures in (
+    let r = c.hear.ensures in (
       r.0,
-      comes_wider (HearsIt r.0 c.args.self.now (content c.in-Ok.datagram)) (Hears r.0 c.args.self.now c.args.bytes.now) c.args.self.now c.args.out.now.items c.take_in.result c.take_in.new.self c.take_in.new.out.items
-          (λ o p. inl (record { datagram = content c.in-Ok.datagram; rest = c.in-Ok.field-0-1.now; begins = c.in-Ok.ensures.found; outcome = p })) r.1,
+      comes_wider (HearsIt r.0 c.args.self.now (content c.in-Ok.datagram))
+          (Hears r.0 c.args.self.now c.args.bytes.now) c.args.self.now c.args.out.now.items c.hear.result
+          c.hear.new.self c.hear.new.out.items
+          (λ o p. inl (record {
+            datagram = content c.in-Ok.datagram;
+            rest = c.in-Ok.field-0-1.now;
+            begins = c.in-Ok.ensures.found;
+            outcome = p;
+          })) r.1,
       r.2,
     )

@@ -6,47 +6,67 @@ use Rattle.at_schedule.specs.Says.{AreEvent, SaysEvent}
 use Rattle.at_schedule.specs.Schedules.{are_event_words}
 use Rattle.at_schedule.specs.contracts.draft.Draft.take_line.{A-type}
 use Rattle.at_schedule.proofs.HeadLemmas.{no_word}
-use Rattle.at_schedule.proofs.ReadLemmas.{no_such_head, read_event, read_head, read_over, refused_event, refused_head, unlawful_on}
+use Rattle.at_schedule.proofs.ReadLemmas.{no_such_head, read_event, read_head, read_over, refused_event, refused_head}
+use Rattle.at_schedule.proofs.ReadLemmas.{unlawful_on}
 use Rattle.at_words.specs.Words.{words_of}
 use Rattle.at_schedule.proofs.draft.Draft.take_line.Goals as goal
 
 pub returns-then-is_passed_over-clause-taken : goal.returns-then-is_passed_over-clause-taken
-returns-then-is_passed_over-clause-taken g c lines read = read_over (A-type g.row.A) lines c.args.line.now c.args.self.now (sym c.is_passed_over.ensures ∙ c.if-is_passed_over.true) read
+returns-then-is_passed_over-clause-taken g c lines read =
+    read_over (A-type g.row.A) lines c.args.line.now c.args.self.now
+    (sym c.is_passed_over.ensures ∙ c.if-is_passed_over.true) read
 
 pub returns-in_default-clause-only : goal.returns-in_default-clause-only
 returns-in_default-clause-only g c lines read =
     let A = A-type g.row.A in
     let none : words_of c.args.line.now ≡ [] = ap words_of (sym c.of-words.ensures) ∙ c.in_default.ensures.steps.0 in
-    no_such_head A lines c.args.line.now c.args.self.now (sym c.is_passed_over.ensures ∙ c.if-is_passed_over.false) (ap are_event_words none) (subst (Refuses A c.args.self.now) (sym none) (no_word A c.args.self.now)) read
+    no_such_head A lines c.args.line.now c.args.self.now (sym c.is_passed_over.ensures ∙ c.if-is_passed_over.false)
+    (ap are_event_words none) (subst (Refuses A c.args.self.now) (sym none) (no_word A c.args.self.now)) read
 
 pub returns-in_ok-event-clause-taken : goal.returns-in_ok-event-clause-taken
 returns-in_ok-event-clause-taken g c lines read =
-    let words : words_of c.args.line.now ≡ c.in-Some.word.now ∷ words_of c.next.new.self.rest.now = ap words_of (sym c.of-words.ensures) ∙ c.in-Some.ensures.steps in
+    let words : words_of c.args.line.now ≡ c.in-Some.word.now ∷ words_of c.next.new.self.rest.now =
+    ap words_of (sym c.of-words.ensures) ∙ c.in-Some.ensures.steps in
     let taken = c.in_ok-event.ensures.taken in
-    read_event (A-type g.row.A) lines c.args.line.now c.in_ok-event.event c.args.self.now c.take_event.new.self (sym c.is_passed_over.ensures ∙ c.if-is_passed_over.false)
-    (ap are_event_words words ∙ sym c.is_event_word.ensures ∙ c.if-is_event_word.true) (subst (λ l. AreEvent l c.in_ok-event.event) (sym words) c.in_ok-event.ensures.said) taken.0 taken.1 read
+    read_event (A-type g.row.A) lines c.args.line.now c.in_ok-event.event c.args.self.now c.take_event.new.self
+    (sym c.is_passed_over.ensures ∙ c.if-is_passed_over.false)
+    (ap are_event_words words ∙ sym c.is_event_word.ensures ∙ c.if-is_event_word.true)
+    (subst (λ l. AreEvent l c.in_ok-event.event) (sym words) c.in_ok-event.ensures.said) taken.0 taken.1 read
 
 pub returns-in_ok-take_head-clause-taken : goal.returns-in_ok-take_head-clause-taken
 returns-in_ok-take_head-clause-taken g c lines read =
-    let words : words_of c.args.line.now ≡ c.in-Some.word.now ∷ words_of c.next.new.self.rest.now = ap words_of (sym c.of-words.ensures) ∙ c.in-Some.ensures.steps in
+    let words : words_of c.args.line.now ≡ c.in-Some.word.now ∷ words_of c.next.new.self.rest.now =
+    ap words_of (sym c.of-words.ensures) ∙ c.in-Some.ensures.steps in
     let taken = c.in_ok-take_head.ensures.taken in
-    read_head (A-type g.row.A) lines c.args.line.now c.args.self.now c.take_head.new.self (sym c.is_passed_over.ensures ∙ c.if-is_passed_over.false)
-    (ap are_event_words words ∙ sym c.is_event_word.ensures ∙ c.if-is_event_word.false) taken.0 taken.1 (subst (λ l. Takes c.args.self.now l c.take_head.new.self) (sym words) taken.2) read
+    read_head (A-type g.row.A) lines c.args.line.now c.args.self.now c.take_head.new.self
+    (sym c.is_passed_over.ensures ∙ c.if-is_passed_over.false)
+    (ap are_event_words words ∙ sym c.is_event_word.ensures ∙ c.if-is_event_word.false) taken.0 taken.1
+    (subst (λ l. Takes c.args.self.now l c.take_head.new.self) (sym words) taken.2) read
 
 pub returns-in_err-event-clause-only : goal.returns-in_err-event-clause-only
 returns-in_err-event-clause-only g c =
     let A = A-type g.row.A in
     let ws = words_of c.next.new.self.rest.now in
-    let words : words_of c.args.line.now ≡ c.in-Some.word.now ∷ ws = ap words_of (sym c.of-words.ensures) ∙ c.in-Some.ensures.steps in
-    unlawful_on (((e : Event A) → ¬ SaysEvent c.in-Some.word.now ws e) ⊎ IsNoSetup A c.args.self.now) ((lines : List (List ℕ)) → IsRead A lines c.args.self.now → ¬ BeginSchedule A (lines ++ c.args.line.now ∷ []))
-    c.take_event.result c.from_residual.result c.in_err-event.field-0.0 c.in_err-event.was c.from_residual.ensures.1 c.take_event.ensures.only
-    (λ why lines. refused_event A lines c.args.line.now c.in-Some.word.now ws c.args.self.now words (sym c.is_passed_over.ensures ∙ c.if-is_passed_over.false) (sym c.is_event_word.ensures ∙ c.if-is_event_word.true) why)
+    let words : words_of c.args.line.now ≡ c.in-Some.word.now ∷ ws = ap words_of (sym c.of-words.ensures)
+    ∙ c.in-Some.ensures.steps in
+    unlawful_on (((e : Event A) → ¬ SaysEvent c.in-Some.word.now ws e) ⊎ IsNoSetup A c.args.self.now)
+    ((lines : List (List ℕ)) → IsRead A lines c.args.self.now → ¬ BeginSchedule A (lines ++ c.args.line.now ∷ []))
+    c.take_event.result c.from_residual.result c.in_err-event.field-0.0 c.in_err-event.was c.from_residual.ensures.1
+    c.take_event.ensures.only
+    (λ why lines. refused_event A lines c.args.line.now c.in-Some.word.now ws c.args.self.now words
+    (sym c.is_passed_over.ensures ∙ c.if-is_passed_over.false)
+    (sym c.is_event_word.ensures ∙ c.if-is_event_word.true) why)
 
 pub returns-in_err-take_head-clause-only : goal.returns-in_err-take_head-clause-only
 returns-in_err-take_head-clause-only g c =
     let A = A-type g.row.A in
     let ws = words_of c.next.new.self.rest.now in
-    let words : words_of c.args.line.now ≡ c.in-Some.word.now ∷ ws = ap words_of (sym c.of-words.ensures) ∙ c.in-Some.ensures.steps in
-    unlawful_on (Refuses A c.args.self.now (c.in-Some.word.now ∷ ws)) ((lines : List (List ℕ)) → IsRead A lines c.args.self.now → ¬ BeginSchedule A (lines ++ c.args.line.now ∷ []))
-    c.take_head.result c.from_residual-in_err-take_head.result c.in_err-take_head.field-0.0 c.in_err-take_head.was c.from_residual-in_err-take_head.ensures.1 c.take_head.ensures.only
-    (λ why lines. refused_head A lines c.args.line.now c.in-Some.word.now ws c.args.self.now words (sym c.is_passed_over.ensures ∙ c.if-is_passed_over.false) (sym c.is_event_word.ensures ∙ c.if-is_event_word.false) why)
+    let words : words_of c.args.line.now ≡ c.in-Some.word.now ∷ ws = ap words_of (sym c.of-words.ensures)
+    ∙ c.in-Some.ensures.steps in
+    unlawful_on (Refuses A c.args.self.now (c.in-Some.word.now ∷ ws))
+    ((lines : List (List ℕ)) → IsRead A lines c.args.self.now → ¬ BeginSchedule A (lines ++ c.args.line.now ∷ []))
+    c.take_head.result c.from_residual-in_err-take_head.result c.in_err-take_head.field-0.0 c.in_err-take_head.was
+    c.from_residual-in_err-take_head.ensures.1 c.take_head.ensures.only
+    (λ why lines. refused_head A lines c.args.line.now c.in-Some.word.now ws c.args.self.now words
+    (sym c.is_passed_over.ensures ∙ c.if-is_passed_over.false)
+    (sym c.is_event_word.ensures ∙ c.if-is_event_word.false) why)

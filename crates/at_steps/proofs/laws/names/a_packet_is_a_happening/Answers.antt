@@ -10,7 +10,8 @@ returns g c =
     let spellings = c.one_packet_a_spelling.ensures in
     let sent = c.what_is_sent_is_lawful.ensures in
     let steps = c.a_packet_is_a_happening.ensures in
-    let reading : ReadingLaws = record { reads = datagrams.read; alone = datagrams.alone; bytes = packets.bytes; begins = packets.read } in
+    let reading : ReadingLaws =
+    record { reads = datagrams.read; alone = datagrams.alone; bytes = packets.bytes; begins = packets.read } in
     let laws : HearingLaws = record {
       stood = found.stood;
       nothing = steps.nothing;
@@ -20,4 +21,5 @@ returns g c =
       asked = sent.asked;
       comes = steps.comes;
     } in
-    λ setting history n which s said o st was_sent fresh heard. datagram_happens g.row.A.Denot laws setting history n st which s was_sent fresh said o heard
+    λ setting history n which s said o st was_sent fresh heard. datagram_happens g.row.A.Denot laws setting history n
+    st which s was_sent fresh said o heard

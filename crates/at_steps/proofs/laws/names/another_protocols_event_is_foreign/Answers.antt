@@ -7,5 +7,6 @@ returns g c =
     record {
       call = call_is_foreign A;
       timer = timer_is_foreign A;
-      datagram = λ n which to from kind bytes said o. datagram_is_foreign A n which said o c.the_protocol_is_read_as_written.ensures to from kind bytes;
+      datagram = λ n which to from kind bytes said o. datagram_is_foreign A n which said o
+          c.the_protocol_is_read_as_written.ensures to from kind bytes;
     }

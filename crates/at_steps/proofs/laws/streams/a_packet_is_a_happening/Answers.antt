@@ -6,7 +6,13 @@ pub returns : goal.returns
 returns g c =
     let datagrams = c.what_is_written_is_read.ensures in
     let segments = c.what_is_written_is_read-2.ensures in
-    let reading : ReadingLaws = record { reads = datagrams.read; alone = datagrams.alone; spells = segments.read; fits = c.what_is_written_fits.ensures } in
+    let reading : ReadingLaws =
+    record {
+      reads = datagrams.read;
+      alone = datagrams.alone;
+      spells = segments.read;
+      fits = c.what_is_written_fits.ensures;
+    } in
     let laws : HearingLaws = record {
       changes = c.streams_change_by_one.ensures;
       paired = c.ends_that_are_open_are_paired.ensures;
@@ -15,4 +21,5 @@ returns g c =
       segment = segments.alone;
       lawful = c.what_is_sent_is_lawful.ensures;
     } in
-    λ setting history n which s said o st was_sent fresh free heard. datagram_happens g.row.A.Denot laws setting history n st which s was_sent fresh said o heard free
+    λ setting history n which s said o st was_sent fresh free heard. datagram_happens g.row.A.Denot laws setting
+    history n st which s was_sent fresh said o heard free

@@ -9,4 +9,5 @@ pub returns-in-Ok-clause-only : goal.returns-in-Ok-clause-only
 returns-in-Ok-clause-only g c id m =
     let d = content c.args.datagram.now in
     let same : segment_in c.in-Ok.segment ≡ m.segment = c.in-Ok.ensures.only m.segment m.spelled in
-    c.made_by.ensures ∙ ap (λ (s : Content). made_id (received wire c.self.inside.ends d.from s).answer) same ∙ ap (λ t. made_id (received wire t d.from m.segment).answer) c.self.view_is ∙ m.makes
+    c.made_by.ensures ∙ ap (λ (s : Content). made_id (received wire c.self.inside.ends d.from s).answer) same
+    ∙ ap (λ t. made_id (received wire t d.from m.segment).answer) c.self.view_is ∙ m.makes

@@ -14,4 +14,5 @@ returns-in-Ok g c =
     let unread = ap (λ x. unread_at (by_id x c.args.id)) (sym c.self.view_is) ∙ sym c.in-Ok.ensures in
     let fewer = read_fewer t c.args.count c.in-Ok.unread (by_id t c.args.id) unread in
     let all = ap (λ n. read_at wire t n (by_id t c.args.id)) c.min.ensures ∙ fewer in
-    subst (λ r. IsStep (called {A = g.row.A.Denot} c.args.seat t report.Read r) t c.args.out.now.items c.read_some.result c.read_some.new.self c.read_some.new.out.items) all c.read_some.ensures
+    subst (λ r. IsStep (called {A = g.row.A.Denot} c.args.seat t report.Read r) t c.args.out.now.items
+    c.read_some.result c.read_some.new.self c.read_some.new.out.items) all c.read_some.ensures

@@ -14,9 +14,17 @@ pub returns : goal.returns
 returns g c =
     let t = c.self.inside.ends in
     let all : length c.deref_mut.result.now ≡ c.args.count = c.deref_mut.ensures.len ∙ c.in-Ok.ensures.len in
-    let box : IsBox c.args.seat c.outbox_over-outbox.result c.read-read.new.out c.args.out.now.items c.into_list.result.items =
-    record { items = c.outbox_over-outbox.ensures.items; from = c.outbox_over-outbox.ensures.from; kind = c.outbox_over-outbox.ensures.kind; back = c.into_list.ensures.items } in
-    let same : c.match-read.result ≡ reported {A = g.row.A.Denot} report.Read (read_of c.read-read.result c.read-read.new.items) = elim c.match-read.branch [
+    let box : IsBox c.args.seat c.outbox_over-outbox.result c.read-read.new.out c.args.out.now.items
+    c.into_list.result.items =
+    record {
+      items = c.outbox_over-outbox.ensures.items;
+      from = c.outbox_over-outbox.ensures.from;
+      kind = c.outbox_over-outbox.ensures.kind;
+      back = c.into_list.ensures.items;
+    } in
+    let same : c.match-read.result
+    ≡ reported {A = g.row.A.Denot} report.Read (read_of c.read-read.result c.read-read.new.items) =
+    elim c.match-read.branch [
       | in-Ok-read w ↦
           let count = w.in-Ok-read.count in
           let new = c.read-read.new.items in
@@ -26,13 +34,22 @@ returns g c =
           let few : count ≤ length new = omega (arith, within, same_length) in
           let len : length c.deref_mut.result.now ≡ c.resize.new.self.len = c.deref_mut.ensures.len in
           let fits : count ≤ c.resize.new.self.len = omega (arith, within, len) in
-          let read : take count (take c.resize.new.self.len (new ++ rest)) ≡ take count new = take-take count c.resize.new.self.len (new ++ rest) fits ∙ take-append-le count new rest few in
-          w.result-is ∙ ap report.Read (w.from_vec.ensures ∙ w.truncate.ensures.items ∙ read) ∙ ap (λ r. reported {A = g.row.A.Denot} report.Read (read_of r c.read-read.new.items)) (sym w.in-Ok-read.is)
-      | in-Err w ↦ w.result-is ∙ w.refused_by.ensures ∙ ap (λ r. reported {A = g.row.A.Denot} report.Read (read_of r c.read-read.new.items)) (sym w.in-Err.is)
+          let read : take count (take c.resize.new.self.len (new ++ rest))
+          ≡ take count new = take-take count c.resize.new.self.len (new ++ rest) fits
+          ∙ take-append-le count new rest few in
+          w.result-is ∙ ap report.Read (w.from_vec.ensures ∙ w.truncate.ensures.items ∙ read)
+          ∙ ap (λ r. reported {A = g.row.A.Denot} report.Read (read_of r c.read-read.new.items))
+          (sym w.in-Ok-read.is)
+      | in-Err w ↦ w.result-is ∙ w.refused_by.ensures
+          ∙ ap (λ r. reported {A = g.row.A.Denot} report.Read (read_of r c.read-read.new.items)) (sym w.in-Err.is)
     ] in
-    let call = subst (λ n. IsCalled (read_at wire t n (by_id t c.args.id)) (read_of c.read-read.result c.read-read.new.items) t c.read-read.new.self c.outbox_over-outbox.result c.read-read.new.out) all c.read-read.ensures.call in
+    let call = subst (λ n. IsCalled (read_at wire t n (by_id t c.args.id))
+    (read_of c.read-read.result c.read-read.new.items) t c.read-read.new.self c.outbox_over-outbox.result
+    c.read-read.new.out) all c.read-read.ensures.call in
     rw (same, ← c.self.view_is)
-    (call_step c.args.seat t c.read-read.new.self report.Read (read_at wire t c.args.count (by_id t c.args.id)) (read_of c.read-read.result c.read-read.new.items) c.outbox_over-outbox.result c.read-read.new.out c.args.out.now.items c.into_list.result.items (λ x. refl) (λ x. refl) box call)
+    (call_step c.args.seat t c.read-read.new.self report.Read (read_at wire t c.args.count (by_id t c.args.id))
+    (read_of c.read-read.result c.read-read.new.items) c.outbox_over-outbox.result c.read-read.new.out
+    c.args.out.now.items c.into_list.result.items (λ x. refl) (λ x. refl) box call)
 
 pub returns-in_default : goal.returns-in_default
 returns-in_default g c =

@@ -15,5 +15,7 @@ returns-clause-steps c =
     let xs = c.args.self.now.rest.now in
     let r = take (length xs - c.spaces.result) (drop c.spaces.result xs) in
     let some : 0 < length r = is_some (length r) c.is_empty.result c.if-is_empty.false c.is_empty.ensures in
-    next_word xs c.spaces.result c.word_len-len.result r (take c.word_len-len.result r) (take (length r - c.word_len-len.result) (drop c.word_len-len.result r))
-    c.spaces.ensures.value (rest_from c.spaces.result xs) some c.word_len-len.ensures.value refl (rest_from c.word_len-len.result r)
+    next_word xs c.spaces.result c.word_len-len.result r (take c.word_len-len.result r)
+    (take (length r - c.word_len-len.result) (drop c.word_len-len.result r))
+    c.spaces.ensures.value (rest_from c.spaces.result xs) some c.word_len-len.ensures.value refl
+    (rest_from c.word_len-len.result r)

@@ -7,5 +7,7 @@ pub returns-else-self-ge-MAX_EVENTS : goal.returns-else-self-ge-MAX_EVENTS
 returns-else-self-ge-MAX_EVENTS g c =
     let es = c.self.inside.stamps.items in
     let ps = c.self.inside.datagrams.items in
-    let same : c.len.result ≡ length (stamped es ps) = omega (arith, c.len.ensures, c.self.inside.stamps.ok.0, length-stamped es ps c.self.invariant.0) in
-    rw (← c.self.view_is) (over_by c.self.inside.events c.len.result (length (stamped es ps)) c.if-self-ge-MAX_EVENTS.false same)
+    let same : c.len.result ≡ length (stamped es ps) =
+    omega (arith, c.len.ensures, c.self.inside.stamps.ok.0, length-stamped es ps c.self.invariant.0) in
+    rw (← c.self.view_is) (over_by c.self.inside.events c.len.result
+    (length (stamped es ps)) c.if-self-ge-MAX_EVENTS.false same)

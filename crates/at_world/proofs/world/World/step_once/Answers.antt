@@ -4,36 +4,50 @@ use Rattle.at_world.proofs.world.World.step_once.Goals as goal
 
 pub returns-in-Timer-clause-played : goal.returns-in-Timer-clause-played
 returns-in-Timer-clause-played g c =
-    fired g.row.A.Denot c.args.self.now c.play-in-Timer.new.self c.args.event.now c.in-Timer.node c.in-Timer.timer c.play-in-Timer.result c.in-Timer.is (sym c.is_over.ensures ∙ c.if-is_over.false)
+    fired g.row.A.Denot c.args.self.now c.play-in-Timer.new.self c.args.event.now c.in-Timer.node c.in-Timer.timer
+    c.play-in-Timer.result c.in-Timer.is (sym c.is_over.ensures ∙ c.if-is_over.false)
     c.play-in-Timer.ensures.played c.play-in-Timer.ensures.free
 
 pub returns-in-Timer-clause-not_played : goal.returns-in-Timer-clause-not_played
 returns-in-Timer-clause-not_played g c =
-    not_fired g.row.A.Denot c.args.self.now c.play-in-Timer.new.self c.args.event.now c.in-Timer.node c.in-Timer.timer c.play-in-Timer.result c.in-Timer.is (sym c.is_over.ensures ∙ c.if-is_over.false)
+    not_fired g.row.A.Denot c.args.self.now c.play-in-Timer.new.self c.args.event.now c.in-Timer.node c.in-Timer.timer
+    c.play-in-Timer.result c.in-Timer.is (sym c.is_over.ensures ∙ c.if-is_over.false)
     c.play-in-Timer.ensures.not_played
 
 pub returns-in-Call-clause-played : goal.returns-in-Call-clause-played
 returns-in-Call-clause-played g c =
-    called_by g.row.A.Denot c.args.self.now c.play.new.self c.args.event.now c.in-Call.node c.in-Call.call (record { ref_ptr = (0, 0); now = c.in-Call.call }) c.play.result c.in-Call.is refl (sym c.is_over.ensures ∙ c.if-is_over.false)
+    called_by g.row.A.Denot c.args.self.now c.play.new.self c.args.event.now c.in-Call.node c.in-Call.call
+    (record { ref_ptr = (0, 0); now = c.in-Call.call }) c.play.result c.in-Call.is refl
+    (sym c.is_over.ensures ∙ c.if-is_over.false)
     c.play.ensures.played c.play.ensures.free c.ranges-in-Call.ensures
 
 pub returns-in-Call-clause-not_played : goal.returns-in-Call-clause-not_played
 returns-in-Call-clause-not_played g c =
-    not_called g.row.A.Denot c.args.self.now c.play.new.self c.args.event.now c.in-Call.node c.in-Call.call (record { ref_ptr = (0, 0); now = c.in-Call.call }) c.play.result c.in-Call.is refl (sym c.is_over.ensures ∙ c.if-is_over.false)
+    not_called g.row.A.Denot c.args.self.now c.play.new.self c.args.event.now c.in-Call.node c.in-Call.call
+    (record { ref_ptr = (0, 0); now = c.in-Call.call }) c.play.result c.in-Call.is refl
+    (sym c.is_over.ensures ∙ c.if-is_over.false)
     c.play.ensures.not_played
 
 pub returns-in-Deliver-clause-played : goal.returns-in-Deliver-clause-played
-returns-in-Deliver-clause-played g c = came g.row.A.Denot c.args.self.now c.deliver.new.self c.args.event.now c.in-Deliver.which c.in-Deliver.node c.deliver.result c.in-Deliver.is c.deliver.ensures.played
+returns-in-Deliver-clause-played g c =
+    came g.row.A.Denot c.args.self.now c.deliver.new.self c.args.event.now c.in-Deliver.which c.in-Deliver.node
+    c.deliver.result c.in-Deliver.is c.deliver.ensures.played
 
 pub returns-in-Deliver-clause-not_played : goal.returns-in-Deliver-clause-not_played
-returns-in-Deliver-clause-not_played g c = not_came g.row.A.Denot c.args.self.now c.deliver.new.self c.args.event.now c.in-Deliver.which c.in-Deliver.node c.deliver.result c.in-Deliver.is c.deliver.ensures.not_played
+returns-in-Deliver-clause-not_played g c =
+    not_came g.row.A.Denot c.args.self.now c.deliver.new.self c.args.event.now c.in-Deliver.which c.in-Deliver.node
+    c.deliver.result c.in-Deliver.is c.deliver.ensures.not_played
 
 pub returns-in-Forge-clause-played : goal.returns-in-Forge-clause-played
 returns-in-Forge-clause-played g c =
-    forged g.row.A.Denot c.args.self.now c.play-in-Forge.new.self c.args.event.now c.in-Forge.node c.in-Forge.bytes c.as_slice.result c.play-in-Forge.result c.in-Forge.is c.as_slice.ensures (sym c.is_over.ensures ∙ c.if-is_over.false)
+    forged g.row.A.Denot c.args.self.now c.play-in-Forge.new.self c.args.event.now c.in-Forge.node c.in-Forge.bytes
+    c.as_slice.result c.play-in-Forge.result c.in-Forge.is c.as_slice.ensures
+    (sym c.is_over.ensures ∙ c.if-is_over.false)
     c.play-in-Forge.ensures.played c.play-in-Forge.ensures.free
 
 pub returns-in-Forge-clause-not_played : goal.returns-in-Forge-clause-not_played
 returns-in-Forge-clause-not_played g c =
-    not_forged g.row.A.Denot c.args.self.now c.play-in-Forge.new.self c.args.event.now c.in-Forge.node c.in-Forge.bytes c.as_slice.result c.play-in-Forge.result c.in-Forge.is c.as_slice.ensures (sym c.is_over.ensures ∙ c.if-is_over.false)
+    not_forged g.row.A.Denot c.args.self.now c.play-in-Forge.new.self c.args.event.now c.in-Forge.node c.in-Forge.bytes
+    c.as_slice.result c.play-in-Forge.result c.in-Forge.is c.as_slice.ensures
+    (sym c.is_over.ensures ∙ c.if-is_over.false)
     c.play-in-Forge.ensures.not_played

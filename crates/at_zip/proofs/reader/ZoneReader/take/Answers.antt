@@ -6,5 +6,7 @@ use Rattle.at_zip.proofs.reader.ZoneReader.take.Goals as goal
 
 pub invariant_of-self-else-is_last : goal.invariant_of-self-else-is_last
 invariant_of-self-else-is_last g c =
-    let few = subst (λ (r : Reader). length r.names + length c.args.page.now.names ≤ 1024) (sym c.self.view_is) c.requires.few in
-    subst IsTable (sym c.push_names.ensures.names) (longer_table c.self.inside.names.items c.args.page.now c.self.invariant c.push_names.ensures.lawful few)
+    let few = subst (λ (r : Reader). length r.names + length c.args.page.now.names ≤ 1024)
+    (sym c.self.view_is) c.requires.few in
+    subst IsTable (sym c.push_names.ensures.names)
+    (longer_table c.self.inside.names.items c.args.page.now c.self.invariant c.push_names.ensures.lawful few)

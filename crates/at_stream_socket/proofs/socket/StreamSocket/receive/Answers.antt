@@ -1,0 +1,44 @@
+use Rattle.std.proofs.Common.{◌≡◌, ap, sym, ◌∙◌}
+use Rattle.std.proofs.lemmas.Bool.{eq-eqb, ne_eqb}
+use Rattle.at_ddp.specs.Datagram.{content}
+use Rattle.at_adsp_frame.specs.Segments.{content as segment_in}
+use Rattle.at_stream_socket.proofs.CallLemmas.{IsBox}
+use Rattle.at_stream_socket.proofs.HearLemmas.{fault_comes, other_ignored, reported, taken_comes}
+use Rattle.at_stream_socket.proofs.socket.StreamSocket.receive.Goals as goal
+use Rattle.at_stream_socket.proofs.socket.StreamSocket.receive.Goals.{in-Ok-heard, in-Err-heard}
+
+pub returns-then-datagram-clause-comes : goal.returns-then-datagram-clause-comes
+returns-then-datagram-clause-comes g c =
+    let d = content c.args.datagram.now in
+    other_ignored g.row.A.Denot c.args.seat c.args.self.now d c.args.out.now.items
+    (ne_eqb d.to.socket 130 c.if-datagram.true)
+
+pub returns-in-Err-clause-comes : goal.returns-in-Err-clause-comes
+returns-in-Err-clause-comes g c =
+    let d = content c.args.datagram.now in
+    fault_comes g.row.A.Denot c.args.seat c.args.self.now d c.args.out.now.items
+    (eq-eqb d.to.socket 130 c.if-datagram.false) c.in-Err.fault c.faulty.result c.in-Err.ensures.fault
+    c.faulty.ensures.report
+
+pub returns-clause-comes : goal.returns-clause-comes
+returns-clause-comes g c =
+    let d = content c.args.datagram.now in
+    let box : IsBox c.args.seat c.outbox_over-outbox.result c.receive-heard.new.out c.args.out.now.items
+    c.into_list.result.items =
+    record {
+      items = c.outbox_over-outbox.ensures.items;
+      from = c.outbox_over-outbox.ensures.from;
+      kind = c.outbox_over-outbox.ensures.kind;
+      back = c.into_list.ensures.items;
+    } in
+    let same : c.match-heard.result ≡ reported c.receive-heard.result = elim c.match-heard.branch [
+      | in-Ok-heard w ↦ w.result-is ∙ w.told_by.ensures.report
+          ∙ ap (reported {A = g.row.A.Denot}) (sym w.in-Ok-heard.is)
+      | in-Err-heard w ↦ w.result-is ∙ ap (reported {A = g.row.A.Denot}) (sym w.in-Err-heard.is)
+    ] in
+    rw (same, ← c.self.view_is)
+    (taken_comes g.row.A.Denot c.args.seat c.self.inside.ends d c.args.out.now.items
+    (eq-eqb d.to.socket 130 c.if-datagram.false) c.receive-heard.new.self
+    (segment_in c.in-Ok.segment) c.receive-heard.result c.outbox_over-outbox.result c.receive-heard.new.out
+    c.into_list.result.items
+    c.in-Ok.ensures.found box c.receive-heard.ensures.taken)
