@@ -1,64 +1,67 @@
 -- Each event of a node is a step of its user's session.
-use Rattle.std.proofs.Common.{◌≡◌, ℕ, Bool, true, false, List, inl, inr, refl, sym, subst}
-use Rattle.at_event.specs.Kinds.{Kind, Adsp, Atp, Nbp, Nobody, Session}
-use Rattle.at_event.specs.Outcomes.{Outcome, over}
+use Rattle.std.proofs.Common.{◌≡◌, ℕ, List, inl, inr, refl, sym, subst}
+use Rattle.at_event.specs.Kinds.{Kind, Adsp, Atp, Nbp, Nobody, Session, kind_of_call, kind_of_timer}
+use Rattle.at_event.specs.Outcomes.{Outcome}
 use Rattle.at_event.specs.declared.event.Call.{Call}
-use Rattle.at_event.specs.declared.event.Call.TheVariants.{Zones, SetZones, Ask, Answer, Pick, Find, Claim, Finish, Register, Unregister, Open, Listen, Connect, Write, Read, Reset, Close}
+use Rattle.at_event.specs.declared.event.Report.{Report}
 use Rattle.at_event.specs.declared.event.Timer.{Timer}
-use Rattle.at_event.specs.declared.event.Timer.TheVariants as timer
 use Rattle.at_event.specs.declared.service.Reply.{Reply}
 use Rattle.at_node.specs.Hearing.{Hears}
-use Rattle.at_node.specs.Nodes.{NodeState, called, timed, with_session}
-use Rattle.at_node.specs.SessionCalls.{picked_as}
-use Rattle.at_session.specs.Sessions.{is_listed}
-use Rattle.at_steps.specs.Acts.{Act, Calls, Fires, Gets}
-use Rattle.at_steps.specs.SessionSteps.{IsStep}
-use Rattle.at_steps.proofs.Outcomes.{Comes, ComesByType, it_comes}
+use Rattle.at_node.specs.Nodes.{NodeState, called, timed}
+use Rattle.at_session.specs.Sessions.{SessionState}
+use Rattle.at_steps.specs.Acts.{Act, Calls, Fires, Gets, owner_of}
+use Rattle.at_steps.specs.SessionSteps.{IsStep, MayPick}
+use Rattle.at_steps.proofs.AtpOutcomes.{IsOfAtp}
+use Rattle.at_steps.proofs.NameOutcomes.{IsOfNbp}
+use Rattle.at_steps.proofs.Outcomes.{Comes, ComesByType, call_comes, it_comes, timer_comes}
+use Rattle.at_steps.proofs.StreamOutcomes.{IsOfAdsp}
+
+-- ---- the report of a protocol is not the session's
+
+module _ (A : Type 0) (s : SessionState) (act : Act A) (r : Report A) where
+  of_atp : (k : Kind) → IsOfAtp k → MayPick s act r k
+  of_atp Session its = absurd its
+  of_atp other its = tt
+
+  of_nbp : (k : Kind) → IsOfNbp k → MayPick s act r k
+  of_nbp Session its = absurd its
+  of_nbp other its = tt
+
+  of_adsp : (k : Kind) → IsOfAdsp k → MayPick s act r k
+  of_adsp Session its = absurd its
+  of_adsp other its = tt
+
+-- ---- events
 
 module _ (A : Type 0) (n : NodeState) where
   abbrev Steps : Act A → Outcome A NodeState → Type 0
   Steps act o = IsStep n.session act o.report o.state.session
 
-  picks : (zone : List ℕ) (b : Bool) → is_listed n.session zone ≡ b → Steps (Calls (Pick zone)) (over (with_session n) (picked_as n.session zone b))
-  picks zone true listed = record { becomes = refl; picks = listed }
-  picks zone false listed = record { becomes = refl; picks = tt }
+  comes_steps : (act : Act A) (o : Outcome A NodeState) (k : Kind) → Comes A n act o k → Steps act o
+  comes_steps act o Atp h =
+      let r = h.part.report in
+      subst (Steps act) (sym h.is)
+      (record { becomes = h.keeps; picks = of_atp A n.session act r (owner_of act r) h.its.1 })
+  comes_steps act o Nbp h =
+      let r = h.part.report in
+      subst (Steps act) (sym h.is)
+      (record { becomes = h.keeps; picks = of_nbp A n.session act r (owner_of act r) h.its.1.0 })
+  comes_steps act o Adsp h =
+      let r = h.part.report in
+      subst (Steps act) (sym h.is)
+      (record { becomes = h.keeps; picks = of_adsp A n.session act r (owner_of act r) h.its.reports })
+  comes_steps act o Nobody h = subst (Steps act) (sym h.is) (record { becomes = h.keeps; picks = h.picks })
+  comes_steps act o Session h = subst (Steps act) (sym h.is) (record { becomes = h.keeps; picks = h.picks })
 
   pub call_steps : (call : Call A) → Steps (Calls call) (called n call)
-  call_steps (Pick zone) = picks zone (is_listed n.session zone) refl
-  call_steps Zones = record { becomes = refl; picks = tt }
-  call_steps (SetZones names) = record { becomes = refl; picks = tt }
-  call_steps (Ask node socket user bytes wanted xo retries) = record { becomes = refl; picks = tt }
-  call_steps (Answer node socket tid packets) = record { becomes = refl; picks = tt }
-  call_steps (Find object kind _) = record { becomes = refl; picks = tt }
-  call_steps (Claim object kind socket) = record { becomes = refl; picks = tt }
-  call_steps (Finish id) = record { becomes = refl; picks = tt }
-  call_steps (Register object kind socket) = record { becomes = refl; picks = tt }
-  call_steps (Unregister object kind) = record { becomes = refl; picks = tt }
-  call_steps (Open index) = record { becomes = refl; picks = tt }
-  call_steps (Listen on) = record { becomes = refl; picks = tt }
-  call_steps (Connect node socket) = record { becomes = refl; picks = tt }
-  call_steps (Write id items) = record { becomes = refl; picks = tt }
-  call_steps (Read id count) = record { becomes = refl; picks = tt }
-  call_steps (Reset id) = record { becomes = refl; picks = tt }
-  call_steps (Close id) = record { becomes = refl; picks = tt }
+  call_steps call = comes_steps (Calls call) (called n call) (kind_of_call call) (call_comes A n call)
 
   pub timer_steps : (time : Timer) → Steps (Fires time) (timed n time)
-  timer_steps (timer.Retry tid) = record { becomes = refl; picks = tt }
-  timer_steps (timer.Release own node socket tid) = record { becomes = refl; picks = tt }
-  timer_steps (timer.Lookup id) = record { becomes = refl; picks = tt }
-  timer_steps (timer.Resend id) = record { becomes = refl; picks = tt }
-  timer_steps (timer.Probe id) = record { becomes = refl; picks = tt }
+  timer_steps time = comes_steps (Fires time) (timed n time) (kind_of_timer time) (timer_comes A n time)
 
   module _ (which : ℕ) (said : Reply A) (o : Outcome A NodeState) where
     by_type : (kind : ℕ) → ComesByType A n which o kind → Steps (Gets which) o
-    by_type kind c = go c.whose c.comes
-      where
-        go : (k : Kind) → Comes A n (Gets which) o k → Steps (Gets which) o
-        go Atp h = subst (Steps (Gets which)) (sym h.is) (record { becomes = h.keeps; picks = tt })
-        go Nbp h = subst (Steps (Gets which)) (sym h.is) (record { becomes = h.keeps; picks = tt })
-        go Adsp h = subst (Steps (Gets which)) (sym h.is) (record { becomes = h.keeps; picks = tt })
-        go Nobody h = subst (Steps (Gets which)) (sym h.is) (record { becomes = h.keeps; picks = tt })
-        go Session h = subst (Steps (Gets which)) (sym h.is) (record { becomes = h.keeps; picks = tt })
+    by_type kind c = comes_steps (Gets which) o c.whose c.comes
 
     pub datagram_steps : (bytes : List ℕ) → Hears said n bytes o → Steps (Gets which) o
     datagram_steps bytes (inl h) = by_type (h.datagram).kind (it_comes A n which said o h.datagram h.outcome)

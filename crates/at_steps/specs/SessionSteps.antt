@@ -1,11 +1,12 @@
 -- What a step of a node is in words of its user's session: which reports the session keeps, and which zone may be
 -- picked (Inside AppleTalk, ZIP, "GetZoneList"; NBP, "Name lookup").
 use Rattle.std.specs.Prelude.{◌≡◌, ℕ, List, true}
+use Rattle.at_event.specs.Kinds.{Kind, Session}
 use Rattle.at_event.specs.declared.event.Call.TheVariants.{Finish, Pick}
 use Rattle.at_event.specs.declared.event.Report.{Report}
 use Rattle.at_event.specs.declared.event.Report.TheVariants as report
 use Rattle.at_session.specs.Sessions.{SessionState, finds_kept, is_listed, list_kept, picking}
-use Rattle.at_steps.specs.Acts.{Act, Calls, Gets}
+use Rattle.at_steps.specs.Acts.{Act, Calls, Gets, owner_of}
 
 -- the zone is picked, unless this is refused
 abbrev pub pick_kept : {A : Type 0} → SessionState → List ℕ → Report A → SessionState
@@ -20,12 +21,17 @@ after s (Calls (Finish id)) r = finds_kept s r
 after s (Gets which) r = list_kept s r
 after s act r = s
 
--- a zone that is picked stands in the zone list that was read last
-abbrev pub MayPick : {A : Type 0} → SessionState → Act A → Report A → Type 0
-MayPick s (Calls (Pick zone)) report.Picked = is_listed s zone ≡ true
-MayPick s act r = Unit {0}
+-- a zone is picked by this call alone, and stands in the zone list that was read last
+abbrev pub Picks : {A : Type 0} → SessionState → Act A → Report A → Type 0
+Picks s (Calls (Pick zone)) report.Picked = is_listed s zone ≡ true
+Picks s act r = ⊥
+
+-- so each report of a session tells this; the others are not its own
+abbrev pub MayPick : {A : Type 0} → SessionState → Act A → Report A → Kind → Type 0
+MayPick s act r Session = Picks s act r
+MayPick s act r other = Unit {0}
 
 -- a step of a session
 pub record IsStep {A : Type 0} (s : SessionState) (act : Act A) (r : Report A) (now : SessionState) : Type 0 where
   pub becomes : now ≡ after s act r
-  pub picks : MayPick s act r
+  pub picks : MayPick s act r (owner_of act r)

@@ -4,12 +4,12 @@ use Rattle.std.specs.Prelude.{◌≡◌, ℕ, ◌||◌, if◌then◌else◌, Boo
 use Rattle.std.specs.Prelude.{Result, Ok, Err, ◌⊎◌, MatchBool}
 use Rattle.at_ddp.specs.Datagram.{Content as Datagram, BeginsWith, canonical}
 use Rattle.at_ddp.specs.declared.address.Address.{Address}
-use Rattle.at_atp_frame.specs.Frames.{Content, Request, Spells, spelled}
-use Rattle.at_atp_frame.specs.Frames.{number_of}
+use Rattle.at_ddp.specs.Protocols.{atp_kind}
+use Rattle.at_atp_frame.specs.Frames.{Content, IsTimer, Request, Spells, number_of, spelled}
 use Rattle.at_atp_responder.specs.Once.{same_key}
 use Rattle.at_atp_frame.specs.Packets.{Packet}
 use Rattle.at_atp_responder.specs.declared.reception.Key.{Key}
-use Rattle.at_node.specs.AtpParts.{asking, atp_kind}
+use Rattle.at_node.specs.AtpParts.{asking}
 use Rattle.at_event.specs.declared.event.Call.TheVariants.{Answer}
 use Rattle.at_event.specs.declared.event.Report.{Report}
 use Rattle.at_event.specs.declared.event.Report.TheVariants as report
@@ -143,10 +143,11 @@ has_expired net (x ∷ xs) at key =
     if began_under net x.event x.report key then false
     else expired_at net x.event x.report at key || has_expired net xs at key
 
--- if a request is delivered, its record did not expire there
+-- If a request is delivered, its record did not expire there. Bytes that spell a release would also spell a request, if
+-- timers had no range.
 abbrev pub LivesBy : {A : Type 0} → ℕ → List SentDatagram → Event A → List (Played A) → Type 0
 LivesBy net sent (event.Deliver which node) past = (d : SentDatagram) (to from : Address) (mask : ℕ) (xo : Bool)
-    (timer tid : ℕ) (user bytes : List ℕ) → slice_get sent which ≡ Some d
+    (timer tid : ℕ) (user bytes : List ℕ) → IsTimer xo timer → slice_get sent which ≡ Some d
     → d.bytes ≡ canonical to from atp_kind (spelled (Request mask xo timer tid user bytes))
     → has_expired net past to (record { from = from; tid = tid }) ≡ false
 LivesBy net sent e past = Unit {0}
