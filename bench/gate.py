@@ -1,0 +1,79 @@
+#!/usr/bin/env python3
+"""Runs the gate, and tells where its processor time goes: a table of crates by proofs, tests and must-fail edits.
+
+    bench/gate.py [COMMAND ..]
+
+It runs `rt ci`, or the command that is given, and looks four times a second at the prover's processes. What such a
+process does in its last quarter of a second is not counted. What the command prints is printed as it comes. The status
+is the command's.
+"""
+
+import collections
+import os
+import subprocess
+import sys
+import time
+
+PERIOD = 0.25
+TICKS = os.sysconf("SC_CLK_TCK")
+
+
+def arguments_of(pid):
+    with open(f"/proc/{pid}/cmdline", "rb") as file:
+        return file.read().decode(errors="replace").split("\0")
+
+
+def seconds_of(pid):
+    """The processor seconds of a process and of its ended children."""
+    with open(f"/proc/{pid}/stat") as file:
+        fields = file.read().rpartition(")")[2].split()
+    return sum(int(it) for it in fields[11:15]) / TICKS
+
+
+def kind_of(words):
+    """What a process of the prover is for: an edit's check runs over kept work, whose folder's name tells it."""
+    kept = next((words[at + 1] for at, it in enumerate(words[:-1]) if it == "--incremental"), "")
+    if "rt-edits-" in kept:
+        return "seeds" if kept.endswith("/seed") else "edits"
+    return "tests" if "--test" in words else "proofs"
+
+
+def looked_at(found):
+    """Notes the time of each process of the prover that runs now."""
+    for pid in filter(str.isdigit, os.listdir("/proc")):
+        try:
+            words = arguments_of(pid)
+            if words[0].endswith("/rattle") and "--crate-name" in words:
+                crate = words[words.index("--crate-name") + 1]
+                found[pid, crate, kind_of(words)] = seconds_of(pid)
+        except (OSError, IndexError, ValueError):
+            pass
+
+
+def told(found, clock):
+    kinds = ("proofs", "tests", "seeds", "edits")
+    crates = collections.defaultdict(lambda: dict.fromkeys(kinds, 0))
+    count = collections.Counter(crate for _, crate, kind in found if kind == "edits")
+    for (_, crate, kind), seconds in found.items():
+        crates[crate][kind] += seconds
+    print(f"{'processor seconds':20}" + "".join(f"{it:>9}" for it in (*kinds, "all", "an edit")))
+    for crate, by in sorted(crates.items(), key=lambda it: -sum(it[1].values())):
+        one = by["edits"] / count[crate] if count[crate] else 0
+        print(f"{crate:20}" + "".join(f"{it:9.0f}" for it in (*by.values(), sum(by.values()), one)))
+    sums = [sum(by[it] for by in crates.values()) / 60 for it in kinds]
+    print(f"{'processor minutes':20}" + "".join(f"{it:9.1f}" for it in (*sums, sum(sums))))
+    print(f"{'minutes of the clock':20}{clock / 60:9.1f}")
+
+
+def main():
+    found, begun = {}, time.monotonic()
+    command = subprocess.Popen(sys.argv[1:] or ["rt", "ci"], stdin=subprocess.DEVNULL)
+    while command.poll() is None:
+        looked_at(found)
+        time.sleep(PERIOD)
+    told(found, time.monotonic() - begun)
+    return command.returncode
+
+
+if __name__ == "__main__":
+    sys.exit(main())
