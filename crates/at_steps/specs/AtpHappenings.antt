@@ -62,6 +62,7 @@ HoldsNo who tid rs = find (is_key (record { from = who; tid = tid })) rs ≡ Non
 
 -- ---- what is sent
 
+-- how a datagram carries an ATP packet: by DDP type 3, spelled as ATP has it
 abbrev pub atp_coding : Coding Content
 atp_coding = record { kind = atp_kind; bytes = spelled }
 

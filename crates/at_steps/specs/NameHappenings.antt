@@ -47,6 +47,7 @@ pub record Stands (setting : Setting) (history : List Happening) (net number : â
 
 -- ---- what is sent and drawn
 
+-- how a datagram carries an NBP packet: by DDP type 2, spelled as NBP has it
 abbrev pub name_coding : Coding Content
 name_coding = record { kind = nbp_kind; bytes = spelling }
 

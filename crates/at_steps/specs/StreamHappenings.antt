@@ -71,6 +71,7 @@ pub record Stands (setting : Setting) (history : List Happening) (net number : â
 
 -- ---- what is sent and drawn
 
+-- how a datagram carries an ADSP packet: by DDP type 7, spelled as ADSP has it
 abbrev pub stream_coding : Coding Content
 stream_coding = record { kind = adsp_kind; bytes = spelled }
 
