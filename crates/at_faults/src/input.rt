@@ -1,5 +1,6 @@
 //! The bytes of a schedule.
-ghost use Rattle.std.specs.Prelude.{◌≡◌, ◌≤◌, length, IfOk, IfSome, OnOk, vec_len};
+ghost use Rattle.std.specs.Prelude.{◌≡◌, ◌≤◌, length, IfErr, IfOk, IfSome, OnOk, vec_len};
+ghost use Rattle.at_faults.specs.Reads.{IsOfBytes};
 
 use crate::fault::{Fault, Unreadable};
 use std::alloc::Allocator;
@@ -13,6 +14,7 @@ pub fn read_bytes<A: Allocator, R: Read>(alloc: A, reader: &mut R) -> Result<Vec
     ensures fits { IfOk result (λ bytes. vec_len bytes ≤ MAX_LEN) }
     // Said if it is known what the reader holds.
     ensures whole { IfOk result (λ bytes. IfSome (R.remaining reader.old) (λ all. bytes.items ≡ all)) }
+    ensures fault { IfErr result IsOfBytes }
 {
     let mut bytes = Vec::new(alloc);
     let mut part = [0; 4096];
@@ -33,7 +35,8 @@ pub fn read_bytes<A: Allocator, R: Read>(alloc: A, reader: &mut R) -> Result<Vec
 /// Reads to the end, and tells whether this is too much for a schedule.
 pub fn check_length<R: Read>(reader: &mut R) -> Result<(), Fault>
     // Said if it is known what the reader holds.
-    ensures { OnOk result (IfSome (R.remaining reader.old) (λ all. length all ≤ MAX_LEN)) }
+    ensures fits { OnOk result (IfSome (R.remaining reader.old) (λ all. length all ≤ MAX_LEN)) }
+    ensures fault { IfErr result IsOfBytes }
 {
     let mut left = MAX_LEN;
     let mut part = [0; 4096];

@@ -7,7 +7,7 @@ use Rattle.std.specs.Io.KnownBytes.{IsAtEnd}
 use Rattle.at_setup.specs.declared.event.Event.{Event}
 use Rattle.at_schedule.specs.Says.{SayAll, Says}
 use Rattle.at_schedule.specs.Schedules.{event_lines, is_event_line, lines_in}
-use Rattle.at_play.specs.Told.{BeginsWith}
+use Rattle.at_play.specs.Told.{BeginsWith, NextSays}
 
 -- the event lines of what was read say these events, and the others are in what is left of the bytes that are known
 abbrev pub SaidSoFar : {A : Type 0} → Option (List ℕ) → Option (List ℕ) → List (Event A) → Type 0
@@ -87,3 +87,17 @@ reads_more law A (Some all) (Some rest) new es more piece h is drops added =
     ∙ ap (λ l. filter is_event_line (l ∷ lines_in (drop_through 10 rest))) (sym is.1)
     ∙ filter_by (is_event_line piece) piece (lines_in (drop_through 10 rest)) refl in
     rw drops (adds_by A (is_event_line piece) piece all rest lines es more h left added)
+
+-- the next line of those that are left, if it is an event line, is the next event line
+pub next_said : FirstLine
+    → (A : Type 0) (first known : Option (List ℕ)) (es : List (Event A)) (piece : List ℕ) (e : Event A)
+    → SaidSoFar first known es → IfSome known (λ xs. (0 < length xs) × (piece ≡ first_piece 10 xs))
+    → is_event_line piece ≡ true → Says piece e → IfSome first (λ text. NextSays text es e)
+next_said law A None known es piece e h is event says = tt
+next_said law A (Some all) None es piece e h is event says = absurd h
+next_said law A (Some all) (Some rest) es piece e (said, same, so_far) is event says =
+    let later = lines_in (drop_through 10 rest) in
+    let left : event_lines rest ≡ piece ∷ filter is_event_line later =
+    ap (filter is_event_line) (law rest is.0) ∙ ap (λ l. filter is_event_line (l ∷ later)) (sym is.1)
+    ∙ filter_by true piece later event in
+    (said, filter is_event_line later, piece, same ∙ ap (λ l. said ++ l) left, so_far, says)

@@ -11,18 +11,26 @@ use Rattle.at_world.specs.Worlds.{WorldState, IsFault, IsPlayable, Plays}
 use Rattle.at_world.specs.Plays.{Follows}
 use Rattle.at_print.specs.Reports.{event_text}
 use Rattle.at_print.specs.Printers.{Prints}
-use Rattle.at_play.specs.Told.{BeginsWith, IsStopped, IsUnread, IsWhole, Played, StopsIn, Tells, TellsLine, Told}
+use Rattle.at_play.specs.Told.{BeginsWith, IsStopped, IsUnread, IsWhole, Played, StopsIn}
+use Rattle.at_play.specs.Told.{StopsLine, Tells, TellsLine, Told, line_of, stop_of}
+use Rattle.at_play.specs.Ends.{IsNotRead}
+use Rattle.at_faults.specs.Reads.{IsOfBytes, IsOfRead}
+use Rattle.at_faults.specs.declared.fault.Unreadable.TheVariants as unreadable
+use Rattle.at_faults.specs.declared.fault.Fault.{Fault as Why}
+use Rattle.at_faults.specs.declared.fault.Fault.TheVariants as why
 use Rattle.at_print.specs.declared.printer.Printer.{Printer}
 use Rattle.at_play.proofs.PrintedLemmas.{Prints-nothing, Prints-trans}
 use Rattle.at_world.specs.Plays.{opening_world}
 use Rattle.at_setup.specs.declared.setup.Setup.{Setup}
 use Rattle.std.proofs.lemmas.Result.{on_ok_weaker}
 use Rattle.std.specs.Io.BufRead.{DropsThrough, first_piece}
-use Rattle.at_schedule.specs.Drafts.{HoldsSetup}
+use Rattle.at_schedule.specs.Drafts.{HoldsSetup, IsLineFault}
 use Rattle.at_schedule.specs.Says.{SayAll, Says}
 use Rattle.at_schedule.specs.Schedules.{event_lines, is_event_line}
-use Rattle.at_play.proofs.LineLemmas.{Adds, FirstLine, SaidSoFar, reads_more}
-use Rattle.std.specs.Prelude.{Option}
+use Rattle.at_play.proofs.LineLemmas.{Adds, FirstLine, SaidSoFar, next_said, reads_more}
+use Rattle.std.specs.Prelude.{◌↔◌, IsErr, IsOk, Option}
+use Rattle.at_print.specs.declared.status.Status.{Status}
+use Rattle.at_print.specs.declared.status.Status.TheVariants.{Done, Failed}
 use Rattle.at_play.specs.declared.stop.Stop.{Stop}
 use Rattle.at_play.specs.declared.stop.Stop.TheVariants as stop
 
@@ -74,21 +82,66 @@ safely_told A w (e ∷ es) (r ∷ rs) w' text few h =
 safely_told A w [] (r ∷ rs) w' text few h = absurd h
 safely_told A w (e ∷ es) [] w' text few h = absurd h
 
-refused : (A : Type 0) (w : WorldState) (e : Event A) (w' : WorldState) (f : Fault) (line : ℕ) (which : Option ℕ)
-    → IsFault w e f w' → StopsIn A w (stop.Event f w.events line which)
-refused A w e w' (fault.Refused r) line which h = (refl, (e, h.0))
-refused A w e w' fault.NoMemory line which h = refl
+refused : (A : Type 0) (line : List ℕ) (w : WorldState) (e : Event A) (w' : WorldState) (f : Fault) (number : ℕ)
+    (which : Option ℕ) → is_event_line line ≡ true → Says line e → IsFault w e f w'
+    → StopsLine A (Some line) w (stop.Event f w.events number which)
+refused A line w e w' (fault.Refused r) number which event says h = (refl, event, (e, h.0, says))
+refused A line w e w' fault.NoMemory number which event says h = refl
 
--- if an event was not played, the play stops
-pub stops_refused : (A : Type 0) (w : WorldState) (e : Event A) (w' : WorldState) (s : Stop) → IsStopped w e w' s
-    → StopsIn A w s
-stops_refused A w e w' s h = subst (StopsIn A w) (sym h.says) (refused A w e w' h.fault h.line h.which h.faulty)
+-- if the event of a line was not played, the play stops
+pub stops_refused : (A : Type 0) (line : List ℕ) (w : WorldState) (e : Event A) (w' : WorldState) (s : Stop)
+    → is_event_line line ≡ true → Says line e → IsStopped w e w' s → StopsLine A (Some line) w s
+stops_refused A line w e w' s event says h = subst (StopsLine A (Some line) w) (sym h.says)
+    (refused A line w e w' h.fault h.line h.which event says h.faulty)
 
--- if an event could not be read, the play stops
-pub stops_unread : (A : Type 0) (w : WorldState) (at : ℕ) (s : Stop) → at ≡ w.events → IsUnread at s → StopsIn A w s
-stops_unread A w at (stop.Text f) is h = tt
-stops_unread A w at (stop.Event fault.NoMemory n line which) is h = h ∙ is
-stops_unread A w at (stop.Event (fault.Refused r) n line which) is h = absurd h
+-- if a line could not be read, the play stops
+pub line_unread : (A : Type 0) (line : Option (List ℕ)) (w : WorldState) (at : ℕ) (s : Stop) → at ≡ w.events
+    → IsUnread at s → StopsLine A line w s
+line_unread A line w at (stop.Text f) is h = h
+line_unread A line w at (stop.Event fault.NoMemory n number which) is h = h ∙ is
+line_unread A line w at (stop.Event (fault.Refused r) n number which) is h = absurd h
+
+-- a reading that fails before the first line is of no line
+pub stops_unread : (A : Type 0) (known : Option (List ℕ)) (es : List (Event A)) (w : WorldState) (at : ℕ) (s : Stop)
+    → at ≡ w.events → IsUnread at s → StopsIn A known es w s
+stops_unread A known es w at (stop.Text f) is h = h
+stops_unread A known es w at (stop.Event fault.NoMemory n number which) is h = h ∙ is
+stops_unread A known es w at (stop.Event (fault.Refused r) n number which) is h = absurd h
+
+-- where the play of a line stops, the play stops
+pub stops_line : FirstLine
+    → (A : Type 0) {X E : Type 0} (bytes : X → List ℕ) (line : Result X E) (first known new : Option (List ℕ))
+    (byte : ℕ) (es : List (Event A)) (w : WorldState) (s : Stop) → byte ≡ 10 → SaidSoFar first known es
+    → IfOk line (λ x. IfSome known (λ xs. (0 < length xs) × (bytes x ≡ first_piece byte xs))
+    × DropsThrough known new byte)
+    → StopsLine A (line_of bytes line) w s → StopsIn A first es w s
+stops_line law A bytes line first known new byte es w (stop.Text f) is reads piece h = h
+stops_line law A bytes line first known new byte es w (stop.Event fault.NoMemory n number which) is reads piece h = h
+stops_line law A bytes (Err x) first known new byte es w (stop.Event (fault.Refused r) n number which) is reads piece h =
+    absurd h
+stops_line law A bytes (Ok x) first known new byte es w (stop.Event (fault.Refused r) n number which) is reads piece h =
+    let piece' = rw is at piece in
+    let e = h.2.0 in
+    (h.0, (e, h.2.1, next_said law A first known es (bytes x) e reads piece'.0 h.1 h.2.2))
+
+-- a failed reading ends a play before its first event
+pub unread_of : (f : Why) (s : Stop) → IsOfRead f → s ≡ stop_of f → IsUnread 0 s
+unread_of (why.Unreadable u) s h is = subst (IsUnread 0) (sym is) tt
+unread_of (why.Line number rule) s h is = absurd h
+unread_of why.NoMemory s h is = subst (IsUnread 0) (sym is) refl
+
+pub not_read : (P : Why → Type 0) (r : Result (Unit {0}) Stop) (f : Why) (s : Stop) → r ≡ Err s → s ≡ stop_of f → P f
+    → IsNotRead P r []
+not_read P r f s was is h = rw was ((f, h, is), refl)
+
+-- a read that failed gave not all bytes
+pub bytes_of_read : (f : Why) → IsOfRead f → IsOfBytes f
+bytes_of_read (why.Unreadable unreadable.TooLong) h = tt
+bytes_of_read (why.Unreadable unreadable.Changed) h = h
+bytes_of_read (why.Unreadable (unreadable.System code)) h = tt
+bytes_of_read (why.Unreadable unreadable.Failed) h = tt
+bytes_of_read (why.Line number rule) h = h
+bytes_of_read why.NoMemory h = tt
 
 -- before the first event nothing is told
 abbrev pub opened : (A : Type 0) (setup : Setup A) → Played setup
@@ -138,14 +191,15 @@ module _ (A : Type 0) {W : Type 0} (contents : W → Option (List ℕ)) (setup :
 
   -- where the play stops, and prints nothing more
   pub sofar_stopped : (known : Option (List ℕ)) (w : WorldState) (a b c : Printer W) (r : Result (Unit {0}) Stop)
-      (s : Stop) → r ≡ Err s → c ≡ b → (before : Sofar A contents setup w a b) → StopsIn A w s
+      (s : Stop) → r ≡ Err s → c ≡ b → (before : Sofar A contents setup w a b)
+      → StopsIn A known (before.0).events w s
       → IfSome known (λ text. BeginsWith text (before.0).events) → (p : Played setup) × Prints contents a c p.text
       × IsWhole A known r p
   sofar_stopped known w a b c r s is same before stops begins = (
     before.0,
     subst (λ x. Prints contents a x (before.0).text) (sym same) before.2,
     rw is
-        (subst (λ x. StopsIn A x s) (sym before.1) stops, begins),
+        (subst (λ x. StopsIn A known (before.0).events x s) (sym before.1) stops, begins),
   )
 
   -- one line more of those that are known
@@ -166,14 +220,25 @@ module _ (A : Type 0) {W : Type 0} (contents : W → Option (List ℕ)) (setup :
             (bytes x) reads piece'.0 piece'.1 after.1,
       )
 
--- what was read is the text that is known
-begins_read : (A : Type 0) (es : List (Event A)) (known : Option (List ℕ)) (bytes all : List ℕ)
-    → IfSome known (λ text. all ≡ text) → bytes ≡ all → BeginsWith bytes es
-    → IfSome known (λ text. BeginsWith text es)
-begins_read A es None bytes all read same h = tt
-begins_read A es (Some text) bytes all read same h = subst (λ t. BeginsWith t es) (same ∙ read) h
+-- what is known less says less
+stops_unknown : (A : Type 0) (text : List ℕ) (es : List (Event A)) (w : WorldState) (s : Stop)
+    → StopsIn A (Some text) es w s → StopsIn A None es w s
+stops_unknown A text es w (stop.Text f) h = h
+stops_unknown A text es w (stop.Event fault.NoMemory n number which) h = h
+stops_unknown A text es w (stop.Event (fault.Refused r) n number which) h = (h.0, (h.1.0, h.1.1, tt))
 
--- and so is its setup
+-- a line of what was read is at fault in the text that is known
+pub fault_of : (A : Type 0) (known : Option (List ℕ)) (bytes all : List ℕ) (f : Why)
+    → IfSome known (λ text. all ≡ text) → bytes ≡ all → IsLineFault A (Some bytes) f → IsLineFault A known f
+fault_of A None bytes all (why.Unreadable unreadable.TooLong) read same h = h
+fault_of A None bytes all (why.Unreadable unreadable.Changed) read same h = h
+fault_of A None bytes all (why.Unreadable (unreadable.System code)) read same h = tt
+fault_of A None bytes all (why.Unreadable unreadable.Failed) read same h = tt
+fault_of A None bytes all (why.Line number rule) read same h = tt
+fault_of A None bytes all why.NoMemory read same h = tt
+fault_of A (Some text) bytes all f read same h = subst (λ t. IsLineFault A (Some t) f) (same ∙ read) h
+
+-- what was read is the text that is known, and so is its setup
 pub held_of : (A : Type 0) (setup : Setup A) (known : Option (List ℕ)) (bytes all : List ℕ)
     → IfSome known (λ text. all ≡ text) → bytes ≡ all → HoldsSetup (Some bytes) setup → HoldsSetup known setup
 held_of A setup None bytes all read same h = tt
@@ -185,7 +250,9 @@ pub whole_read : (A : Type 0) (setup : Setup A) (known : Option (List ℕ)) (byt
 whole_read A setup None bytes all (Ok u) p read same h = tt
 whole_read A setup (Some text) bytes all (Ok u) p read same h =
     subst (λ t. SayAll (event_lines t) p.events) (same ∙ read) h
-whole_read A setup known bytes all (Err s) p read same h = (h.0, begins_read A p.events known bytes all read same h.1)
+whole_read A setup None bytes all (Err s) p read same h = (stops_unknown A bytes p.events p.world s h.0, tt)
+whole_read A setup (Some text) bytes all (Err s) p read same h =
+    subst (λ t. StopsIn A (Some t) p.events p.world s × BeginsWith t p.events) (same ∙ read) h
 
 module _ (A : Type 0) {W : Type 0} (contents : W → Option (List ℕ)) (w : WorldState) (e : Event A) (w' : WorldState)
     (old new : Printer W) where
@@ -201,10 +268,13 @@ module _ (A : Type 0) {W : Type 0} (contents : W → Option (List ℕ)) (w : Wor
       (sym has.0) (e, has.1, t)) told
 
   -- or it was not
-  pub stops_event : (r : Result (Unit {0}) Stop) → IfErr r (λ s. (new ≡ old) × IsStopped w e w' s)
-      → IfErr r (λ s. (new ≡ old) × StopsIn A w s)
-  stops_event (Ok u) h = tt
-  stops_event (Err s) h = (h.0, stops_refused A w e w' s h.1)
+  pub stops_event : {X E : Type 0} (bytes : X → List ℕ) (line : Result X E) (r : Result (Unit {0}) Stop)
+      → MatchResult line (λ x. (is_event_line (bytes x) ≡ true) × Says (bytes x) e) (λ f. ⊥)
+      → IfErr r (λ s. (new ≡ old) × IsStopped w e w' s)
+      → IfErr r (λ s. (new ≡ old) × StopsLine A (line_of bytes line) w s)
+  stops_event bytes line (Ok u) has h = tt
+  stops_event bytes (Err f) (Err s) has h = absurd has
+  stops_event bytes (Ok x) (Err s) has h = (h.0, stops_refused A (bytes x) w e w' s has.0 has.1 h.1)
 
 -- a line that is no event changes nothing
 pub tells_nothing : (A : Type 0) {W : Type 0} (contents : W → Option (List ℕ)) (w : WorldState)
@@ -214,3 +284,17 @@ pub tells_nothing : (A : Type 0) {W : Type 0} (contents : W → Option (List ℕ
 tells_nothing A contents w a bytes (Err f) has = absurd has
 tells_nothing A contents w a bytes (Ok x) has = subst (λ h. TellsLine A contents h (bytes x) w w a a) (sym has)
     (refl, refl)
+
+-- a play that is not done has failed
+failed_of : (status : Status) (r : Result (Unit {0}) Stop) (P : Type 0) → ((status ≡ Done) ↔ (IsOk r × P)) → IsErr r
+    → status ≡ Failed
+failed_of Done (Ok u) P h err = absurd (cc err)
+failed_of Done (Err s) P h err = absurd (cc (h.0 refl).0)
+failed_of Failed r P h err = refl
+
+-- and so has one that was too long
+pub too_long_fails : (known : Option (List ℕ)) (most : ℕ) (status : Status) (r : Result (Unit {0}) Stop) (P : Type 0)
+    → IfSome known (λ all. most < length all → IsErr r) → ((status ≡ Done) ↔ (IsOk r × P))
+    → IfSome known (λ all. most < length all → status ≡ Failed)
+too_long_fails None most status r P h done = tt
+too_long_fails (Some all) most status r P h done = λ long. failed_of status r P done (h long)

@@ -1,9 +1,12 @@
 -- What is printed of a play: each event that was played, in its order.
-use Rattle.std.specs.Prelude.{◌≡◌, ℕ, Bool, true, false, List, [], ◌∷◌, ◌++◌, length, IfSome, Option, Result, Ok, Err}
+use Rattle.std.specs.Prelude.{◌≡◌, ℕ, Bool, true, false, List, [], ◌∷◌, ◌++◌, length, IfSome, Option}
+use Rattle.std.specs.Prelude.{Some, None, Result, Ok, Err}
 use Rattle.at_event.specs.declared.event.Report.{Report}
 use Rattle.at_setup.specs.declared.event.Event.{Event}
-use Rattle.at_world.specs.declared.refusal.Fault.{Fault}
-use Rattle.at_world.specs.declared.refusal.Fault.TheVariants as fault
+use Rattle.at_faults.specs.declared.fault.Fault.{Fault}
+use Rattle.at_faults.specs.declared.fault.Fault.TheVariants as text
+use Rattle.at_world.specs.declared.refusal.Fault.{Fault as WorldFault}
+use Rattle.at_world.specs.declared.refusal.Fault.TheVariants as world
 use Rattle.at_setup.specs.declared.setup.Setup.{Setup}
 use Rattle.at_world.specs.Plays.{opening_world}
 use Rattle.at_world.specs.Safety.{IsSafe}
@@ -11,7 +14,7 @@ use Rattle.at_world.specs.Worlds.{WorldState, IsPlayable, IsFault, Plays, Refuse
 use Rattle.at_print.specs.Printers.{Prints}
 use Rattle.at_print.specs.Reports.{event_text}
 use Rattle.at_schedule.specs.Says.{SayAll, Says}
-use Rattle.at_schedule.specs.Schedules.{event_lines}
+use Rattle.at_schedule.specs.Schedules.{event_lines, is_event_line}
 use Rattle.at_print.specs.declared.printer.Printer.{Printer}
 use Rattle.at_play.specs.declared.stop.Stop.{Stop}
 use Rattle.at_play.specs.declared.stop.Stop.TheVariants as stop
@@ -43,7 +46,7 @@ TellsLine A contents false line w w' old new = (w' ≡ w) × (new ≡ old)
 
 -- an event was not played, and this is why
 pub record IsStopped {A : Type 0} (w : WorldState) (e : Event A) (w' : WorldState) (s : Stop) : Type 0 where
-  pub fault : Fault
+  pub fault : WorldFault
   pub line : ℕ
   pub which : Option ℕ
   pub says : s ≡ stop.Event fault w.events line which
@@ -57,24 +60,57 @@ pub record Played {A : Type 0} (setup : Setup A) : Type 0 where
   pub text : List ℕ
   pub told : Told (opening_world setup) events reports world text
 
--- the event of this place could not be read
-abbrev pub IsUnread : ℕ → Stop → Type 0
-IsUnread at (stop.Text f) = Unit {0}
-IsUnread at (stop.Event fault.NoMemory n line which) = n ≡ at
-IsUnread at (stop.Event (fault.Refused r) n line which) = ⊥
+-- the reading failed, or what was read is no longer what it was; no line is at fault
+abbrev pub IsOfReading : Fault → Type 0
+IsOfReading (text.Unreadable why) = Unit {0}
+IsOfReading (text.Line number rule) = ⊥
+IsOfReading text.NoMemory = ⊥
 
--- why a play stopped in a world: the next event is refused so, or could not be read, or memory was wanted
-abbrev pub StopsIn : Type 0 → WorldState → Stop → Type 0
-StopsIn A w (stop.Text f) = Unit {0}
-StopsIn A w (stop.Event fault.NoMemory at line which) = at ≡ w.events
-StopsIn A w (stop.Event (fault.Refused r) at line which) = (at ≡ w.events) × ((e : Event A) × Refuses w e r)
+-- the line of the event of this place could not be read
+abbrev pub IsUnread : ℕ → Stop → Type 0
+IsUnread at (stop.Text f) = IsOfReading f
+IsUnread at (stop.Event world.NoMemory n line which) = n ≡ at
+IsUnread at (stop.Event (world.Refused r) n line which) = ⊥
+
+-- a fault of the text ends a play before its first event
+abbrev pub stop_of : Fault → Stop
+stop_of (text.Unreadable why) = stop.Text (text.Unreadable why)
+stop_of (text.Line number rule) = stop.Text (text.Line number rule)
+stop_of text.NoMemory = stop.Event world.NoMemory 0 0 None
 
 -- the first event lines of a schedule say these events
 abbrev pub BeginsWith : {A : Type 0} → List ℕ → List (Event A) → Type 0
 BeginsWith text es = (said later : List (List ℕ)) × (event_lines text ≡ said ++ later) × SayAll said es
 
+-- and the next event line says this event
+abbrev pub NextSays : {A : Type 0} → List ℕ → List (Event A) → Event A → Type 0
+NextSays text es e =
+    (said later : List (List ℕ)) × (line : List ℕ) × (event_lines text ≡ said ++ line ∷ later) × SayAll said es
+    × Says line e
+
+-- Why a play stopped in a world, after these events: the event of the next event line is refused so, or a line could not
+-- be read, or memory ran out.
+abbrev pub StopsIn : (A : Type 0) → Option (List ℕ) → List (Event A) → WorldState → Stop → Type 0
+StopsIn A known es w (stop.Text f) = IsOfReading f
+StopsIn A known es w (stop.Event world.NoMemory at line which) = at ≡ w.events
+StopsIn A known es w (stop.Event (world.Refused r) at line which) =
+    (at ≡ w.events) × ((e : Event A) × Refuses w e r × IfSome known (λ text. NextSays text es e))
+
+-- a line that was read
+abbrev pub line_of : {X E : Type 0} → (X → List ℕ) → Result X E → Option (List ℕ)
+line_of bytes (Ok x) = Some (bytes x)
+line_of bytes (Err error) = None
+
+-- the same of one line: its event is refused so, or it could not be read, or memory ran out
+abbrev pub StopsLine : Type 0 → Option (List ℕ) → WorldState → Stop → Type 0
+StopsLine A line w (stop.Text f) = IsOfReading f
+StopsLine A line w (stop.Event world.NoMemory at number which) = at ≡ w.events
+StopsLine A None w (stop.Event (world.Refused r) at number which) = ⊥
+StopsLine A (Some line) w (stop.Event (world.Refused r) at number which) =
+    (at ≡ w.events) × (is_event_line line ≡ true) × ((e : Event A) × Refuses w e r × Says line e)
+
 -- The events are what the event lines say, if the schedule's text is known: what all of them say, or the first ones if
 -- the play stopped.
 abbrev pub IsWhole : (A : Type 0) {setup : Setup A} → Option (List ℕ) → Result (Unit {0}) Stop → Played setup → Type 0
 IsWhole A known (Ok u) p = IfSome known (λ text. SayAll (event_lines text) p.events)
-IsWhole A known (Err s) p = StopsIn A p.world s × IfSome known (λ text. BeginsWith text p.events)
+IsWhole A known (Err s) p = StopsIn A known p.events p.world s × IfSome known (λ text. BeginsWith text p.events)

@@ -1,10 +1,10 @@
 //! The play of a schedule's events: each is read, played and printed before the next.
-ghost use Rattle.std.specs.Prelude.{◌≡◌, true, IfErr, IfOk, MatchResult, OnOk};
+ghost use Rattle.std.specs.Prelude.{◌≡◌, true, IfErr, IfOk, MatchResult, OnOk, vec_items};
 ghost use Rattle.at_play.specs.Ends.{Obeys};
 ghost use Rattle.at_print.specs.Printers.{Prints};
 ghost use Rattle.at_schedule.specs.Says.{Reads};
 ghost use Rattle.at_schedule.specs.Schedules.{is_event_line};
-ghost use Rattle.at_play.specs.Told.{IsStopped, IsUnread, IsWhole, Played, StopsIn, Tells, TellsLine};
+ghost use Rattle.at_play.specs.Told.{IsStopped, IsUnread, IsWhole, Played, StopsLine, Tells, TellsLine, line_of};
 ghost use Rattle.at_setup.specs.Setups.{is_lawful};
 
 use crate::stop::Stop;
@@ -69,7 +69,8 @@ fn play_line<A: Allocator + Copy, W: Write>(
         (λ bytes. TellsLine A W.contents (is_event_line bytes.items) bytes.items
         world.old world.new printer.old printer.new)
         (λ _. ⊥)) }
-    ensures stopped { IfErr result (λ stop. (printer.new ≡ printer.old) × StopsIn A world.old stop) }
+    ensures stopped { IfErr result
+        (λ stop. (printer.new ≡ printer.old) × StopsLine A (line_of vec_items line) world.old stop) }
 {
     match event_of(draft, line, world.played(), number) {
         Ok(Some(event)) => play_event(world, &event, number, printer),

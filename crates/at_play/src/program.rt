@@ -1,5 +1,5 @@
 //! The play of a schedule, from its text to what is printed.
-ghost use Rattle.std.specs.Prelude.{◌≡◌, ◌<◌, List, ℕ, length, IfSome, IsErr, IsOk};
+ghost use Rattle.std.specs.Prelude.{◌≡◌, ◌<◌, ◌↔◌, List, ℕ, length, IfSome, IsErr, IsOk};
 ghost use Rattle.at_play.specs.Ends.{Ended, FileText, PlayText, end_text};
 ghost use Rattle.at_print.specs.Printers.{HasFailed, Prints};
 
@@ -83,7 +83,7 @@ fn end<W: Write, E: Write>(
     printer: &mut Printer<W>,
     diagnostics: &mut Diagnostics<'_, E>,
 ) -> Status
-    ensures done { result ≡ Status.Done → IsOk played × (¬ HasFailed printer.new) }
+    ensures done { (result ≡ Status.Done) ↔ (IsOk played × ¬ HasFailed printer.new) }
     ensures printed { Prints W.contents printer.old printer.new (end_text played) }
 {
     let status = finish(played, printer, diagnostics);
@@ -96,7 +96,7 @@ fn finish<W: Write, E: Write>(
     printer: &mut Printer<W>,
     diagnostics: &mut Diagnostics<'_, E>,
 ) -> Status
-    ensures done { result ≡ Status.Done → IsOk played × (¬ HasFailed printer.new) }
+    ensures done { (result ≡ Status.Done) ↔ (IsOk played × ¬ HasFailed printer.new) }
     ensures printed { Prints W.contents printer.old printer.new (end_text played) }
 {
     match played {

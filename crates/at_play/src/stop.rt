@@ -1,8 +1,12 @@
 //! Why a play ends before its last event, and the line that says so.
-ghost use Rattle.std.specs.Prelude.{◌≡◌};
+ghost use Rattle.std.specs.Prelude.{◌≡◌, None};
 ghost use Rattle.at_play.specs.Ends.{stop_line, text_fault_line};
 ghost use Rattle.at_print.specs.Printers.{Prints};
-ghost use Rattle.at_play.specs.Told.{IsUnread};
+ghost use Rattle.at_faults.specs.Reads.{IsOfRead};
+ghost use Rattle.at_faults.specs.declared.fault.Fault.{Fault as Why};
+ghost use Rattle.at_play.specs.Told.{IsUnread, stop_of};
+ghost use Rattle.at_play.specs.declared.stop.Stop.TheVariants as stop;
+ghost use Rattle.at_world.specs.declared.refusal.Fault.TheVariants as world;
 
 use at_faults::Fault;
 use at_print::Printer;
@@ -27,7 +31,8 @@ pub enum Stop {
 impl Stop {
     /// There is no memory to read the event of this place, in this line.
     pub(crate) fn no_memory(at: u32, line: usize) -> Stop
-        ensures { IsUnread at result }
+        ensures unread { IsUnread at result }
+        ensures none { result ≡ stop.Event world.NoMemory at line None }
     {
         Stop::Event {
             fault: at_world::Fault::NoMemory,
@@ -39,7 +44,7 @@ impl Stop {
 }
 
 impl From<Fault> for Stop {
-    ghost from_gives = { λ _ stop. IsUnread 0 stop };
+    ghost from_gives = { λ fault stop. stop ≡ stop_of fault };
 
     fn from(fault: Fault) -> Stop {
         match fault {
@@ -50,7 +55,7 @@ impl From<Fault> for Stop {
 }
 
 impl From<io::Error> for Stop {
-    ghost from_gives = { λ _ stop. IsUnread 0 stop };
+    ghost from_gives = { λ _ stop. (fault : Why) × IsOfRead fault × (stop ≡ stop_of fault) };
 
     fn from(error: io::Error) -> Stop {
         Stop::from(Fault::from(error))

@@ -1,7 +1,9 @@
 -- The lines that are left to read.
 use Rattle.std.proofs.Common.{◌≡◌, ℕ, ◌-◌, ◌<◌, ◌==◌, ◌&&◌, nat_lt, Bool, true, false, if◌then◌else◌, List, [], ◌∷◌}
 use Rattle.std.proofs.Common.{◌++◌, length, take, get_or, Some, None, Ok, Err, Result, IfOk, IfSome, rules, refl, sym}
-use Rattle.std.proofs.Common.{ap, subst, ◌∙◌, append-nil, append_assoc, arith}
+use Rattle.std.proofs.Common.{ap, inl, inr, subst, ◌∙◌, append-nil, append_assoc, arith}
+use Rattle.std.proofs.Common.{◌+◌, ◌^◌, min}
+use Rattle.std.proofs.lemmas.List.{length-append}
 use Rattle.std.specs.Prelude.{Option}
 use Rattle.std.specs.Io.BufRead.{DropsThrough, drop_through, first_piece, take_through, strip_last}
 use Rattle.std.specs.Io.KnownBytes.{IsAtEnd}
@@ -17,6 +19,7 @@ use Rattle.at_setup_lines.specs.Drafts.{Draft, IsDraft, IsNoSetup}
 use Rattle.at_setup_lines.specs.SetupLines.{IsSetup}
 use Rattle.at_setup.specs.declared.setup.Setup.{Setup}
 use Rattle.at_schedule.specs.Drafts.{BeginSchedule, HoldsSetup, IsLineFault, IsRead, IsSchedule}
+use Rattle.at_schedule.specs.Drafts.{number_after}
 use Rattle.at_schedule.specs.Schedules.{add_first, lines_in, setup_words}
 
 chosen : (b : Bool) (c : ℕ) (xs ys : List ℕ) → (if b then c ∷ xs else c ∷ ys) ≡ c ∷ (if b then xs else ys)
@@ -95,6 +98,11 @@ next_left bytes line x byte first known new read was is left piece =
     let piece' = rw is at here in
     left_more first known new read (bytes x) left piece'.0 piece'.1
 
+-- one line more has the next number
+pub numbered_more : (read : List (List ℕ)) (line : List ℕ) (number : ℕ) → number ≡ number_after read
+    → min (number + 1) (2 ^ 64 - 1) ≡ number_after (read ++ line ∷ [])
+numbered_more read line number is = omega (arith, is, length-append read (line ∷ []))
+
 -- ---- what there is of a text that was read to its end
 
 pub all_held : (A : Type 0) (first now : Option (List ℕ)) (read : List (List ℕ)) (d : Draft) (s : Setup A)
@@ -107,20 +115,31 @@ all_held A (Some all) (Some rest) read d s left end (draft, (es, said), order, l
     (es, subst (λ l. IsSchedule l s es) (sym whole) (setup (setup_words read) draft, said, order))
 
 pub none_held : (A : Type 0) (first now : Option (List ℕ)) (read : List (List ℕ)) (d : Draft) (number : ℕ)
-    (rule : Rule) → Left first now read → IsAtEnd now → IsRead A read d → IsNoSetup A d
+    (rule : Rule) → number ≡ number_after read → Left first now read → IsAtEnd now → IsRead A read d → IsNoSetup A d
     → IsLineFault A first (fault.Line number rule)
-none_held A None now read d number rule left end so_far never = tt
-none_held A (Some all) None read d number rule left end so_far never = absurd left
-none_held A (Some all) (Some rest) read d number rule left end so_far never = λ s es (setup, said, order).
+none_held A None now read d number rule is left end so_far never = tt
+none_held A (Some all) None read d number rule is left end so_far never = absurd left
+none_held A (Some all) (Some rest) read d number rule is left end so_far never =
     let whole : lines_in all ≡ read = left ∙ ap (λ l. read ++ lines_in l) end ∙ append-nil read in
-    never (setup_words read) so_far.0 s (subst (λ l. IsSetup (setup_words l) s) whole setup)
+    inr (record {
+      numbered = is ∙ ap number_after (sym whole);
+      never = λ s es (setup, said, order).
+          never (setup_words read) so_far.0 s (subst (λ l. IsSetup (setup_words l) s) whole setup);
+    })
 
-none_begins : (A : Type 0) (first now : Option (List ℕ)) (read : List (List ℕ)) (number : ℕ) (rule : Rule)
-    → Left first now read → ¬ BeginSchedule A read → IsLineFault A first (fault.Line number rule)
-none_begins A None now read number rule left never = tt
-none_begins A (Some all) None read number rule left never = absurd left
-none_begins A (Some all) (Some rest) read number rule left never =
-    λ s es h. never (lines_in rest, s, es, subst (λ l. IsSchedule l s es) left h)
+none_begins : (A : Type 0) (first now : Option (List ℕ)) (read : List (List ℕ)) (line : List ℕ) (number : ℕ)
+    (rule : Rule) → number ≡ number_after read → Left first now (read ++ line ∷ [])
+    → ¬ BeginSchedule A (read ++ line ∷ []) → IsLineFault A first (fault.Line number rule)
+none_begins A None now read line number rule is left never = tt
+none_begins A (Some all) None read line number rule is left never = absurd left
+none_begins A (Some all) (Some rest) read line number rule is left never = inl (record {
+  before = read;
+  line = line;
+  after = lines_in rest;
+  parts = left ∙ append_assoc read (line ∷ []) (lines_in rest);
+  numbered = is;
+  never = never;
+})
 
 no_memory : (A : Type 0) (first : Option (List ℕ)) → IsLineFault A first fault.NoMemory
 no_memory A None = tt
@@ -136,12 +155,12 @@ abbrev pub IfBroken : LineFault → Type 0 → Type 0
 IfBroken (Unlawful rule) P = P
 IfBroken NoMemory P = Unit {0}
 
-pub line_refused : (A : Type 0) (first now : Option (List ℕ)) (read : List (List ℕ)) (why : LineFault) (number : ℕ)
-    (told : Fault) → Left first now read → IfBroken why (¬ BeginSchedule A read) → IsToldAs why number told
-    → IsLineFault A first told
-line_refused A first now read (Unlawful rule) number told left never (r, is) =
-    subst (IsLineFault A first) (sym is) (none_begins A first now read number r left never)
-line_refused A first now read NoMemory number told left never is =
+pub line_refused : (A : Type 0) (first now : Option (List ℕ)) (read : List (List ℕ)) (line : List ℕ) (why : LineFault)
+    (number : ℕ) (told : Fault) → number ≡ number_after read → Left first now (read ++ line ∷ [])
+    → IfBroken why (¬ BeginSchedule A (read ++ line ∷ [])) → IsToldAs why number told → IsLineFault A first told
+line_refused A first now read line (Unlawful rule) number told numbered left never (r, is) =
+    subst (IsLineFault A first) (sym is) (none_begins A first now read line number r numbered left never)
+line_refused A first now read line NoMemory number told numbered left never is =
     subst (IsLineFault A first) (sym is) (no_memory A first)
 
 -- a read's fault is no line's

@@ -1,5 +1,5 @@
 -- Which schedule lines are, and what was read of some of them.
-use Rattle.std.specs.Prelude.{◌≡◌, ◌<◌, ℕ, true, false, List, [], ◌++◌, length, filter, Option, Some, None}
+use Rattle.std.specs.Prelude.{◌≡◌, ◌⊎◌, ◌+◌, ◌-◌, ◌^◌, ◌<◌, min, ◌∷◌, ℕ, true, false, List, [], ◌++◌, length, filter, Option, Some, None}
 use Rattle.at_faults.specs.declared.fault.Fault.{Fault}
 use Rattle.at_faults.specs.declared.fault.Fault.TheVariants as fault
 use Rattle.at_faults.specs.declared.fault.Unreadable.TheVariants.{Changed, Failed, System, TooLong}
@@ -32,7 +32,26 @@ abbrev pub HoldsSetup : {A : Type 0} → Option (List ℕ) → Setup A → Type 
 HoldsSetup None s = Unit {0}
 HoldsSetup {A} (Some text) s = (es : List (Event A)) × IsSchedule (lines_in text) s es
 
--- A line is only at fault if the text is no schedule. Neither its length nor a second reading is.
+-- the number of the line after these, counted from 1 and up to the largest of 64 bits
+abbrev pub number_after : List (List ℕ) → ℕ
+number_after lines = min (length lines + 1) (2 ^ 64 - 1)
+
+-- no schedule begins with the lines up to the one of this number
+pub record IsAtFault (A : Type 0) (lines : List (List ℕ)) (number : ℕ) : Type 0 where
+  pub before : List (List ℕ)
+  pub line : List ℕ
+  pub after : List (List ℕ)
+  pub parts : lines ≡ before ++ line ∷ after
+  pub numbered : number ≡ number_after before
+  pub never : ¬ BeginSchedule A (before ++ line ∷ [])
+
+-- the lines are no schedule, and this is the number of the line after the last
+pub record IsCutShort (A : Type 0) (lines : List (List ℕ)) (number : ℕ) : Type 0 where
+  pub numbered : number ≡ number_after lines
+  pub never : (s : Setup A) (es : List (Event A)) → ¬ IsSchedule lines s es
+
+-- A line is at fault if no schedule begins with the lines up to it, and the one after the last is if all lines are no
+-- schedule. Neither the length of a text nor a second reading is a fault of its lines.
 abbrev pub IsLineFault : Type 0 → Option (List ℕ) → Fault → Type 0
 IsLineFault A known (fault.Unreadable TooLong) = ⊥
 IsLineFault A known (fault.Unreadable Changed) = ⊥
@@ -40,5 +59,5 @@ IsLineFault A known (fault.Unreadable (System code)) = Unit {0}
 IsLineFault A known (fault.Unreadable Failed) = Unit {0}
 IsLineFault A None (fault.Line number rule) = Unit {0}
 IsLineFault A (Some text) (fault.Line number rule) =
-    (s : Setup A) (es : List (Event A)) → ¬ IsSchedule (lines_in text) s es
+    IsAtFault A (lines_in text) number ⊎ IsCutShort A (lines_in text) number
 IsLineFault A known fault.NoMemory = Unit {0}

@@ -3,13 +3,14 @@ use Rattle.std.proofs.Common.{◌≡◌, ℕ, ◌+◌, ◌<◌, List, [], ◌∷
 use Rattle.std.proofs.Common.{subst, ◌∙◌, get_or}
 use Rattle.std.proofs.lemmas.List.{take_more}
 use Rattle.std.proofs.lemmas.Option.{slice_get-get_or}
-use Rattle.std.specs.Prelude.{slice_get, IsSome}
+use Rattle.std.specs.Prelude.{false, slice_get}
 use Rattle.at_event.specs.declared.event.Report.{Report}
 use Rattle.at_setup.specs.declared.event.Event.{Event}
+use Rattle.at_setup.specs.declared.event.Event.TheVariants as event
 use Rattle.at_world.specs.declared.refusal.Fault.{Fault}
 use Rattle.at_world.specs.declared.refusal.Fault.TheVariants.{Refused, NoMemory}
 use Rattle.at_world.specs.Worlds.{WorldState, IsPlayable, Plays, IsFault}
-use Rattle.at_world.specs.Plays.{Follows, StopsAt, IsRefused}
+use Rattle.at_world.specs.Plays.{Follows, StopsAt, IsNextPlayable, IsRefused}
 
 one_more : (A : Type 0) (w : WorldState) (es : List (Event A)) (rs : List (Report A)) (mid : WorldState) (e : Event A)
     (r : Report A) (w' : WorldState) → Follows w es rs mid → IsPlayable mid e → Plays mid e r w'
@@ -30,11 +31,20 @@ follows_more A w es i e rs mid r w' within is h fine plays =
 
 -- if the world's step did not play an event, the play stops there
 pub stops : (A : Type 0) (w : WorldState) (es : List (Event A)) (i : ℕ) (e : Event A) (f : Fault) (w' : WorldState)
-    → i < length es → e ≡ get_or es i e → IsFault w e f w' → StopsAt w (slice_get es i) f i × (w'.sent ≡ w.sent)
-stops A w es i e (Refused r) w' within is h = (
+    → w.failed ≡ false → i < length es → e ≡ get_or es i e → IsFault w e f w' → StopsAt w (slice_get es i) f i × (w'.sent ≡ w.sent)
+stops A w es i e (Refused r) w' whole within is h = (
   subst (λ o. IsRefused w o r) (sym (slice_get-get_or es i e within ∙ ap (λ x. Some x) (sym is))) h.0,
   ap
       (λ (x : WorldState). x.sent) h.1,
 )
-stops A w es i e NoMemory w' within is h =
-    (inl (subst (λ (o : Option (Event A)). IsSome o) (sym (slice_get-get_or es i e within)) refl), h.1)
+stops A w es i e NoMemory w' whole within is h =
+    let next = slice_get-get_or es i e within ∙ ap (λ x. Some x) (sym is) in
+    (inl (subst (λ o. IsNextPlayable w o) (sym next) (h.2 whole)), h.1)
+
+-- a world that played an event has not failed
+pub plays_whole : (A : Type 0) (w : WorldState) (e : Event A) (r : Report A) (w' : WorldState) → Plays w e r w'
+    → w'.failed ≡ false
+plays_whole A w (event.Call k call) r w' h = ap (λ (x : WorldState). x.failed) (h.0).booked
+plays_whole A w (event.Deliver which k) r w' h = ap (λ (x : WorldState). x.failed) (h.plays).booked
+plays_whole A w (event.Timer k timer) r w' h = ap (λ (x : WorldState). x.failed) h.booked
+plays_whole A w (event.Forge k bytes) r w' h = ap (λ (x : WorldState). x.failed) h.booked

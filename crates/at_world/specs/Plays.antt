@@ -1,6 +1,6 @@
 -- A whole play: each event by the world's step, with one report for each event.
 use Rattle.std.specs.Prelude.{◌≡◌, ℕ, max, false, if◌then◌else◌, List, [], ◌∷◌, map, take, find, slice_get, option_map}
-use Rattle.std.specs.Prelude.{IsSome, ◌⊎◌, Option, Some, None, Result, Ok, Err}
+use Rattle.std.specs.Prelude.{◌⊎◌, Option, Some, None, Result, Ok, Err}
 use Rattle.at_adsp_end.specs.declared.rooms.Rooms.{Rooms}
 use Rattle.at_name_socket.specs.declared.neighbour.Neighbour.{Neighbour}
 use Rattle.at_event.specs.declared.event.Report.{Report}
@@ -56,9 +56,14 @@ abbrev pub IsRefused : {A : Type 0} → WorldState → Option (Event A) → Refu
 IsRefused w None r = ⊥
 IsRefused w (Some e) r = Refuses w e r
 
--- or memory ran out, at an event that there is or before the first
+-- nothing refuses the next event
+abbrev pub IsNextPlayable : {A : Type 0} → WorldState → Option (Event A) → Type 0
+IsNextPlayable w None = ⊥
+IsNextPlayable w (Some e) = IsPlayable w e
+
+-- or memory ran out, at an event that nothing refuses or before the first
 abbrev pub StopsAt : {A : Type 0} → WorldState → Option (Event A) → Fault → ℕ → Type 0
-StopsAt w e fault.NoMemory at = IsSome e ⊎ (at ≡ 0)
+StopsAt w e fault.NoMemory at = IsNextPlayable w e ⊎ (at ≡ 0)
 StopsAt w e (fault.Refused r) at = IsRefused w e r
 
 -- these events were played, with this transcript

@@ -45,15 +45,14 @@ fn play_all<A: Allocator + Copy>(
     ensures safe { IsSafePlay setup.now events.now result }
     ensures within { IfErr result (λ f. f.at ≤ length events.now) }
 {
-    let mut reports = Vec::new(alloc);
-    let mut world = match World::open(alloc, setup) {
-        Ok(world) => world,
-        Err(_) => return Err(unopened(alloc, reports)),
+    // Room for all reports comes first, so that no event lacks it.
+    let Ok(mut reports) = Vec::with_capacity(alloc, events.len()) else {
+        return Err(unopened(alloc));
+    };
+    let Ok(mut world) = World::open(alloc, setup) else {
+        return Err(unopened(alloc));
     };
     for (at, event) in events.iter().enumerate() {
-        let Ok(()) = reports.reserve(1) else {
-            return Err(stopped(Fault::NoMemory, at, reports, world));
-        };
         match world.step(event) {
             Err(fault) => return Err(stopped(fault, at, reports, world)),
             Ok(report) => reports.push(report).unwrap(),
@@ -62,18 +61,18 @@ fn play_all<A: Allocator + Copy>(
     Ok(transcript(reports, world))
 }
 
-// The result if there is no memory to open a world.
-fn unopened<A: Allocator + Copy>(alloc: A, reports: Vec<Report<A>, A>) -> PlayFault<A>
+// The result if there is no memory to open a world, or for its reports.
+fn unopened<A: Allocator + Copy>(alloc: A) -> PlayFault<A>
     ensures fault { result.fault ≡ Fault.NoMemory }
     ensures at { result.at ≡ 0 }
-    ensures reports { result.transcript.reports ≡ reports.items }
+    ensures reports { result.transcript.reports ≡ [] }
     ensures sent { result.transcript.sent ≡ [] }
 {
     PlayFault {
         fault: Fault::NoMemory,
         at: 0,
         transcript: Transcript {
-            reports: Listed::from_vec(reports),
+            reports: Listed::from_vec(Vec::new(alloc)),
             sent: SentList::new(alloc),
         },
     }

@@ -7,8 +7,8 @@ use Rattle.at_faults.proofs.input.check_length.Goals.{in-Ok-2, in-Err}
 pub loop-init : goal.loop-init
 loop-init g c = ([], refl, Consumes-nil (g.R.Read.remaining c.args.reader.now))
 
-pub returns-in-Ok-eq0 : goal.returns-in-Ok-eq0
-returns-in-Ok-eq0 g c =
+pub returns-in-Ok-eq0-clause-fits : goal.returns-in-Ok-eq0-clause-fits
+returns-in-Ok-eq0-clause-fits g c =
     let read = rw c.in-Ok-eq0.is at c.read.ensures.bytes in
     let room : 0 < length c.read.new.buf = omega (arith, c.read.auto.buf) in
     few_read _ _ _ c.read.new.buf c.loop.left c.in-Ok-eq0.field-0 c.loop.invariant read.0 c.in-Ok-eq0.field-0-test

@@ -1,8 +1,9 @@
-use Rattle.std.proofs.Common.{refl, ◌∙◌}
+use Rattle.std.proofs.Common.{[], refl, ◌∙◌}
 use Rattle.std.proofs.lemmas.Result.{err_from_is_err_and}
 use Rattle.std.specs.Vec.{vec_items}
 use Rattle.at_play.proofs.LineLemmas.{none_said, reads_all, reads_none, reads_so_far}
-use Rattle.at_play.proofs.ToldLemmas.{line_played, sofar_opened, sofar_stopped, stops_unread, opened}
+use Rattle.at_play.proofs.ToldLemmas.{line_played, sofar_opened, sofar_stopped, stops_line}
+use Rattle.at_play.proofs.ToldLemmas.{stops_unread, opened, unread_of}
 use Rattle.at_play.proofs.PrintedLemmas.{Prints-nothing}
 use Rattle.at_world.specs.Plays.{opening_world}
 use Rattle.at_play.proofs.playing.play_all.Goals as goal
@@ -13,7 +14,8 @@ returns-in_default g c = record {
     opened g.row.A.Denot c.args.setup.now,
     Prints-nothing g.W.Write.contents c.args.printer.now,
     (
-      stops_unread g.row.A.Denot (opening_world c.args.setup.now) 0 c.no_memory.result refl c.no_memory.ensures,
+      stops_unread g.row.A.Denot (g.R.Read.remaining c.args.reader.now) [] (opening_world c.args.setup.now) 0
+          c.no_memory.result refl c.no_memory.ensures.unread,
       none_said g.row.A.Denot (g.R.Read.remaining c.args.reader.now),
     ),
   );
@@ -28,7 +30,8 @@ returns-in_err-line-items g c =
           c.from_residual.result p.0 p.1 refl
           (sofar_opened g.row.A.Denot g.W.Write.contents c.args.setup.now
           (opening_world c.args.setup.now) c.args.printer.now refl)
-          (stops_unread g.row.A.Denot (opening_world c.args.setup.now) 0 p.0 refl p.2)
+          (stops_unread g.row.A.Denot (g.R.Read.remaining c.args.reader.now) [] (opening_world c.args.setup.now) 0 p.0
+          refl (unread_of p.2.0 p.0 p.2.1 p.2.2))
           (none_said g.row.A.Denot (g.R.Read.remaining c.args.reader.now));
     }
 
@@ -71,6 +74,8 @@ returns-in_err-play_line g c =
           (g.R.Read.remaining c.args.reader.now) c.loop-line.world c.args.printer.now c.loop-line.printer
           c.play_line.new.printer
           c.from_residual-in_err-play_line.result p.0 p.1 stopped.0 c.loop-line.invariant.0
-          (rw p.2 stopped.1) (reads_so_far g.row.A.Denot (g.R.Read.remaining c.args.reader.now) _
+          (stops_line c.first_line.ensures g.row.A.Denot vec_items c.in-Some.line
+          (g.R.Read.remaining c.args.reader.now) _ _ _ ((c.loop-line.invariant.0).0).events c.loop-line.world p.0
+          c.loop-line.invariant.2 c.loop-line.invariant.1 c.in-Some.ensures.steps.2 (rw p.2 stopped.1)) (reads_so_far g.row.A.Denot (g.R.Read.remaining c.args.reader.now) _
           ((c.loop-line.invariant.0).0).events c.loop-line.invariant.1);
     }

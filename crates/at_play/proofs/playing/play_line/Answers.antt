@@ -12,8 +12,10 @@ returns-in-Ok-Some-clause-told g c =
 
 pub returns-in-Ok-Some-clause-stopped : goal.returns-in-Ok-Some-clause-stopped
 returns-in-Ok-Some-clause-stopped g c =
+    let has = rw c.in-Ok-Some.field-0-is at c.in-Ok-Some.ensures.read in
     stops_event g.row.A.Denot g.W.Write.contents c.args.world.now c.in-Ok-Some.event c.play_event.new.world
-    c.args.printer.now c.play_event.new.printer c.play_event.result c.play_event.ensures.stopped
+    c.args.printer.now c.play_event.new.printer vec_items c.args.line
+    c.play_event.result has c.play_event.ensures.stopped
 
 pub returns-in-Ok-None-clause-told : goal.returns-in-Ok-None-clause-told
 returns-in-Ok-None-clause-told g c =

@@ -1,11 +1,46 @@
 use Rattle.std.proofs.Common.{inl, inr, refl, [], rules}
 use Rattle.at_play.specs.Ends.{Rewound}
+use Rattle.std.proofs.lemmas.Result.{err_from_is_err_and}
 use Rattle.at_play.proofs.PrintedLemmas.{Prints-nothing}
+use Rattle.at_play.proofs.ToldLemmas.{bytes_of_read, not_read}
 use Rattle.at_play.proofs.program.play_again.Goals as goal
+
+pub returns-in_err-check_length-clause-told : goal.returns-in_err-check_length-clause-told
+returns-in_err-check_length-clause-told g c =
+    let p = err_from_is_err_and c.from_residual.result c.from_residual.ensures.1 in (
+      [],
+      inl (not_read _ c.from_residual.result _ p.0 p.1 p.2 c.in_err-check_length.ensures.fault),
+      Prints-nothing g.W.Write.contents c.args.printer.now,
+    )
+
+pub returns-in_err-rewind-clause-told : goal.returns-in_err-rewind-clause-told
+returns-in_err-rewind-clause-told g c =
+    let p = err_from_is_err_and c.from_residual-in_err-rewind.result c.from_residual-in_err-rewind.ensures.1 in (
+      [],
+      inl (not_read _ c.from_residual-in_err-rewind.result p.2.0 p.0 p.1 p.2.2 (bytes_of_read p.2.0 p.2.1)),
+      Prints-nothing g.W.Write.contents c.args.printer.now,
+    )
 
 pub returns-in_err-rewind-2-clause-told : goal.returns-in_err-rewind-2-clause-told
 returns-in_err-rewind-2-clause-told g c =
-    ([], inl (c.from_residual-in_err-rewind-2.ensures.0, refl), Prints-nothing g.W.Write.contents c.args.printer.now)
+    let p = err_from_is_err_and c.from_residual-in_err-rewind-2.result c.from_residual-in_err-rewind-2.ensures.1 in (
+      [],
+      inl (not_read _ c.from_residual-in_err-rewind-2.result p.2.0 p.0 p.1 p.2.2 (bytes_of_read p.2.0 p.2.1)),
+      Prints-nothing g.W.Write.contents c.args.printer.now,
+    )
+
+pub returns-in_err-setup-clause-told : goal.returns-in_err-setup-clause-told
+returns-in_err-setup-clause-told g c =
+    let p = err_from_is_err_and c.from_residual-in_err-setup.result c.from_residual-in_err-setup.ensures.1 in
+    let first : Rewound g.F.Seek.stream_position g.F.Seek.stream_bytes =
+    record {
+      before = c.check_length.new.reader;
+      file = c.rewind.new.self;
+      moved = c.in_ok-rewind.ensures.moves;
+      kept = c.rewind.ensures.bytes;
+    } in
+    let none = not_read _ c.from_residual-in_err-setup.result _ p.0 p.1 p.2 (inr c.in_err-setup.ensures.fault) in
+    ([], inr (first, inl none), Prints-nothing g.W.Write.contents c.args.printer.now)
 
 pub returns-clause-told : goal.returns-clause-told
 returns-clause-told g c =
@@ -25,7 +60,7 @@ returns-clause-told g c =
       moved = c.in_ok-rewind.ensures.moves;
       kept = c.rewind.ensures.bytes;
     } in
-    (told.0.text, inr (first, again, inr (setup, c.in_ok-setup.ensures.said, told.0, told.1, refl, told.3)), told.2)
+    (told.0.text, inr (first, inr (again, (setup, c.in_ok-setup.ensures.said, told.0, told.1, refl, told.3))), told.2)
 
 pub returns-clause-too_long : goal.returns-clause-too_long
 returns-clause-too_long g c = search rules

@@ -1,4 +1,5 @@
 use Rattle.at_play.proofs.PrintedLemmas.{Prints-trans}
+use Rattle.at_play.proofs.ToldLemmas.{too_long_fails}
 use Rattle.at_play.proofs.program.play_text.Goals as goal
 
 pub returns-clause-ended : goal.returns-clause-ended
@@ -8,7 +9,12 @@ returns-clause-ended g c =
       result = c.play_stream-played.result;
       text = told.0;
       plays = told.1;
-      done = λ done. (c.end.ensures.done done).0;
+      done = c.end.ensures.done;
       printed = Prints-trans g.W.Write.contents c.args.printer.now c.play_stream-played.new.printer c.end.new.printer
           told.0 _ told.2 c.end.ensures.printed;
     }
+
+pub returns-clause-too_long : goal.returns-clause-too_long
+returns-clause-too_long g c =
+    too_long_fails (g.R.Read.remaining c.args.reader.now) _ c.end.result c.play_stream-played.result _
+    c.play_stream-played.ensures.too_long c.end.ensures.done

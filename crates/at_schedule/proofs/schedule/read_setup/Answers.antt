@@ -1,19 +1,21 @@
 use Rattle.std.proofs.Common.{ℕ, List, [], ◌∷◌, ◌++◌, subst, ◌∙◌}
 use Rattle.std.specs.Prelude.{vec_items}
 use Rattle.at_schedule.specs.Drafts.{BeginSchedule, IsRead}
-use Rattle.at_schedule.proofs.LineLemmas.{all_held, broken_of, line_refused, next_left, none_held, told_of}
+use Rattle.at_schedule.proofs.LineLemmas.{all_held, broken_of, line_refused, next_left, none_held}
+use Rattle.at_schedule.proofs.LineLemmas.{numbered_more, told_of}
 use Rattle.at_schedule.proofs.schedule.read_setup.Goals as goal
 
 pub loop-line-preserved : goal.loop-line-preserved
 loop-line-preserved g c =
     let steps = c.in-Some.ensures.steps in
-    let ((read, so_far, left), byte) = c.loop-line.invariant in
+    let ((read, so_far, number, left), byte) = c.loop-line.invariant in
     let piece = c.in_ok-line.line.items in
     let taken = c.in-Ok.ensures.taken read so_far in (
       (
         read ++ piece ∷ [],
         subst (λ l. IsRead g.row.A.Denot (read ++ l ∷ []) c.take_line.new.self) c.deref.ensures.value
             taken,
+        c.saturating_add-number.ensures ∙ numbered_more read piece c.loop-line.number number,
         next_left vec_items c.in-Some.line c.in_ok-line.line _
             (g.R.Read.remaining c.args.reader.now) _ _ read c.in_ok-line.was byte left steps.2,
       ),
@@ -24,7 +26,7 @@ pub returns-in-Err-clause-fault : goal.returns-in-Err-clause-fault
 returns-in-Err-clause-fault g c =
     let A = g.row.A.Denot in
     let steps = c.in-Some.ensures.steps in
-    let ((read, so_far, left), byte) = c.loop-line.invariant in
+    let ((read, so_far, number, left), byte) = c.loop-line.invariant in
     let more = read ++ c.in_ok-line.line.items ∷ [] in
     let later = next_left vec_items c.in-Some.line c.in_ok-line.line _
     (g.R.Read.remaining c.args.reader.now) _ _ read c.in_ok-line.was byte left steps.2 in
@@ -32,17 +34,19 @@ returns-in-Err-clause-fault g c =
     → ¬ BeginSchedule A (lines ++ c.deref.result.now ∷ []))
     (¬ BeginSchedule A more) c.take_line.result c.in-Err.fault c.in-Err.is c.take_line.ensures.only
     (λ never. subst (λ l. ¬ BeginSchedule A (read ++ l ∷ [])) c.deref.ensures.value (never read so_far)) in
-    line_refused A (g.R.Read.remaining c.args.reader.now) _ more c.in-Err.fault _ c.fault_at.result later broken
+    line_refused A (g.R.Read.remaining c.args.reader.now) _ read c.in_ok-line.line.items c.in-Err.fault _
+    c.fault_at.result number later broken
     (told_of c.in-Err.fault _ c.fault_at.result c.fault_at.ensures.unlawful c.fault_at.ensures.memory)
 
 pub returns-in-Ok-finish-clause-said : goal.returns-in-Ok-finish-clause-said
 returns-in-Ok-finish-clause-said g c =
-    let ((read, so_far, left), byte) = c.loop-line.invariant in
+    let ((read, so_far, number, left), byte) = c.loop-line.invariant in
     all_held g.row.A.Denot (g.R.Read.remaining c.args.reader.now) _ read c.loop-line.draft c.in-Ok-finish.setup left
     c.in-None.ensures.steps.2 so_far c.in-Ok-finish.ensures.said
 
 pub returns-in-Err-finish-clause-fault : goal.returns-in-Err-finish-clause-fault
 returns-in-Err-finish-clause-fault g c =
-    let ((read, so_far, left), byte) = c.loop-line.invariant in
-    none_held g.row.A.Denot (g.R.Read.remaining c.args.reader.now) _ read c.loop-line.draft _ c.in-Err-finish.rule left
+    let ((read, so_far, number, left), byte) = c.loop-line.invariant in
+    none_held g.row.A.Denot (g.R.Read.remaining c.args.reader.now) _ read c.loop-line.draft _ c.in-Err-finish.rule number
+    left
     c.in-None.ensures.steps.2 so_far c.in-Err-finish.ensures.only
