@@ -61,6 +61,16 @@ filter_by : (b : Bool) (line : List ℕ) (lines : List (List ℕ)) → is_event_
     ≡ (if b then line ∷ filter is_event_line lines else filter is_event_line lines)
 filter_by b line lines is = ap (λ v. if v then line ∷ filter is_event_line lines else filter is_event_line lines) is
 
+-- the event lines that are left, by their first line
+event_left : FirstLine → (b : Bool) (rest piece : List ℕ) → 0 < length rest → piece ≡ first_piece 10 rest
+    → is_event_line piece ≡ b → event_lines rest
+    ≡ (if b then piece ∷ filter is_event_line (lines_in (drop_through 10 rest))
+    else filter is_event_line (lines_in (drop_through 10 rest)))
+event_left law b rest piece some first is =
+    let later = lines_in (drop_through 10 rest) in
+    ap (filter is_event_line) (law rest some) ∙ ap (λ l. filter is_event_line (l ∷ later)) (sym first)
+    ∙ filter_by b piece later is
+
 -- one line more
 adds_by : (A : Type 0) (b : Bool) (line : List ℕ) (all rest : List ℕ) (lines : List (List ℕ))
     (es more : List (Event A)) → SaidSoFar (Some all) (Some rest) es
@@ -82,10 +92,7 @@ reads_more law A None known new es more piece h is drops added = tt
 reads_more law A (Some all) None new es more piece h is drops added = absurd h
 reads_more law A (Some all) (Some rest) new es more piece h is drops added =
     let lines = filter is_event_line (lines_in (drop_through 10 rest)) in
-    let left : event_lines rest ≡ (if is_event_line piece then piece ∷ lines else lines) =
-    ap (filter is_event_line) (law rest is.0)
-    ∙ ap (λ l. filter is_event_line (l ∷ lines_in (drop_through 10 rest))) (sym is.1)
-    ∙ filter_by (is_event_line piece) piece (lines_in (drop_through 10 rest)) refl in
+    let left = event_left law (is_event_line piece) rest piece is.0 is.1 refl in
     rw drops (adds_by A (is_event_line piece) piece all rest lines es more h left added)
 
 -- the next line of those that are left, if it is an event line, is the next event line
@@ -96,8 +103,6 @@ pub next_said : FirstLine
 next_said law A None known es piece e h is event says = tt
 next_said law A (Some all) None es piece e h is event says = absurd h
 next_said law A (Some all) (Some rest) es piece e (said, same, so_far) is event says =
-    let later = lines_in (drop_through 10 rest) in
-    let left : event_lines rest ≡ piece ∷ filter is_event_line later =
-    ap (filter is_event_line) (law rest is.0) ∙ ap (λ l. filter is_event_line (l ∷ later)) (sym is.1)
-    ∙ filter_by true piece later event in
-    (said, filter is_event_line later, piece, same ∙ ap (λ l. said ++ l) left, so_far, says)
+    let later = filter is_event_line (lines_in (drop_through 10 rest)) in
+    let left = event_left law true rest piece is.0 is.1 event in
+    (said, later, piece, same ∙ ap (λ l. said ++ l) left, so_far, says)

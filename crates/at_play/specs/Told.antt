@@ -72,7 +72,7 @@ IsUnread at (stop.Text f) = IsOfReading f
 IsUnread at (stop.Event world.NoMemory n line which) = n ≡ at
 IsUnread at (stop.Event (world.Refused r) n line which) = ⊥
 
--- a fault of the text ends a play before its first event
+-- the stop that a fault of the text is, before the first event
 abbrev pub stop_of : Fault → Stop
 stop_of (text.Unreadable why) = stop.Text (text.Unreadable why)
 stop_of (text.Line number rule) = stop.Text (text.Line number rule)
@@ -88,8 +88,8 @@ NextSays text es e =
     (said later : List (List ℕ)) × (line : List ℕ) × (event_lines text ≡ said ++ line ∷ later) × SayAll said es
     × Says line e
 
--- Why a play stopped in a world, after these events: the event of the next event line is refused so, or a line could not
--- be read, or memory ran out.
+-- Why a play stopped in a world, after these events: the event of the next event line is refused so, or a line could
+-- not be read, or memory ran out.
 abbrev pub StopsIn : (A : Type 0) → Option (List ℕ) → List (Event A) → WorldState → Stop → Type 0
 StopsIn A known es w (stop.Text f) = IsOfReading f
 StopsIn A known es w (stop.Event world.NoMemory at line which) = at ≡ w.events

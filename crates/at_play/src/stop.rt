@@ -32,7 +32,7 @@ impl Stop {
     /// There is no memory to read the event of this place, in this line.
     pub(crate) fn no_memory(at: u32, line: usize) -> Stop
         ensures unread { IsUnread at result }
-        ensures none { result ≡ stop.Event world.NoMemory at line None }
+        ensures stop { result ≡ stop.Event world.NoMemory at line None }
     {
         Stop::Event {
             fault: at_world::Fault::NoMemory,

@@ -1,5 +1,6 @@
 -- Which schedule lines are, and what was read of some of them.
-use Rattle.std.specs.Prelude.{◌≡◌, ◌⊎◌, ◌+◌, ◌-◌, ◌^◌, ◌<◌, min, ◌∷◌, ℕ, true, false, List, [], ◌++◌, length, filter, Option, Some, None}
+use Rattle.std.specs.Prelude.{◌≡◌, ◌⊎◌, ◌+◌, ◌-◌, ◌^◌, ◌<◌, min, ℕ, true, false, List, [], ◌∷◌, ◌++◌, length, filter}
+use Rattle.std.specs.Prelude.{Option, Some, None}
 use Rattle.at_faults.specs.declared.fault.Fault.{Fault}
 use Rattle.at_faults.specs.declared.fault.Fault.TheVariants as fault
 use Rattle.at_faults.specs.declared.fault.Unreadable.TheVariants.{Changed, Failed, System, TooLong}
