@@ -1,5 +1,5 @@
 -- Finished datagrams in the order of sending, and the room for more.
-use Rattle.std.specs.Prelude.{ℕ, ◌*◌, ◌≤◌, List}
+use Rattle.std.specs.Prelude.{ℕ, ◌≤◌, List}
 
 -- a finished datagram, and the node that it goes to
 pub record Posted : Type 0 where
@@ -15,7 +15,7 @@ pub record Datagrams : Type 0 where
   pub items : List Posted
   pub room : Room
 
--- the next n datagrams of at most size bytes each need no memory
-pub record HasRoom (room : Room) (n size : ℕ) : Type 0 where
+-- the next n datagrams, with so many bytes in all, need no memory
+pub record HasRoom (room : Room) (n total : ℕ) : Type 0 where
   pub places : n ≤ room.places
-  pub bytes : n * size ≤ room.bytes
+  pub bytes : total ≤ room.bytes

@@ -1,5 +1,5 @@
 -- What a layer sends: a destination, and bytes of data.
-use Rattle.std.specs.Prelude.{◌≡◌, ℕ, ◌+◌, List, ◌++◌, map}
+use Rattle.std.specs.Prelude.{◌≡◌, ℕ, ◌+◌, ◌*◌, List, [], ◌∷◌, ◌++◌, length, map}
 use Rattle.at_ddp.specs.Datagram.{canonical}
 use Rattle.at_ddp.specs.Datagrams.{Posted, Room, HasRoom}
 use Rattle.at_ddp.specs.declared.address.Address.{Address}
@@ -21,6 +21,19 @@ pub record Sends (old new : Outbox) (pushes : List (Address × List ℕ)) : Type
   pub from : new.from ≡ old.from
   pub kind : new.kind ≡ old.kind
 
+-- the next n pushes, with so many bytes of data in all, need no memory: each has a header of 13 bytes too
+abbrev pub HasRoomForData : Outbox → ℕ → ℕ → Type 0
+HasRoomForData box n data_ = HasRoom box.room n (n * 13 + data_)
+
 -- the next n pushes of at most size bytes each need no memory
 abbrev pub HasRoomFor : Outbox → ℕ → ℕ → Type 0
-HasRoomFor box n size = HasRoom box.room n (13 + size)
+HasRoomFor box n size = HasRoom box.room n (n * (13 + size))
+
+-- how many bytes of data these pushes have in all
+abbrev pub bytes_in : List (Address × List ℕ) → ℕ
+bytes_in [] = 0
+bytes_in (push ∷ rest) = length push.1 + bytes_in rest
+
+-- these next pushes need no memory
+abbrev pub HasRoomToSend : Outbox → List (Address × List ℕ) → Type 0
+HasRoomToSend box pushes = HasRoomForData box (length pushes) (bytes_in pushes)

@@ -80,17 +80,15 @@ impl<A: Allocator> Datagrams<A> {
         &self.bytes[start..end]
     }
 
-    /// Makes room for `places` datagrams of at most `size` bytes each. The error is out of memory.
-    pub fn reserve(&mut self, places: u32, size: usize) -> Result<(), AllocError>
-        requires { size ≤ 599 }
+    /// Makes room for `places` datagrams, with so many bytes in all. The error is out of memory.
+    pub fn reserve(&mut self, places: u32, bytes: usize) -> Result<(), AllocError>
         ensures items { self.new.items ≡ self.old.items }
-        ensures ok { OnOk result (HasRoom self.new.room places size) }
+        ensures ok { OnOk result (HasRoom self.new.room places bytes) }
         ensures kept { (n len : ℕ) → HasRoom self.old.room n len → HasRoom self.new.room n len }
-        ensures succeeds { HasRoom self.old.room places size → IsOk result }
+        ensures succeeds { HasRoom self.old.room places bytes → IsOk result }
     {
-        let places = places as usize;
-        self.marks.reserve(places)?;
-        self.bytes.reserve(places * size)
+        self.marks.reserve(places as usize)?;
+        self.bytes.reserve(bytes)
     }
 
     /// Appends a datagram in two parts.
@@ -100,7 +98,7 @@ impl<A: Allocator> Datagrams<A> {
             (self.new.items ≡ self.old.items ++ record { node = node; bytes = front.now ++ back.now } ∷ []) }
         ensures err { OnErr result (self.new.items ≡ self.old.items) }
         ensures kept { OnErr result ((n len : ℕ) → HasRoom self.old.room n len → HasRoom self.new.room n len) }
-        ensures room { (n len : ℕ) → HasRoom self.old.room (n + 1) len → length front.now + length back.now ≤ len
+        ensures room { (n len : ℕ) → HasRoom self.old.room (n + 1) (length front.now + length back.now + len)
             → IsOk result × HasRoom self.new.room n len }
     {
         self.reserve(1, front.len() + back.len())?;

@@ -1,6 +1,7 @@
 //! A node's list of datagrams, while one of its sockets appends to it.
-ghost use Rattle.std.specs.Prelude.{◌≡◌, ℕ, ◌+◌, ◌≤◌, ◌∷◌, [], ◌++◌, length, OnOk, OnErr, IsOk};
-ghost use Rattle.at_ddp.specs.Outbox.{Sends, HasRoomFor};
+ghost use Rattle.std.specs.Prelude.{◌≡◌, ℕ, ◌+◌, ◌≤◌, List, ◌∷◌, [], ◌++◌, length, OnOk, OnErr, IsOk};
+ghost use Rattle.at_ddp.specs.Outbox.{Sends, HasRoomFor, HasRoomForData, HasRoomToSend};
+ghost use Rattle.at_ddp.specs.declared.address.Address.{Address as Destination};
 
 use crate::address::Address;
 use crate::datagram::{HEADER_LEN, header_of};
@@ -50,8 +51,12 @@ impl<A: Allocator> Outbox<A> {
         ensures ok { OnOk result (Sends self.old self.new ((to, bytes.now) ∷ [])) }
         ensures err { OnErr result (Sends self.old self.new []) }
         ensures kept { OnErr result ((n size : ℕ) → HasRoomFor self.old n size → HasRoomFor self.new n size) }
+        ensures kept_data { OnErr result ((n data_ : ℕ) → HasRoomForData self.old n data_
+            → HasRoomForData self.new n data_) }
         ensures room { (n size : ℕ) → HasRoomFor self.old (n + 1) size → length bytes.now ≤ size → IsOk result
             × HasRoomFor self.new n size }
+        ensures rest { (rest : List (Destination × List ℕ)) → HasRoomToSend self.old ((to, bytes.now) ∷ rest)
+            → IsOk result × HasRoomToSend self.new rest }
     {
         let header = header_of(to, self.from, self.kind, bytes);
         self.list.push(to.node, &header, bytes)
@@ -65,7 +70,19 @@ impl<A: Allocator> Outbox<A> {
         ensures kept { (n len : ℕ) → HasRoomFor self.old n len → HasRoomFor self.new n len }
         ensures succeeds { HasRoomFor self.old pushes size → IsOk result }
     {
-        self.list.reserve(pushes, HEADER_LEN + size)
+        let total = pushes as usize * (HEADER_LEN + size);
+        self.list.reserve(pushes, total)
+    }
+
+    /// Makes room for `pushes` pushes with `data_` bytes of data in all, which then cannot run out of memory.
+    pub fn room_for_data(&mut self, pushes: u32, data_: u32) -> Result<(), AllocError>
+        ensures ok { OnOk result (HasRoomForData self.new pushes data_) }
+        ensures stays { Sends self.old self.new [] }
+        ensures kept { (n len : ℕ) → HasRoomForData self.old n len → HasRoomForData self.new n len }
+        ensures succeeds { HasRoomForData self.old pushes data_ → IsOk result }
+    {
+        let bytes = pushes as usize * HEADER_LEN + data_ as usize;
+        self.list.reserve(pushes, bytes)
     }
 
     /// Gives back the list, with the pushed datagrams at its end.
