@@ -1,6 +1,6 @@
 -- What is spelled has no fault, and what is written is spelled and fits a datagram.
 use Rattle.std.proofs.Common.{lit<, lit≤, ◌≡◌, inl, inr, ℕ, zero, suc, ◌+◌, ◌-◌, ◌*◌, ◌/◌, ◌%◌, ◌^◌, ◌<◌, ◌≤◌, Bool}
-use Rattle.std.proofs.Common.{List, [], ◌∷◌, ◌++◌, length, get_or, take, drop, append_assoc, refl}
+use Rattle.std.proofs.Common.{List, [], ◌∷◌, ◌++◌, length, get_or, take, drop, refl}
 use Rattle.std.proofs.Common.{sym, ap, subst, ◌∙◌, arith}
 use Rattle.std.specs.Prelude.{bit_and}
 use Rattle.std.specs.Int.{to_be_bytes, w16, w32}
@@ -15,9 +15,9 @@ use Rattle.at_ddp.proofs.BitLemmas.{bit-lt}
 use Rattle.at_ddp.specs.Bits.{bit}
 use Rattle.at_adsp_frame.specs.Fault.{IsFirstFault, IsPartFault, IsControlFault, IsOpening, IsOpeningFault}
 use Rattle.at_adsp_frame.specs.Fault.{StandsBehindHeader}
-use Rattle.at_adsp_frame.specs.Openings.{SpellsOpening, code_of, opening}
+use Rattle.at_adsp_frame.specs.Openings.{SpellsOpening, code_of, opening, read_dest}
 use Rattle.at_adsp_frame.specs.Segments.{Content, Part, Data, Probe, Open, Close, Reset, ResetAck, Advice, IsLawful}
-use Rattle.at_adsp_frame.specs.Segments.{IsLawfulPart, Names, Spells, SpellsPart, bits_of, fields_of, header, spelled}
+use Rattle.at_adsp_frame.specs.Segments.{IsLawfulPart, Names, Spells, SpellsPart, bits_of, fields_of, spelled}
 use Rattle.at_adsp_frame.specs.declared.fault.AdspFault.{AdspFault}
 use Rattle.at_adsp_frame.specs.declared.fault.AdspFault.TheVariants.{ShortAdsp, BadControl, BadVersion, Attention}
 use Rattle.at_adsp_frame.specs.declared.fault.AdspFault.TheVariants.{AdspTooLong, NoMemory}
@@ -135,16 +135,16 @@ part_written (Data end bytes) ok = inl
     (record { end = end; free = 0; in_four_bits = lit< tt; fields = omega arith; says = refl; fits = ok.1 })
 part_written Probe ok = control_written [] 0 Probe refl
 part_written (Open kind dest) ok =
-    control_written (opening dest 0) (code_of kind) (Open kind dest) (
+    control_written (opening (read_dest kind dest) 0) (code_of kind) (Open kind dest) (
       refl,
       record {
-        field = dest;
-        field_fits = ok.0;
-        says = ok.1;
+        field = read_dest kind dest;
+        field_fits = subst (λ n. n < 2 ^ 16) ok.1 ok.0;
+        says = ok.1 ∙ ap (read_dest kind) ok.1;
         attention = 0;
         attention_fits = lit< tt;
         more = [];
-        fields = sym (append-nil (opening dest 0));
+        fields = sym (append-nil (opening (read_dest kind dest) 0));
       },
     )
 part_written Close ok = control_written [] 5 Close refl
@@ -164,7 +164,7 @@ opening_bytes dest =
 fields_bytes : (p : Part) → IsLawfulPart p → AreBytes (fields_of p) × (length (fields_of p) ≤ 572)
 fields_bytes (Data end bytes) ok = ok
 fields_bytes Probe ok = (All-nil (λ n. n < 256), lit≤ tt)
-fields_bytes (Open kind dest) ok = (opening_bytes dest, lit≤ tt)
+fields_bytes (Open kind dest) ok = (opening_bytes (read_dest kind dest), lit≤ tt)
 fields_bytes Close ok = (All-nil (λ n. n < 256), lit≤ tt)
 fields_bytes Reset ok = (All-nil (λ n. n < 256), lit≤ tt)
 fields_bytes ResetAck ok = (All-nil (λ n. n < 256), lit≤ tt)
@@ -218,15 +218,6 @@ written_fits s ok =
 pub spelled_length : (s : Content) → length (spelled s) ≡ 13 + length (fields_of s.body)
 unfolding spelled
 spelled_length s = omega arith
-
--- a header and its fields were appended
-pub spelled_behind : (before mid after front : List ℕ) (s : Content) → front
-    ≡ header s (64 * bit s.ack + bits_of s.body) → mid ≡ before ++ front → after ≡ mid ++ fields_of s.body → after
-    ≡ before ++ spelled s
-unfolding spelled
-spelled_behind before mid after front s head more all =
-    all ∙ ap (λ l. l ++ fields_of s.body) (more ∙ ap (λ l. before ++ l) head)
-    ∙ append_assoc before (header s (64 * bit s.ack + bits_of s.body)) (fields_of s.body)
 
 -- ---- bits that are set
 

@@ -1,5 +1,5 @@
 -- ADSP segments and their spellings (Inside AppleTalk, ADSP, "Packet format").
-use Rattle.std.specs.Prelude.{◌≡◌, ℕ, ◌+◌, ◌*◌, ◌^◌, ◌<◌, ◌≤◌, Bool, if◌then◌else◌, List, [], ◌∷◌, ◌++◌, length, ◌⊎◌}
+use Rattle.std.specs.Prelude.{◌≡◌, ℕ, ◌+◌, ◌*◌, ◌^◌, ◌<◌, ◌≤◌, Bool, List, [], ◌∷◌, ◌++◌, length, ◌⊎◌}
 use Rattle.std.specs.Int.{to_be_bytes, w16, w32}
 use Rattle.at_ddp.specs.Datagram.{AreBytes}
 use Rattle.at_ddp.specs.Bits.{bit}
@@ -111,11 +111,6 @@ pub record Spells (input : List ℕ) (s : Content) : Type 0 where
   pub fields : input ≡ header s (64 * bit s.ack + bits) ++ rest
   pub says : SpellsPart bits rest s.body
 
--- a part can be written, apart from the length of its data: an opening has a destination that is read as written
-abbrev pub CanBeWritten : Part → Type 0
-CanBeWritten (Open kind dest) = dest ≡ read_dest kind dest
-CanBeWritten _ = Unit {0}
-
 -- the data, and the destination of an opening, are in range
 abbrev pub IsLawfulPart : Part → Type 0
 IsLawfulPart (Data end bytes) = AreBytes bytes × (length bytes ≤ 572)
@@ -137,10 +132,10 @@ bits_of Reset = 128 + 6
 bits_of ResetAck = 128 + 7
 bits_of Advice = 128 + 8
 
--- what follows the canonical header
+-- what follows the canonical header; the destination of a request is written as 0
 abbrev pub fields_of : Part → List ℕ
 fields_of (Data end bytes) = bytes
-fields_of (Open kind dest) = opening dest 0
+fields_of (Open kind dest) = opening (read_dest kind dest) 0
 fields_of _ = []
 
 -- the canonical spelling, with 0 in the free bits

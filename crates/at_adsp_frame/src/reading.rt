@@ -104,7 +104,7 @@ fn opening_in(kind: OpenKind, fields: &[u8]) -> Result<Body<'_>, AdspFault>
 }
 
 // The destination that this field says.
-fn read_dest(kind: OpenKind, field: u16) -> u16
+pub(crate) fn read_dest(kind: OpenKind, field: u16) -> u16
     ensures { result ≡ read_dest kind field }
 {
     if matches!(kind, OpenKind::Request) {

@@ -1,22 +1,23 @@
-//! The writing of a segment, with 0 in the free bits.
+//! The writing of a segment, with 0 in the free bits. It is spelled in an array first.
 ghost use Rattle.std.specs.Prelude.{◌≡◌, ◌≢◌, ◌+◌, ◌*◌, ◌<◌, ◌≤◌, ◌++◌, ◌↔◌, length};
 ghost use Rattle.std.specs.Prelude.{IfErr, OnOk, OnErr, IsErrOf, vec_len, vec_capacity};
+ghost use Rattle.arrayvec.specs.ArrayVec.{array_vec_len};
 ghost use Rattle.at_ddp.specs.Bits.{bit};
 ghost use Rattle.at_adsp_frame.specs.Openings.{opening};
-ghost use Rattle.at_adsp_frame.specs.Segments.{CanBeWritten, bits_of, content, data_of, fields_of, header};
-ghost use Rattle.at_adsp_frame.specs.Segments.{part, spelled};
+ghost use Rattle.at_adsp_frame.specs.Segments.{bits_of, content, data_of, fields_of, header, part, spelled};
 
 use crate::fault::AdspFault;
+use crate::reading::read_dest;
 use crate::segment::{
     ACK, ADVICE, Body, CLOSE, CONTROL, EOM, HEADER_LEN, MAX_DATA, OPENING_LEN, PROBE, RESET,
-    RESET_ACK, Segment, VERSION,
+    RESET_ACK, SEGMENT_LEN, Segment, VERSION,
 };
+use arrayvec::ArrayVec;
 use std::alloc::Allocator;
 
 /// Appends a segment in the canonical spelling, with 0 in the free bits. A request to open a connection is to no
 /// connection identifier.
 pub fn encode<A: Allocator>(segment: &Segment<'_>, out: &mut Vec<u8, A>) -> Result<(), AdspFault>
-    requires { CanBeWritten (part segment.now.body) }
     ensures ok { OnOk result (out.new.items ≡ out.old.items ++ spelled (content segment.now)) }
     ensures err { OnErr result (out.new.items ≡ out.old.items) }
     ensures too_long { IsErrOf result AdspFault.AdspTooLong ↔ (572 < length (data_of (part segment.now.body))) }
@@ -29,9 +30,9 @@ pub fn encode<A: Allocator>(segment: &Segment<'_>, out: &mut Vec<u8, A>) -> Resu
     if data_in(&segment.body).len() > MAX_DATA {
         return Err(AdspFault::AdspTooLong);
     }
-    out.reserve(HEADER_LEN + fields_len(&segment.body))?;
-    out.extend_from_slice(&header_of(segment)).unwrap();
-    push_fields(out, &segment.body);
+    let bytes = spelling(segment);
+    out.reserve(bytes.len())?;
+    out.extend_from_slice(bytes.as_slice()).unwrap();
     Ok(())
 }
 
@@ -44,30 +45,35 @@ fn data_in<'a>(body: &Body<'a>) -> &'a [u8]
     }
 }
 
-// How many bytes follow the header.
-fn fields_len(body: &Body<'_>) -> usize
-    ensures { result ≡ length (fields_of (part body.now)) }
+// The canonical spelling of a segment.
+pub(crate) fn spelling(segment: &Segment<'_>) -> ArrayVec<u8, SEGMENT_LEN>
+    requires { length (data_of (part segment.now.body)) ≤ 572 }
+    ensures { result.items ≡ spelled (content segment.now) }
 {
-    match body {
-        Body::Data { data_, .. } => data_.len(),
-        Body::Open { .. } => OPENING_LEN,
-        _ => 0,
-    }
+    let mut bytes = ArrayVec::new();
+    bytes.try_extend_from_slice(&header_of(segment)).unwrap();
+    append_fields(&mut bytes, &segment.body);
+    bytes
 }
 
-fn push_fields<A: Allocator>(out: &mut Vec<u8, A>, body: &Body<'_>)
-    requires { vec_len out.old + length (fields_of (part body.now)) ≤ vec_capacity out.old }
-    ensures { out.new.items ≡ out.old.items ++ fields_of (part body.now) }
+// Appends what follows the header.
+fn append_fields(bytes: &mut ArrayVec<u8, SEGMENT_LEN>, body: &Body<'_>)
+    requires room { array_vec_len bytes.old ≡ 13 }
+    requires fits { length (data_of (part body.now)) ≤ 572 }
+    ensures { bytes.new.items ≡ bytes.old.items ++ fields_of (part body.now) }
 {
     match body {
-        Body::Data { data_, .. } => out.extend_from_slice(data_).unwrap(),
-        Body::Open { dest, .. } => out.extend_from_slice(&opening_to(*dest)).unwrap(),
+        Body::Data { data_, .. } => bytes.try_extend_from_slice(data_).unwrap(),
+        Body::Open { kind, dest } => {
+            let fields = opening_to(read_dest(*kind, *dest));
+            bytes.try_extend_from_slice(&fields).unwrap();
+        }
         _ => {}
     }
 }
 
 // The fields of an opening to this destination.
-pub(crate) fn opening_to(dest: u16) -> [u8; OPENING_LEN]
+fn opening_to(dest: u16) -> [u8; OPENING_LEN]
     ensures { result ≡ opening dest 0 }
 {
     let [version, minor] = VERSION.to_be_bytes();
@@ -75,7 +81,7 @@ pub(crate) fn opening_to(dest: u16) -> [u8; OPENING_LEN]
     [version, minor, high, low, 0, 0, 0, 0]
 }
 
-pub(crate) fn header_of(segment: &Segment<'_>) -> [u8; HEADER_LEN]
+fn header_of(segment: &Segment<'_>) -> [u8; HEADER_LEN]
     ensures { result ≡ header (content segment.now) (64 * bit segment.now.ack + bits_of (part segment.now.body)) }
 {
     let [s0, s1] = segment.source.to_be_bytes();

@@ -1,6 +1,6 @@
 use Rattle.std.proofs.Common.{rules}
 use Rattle.at_adsp_frame.specs.Segments.{spelled}
-use Rattle.at_adsp_frame.proofs.sending.spelling.Goals as goal
+use Rattle.at_adsp_frame.proofs.writing.spelling.Goals as goal
 
 pub returns : goal.returns
 unfolding spelled
