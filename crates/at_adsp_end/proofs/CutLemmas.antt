@@ -1,13 +1,17 @@
 -- How items are cut, one at a time.
-use Rattle.std.proofs.Common.{◌≡◌, ℕ, zero, suc, ◌+◌, ◌-◌, ◌%◌, ◌^◌, ◌≤◌, ◌<◌, Bool, true, false, cond, List, [], ◌∷◌}
+use Rattle.std.proofs.Common.{◌≡◌, ℕ, zero, suc, ◌+◌, ◌-◌, ◌*◌, ◌%◌, ◌^◌, ◌≤◌, ◌<◌, Bool, true, false, cond, List, []}
+use Rattle.std.proofs.Common.{◌∷◌}
 use Rattle.std.proofs.Common.{◌++◌, length, take, drop, Some, refl, sym, ap, subst, ◌∙◌, arith}
 use Rattle.std.specs.Prelude.{◌==◌, slice_get}
 use Rattle.std.proofs.lemmas.List.{length-append, length-take}
 use Rattle.std.proofs.lemmas.Bool.Decides.{nat_tests}
-use Rattle.at_ddp.specs.Outbox.{Outbox, HasRoomFor}
-use Rattle.at_adsp_frame.specs.Segments.{Data}
-use Rattle.at_adsp_end.specs.Cuts.{Piece, pieces, last_piece, open_piece, items_in, items_of, numbered}
+use Rattle.at_ddp.specs.Outbox.{Outbox}
+use Rattle.at_ddp.proofs.OutboxLemmas.{sends_nothing}
+use Rattle.at_adsp_frame.specs.Segments.{Content, Data}
+use Rattle.at_adsp_end.specs.Cuts.{Piece, bytes_of, cut_now, pieces, last_piece, open_piece, items_in}
+use Rattle.at_adsp_end.specs.Cuts.{items_of, numbered}
 use Rattle.at_adsp_end.specs.Ends.{EndState, Sender, SendsTo, packet}
+use Rattle.at_adsp_end.specs.Loads.{LeavesRoom}
 use Rattle.at_adsp_end.specs.Outgoings.{Counted, Cuts, queued, stretch}
 use Rattle.at_adsp_end.specs.Positions.{wire}
 use Rattle.at_adsp_end.specs.declared.item.Item.{Item}
@@ -78,21 +82,27 @@ next_of q i e x before is =
     let n : e - i ≡ suc (e - suc i) = omega arith in
     rw (n, drop_some q i x is) refl
 
--- ---- room
-
-pub room_less : (box : Outbox) (n m : ℕ) → HasRoomFor box (n + m) 585 → HasRoomFor box n 585
-room_less box n m h = record { places = omega (arith, h.places); bytes = omega (arith, h.bytes) }
-
 -- ---- one item
+
+pub cut_split : (e : EndState) (p : ℕ) (got : List ℕ) (x : Item) (xs : List Item) → (later : List Content)
+    × (numbered wire e p (pieces got (x ∷ xs)) ≡ cut_now wire e p got x ++ later)
+cut_split e p got End xs = (numbered wire e (p + length (items_in true got)) (pieces [] xs), refl)
+cut_split e p got (Byte b) xs = go (length got == 572)
+  where
+    go : (c : Bool) → (later : List Content)
+        × (numbered wire e p (cond c (open_piece got ∷ pieces (b ∷ []) xs) (pieces (got ++ b ∷ []) xs))
+        ≡ cond c (packet e (wire.at p) true (Data false got) ∷ []) [] ++ later)
+    go true = (numbered wire e (p + length (items_in false got)) (pieces (b ∷ []) xs), refl)
+    go false = (numbered wire e p (pieces (got ++ b ∷ []) xs), refl)
 
 pub cut_end : (old new : Outbox) (by : EndState) (first : ℕ) (got : List ℕ) (after : ℕ) (left : List ℕ)
     → SendsTo old new by.asked (packet by (wire.at first) true (Data true got) ∷ []) →
     after ≡ wire.at (first + length (items_in true got)) → left ≡ []
-    → ((n : ℕ) → HasRoomFor old (1 + n) 585 → HasRoomFor new n 585) → Cuts old new by first got End after left
+    → LeavesRoom old new by.asked (packet by (wire.at first) true (Data true got) ∷ [])
+    → Cuts old new by first got End after left
 cut_end old new by first got after left sent is_after is_left room =
     let p = packet by (wire.at first) true (Data true got) in
     record {
-      now = p ∷ [];
       sent = sent;
       rest = λ xs. ap (λ l. p ∷ l)
           (sym (numbered_at by (first + length (items_in true got)) (pieces [] xs))
@@ -103,58 +113,91 @@ cut_end old new by first got after left sent is_after is_left room =
 pub cut_full : (old new : Outbox) (by : EndState) (first : ℕ) (got : List ℕ) (b after : ℕ) (left : List ℕ)
     → SendsTo old new by.asked (packet by (wire.at first) true (Data false got) ∷ []) →
     after ≡ wire.at (first + length (items_in false got)) → left ≡ b ∷ [] → length got ≡ 572
-    → ((n : ℕ) → HasRoomFor old (1 + n) 585 → HasRoomFor new n 585) → Cuts old new by first got (Byte b) after left
+    → LeavesRoom old new by.asked (packet by (wire.at first) true (Data false got) ∷ [])
+    → Cuts old new by first got (Byte b) after left
 cut_full old new by first got b after left sent is_after is_left full room =
     let p = packet by (wire.at first) true (Data false got) in
     let t : (length got == 572) ≡ true = ap (λ n. n == 572) full in
+    let now : p ∷ [] ≡ cut_now wire by first got (Byte b) = ap (λ c. cond c (p ∷ []) []) (sym t) in
     record {
-      now = p ∷ [];
-      sent = sent;
+      sent = subst (SendsTo old new by.asked) now sent;
       rest = λ xs. ap (λ c. numbered wire by first
           (cond c (open_piece got ∷ pieces (b ∷ []) xs) (pieces (got ++ b ∷ []) xs))) t
           ∙ ap (λ l. p ∷ l) (sym (numbered_at by (first + length (items_in false got)) (pieces (b ∷ []) xs))
-          ∙ (λ i. numbered wire by (sym is_after i) (pieces (sym is_left i) xs)));
-      room = room;
+          ∙ (λ i. numbered wire by (sym is_after i) (pieces (sym is_left i) xs)))
+          ∙ ap (λ l. l ++ numbered wire by after (pieces left xs)) now;
+      room = subst (LeavesRoom old new by.asked) now room;
+    }
+
+pub cut_more : (box : Outbox) (by : EndState) (first : ℕ) (got : List ℕ) (b after : ℕ) (left : List ℕ) → after ≡ first
+    → left ≡ got ++ b ∷ [] → (length got == 572) ≡ false → Cuts box box by first got (Byte b) after left
+cut_more box by first got b after left is_after is_left more =
+    let p = packet by (wire.at first) true (Data false got) in
+    let now : [] ≡ cut_now wire by first got (Byte b) = ap (λ c. cond c (p ∷ []) []) (sym more) in
+    record {
+      sent = subst (SendsTo box box by.asked) now (sends_nothing box);
+      rest = λ xs. ap (λ c. numbered wire by first
+          (cond c (open_piece got ∷ pieces (b ∷ []) xs) (pieces (got ++ b ∷ []) xs))) more
+          ∙ (λ i. numbered wire by (sym is_after i) (pieces (sym is_left i) xs))
+          ∙ ap (λ l. l ++ numbered wire by after (pieces left xs)) now;
+      room = subst (LeavesRoom box box by.asked) now (λ more h. h);
     }
 
 -- ---- counting
 
-pub count_begins : (all rest : List Item) → rest ≡ all → Counted 0 0 all rest
+pub count_begins : (all rest : List Item) → rest ≡ all → Counted 0 0 0 all rest
 count_begins all rest same =
     record {
       got = [];
       has = refl;
       whole = let e : length (pieces [] rest) ≡ length (pieces [] all) = ap (λ l. length (pieces [] l)) same in
           omega (arith, e);
+      carried = let e : bytes_of (pieces [] rest) ≡ bytes_of (pieces [] all) = ap (λ l. bytes_of (pieces [] l)) same in
+          omega (arith, e);
     }
 
-pub count_end : (n filled : ℕ) (all xs : List Item) → Counted n filled all (End ∷ xs) → Counted (n + 1) 0 all xs
-count_end n filled all xs c = record { got = []; has = refl; whole = let w = c.whole in omega (arith, w) }
+pub count_end : (n filled bytes : ℕ) (all xs : List Item) → Counted n filled bytes all (End ∷ xs)
+    → Counted (n + 1) 0 bytes all xs
+count_end n filled bytes all xs c = record {
+  got = [];
+  has = refl;
+  whole = let w = c.whole in omega (arith, w);
+  carried = let k = c.carried in omega (arith, k);
+}
 
-pub count_full : (n filled b : ℕ) (all xs : List Item) → filled ≡ 572 → Counted n filled all (Byte b ∷ xs)
-    → Counted (n + 1) 1 all xs
-count_full n filled b all xs full c =
+pub count_full : (n filled bytes b : ℕ) (all xs : List Item) → filled ≡ 572 → Counted n filled bytes all (Byte b ∷ xs)
+    → Counted (n + 1) 1 (bytes + 1) all xs
+count_full n filled bytes b all xs full c =
     let t : (length c.got == 572) ≡ true = ap (λ m. m == 572) (c.has ∙ full) in
     let w = ap (λ t'. n + length (cond t' (open_piece c.got ∷ pieces (b ∷ []) xs) (pieces (c.got ++ b ∷ []) xs)))
     (sym t) ∙ c.whole in
-    record { got = b ∷ []; has = refl; whole = omega (arith, w) }
+    let k = ap (λ t'. 13 * n + bytes
+    + bytes_of (cond t' (open_piece c.got ∷ pieces (b ∷ []) xs) (pieces (c.got ++ b ∷ []) xs))) (sym t) ∙ c.carried in
+    record { got = b ∷ []; has = refl; whole = omega (arith, w); carried = omega (arith, k) }
 
-pub count_more : (n filled b : ℕ) (all xs : List Item) → (filled == 572) ≡ false → Counted n filled all (Byte b ∷ xs)
-    → Counted n (filled + 1) all xs
-count_more n filled b all xs more c =
+pub count_more : (n filled bytes b : ℕ) (all xs : List Item) → (filled == 572) ≡ false
+    → Counted n filled bytes all (Byte b ∷ xs) → Counted n (filled + 1) (bytes + 1) all xs
+count_more n filled bytes b all xs more c =
     let t : (length c.got == 572) ≡ false = ap (λ m. m == 572) c.has ∙ more in
     let w = ap (λ t'. n + length (cond t' (open_piece c.got ∷ pieces (b ∷ []) xs) (pieces (c.got ++ b ∷ []) xs)))
     (sym t) ∙ c.whole in
+    let k = ap (λ t'. 13 * n + bytes
+    + bytes_of (cond t' (open_piece c.got ∷ pieces (b ∷ []) xs) (pieces (c.got ++ b ∷ []) xs))) (sym t) ∙ c.carried in
+    let e = length-append c.got (b ∷ []) in
     record {
       got = c.got ++ b ∷ [];
-      has = let e = length-append c.got (b ∷ []) in let h = c.has in omega (arith, e, h);
+      has = let h = c.has in omega (arith, e, h);
       whole = w;
+      carried = omega (arith, e, k);
     }
 
 -- with an item left, fewer pieces are counted than there are items
-pub count_few : (n filled : ℕ) (all : List Item) (x : Item) (xs : List Item) → Counted n filled all (x ∷ xs)
-    → n + 1 ≤ length all
-count_few n filled all x xs c = let few = pieces_few [] all in let some = pieces_some c.got x xs in let w = c.whole in
+pub count_few : (n filled bytes : ℕ) (all : List Item) (x : Item) (xs : List Item)
+    → Counted n filled bytes all (x ∷ xs) → n + 1 ≤ length all
+count_few n filled bytes all x xs c =
+    let few = pieces_few [] all in
+    let some = pieces_some c.got x xs in
+    let w = c.whole in
     omega (arith, few, some, w)
 
 -- ---- the queue of an end
@@ -178,9 +221,9 @@ bytes_count : (got : List ℕ) (m : ℕ) → (0 < length got → m ≡ 1) → (l
 bytes_count [] m some none = sym (none (omega arith))
 bytes_count (b ∷ got) m some none = sym (some (omega arith))
 
-pub count_ends : (n filled r : ℕ) (all left : List Item) → left ≡ [] → (0 < filled → r ≡ n + 1)
-    → (filled ≤ 0 → r ≡ n + 0) → Counted n filled all left → r ≡ length (pieces [] all)
-count_ends n filled r all left is some none c =
+pub count_ends : (n filled bytes r : ℕ) (all left : List Item) → left ≡ [] → (0 < filled → r ≡ n + 1)
+    → (filled ≤ 0 → r ≡ n + 0) → Counted n filled bytes all left → r ≡ length (pieces [] all)
+count_ends n filled bytes r all left is some none c =
     let h = c.has in
     let last = bytes_count c.got (r - n) (λ lt. let e = some (omega (arith, h, lt)) in omega (arith, e))
     (λ le. let e = none (omega (arith, h, le)) in omega (arith, e)) in
@@ -194,5 +237,21 @@ count_ends n filled r all left is some none c =
     go zero h last w some none = let e = none (omega arith) in omega (arith, e, last, w)
     go (suc f) h last w some none = let e = some (omega arith) in omega (arith, e, last, w)
 
-pub count_most : (n filled : ℕ) (all left : List Item) → Counted n filled all left → n ≤ length all
-count_most n filled all left c = let few = pieces_few [] all in let w = c.whole in omega (arith, few, w)
+-- the last piece has all its bytes, and a header if it is anything
+last_carried : (got : List ℕ) → bytes_of (last_piece got) ≡ 13 * length (last_piece got) + length got
+last_carried [] = refl
+last_carried (b ∷ got) = omega arith
+
+pub count_carries : (n filled bytes r : ℕ) (all left : List Item) → left ≡ [] → r ≡ length (pieces [] all)
+    → Counted n filled bytes all left → 13 * r + bytes ≡ bytes_of (pieces [] all)
+count_carries n filled bytes r all left is counted c =
+    let w : n + length (last_piece c.got) ≡ length (pieces [] all) =
+    subst (λ (l : List Item). n + length (pieces c.got l) ≡ length (pieces [] all)) is c.whole in
+    let k : 13 * n + bytes + bytes_of (last_piece c.got) ≡ bytes_of (pieces [] all) + length c.got =
+    subst (λ (l : List Item). 13 * n + bytes + bytes_of (pieces c.got l) ≡ bytes_of (pieces [] all) + length c.got) is
+    c.carried in
+    let last = last_carried c.got in
+    omega (arith, w, k, last, counted)
+
+pub count_most : (n filled bytes : ℕ) (all left : List Item) → Counted n filled bytes all left → n ≤ length all
+count_most n filled bytes all left c = let few = pieces_few [] all in let w = c.whole in omega (arith, few, w)

@@ -1,21 +1,27 @@
 -- What goes once a segment is heard.
-use Rattle.std.proofs.Common.{◌≡◌, ℕ, ◌+◌, ◌-◌, ◌%◌, ◌^◌, ◌≤◌, Bool, true, false, cond, List, [], ◌++◌, length, take}
+use Rattle.std.proofs.Common.{◌≡◌, ℕ, ◌+◌, ◌-◌, ◌%◌, ◌^◌, ◌≤◌, Bool, true, false, cond, List, [], ◌∷◌, ◌++◌, length}
+use Rattle.std.proofs.Common.{take}
 use Rattle.std.proofs.Common.{drop, Option, Some, None, refl, sym, ap, subst, ◌∙◌, arith}
 use Rattle.std.specs.Prelude.{unwrap_or}
 use Rattle.std.proofs.lemmas.Bool.{true≢false}
 use Rattle.std.proofs.Math.Seq.{drop-append_seam, take-append-add, take-append_seam}
 use Rattle.std.proofs.lemmas.List.{drop-append-le, length-append, length-drop, length-take}
-use Rattle.at_ddp.specs.Outbox.{Outbox, Sends, HasRoomFor}
+use Rattle.at_ddp.specs.Outbox.{Outbox, Sends}
 use Rattle.at_ddp.specs.declared.address.Address.{Address}
 use Rattle.at_ddp.proofs.OutboxLemmas.{sends_nothing}
-use Rattle.at_adsp_frame.specs.Segments.{Content}
-use Rattle.at_adsp_end.specs.Cuts.{pieces, numbered}
-use Rattle.at_adsp_end.specs.Ends.{EndState, Sender, SendsTo}
+use Rattle.at_adsp_frame.specs.Segments.{Content, Data, ResetAck}
+use Rattle.at_adsp_end.specs.Cuts.{Piece, items_of, pieces, numbered}
+use Rattle.at_adsp_end.specs.Ends.{Change, EndState, Sender, SendsTo, control, packet}
+use Rattle.at_adsp_end.specs.Hearing.{Forward, Jump, Older, Beyond, jumped, reset_came}
+use Rattle.at_adsp_end.specs.Loads.{IsLoad}
 use Rattle.at_adsp_end.specs.Outgoings.{IsWithin, credit_after, going_after, queued, stretch}
 use Rattle.at_adsp_end.specs.Positions.{wire}
 use Rattle.at_adsp_end.specs.Sending.{acknowledged, going, hearing, sending, repeated}
 use Rattle.at_adsp_end.specs.declared.item.Item.{Item}
-use Rattle.at_adsp_end.proofs.CutLemmas.{numbered_at, numbered_length}
+use Rattle.at_adsp_end.specs.declared.load.Load.{Load}
+use Rattle.at_adsp_end.specs.declared.phase.Phase.{Phase}
+use Rattle.at_adsp_end.specs.declared.remote.Remote.{Remote}
+use Rattle.at_adsp_end.proofs.CutLemmas.{numbered_at}
 use Rattle.at_adsp_end.proofs.QueueLemmas.{first_of, going_first}
 use Rattle.at_adsp_end.proofs.SentLemmas.{sends_to_both, sends_to_later}
 
@@ -50,14 +56,6 @@ after_stretch s window (Some k) = waiting_stretch s (length (going (acknowledged
 pub within_queue : (s : Sender) (n : ℕ) → n ≤ length s.waiting → length s.unacknowledged + n ≤ length (queued s)
 within_queue s n few = let e = length-append s.unacknowledged s.waiting in omega (arith, e, few)
 
-pub hearing_length : (e : EndState) (window : ℕ) (acks : Option ℕ) → length (hearing wire e window acks).sent
-    ≡ length (pieces [] (going_after e.sender window acks))
-hearing_length e window None = refl
-hearing_length e window (Some k) =
-    numbered_length (record e { sender = acknowledged wire k window e.sender; ticks = 0 })
-    ((e.sender.front + k) % 2 ^ 32 + length (drop k e.sender.unacknowledged))
-    (pieces [] (going (acknowledged wire k window e.sender)))
-
 -- ---- what was sent goes again
 
 pub sent_stretch : (s : Sender) → stretch s 0 (length s.unacknowledged) ≡ s.unacknowledged
@@ -76,41 +74,10 @@ heard_alone a b c to xs room note = heard_more a b c c to xs [] room note (sends
 
 -- ---- the numbers and the room of what goes
 
-pub sent_all : (old new : Outbox) (e : EndState) (first p : ℕ) (xs ys : List Item) → first ≡ p % 2 ^ 32 → xs ≡ ys
-    → SendsTo old new e.asked (numbered wire e first (pieces [] xs))
-    → SendsTo old new e.asked (numbered wire e p (pieces [] ys))
-sent_all old new e first p xs ys at same s =
-    subst (SendsTo old new e.asked)
-    ((λ i. numbered wire e (at i) (pieces [] (same i))) ∙ numbered_at e p (pieces [] ys)) s
-
-pub room_for_all : (box : Outbox) (e : EndState) (p n : ℕ) (xs ys : List Item) → xs ≡ ys
-    → HasRoomFor box (length (numbered wire e p (pieces [] ys)) + n) 585
-    → HasRoomFor box (length (pieces [] xs) + n) 585
-room_for_all box e p n xs ys same h =
-    subst (λ (m : ℕ). HasRoomFor box (m + n) 585)
-    (numbered_length e p (pieces [] ys) ∙ ap (λ l. length (pieces [] l)) (sym same)) h
-
-pub room_for_just : (box : Outbox) (e : EndState) (p : ℕ) (xs ys : List Item) → xs ≡ ys
-    → HasRoomFor box (length (numbered wire e p (pieces [] ys))) 585 → HasRoomFor box (length (pieces [] xs)) 585
-room_for_just box e p xs ys same h =
-    subst (λ (m : ℕ). HasRoomFor box m 585)
-    (numbered_length e p (pieces [] ys) ∙ ap (λ l. length (pieces [] l)) (sym same)) h
-
-pub sending_length : (e : EndState) → length (sending wire e).sent ≡ length (pieces [] (going e.sender))
-sending_length e = numbered_length e (e.sender.front + length e.sender.unacknowledged) (pieces [] (going e.sender))
-
-pub room_for_hearing : (e : EndState) (window : ℕ) (acks : Option ℕ) (more sent n : ℕ) → sent
-    ≡ length e.sender.unacknowledged → n ≡ length (going_after e.sender window acks) →
-    length (pieces [] (stretch e.sender sent n)) + more ≡ length (hearing wire e window acks).sent + more
-room_for_hearing e window acks more sent n at count =
-    ap (λ m. m + more) ((λ i. length (pieces [] (stretch e.sender (at i) (count i))))
-    ∙ ap (λ l. length (pieces [] l)) (after_stretch e.sender window acks) ∙ sym (hearing_length e window acks))
-
-pub sent_again : (old new : Outbox) (e : EndState) (first p : ℕ) (xs ys : List Item) → first ≡ p → xs ≡ ys
-    → SendsTo old new e.asked (numbered wire e first (pieces [] xs))
-    → SendsTo old new e.asked (numbered wire e p (pieces [] ys))
-sent_again old new e first p xs ys at same s =
-    subst (SendsTo old new e.asked) (λ i. numbered wire e (at i) (pieces [] (same i))) s
+pub numbers_same : (e : EndState) (first p : ℕ) (xs ys : List Item) → first ≡ p % 2 ^ 32 → xs ≡ ys
+    → numbered wire e first (pieces [] xs) ≡ numbered wire e p (pieces [] ys)
+numbers_same e first p xs ys at same =
+    (λ i. numbered wire e (at i) (pieces [] (same i))) ∙ numbered_at e p (pieces [] ys)
 
 -- ---- what is unacknowledged once a segment is heard
 
@@ -155,46 +122,89 @@ pub unreset_stretch : (s : Sender) (credit : ℕ) → stretch s (length s.unackn
     ≡ take credit s.waiting
 unreset_stretch s credit = waiting_stretch s (length (take credit s.waiting)) ∙ first_of credit s.waiting
 
--- ---- room
+-- ---- loads
 
-pub room_for_again : (e : EndState) (sent : ℕ) → sent ≡ length e.sender.unacknowledged
-    → length (pieces [] (stretch e.sender 0 sent)) ≡ length (repeated wire e)
-room_for_again e sent is =
-    (λ i. length (pieces [] (stretch e.sender 0 (is i)))) ∙ ap (λ l. length (pieces [] l)) (sent_stretch e.sender)
-    ∙ sym (numbered_length e e.sender.front (pieces [] e.sender.unacknowledged))
+-- so much are these items, cut into segments, at whichever end
+abbrev pub AreLoad : Load → Address → List Item → Type 0
+AreLoad load to xs = (e : EndState) (p : ℕ) → IsLoad load to (numbered wire e p (pieces [] xs))
 
-pub room_for_sending : (e : EndState) (sent n : ℕ) → sent ≡ length e.sender.unacknowledged → n
-    ≡ length (going e.sender) → length (pieces [] (stretch e.sender sent n)) ≡ length (sending wire e).sent
-room_for_sending e sent n is count =
-    (λ i. length (pieces [] (stretch e.sender (is i) (count i))))
-    ∙ ap (λ l. length (pieces [] l)) (going_stretch e.sender) ∙ sym (sending_length e)
+pub hearing_load : (load : Load) (to : Address) (e : EndState) (window : ℕ) (acks : Option ℕ) (sent n : ℕ) → sent
+    ≡ length e.sender.unacknowledged → n ≡ length (going_after e.sender window acks)
+    → AreLoad load to (stretch e.sender sent n) → IsLoad load to (hearing wire e window acks).sent
+hearing_load load to e window acks sent n at count are =
+    go acks (subst (AreLoad load to)
+    ((λ i. stretch e.sender (at i) (count i)) ∙ after_stretch e.sender window acks) are)
+  where
+    go : (acks : Option ℕ) → AreLoad load to (going_after e.sender window acks)
+        → IsLoad load to (hearing wire e window acks).sent
+    go None are = are e 0
+    go (Some k) are = are (record e { sender = acknowledged wire k window e.sender; ticks = 0 })
+        ((e.sender.front + k) % 2 ^ 32 + length (drop k e.sender.unacknowledged))
 
-pub room_moved : (box : Outbox) (e e' : EndState) (window : ℕ) (acks : Option ℕ) → e.sender ≡ e'.sender
-    → HasRoomFor box (length (hearing wire e window acks).sent) 585
-    → HasRoomFor box (length (hearing wire e' window acks).sent) 585
-room_moved box e e' window acks same h =
-    subst (λ (m : ℕ). HasRoomFor box m 585)
-    (hearing_length e window acks ∙ ap (λ s. length (pieces [] (going_after s window acks))) same
-    ∙ sym (hearing_length e' window acks)) h
+pub sending_load : (load : Load) (to : Address) (e : EndState) (sent n : ℕ) → sent ≡ length e.sender.unacknowledged
+    → n ≡ length (going e.sender) → AreLoad load to (stretch e.sender sent n) → IsLoad load to (sending wire e).sent
+sending_load load to e sent n at count are =
+    subst (AreLoad load to) ((λ i. stretch e.sender (at i) (count i)) ∙ going_stretch e.sender) are e
+    (e.sender.front + length e.sender.unacknowledged)
 
-pub room_for_advice : (e e' : EndState) (window : ℕ) (acks : Option ℕ) (k sent n segments : ℕ) → e'
+pub advice_load : (load : Load) (to : Address) (e e' : EndState) (window : ℕ) (acks : Option ℕ) (k sent n : ℕ) → e'
     ≡ (hearing wire e window acks).after → IsWithin e.sender acks → k ≡ unwrap_or acks 0 → sent
     ≡ length e.sender.unacknowledged →
-    n ≡ length (going_after e.sender window acks) → segments ≡ length (pieces [] (stretch e.sender k (sent - k + n)))
-    → segments ≡ length (repeated wire e')
-room_for_advice e e' window acks k sent n segments is within at all count counted =
-    counted ∙ ap (λ l. length (pieces [] l)) (sym (unacknowledged_after e window acks k sent n within at all count))
-    ∙ ap (λ (x : EndState). length (pieces [] x.sender.unacknowledged)) (sym is)
-    ∙ sym (numbered_length e' e'.sender.front (pieces [] e'.sender.unacknowledged))
+    n ≡ length (going_after e.sender window acks) → AreLoad load to (stretch e.sender k (sent - k + n))
+    → IsLoad load to (repeated wire e')
+advice_load load to e e' window acks k sent n is within at all count are =
+    subst (AreLoad load to)
+    (sym (unacknowledged_after e window acks k sent n within at all count)
+    ∙ ap (λ (x : EndState). x.sender.unacknowledged) (sym is)) are e' e'.sender.front
 
-pub room_for_unreset : (e e' e'' : EndState) (window : ℕ) (acks : Option ℕ) (sent n segments : ℕ) → e.sender.resetting
-    ≡ true → e' ≡ (hearing wire e window acks).after → e''
+pub unreset_load : (load : Load) (to : Address) (e e' e'' : EndState) (window : ℕ) (acks : Option ℕ) (sent n : ℕ)
+    → e.sender.resetting ≡ true → e' ≡ (hearing wire e window acks).after → e''
     ≡ record e' { sender = record e'.sender { resetting = false } } →
     sent ≡ length e.sender.unacknowledged → n ≡ length (take (credit_after e.sender window acks) e.sender.waiting)
-    → segments ≡ length (pieces [] (stretch e.sender sent n)) → segments ≡ length (sending wire e'').sent
-room_for_unreset e e' e'' window acks sent n segments is heard unset all count counted =
-    counted ∙ (λ i. length (pieces [] (stretch e.sender (all i) (count i))))
-    ∙ ap (λ l. length (pieces [] l))
-    (unreset_stretch e.sender (credit_after e.sender window acks) ∙ sym (going_unreset e window acks is))
-    ∙ ap (λ (x : EndState). length (pieces [] (going (record x.sender { resetting = false })))) (sym heard)
-    ∙ ap (λ (x : EndState). length (pieces [] (going x.sender))) (sym unset) ∙ sym (sending_length e'')
+    → AreLoad load to (stretch e.sender sent n) → IsLoad load to (sending wire e'').sent
+unreset_load load to e e' e'' window acks sent n is heard unset all count are =
+    subst (AreLoad load to)
+    ((λ i. stretch e.sender (all i) (count i))
+    ∙ unreset_stretch e.sender (credit_after e.sender window acks) ∙ sym (going_unreset e window acks is)
+    ∙ ap (λ (x : EndState). going (record x.sender { resetting = false })) (sym heard)
+    ∙ ap (λ (x : EndState). going x.sender) (sym unset)) are e''
+    (e''.sender.front + length e''.sender.unacknowledged)
+
+-- ---- an end that opens sends the same
+
+numbered_opened : (e : EndState) (remote : Option Remote) (phase : Phase) (p : ℕ) (ps : List Piece)
+    → numbered wire e p ps ≡ numbered wire (record e { remote = remote; phase = phase }) p ps
+numbered_opened e remote phase p [] = refl
+numbered_opened e remote phase p (x ∷ ps) =
+    ap (λ l. packet e (wire.at p) true (Data x.end x.bytes) ∷ l)
+    (numbered_opened e remote phase (p + length (items_of x)) ps)
+
+pub hearing_opened : (e : EndState) (remote : Option Remote) (phase : Phase) (window : ℕ) (acks : Option ℕ)
+    → (hearing wire e window acks).sent ≡ (hearing wire (record e { remote = remote; phase = phase }) window acks).sent
+hearing_opened e remote phase window None = refl
+hearing_opened e remote phase window (Some k) =
+    numbered_opened (record e { sender = acknowledged wire k window e.sender; ticks = 0 }) remote phase
+    ((e.sender.front + k) % 2 ^ 32 + length (drop k e.sender.unacknowledged))
+    (pieces [] (going (acknowledged wire k window e.sender)))
+
+-- ---- a forward reset, and where it is answered to
+
+abbrev pub reset_later : Change → Forward → EndState
+reset_later c (Jump d) = jumped wire c.after d
+reset_later c Older = c.after
+reset_later c Beyond = c.after
+
+pub reset_sent : (c : Change) (f : Forward) → (f ≡ Beyond → ⊥) → (reset_came wire c f).sent
+    ≡ c.sent ++ control wire (reset_later c f) false ResetAck ∷ []
+reset_sent c (Jump d) ahead = refl
+reset_sent c Older ahead = refl
+reset_sent c Beyond ahead = absurd (ahead refl)
+
+pub hearing_asked : (e : EndState) (window : ℕ) (acks : Option ℕ) → (hearing wire e window acks).after.asked ≡ e.asked
+hearing_asked e window None = refl
+hearing_asked e window (Some k) = refl
+
+pub reset_asked : (c : Change) (f : Forward) → (reset_came wire c f).after.asked ≡ c.after.asked
+reset_asked c (Jump d) = refl
+reset_asked c Older = refl
+reset_asked c Beyond = refl

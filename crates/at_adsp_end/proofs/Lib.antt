@@ -1,5 +1,6 @@
 mod ArrivalLemmas
 mod CutLemmas
 mod HearingLemmas
+mod LoadLemmas
 mod QueueLemmas
 mod SentLemmas

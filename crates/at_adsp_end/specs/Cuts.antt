@@ -41,3 +41,13 @@ abbrev pub numbered : Numbers → EndState → ℕ → List Piece → List Conte
 numbered N e first [] = []
 numbered N e first (p ∷ ps) =
     packet e (N.at first) true (Data p.end p.bytes) ∷ numbered N e (first + length (items_of p)) ps
+
+-- what goes as one more item is cut, behind the bytes so far: the segment that it ends, or for which it is too much
+abbrev pub cut_now : Numbers → EndState → ℕ → List ℕ → Item → List Content
+cut_now N e first got End = packet e (N.at first) true (Data true got) ∷ []
+cut_now N e first got (Byte b) = if length got == 572 then packet e (N.at first) true (Data false got) ∷ [] else []
+
+-- how many bytes these pieces have as segments, each with a header of 13
+abbrev pub bytes_of : List Piece → ℕ
+bytes_of [] = 0
+bytes_of (p ∷ ps) = 13 + length p.bytes + bytes_of ps

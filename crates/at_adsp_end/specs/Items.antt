@@ -1,5 +1,5 @@
 -- What a stream carries (Inside AppleTalk, ADSP, "Packet format").
-use Rattle.std.specs.Prelude.{ℕ, ◌<◌}
+use Rattle.std.specs.Prelude.{◌<◌}
 use Rattle.at_adsp_end.specs.declared.item.Item.{Item}
 use Rattle.at_adsp_end.specs.declared.item.Item.TheVariants.{Byte, End}
 

@@ -4,6 +4,7 @@ pub mod Ends
 pub mod Fault
 pub mod Hearing
 pub mod Items
+pub mod Loads
 pub mod Moves
 pub mod Outgoings
 pub mod Positions

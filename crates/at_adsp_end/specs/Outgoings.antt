@@ -1,9 +1,10 @@
 -- What an end sends, the room for it, and how it is cut.
-use Rattle.std.specs.Prelude.{◌≡◌, ℕ, ◌+◌, ◌≤◌, List, [], ◌∷◌, ◌++◌, length, take, drop, Option, Some, None, IfSome}
-use Rattle.at_ddp.specs.Outbox.{Outbox, HasRoomFor}
-use Rattle.at_adsp_frame.specs.Segments.{Content}
-use Rattle.at_adsp_end.specs.Cuts.{numbered, pieces}
+use Rattle.std.specs.Prelude.{◌≡◌, ℕ, ◌+◌, ◌*◌, ◌≤◌, List, [], ◌∷◌, ◌++◌, length, take, drop, Option, Some, None}
+use Rattle.std.specs.Prelude.{IfSome}
+use Rattle.at_ddp.specs.Outbox.{Outbox}
+use Rattle.at_adsp_end.specs.Cuts.{bytes_of, cut_now, numbered, pieces}
 use Rattle.at_adsp_end.specs.Ends.{EndState, Sender, SendsTo}
+use Rattle.at_adsp_end.specs.Loads.{LeavesRoom}
 use Rattle.at_adsp_end.specs.Positions.{wire}
 use Rattle.at_adsp_end.specs.Sending.{acknowledged, going}
 use Rattle.at_adsp_end.specs.declared.item.Item.{Item}
@@ -34,18 +35,18 @@ abbrev pub credit_after : Sender → ℕ → Option ℕ → ℕ
 credit_after s window None = s.credit
 credit_after s window (Some k) = (acknowledged wire k window s).credit
 
--- One more item is cut: these packets went now, and whatever follows it, the others are those of the new segment. As
--- many packets used up the room.
+-- One more item is cut: what goes now went, and whatever follows the item, the others are those of the new segment.
 pub record Cuts (old new : Outbox) (by : EndState) (first : ℕ) (got : List ℕ) (item : Item) (after : ℕ) (left : List ℕ)
     : Type 0 where
-  pub now : List Content
-  pub sent : SendsTo old new by.asked now
-  pub rest : (xs : List Item)
-      → numbered wire by first (pieces got (item ∷ xs)) ≡ now ++ numbered wire by after (pieces left xs)
-  pub room : (n : ℕ) → HasRoomFor old (length now + n) 585 → HasRoomFor new n 585
+  pub sent : SendsTo old new by.asked (cut_now wire by first got item)
+  pub rest : (xs : List Item) → numbered wire by first (pieces got (item ∷ xs))
+      ≡ cut_now wire by first got item ++ numbered wire by after (pieces left xs)
+  pub room : LeavesRoom old new by.asked (cut_now wire by first got item)
 
--- so many pieces, and one that has so many bytes so far, are counted of the pieces of all items; these items are left
-pub record Counted (segments filled : ℕ) (all left : List Item) : Type 0 where
+-- so many pieces, and one that has so many bytes so far, are counted of the pieces of all items, and so many bytes in
+-- all of them; these items are left
+pub record Counted (segments filled bytes : ℕ) (all left : List Item) : Type 0 where
   pub got : List ℕ
   pub has : length got ≡ filled
   pub whole : segments + length (pieces got left) ≡ length (pieces [] all)
+  pub carried : 13 * segments + bytes + bytes_of (pieces got left) ≡ bytes_of (pieces [] all) + length got

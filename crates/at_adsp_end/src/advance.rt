@@ -1,15 +1,17 @@
 //! Acknowledgements, and what goes because of them.
-ghost use Rattle.std.specs.Prelude.{◌≡◌, ℕ, ◌+◌, ◌≤◌, ◌<◌, [], length, take, OnOk, IsOk};
-ghost use Rattle.at_ddp.specs.Outbox.{Sends, HasRoomFor};
-ghost use Rattle.at_adsp_end.specs.Cuts.{pieces};
+ghost use Rattle.std.specs.Prelude.{◌≡◌, ◌+◌, ◌*◌, ◌≤◌, ◌<◌, List, ◌++◌, [], length, take, OnOk, IsOk};
+ghost use Rattle.at_ddp.specs.Outbox.{Sends};
+ghost use Rattle.at_adsp_frame.specs.Segments.{Content};
 ghost use Rattle.at_adsp_end.specs.Ends.{SendsTo};
+ghost use Rattle.at_adsp_end.specs.Loads.{HasRoomTo, IsLoad, LeavesRoom};
 ghost use Rattle.at_adsp_end.specs.Moves.{IsChange};
 ghost use Rattle.at_adsp_end.specs.Outgoings.{IsWithin, credit_after, going_after};
 ghost use Rattle.at_adsp_end.specs.Positions.{wire};
 ghost use Rattle.at_adsp_end.specs.Sending.{acks, hearing, repeated, sending};
 
 use crate::end::End;
-use at_adsp_frame::{SEGMENT_LEN, Segment};
+use crate::load::Load;
+use at_adsp_frame::Segment;
 use at_ddp::Outbox;
 use std::alloc::{AllocError, Allocator};
 
@@ -61,30 +63,32 @@ impl<A: Allocator> End<A> {
         }
     }
 
-    // Makes room for the segments that go once a segment is heard, and for so many more.
+    // Makes room for the segments that go once a segment is heard, and for more packets.
     pub(crate) fn make_room(
         &self,
         advance: Advance,
-        more: u32,
+        more: Load,
         out: &mut Outbox<A>,
     ) -> Result<(), AllocError>
         requires within { IsWithin self.now.sender advance.acks }
-        requires few { more < 65536 }
-        ensures ok { OnOk result (HasRoomFor out.new
-            (length (hearing wire self.now advance.window advance.acks).sent + more) 585) }
+        requires few { more.packets < 65536 }
+        requires small { more.bytes < 14 * 65536 }
+        ensures ok { OnOk result ((later : List Content) → IsLoad more self.now.asked later → HasRoomTo out.new
+            self.now.asked ((hearing wire self.now advance.window advance.acks).sent ++ later)) }
         ensures stays { Sends out.old out.new [] }
+        ensures succeeds { (later : List Content) → IsLoad more self.now.asked later → HasRoomTo out.old self.now.asked
+            ((hearing wire self.now advance.window advance.acks).sent ++ later) → IsOk result }
     {
         let going = self.count_going_after(advance);
-        let segments = self.count_segments(self.outgoing.sent(), going);
-        out.room(segments + more, SEGMENT_LEN)
+        let load = self.count_segments(self.outgoing.sent(), going);
+        load.plus(more).room(out)
     }
 
     // Sends all that may go.
     pub(crate) fn send_on(&mut self, out: &mut Outbox<A>)
-        requires { HasRoomFor out.old (length (sending wire self.old).sent) 585 }
+        requires { HasRoomTo out.old self.old.asked (sending wire self.old).sent }
         ensures change { IsChange (sending wire self.old) self.old.asked self.new out.old out.new }
-        ensures room { (n : ℕ) → HasRoomFor out.old (length (sending wire self.old).sent + n) 585
-            → HasRoomFor out.new n 585 }
+        ensures room { LeavesRoom out.old out.new self.old.asked (sending wire self.old).sent }
     {
         let going = self.outgoing.count_going();
         let first = self.outgoing.next_unsent();
@@ -95,11 +99,11 @@ impl<A: Allocator> End<A> {
     // Hears that the other end is there, and what it acknowledges.
     pub(crate) fn note_acknowledgement(&mut self, advance: Advance, out: &mut Outbox<A>)
         requires within { IsWithin self.old.sender advance.acks }
-        requires room { HasRoomFor out.old (length (hearing wire self.old advance.window advance.acks).sent) 585 }
+        requires room { HasRoomTo out.old self.old.asked (hearing wire self.old advance.window advance.acks).sent }
         ensures change { IsChange (hearing wire self.old advance.window advance.acks) self.old.asked self.new out.old
             out.new }
-        ensures room { (n : ℕ) → HasRoomFor out.old
-            (length (hearing wire self.old advance.window advance.acks).sent + n) 585 → HasRoomFor out.new n 585 }
+        ensures room { LeavesRoom out.old out.new self.old.asked
+            (hearing wire self.old advance.window advance.acks).sent }
     {
         self.ticks = 0;
         if let Some(k) = advance.acks {
@@ -110,7 +114,7 @@ impl<A: Allocator> End<A> {
 
     // Sends all that was sent and is not acknowledged.
     pub(crate) fn send_again(&self, out: &mut Outbox<A>)
-        requires { HasRoomFor out.old (length (repeated wire self.now)) 585 }
+        requires { HasRoomTo out.old self.now.asked (repeated wire self.now) }
         ensures { SendsTo out.old out.new self.now.asked (repeated wire self.now) }
     {
         let first = self.outgoing.front();

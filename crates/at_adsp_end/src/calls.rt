@@ -1,18 +1,20 @@
 //! The calls and the timers of an end.
-ghost use Rattle.std.specs.Prelude.{◌≡◌, ◌≢◌, ◌∷◌, ◌++◌, [], length, take, drop, IfOk, OnErr, OnOk};
+ghost use Rattle.std.specs.Prelude.{◌≡◌, ◌≢◌, ◌∷◌, ◌++◌, [], length, take, drop, IfOk, OnErr, OnOk, IsOk};
 ghost use Rattle.at_ddp.specs.Outbox.{Sends};
 ghost use Rattle.at_adsp_end.specs.Calls.{after_read, probes, read_opens, reading, ticked, writing};
 ghost use Rattle.at_adsp_end.specs.Ends.{SendsTo, places};
+ghost use Rattle.at_adsp_end.specs.Loads.{HasRoomTo};
 ghost use Rattle.at_adsp_end.specs.Moves.{IsChange, IsOutcome, closed};
 ghost use Rattle.at_adsp_end.specs.Positions.{wire};
 ghost use Rattle.at_adsp_end.specs.Sending.{closing, resetting_now};
 
 use crate::end::{End, PROBES};
 use crate::item::Item;
+use crate::load::Load;
 use crate::phase::Phase;
 use crate::step::Step;
 use crate::tick::Tick;
-use at_adsp_frame::{Body, SEGMENT_LEN};
+use at_adsp_frame::Body;
 use at_ddp::Outbox;
 use std::alloc::{AllocError, Allocator};
 
@@ -23,6 +25,7 @@ impl<A: Allocator> End<A> {
             self.new out.old out.new) }
         ensures unchanged { OnErr result (self.new ≡ self.old) }
         ensures nothing_sent { OnErr result (Sends out.old out.new []) }
+        ensures memory { HasRoomTo out.old self.old.asked (closed self.old (closing wire self.old)).sent → IsOk result }
     {
         self.send_control(false, Body::Close, out)?;
         self.shut();
@@ -34,6 +37,7 @@ impl<A: Allocator> End<A> {
         ensures ok { OnOk result (IsChange (resetting_now wire self.old) self.old.asked self.new out.old out.new) }
         ensures unchanged { OnErr result (self.new ≡ self.old) }
         ensures nothing_sent { OnErr result (Sends out.old out.new []) }
+        ensures memory { HasRoomTo out.old self.old.asked (resetting_now wire self.old).sent → IsOk result }
     {
         self.send_control(false, Body::Reset, out)?;
         self.outgoing.clear();
@@ -49,6 +53,7 @@ impl<A: Allocator> End<A> {
             out.new) }
         ensures unchanged { OnErr result (self.new ≡ self.old) }
         ensures nothing_sent { OnErr result (Sends out.old out.new []) }
+        ensures memory { HasRoomTo out.old self.old.asked (ticked wire self.old tick).sent → IsOk result }
     {
         match tick {
             Tick::Retransmit => self.resend(out),
@@ -61,6 +66,7 @@ impl<A: Allocator> End<A> {
         ensures ok { IfOk result (λ step. IsOutcome (ticked wire self.now Tick.Retransmit) self.now.asked step self.now
             out.old out.new) }
         ensures nothing_sent { OnErr result (Sends out.old out.new []) }
+        ensures memory { HasRoomTo out.old self.now.asked (ticked wire self.now Tick.Retransmit).sent → IsOk result }
     {
         match self.phase {
             Phase::Opening => self.ask(out)?,
@@ -75,6 +81,7 @@ impl<A: Allocator> End<A> {
         ensures ok { IfOk result (λ step. IsOutcome (ticked wire self.now Tick.Retransmit) self.now.asked step self.now
             out.old out.new) }
         ensures nothing_sent { OnErr result (Sends out.old out.new []) }
+        ensures memory { HasRoomTo out.old self.now.asked (ticked wire self.now Tick.Retransmit).sent → IsOk result }
     {
         if self.outgoing.is_resetting() {
             self.send_control(false, Body::Reset, out)?;
@@ -84,7 +91,7 @@ impl<A: Allocator> End<A> {
         if sent == 0 {
             return Ok(Step::Idle);
         }
-        out.room(self.count_segments(0, sent), SEGMENT_LEN)?;
+        self.count_segments(0, sent).room(out)?;
         self.send_again(out);
         Ok(Step::Again)
     }
@@ -94,6 +101,7 @@ impl<A: Allocator> End<A> {
             out.old out.new) }
         ensures unchanged { OnErr result (self.new ≡ self.old) }
         ensures nothing_sent { OnErr result (Sends out.old out.new []) }
+        ensures memory { HasRoomTo out.old self.old.asked (ticked wire self.old Tick.Probe).sent → IsOk result }
     {
         if self.is_last(Tick::Probe) {
             self.ticks = PROBES;
@@ -108,6 +116,7 @@ impl<A: Allocator> End<A> {
     fn send_probe(&self, out: &mut Outbox<A>) -> Result<(), AllocError>
         ensures ok { OnOk result (SendsTo out.old out.new self.now.asked (probes wire self.now self.now.phase)) }
         ensures nothing_sent { OnErr result (Sends out.old out.new []) }
+        ensures memory { HasRoomTo out.old self.now.asked (probes wire self.now self.now.phase) → IsOk result }
     {
         match self.phase {
             Phase::Opening => self.ask(out),
@@ -128,11 +137,13 @@ impl<A: Allocator> End<A> {
         ensures unchanged { OnErr result (self.new ≡ self.old) }
         ensures unread { OnErr result (items.new ≡ items.old) }
         ensures nothing_sent { OnErr result (Sends out.old out.new []) }
+        ensures memory { HasRoomTo out.old self.old.asked (reading wire self.old (length items.old)).sent
+            → IsOk result }
     {
         if !self.reading_opens(items.len()) {
             return Ok(self.unread.read_into(items));
         }
-        out.room(1, SEGMENT_LEN)?;
+        Load::of_one(0).room(out)?;
         let count = self.unread.read_into(items);
         self.acknowledge(out).unwrap();
         Ok(count)
@@ -168,11 +179,12 @@ impl<A: Allocator> End<A> {
         ensures ok { OnOk result (IsChange (writing wire self.old items.now) self.old.asked self.new out.old out.new) }
         ensures unchanged { OnErr result (self.new ≡ self.old) }
         ensures nothing_sent { OnErr result (Sends out.old out.new []) }
+        ensures memory { HasRoomTo out.old self.old.asked (writing wire self.old items.now).sent → IsOk result }
     {
         let count = self.outgoing.append(items);
         let going = self.outgoing.count_going();
-        let segments = self.count_segments(self.outgoing.sent(), going);
-        match out.room(segments, SEGMENT_LEN) {
+        let load = self.count_segments(self.outgoing.sent(), going);
+        match load.room(out) {
             Ok(()) => {
                 self.send_on(out);
                 Ok(count)

@@ -1,11 +1,13 @@
 //! What segments do at an open end.
 ghost use Rattle.std.specs.Prelude.{◌≡◌, ◌≢◌, ◌&&◌, ◌==◌, ◌∷◌, ◌++◌, [], length, true, false, IfOk, OnErr, OnOk};
-ghost use Rattle.at_ddp.specs.Outbox.{Sends, HasRoomFor};
+ghost use Rattle.std.specs.Prelude.{IsOk};
+ghost use Rattle.at_ddp.specs.Outbox.{Sends};
 ghost use Rattle.at_adsp_frame.specs.Segments.{content};
 ghost use Rattle.at_adsp_end.specs.Cuts.{items_in};
 ghost use Rattle.at_adsp_end.specs.Ends.{SendsTo, confirming, free, next_unsent};
 ghost use Rattle.at_adsp_end.specs.Hearing.{advice_came, answer_came, close_came, forward, heard, heard_only, if_asked};
 ghost use Rattle.at_adsp_end.specs.Hearing.{items_came, reset_came, taken, taking, told};
+ghost use Rattle.at_adsp_end.specs.Loads.{HasRoomTo};
 ghost use Rattle.at_adsp_end.specs.Moves.{IsOutcome};
 ghost use Rattle.at_adsp_end.specs.Outgoings.{IsWithin};
 ghost use Rattle.at_adsp_end.specs.Positions.{wire};
@@ -14,7 +16,7 @@ ghost use Rattle.at_adsp_end.specs.Sending.{acks, hearing, shut};
 use crate::advance::Advance;
 use crate::arrival::{Arrival, keep, new_items};
 use crate::end::End;
-use crate::forward::Forward;
+use crate::load::Load;
 use crate::phase::Phase;
 use crate::positions::{ahead, number_after};
 use crate::step::Step;
@@ -33,6 +35,8 @@ impl<A: Allocator> End<A> {
             self.old.asked step self.new out.old out.new) }
         ensures unchanged { OnErr result (self.new ≡ self.old) }
         ensures nothing_sent { OnErr result (Sends out.old out.new []) }
+        ensures memory { HasRoomTo out.old self.old.asked
+            (heard wire self.old (told wire self.old (content segment.now))).sent → IsOk result }
     {
         let advance = self.advance_of(segment);
         match segment.body {
@@ -49,15 +53,21 @@ impl<A: Allocator> End<A> {
         }
     }
 
-    fn hear_only(&mut self, advance: Advance, out: &mut Outbox<A>) -> Result<Step, AllocError>
+    pub(crate) fn hear_only(
+        &mut self,
+        advance: Advance,
+        out: &mut Outbox<A>,
+    ) -> Result<Step, AllocError>
         requires within { IsWithin self.old.sender advance.acks }
         ensures ok { IfOk result (λ step. IsOutcome
             (heard_only (hearing wire self.old advance.window advance.acks) []) self.old.asked step self.new out.old
             out.new) }
         ensures unchanged { OnErr result (self.new ≡ self.old) }
         ensures nothing_sent { OnErr result (Sends out.old out.new []) }
+        ensures memory { HasRoomTo out.old self.old.asked
+            (heard_only (hearing wire self.old advance.window advance.acks) []).sent → IsOk result }
     {
-        self.make_room(advance, 0, out)?;
+        self.make_room(advance, Load::none(), out)?;
         self.note_acknowledgement(advance, out);
         Ok(Step::Heard {
             id: self.id,
@@ -78,8 +88,11 @@ impl<A: Allocator> End<A> {
             (items_in arrival.now.end arrival.now.bytes.now)) self.old.asked step self.new out.old out.new) }
         ensures unchanged { OnErr result (self.new ≡ self.old) }
         ensures nothing_sent { OnErr result (Sends out.old out.new []) }
+        ensures memory { HasRoomTo out.old self.old.asked
+            (items_came wire (hearing wire self.old advance.window advance.acks) ack
+            (items_in arrival.now.end arrival.now.bytes.now)).sent → IsOk result }
     {
-        self.make_room(advance, u32::from(ack), out)?;
+        self.make_room(advance, Load::if_asked(ack), out)?;
         self.note_acknowledgement(advance, out);
         let items = self.take(arrival);
         self.acknowledge_if(ack, out);
@@ -97,8 +110,11 @@ impl<A: Allocator> End<A> {
             (heard_only c (if_asked wire ack c.after)) self.old.asked step self.new out.old out.new) }
         ensures unchanged { OnErr result (self.new ≡ self.old) }
         ensures nothing_sent { OnErr result (Sends out.old out.new []) }
+        ensures memory { HasRoomTo out.old self.old.asked
+            (let c = hearing wire self.old advance.window advance.acks in
+            (heard_only c (if_asked wire ack c.after)).sent) → IsOk result }
     {
-        self.make_room(advance, u32::from(ack), out)?;
+        self.make_room(advance, Load::if_asked(ack), out)?;
         self.note_acknowledgement(advance, out);
         self.acknowledge_if(ack, out);
         Ok(Step::Heard {
@@ -114,76 +130,13 @@ impl<A: Allocator> End<A> {
             out.new) }
         ensures unchanged { OnErr result (self.new ≡ self.old) }
         ensures nothing_sent { OnErr result (Sends out.old out.new []) }
+        ensures memory { HasRoomTo out.old self.old.asked
+            (close_came wire (hearing wire self.old advance.window advance.acks)).sent → IsOk result }
     {
-        self.make_room(advance, 0, out)?;
+        self.make_room(advance, Load::none(), out)?;
         self.note_acknowledgement(advance, out);
         self.shut();
         Ok(Step::Closed(self.id))
-    }
-
-    fn hear_reset(
-        &mut self,
-        advance: Advance,
-        forward: Forward,
-        out: &mut Outbox<A>,
-    ) -> Result<Step, AllocError>
-        requires within { IsWithin self.old.sender advance.acks }
-        ensures ok { IfOk result (λ step. IsOutcome
-            (reset_came wire (hearing wire self.old advance.window advance.acks) forward) self.old.asked step self.new
-            out.old out.new) }
-        ensures unchanged { OnErr result (self.new ≡ self.old) }
-        ensures nothing_sent { OnErr result (Sends out.old out.new []) }
-    {
-        if let Forward::Beyond = forward {
-            return self.hear_only(advance, out);
-        }
-        self.make_room(advance, 1, out)?;
-        self.note_acknowledgement(advance, out);
-        let step = self.jump(forward);
-        self.send_control(false, Body::ResetAck, out).unwrap();
-        Ok(step)
-    }
-
-    fn hear_reset_ack(
-        &mut self,
-        advance: Advance,
-        next: u32,
-        out: &mut Outbox<A>,
-    ) -> Result<Step, AllocError>
-        requires within { IsWithin self.old.sender advance.acks }
-        ensures ok { IfOk result (λ step. IsOutcome
-            (answer_came wire (hearing wire self.old advance.window advance.acks)
-            (self.old.sender.resetting && (next == next_unsent wire self.old.sender)))
-            self.old.asked step self.new out.old out.new) }
-        ensures unchanged { OnErr result (self.new ≡ self.old) }
-        ensures nothing_sent { OnErr result (Sends out.old out.new []) }
-    {
-        if !self.is_answered_by(next) {
-            return self.hear_only(advance, out);
-        }
-        let waiting = self.count_unreset(advance);
-        let segments = self.count_segments(self.outgoing.sent(), waiting);
-        self.make_room(advance, segments, out)?;
-        self.note_acknowledgement(advance, out);
-        self.unreset();
-        self.send_on(out);
-        Ok(Step::Heard {
-            id: self.id,
-            items: 0,
-        })
-    }
-
-    // Whether the forward reset of this end is answered by this next expected number.
-    fn is_answered_by(&self, next: u32) -> bool
-        ensures { result ≡ (self.now.sender.resetting && (next == next_unsent wire self.now.sender)) }
-    {
-        self.outgoing.is_resetting() && next == self.outgoing.next_unsent()
-    }
-
-    fn unreset(&mut self)
-        ensures { self.new ≡ record self.old { sender = record self.old.sender { resetting = false } } }
-    {
-        self.outgoing.set_resetting(false);
     }
 
     fn hear_advice(&mut self, advance: Advance, out: &mut Outbox<A>) -> Result<Step, AllocError>
@@ -193,6 +146,8 @@ impl<A: Allocator> End<A> {
             out.new) }
         ensures unchanged { OnErr result (self.new ≡ self.old) }
         ensures nothing_sent { OnErr result (Sends out.old out.new []) }
+        ensures memory { HasRoomTo out.old self.old.asked
+            (advice_came wire (hearing wire self.old advance.window advance.acks)).sent → IsOk result }
     {
         let k = advance.acks.unwrap_or(0);
         let count = self.outgoing.sent() - k + self.count_going_after(advance);
@@ -212,7 +167,7 @@ impl<A: Allocator> End<A> {
 
     // Acknowledges what came, if that is wanted.
     fn acknowledge_if(&self, ack: bool, out: &mut Outbox<A>)
-        requires { ack ≡ true → HasRoomFor out.old 1 585 }
+        requires { HasRoomTo out.old self.now.asked (if_asked wire ack self.now) }
         ensures { SendsTo out.old out.new self.now.asked (if_asked wire ack self.now) }
     {
         if ack {
@@ -228,37 +183,6 @@ impl<A: Allocator> End<A> {
         let count = keep(&mut self.unread, arrival);
         self.received = number_after(self.received, count as u32);
         count
-    }
-
-    // Where a forward reset to this number leads.
-    fn forward_to(&self, first: u32) -> Forward
-        ensures { result ≡ forward wire self.now first }
-    {
-        match ahead(self.received, first) {
-            Some(distance) if distance <= self.free() as u32 => Forward::Jump(distance),
-            _ => match ahead(first, self.received) {
-                Some(_) => Forward::Older,
-                None => Forward::Beyond,
-            },
-        }
-    }
-
-    // Takes a forward reset, if it leads ahead.
-    fn jump(&mut self, forward: Forward) -> Step
-        requires { forward ≢ Forward.Beyond }
-        ensures step { result ≡ (reset_came wire (record { after = self.old; sent = [] }) forward).step }
-        ensures state { self.new ≡ (reset_came wire (record { after = self.old; sent = [] }) forward).after }
-    {
-        if let Forward::Jump(distance) = forward {
-            self.received = number_after(self.received, distance);
-            self.unread.clear();
-            Step::Dropped(self.id)
-        } else {
-            Step::Heard {
-                id: self.id,
-                items: 0,
-            }
-        }
     }
 
     // Closes this end. It sends nothing any more.

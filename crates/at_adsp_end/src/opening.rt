@@ -1,16 +1,18 @@
 //! The opening of an end.
-ghost use Rattle.std.specs.Prelude.{◌≡◌, ◌∷◌, [], IfOk, OnErr};
+ghost use Rattle.std.specs.Prelude.{◌≡◌, ◌∷◌, [], IfOk, OnErr, IsOk};
 ghost use Rattle.at_ddp.specs.Outbox.{Sends};
 ghost use Rattle.at_adsp_end.specs.Ends.{confirming};
+ghost use Rattle.at_adsp_end.specs.Loads.{HasRoomTo};
 ghost use Rattle.at_adsp_end.specs.Moves.{IsOutcome, opened};
 ghost use Rattle.at_adsp_end.specs.Positions.{wire};
 ghost use Rattle.at_adsp_end.specs.Sending.{acks, hearing};
 
 use crate::end::End;
+use crate::load::Load;
 use crate::phase::Phase;
 use crate::remote::Remote;
 use crate::step::Step;
-use at_adsp_frame::Segment;
+use at_adsp_frame::{OPENING_LEN, Segment};
 use at_ddp::Outbox;
 use std::alloc::{AllocError, Allocator};
 
@@ -28,9 +30,13 @@ impl<A: Allocator> End<A> {
             self.old.asked step self.new out.old out.new) }
         ensures unchanged { OnErr result (self.new ≡ self.old) }
         ensures nothing_sent { OnErr result (Sends out.old out.new []) }
+        ensures memory { HasRoomTo out.old self.old.asked
+            (let e = record self.old { remote = Some remote; phase = Phase.Open } in
+            (opened e (confirming wire e ∷ []) (hearing wire e segment.now.window
+            (acks wire e.sender segment.now.next))).sent) → IsOk result }
     {
         let advance = self.advance_of(segment);
-        self.make_room(advance, 1, out)?;
+        self.make_room(advance, Load::of_one(OPENING_LEN as u16), out)?;
         self.remote = Some(remote);
         self.phase = Phase::Open;
         self.confirm(out).unwrap();
@@ -49,9 +55,12 @@ impl<A: Allocator> End<A> {
             self.old.asked step self.new out.old out.new) }
         ensures unchanged { OnErr result (self.new ≡ self.old) }
         ensures nothing_sent { OnErr result (Sends out.old out.new []) }
+        ensures memory { HasRoomTo out.old self.old.asked
+            (let e = record self.old { phase = Phase.Open } in (opened e [] (hearing wire e segment.now.window
+            (acks wire e.sender segment.now.next))).sent) → IsOk result }
     {
         let advance = self.advance_of(segment);
-        self.make_room(advance, 0, out)?;
+        self.make_room(advance, Load::none(), out)?;
         self.phase = Phase::Open;
         self.note_acknowledgement(advance, out);
         Ok(Step::Opened(self.id))

@@ -1,9 +1,10 @@
 //! The packets of an end.
-ghost use Rattle.std.specs.Prelude.{◌≡◌, ℕ, ◌+◌, ◌≤◌, ◌∷◌, [], length, false, OnOk, OnErr, IsOk};
-ghost use Rattle.at_ddp.specs.Outbox.{Sends, HasRoomFor};
-ghost use Rattle.at_adsp_frame.specs.Segments.{CanBeWritten, data_of, part};
+ghost use Rattle.std.specs.Prelude.{◌≡◌, ℕ, ◌+◌, ◌≤◌, List, ◌∷◌, [], length, false, OnOk, OnErr, IsOk};
+ghost use Rattle.at_ddp.specs.Outbox.{Sends};
+ghost use Rattle.at_adsp_frame.specs.Segments.{Content, data_of, part};
 ghost use Rattle.at_adsp_end.specs.Ends.{SendsTo, acknowledging, answering, asking, confirming, control, free, id_of};
 ghost use Rattle.at_adsp_end.specs.Ends.{packet};
+ghost use Rattle.at_adsp_end.specs.Loads.{HasRoomTo};
 ghost use Rattle.at_adsp_end.specs.Positions.{wire};
 
 use crate::end::End;
@@ -27,12 +28,13 @@ impl<A: Allocator> End<A> {
         body: Body<'_>,
         out: &mut Outbox<A>,
     ) -> Result<(), AllocError>
-        requires written { CanBeWritten (part body) }
-        requires fits { length (data_of (part body)) ≤ 572 }
+        requires { length (data_of (part body)) ≤ 572 }
         ensures ok { OnOk result (SendsTo out.old out.new self.now.asked
             (packet self.now first ack (part body.entry) ∷ [])) }
         ensures err { OnErr result (Sends out.old out.new []) }
-        ensures room { (n : ℕ) → HasRoomFor out.old (n + 1) 585 → IsOk result × HasRoomFor out.new n 585 }
+        ensures room { (more : List Content)
+            → HasRoomTo out.old self.now.asked (packet self.now first ack (part body.entry) ∷ more)
+            → IsOk result × HasRoomTo out.new self.now.asked more }
     {
         let segment = Segment {
             source: self.id,
@@ -52,12 +54,13 @@ impl<A: Allocator> End<A> {
         body: Body<'_>,
         out: &mut Outbox<A>,
     ) -> Result<(), AllocError>
-        requires written { CanBeWritten (part body) }
-        requires fits { length (data_of (part body)) ≤ 572 }
+        requires { length (data_of (part body)) ≤ 572 }
         ensures ok { OnOk result (SendsTo out.old out.new self.now.asked
             (control wire self.now ack (part body.entry) ∷ [])) }
         ensures err { OnErr result (Sends out.old out.new []) }
-        ensures room { (n : ℕ) → HasRoomFor out.old (n + 1) 585 → IsOk result × HasRoomFor out.new n 585 }
+        ensures room { (more : List Content)
+            → HasRoomTo out.old self.now.asked (control wire self.now ack (part body.entry) ∷ more)
+            → IsOk result × HasRoomTo out.new self.now.asked more }
     {
         self.send(self.outgoing.next_unsent(), ack, body, out)
     }
@@ -66,6 +69,8 @@ impl<A: Allocator> End<A> {
     pub fn ask(&self, out: &mut Outbox<A>) -> Result<(), AllocError>
         ensures ok { OnOk result (SendsTo out.old out.new self.now.asked (asking self.now ∷ [])) }
         ensures err { OnErr result (Sends out.old out.new []) }
+        ensures room { (more : List Content) → HasRoomTo out.old self.now.asked (asking self.now ∷ more)
+            → IsOk result × HasRoomTo out.new self.now.asked more }
     {
         let segment = Segment {
             source: self.id,
@@ -94,6 +99,8 @@ impl<A: Allocator> End<A> {
     pub fn answer(&self, out: &mut Outbox<A>) -> Result<(), AllocError>
         ensures ok { OnOk result (SendsTo out.old out.new self.now.asked (answering wire self.now ∷ [])) }
         ensures err { OnErr result (Sends out.old out.new []) }
+        ensures room { (more : List Content) → HasRoomTo out.old self.now.asked (answering wire self.now ∷ more)
+            → IsOk result × HasRoomTo out.new self.now.asked more }
     {
         let body = Body::Open {
             kind: OpenKind::RequestAndAcknowledgement,
@@ -106,7 +113,8 @@ impl<A: Allocator> End<A> {
     pub fn confirm(&self, out: &mut Outbox<A>) -> Result<(), AllocError>
         ensures ok { OnOk result (SendsTo out.old out.new self.now.asked (confirming wire self.now ∷ [])) }
         ensures err { OnErr result (Sends out.old out.new []) }
-        ensures room { (n : ℕ) → HasRoomFor out.old (n + 1) 585 → IsOk result × HasRoomFor out.new n 585 }
+        ensures room { (more : List Content) → HasRoomTo out.old self.now.asked (confirming wire self.now ∷ more)
+            → IsOk result × HasRoomTo out.new self.now.asked more }
     {
         let body = Body::Open {
             kind: OpenKind::Acknowledgement,
@@ -119,7 +127,8 @@ impl<A: Allocator> End<A> {
     pub(crate) fn acknowledge(&self, out: &mut Outbox<A>) -> Result<(), AllocError>
         ensures ok { OnOk result (SendsTo out.old out.new self.now.asked (acknowledging wire self.now ∷ [])) }
         ensures err { OnErr result (Sends out.old out.new []) }
-        ensures room { (n : ℕ) → HasRoomFor out.old (n + 1) 585 → IsOk result × HasRoomFor out.new n 585 }
+        ensures room { (more : List Content) → HasRoomTo out.old self.now.asked (acknowledging wire self.now ∷ more)
+            → IsOk result × HasRoomTo out.new self.now.asked more }
     {
         self.send_control(false, Body::Probe, out)
     }

@@ -12,6 +12,6 @@ mod writing;
 pub use fault::AdspFault;
 pub use order::before;
 pub use reading::decode;
-pub use segment::{Body, HEADER_LEN, MAX_DATA, OpenKind, SEGMENT_LEN, Segment};
+pub use segment::{Body, HEADER_LEN, MAX_DATA, OPENING_LEN, OpenKind, SEGMENT_LEN, Segment};
 pub use sending::send;
 pub use writing::encode;

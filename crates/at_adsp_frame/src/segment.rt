@@ -41,7 +41,7 @@ pub const MAX_DATA: usize = 572;
 pub const SEGMENT_LEN: usize = HEADER_LEN + MAX_DATA;
 
 /// The length in bytes of the fields of an opening.
-pub(crate) const OPENING_LEN: usize = 8;
+pub const OPENING_LEN: usize = 8;
 
 /// The version of the protocol, in the fields of an opening.
 pub(crate) const VERSION: u16 = 0x0100;

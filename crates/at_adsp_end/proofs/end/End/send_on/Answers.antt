@@ -1,39 +1,40 @@
-use Rattle.std.proofs.Common.{◌+◌, length, refl, ap, ◌∙◌}
-use Rattle.at_adsp_end.specs.Ends.{EndState, Sender, next_unsent}
+use Rattle.std.proofs.Common.{◌≡◌, ℕ, ◌+◌, [], ◌++◌, length, refl, sym, ap, subst, ◌∙◌}
+use Rattle.at_adsp_end.specs.Cuts.{numbered, pieces}
+use Rattle.at_adsp_end.specs.Ends.{EndState, Sender, SendsTo, next_unsent}
+use Rattle.at_adsp_end.specs.Loads.{HasRoomTo}
 use Rattle.at_adsp_end.specs.Outgoings.{stretch}
 use Rattle.at_adsp_end.specs.Positions.{wire}
-use Rattle.at_adsp_end.specs.Sending.{going}
-use Rattle.at_adsp_end.proofs.HearingLemmas.{going_stretch, room_for_all, room_for_just, sent_all}
+use Rattle.at_adsp_end.specs.Sending.{going, sending}
+use Rattle.at_adsp_end.proofs.HearingLemmas.{going_stretch, numbers_same}
 use Rattle.at_adsp_end.proofs.end.End.send_on.Goals as goal
+
+-- what is cut of the queue is what goes
+same : (e now : EndState) (first sent n : ℕ) → e ≡ now → first ≡ next_unsent wire e.sender → sent
+    ≡ length e.sender.unacknowledged → n ≡ length (going e.sender) →
+    numbered wire now first (pieces [] (stretch now.sender sent n)) ≡ (sending wire now).sent
+same e now first sent n is at all count =
+    let s = now.sender in
+    let here = ap (λ (e : EndState). e.sender) is in
+    let m = all ∙ ap (λ (s : Sender). length s.unacknowledged) here in
+    let k = count ∙ ap (λ (s : Sender). length (going s)) here in
+    numbers_same now first (s.front + length s.unacknowledged) _ _
+    (at ∙ ap (λ (s : Sender). next_unsent wire s) here) ((λ i. stretch s (m i) (k i)) ∙ going_stretch s)
 
 pub send_items-requires-clause-room : goal.send_items-requires-clause-room
 send_items-requires-clause-room g c =
-    let s = c.args.self.now.sender in
-    let same = ap (λ (e : EndState). e.sender) c.self.view_is in
-    let n = c.sent.ensures ∙ ap (λ (s : Sender). length s.unacknowledged) same in
-    let m = c.count_going-going.ensures.count ∙ ap (λ (s : Sender). length (going s)) same in
-    room_for_just c.args.out.now c.args.self.now (s.front + length s.unacknowledged) _ _
-    ((λ i. stretch s (n i) (m i)) ∙ going_stretch s) c.requires
+    let is = same _ _ _ _ _ c.self.view_is c.next_unsent-first.ensures c.sent.ensures c.count_going-going.ensures.count
+    in subst (HasRoomTo c.args.out.now c.args.self.now.asked) (sym is) c.requires
 
 pub returns-clause-change : goal.returns-clause-change
 returns-clause-change g c =
-    let s = c.args.self.now.sender in
-    let same = ap (λ (e : EndState). e.sender) c.self.view_is in
-    let n = c.sent.ensures ∙ ap (λ (s : Sender). length s.unacknowledged) same in
-    let m = c.count_going-going.ensures.count ∙ ap (λ (s : Sender). length (going s)) same in
-    let first = c.next_unsent-first.ensures ∙ ap (λ (s : Sender). next_unsent wire s) same in
-    record {
+    let is = same _ _ _ _ _ c.self.view_is c.next_unsent-first.ensures c.sent.ensures c.count_going-going.ensures.count
+    in record {
       state = rw (c.advance.ensures, ← c.self.view_is) refl;
-      sent = sent_all _ _ c.args.self.now _ (s.front + length s.unacknowledged) _ _ first
-          ((λ i. stretch s (n i) (m i)) ∙ going_stretch s) c.send_items.ensures.sent;
+      sent = subst (SendsTo c.args.out.now c.send_items.new.out c.args.self.now.asked) is c.send_items.ensures.sent;
     }
 
 pub returns-clause-room : goal.returns-clause-room
-returns-clause-room g c k h =
-    let s = c.args.self.now.sender in
-    let same = ap (λ (e : EndState). e.sender) c.self.view_is in
-    let n = c.sent.ensures ∙ ap (λ (s : Sender). length s.unacknowledged) same in
-    let m = c.count_going-going.ensures.count ∙ ap (λ (s : Sender). length (going s)) same in
-    c.send_items.ensures.room k
-    (room_for_all c.args.out.now c.args.self.now (s.front + length s.unacknowledged) k _ _
-    ((λ i. stretch s (n i) (m i)) ∙ going_stretch s) h)
+returns-clause-room g c more h =
+    let is = same _ _ _ _ _ c.self.view_is c.next_unsent-first.ensures c.sent.ensures c.count_going-going.ensures.count
+    in c.send_items.ensures.room more
+    (subst (λ l. HasRoomTo c.args.out.now c.args.self.now.asked (l ++ more)) (sym is) h)
