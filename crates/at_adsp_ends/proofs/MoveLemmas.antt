@@ -1,8 +1,10 @@
 -- What one end did, as what the table did.
 use Rattle.std.proofs.Common.{◌≡◌, ℕ, zero, suc, Bool, true, false, cond, List, [], ◌∷◌, set, Option}
 use Rattle.std.proofs.Common.{Some, None, refl, sym, ap, subst, ◌∙◌, arith}
-use Rattle.std.specs.Prelude.{find, remove, IfOk, OnErr, OnOk, Result, Ok, Err}
-use Rattle.at_ddp.specs.Outbox.{Outbox, Sends}
+use Rattle.std.specs.Prelude.{find, remove, IfOk, IsOk, OnErr, OnOk, Result, Ok, Err}
+use Rattle.std.specs.Result.{is_ok}
+use Rattle.std.proofs.lemmas.Bool.{true≢false}
+use Rattle.at_ddp.specs.Outbox.{HasRoomToSend, Outbox, Sends}
 use Rattle.at_ddp.specs.declared.address.Address.{Address}
 use Rattle.at_ddp.proofs.OutboxLemmas.{sends_nothing}
 use Rattle.at_adsp_frame.specs.Segments.{Content}
@@ -11,9 +13,10 @@ use Rattle.at_adsp_end.specs.Ends.{Change, EndState, SendsTo, addressed, has_rem
 use Rattle.at_adsp_end.specs.Ends.{spelled_all}
 use Rattle.at_adsp_end.specs.Hearing.{Brings, Asks, Closes, Resets, Answers, Advises, Outcome, Saying, Told}
 use Rattle.at_adsp_end.specs.Hearing.{after_hearing, heard, is_empty, told}
+use Rattle.at_adsp_end.specs.Loads.{HasRoomTo}
 use Rattle.at_adsp_end.specs.Moves.{IsChange, IsOutcome}
 use Rattle.at_adsp_end.specs.Positions.{wire}
-use Rattle.at_adsp_end.specs.Sending.{acks, hearing}
+use Rattle.at_adsp_end.specs.Sending.{hearing}
 use Rattle.at_adsp_end.specs.declared.fault.StreamFault.{StreamFault}
 use Rattle.at_adsp_end.specs.declared.fault.StreamFault.TheVariants.{NoMemory}
 use Rattle.at_adsp_end.specs.declared.forward.Forward.TheVariants.{Jump, Older, Beyond}
@@ -226,3 +229,15 @@ saying_heeds c ack Advises e = advice_heeds (is_empty c.after.sender.unacknowled
 -- what an open end hears is not ignored
 pub heard_heeds : (e : EndState) (t : Told) → (heard wire e t).step ≡ Ignored → ⊥
 heard_heeds e t h = saying_heeds (hearing wire e t.window t.acks) t.ack t.saying h
+
+-- ---- a call that only memory can refuse, where there is room for what it sends
+
+pub room_called : {X E : Type 0} (r : Result X E) (q : Result X StreamFault) (box : Outbox) (e y : EndState)
+    (sent : List Content) → Keeps e y → (HasRoomTo box e.asked sent → IsOk r) → IfOk r (λ x. q ≡ Ok x)
+    → HasRoomToSend box (spelled_all (addressed y.asked sent)) → IsOk q
+room_called {X} {E} r q box e y sent k ok told h =
+    go r (ok (subst (λ (to : Address). HasRoomToSend box (spelled_all (addressed to sent))) k.asked h)) told
+  where
+    go : (r : Result X E) → IsOk r → IfOk r (λ x. q ≡ Ok x) → IsOk q
+    go (Ok x) is told = ap is_ok told
+    go (Err x) is told = absurd (true≢false (sym is))

@@ -1,5 +1,7 @@
 //! The calls and the timers.
 ghost use Rattle.std.specs.Prelude.{◌≡◌, ◌≤◌, length, drop, IfOk, IsOk, OnErr};
+ghost use Rattle.at_ddp.specs.Outbox.{HasRoomToSend};
+ghost use Rattle.at_adsp_end.specs.Ends.{spelled_all};
 ghost use Rattle.at_adsp_end.specs.Positions.{wire};
 ghost use Rattle.at_adsp_ends.specs.Calls.{closed_at, connected, finds_no_room, frees, read_at, reset_at, ticked_at};
 ghost use Rattle.at_adsp_ends.specs.Calls.{wrote};
@@ -33,6 +35,8 @@ impl<A: Allocator + Copy> Ends<A> {
         ensures call { IsCalled (closed_at wire self.old (by_id self.old id)) result self.old self.new out.old out.new }
         ensures frees { IfOk (closed_at wire self.old (by_id self.old id)) (λ d. d.answer ≡ Step.Freed id
             → IsOk result) }
+        ensures memory { IfOk (closed_at wire self.old (by_id self.old id)) (λ d.
+            HasRoomToSend out.old (spelled_all d.sent) → IsOk result) }
     {
         let Some(index) = index_of(&self.ends, id) else {
             return Err(StreamFault::NoSuchEnd);
@@ -53,6 +57,8 @@ impl<A: Allocator + Copy> Ends<A> {
             out.new }
         ensures frees { IfOk (ticked_at wire self.old tick (by_id self.old id)) (λ d. d.answer ≡ Step.Freed id
             → IsOk result) }
+        ensures memory { IfOk (ticked_at wire self.old tick (by_id self.old id)) (λ d.
+            HasRoomToSend out.old (spelled_all d.sent) → IsOk result) }
     {
         let Some(index) = index_of(&self.ends, id) else {
             return Err(StreamFault::NoSuchEnd);
@@ -82,6 +88,8 @@ impl<A: Allocator + Copy> Ends<A> {
         ensures within { IfOk result (λ count. count ≤ length items.old) }
         ensures rest { IfOk result (λ count. drop count items.new ≡ drop count items.old) }
         ensures unread { OnErr result (items.new ≡ items.old) }
+        ensures memory { IfOk (read_at wire self.old (length items.old) (by_id self.old id)) (λ d.
+            HasRoomToSend out.old (spelled_all d.sent) → IsOk result) }
     {
         let Some(index) = index_of(&self.ends, id) else {
             return Err(StreamFault::NoSuchEnd);
@@ -96,7 +104,9 @@ impl<A: Allocator + Copy> Ends<A> {
 
     /// Drops all that an open end has queued for sending, and tells the other end to pass over it.
     pub fn reset(&mut self, id: u16, out: &mut Outbox<A>) -> Result<(), StreamFault>
-        ensures { IsCalled (reset_at wire self.old (by_id self.old id)) result self.old self.new out.old out.new }
+        ensures call { IsCalled (reset_at wire self.old (by_id self.old id)) result self.old self.new out.old out.new }
+        ensures memory { IfOk (reset_at wire self.old (by_id self.old id)) (λ d.
+            HasRoomToSend out.old (spelled_all d.sent) → IsOk result) }
     {
         let Some(index) = index_of(&self.ends, id) else {
             return Err(StreamFault::NoSuchEnd);
@@ -116,8 +126,10 @@ impl<A: Allocator + Copy> Ends<A> {
         items: &[Item],
         out: &mut Outbox<A>,
     ) -> Result<usize, StreamFault>
-        ensures { IsCalled (wrote wire self.old items.now (by_id self.old id)) result self.old self.new out.old
+        ensures call { IsCalled (wrote wire self.old items.now (by_id self.old id)) result self.old self.new out.old
             out.new }
+        ensures memory { IfOk (wrote wire self.old items.now (by_id self.old id)) (λ d.
+            HasRoomToSend out.old (spelled_all d.sent) → IsOk result) }
     {
         let Some(index) = index_of(&self.ends, id) else {
             return Err(StreamFault::NoSuchEnd);

@@ -1,4 +1,4 @@
-use Rattle.std.proofs.Common.{◌≡◌, true, false, List, sym, ap, subst, ◌∙◌, arith}
+use Rattle.std.proofs.Common.{◌≡◌, true, false, refl, List, sym, ap, subst, ◌∙◌, arith}
 use Rattle.at_ddp.proofs.TableLemmas.{none_by}
 use Rattle.at_adsp_end.specs.Ends.{EndState, is_open}
 use Rattle.at_adsp_end.specs.Moves.{closed}
@@ -22,6 +22,13 @@ returns-in_default-clause-call g c =
     let none = none_by (has_id c.args.id) t.ends c.deref.result.now c.index_of.result c.deref.ensures.value
     c.index_of.ensures c.in_default.is in
     rw (← c.self.view_is) (rw (steps.close_none t c.args.id none) (move.refused NoSuchEnd t c.args.out.now))
+
+pub returns-in_default-clause-memory : goal.returns-in_default-clause-memory
+returns-in_default-clause-memory g c =
+    let t = table c.self.inside.listening c.self.inside.next c.self.inside.rooms c.self.inside.ends.items in
+    let none = none_by (has_id c.args.id) t.ends c.deref.result.now c.index_of.result c.deref.ensures.value
+    c.index_of.ensures c.in_default.is in
+    rw (← c.self.view_is) (rw (steps.close_none t c.args.id none) tt)
 
 pub returns-in_default-clause-frees : goal.returns-in_default-clause-frees
 returns-in_default-clause-frees g c =
@@ -69,6 +76,19 @@ returns-then-is_open-clause-call g c =
     (steps.close_keeps f.entry) c.or_memory.ensures.ok c.or_memory.ensures.err (rw e at c.close.ensures.ok)
     (rw e at c.close.ensures.unchanged) c.close.ensures.nothing_sent))
 
+pub returns-then-is_open-clause-memory : goal.returns-then-is_open-clause-memory
+returns-then-is_open-clause-memory g c =
+    let t = table c.self.inside.listening c.self.inside.next c.self.inside.rooms c.self.inside.ends.items in
+    let (f, s) = end_at (has_id c.args.id) t.ends c.deref.result.now c.index_of.result c.in-Some.index
+    c.deref.ensures.value c.index_of.ensures c.in-Some.is in
+    let e : c.index_mut-end.result.now ≡ f.entry = c.index_mut-end.ensures.value ∙ f.at c.index_mut-end.result.now in
+    let e1 : c.index-end.result.now ≡ f.entry = c.index-end.ensures ∙ f.at c.index-end.result.now in
+    let live : is_open f.entry.phase ≡ true = ap (λ (x : EndState). is_open x.phase) (sym e1) ∙ sym c.is_open.ensures
+    ∙ c.if-is_open.true in
+    rw (← c.self.view_is) (rw (steps.close_open t c.args.id f.entry f.first live)
+    (move.room_called c.close.result c.or_memory.result c.args.out.now f.entry (closing wire f.entry).after
+    (closing wire f.entry).sent (steps.close_keeps f.entry) (rw e at c.close.ensures.memory) c.or_memory.ensures.ok))
+
 pub returns-then-is_open-clause-frees : goal.returns-then-is_open-clause-frees
 returns-then-is_open-clause-frees g c =
     let t = table c.self.inside.listening c.self.inside.next c.self.inside.rooms c.self.inside.ends.items in
@@ -108,3 +128,13 @@ returns-clause-call g c =
     (Freed c.args.id) c.remove.new.self.items c.args.out.now c.args.out.now c.self.invariant s
     (ap Freed (sym (eqb-true f.entry.id c.args.id f.passes))) c.remove.ensures.items
     (sends_nothing c.args.out.now)))
+
+pub returns-clause-memory : goal.returns-clause-memory
+returns-clause-memory g c =
+    let t = table c.self.inside.listening c.self.inside.next c.self.inside.rooms c.self.inside.ends.items in
+    let (f, s) = end_at (has_id c.args.id) t.ends c.deref.result.now c.index_of.result c.in-Some.index
+    c.deref.ensures.value c.index_of.ensures c.in-Some.is in
+    let e1 : c.index-end.result.now ≡ f.entry = c.index-end.ensures ∙ f.at c.index-end.result.now in
+    let shut : is_open f.entry.phase ≡ false = ap (λ (x : EndState). is_open x.phase) (sym e1) ∙ sym c.is_open.ensures
+    ∙ c.if-is_open.false in
+    rw (← c.self.view_is) (rw (steps.close_frees t c.args.id f.entry f.first shut) (λ h. refl))

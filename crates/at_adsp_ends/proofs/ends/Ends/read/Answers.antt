@@ -20,6 +20,13 @@ returns-in_default-clause-call g c =
     rw (← c.self.view_is) (rw (steps.read_none t (length c.args.items.now) c.args.id none)
     (move.refused NoSuchEnd t c.args.out.now))
 
+pub returns-in_default-clause-memory : goal.returns-in_default-clause-memory
+returns-in_default-clause-memory g c =
+    let t = table c.self.inside.listening c.self.inside.next c.self.inside.rooms c.self.inside.ends.items in
+    let none = none_by (has_id c.args.id) t.ends c.deref.result.now c.index_of.result c.deref.ensures.value
+    c.index_of.ensures c.in_default.is in
+    rw (← c.self.view_is) (rw (steps.read_none t (length c.args.items.now) c.args.id none) tt)
+
 pub index-end-requires : goal.index-end-requires
 index-end-requires g c =
     let t = table c.self.inside.listening c.self.inside.next c.self.inside.rooms c.self.inside.ends.items in
@@ -44,6 +51,16 @@ returns-then-not-has_opened-clause-call g c =
     ∙ sym c.has_opened.ensures ∙ c.if-not-has_opened.true in
     rw (← c.self.view_is) (rw (steps.read_shut t (length c.args.items.now) c.args.id f.entry f.first shut)
     (move.refused NotOpen t c.args.out.now))
+
+pub returns-then-not-has_opened-clause-memory : goal.returns-then-not-has_opened-clause-memory
+returns-then-not-has_opened-clause-memory g c =
+    let t = table c.self.inside.listening c.self.inside.next c.self.inside.rooms c.self.inside.ends.items in
+    let (f, s) = end_at (has_id c.args.id) t.ends c.deref.result.now c.index_of.result c.in-Some.index
+    c.deref.ensures.value c.index_of.ensures c.in-Some.is in
+    let e1 : c.index-end.result.now ≡ f.entry = c.index-end.ensures ∙ f.at c.index-end.result.now in
+    let shut : has_opened f.entry.phase ≡ false = ap (λ (x : EndState). has_opened x.phase) (sym e1)
+    ∙ sym c.has_opened.ensures ∙ c.if-not-has_opened.true in
+    rw (← c.self.view_is) (rw (steps.read_shut t (length c.args.items.now) c.args.id f.entry f.first shut) tt)
 
 pub invariant_of-self : goal.invariant_of-self
 invariant_of-self g c =
@@ -75,6 +92,21 @@ returns-clause-call g c =
     (steps.read_is c.read.result c.read.new.items (take (length c.args.items.now) f.entry.receiver.unread) _
     (rw e at c.read.ensures.count) (rw e at c.read.ensures.items)) (rw e at c.read.ensures.ok)
     (rw e at c.read.ensures.unchanged) c.read.ensures.nothing_sent))
+
+pub returns-clause-memory : goal.returns-clause-memory
+returns-clause-memory g c =
+    let t = table c.self.inside.listening c.self.inside.next c.self.inside.rooms c.self.inside.ends.items in
+    let (f, s) = end_at (has_id c.args.id) t.ends c.deref.result.now c.index_of.result c.in-Some.index
+    c.deref.ensures.value c.index_of.ensures c.in-Some.is in
+    let e : c.index_mut-end.result.now ≡ f.entry = c.index_mut-end.ensures.value ∙ f.at c.index_mut-end.result.now in
+    let e1 : c.index-end.result.now ≡ f.entry = c.index-end.ensures ∙ f.at c.index-end.result.now in
+    let live : has_opened f.entry.phase ≡ true = ap (λ (x : EndState). has_opened x.phase) (sym e1)
+    ∙ sym c.has_opened.ensures ∙ c.if-not-has_opened.false in
+    rw (← c.self.view_is) (rw (steps.read_open t (length c.args.items.now) c.args.id f.entry f.first live)
+    (move.room_called c.read.result c.or_memory.result c.args.out.now f.entry (reading wire f.entry
+    (length c.args.items.now)).after
+    (reading wire f.entry (length c.args.items.now)).sent (steps.read_keeps f.entry (length c.args.items.now))
+    (rw e at c.read.ensures.memory) c.or_memory.ensures.ok))
 
 pub returns-clause-within : goal.returns-clause-within
 returns-clause-within g c =

@@ -1,4 +1,4 @@
-use Rattle.std.proofs.Common.{◌≡◌, true, false, List, sym, ap, subst, ◌∙◌, arith}
+use Rattle.std.proofs.Common.{◌≡◌, true, false, refl, List, sym, ap, subst, ◌∙◌, arith}
 use Rattle.at_ddp.proofs.TableLemmas.{none_by}
 use Rattle.at_adsp_end.specs.Calls.{ticked}
 use Rattle.at_adsp_end.specs.Ends.{EndState, is_closed}
@@ -22,6 +22,13 @@ returns-in_default-clause-call g c =
     let none = none_by (has_id c.args.id) t.ends c.deref.result.now c.index_of.result c.deref.ensures.value
     c.index_of.ensures c.in_default.is in
     rw (← c.self.view_is) (rw (steps.tick_none t c.args.tick c.args.id none) (move.refused NoSuchEnd t c.args.out.now))
+
+pub returns-in_default-clause-memory : goal.returns-in_default-clause-memory
+returns-in_default-clause-memory g c =
+    let t = table c.self.inside.listening c.self.inside.next c.self.inside.rooms c.self.inside.ends.items in
+    let none = none_by (has_id c.args.id) t.ends c.deref.result.now c.index_of.result c.deref.ensures.value
+    c.index_of.ensures c.in_default.is in
+    rw (← c.self.view_is) (rw (steps.tick_none t c.args.tick c.args.id none) tt)
 
 pub returns-in_default-clause-frees : goal.returns-in_default-clause-frees
 returns-in_default-clause-frees g c =
@@ -54,6 +61,16 @@ returns-then-is_closed-clause-call g c =
     ∙ sym c.is_closed.ensures ∙ c.if-is_closed.true in
     rw (← c.self.view_is) (rw (steps.tick_closed t c.args.tick c.args.id f.entry f.first shut)
     (move.refused NotOpen t c.args.out.now))
+
+pub returns-then-is_closed-clause-memory : goal.returns-then-is_closed-clause-memory
+returns-then-is_closed-clause-memory g c =
+    let t = table c.self.inside.listening c.self.inside.next c.self.inside.rooms c.self.inside.ends.items in
+    let (f, s) = end_at (has_id c.args.id) t.ends c.deref.result.now c.index_of.result c.in-Some.index
+    c.deref.ensures.value c.index_of.ensures c.in-Some.is in
+    let e1 : c.index-end.result.now ≡ f.entry = c.index-end.ensures ∙ f.at c.index-end.result.now in
+    let shut : is_closed f.entry.phase ≡ true = ap (λ (x : EndState). is_closed x.phase) (sym e1)
+    ∙ sym c.is_closed.ensures ∙ c.if-is_closed.true in
+    rw (← c.self.view_is) (rw (steps.tick_closed t c.args.tick c.args.id f.entry f.first shut) tt)
 
 pub returns-then-is_closed-clause-frees : goal.returns-then-is_closed-clause-frees
 returns-then-is_closed-clause-frees g c =
@@ -96,6 +113,18 @@ returns-then-frees-clause-call g c =
     (ap Freed (sym (eqb-true f.entry.id c.args.id f.passes))) c.remove.ensures.items
     (sends_nothing c.args.out.now)))
 
+pub returns-then-frees-clause-memory : goal.returns-then-frees-clause-memory
+returns-then-frees-clause-memory g c =
+    let t = table c.self.inside.listening c.self.inside.next c.self.inside.rooms c.self.inside.ends.items in
+    let (f, s) = end_at (has_id c.args.id) t.ends c.deref.result.now c.index_of.result c.in-Some.index
+    c.deref.ensures.value c.index_of.ensures c.in-Some.is in
+    let e1 : c.index-end.result.now ≡ f.entry = c.index-end.ensures ∙ f.at c.index-end.result.now in
+    let live : is_closed f.entry.phase ≡ false = ap (λ (x : EndState). is_closed x.phase) (sym e1)
+    ∙ sym c.is_closed.ensures ∙ c.if-is_closed.false in
+    let last : frees f.entry c.args.tick ≡ true = ap (λ (x : EndState). frees x c.args.tick) (sym e1)
+    ∙ sym c.frees.ensures ∙ c.if-frees.true in
+    rw (← c.self.view_is) (rw (steps.tick_frees t c.args.tick c.args.id f.entry f.first live last) (λ h. refl))
+
 pub tick-requires : goal.tick-requires
 tick-requires g c =
     let t = table c.self.inside.listening c.self.inside.next c.self.inside.rooms c.self.inside.ends.items in
@@ -133,6 +162,22 @@ returns-clause-call g c =
     (ticked wire f.entry c.args.tick) c.args.out.now c.tick.new.out c.self.invariant s
     (move.ticked_keeps f.entry c.args.tick) c.or_memory.ensures.ok c.or_memory.ensures.err
     (rw e at c.tick.ensures.ok) (rw e at c.tick.ensures.unchanged) c.tick.ensures.nothing_sent))
+
+pub returns-clause-memory : goal.returns-clause-memory
+returns-clause-memory g c =
+    let t = table c.self.inside.listening c.self.inside.next c.self.inside.rooms c.self.inside.ends.items in
+    let (f, s) = end_at (has_id c.args.id) t.ends c.deref.result.now c.index_of.result c.in-Some.index
+    c.deref.ensures.value c.index_of.ensures c.in-Some.is in
+    let e : c.index_mut-end.result.now ≡ f.entry = c.index_mut-end.ensures.value ∙ f.at c.index_mut-end.result.now in
+    let e1 : c.index-end.result.now ≡ f.entry = c.index-end.ensures ∙ f.at c.index-end.result.now in
+    let live : is_closed f.entry.phase ≡ false = ap (λ (x : EndState). is_closed x.phase) (sym e1)
+    ∙ sym c.is_closed.ensures ∙ c.if-is_closed.false in
+    let stays : frees f.entry c.args.tick ≡ false = ap (λ (x : EndState). frees x c.args.tick) (sym e1)
+    ∙ sym c.frees.ensures ∙ c.if-frees.false in
+    rw (← c.self.view_is) (rw (steps.tick_stays t c.args.tick c.args.id f.entry f.first live stays)
+    (move.room_called c.tick.result c.or_memory.result c.args.out.now f.entry (ticked wire f.entry c.args.tick).after
+    (ticked wire f.entry c.args.tick).sent (move.ticked_keeps f.entry c.args.tick)
+    (rw e at c.tick.ensures.memory) c.or_memory.ensures.ok))
 
 pub returns-clause-frees : goal.returns-clause-frees
 returns-clause-frees g c =
