@@ -21,6 +21,8 @@ mod remote;
 mod resets;
 mod rooms;
 mod step;
+#[cfg(test)]
+mod tests;
 mod tick;
 
 pub use end::End;

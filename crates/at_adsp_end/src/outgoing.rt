@@ -57,6 +57,14 @@ impl<A: Allocator> Outgoing<A> {
         })
     }
 
+    // Has the first item that is not acknowledged take this number from now on.
+    #[cfg(test)]
+    pub(crate) fn set_front(&mut self, front: u32)
+        ensures { self.new ≡ record self.old { sender = record self.old.sender { front = front } } }
+    {
+        self.front = front;
+    }
+
     pub(crate) fn front(&self) -> u32
         ensures { result ≡ self.now.sender.front }
     {
