@@ -9,6 +9,7 @@ use Rattle.at_adsp_end.specs.declared.remote.Remote.{Remote}
 use Rattle.at_adsp.specs.Network.{Setting, Made, birth_of, born, has_birth, is_end, named, newest}
 use Rattle.at_ddp.proofs.Alls.{found_passes}
 use Rattle.at_adsp.proofs.Finds.{kept_in, some_same}
+use Rattle.at_adsp.proofs.Mapped.{mapped}
 
 -- the same end, later: its remote stays, once it has one, and so does its peer
 pub record Grows (m u : Made) : Type 0 where
@@ -45,29 +46,40 @@ module _ (p : Made → Bool) (m u : Made) (made : List Made) (grows : Grows m u)
       × Grows w v
   born_kept b w is = kept_in Grows itself p (has_birth b) m u made grows (ap (λ k. k == b) grows.birth) there w is
 
+-- what is the same of both is the same of what is found
+pub of_found : {X : Type 0} (f : Made → X) (p q : Made → Bool) (m u : Made) (made : List Made) → f u ≡ f m → q u ≡ q m
+    → find p made ≡ Some m → mapped f (find q (replaced p u made)) ≡ mapped f (find q made)
+of_found f p q m u [] same alike is = refl
+of_found f p q m u (z ∷ zs) same alike is = go (λ h. of_found f p q m u zs same alike h) (p z) is
+  where
+    here : z ≡ m → (a b : Bool) → q u ≡ a → q z ≡ b → mapped f (cond a (Some u) (find q zs))
+        ≡ mapped f (cond b (Some z) (find q zs))
+    here s true true e h = ap Some (same ∙ ap f (sym s))
+    here s true false e h = absurd (true≢false (sym e ∙ alike ∙ ap q (sym s) ∙ h))
+    here s false true e h = absurd (true≢false (sym h ∙ ap q s ∙ sym alike ∙ e))
+    here s false false e h = refl
+
+    go : (find p zs ≡ Some m → mapped f (find q (replaced p u zs)) ≡ mapped f (find q zs)) → (c : Bool)
+        → cond c (Some z) (find p zs) ≡ Some m →
+        mapped f (find q (cond c (u ∷ zs) (z ∷ replaced p u zs))) ≡ mapped f (cond (q z) (Some z) (find q zs))
+    go ih true h = here (some_same z m h) (q u) (q z) refl refl
+    go ih false h = rest (q z)
+      where
+        rest : (b : Bool) → mapped f (cond b (Some z) (find q (replaced p u zs)))
+            ≡ mapped f (cond b (Some z) (find q zs))
+        rest true = refl
+        rest false = ih h
+
 -- the births of what is found
 pub births_kept : (p q : Made → Bool) (m u : Made) (made : List Made) → u.stream.birth ≡ m.stream.birth → q u ≡ q m
     → find p made ≡ Some m → birth_of (find q (replaced p u made)) ≡ birth_of (find q made)
-births_kept p q m u [] birth same is = refl
-births_kept p q m u (z ∷ zs) birth same is = go (λ f. births_kept p q m u zs birth same f) (p z) is
+births_kept p q m u made birth same is =
+    sym (birth_is (find q (replaced p u made))) ∙ of_found (λ (x : Made). x.stream.birth) p q m u made birth same is
+    ∙ birth_is (find q made)
   where
-    here : z ≡ m → (a b : Bool) → q u ≡ a → q z ≡ b → birth_of (cond a (Some u) (find q zs))
-        ≡ birth_of (cond b (Some z) (find q zs))
-    here s true true e f = ap Some (birth ∙ ap (λ (x : Made). x.stream.birth) (sym s))
-    here s true false e f = absurd (true≢false (sym e ∙ same ∙ ap q (sym s) ∙ f))
-    here s false true e f = absurd (true≢false (sym f ∙ ap q s ∙ sym same ∙ e))
-    here s false false e f = refl
-
-    go : (find p zs ≡ Some m → birth_of (find q (replaced p u zs)) ≡ birth_of (find q zs)) → (c : Bool)
-        → cond c (Some z) (find p zs) ≡ Some m →
-        birth_of (find q (cond c (u ∷ zs) (z ∷ replaced p u zs))) ≡ birth_of (cond (q z) (Some z) (find q zs))
-    go ih true f = here (some_same z m f) (q u) (q z) refl refl
-    go ih false f = rest (q z)
-      where
-        rest : (b : Bool) → birth_of (cond b (Some z) (find q (replaced p u zs)))
-            ≡ birth_of (cond b (Some z) (find q zs))
-        rest true = refl
-        rest false = ih f
+    birth_is : (o : Option Made) → mapped (λ (x : Made). x.stream.birth) o ≡ birth_of o
+    birth_is None = refl
+    birth_is (Some x) = refl
 
 pub named_kept : (setting : Setting) (p : Made → Bool) (m u : Made) (made : List Made) → Grows m u → find p made
     ≡ Some m → (r : Option Remote) → named setting (replaced p u made) r ≡ named setting made r

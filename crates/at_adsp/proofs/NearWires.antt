@@ -1,55 +1,54 @@
--- What is read of a stream on the cable was written to it, in order, where no segment is far behind the end that sent
--- it.
-use Rattle.std.proofs.Common.{◌≡◌, ℕ, ◌+◌, ◌^◌, ◌<◌, ◌≤◌, Bool, true, false, cond, List, [], ◌∷◌, length, Option, Some}
-use Rattle.std.proofs.Common.{None, refl, sym, ap, subst, ◌∙◌, arith, lit<}
+-- An end on the cable is near each segment that it hears, if no segment is far behind the end that sent it.
+use Rattle.std.proofs.Common.{◌≡◌, ℕ, ◌+◌, ◌^◌, ◌<◌, ◌≤◌, Bool, true, false, cond, [], length, Option, Some, None, refl}
+use Rattle.std.proofs.Common.{sym, ap, subst, ◌∙◌, arith}
 use Rattle.std.specs.Prelude.{find}
-use Rattle.std.specs.List.{AllByRecursion}
 use Rattle.std.proofs.lemmas.Bool.{eqb-true}
 use Rattle.at_ddp.specs.declared.address.Address.{Address}
 use Rattle.at_ddp.proofs.Alls.{all_found, found_passes as passes}
-use Rattle.at_ddp.proofs.PostLemmas.{sent_at}
-use Rattle.at_adsp_frame.specs.Segments.{Part, Data, Probe, Open, Close, Reset, ResetAck, Advice}
+use Rattle.at_ddp.proofs.Octets.{same_both}
+use Rattle.at_adsp_frame.specs.Segments.{Content, Part, Data, Probe, Open, Close, Reset, ResetAck, Advice}
 use Rattle.at_adsp_frame.specs.declared.segment.OpenKind.TheVariants.{Request, Acknowledgement}
 use Rattle.at_adsp_frame.specs.declared.segment.OpenKind.TheVariants.{RequestAndAcknowledgement, Denial}
 use Rattle.at_adsp_end.specs.Ends.{EndState, Receiver, Sender, has_opened, has_remote, is_open}
 use Rattle.at_adsp_end.specs.declared.remote.Remote.{Remote}
 use Rattle.at_adsp_ends.specs.Tables.{EndTable, by_remote, has_id}
-use Rattle.at_adsp.specs.Cables.{IsFromHere, wire_numbered}
-use Rattle.at_adsp.specs.Nearness.{AllNear, HasWindows, ComesNear as comes_soon, IsNear as is_soon}
-use Rattle.at_adsp.specs.Network.{Setting, Made, Sent, Network, Happening, Connects, Listens, Closes, Writes, Reads}
-use Rattle.at_adsp.specs.Network.{Resets, Ticks, Takes, Strange, Other, AllTimely, IsTimely, after, birth_of, born}
-use Rattle.at_adsp.specs.Network.{done, is_end, is_fresh, named, newest, tick}
-use Rattle.at_adsp.specs.Orders.{IsNoReset, ReadsBeginnings, ReadsInOrder, whole_numbered}
-use Rattle.at_adsp.proofs.EndMoves.{open_is}
-use Rattle.at_adsp.proofs.FlowHistories.{reads_in_order}
+use Rattle.at_adsp.specs.Network.{Setting, Made, Sent, Network, birth_of, born, is_end, is_fresh, named, newest}
+use Rattle.at_adsp.specs.Pairs.{number_of}
+use Rattle.at_adsp.specs.Orders.{whole_numbered}
+use Rattle.at_adsp.proofs.EndMoves.{IsPlainPart, open_is}
+use Rattle.at_adsp.proofs.Fews.{count_of}
+use Rattle.at_adsp.proofs.Finds.{some_same}
+use Rattle.at_adsp.proofs.Gone.{SenderIs}
 use Rattle.at_adsp.proofs.Growth.{found_born}
-use Rattle.at_adsp.proofs.Histories.{history_sound}
-use Rattle.at_adsp.proofs.HomeHistories.{HomeNetwork, history_home}
-use Rattle.at_adsp.proofs.Homes.{Home}
-use Rattle.at_adsp.proofs.Mapped.{mapped}
 use Rattle.at_adsp.proofs.StrangeWires.{asked_there}
-use Rattle.at_adsp.proofs.Nears.{IsNear}
-use Rattle.at_adsp.proofs.PacedEnds.{PaceOf, Paced, TellsHere}
-use Rattle.at_adsp.proofs.PacedHistories.{history_pace}
+use Rattle.at_adsp.proofs.Nears.{IsNear, LiesNear}
+use Rattle.at_adsp.proofs.PacedNetworks.{PaceOf, Paced, TellsHere, most_of}
 use Rattle.at_adsp.proofs.Paces.{Follows, Keeps, Marks, marks_of}
-use Rattle.at_adsp.proofs.PlainHistories.{plain_begins}
 use Rattle.at_adsp.proofs.Receptions.{own_remote}
-use Rattle.at_adsp.proofs.Sound.{Fresh, HasPeer, Knows, Lawful, Mutual, Reaches, Sound, Stands, Tells, Told}
+use Rattle.at_adsp.proofs.Sound.{Fresh, HasPeer, Knows, Lawful, Mutual, Reaches, Sound, Stands, Tells, Told, reached}
 use Rattle.at_adsp.proofs.Steps.{found_passes, found_stands, stands_known}
-use Rattle.at_adsp.proofs.WireHistories.{fresh_wired, reads_wired, timely_whole}
-use Rattle.at_adsp.proofs.WireNetworks.{ComesNear, done_wired, packet_wired, wired_network, wired_sent}
 use Rattle.at_adsp.proofs.WireSegments.{HearsNear, OpensNear, OpensNearPart}
 
+-- an end that hears a segment has few more numbers under way than the segment tells
+pub record IsSoon (most : ℕ) (m : Marks) (s : Content) : Type 0 where
+  pub gave : m.gave < s.first + 2 ^ 31 + most
+  pub took : m.took < s.next + 2 ^ 31 + most
+  pub exact : LiesNear s.body m.gave s.first
+  pub count : count_of s.body ≤ most
+
+lies_less : (part : Part) (a b first : ℕ) → a ≤ b → LiesNear part b first → LiesNear part a first
+lies_less Reset a b first le h = omega (arith, le, h)
+lies_less other a b first le h = tt
+
 module _ (room : ℕ) (small : room < 2 ^ 16) (setting : Setting) (n : Network)
-    (sound : Sound (whole_numbered setting) n.event n) (pace : PaceOf room n.event n)
-    (home : HomeNetwork setting.ours n) where
+    (sound : Sound (whole_numbered setting) n.event n) (pace : PaceOf room setting.ours n.event n) where
   abbrev W : Setting
   W = whole_numbered setting
 
   -- ---- ends and their peers
 
-  pace_at : (q : Made → Bool) (m : Made) → find q n.made ≡ Some m → Paced room pace.marks m
-  pace_at q m is = (all_found (Paced room pace.marks) q n.made m pace.ends is).0
+  pace_at : (q : Made → Bool) (m : Made) → find q n.made ≡ Some m → Paced room setting.ours pace.marks m
+  pace_at q m is = (all_found (Paced room setting.ours pace.marks) q n.made m pace.ends is).0
 
   -- an end that names one of this birth follows it, or did nothing yet
   record Behind (m : Made) (b : ℕ) : Type 0 where
@@ -62,7 +61,7 @@ module _ (room : ℕ) (small : room < 2 ^ 16) (setting : Setting) (n : Network)
       law : Lawful W.ours m
       law = (all_found (Lawful W.ours) q n.made m sound.lawful is).0
 
-      p : Paced room pace.marks m
+      p : Paced room setting.ours pace.marks m
       p = pace_at q m is
 
       go : (c : Bool) → has_opened m.last.phase ≡ c → Behind m b
@@ -84,11 +83,21 @@ module _ (room : ℕ) (small : room < 2 ^ 16) (setting : Setting) (n : Network)
           let received = ap (λ (x : Receiver). x.received) none.1 in
           record { gave = omega (arith, gave, sent); took = omega (arith, took, received) }
 
+  -- no end has more unread than it received
+  pub unread_here : (at : Address) (q : EndState → Bool) (e : EndState) → find q (n.tables at).ends ≡ Some e
+      → length e.receiver.unread ≤ e.receiver.received
+  unread_here at q e is =
+      let st = found_stands W n.event n at q e sound is in
+      let p = pace_at (is_end at e.id) st.it st.newest in
+      let k = subst (λ (x : EndState). Keeps room (setting.ours x.asked) x) st.last p.keeps in
+      k.unread
+
   -- ---- a segment that comes
 
   module _ (s : Sent) (h : TellsHere room n.made pace.marks s) (says : Fresh W n.made s)
-      (fresh : is_fresh n.made s ≡ true) (ours : setting.ours s.to ≡ true)
-      (soon : (m : Made) → newest n.made s.from s.packet.source ≡ Some m → is_soon m.last s.packet) where
+      (fresh : is_fresh n.made s ≡ true) (ours : setting.ours s.to ≡ true) (from_ours : setting.ours s.from ≡ true)
+      (soon : IsPlainPart s.packet.body → (m : Made) → SenderIs setting.ours n.made s m
+      → IsSoon (most_of room) (marks_of m.last) s.packet) where
     abbrev t : EndTable
     t = n.tables s.to
 
@@ -105,14 +114,19 @@ module _ (room : ℕ) (small : room < 2 ^ 16) (setting : Setting) (n : Network)
     sender_is b None is h = absurd (cc)
     sender_is b (Some m) is h = let same : m.stream.birth ≡ b = cc in record { it = m; newest = is; birth = same }
 
-    hears_near : (e : EndState) → by_remote t r ≡ Some e → is_open e.phase ≡ true → IsNear e s.packet
-    hears_near e is opened = near
+    hears_near : IsPlainPart s.packet.body → (e : EndState) → by_remote t r ≡ Some e → is_open e.phase ≡ true
+        → IsNear e s.packet
+    hears_near plain e is opened = near
       where
         st : Stands W n.made s.to e
         st = found_stands W n.event n s.to (has_remote r) e sound is
 
         law : Lawful W.ours st.it
         law = (all_found (Lawful W.ours) (is_end s.to e.id) n.made st.it sound.lawful st.newest).0
+
+        owner : st.it.stream.owner ≡ s.to
+        owner = (same_both st.it.stream.owner s.to st.it.stream.id e.id
+            (all_found (Lawful W.ours) (is_end s.to e.id) n.made st.it sound.lawful st.newest).1).0
 
         known : Reaches e.asked e.remote
         known = subst (λ p. Knows p e.listener e.asked e.remote) (open_is e.phase opened)
@@ -124,18 +138,14 @@ module _ (room : ℕ) (small : room < 2 ^ 16) (setting : Setting) (n : Network)
         asked : e.asked ≡ s.from
         asked = asked_there W n.event n s.to s.from s.packet.source e sound is opened
 
-        -- an end that is open is for one of our addresses
-        from_ours : setting.ours s.from ≡ true
-        from_ours =
-            let k = (all_found (Home setting.ours s.to) (has_remote r) t.ends e (home.ends s.to) is).0 in
-            ap setting.ours (sym asked) ∙ k.there (ap has_opened (open_is e.phase opened))
+        here : setting.ours e.asked ≡ true
+        here = ap setting.ours asked ∙ from_ours
 
         was : has_opened st.it.last.phase ≡ true
         was = ap (λ (x : EndState). has_opened x.phase) st.last ∙ ap has_opened (open_is e.phase opened)
 
         found : (b : ℕ) × (st.it.names ≡ Some b)
-        found = let l = law in l.found was
-            (ap setting.ours (ap (λ (x : EndState). x.asked) st.last ∙ asked) ∙ from_ours)
+        found = let l = law in l.found was (ap setting.ours (ap (λ (x : EndState). x.asked) st.last) ∙ here)
 
         birth_is : birth_of (newest n.made s.from s.packet.source) ≡ Some found.0
         birth_is = sym (ap (λ c. cond c (birth_of (newest n.made s.from s.packet.source)) None) from_ours)
@@ -150,14 +160,31 @@ module _ (room : ℕ) (small : room < 2 ^ 16) (setting : Setting) (n : Network)
         joined : Mutual n.made st.it found.0
         joined = (all_found (HasPeer n.made) (is_end s.to e.id) n.made st.it sound.peers st.newest).0 found.0 peer
 
-        same_names : sender.it.names ≡ Some st.it.stream.birth
-        same_names =
+        sender_same : sender.it ≡ joined.peer
+        sender_same =
             let w = sender in
             let x = joined in
             let there = found_born (is_end s.from s.packet.source) w.it n.made n.event sound.births w.newest in
-            let one : Some w.it ≡ Some x.peer = sym there ∙ ap (born n.made) w.birth ∙ x.there in
-            let same : w.it ≡ x.peer = cc in
-            ap (λ (m : Made). m.names) same ∙ x.known
+            some_same w.it x.peer (sym there ∙ ap (born n.made) w.birth ∙ x.there)
+
+        same_names : sender.it.names ≡ Some st.it.stream.birth
+        same_names = let x = joined in ap (λ (m : Made). m.names) sender_same ∙ x.known
+
+        -- the sender asked this address, or was asked from here
+        sender_ours : SenderIs setting.ours n.made s sender.it
+        sender_ours =
+            let w = sender in
+            let x = joined in
+            let its = (all_found (Lawful W.ours) (is_end s.from s.packet.source) n.made w.it sound.lawful w.newest).0 in
+            let names : w.it.last.remote ≡ Some (number_of st.it) = ap (λ (m : Made). m.last.remote) sender_same
+            ∙ x.named in
+            let asked_here : st.it.stream.owner ≡ w.it.last.asked = reached w.it.last.phase w.it.last.listener
+            w.it.last.asked w.it.last.remote (number_of st.it) its.known names in
+            record {
+              newest = w.newest;
+              fresh = fresh;
+              here = ap setting.ours (sym its.asked) ∙ ap setting.ours (sym asked_here) ∙ ap setting.ours owner ∙ ours;
+            }
 
         near : IsNear e s.packet
         near =
@@ -165,14 +192,15 @@ module _ (room : ℕ) (small : room < 2 ^ 16) (setting : Setting) (n : Network)
             let p = pace_at (is_end s.to e.id) st.it st.newest in
             let f : Follows room (pace.marks found.0) e =
             subst (Follows room (pace.marks found.0)) st.last (p.follows found.0 peer) in
-            let k : Keeps room e = subst (Keeps room) st.last p.keeps in
+            let k : Keeps room (setting.ours e.asked) e =
+            subst (λ (x : EndState). Keeps room (setting.ours x.asked) x) st.last p.keeps in
             let mine : pace.marks st.it.stream.birth ≡ marks_of e = p.noted ∙ ap marks_of st.last in
             let q = pace_at (is_end s.from s.packet.source) w.it w.newest in
             let its : pace.marks found.0 ≡ marks_of w.it.last = ap pace.marks (sym w.birth) ∙ q.noted in
             let tells = h.tells fresh found.0 birth_is in
             let back : Behind w.it st.it.stream.birth =
             behind (is_end s.from s.packet.source) w.it st.it.stream.birth w.newest same_names in
-            let soon_ = soon w.it w.newest in
+            let soon_ = soon plain w.it sender_ours in
             let a = ap (λ (m : Marks). m.gave) mine in
             let b = ap (λ (m : Marks). m.took) mine in
             let c = ap (λ (m : Marks). m.gave) its in
@@ -183,20 +211,22 @@ module _ (room : ℕ) (small : room < 2 ^ 16) (setting : Setting) (n : Network)
             let took = back.took in
             let limit = f.limit in
             let received = f.received in
-            let queue = k.queue in
+            let queue = k.queue here in
             let first = tells.first in
             let next = tells.next in
-            let sent_soon = soon_.sent in
-            let received_soon = soon_.received in
+            let sent_soon = soon_.gave in
+            let received_soon = soon_.took in
+            let count = soon_.count in
             record {
               acked = record {
                 on = omega (arith, next, took, j, a, queue, small);
                 back = omega (arith, limit, d, received_soon, small);
               };
-              received = record {
-                on = omega (arith, first, gave, i, b, small);
-                back = omega (arith, received, c, sent_soon);
-              };
+              on = omega (arith, first, gave, i, b, small);
+              back = omega (arith, received, c, sent_soon, small);
+              exact = lies_less s.packet.body e.receiver.received (marks_of w.it.last).gave s.packet.first
+                  (omega (arith, received, c)) soon_.exact;
+              count = omega (arith, count, small);
             }
 
     -- ---- an end that opens
@@ -236,66 +266,3 @@ module _ (room : ℕ) (small : room < 2 ^ 16) (setting : Setting) (n : Network)
 
     pub takes_near : HearsNear t s.from s.packet s.packet.body
     takes_near = record { hears = hears_near; opens = opens_part s.packet.body (says fresh) }
-
-  pub comes_near : (x : Happening) → IsFromHere x → IsTimely (wire_numbered setting) (wired_network n) x
-      → comes_soon n x → ComesNear setting n x
-  comes_near (Takes which) here timely soon = λ s is.
-      let u = timely (wired_sent s) (packet_wired n.sent which ∙ ap (mapped wired_sent) is) in
-      takes_near s (sent_at (TellsHere room n.made pace.marks) n.sent which s pace.sent is)
-      (sent_at (Fresh W n.made) n.sent which s sound.sent is) (sym (fresh_wired n.made s) ∙ u.1) u.0 (soon s is)
-  comes_near (Strange at from segment) here timely soon = absurd here
-  comes_near (Connects at to) here timely soon = tt
-  comes_near (Listens at on) here timely soon = tt
-  comes_near (Closes at id) here timely soon = tt
-  comes_near (Writes at id items) here timely soon = tt
-  comes_near (Reads at id count) here timely soon = tt
-  comes_near (Resets at id) here timely soon = tt
-  comes_near (Ticks at id fires) here timely soon = tt
-  comes_near (Other count) here timely soon = tt
-
--- ---- histories
-
--- the network on the cable is one whose numbers are whole
-record IsWired (setting : Setting) (history : List Happening) : Type 0 where
-  pub same : after (wire_numbered setting) history ≡ wired_network (after (whole_numbered setting) history)
-  pub timely : AllTimely (whole_numbered setting) history
-
-is_wired : (room : ℕ) → room < 2 ^ 16 → (setting : Setting) (history : List Happening)
-    → ((at : Address) → (setting.rooms at).receive ≤ room) → AllTimely (wire_numbered setting) history
-    → AllByRecursion IsFromHere history →
-    AllNear setting history → IsWired setting history
-is_wired room small setting [] rooms timely here near = record { same = refl; timely = tt }
-is_wired room small setting (h ∷ hs) rooms timely here near =
-    let C : Setting = wire_numbered setting in
-    let W : Setting = whole_numbered setting in
-    let n : Network = after W hs in
-    let w = is_wired room small setting hs rooms timely.1 here.1 near.1 in
-    let now : IsTimely C (wired_network n) h = subst (λ (m : Network). IsTimely C m h) w.same timely.0 in
-    let comes = comes_near room small setting n (history_sound W hs w.timely)
-    (history_pace room setting hs rooms w.timely here.1) (history_home setting hs w.timely here.1) h here.0 now
-    near.0 in
-    record {
-      same = ap (λ (m : Network). tick (done C m h)) w.same ∙ ap tick (done_wired setting n h comes);
-      timely = (timely_whole setting n h comes now, w.timely);
-    }
-
-near_history : (setting : Setting) (history : List Happening) → HasWindows setting
-    → AllTimely (wire_numbered setting) history → AllByRecursion IsFromHere history → AllNear setting history
-    → IsWired setting history
-near_history setting history windows timely here near =
-    is_wired 65535 (lit< tt) setting history (λ at. let lt = windows at in omega (arith, lt)) timely here near
-
-pub near_reads : (setting : Setting) (history : List Happening) → HasWindows setting
-    → AllTimely (wire_numbered setting) history → AllByRecursion IsFromHere history → AllNear setting history →
-    ReadsInOrder (after (wire_numbered setting) history)
-near_reads setting history windows timely here near =
-    let w = near_history setting history windows timely here near in
-    subst ReadsInOrder (sym w.same)
-    (reads_wired (after (whole_numbered setting) history) (reads_in_order setting history w.timely))
-
-pub near_begins : (setting : Setting) (history : List Happening) → HasWindows setting
-    → AllTimely (wire_numbered setting) history → AllByRecursion IsFromHere history → AllNear setting history
-    → AllByRecursion IsNoReset history →
-    ReadsBeginnings (after (wire_numbered setting) history)
-near_begins setting history windows timely here near calm =
-    plain_begins (wire_numbered setting) history (near_reads setting history windows timely here near) calm

@@ -1,15 +1,18 @@
 -- What a segment tells an end is the same on the cable, where its numbers lie near those of the end.
-use Rattle.std.proofs.Common.{◌≡◌, ℕ, ◌+◌, ◌-◌, ◌%◌, ◌^◌, ◌<◌, Bool, true, false, cond, Some, None, refl, sym, ap}
-use Rattle.std.proofs.Common.{subst, ◌∙◌, arith, lit<, lit≤}
+use Rattle.std.proofs.Common.{◌≡◌, ℕ, zero, suc, ◌+◌, ◌-◌, ◌%◌, ◌^◌, ◌<◌, ◌≤◌, Bool, true, false, cond, List, [], ◌∷◌}
+use Rattle.std.proofs.Common.{drop, Some, None, refl, sym, ap, subst, ◌∙◌, arith, lit<, lit≤}
 use Rattle.std.specs.Prelude.{nat_le, nat_lt, ◌==◌, ◌&&◌, length}
-use Rattle.std.proofs.lemmas.Bool.{leb-true, leb-false, eqb-true, eqb-false, eq-eqb, ne_eqb}
+use Rattle.std.proofs.lemmas.Bool.{leb-true, leb-false, eqb-true, eqb-false, eq-eqb, le-leb, le-ltb, ltb-true}
+use Rattle.std.proofs.lemmas.Bool.{ltb-false, ne_eqb}
 use Rattle.at_adsp_frame.specs.Segments.{Content, Part, Data, Probe, Open, Close, Reset, ResetAck, Advice}
 use Rattle.at_adsp_end.specs.Cuts.{items_in}
 use Rattle.at_adsp_end.specs.Ends.{EndState, free}
 use Rattle.at_adsp_end.specs.Hearing.{Answers, Brings, Resets, fitting, rest, saying, told}
 use Rattle.at_adsp_end.specs.Positions.{far_around, whole, wire}
 use Rattle.at_adsp_end.specs.Sending.{acks, at_most}
+use Rattle.at_adsp_end.specs.declared.item.Item.{Item}
 use Rattle.at_adsp.specs.Wires.{wired, wired_segment}
+use Rattle.at_adsp.proofs.Fews.{count_of}
 use Rattle.at_adsp.proofs.Rounds.{ahead_back, ahead_on, at_adds, far_back, far_on}
 
 abbrev M : ℕ
@@ -117,34 +120,80 @@ acks_near e next near = go (nat_le e.sender.front next) refl
     go false is = none_behind (length e.sender.unacknowledged) e.sender.front next
         (leb-false e.sender.front next is) near.back
 
--- the numbers of a segment and those of the end that hears it
-pub record IsNear (e : EndState) (s : Content) : Type 0 where
-  pub acked : NearAcks e s.next
-  pub received : Near e.receiver.received s.first
+-- nothing is left past the end
+drop_all : {X : Type 0} (d : ℕ) (xs : List X) → length xs ≤ d → drop d xs ≡ []
+drop_all zero [] le = refl
+drop_all zero (x ∷ xs) le = absurd (omega (arith, le))
+drop_all (suc d) [] le = refl
+drop_all (suc d) (x ∷ xs) le = drop_all d xs (omega (arith, le))
 
-saying_near : (e : EndState) (s : Content) (part : Part) → IsNear e s
-    → saying wire (wired e) (s.first % M) (s.next % M) part ≡ saying whole e s.first s.next part
-saying_near e s (Data end bytes) h =
-    ap (λ o. Brings (rest (items_in end bytes) o))
-    (ahead_near s.first e.receiver.received (near_back e.receiver.received s.first h.received))
-saying_near e s Probe h = refl
-saying_near e s (Open kind dest) h = refl
-saying_near e s Close h = refl
-saying_near e s Reset h =
-    λ i. Resets (fitting (free e) (ahead_near e.receiver.received s.first h.received i)
-    (ahead_near s.first e.receiver.received (near_back e.receiver.received s.first h.received) i))
-saying_near e s ResetAck h =
+-- Of data that begins half of all numbers behind, or further, nothing is left on the cable, and nothing where numbers
+-- may be of any size.
+rest_near : (items : List Item) (first received : ℕ) → length items ≤ 2 ^ 31 → first < received + 2 ^ 31
+    → received < first + 2 ^ 32 → rest items (wire.ahead (first % M) (received % M))
+    ≡ rest items (whole.ahead first received)
+rest_near items first received few on back = go (nat_lt received (first + 2 ^ 31)) refl
+  where
+    go : (c : Bool) → nat_lt received (first + 2 ^ 31) ≡ c → rest items (wire.ahead (first % M) (received % M))
+        ≡ rest items (whole.ahead first received)
+    go true e =
+        let lt = ltb-true received (first + 2 ^ 31) e in
+        ap (rest items) (ahead_near first received (record { on = lt; back = on }))
+    go false e =
+        let le = ltb-false received (first + 2 ^ 31) e in
+        let there : first + (received - first) ≡ received = omega (arith, le) in
+        let far : far_around M (first % M) (received % M)
+        ≡ received - first = ap (λ x. far_around M (first % M) (x % M)) (sym there)
+        ∙ far_on M first (received - first) (lit< tt) (omega (arith, back, le)) in
+        let none : wire.ahead (first % M) (received % M)
+        ≡ None = ap (λ x. cond (nat_lt x (2 ^ 31)) (Some x) None) far
+        ∙ ap (λ b. cond b (Some (received - first)) None) (le-ltb (received - first) (2 ^ 31) (omega (arith, le))) in
+        let ahead : whole.ahead first received
+        ≡ Some (received - first) = ap (λ b. cond b (Some (received - first)) None) (le-leb first received
+        (omega (arith, le))) in
+        ap (rest items) none ∙ sym (drop_all (received - first) items (omega (arith, few, le)))
+        ∙ ap (rest items) (sym ahead)
+
+-- a forward reset lies less than half of all numbers behind
+abbrev pub LiesNear : Part → ℕ → ℕ → Type 0
+LiesNear Reset received first = received < first + 2 ^ 31
+LiesNear other received first = Unit {0}
+
+-- the numbers of a segment with this body and those of the end that hears it
+pub record IsNearPart (e : EndState) (first next : ℕ) (part : Part) : Type 0 where
+  pub acked : NearAcks e next
+  pub on : first < e.receiver.received + 2 ^ 31
+  pub back : e.receiver.received < first + 2 ^ 32
+  pub exact : LiesNear part e.receiver.received first
+  pub count : count_of part ≤ 2 ^ 31
+
+abbrev pub IsNear : EndState → Content → Type 0
+IsNear e s = IsNearPart e s.first s.next s.body
+
+saying_near : (e : EndState) (first next : ℕ) (part : Part) → IsNearPart e first next part
+    → saying wire (wired e) (first % M) (next % M) part ≡ saying whole e first next part
+saying_near e first next (Data end bytes) h =
+    ap Brings (rest_near (items_in end bytes) first e.receiver.received h.count h.on h.back)
+saying_near e first next Probe h = refl
+saying_near e first next (Open kind dest) h = refl
+saying_near e first next Close h = refl
+saying_near e first next Reset h =
+    let on = h.on in
+    let exact = h.exact in
+    λ i. Resets (fitting (free e) (ahead_near e.receiver.received first (record { on = on; back = exact }) i)
+    (ahead_near first e.receiver.received (record { on = exact; back = on }) i))
+saying_near e first next ResetAck h =
     ap (λ b. Answers (e.sender.resetting && b))
-    (ap (λ x. s.next % M == x) (at_adds M e.sender.front (length e.sender.unacknowledged))
-    ∙ equal_near s.next (e.sender.front + length e.sender.unacknowledged)
+    (ap (λ x. next % M == x) (at_adds M e.sender.front (length e.sender.unacknowledged))
+    ∙ equal_near next (e.sender.front + length e.sender.unacknowledged)
     (let a = h.acked in let on = a.on in omega (arith, on))
     (let a = h.acked in let back = a.back in omega (arith, back)))
-saying_near e s Advice h = refl
+saying_near e first next Advice h = refl
 
 pub told_near : (e : EndState) (s : Content) → IsNear e s → told wire (wired e) (wired_segment s) ≡ told whole e s
 told_near e s h = λ i. record {
   acks = acks_near e s.next h.acked i;
   window = s.window;
   ack = s.ack;
-  saying = saying_near e s s.body h i;
+  saying = saying_near e s.first s.next s.body h i;
 }

@@ -29,12 +29,15 @@ use Rattle.at_adsp.specs.Orders.{whole_numbered}
 use Rattle.at_adsp.specs.Streams.{Deed, Nothing, Read, GaveUp}
 use Rattle.at_adsp.proofs.Distinct.{drawn}
 use Rattle.at_adsp.proofs.EndMoves.{Quiet, open_is, quiet_opened}
-use Rattle.at_adsp.proofs.PacedEnds.{Pace, PaceOf, Paced, TellsHere, TellsNothing, changed_pace, made_pace}
-use Rattle.at_adsp.proofs.PacedEnds.{nothing_told, pace_later, paced}
-use Rattle.at_adsp.proofs.PacedDeeds.{again_paces, closing_follows, closing_paces, probed_follows, probed_paces}
-use Rattle.at_adsp.proofs.PacedDeeds.{reading_follows, reading_paces, resetting_follows, resetting_paces}
-use Rattle.at_adsp.proofs.PacedDeeds.{writing_follows, writing_paces}
-use Rattle.at_adsp.proofs.Paces.{Follows, Keeps, Paces}
+use Rattle.at_adsp.proofs.PacedBirths.{TellsNothing, made_pace, nothing_told}
+use Rattle.at_adsp.proofs.PacedEnds.{changed_pace, paced}
+use Rattle.at_adsp.proofs.PacedNetworks.{AllOpen, LowHere, PaceOf, PaceOn, Paced, Past, TellsHere, earlier_low}
+use Rattle.at_adsp.proofs.PacedNetworks.{length_sent, none_go, open_low, pace_later, stamped_before, still_pace}
+use Rattle.at_adsp.proofs.PacedDeeds.{again_advances, closing_advances, closing_follows, probed_advances}
+use Rattle.at_adsp.proofs.PacedDeeds.{probed_follows, reading_advances, reading_follows, resetting_advances}
+use Rattle.at_adsp.proofs.PacedDeeds.{resetting_follows, writing_advances, writing_follows}
+use Rattle.at_adsp.proofs.Paces.{Follows, Keeps}
+use Rattle.at_adsp.proofs.Slows.{Advances}
 use Rattle.at_adsp.proofs.Sound.{Sound, Stands}
 use Rattle.at_adsp.proofs.Steps.{moves, old, s as stood, same_peer}
 
@@ -42,23 +45,24 @@ use Rattle.at_adsp.proofs.Steps.{moves, old, s as stood, same_peer}
 
 module _ (room : ℕ) (deed : Deed) (setting : Setting) (n : Network) (at : Address) (q : EndState → Bool)
     (e f : EndState) (sound : Sound setting (n.event + 1) n) (is : find q (n.tables at).ends ≡ Some e)
-    (quiet : Quiet e f) (pace : PaceOf room (n.event + 1) n) where
+    (quiet : Quiet e f) (pace : PaceOf room setting.ours (n.event + 1) n) where
   abbrev it : Stands setting n.made at e
   it = stood deed setting n at q e f sound is quiet
 
-  was : Paced room pace.marks (stood deed setting n at q e f sound is quiet).it
+  was : Paced room setting.ours pace.marks (stood deed setting n at q e f sound is quiet).it
   was = paced room deed setting n at e f sound (stood deed setting n at q e f sound is quiet)
       (moves deed setting n at q e f sound is quiet) pace
 
-  pub quiet_pace : {X : Type 0} (answer : X) (out : List Content) → (Keeps room e → Paces room e f out)
+  pub quiet_pace : {X : Type 0} (answer : X) (out : List Content)
+      → (Keeps room (setting.ours e.asked) e → Advances room (setting.ours e.asked) e f out)
       → (has_opened f.phase ≡ false → (f.sender ≡ e.sender) × (f.receiver ≡ e.receiver)) →
-      ((b : ℕ) → it.it.stream.peer ≡ Some b → Follows room (pace.marks b) e → Follows room (pace.marks b) f)
-      → PaceOf room (n.event + 1) (does_with deed setting n at (moved (n.tables at) answer f out))
-  quiet_pace answer out goes begins follows =
+      ((b : ℕ) → it.it.stream.peer ≡ Some b → Follows room (pace.marks b) e → Follows room (pace.marks b) f) → Past n
+      → PaceOn room setting.ours pace.marks n (does_with deed setting n at (moved (n.tables at) answer f out))
+  quiet_pace answer out goes begins follows past =
       let o = old deed setting n at q e f sound is quiet in
       let w = was in
       changed_pace room deed setting n at e f sound it (moves deed setting n at q e f sound is quiet) pace out
-      (goes (subst (Keeps room) it.last w.keeps))
+      (goes (subst (λ (x : EndState). Keeps room (setting.ours x.asked) x) it.last w.keeps))
       (λ unopened.
       let same = begins unopened in
       let none = w.begins (ap (λ (x : EndState). has_opened x.phase) it.last ∙ sym (quiet_opened e f quiet) ∙ unopened)
@@ -68,33 +72,47 @@ module _ (room : ℕ) (deed : Deed) (setting : Setting) (n : Network) (at : Addr
             ∙ ap (λ (x : EndState). x.receiver) (sym it.last) ∙ none.1,
       ))
       (λ b peer. let p = sym (same_peer deed setting n at q e f sound is quiet)
-      ∙ peer in follows b p (subst (Follows room (pace.marks b)) it.last (w.follows b p)))
+      ∙ peer in follows b p (subst (Follows room (pace.marks b)) it.last (w.follows b p))) past
       answer o.0 o.1
 
 -- ---- what changes no end
 
-pub kept_pace : (room : ℕ) (n : Network) (at to : Address) (t : EndTable) (out : List Content) → t.rooms.receive ≤ room
-    → AllByRecursion (TellsNothing room) out → PaceOf room (n.event + 1) n →
-    Pace room (n.event + 1) (put n.tables at t) n.made (n.sent ++ stamped n.event at (addressed to out))
-kept_pace room n at to t out fits nothing pace = record {
-  marks = pace.marks;
-  none = pace.none;
-  ends = pace.ends;
-  sent = sent_both (TellsHere room n.made pace.marks) n.sent (stamped n.event at (addressed to out)) pace.sent
-      (nothing_told room n.made pace.marks n.event at to out nothing);
-  rooms = put_elsewhere (λ a (x : EndTable). x.rooms.receive ≤ room) n.tables at t (λ a other. pace.rooms a) fits;
+pub kept_pace : (room : ℕ) (ours : Address → Bool) (n : Network) (at to : Address) (t : EndTable) (out : List Content)
+    → t.rooms.receive ≤ room → AllByRecursion (TellsNothing room) out → AllOpen out → Past n →
+    (pace : PaceOf room ours (n.event + 1) n) →
+    PaceOn room ours pace.marks n
+    (record n { tables = put n.tables at t; sent = n.sent ++ stamped n.event at (addressed to out) })
+kept_pace room ours n at to t out fits nothing opens past pace = record {
+  pace = record {
+    marks = pace.marks;
+    none = pace.none;
+    ends = pace.ends;
+    sent = sent_both (TellsHere room n.made pace.marks) n.sent (stamped n.event at (addressed to out)) pace.sent
+        (nothing_told room n.made pace.marks n.event at to out nothing);
+    few = λ c. let le = pace.few c in let many = length_sent n.sent n.event at to out in omega (arith, le, many);
+    rooms = put_elsewhere (λ a (x : EndTable). x.rooms.receive ≤ room) n.tables at t (λ a other. pace.rooms a) fits;
+  };
+  goes = none_go room ours pace.marks n.made;
+  low = sent_both (LowHere room ours n.made pace.marks n.event) n.sent (stamped n.event at (addressed to out))
+      (earlier_low room ours n.made pace.marks n past)
+      (open_low room ours n.made pace.marks n.event at to out opens);
+  back = λ s lt fresh. (fresh, refl);
+  before = stamped_before n
+      (record n { tables = put n.tables at t; sent = n.sent ++ stamped n.event at (addressed to out) }) at
+      (addressed to out) refl;
 }
 
 -- ---- calls
 
 pub connects_pace : (room : ℕ) (setting : Setting) (n : Network) (at to : Address) → Sound setting n.event n
-    → PaceOf room n.event n → ((id : ℕ) → next_id (n.tables at) ≡ Some id → NoneNames n at id) →
-    PaceOf room (n.event + 1) (calls setting n at (connected (n.tables at) to (next_id (n.tables at))))
+    → (pace : PaceOf room setting.ours n.event n) → ((id : ℕ) → next_id (n.tables at) ≡ Some id → NoneNames n at id) →
+    PaceOn room setting.ours pace.marks n
+    (calls setting n at (connected (n.tables at) to (next_id (n.tables at))))
 connects_pace room setting n at to sound pace unnamed = go (next_id (n.tables at)) refl
   where
     go : (o : Option ℕ) → next_id (n.tables at) ≡ o
-        → PaceOf room (n.event + 1) (calls setting n at (connected (n.tables at) to o))
-    go None is = pace_later room n pace
+        → PaceOn room setting.ours pace.marks n (calls setting n at (connected (n.tables at) to o))
+    go None is = still_pace room setting.ours n (pace_later room setting.ours n pace) sound.past
     go (Some id) is =
         let fits = pace.rooms at in
         made_pace room setting n at (connector (n.tables at).rooms id to) sound
@@ -103,7 +121,7 @@ connects_pace room setting n at to sound pace unnamed = go (next_id (n.tables at
           known = (refl, refl);
           unopened = refl;
           unnamed = unnamed id is;
-        }) pace (refl, refl) (record { queue = omega arith; space = fits }) id
+        }) pace (refl, refl) (record { queue = λ is. omega arith; space = fits; unread = omega arith }) id
         (asking (connector (n.tables at).rooms id to) ∷ []) (
           record {
             window = omega (arith, fits);
@@ -116,20 +134,28 @@ connects_pace room setting n at to sound pace unnamed = go (next_id (n.tables at
           },
           tt,
         )
+        ((λ plain. plain), tt)
 
 module _ (room : ℕ) (setting : Setting) (n : Network) (at : Address) (id : ℕ)
-    (sound : Sound (whole_numbered setting) (n.event + 1) n) (pace : PaceOf room (n.event + 1) n) where
+    (sound : Sound (whole_numbered setting) (n.event + 1) n) (past : Past n)
+    (pace : PaceOf room setting.ours (n.event + 1) n) where
   abbrev W : Setting
   W = whole_numbered setting
 
   was_opened : {A : Type 0} (p : Phase) → is_open p ≡ true → has_opened p ≡ false → A
   was_opened p h unopened = absurd (true≢false (sym (ap has_opened (open_is p h)) ∙ unopened))
 
-  pub closes_pace : PaceOf room (n.event + 1) (calls W n at (closed_at whole (n.tables at) (by_id (n.tables at) id)))
+  abbrev Now : Network → Type 0
+  Now m = PaceOn room setting.ours pace.marks n m
+
+  nothing : Now n
+  nothing = still_pace room setting.ours n pace past
+
+  pub closes_pace : Now (calls W n at (closed_at whole (n.tables at) (by_id (n.tables at) id)))
   closes_pace = go (by_id (n.tables at) id) refl
     where
       which : (e : EndState) → by_id (n.tables at) id ≡ Some e → (b : Bool) → is_open e.phase ≡ b →
-          PaceOf room (n.event + 1)
+          Now
           (calls W n at (cond b (Ok
           (moved (n.tables at) (step.Closed e.id) (closing whole e).after (closing whole e).sent))
           (Ok (freed (n.tables at) (step.Freed e.id) e))))
@@ -142,45 +168,47 @@ module _ (room : ℕ) (setting : Setting) (n : Network) (at : Address) (id : ℕ
             remote = refl;
             phase = inr (open_is e.phase opened, refl);
           }) pace
-          (step.Closed e.id) (closing whole e).sent (closing_paces room e) (λ unopened. absurd (true≢false unopened))
-          (λ b peer h. closing_follows room e (pace.marks b) h)
-      which e is false opened = kept_pace room n at e.asked (without_end (n.tables at) e.id) [] (pace.rooms at) tt pace
+          (step.Closed e.id) (closing whole e).sent (closing_advances room (setting.ours e.asked) e)
+          (λ unopened. absurd (true≢false unopened))
+          (λ b peer h. closing_follows room e (pace.marks b) h) past
+      which e is false opened = kept_pace room setting.ours n at e.asked (without_end (n.tables at) e.id) []
+          (pace.rooms at) tt tt past pace
 
       go : (o : Option EndState) → by_id (n.tables at) id ≡ o
-          → PaceOf room (n.event + 1) (calls W n at (closed_at whole (n.tables at) o))
-      go None is = pace
+          → Now (calls W n at (closed_at whole (n.tables at) o))
+      go None is = nothing
       go (Some e) is = which e is (is_open e.phase) refl
 
   pub writes_pace : (items : List Item)
-      → PaceOf room (n.event + 1)
+      → Now
       (calls_with (wrote_first items) W n at (wrote whole (n.tables at) items (by_id (n.tables at) id)))
   writes_pace items = go (by_id (n.tables at) id) refl
     where
       which : (e : EndState) → by_id (n.tables at) id ≡ Some e → (b c : Bool) → is_open e.phase ≡ b →
-          PaceOf room (n.event + 1)
+          Now
           (calls_with (wrote_first items) W n at
           (cond b (cond c (Err NoRoom) (Ok (wrote_some whole (n.tables at) items e))) (Err NotOpen)))
-      which e is true true opened = pace
+      which e is true true opened = nothing
       which e is true false opened =
           quiet_pace room (wrote_first items (length (take (places e) items))) W n at (has_id id) e
           (writing whole e items).after sound is
           (record { id = refl; listener = refl; asked = refl; remote = refl; phase = inl refl }) pace
           (length (take (places e) items)) (writing whole e items).sent
-          (writing_paces room e items) (λ unopened. was_opened e.phase opened unopened)
-          (λ b peer h. writing_follows room e items (pace.marks b) h)
-      which e is false c opened = pace
+          (writing_advances room (setting.ours e.asked) e items) (λ unopened. was_opened e.phase opened unopened)
+          (λ b peer h. writing_follows room e items (pace.marks b) h) past
+      which e is false c opened = nothing
 
       go : (o : Option EndState) → by_id (n.tables at) id ≡ o
-          → PaceOf room (n.event + 1) (calls_with (wrote_first items) W n at (wrote whole (n.tables at) items o))
-      go None is = pace
+          → Now (calls_with (wrote_first items) W n at (wrote whole (n.tables at) items o))
+      go None is = nothing
       go (Some e) is = which e is (is_open e.phase) (finds_no_room e items) refl
 
   pub reads_pace : (count : ℕ)
-      → PaceOf room (n.event + 1) (calls_with Read W n at (read_at whole (n.tables at) count (by_id (n.tables at) id)))
+      → Now (calls_with Read W n at (read_at whole (n.tables at) count (by_id (n.tables at) id)))
   reads_pace count = go (by_id (n.tables at) id) refl
     where
       which : (e : EndState) → by_id (n.tables at) id ≡ Some e → (b : Bool) → has_opened e.phase ≡ b →
-          PaceOf room (n.event + 1)
+          Now
           (calls_with Read W n at (cond b
           (Ok (moved (n.tables at) (take count e.receiver.unread) (reading whole e count).after
           (reading whole e count).sent)) (Err NotOpen)))
@@ -188,22 +216,23 @@ module _ (room : ℕ) (setting : Setting) (n : Network) (at : Address) (id : ℕ
           quiet_pace room (Read (take count e.receiver.unread)) W n at (has_id id) e
           (reading whole e count).after sound is
           (record { id = refl; listener = refl; asked = refl; remote = refl; phase = inl refl }) pace
-          (take count e.receiver.unread) (reading whole e count).sent (reading_paces room e count)
+          (take count e.receiver.unread) (reading whole e count).sent (reading_advances room
+          (setting.ours e.asked) e count)
           (λ unopened. absurd (true≢false (sym opened ∙ unopened)))
-          (λ b peer h. reading_follows room e count (pace.marks b) h)
-      which e is false opened = pace
+          (λ b peer h. reading_follows room e count (pace.marks b) h) past
+      which e is false opened = nothing
 
       go : (o : Option EndState) → by_id (n.tables at) id ≡ o
-          → PaceOf room (n.event + 1) (calls_with Read W n at (read_at whole (n.tables at) count o))
-      go None is = pace
+          → Now (calls_with Read W n at (read_at whole (n.tables at) count o))
+      go None is = nothing
       go (Some e) is = which e is (has_opened e.phase) refl
 
-  pub resets_pace : PaceOf room (n.event + 1)
+  pub resets_pace : Now
       (calls_with gave_up W n at (reset_at whole (n.tables at) (by_id (n.tables at) id)))
   resets_pace = go (by_id (n.tables at) id) refl
     where
       which : (e : EndState) → by_id (n.tables at) id ≡ Some e → (b : Bool) → is_open e.phase ≡ b →
-          PaceOf room (n.event + 1)
+          Now
           (calls_with gave_up W n at
           (cond b (Ok (moved {X = Unit {0}} (n.tables at) tt (resetting_now whole e).after
           (resetting_now whole e).sent)) (Err NotOpen)))
@@ -211,24 +240,24 @@ module _ (room : ℕ) (setting : Setting) (n : Network) (at : Address) (id : ℕ
           quiet_pace room GaveUp W n at (has_id id) e (resetting_now whole e).after sound is
           (record { id = refl; listener = refl; asked = refl; remote = refl; phase = inl refl }) pace
           {X = Unit {0}} tt (resetting_now whole e).sent
-          (resetting_paces room e) (λ unopened. was_opened e.phase opened unopened)
-          (λ b peer h. resetting_follows room e (pace.marks b) h)
-      which e is false opened = pace
+          (resetting_advances room (setting.ours e.asked) e) (λ unopened. was_opened e.phase opened unopened)
+          (λ b peer h. resetting_follows room e (pace.marks b) h) past
+      which e is false opened = nothing
 
       go : (o : Option EndState) → by_id (n.tables at) id ≡ o
-          → PaceOf room (n.event + 1) (calls_with gave_up W n at (reset_at whole (n.tables at) o))
-      go None is = pace
+          → Now (calls_with gave_up W n at (reset_at whole (n.tables at) o))
+      go None is = nothing
       go (Some e) is = which e is (is_open e.phase) refl
 
   -- ---- timers
 
   tick_pace : (e : EndState) (tick : Tick) → by_id (n.tables at) id ≡ Some e → is_closed e.phase ≡ false → frees e tick
-      ≡ false → PaceOf room (n.event + 1) (does W n at (settled (n.tables at) (ticked whole e tick)))
+      ≡ false → Now (does W n at (settled (n.tables at) (ticked whole e tick)))
   tick_pace e Retransmit is open_ stays =
       quiet_pace room Nothing W n at (has_id id) e e sound is
       (record { id = refl; listener = refl; asked = refl; remote = refl; phase = inl refl }) pace
       (ticked whole e Retransmit).step (ticked whole e Retransmit).sent
-      (again_paces room e) (λ unopened. (refl, refl)) (λ b peer h. h)
+      (again_advances room (setting.ours e.asked) e) (λ unopened. (refl, refl)) (λ b peer h. h) past
   tick_pace e Probe is open_ stays = go (is_last e Probe) stays
     where
       opened : (b : Bool) → is_open e.phase ≡ b → not b ≡ false → e.phase ≡ phase.Open
@@ -236,7 +265,7 @@ module _ (room : ℕ) (setting : Setting) (n : Network) (at : Address) (id : ℕ
       opened false h g = absurd (true≢false g)
 
       go : (b : Bool) → (b && not (is_open e.phase)) ≡ false
-          → PaceOf room (n.event + 1) (does W n at (settled (n.tables at) (probed whole e b)))
+          → Now (does W n at (settled (n.tables at) (probed whole e b)))
       go true h =
           quiet_pace room Nothing W n at (has_id id) e (probed whole e true).after sound is
           (record {
@@ -246,43 +275,50 @@ module _ (room : ℕ) (setting : Setting) (n : Network) (at : Address) (id : ℕ
             remote = refl;
             phase = inr (opened (is_open e.phase) refl h, refl);
           }) pace (probed whole e true).step []
-          (probed_paces room e true) (λ unopened. absurd (true≢false unopened))
-          (λ b peer g. probed_follows room e true (pace.marks b) g)
+          (probed_advances room (setting.ours e.asked) e true) (λ unopened. absurd (true≢false unopened))
+          (λ b peer g. probed_follows room e true (pace.marks b) g) past
       go false h =
           quiet_pace room Nothing W n at (has_id id) e (probed whole e false).after sound is
           (record { id = refl; listener = refl; asked = refl; remote = refl; phase = inl refl }) pace
           (probed whole e false).step
-          (probed whole e false).sent (probed_paces room e false) (λ unopened. (refl, refl))
-          (λ b peer g. probed_follows room e false (pace.marks b) g)
+          (probed whole e false).sent (probed_advances room (setting.ours e.asked) e false) (λ unopened. (refl, refl))
+          (λ b peer g. probed_follows room e false (pace.marks b) g) past
 
   pub ticks_pace : (tick : Tick)
-      → PaceOf room (n.event + 1) (calls W n at (ticked_at whole (n.tables at) tick (by_id (n.tables at) id)))
+      → Now (calls W n at (ticked_at whole (n.tables at) tick (by_id (n.tables at) id)))
   ticks_pace tick = go (by_id (n.tables at) id) refl
     where
       which : (e : EndState) → by_id (n.tables at) id ≡ Some e → (b c : Bool) → is_closed e.phase ≡ b → frees e tick
           ≡ c →
-          PaceOf room (n.event + 1)
+          Now
           (calls W n at (cond b (Err NotOpen)
           (cond c (Ok (freed (n.tables at) (step.Freed e.id) e))
           (Ok (settled (n.tables at) (ticked whole e tick))))))
-      which e is true c open_ h = pace
-      which e is false true open_ h = kept_pace room n at e.asked (without_end (n.tables at) e.id) []
-          (pace.rooms at) tt pace
+      which e is true c open_ h = nothing
+      which e is false true open_ h = kept_pace room setting.ours n at e.asked (without_end (n.tables at) e.id)
+          [] (pace.rooms at) tt tt past pace
       which e is false false open_ h = tick_pace e tick is open_ h
 
       go : (o : Option EndState) → by_id (n.tables at) id ≡ o
-          → PaceOf room (n.event + 1) (calls W n at (ticked_at whole (n.tables at) tick o))
-      go None is = pace
+          → Now (calls W n at (ticked_at whole (n.tables at) tick o))
+      go None is = nothing
       go (Some e) is = which e is (is_closed e.phase) (frees e tick) refl refl
 
 -- requests are answered, or no more
-pub listens_pace : (room : ℕ) (n : Network) (at : Address) (on : Bool) → PaceOf room (n.event + 1) n
-    → PaceOf room (n.event + 1) (listens n at on)
-listens_pace room n at on pace = record {
-  marks = pace.marks;
-  none = pace.none;
-  ends = pace.ends;
-  sent = pace.sent;
-  rooms = put_elsewhere (λ a (x : EndTable). x.rooms.receive ≤ room) n.tables at (listened (n.tables at) on)
-      (λ a other. pace.rooms a) (pace.rooms at);
+pub listens_pace : (room : ℕ) (ours : Address → Bool) (n : Network) (at : Address) (on : Bool) → Past n
+    → (pace : PaceOf room ours (n.event + 1) n) → PaceOn room ours pace.marks n (listens n at on)
+listens_pace room ours n at on past pace = record {
+  pace = record {
+    marks = pace.marks;
+    none = pace.none;
+    ends = pace.ends;
+    sent = pace.sent;
+    few = pace.few;
+    rooms = put_elsewhere (λ a (x : EndTable). x.rooms.receive ≤ room) n.tables at (listened (n.tables at) on)
+        (λ a other. pace.rooms a) (pace.rooms at);
+  };
+  goes = none_go room ours pace.marks n.made;
+  low = earlier_low room ours n.made pace.marks n past;
+  back = λ s lt fresh. (fresh, refl);
+  before = λ which s is lt. is;
 }

@@ -1,83 +1,104 @@
 -- How far the ends of a network went on after a history.
-use Rattle.std.proofs.Common.{◌≡◌, ℕ, ◌+◌, ◌≤◌, Bool, true, false, cond, List, [], ◌∷◌, replicate, Option, Some, None}
-use Rattle.std.proofs.Common.{refl, sym, subst}
-use Rattle.std.specs.List.{AllByRecursion}
+use Rattle.std.proofs.Common.{◌≡◌, ℕ, ◌+◌, ◌≤◌, Bool, true, false, cond, List, [], ◌∷◌, length, replicate, Option}
+use Rattle.std.proofs.Common.{Some, None, refl, sym, ◌∙◌, arith}
+use Rattle.std.proofs.lemmas.Bool.{true≢false}
+use Rattle.at_adsp_frame.specs.Segments.{Content}
 use Rattle.at_ddp.specs.declared.address.Address.{Address}
-use Rattle.at_adsp.specs.Cables.{IsFromHere}
 use Rattle.at_adsp.specs.Network.{Setting, Sent, Network, Happening, Connects, Listens, Closes, Writes, Reads, Resets}
 use Rattle.at_adsp.specs.Network.{Ticks, Takes, Strange, Other}
 use Rattle.at_ddp.specs.Posts.{packet_at}
 use Rattle.at_ddp.proofs.PostLemmas.{none_sent, sent_at, sent_both}
-use Rattle.at_adsp.specs.Network.{AllTimely, IsTimely, after, birth_of, done, newest, takes, tick}
+use Rattle.at_adsp.specs.Network.{IsTimely, birth_of, done, hears, newest, opening, takes}
 use Rattle.at_adsp.specs.Orders.{whole_numbered}
-use Rattle.at_adsp.proofs.Histories.{history_sound, same_event}
+use Rattle.at_adsp.proofs.Logs.{length_both}
 use Rattle.at_adsp.proofs.PacedCalls.{closes_pace, connects_pace, listens_pace, reads_pace, resets_pace, ticks_pace}
 use Rattle.at_adsp.proofs.PacedCalls.{writes_pace}
-use Rattle.at_adsp.proofs.PacedEnds.{PaceOf, TellsHere, pace_later}
+use Rattle.at_adsp.proofs.PacedNetworks.{LowHere, PaceOf, PaceOn, TellsHere, earlier_low, none_go, pace_later}
+use Rattle.at_adsp.proofs.PacedNetworks.{sent_before, still_pace}
 use Rattle.at_adsp.proofs.PacedReceptions.{hears_pace}
 use Rattle.at_adsp.proofs.Sound.{Sound}
 use Rattle.at_adsp.proofs.Steps.{later}
 
-takes_pace : (room : ℕ) (setting : Setting) (n : Network) (which : ℕ) → Sound (whole_numbered setting) n.event n
-    → PaceOf room n.event n → IsTimely (whole_numbered setting) n (Takes which) →
-    PaceOf room (n.event + 1) (takes (whole_numbered setting) n (packet_at n.sent which))
-takes_pace room setting n which sound pace timely = go (packet_at n.sent which) refl
-  where
-    go : (o : Option Sent) → packet_at n.sent which ≡ o → PaceOf room (n.event + 1) (takes (whole_numbered setting) n o)
-    go None is = pace_later room n pace
-    go (Some s) is =
-        let t = timely s is in
-        let h = sent_at (TellsHere room n.made pace.marks) n.sent which s pace.sent is in
-        hears_pace room setting n s.to s.from s.packet sound pace h.window
-        (λ b same. h.tells t.1 b
-        (of (setting.ours s.from) (birth_of (newest n.made s.from s.packet.source)) b same)) t.2
-      where
-        of : (c : Bool) (o : Option ℕ) (b : ℕ) → cond c o None ≡ Some b → o ≡ Some b
-        of true o b h = h
-        of false o b h = absurd (cc)
+module _ (room : ℕ) (setting : Setting) (n : Network) (sound : Sound (whole_numbered setting) n.event n)
+    (pace : PaceOf room setting.ours n.event n) where
+  abbrev W : Setting
+  W = whole_numbered setting
 
-done_pace : (room : ℕ) (setting : Setting) (n : Network) (h : Happening) → Sound (whole_numbered setting) n.event n
-    → PaceOf room n.event n → IsTimely (whole_numbered setting) n h → IsFromHere h →
-    PaceOf room (n.event + 1) (done (whole_numbered setting) n h)
-done_pace room setting n (Connects at to) sound pace timely here =
-    connects_pace room (whole_numbered setting) n at to sound pace timely
-done_pace room setting n (Listens at on) sound pace timely here = listens_pace room n at on (pace_later room n pace)
-done_pace room setting n (Closes at id) sound pace timely here =
-    closes_pace room setting n at id (later (whole_numbered setting) n sound) (pace_later room n pace)
-done_pace room setting n (Writes at id items) sound pace timely here =
-    writes_pace room setting n at id (later (whole_numbered setting) n sound) (pace_later room n pace) items
-done_pace room setting n (Reads at id count) sound pace timely here =
-    reads_pace room setting n at id (later (whole_numbered setting) n sound) (pace_later room n pace) count
-done_pace room setting n (Resets at id) sound pace timely here =
-    resets_pace room setting n at id (later (whole_numbered setting) n sound) (pace_later room n pace)
-done_pace room setting n (Ticks at id fires) sound pace timely here =
-    ticks_pace room setting n at id (later (whole_numbered setting) n sound) (pace_later room n pace) fires
-done_pace room setting n (Takes which) sound pace timely here = takes_pace room setting n which sound pace timely
-done_pace room setting n (Strange at from segment) sound pace timely here = absurd here
-done_pace room setting n (Other count) sound pace timely here =
-    let p = pace_later room n pace in
+  abbrev Now : Network → Type 0
+  Now m = PaceOn room setting.ours pace.marks n m
+
+  now : Sound W (n.event + 1) n
+  now = later W n sound
+
+  abbrev pace_now : PaceOf room setting.ours (n.event + 1) n
+  pace_now = pace_later room setting.ours n pace
+
+  takes_pace : (which : ℕ) → IsTimely W n (Takes which) → Now (takes W n (packet_at n.sent which))
+  takes_pace which timely = go (packet_at n.sent which) refl
+    where
+      go : (o : Option Sent) → packet_at n.sent which ≡ o → Now (takes W n o)
+      go None is = still_pace room setting.ours n pace_now sound.past
+      go (Some s) is =
+          let t = timely s is in
+          let h = sent_at (TellsHere room n.made pace.marks) n.sent which s pace.sent is in
+          hears_pace room setting n s.to s.from s.packet sound pace (λ ours. h.window)
+          (λ b same. h.tells t.1 b
+          (of (setting.ours s.from) (birth_of (newest n.made s.from s.packet.source)) b same)) t.2
+        where
+          of : (c : Bool) (o : Option ℕ) (b : ℕ) → cond c o None ≡ Some b → o ≡ Some b
+          of true o b h = h
+          of false o b h = absurd (cc)
+
+  -- what comes from a strange address is of no end that an end here follows
+  strange_pace : (at from : Address) (segment : Content) → IsTimely W n (Strange at from segment)
+      → Now (hears W n at from segment)
+  strange_pace at from segment timely =
+      hears_pace room setting n at from segment sound pace (λ ours. absurd (true≢false (sym ours ∙ timely.1)))
+      (λ b same. absurd (none (setting.ours from) (birth_of
+      (newest n.made from segment.source)) b timely.1 same)) timely.2
+    where
+      none : (c : Bool) (o : Option ℕ) (b : ℕ) → c ≡ false → cond c o None ≡ Some b → ⊥
+      none true o b strange h = absurd (true≢false strange)
+      none false o b strange h = absurd (cc)
+
+  pub done_pace : (h : Happening) → IsTimely W n h → Now (done W n h)
+  done_pace (Connects at to) timely = connects_pace room W n at to sound pace timely
+  done_pace (Listens at on) timely = listens_pace room setting.ours n at on sound.past pace_now
+  done_pace (Closes at id) timely = closes_pace room setting n at id now sound.past pace_now
+  done_pace (Writes at id items) timely = writes_pace room setting n at id now sound.past pace_now items
+  done_pace (Reads at id count) timely = reads_pace room setting n at id now sound.past pace_now count
+  done_pace (Resets at id) timely = resets_pace room setting n at id now sound.past pace_now
+  done_pace (Ticks at id fires) timely = ticks_pace room setting n at id now sound.past pace_now fires
+  done_pace (Takes which) timely = takes_pace which timely
+  done_pace (Strange at from segment) timely = strange_pace at from segment timely
+  done_pace (Other count) timely = record {
+    pace = record {
+      marks = pace.marks;
+      none = pace_now.none;
+      ends = pace.ends;
+      sent = sent_both (TellsHere room n.made pace.marks) n.sent (replicate count None) pace.sent
+          (none_sent (TellsHere room n.made pace.marks) count);
+      few = λ b. let le = pace.few b in let many = length_both n.sent (replicate {A = Option Sent} count None) in
+          omega (arith, le, many);
+      rooms = pace.rooms;
+    };
+    goes = none_go room setting.ours pace.marks n.made;
+    low = sent_both (LowHere room setting.ours n.made pace.marks n.event) n.sent (replicate count None)
+        (earlier_low room setting.ours n.made pace.marks n sound.past)
+        (none_sent (LowHere room setting.ours n.made pace.marks n.event) count);
+    back = λ s lt fresh. (fresh, refl);
+    before = sent_before n.event n.sent (replicate count None) (none_sent (λ (s : Sent). s.event ≡ n.event) count);
+  }
+
+-- before anything happened
+pub opening_pace : (room : ℕ) (setting : Setting) → ((at : Address) → (setting.rooms at).receive ≤ room)
+    → PaceOf room setting.ours 0 (opening (whole_numbered setting))
+opening_pace room setting rooms =
     record {
-      marks = p.marks;
-      none = p.none;
-      ends = p.ends;
-      sent = sent_both (TellsHere room n.made p.marks) n.sent (replicate count None) p.sent
-          (none_sent (TellsHere room n.made p.marks) count);
-      rooms = p.rooms;
+      marks = λ b. record { gave = 0; took = 0 };
+      none = λ b le. refl;
+      ends = tt;
+      sent = tt;
+      few = λ b. omega arith;
+      rooms = rooms;
     }
-
-ticked_pace : (room events : ℕ) (n : Network) → n.event ≡ events → PaceOf room (events + 1) n
-    → PaceOf room (tick n).event (tick n)
-ticked_pace room events n same h = subst (λ k. PaceOf room (k + 1) n) (sym same) h
-
-pub history_pace : (room : ℕ) (setting : Setting) (history : List Happening)
-    → ((at : Address) → (setting.rooms at).receive ≤ room) → AllTimely (whole_numbered setting) history
-    → AllByRecursion IsFromHere history →
-    PaceOf room (after (whole_numbered setting) history).event (after (whole_numbered setting) history)
-history_pace room setting [] rooms timely here =
-    record { marks = λ b. record { gave = 0; took = 0 }; none = λ b le. refl; ends = tt; sent = tt; rooms = rooms }
-history_pace room setting (h ∷ hs) rooms timely here =
-    ticked_pace room (after (whole_numbered setting) hs).event
-    (done (whole_numbered setting) (after (whole_numbered setting) hs) h)
-    (same_event (whole_numbered setting) (after (whole_numbered setting) hs) h)
-    (done_pace room setting (after (whole_numbered setting) hs) h (history_sound (whole_numbered setting) hs timely.1)
-    (history_pace room setting hs rooms timely.1 here.1) timely.0 here.0)

@@ -11,11 +11,14 @@ use Rattle.at_adsp_end.specs.Hearing.{if_asked}
 use Rattle.at_adsp_end.specs.Positions.{whole}
 use Rattle.at_adsp_end.specs.Sending.{acknowledged, acks, at_most, going, hearing, repeated, sending}
 use Rattle.at_adsp_end.specs.declared.item.Item.{Item}
+use Rattle.at_adsp_end.specs.Ends.{Receiver}
 use Rattle.at_adsp.proofs.Carries.{acks_within}
+use Rattle.at_adsp.proofs.EndMoves.{IsPlainPart}
 use Rattle.at_adsp.proofs.Fews.{count_of, length_drop}
 use Rattle.at_adsp.proofs.Hears.{ahead_far}
 use Rattle.at_adsp.proofs.Logs.{length_both}
 use Rattle.at_adsp.proofs.Slices.{all_items, pieces_whole}
+use Rattle.at_adsp.proofs.Unreads.{Unread}
 
 -- how many items an end gave numbers to, and how many it received or passed
 pub record Marks : Type 0 where
@@ -43,10 +46,28 @@ pub record TellsOf (room id : ℕ) (m : Marks) (s : Content) : Type 0 where
   pub next : s.next ≤ m.took
   pub window : s.window ≤ room
 
--- no more is under way than a window lets
-pub record Keeps (room : ℕ) (e : EndState) : Type 0 where
-  pub queue : length e.sender.unacknowledged + e.sender.credit ≤ room
+-- No more is under way than a window lets, if the end is here: for one of our addresses. No more is unread than came.
+pub record Keeps (room : ℕ) (here : Bool) (e : EndState) : Type 0 where
+  pub queue : here ≡ true → length e.sender.unacknowledged + e.sender.credit ≤ room
   pub space : e.receive_room ≤ room
+  pub unread : Unread e
+
+-- a segment that opens nothing tells no less than its end had reached
+pub record IsFrom (e : EndState) (s : Content) : Type 0 where
+  pub first : e.sender.front ≤ s.first
+  pub next : e.receiver.received ≤ s.next
+
+abbrev pub TellsFrom : EndState → Content → Type 0
+TellsFrom e s = IsPlainPart s.body → IsFrom e s
+
+pub from_on : (e f : EndState) (out : List Content) → e.sender.front ≤ f.sender.front
+    → e.receiver.received ≤ f.receiver.received → AllByRecursion (TellsFrom f) out → AllByRecursion (TellsFrom e) out
+from_on e f out front took all = all_implied (TellsFrom f) (TellsFrom e) out
+    (λ s t plain.
+    let u = t plain in
+    let first = u.first in
+    let next = u.next in
+    record { first = omega (arith, front, first); next = omega (arith, took, next) }) all
 
 -- an end received no more than its peer gave, and may send as much as the peer took, and a window
 pub record Follows (room : ℕ) (m : Marks) (e : EndState) : Type 0 where
@@ -62,22 +83,44 @@ tells_on room id a b s r h = let g = r.gave in let t = r.took in let x = h.first
     record { source = h.source; first = omega (arith, g, x); next = omega (arith, t, y); window = h.window }
 
 -- an end goes on as this one, and sends this
-pub record Paces (room : ℕ) (e f : EndState) (out : List Content) : Type 0 where
+pub record Paces (room : ℕ) (here : Bool) (e f : EndState) (out : List Content) : Type 0 where
   pub id : f.id ≡ e.id
   pub rises : Rises (marks_of e) (marks_of f)
-  pub keeps : Keeps room f
+  pub front : e.sender.front ≤ f.sender.front
+  pub keeps : Keeps room here f
   pub tells : AllByRecursion (TellsOf room f.id (marks_of f)) out
+  pub from : AllByRecursion (TellsFrom e) out
 
-module _ (room : ℕ) where
+pub take_few : {X : Type 0} (k : ℕ) (xs : List X) → length (take k xs) ≤ k
+take_few zero xs = omega arith
+take_few (suc k) [] = omega arith
+take_few (suc k) (x ∷ xs) = let rest = take_few k xs in omega (arith, rest)
+
+pub length_going : (s : Sender) → length (going s) ≤ s.credit
+length_going s = go s.resetting
+  where
+    go : (b : Bool) → length (cond b [] (take s.credit s.waiting)) ≤ s.credit
+    go true = omega arith
+    go false = take_few s.credit s.waiting
+
+max_below : (a b c : ℕ) → a ≤ c → b ≤ c → max a b ≤ c
+max_below a b c x y = omega (arith, x, y)
+
+module _ (room : ℕ) (here : Bool) where
   -- the end goes on twice
-  pub then_paces : (e f g : EndState) (out more : List Content) → Paces room e f out
-      → (Keeps room f → Paces room f g more) → Paces room e g (out ++ more)
+  pub then_paces : (e f g : EndState) (out more : List Content) → Paces room here e f out
+      → (Keeps room here f → Paces room here f g more) → Paces room here e g (out ++ more)
   then_paces e f g out more h on =
       let k = on h.keeps in
+      let r = h.rises in
+      let a = h.front in
+      let b = k.front in
       record {
         id = k.id ∙ h.id;
         rises = rises_on (marks_of e) (marks_of f) (marks_of g) h.rises k.rises;
+        front = omega (arith, a, b);
         keeps = k.keeps;
+        from = all_both (TellsFrom e) out more h.from (from_on e f more h.front r.took k.from);
         tells =
             all_both (TellsOf room g.id (marks_of g)) out more
             (all_implied (TellsOf room f.id (marks_of f)) (TellsOf room g.id (marks_of g)) out
@@ -86,27 +129,43 @@ module _ (room : ℕ) where
       }
 
   -- the same numbers, and what is sent with them
-  pub so_paces : (e f : EndState) (out : List Content) → f.id ≡ e.id → marks_of f ≡ marks_of e → Keeps room f
-      → AllByRecursion (TellsOf room f.id (marks_of f)) out → Paces room e f out
-  so_paces e f out id same keeps all =
+  pub so_paces : (e f : EndState) (out : List Content) → f.id ≡ e.id → f.sender ≡ e.sender
+      → f.receiver.received ≡ e.receiver.received → Keeps room here f
+      → AllByRecursion (TellsOf room f.id (marks_of f)) out → AllByRecursion (TellsFrom e) out → Paces room here e f out
+  so_paces e f out id sender took keeps all from =
+      let gave = ap (λ (x : Sender). x.front + length x.unacknowledged) sender in
+      let front = ap (λ (x : Sender). x.front) sender in
       record {
         id = id;
-        rises = subst (Rises (marks_of e)) (sym same) (rises_itself (marks_of e));
+        rises = record { gave = omega (arith, gave); took = omega (arith, took) };
+        front = omega (arith, front);
         keeps = keeps;
         tells = all;
+        from = from;
       }
 
   -- ---- what is sent
 
-  pub free_fits : (e : EndState) → Keeps room e → free e ≤ room
+  pub free_fits : (e : EndState) → Keeps room here e → free e ≤ room
   free_fits e k = let s = k.space in omega (arith, s)
 
-  pub control_tells : (e : EndState) (ack : Bool) (body : Part) → count_of body ≡ 0 → Keeps room e
+  pub control_tells : (e : EndState) (ack : Bool) (body : Part) → count_of body ≡ 0 → Keeps room here e
       → TellsOf room e.id (marks_of e) (control whole e ack body)
   control_tells e ack body none k =
       record { source = refl; first = omega (arith, none); next = omega arith; window = free_fits e k }
 
-  numbered_tells : (e : EndState) (m : Marks) (first : ℕ) (ps : List Piece) → Keeps room e
+  pub control_from : (e : EndState) (ack : Bool) (body : Part) → TellsFrom e (control whole e ack body)
+  control_from e ack body plain = record { first = omega arith; next = omega arith }
+
+  numbered_from : (e : EndState) (first : ℕ) (ps : List Piece) → e.sender.front ≤ first
+      → AllByRecursion (TellsFrom e) (numbered whole e first ps)
+  numbered_from e first [] le = tt
+  numbered_from e first (p ∷ ps) le = (
+    (λ plain. record { first = le; next = omega arith }),
+    numbered_from e (first + length (items_of p)) ps (omega (arith, le)),
+  )
+
+  numbered_tells : (e : EndState) (m : Marks) (first : ℕ) (ps : List Piece) → Keeps room here e
       → e.receiver.received ≤ m.took → first + length (all_items ps) ≤ m.gave
       → AllByRecursion (TellsOf room e.id m) (numbered whole e first ps)
   numbered_tells e m first [] k took le = tt
@@ -117,78 +176,95 @@ module _ (room : ℕ) where
             m (first + length (items_of p)) ps k took (omega (arith, le, both)),
       )
 
-  cut_tells : (e : EndState) (m : Marks) (first : ℕ) (xs : List Item) → Keeps room e → e.receiver.received ≤ m.took
-      → first + length xs ≤ m.gave → AllByRecursion (TellsOf room e.id m) (numbered whole e first (pieces [] xs))
+  cut_tells : (e : EndState) (m : Marks) (first : ℕ) (xs : List Item) → Keeps room here e
+      → e.receiver.received ≤ m.took → first + length xs ≤ m.gave
+      → AllByRecursion (TellsOf room e.id m) (numbered whole e first (pieces [] xs))
   cut_tells e m first xs k took le =
       numbered_tells e m first (pieces [] xs) k took
       (let same = ap length (pieces_whole [] xs) in omega (arith, le, same))
 
-  length_going : (s : Sender) → length (going s) ≤ s.credit
-  length_going s = go s.resetting
-    where
-      most : {X : Type 0} (k : ℕ) (xs : List X) → length (take k xs) ≤ k
-      most zero xs = omega arith
-      most (suc k) [] = omega arith
-      most (suc k) (x ∷ xs) = let rest = most k xs in omega (arith, rest)
-
-      go : (b : Bool) → length (cond b [] (take s.credit s.waiting)) ≤ s.credit
-      go true = omega arith
-      go false = most s.credit s.waiting
-
-  pub sending_paces : (e : EndState) → Keeps room e → Paces room e (sending whole e).after (sending whole e).sent
+  pub sending_paces : (e : EndState) → Keeps room here e
+      → Paces room here e (sending whole e).after (sending whole e).sent
   sending_paces e k =
-      let q = k.queue in
       let both = length_both e.sender.unacknowledged (going e.sender) in
       let few = length_going e.sender in
       record {
         id = refl;
         rises = record { gave = omega (arith, both); took = omega arith };
-        keeps = record { queue = omega (arith, q, both, few); space = k.space };
+        front = omega arith;
+        keeps = record {
+          queue = λ is. let q = k.queue is in omega (arith, q, both, few);
+          space = k.space;
+          unread = k.unread;
+        };
+        from = numbered_from e (e.sender.front + length e.sender.unacknowledged) (pieces [] (going e.sender))
+            (omega arith);
         tells = cut_tells e (marks_of (sending whole e).after) (e.sender.front + length e.sender.unacknowledged)
             (going e.sender) k (omega arith) (omega (arith, both));
       }
 
-  pub sending_limit : (e : EndState) (m : Marks) → Follows room m e → Follows room m (sending whole e).after
-  sending_limit e m h =
-      let l = h.limit in
-      let both = length_both e.sender.unacknowledged (going e.sender) in
-      let few = length_going e.sender in
-      record { received = h.received; limit = omega (arith, l, both, few) }
-
-  pub repeated_tells : (e : EndState) → Keeps room e
+  pub repeated_tells : (e : EndState) → Keeps room here e
       → AllByRecursion (TellsOf room e.id (marks_of e)) (repeated whole e)
   repeated_tells e k = cut_tells e (marks_of e) e.sender.front e.sender.unacknowledged k (omega arith) (omega arith)
 
-  pub asked_tells : (b : Bool) (e : EndState) → Keeps room e
+  pub repeated_from : (e : EndState) → AllByRecursion (TellsFrom e) (repeated whole e)
+  repeated_from e = numbered_from e e.sender.front (pieces [] e.sender.unacknowledged) (omega arith)
+
+  pub asked_from : (b : Bool) (e : EndState) → AllByRecursion (TellsFrom e) (if_asked whole b e)
+  asked_from true e = (control_from e false Probe, tt)
+  asked_from false e = tt
+
+  pub asked_tells : (b : Bool) (e : EndState) → Keeps room here e
       → AllByRecursion (TellsOf room e.id (marks_of e)) (if_asked whole b e)
   asked_tells true e k = (control_tells e false Probe refl k, tt)
   asked_tells false e k = tt
 
   -- ---- acknowledgements
 
-  max_below : (a b c : ℕ) → a ≤ c → b ≤ c → max a b ≤ c
-  max_below a b c x y = omega (arith, x, y)
+  -- an end of which so many items are acknowledged
+  pub acked_keeps : (e : EndState) (window j : ℕ) → (here ≡ true → window ≤ room)
+      → j ≤ length e.sender.unacknowledged → Keeps room here e →
+      Keeps room here (record e { sender = acknowledged whole j window e.sender; ticks = 0 })
+  acked_keeps e window j fits le k = record {
+    queue = λ is.
+        let q = k.queue is in
+        let few = fits is in
+        let d = length_drop j e.sender.unacknowledged in
+        let most = max_below e.sender.credit (window - (length e.sender.unacknowledged - j))
+        (room - (length e.sender.unacknowledged - j)) (omega (arith, q)) (omega (arith, few)) in
+        omega (arith, most, d, q);
+    space = k.space;
+    unread = k.unread;
+  }
 
-  pub hearing_paces : (e : EndState) (window : ℕ) (acks : Option ℕ) → window ≤ room
-      → IfSome acks (λ k. k ≤ length e.sender.unacknowledged) → Keeps room e →
-      Paces room e (hearing whole e window acks).after (hearing whole e window acks).sent
+  pub hearing_paces : (e : EndState) (window : ℕ) (acks : Option ℕ) → (here ≡ true → window ≤ room)
+      → IfSome acks (λ k. k ≤ length e.sender.unacknowledged) → Keeps room here e →
+      Paces room here e (hearing whole e window acks).after (hearing whole e window acks).sent
   hearing_paces e window None fits le k =
-      so_paces e (record e { ticks = 0 }) [] refl refl (record { queue = k.queue; space = k.space }) tt
+      so_paces e (record e { ticks = 0 }) [] refl refl refl
+      (record { queue = k.queue; space = k.space; unread = k.unread }) tt tt
   hearing_paces e window (Some j) fits le k =
-      let q = k.queue in
       let d = length_drop j e.sender.unacknowledged in
-      let most = max_below e.sender.credit (window - (length e.sender.unacknowledged - j))
-      (room - (length e.sender.unacknowledged - j)) (omega (arith, q)) (omega (arith, fits)) in
       let f : EndState = record e { sender = acknowledged whole j window e.sender; ticks = 0 } in
-      let s = sending_paces f (record { queue = omega (arith, most, d, q); space = k.space }) in
+      let s = sending_paces f (acked_keeps e window j fits le k) in
       record {
         id = refl;
         rises =
             rises_on (marks_of e) (marks_of f) (marks_of (sending whole f).after)
             (record { gave = omega (arith, d, le); took = omega arith }) s.rises;
+        front = omega arith;
         keeps = s.keeps;
         tells = s.tells;
+        from = from_on e f (sending whole f).sent (omega arith) (omega arith) s.from;
       }
+
+module _ (room : ℕ) where
+  pub sending_limit : (e : EndState) (m : Marks) → Follows room m e → Follows room m (sending whole e).after
+  sending_limit e m h =
+      let l = h.limit in
+      let both = length_both e.sender.unacknowledged (going e.sender) in
+      let few = length_going e.sender in
+      record { received = h.received; limit = omega (arith, l, both, few) }
 
   at_most_is : (n : ℕ) (o : Option ℕ) (j : ℕ) → at_most n o ≡ Some j → o ≡ Some j
   at_most_is n None j is = absurd (cc)

@@ -24,7 +24,7 @@ use Rattle.at_adsp_ends.specs.Openings.{heard_opening, ignored, is_answered, ope
 use Rattle.at_adsp_ends.specs.Receiving.{any_request_came, opening_came, part_came, received, segment_came, settled}
 use Rattle.at_adsp_ends.specs.Tables.{Done, EndTable, by_id, by_remote, freed, moved, next_id, stayed, made}
 use Rattle.at_adsp.specs.Wires.{wired, wired_segment}
-use Rattle.at_adsp.proofs.EndMoves.{half_is, opening_is}
+use Rattle.at_adsp.proofs.EndMoves.{IsPlainPart, half_is, opening_is}
 use Rattle.at_adsp.proofs.Logs.{map_both}
 use Rattle.at_adsp.proofs.Mapped.{mapped}
 use Rattle.at_adsp.proofs.Nears.{IsNear, NearAcks, acks_near, told_near}
@@ -48,7 +48,8 @@ OpensNearPart t from s other = Unit {0}
 
 -- the end that hears a segment with this body, if there is one, has numbers near those of the segment
 pub record HearsNear (t : EndTable) (from : Address) (s : Content) (part : Part) : Type 0 where
-  pub hears : (e : EndState) → by_remote t (record { address = from; id = s.source }) ≡ Some e → is_open e.phase ≡ true
+  pub hears : IsPlainPart part → (e : EndState) → by_remote t (record { address = from; id = s.source }) ≡ Some e
+      → is_open e.phase ≡ true
       → IsNear e s
   pub opens : OpensNearPart t from s part
 
@@ -201,7 +202,7 @@ module _ (t : EndTable) (from : Address) (s : Content) where
   part_wired : (part : Part) → HearsNear t from s part → part_came wire T r w part
       ≡ wired_done (part_came whole t r s part)
   part_wired (Open kind dest) near = opening_wired kind dest near.opens
-  part_wired other near = ap (segment_came wire T w) (remote_wired t r) ∙ segment_wired (by_remote t r) near.hears
+  part_wired other near = ap (segment_came wire T w) (remote_wired t r) ∙ segment_wired (by_remote t r) (near.hears tt)
 
   pub received_wired : HearsNear t from s s.body → received wire T from w ≡ wired_done (received whole t from s)
   received_wired near = part_wired s.body near

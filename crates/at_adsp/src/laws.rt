@@ -1,7 +1,7 @@
 //! The laws of a network of ends of streams. The functions do nothing: each contract is a law.
 ghost use Rattle.std.specs.Prelude.{◌≡◌, ℕ, ◌+◌, ◌<◌, ◌≤◌, ◌^◌, true, List, ◌∷◌, length, Some, None, Ok};
 ghost use Rattle.std.specs.List.{AllByRecursion};
-ghost use Rattle.at_adsp.specs.Cables.{IsFromHere, few_segments, wire_numbered};
+ghost use Rattle.at_adsp.specs.Cables.{few_segments, wire_numbered};
 ghost use Rattle.at_adsp.specs.Connections.{ChangesStreams, streams};
 ghost use Rattle.at_adsp.specs.Lawfully.{IsInRange, IsLawfulSetting, IsLawfullySent};
 ghost use Rattle.at_adsp.specs.Meetings.{OpensWith, ReadsWith};
@@ -86,36 +86,28 @@ pub fn what_is_read_begins_what_was_written()
 {}
 
 /// On the cable numbers come round. There, too, what is read from an end that has a peer was written at the peer, in
-/// this order, if few segments are sent. Resets may be passed as above. All this holds whatever comes from other
-/// addresses, with any numbers.
+/// this order, and streams may be of any length. But each segment of an end that is for one of our addresses comes
+/// before that end has given 2^31 more items numbers, or received 2^31 more. Resets may be passed as above. All this
+/// holds whatever comes from other addresses, with any numbers, and also of two ends at one address.
 pub fn what_is_read_on_the_cable_was_written_in_order()
-    ensures { (setting : Setting) (history : List Happening) → AllTimely (wire_numbered setting) history
-        → length (after (wire_numbered setting) history).sent ≤ few_segments
+    ensures { (setting : Setting) (history : List Happening) → HasWindows setting
+        → AllTimely (wire_numbered setting) history → AllNear (wire_numbered setting) history
         → ReadsInOrder (after (wire_numbered setting) history) }
 {}
 
-/// Where no stream is reset and few segments are sent, what is read from an end that has a peer begins what was written
-/// at the peer.
+/// Where no stream is reset, what is read on the cable, too, begins what was written.
 pub fn what_is_read_on_the_cable_begins_what_was_written()
-    ensures { (setting : Setting) (history : List Happening) → AllTimely (wire_numbered setting) history
-        → length (after (wire_numbered setting) history).sent ≤ few_segments → AllByRecursion IsNoReset history
-        → ReadsBeginnings (after (wire_numbered setting) history) }
-{}
-
-/// Streams may be of any length on the cable. What is read from an end that has a peer was written at the peer, in this
-/// order. But each segment comes before its sender has passed it by 2^31 items. And nothing comes from other addresses,
-/// where numbers need not be those of any stream. Resets may be passed as above.
-pub fn what_is_read_of_long_streams_was_written_in_order()
     ensures { (setting : Setting) (history : List Happening) → HasWindows setting
-        → AllTimely (wire_numbered setting) history → AllByRecursion IsFromHere history → AllNear setting history
-        → ReadsInOrder (after (wire_numbered setting) history) }
-{}
-
-/// Where no stream is reset, what is read of long streams, too, begins what was written.
-pub fn what_is_read_of_long_streams_begins_what_was_written()
-    ensures { (setting : Setting) (history : List Happening) → HasWindows setting
-        → AllTimely (wire_numbered setting) history → AllByRecursion IsFromHere history → AllNear setting history
+        → AllTimely (wire_numbered setting) history → AllNear (wire_numbered setting) history
         → AllByRecursion IsNoReset history → ReadsBeginnings (after (wire_numbered setting) history) }
+{}
+
+/// Where few segments are sent, each comes as near its end as the two laws above want it.
+pub fn few_segments_are_near()
+    ensures { (setting : Setting) (history : List Happening) → HasWindows setting
+        → AllTimely (wire_numbered setting) history
+        → length (after (wire_numbered setting) history).sent ≤ few_segments
+        → AllNear (wire_numbered setting) history }
 {}
 
 /// Where all happens at our addresses, an end that is read has a peer. If what is read from ends that have peers was

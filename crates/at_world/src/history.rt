@@ -54,4 +54,5 @@ pub(crate) fn steps_make_a_history<A: Allocator>()
     at_name_socket::laws::a_new_socket_is_lawful();
     at_adsp::laws::what_is_sent_is_lawful();
     at_adsp::laws::what_is_read_on_the_cable_was_written_in_order();
+    at_adsp::laws::few_segments_are_near();
 }

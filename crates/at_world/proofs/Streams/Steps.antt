@@ -234,7 +234,8 @@ module _ (A : Type 0) (laws : StreamLaws A) (w : WorldState) (c : Cable) (ss : S
       let entries = as_many stream_coding ct.wires (after t.setting t.history).sent t.sent in
       let few : length (done t.setting (after t.setting t.history) (Reads at id count)).sent ≤ few_segments =
       omega (arith, one, before, wires, entries) in
-      laws.in_order t.setting (Reads at id count ∷ t.history) t.numbers (tt, t.timely) few
+      let its = t.lawful in
+      laws.in_order t.setting (Reads at id count ∷ t.history) t.numbers its.rooms (tt, t.timely) few
 
   reads_step : steps.Reads its_change → Row
   reads_step s =

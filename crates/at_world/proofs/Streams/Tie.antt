@@ -13,6 +13,7 @@ use Rattle.at_adsp_ends.specs.Tables.{by_remote}
 use Rattle.at_adsp.specs.Cables.{few_segments, wire_numbered}
 use Rattle.at_adsp.specs.Connections.{streams}
 use Rattle.at_adsp.specs.Lawfully.{IsInRange, IsLawfulSetting, IsLawfullySent}
+use Rattle.at_adsp.specs.Nearness.{AllNear, HasWindows}
 use Rattle.at_adsp.specs.Meetings.{ReadsWith}
 use Rattle.at_ddp.specs.Posts.{AllSent, packet_at}
 use Rattle.at_ddp.specs.Protocols.{adsp_kind}
@@ -85,7 +86,7 @@ pub record StreamLaws (A : Type 0) : Type 0 where
       ≡ report.Read items
       → ReadsInOrder (after setting (Reads (streams_at n.seat.net n.seat.number) id count ∷ history))
       → ReadsWith (streams (after setting history)) (streams_at n.seat.net n.seat.number) id items
-  pub in_order : (setting : Setting) (history : List Happening) → setting.numbers ≡ wire_numbers
+  pub in_order : (setting : Setting) (history : List Happening) → setting.numbers ≡ wire_numbers → HasWindows setting
       → AllTimely setting history → length (after setting history).sent ≤ few_segments
       → ReadsInOrder (after setting history)
 
@@ -120,13 +121,17 @@ pub record StreamTie (w : WorldState) (c : Cable) (wires : List Wire) (m : Strea
 
 -- ---- what a node sends
 
--- what is read is in order where numbers are those of the cable
-pub read_in_order : ((setting : Setting) (history : List Happening) → AllTimely (wire_numbered setting) history
-    → length (after (wire_numbered setting) history).sent ≤ few_segments
+-- what is read is in order where numbers are those of the cable, and few segments were sent
+pub read_in_order : ((setting : Setting) (history : List Happening) → HasWindows setting
+    → AllTimely (wire_numbered setting) history → AllNear (wire_numbered setting) history
     → ReadsInOrder (after (wire_numbered setting) history)) →
-    (setting : Setting) (history : List Happening) → setting.numbers ≡ wire_numbers → AllTimely setting history
-    → length (after setting history).sent ≤ few_segments → ReadsInOrder (after setting history)
-read_in_order law setting history numbers timely few =
+    ((setting : Setting) (history : List Happening) → HasWindows setting → AllTimely (wire_numbered setting) history
+    → length (after (wire_numbered setting) history).sent ≤ few_segments → AllNear (wire_numbered setting) history) →
+    (setting : Setting) (history : List Happening) → setting.numbers ≡ wire_numbers → HasWindows setting
+    → AllTimely setting history → length (after setting history).sent ≤ few_segments
+    → ReadsInOrder (after setting history)
+read_in_order law near setting history numbers windows timely few =
     let same : wire_numbered setting ≡ setting = λ i. record setting { numbers = sym numbers i } in
     subst (λ (x : Setting). AllTimely x history → length (after x history).sent ≤ few_segments
-    → ReadsInOrder (after x history)) same (law setting history) timely few
+    → ReadsInOrder (after x history)) same
+    (λ on_time sent. law setting history windows on_time (near setting history windows on_time sent)) timely few

@@ -1,5 +1,5 @@
-use Rattle.at_adsp.proofs.FewWires.{begun_on_the_cable}
+use Rattle.at_adsp.proofs.NearHistories.{near_begins}
 use Rattle.at_adsp.proofs.laws.what_is_read_on_the_cable_begins_what_was_written.Goals as goal
 
 pub returns : goal.returns
-returns c = begun_on_the_cable
+returns c = near_begins

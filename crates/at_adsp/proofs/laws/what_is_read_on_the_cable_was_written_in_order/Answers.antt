@@ -1,5 +1,5 @@
-use Rattle.at_adsp.proofs.FewWires.{read_on_the_cable}
+use Rattle.at_adsp.proofs.NearHistories.{near_reads}
 use Rattle.at_adsp.proofs.laws.what_is_read_on_the_cable_was_written_in_order.Goals as goal
 
 pub returns : goal.returns
-returns c = read_on_the_cable
+returns c = near_reads

@@ -92,8 +92,8 @@ returns g c s events reports w lawful =
       lawful_sent = c.what_is_sent_is_lawful-3.ensures;
       unheld = c.an_identifier_that_is_not_held_has_no_end.ensures;
       reads = c.what_is_read_reads_from_a_peer.ensures;
-      in_order = λ setting history numbers timely few. read_in_order
-          c.what_is_read_on_the_cable_was_written_in_order.ensures setting history numbers timely few;
+      in_order = read_in_order c.what_is_read_on_the_cable_was_written_in_order.ensures
+          c.few_segments_are_near.ensures;
     } in
     let told = c.an_event_is_a_step_of_the_session.ensures in
     let sessions : SessionLaws A = record { called = told.call; timed = told.timer; heard = told.datagram } in
