@@ -6,13 +6,22 @@ use Rattle.at_adsp_end.specs.declared.item.Item.{Item}
 use Rattle.at_adsp.specs.Reading.{ReadsFrom}
 use Rattle.at_adsp.specs.Streams.{Stream, has_number, with_peer}
 
--- An end may have this one as its peer. If it asked, listening made the peer where it asked, and no other end has that
--- peer. If listening made it, the peer asked, and has it as its peer.
+-- listening made the peer where an end asked, and no other end has that peer
+pub record IsAnswered (all : List Stream) (end peer : Stream) : Type 0 where
+  pub asked : end.listener ≡ false
+  pub listened : peer.listener ≡ true
+  pub there : peer.owner ≡ end.asked
+  pub alone : (other : Stream) → Contains all other → other.peer ≡ Some peer.birth → other.birth ≡ end.birth
+
+-- the peer asked, and has an end that listening made as its peer
+pub record IsAcknowledged (end peer : Stream) : Type 0 where
+  pub listened : end.listener ≡ true
+  pub asked : peer.listener ≡ false
+  pub has : peer.peer ≡ Some end.birth
+
+-- an end may have this one as its peer
 abbrev pub MayHave : List Stream → Stream → Stream → Type 0
-MayHave all end peer =
-    ((end.listener ≡ false) × (peer.listener ≡ true) × (peer.owner ≡ end.asked)
-    × ((other : Stream) → Contains all other → other.peer ≡ Some peer.birth → other.birth ≡ end.birth))
-    ⊎ ((end.listener ≡ true) × (peer.listener ≡ false) × (peer.peer ≡ Some end.birth))
+MayHave all end peer = IsAnswered all end peer ⊎ IsAcknowledged end peer
 
 -- Of all ends so far, the newest with this number opens. It had no peer, and has one from then on.
 pub record OpensWith (all now : List Stream) (at : Address) (id : ℕ) : Type 0 where

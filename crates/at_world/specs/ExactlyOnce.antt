@@ -158,17 +158,22 @@ AllLive net sent (x ∷ xs) = LivesBy net sent x.event xs × AllLive net sent xs
 
 -- ---- the promise
 
--- The request of a response that is reported was delivered. The response is the answer that was given to it, or as many
--- of its first packets as were asked for.
+-- A transaction under this key ended with these packets. If it was exactly once, its request was delivered. The packets
+-- are the answer that was given to it, or as many of its first packets as were asked for.
+abbrev pub EndsWith : {A : Type 0} → ℕ → List (List ℕ) → List SentDatagram → Key → List Packet → List (Played A)
+    → Type 0
+EndsWith net zones sent key packets past =
+    is_once net past key ≡ true
+    → SomeHandsUp sent key (since net past key)
+    × ((answer : List Packet)
+    × SomeGives net zones sent key answer past
+    × (packets ≡ take (wanted_by net past key) answer))
+
+-- so it is with a response that is reported
 abbrev pub EndsBy : {A : Type 0} → ℕ → List (List ℕ) → List SentDatagram → Event A → Report A → List (Played A)
     → Type 0
 EndsBy net zones sent (event.Deliver which node) (report.Response tid packets) past =
-    is_once net past (record { from = asking net node; tid = tid }) ≡ true
-    → SomeHandsUp sent (record { from = asking net node; tid = tid })
-    (since net past (record { from = asking net node; tid = tid }))
-    × ((answer : List Packet)
-    × SomeGives net zones sent (record { from = asking net node; tid = tid }) answer past
-    × (packets ≡ take (wanted_by net past (record { from = asking net node; tid = tid })) answer))
+    EndsWith net zones sent (record { from = asking net node; tid = tid }) packets past
 EndsBy net zones sent e r past = Unit {0}
 
 -- it was delivered at most once since its transaction began, and answered at most once
