@@ -1,10 +1,12 @@
 //! Names and patterns, and which names a pattern matches.
 ghost use Rattle.std.specs.Prelude.{◌≡◌, ◌||◌};
-ghost use Rattle.at_nbp.specs.Names.{is_any_text, is_any_zone, is_match, same_text};
+ghost use Rattle.at_nbp.specs.Names.{is_any_zone, is_match, same_text};
 
 use at_ddp::{Pascal, same_text};
+use at_patterns::matches_text;
 
-/// The name of an entity, or a pattern of names: `=` stands for any object or type, and `*` for any zone.
+/// The name of an entity, or a pattern of names. In a pattern `=` stands for any object or type, and `*` for any zone.
+/// The first byte 0xC5 in another object or type of a pattern stands for zero or more bytes.
 #[derive(Debug, Drop, PartialEq, Eq)]
 pub struct Name {
     pub object: Pascal,
@@ -34,22 +36,10 @@ pub(crate) fn matches_texts(pattern: &Name, object: &[u8], kind: &[u8], zone: &[
         && matches_zone(pattern.zone.bytes(), zone)
 }
 
-fn matches_text(pattern: &[u8], text: &[u8]) -> bool
-    ensures { result ≡ (is_any_text pattern.now || same_text pattern.now text.now) }
-{
-    is_any_text(pattern) || same_text(pattern, text)
-}
-
 fn matches_zone(pattern: &[u8], zone: &[u8]) -> bool
     ensures { result ≡ (is_any_zone pattern.now || same_text pattern.now zone.now) }
 {
     is_any_zone(pattern) || same_text(pattern, zone)
-}
-
-pub(crate) fn is_any_text(pattern: &[u8]) -> bool
-    ensures { result ≡ is_any_text pattern.now }
-{
-    matches!(pattern, [b'='])
 }
 
 pub(crate) fn is_any_zone(pattern: &[u8]) -> bool

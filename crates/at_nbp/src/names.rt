@@ -9,8 +9,9 @@ ghost use Rattle.at_nbp.specs.NameTables.{AreNames, register_fault};
 
 use crate::fault::NbpFault;
 use crate::find::{Find, copy_of};
-use crate::name::{Name, is_any_text};
+use crate::name::Name;
 use at_ddp::{Address, Pascal, same_text};
+use at_patterns::is_any_text;
 use std::alloc::{Allocator, Global};
 use std::marker::Model;
 
