@@ -1,3 +1,4 @@
+mod EndLemmas
 mod EventLemmas
 mod HeadLemmas
 mod LineLemmas

@@ -115,29 +115,31 @@ all_held A (Some all) (Some rest) read d s left end (draft, (es, said), order, l
     (es, subst (λ l. IsSchedule l s es) (sym whole) (setup (setup_words read) draft, said, order))
 
 pub none_held : (A : Type 0) (first now : Option (List ℕ)) (read : List (List ℕ)) (d : Draft) (number : ℕ)
-    (rule : Rule) → number ≡ number_after read → Left first now read → IsAtEnd now → IsRead A read d → IsNoSetup A d
-    → IsLineFault A first (fault.Line number rule)
-none_held A None now read d number rule is left end so_far never = tt
-none_held A (Some all) None read d number rule is left end so_far never = absurd left
-none_held A (Some all) (Some rest) read d number rule is left end so_far never =
+    (rule : Rule) → number ≡ number_after read → Left first now read → IsAtEnd now → IsRead A read d
+    → BeginSchedule A read → IsNoSetup A d → IsLineFault A first (fault.Line number rule)
+none_held A None now read d number rule is left end so_far begins never = tt
+none_held A (Some all) None read d number rule is left end so_far begins never = absurd left
+none_held A (Some all) (Some rest) read d number rule is left end so_far begins never =
     let whole : lines_in all ≡ read = left ∙ ap (λ l. read ++ lines_in l) end ∙ append-nil read in
     inr (record {
       numbered = is ∙ ap number_after (sym whole);
+      begins = subst (BeginSchedule A) (sym whole) begins;
       never = λ s es (setup, said, order).
           never (setup_words read) so_far.0 s (subst (λ l. IsSetup (setup_words l) s) whole setup);
     })
 
 none_begins : (A : Type 0) (first now : Option (List ℕ)) (read : List (List ℕ)) (line : List ℕ) (number : ℕ)
-    (rule : Rule) → number ≡ number_after read → Left first now (read ++ line ∷ [])
+    (rule : Rule) → number ≡ number_after read → Left first now (read ++ line ∷ []) → BeginSchedule A read
     → ¬ BeginSchedule A (read ++ line ∷ []) → IsLineFault A first (fault.Line number rule)
-none_begins A None now read line number rule is left never = tt
-none_begins A (Some all) None read line number rule is left never = absurd left
-none_begins A (Some all) (Some rest) read line number rule is left never = inl (record {
+none_begins A None now read line number rule is left begins never = tt
+none_begins A (Some all) None read line number rule is left begins never = absurd left
+none_begins A (Some all) (Some rest) read line number rule is left begins never = inl (record {
   before = read;
   line = line;
   after = lines_in rest;
   parts = left ∙ append_assoc read (line ∷ []) (lines_in rest);
   numbered = is;
+  begins = begins;
   never = never;
 })
 
@@ -157,10 +159,11 @@ IfBroken NoMemory P = Unit {0}
 
 pub line_refused : (A : Type 0) (first now : Option (List ℕ)) (read : List (List ℕ)) (line : List ℕ) (why : LineFault)
     (number : ℕ) (told : Fault) → number ≡ number_after read → Left first now (read ++ line ∷ [])
-    → IfBroken why (¬ BeginSchedule A (read ++ line ∷ [])) → IsToldAs why number told → IsLineFault A first told
-line_refused A first now read line (Unlawful rule) number told numbered left never (r, is) =
-    subst (IsLineFault A first) (sym is) (none_begins A first now read line number r numbered left never)
-line_refused A first now read line NoMemory number told numbered left never is =
+    → BeginSchedule A read → IfBroken why (¬ BeginSchedule A (read ++ line ∷ [])) → IsToldAs why number told
+    → IsLineFault A first told
+line_refused A first now read line (Unlawful rule) number told numbered left begins never (r, is) =
+    subst (IsLineFault A first) (sym is) (none_begins A first now read line number r numbered left begins never)
+line_refused A first now read line NoMemory number told numbered left begins never is =
     subst (IsLineFault A first) (sym is) (no_memory A first)
 
 -- a read's fault is no line's

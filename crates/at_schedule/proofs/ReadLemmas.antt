@@ -36,7 +36,7 @@ one_lacks [] after line (e ∷ es) never h = never e h.0
 one_lacks (l ∷ before) after line [] never h = h
 one_lacks (l ∷ before) after line (e ∷ es) never h = one_lacks before after line es never h.1
 
-no_event : (lines : List (List ℕ)) (line : List ℕ) → is_event_line line ≡ false
+pub no_event : (lines : List (List ℕ)) (line : List ℕ) → is_event_line line ≡ false
     → filter is_event_line (lines ++ line ∷ []) ≡ filter is_event_line lines
 no_event lines line is = add_no is_event_line lines [] line is ∙ append-nil (filter is_event_line lines)
 

@@ -37,22 +37,24 @@ HoldsSetup {A} (Some text) s = (es : List (Event A)) × IsSchedule (lines_in tex
 abbrev pub number_after : List (List ℕ) → ℕ
 number_after lines = min (length lines + 1) (2 ^ 64 - 1)
 
--- no schedule begins with the lines up to the one of this number
+-- a schedule begins with the lines before the one of this number, and none begins with that line after them
 pub record IsAtFault (A : Type 0) (lines : List (List ℕ)) (number : ℕ) : Type 0 where
   pub before : List (List ℕ)
   pub line : List ℕ
   pub after : List (List ℕ)
   pub parts : lines ≡ before ++ line ∷ after
   pub numbered : number ≡ number_after before
+  pub begins : BeginSchedule A before
   pub never : ¬ BeginSchedule A (before ++ line ∷ [])
 
--- the lines are no schedule, and this is the number of the line after the last
+-- a schedule begins with the lines, which are none yet, and this is the number of the line after the last
 pub record IsCutShort (A : Type 0) (lines : List (List ℕ)) (number : ℕ) : Type 0 where
   pub numbered : number ≡ number_after lines
+  pub begins : BeginSchedule A lines
   pub never : (s : Setup A) (es : List (Event A)) → ¬ IsSchedule lines s es
 
--- A line is at fault if no schedule begins with the lines up to it, and the one after the last is if all lines are no
--- schedule. Neither the length of a text nor a second reading is a fault of its lines.
+-- The line at fault is the first one up to which no schedule begins with the lines, or the one after the last if all
+-- lines are no schedule. Neither the length of a text nor a second reading is a fault of its lines.
 abbrev pub IsLineFault : Type 0 → Option (List ℕ) → Fault → Type 0
 IsLineFault A known (fault.Unreadable TooLong) = ⊥
 IsLineFault A known (fault.Unreadable Changed) = ⊥

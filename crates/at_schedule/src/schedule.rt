@@ -10,6 +10,7 @@ ghost use Rattle.at_setup.specs.Setups.{is_lawful};
 use crate::draft::Draft;
 use at_faults::{Fault, LineFault, Rule};
 use at_setup::Setup;
+use at_setup_lines::laws::each_draft_can_end;
 use std::alloc::Allocator;
 use std::io;
 use std::io::{BufRead, BufReader, ErrorKind, Read, Split};
@@ -21,6 +22,7 @@ pub fn read_setup<A: Allocator + Copy, R: Read>(alloc: A, reader: &mut R) -> Res
     ensures said { IfOk result (HoldsSetup (R.remaining reader.old)) }
     ensures fault { IfErr result (IsLineFault A (R.remaining reader.old)) }
 {
+    each_draft_can_end::<A>();
     let mut draft = Draft::new(alloc);
     let mut number = 1usize;
     for line in lines_of(alloc, reader)? {

@@ -68,8 +68,8 @@ few_zones A s h =
     ltb-false 1024 (length s.zones)
     (few_by (nat_lt 1024 (length s.zones)) TooManyZones (cond (list_all is_name s.zones) None (Some BadZone)) b.0)
 
-net_fits : (lines : List (List (List ℕ))) (net : ℕ) (nodes : List NodeSetup) → SayHead lines net nodes → Net_fits net
-    ≡ true
+pub net_fits : (lines : List (List (List ℕ))) (net : ℕ) (nodes : List NodeSetup) → SayHead lines net nodes
+    → Net_fits net ≡ true
 net_fits [] net nodes h = absurd h
 net_fits (first ∷ lines) net nodes ((w, is, h), are) = and_from (nat_lt 0 net) (nat_lt net 65536) (lt-ltb 0 net h.1)
     (lt-ltb net 65536 h.2)
@@ -78,7 +78,7 @@ table_fits : (names : List (List ℕ)) → list_all is_name names ≡ true → l
     → is_none (table_fault names) ≡ true
 table_fits names all few = rw (le-ltb 1024 (length names) few, all) refl
 
-lawful_with : (d : Draft) → Net_fits d.net ≡ true → are_lawful_nodes d.nodes ≡ true
+pub lawful_with : (d : Draft) → Net_fits d.net ≡ true → are_lawful_nodes d.nodes ≡ true
     → is_lawful_table (has_router d.nodes) d.zones ≡ true → is_lawful (setup_of d) ≡ true
 lawful_with d net nodes table =
     and_from (Net_fits d.net && are_lawful_nodes d.nodes) (is_lawful_table (has_router d.nodes) d.zones)

@@ -1,4 +1,5 @@
 mod DraftLemmas
+mod EndingLemmas
 mod FitLemmas
 mod HeadLemmas
 mod LineLemmas

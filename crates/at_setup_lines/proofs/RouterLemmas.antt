@@ -57,7 +57,8 @@ free (suc most) ns few = elim (cases_lt 0 (count_by (has_number (suc most)) ns))
   | inr none ↦ (suc most, omega arith, omega arith, omega (arith, none))
 ]
 
-abbrev router_at : ℕ → NodeSetup
+-- a router of this number, in zone A
+abbrev pub router_at : ℕ → NodeSetup
 router_at k = record { node = k; router = true; zone = Some (65 ∷ []); receive_room = 64; send_room = 64 }
 
 not_any : (p : NodeSetup → Bool) (ns : List NodeSetup) → count_by p ns ≡ 0 → list_any p ns ≡ false
@@ -67,9 +68,10 @@ not_any p ns none = go (list_any p ns) refl
     go false is = is
     go true is = let some = counted p ns is in absurd (omega (arith, some, none))
 
-with_router : (ns : List NodeSetup) → Fit ns → has_router ns ≡ false → all_zoned ns ≡ true → length ns < 16
-    → BeginNodes ns
-with_router ns f lone zoned few =
+-- such a router can follow nodes that need one
+pub router_follows : (ns : List NodeSetup) → Fit ns → has_router ns ≡ false → all_zoned ns ≡ true → length ns < 16
+    → (k : ℕ) × (0 < k) × (k < 255) × (are_lawful_nodes (ns ++ router_at k ∷ []) ≡ true)
+router_follows ns f lone zoned few =
     let (k, positive, small, none) = free 254 ns (omega (arith, few)) in
     let r = router_at k in
     let lawful : is_lawful_node r ≡ true =
@@ -81,10 +83,17 @@ with_router ns f lone zoned few =
     let all : all_zoned (ns ++ r ∷ []) ≡ true = list_all-append (λ n. is_zone n.zone) ns (r ∷ [])
     ∙ and_from (all_zoned ns) true zoned refl in
     let fit = fit_more ns r f few lawful (not_any (has_number k) ns none) (λ _. lone) (inl (has, all)) in (
-      r ∷ [],
+      k,
+      positive,
+      omega (arith, small),
       lawful_if (ns ++ r ∷ []) fit
           (cond-true (has_router (ns ++ r ∷ [])) (all_zoned (ns ++ r ∷ [])) (none_zoned (ns ++ r ∷ [])) has ∙ all),
     )
+
+with_router : (ns : List NodeSetup) → Fit ns → has_router ns ≡ false → all_zoned ns ≡ true → length ns < 16
+    → BeginNodes ns
+with_router ns f lone zoned few = let (k, some, small, lawful) = router_follows ns f lone zoned few in
+    (router_at k ∷ [], lawful)
 
 alone : (ns : List NodeSetup) → are_lawful_nodes ns ≡ true → BeginNodes ns
 alone ns h = ([], subst (λ ms. are_lawful_nodes ms ≡ true) (sym (append-nil ns)) h)

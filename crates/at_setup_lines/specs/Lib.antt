@@ -1,3 +1,4 @@
 pub mod Drafts
+pub mod Endings
 pub mod NodeLists
 pub mod SetupLines

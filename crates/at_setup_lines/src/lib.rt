@@ -3,6 +3,7 @@
 #![tactic(auto)]
 
 mod draft;
+pub mod laws;
 mod node_line;
 mod nodes;
 mod table;
