@@ -1,4 +1,7 @@
+mod EventLemmas
 mod LineLemmas
+mod NumberSetLemmas
 mod PrintedLemmas
+mod RefusalLemmas
 mod ShownLemmas
 mod ToldLemmas

@@ -1,6 +1,6 @@
 -- What is told of a play goes on by one event, and is told of the play that it follows.
 use Rattle.std.proofs.Common.{◌≡◌, ℕ, List, [], ◌∷◌, ◌++◌, length, Err, Result, Bool, true, false, ◌<◌, ◌≤◌, None, Some}
-use Rattle.std.proofs.Common.{Ok, IfOk, IfSome, MatchResult, IfErr, OnOk, refl, sym, ap, subst, ◌∙◌, append-nil}
+use Rattle.std.proofs.Common.{Ok, IfOk, IfSome, MatchResult, refl, sym, ap, subst, ◌∙◌, append-nil}
 use Rattle.std.proofs.Common.{append_assoc}
 use Rattle.at_event.specs.declared.event.Report.{Report}
 use Rattle.at_setup.specs.declared.event.Event.{Event}
@@ -10,6 +10,7 @@ use Rattle.at_world.specs.Safety.{IsSafe, Safely}
 use Rattle.at_world.specs.Worlds.{WorldState, IsFault, IsPlayable, Plays}
 use Rattle.at_world.specs.Plays.{Follows}
 use Rattle.at_print.specs.Reports.{event_text}
+use Rattle.at_print.specs.Papers.{Page}
 use Rattle.at_print.specs.Printers.{Prints}
 use Rattle.at_play.specs.Told.{BeginsWith, IsStopped, IsUnread, IsWhole, Played, StopsIn}
 use Rattle.at_play.specs.Told.{StopsLine, Tells, TellsLine, Told, line_of, stop_of}
@@ -19,10 +20,12 @@ use Rattle.at_faults.specs.declared.fault.Unreadable.TheVariants as unreadable
 use Rattle.at_faults.specs.declared.fault.Fault.{Fault as Why}
 use Rattle.at_faults.specs.declared.fault.Fault.TheVariants as why
 use Rattle.at_print.specs.declared.printer.Printer.{Printer}
+use Rattle.at_play.specs.Refusals.{TellsRefusals}
+use Rattle.at_play.specs.declared.number_set.NumberSet.{NumberSet}
 use Rattle.at_play.proofs.PrintedLemmas.{Prints-nothing, Prints-trans}
+use Rattle.at_play.proofs.RefusalLemmas.{none_told, tells_more}
 use Rattle.at_world.specs.Plays.{opening_world}
 use Rattle.at_setup.specs.declared.setup.Setup.{Setup}
-use Rattle.std.proofs.lemmas.Result.{on_ok_weaker}
 use Rattle.std.specs.Io.BufRead.{DropsThrough, first_piece}
 use Rattle.at_schedule.specs.Drafts.{HoldsSetup, IsLineFault}
 use Rattle.at_schedule.specs.Says.{SayAll, Says}
@@ -117,7 +120,7 @@ pub stops_line : FirstLine
     → StopsLine A (line_of bytes line) w s → StopsIn A first es w s
 stops_line law A bytes line first known new byte es w (stop.Text f) is reads piece h = h
 stops_line law A bytes line first known new byte es w (stop.Event fault.NoMemory n number which) is reads piece h = h
-stops_line law A bytes (Err x) first known new byte es w (stop.Event (fault.Refused r) n number which) is reads piece h =
+stops_line law A bytes (Err x) first known new byte es w (stop.Event (fault.Refused r) n number which) is said piece h =
     absurd h
 stops_line law A bytes (Ok x) first known new byte es w (stop.Event (fault.Refused r) n number which) is reads piece h =
     let piece' = rw is at piece in
@@ -130,9 +133,9 @@ unread_of (why.Unreadable u) s h is = subst (IsUnread 0) (sym is) tt
 unread_of (why.Line number rule) s h is = absurd h
 unread_of why.NoMemory s h is = subst (IsUnread 0) (sym is) refl
 
-pub not_read : (P : Why → Type 0) (r : Result (Unit {0}) Stop) (f : Why) (s : Stop) → r ≡ Err s → s ≡ stop_of f → P f
-    → IsNotRead P r []
-not_read P r f s was is h = rw was ((f, h, is), refl)
+pub not_read : (P : Why → Type 0) (told : NumberSet) (r : Result (Unit {0}) Stop) (f : Why) (s : Stop) → r ≡ Err s
+    → s ≡ stop_of f → P f → IsNotRead P told told r []
+not_read P told r f s was is h = rw was ((f, h, is), refl, refl)
 
 -- a read that failed gave not all bytes
 pub bytes_of_read : (f : Why) → IsOfRead f → IsOfBytes f
@@ -147,24 +150,26 @@ bytes_of_read why.NoMemory h = tt
 abbrev pub opened : (A : Type 0) (setup : Setup A) → Played setup
 opened A setup = record { events = []; reports = []; world = opening_world setup; text = []; told = (refl, refl) }
 
--- a play so far, at a world and a printer
-abbrev pub Sofar : (A : Type 0) {W : Type 0} → (W → Option (List ℕ)) → Setup A → WorldState → Printer W → Printer W
-    → Type 0
-Sofar A contents setup w old new = (p : Played setup) × (p.world ≡ w) × Prints contents old new p.text
+-- a play so far, at a world and a printer, and the refusals that were told
+abbrev pub Sofar : (A : Type 0) {W : Type 0} → (W → Page) → Setup A → WorldState → Printer W → Printer W
+    → NumberSet → NumberSet → Type 0
+Sofar A page setup w old new before after =
+    (p : Played setup) × (p.world ≡ w) × Prints page old new p.text × TellsRefusals before after p.reports
 
-module _ (A : Type 0) {W : Type 0} (contents : W → Option (List ℕ)) (setup : Setup A) where
-  abbrev pub sofar_opened : (w : WorldState) (a : Printer W) → w ≡ opening_world setup → Sofar A contents setup w a a
-  sofar_opened w a is = (opened A setup, sym is, Prints-nothing contents a)
+module _ (A : Type 0) {W : Type 0} (page : W → Page) (setup : Setup A) where
+  abbrev pub sofar_opened : (w : WorldState) (a : Printer W) (x : NumberSet) → w ≡ opening_world setup
+      → Sofar A page setup w a a x x
+  sofar_opened w a x is = (opened A setup, sym is, Prints-nothing page a, none_told A x)
 
   -- one event more
-  told_on : (w w' : WorldState) (a b c : Printer W) (e : Event A) (before : Sofar A contents setup w a b)
-      → Tells contents w e w' b c
-      → (after : Sofar A contents setup w' a c) × ((after.0).events ≡ (before.0).events ++ e ∷ [])
-  told_on w w' a b c e before t =
+  told_on : (w w' : WorldState) (a b c : Printer W) (x y z : NumberSet) (e : Event A)
+      (before : Sofar A page setup w a b x y) → Tells page w e w' b c y z
+      → (after : Sofar A page setup w' a c x z) × ((after.0).events ≡ (before.0).events ++ e ∷ [])
+  told_on w w' a b c x y z e before t =
       let p = before.0 in
       let more : List ℕ = event_text w.events t.report w'.sent (length w.sent) in
       let told = told_more A (opening_world setup) p.events p.reports w p.text e t.report w'
-      (subst (λ x. Told (opening_world setup) p.events p.reports x p.text) before.1 p.told) t.playable t.plays
+      (subst (λ v. Told (opening_world setup) p.events p.reports v p.text) before.1 p.told) t.playable t.plays
       t.safe in (
         (
           record {
@@ -175,45 +180,52 @@ module _ (A : Type 0) {W : Type 0} (contents : W → Option (List ℕ)) (setup :
             told = told;
           },
           refl,
-          Prints-trans contents a b c p.text more before.2 t.printed,
+          Prints-trans page a b c p.text more before.2 t.printed,
+          tells_more x y z p.reports t.report before.3 t.told,
         ),
         refl,
       )
 
   -- one line more
-  pub sofar_line : (has_event : Bool) (line : List ℕ) (w w' : WorldState) (a b c : Printer W)
-      (before : Sofar A contents setup w a b) → TellsLine A contents has_event line w w' b c
-      → (after : Sofar A contents setup w' a c) × Adds has_event line (before.0).events (after.0).events
-  sofar_line true line w w' a b c before (e, says, t) = let after = told_on w w' a b c e before t in
+  pub sofar_line : (has_event : Bool) (line : List ℕ) (w w' : WorldState) (a b c : Printer W) (x y z : NumberSet)
+      (before : Sofar A page setup w a b x y) → TellsLine A page has_event line w w' b c y z
+      → (after : Sofar A page setup w' a c x z) × Adds has_event line (before.0).events (after.0).events
+  sofar_line true line w w' a b c x y z before (e, says, t) = let after = told_on w w' a b c x y z e before t in
       (after.0, (e, says, after.1))
-  sofar_line false line w w' a b c before h =
-      ((before.0, before.1 ∙ sym h.0, subst (λ x. Prints contents a x (before.0).text) (sym h.1) before.2), refl)
+  sofar_line false line w w' a b c x y z before h = (
+    (
+      before.0,
+      before.1 ∙ sym h.0,
+      subst (λ v. Prints page a v (before.0).text) (sym h.1) before.2,
+      subst (λ v. TellsRefusals x v (before.0).reports) (sym h.2) before.3,
+    ),
+    refl,
+  )
 
   -- where the play stops, and prints nothing more
-  pub sofar_stopped : (known : Option (List ℕ)) (w : WorldState) (a b c : Printer W) (r : Result (Unit {0}) Stop)
-      (s : Stop) → r ≡ Err s → c ≡ b → (before : Sofar A contents setup w a b)
-      → StopsIn A known (before.0).events w s
-      → IfSome known (λ text. BeginsWith text (before.0).events) → (p : Played setup) × Prints contents a c p.text
-      × IsWhole A known r p
-  sofar_stopped known w a b c r s is same before stops begins = (
+  pub sofar_stopped : (known : Option (List ℕ)) (w : WorldState) (a b c : Printer W) (x y z : NumberSet)
+      (r : Result (Unit {0}) Stop) (s : Stop) → r ≡ Err s → c ≡ b → z ≡ y → (before : Sofar A page setup w a b x y)
+      → StopsIn A known (before.0).events w s → IfSome known (λ text. BeginsWith text (before.0).events)
+      → (p : Played setup) × Prints page a c p.text × IsWhole A known r p × TellsRefusals x z p.reports
+  sofar_stopped known w a b c x y z r s is same also before stops begins = (
     before.0,
-    subst (λ x. Prints contents a x (before.0).text) (sym same) before.2,
-    rw is
-        (subst (λ x. StopsIn A known (before.0).events x s) (sym before.1) stops, begins),
+    subst (λ v. Prints page a v (before.0).text) (sym same) before.2,
+    rw is (subst (λ v. StopsIn A known (before.0).events v s) (sym before.1) stops, begins),
+    subst (λ v. TellsRefusals x v (before.0).reports) (sym also) before.3,
   )
 
   -- one line more of those that are known
   pub line_played : FirstLine
       → {X E : Type 0} (bytes : X → List ℕ) (line : Result X E) (first known new : Option (List ℕ)) (byte : ℕ)
-      (w w' : WorldState) (a b c : Printer W)
-      (before : Sofar A contents setup w a b) → byte ≡ 10 → SaidSoFar first known (before.0).events
+      (w w' : WorldState) (a b c : Printer W) (u v z : NumberSet)
+      (before : Sofar A page setup w a b u v) → byte ≡ 10 → SaidSoFar first known (before.0).events
       → IfOk line (λ x. IfSome known (λ xs. (0 < length xs) × (bytes x ≡ first_piece byte xs))
       × DropsThrough known new byte)
-      → MatchResult line (λ x. TellsLine A contents (is_event_line (bytes x)) (bytes x) w w' b c) (λ e. ⊥)
-      → (after : Sofar A contents setup w' a c) × SaidSoFar first new (after.0).events
-  line_played law bytes (Err e) first known new byte w w' a b c before is reads piece told = absurd told
-  line_played law bytes (Ok x) first known new byte w w' a b c before is reads piece told =
-      let after = sofar_line (is_event_line (bytes x)) (bytes x) w w' a b c before told in
+      → MatchResult line (λ x. TellsLine A page (is_event_line (bytes x)) (bytes x) w w' b c v z) (λ e. ⊥)
+      → (after : Sofar A page setup w' a c u z) × SaidSoFar first new (after.0).events
+  line_played law bytes (Err e) first known new byte w w' a b c u v z before is reads piece told = absurd told
+  line_played law bytes (Ok x) first known new byte w w' a b c u v z before is reads piece told =
+      let after = sofar_line (is_event_line (bytes x)) (bytes x) w w' a b c u v z before told in
       let piece' = rw is at piece in (
         after.0,
         reads_more law A first known new (before.0).events ((after.0).0).events
@@ -253,37 +265,6 @@ whole_read A setup (Some text) bytes all (Ok u) p read same h =
 whole_read A setup None bytes all (Err s) p read same h = (stops_unknown A bytes p.events p.world s h.0, tt)
 whole_read A setup (Some text) bytes all (Err s) p read same h =
     subst (λ t. StopsIn A (Some t) p.events p.world s × BeginsWith t p.events) (same ∙ read) h
-
-module _ (A : Type 0) {W : Type 0} (contents : W → Option (List ℕ)) (w : WorldState) (e : Event A) (w' : WorldState)
-    (old new : Printer W) where
-  -- the event of a line was played
-  pub tells_event : {X E : Type 0} (bytes : X → List ℕ) (line : Result X E) (r : Result (Unit {0}) Stop)
-      → MatchResult line (λ x. (is_event_line (bytes x) ≡ true) × Says (bytes x) e) (λ f. ⊥)
-      → OnOk r (Tells contents w e w' old new)
-      → OnOk r (MatchResult line (λ x. TellsLine A contents (is_event_line (bytes x)) (bytes x) w w' old new)
-      (λ f. ⊥))
-  tells_event bytes (Err f) r has told = absurd has
-  tells_event bytes (Ok x) r has told =
-      on_ok_weaker r (λ (t : Tells contents w e w' old new). subst (λ h. TellsLine A contents h (bytes x) w w' old new)
-      (sym has.0) (e, has.1, t)) told
-
-  -- or it was not
-  pub stops_event : {X E : Type 0} (bytes : X → List ℕ) (line : Result X E) (r : Result (Unit {0}) Stop)
-      → MatchResult line (λ x. (is_event_line (bytes x) ≡ true) × Says (bytes x) e) (λ f. ⊥)
-      → IfErr r (λ s. (new ≡ old) × IsStopped w e w' s)
-      → IfErr r (λ s. (new ≡ old) × StopsLine A (line_of bytes line) w s)
-  stops_event bytes line (Ok u) has h = tt
-  stops_event bytes (Err f) (Err s) has h = absurd has
-  stops_event bytes (Ok x) (Err s) has h = (h.0, stops_refused A (bytes x) w e w' s has.0 has.1 h.1)
-
--- a line that is no event changes nothing
-pub tells_nothing : (A : Type 0) {W : Type 0} (contents : W → Option (List ℕ)) (w : WorldState)
-    (a : Printer W) {X E : Type 0} (bytes : X → List ℕ) (line : Result X E)
-    → MatchResult line (λ x. is_event_line (bytes x) ≡ false) (λ f. ⊥)
-    → MatchResult line (λ x. TellsLine A contents (is_event_line (bytes x)) (bytes x) w w a a) (λ f. ⊥)
-tells_nothing A contents w a bytes (Err f) has = absurd has
-tells_nothing A contents w a bytes (Ok x) has = subst (λ h. TellsLine A contents h (bytes x) w w a a) (sym has)
-    (refl, refl)
 
 -- a play that is not done has failed
 failed_of : (status : Status) (r : Result (Unit {0}) Stop) (P : Type 0) → ((status ≡ Done) ↔ (IsOk r × P)) → IsErr r

@@ -15,8 +15,11 @@ use Rattle.at_setup.specs.declared.setup.Setup.{Setup}
 use Rattle.at_play.specs.Texts.{no_memory_line}
 use Rattle.at_schedule.specs.Drafts.{HoldsSetup, IsLineFault}
 use Rattle.at_faults.specs.Reads.{IsOfBytes}
+use Rattle.at_print.specs.Papers.{Page}
 use Rattle.at_print.specs.Printers.{HasFailed, Prints}
+use Rattle.at_play.specs.Refusals.{TellsRefusals}
 use Rattle.at_play.specs.Told.{IsWhole, Played, stop_of}
+use Rattle.at_play.specs.declared.number_set.NumberSet.{NumberSet}
 use Rattle.at_print.specs.declared.printer.Printer.{Printer}
 use Rattle.at_print.specs.declared.status.Status.{Status}
 use Rattle.at_print.specs.declared.status.Status.TheVariants.{Done}
@@ -52,24 +55,26 @@ pub record Obeys {A : Type 0} (setup : Setup A) (p : Played setup) : Type 0 wher
       → RunsOnce setup.net setup.zones (p.world).sent (onto [] p.events p.reports)
 
 -- What a schedule's play prints of its events: what is told of those that were played. These are all of them unless it
--- stopped, which is said if the schedule's text is known.
-abbrev pub PlaysText : (A : Type 0) → Option (List ℕ) → (Setup A → Type 0) → Result (Unit {0}) Stop → List ℕ → Type 0
-PlaysText A known IsRead result text =
+-- stopped, which is said if the schedule's text is known. The numbers of their refusals are told.
+abbrev pub PlaysText : (A : Type 0) → Option (List ℕ) → (Setup A → Type 0) → NumberSet → NumberSet
+    → Result (Unit {0}) Stop → List ℕ → Type 0
+PlaysText A known IsRead old new result text =
     (setup : Setup A) × IsRead setup × (p : Played setup) × Obeys setup p × (text ≡ p.text) × IsWhole A known result p
+    × TellsRefusals old new p.reports
 
 -- no event was played, and nothing is told of any, since there is no schedule for such a reason
-abbrev pub IsNotRead : (Fault → Type 0) → Result (Unit {0}) Stop → List ℕ → Type 0
-IsNotRead IsReason (Ok u) text = ⊥
-IsNotRead IsReason (Err s) text = ((f : Fault) × IsReason f × (s ≡ stop_of f)) × (text ≡ [])
+abbrev pub IsNotRead : (Fault → Type 0) → NumberSet → NumberSet → Result (Unit {0}) Stop → List ℕ → Type 0
+IsNotRead IsReason old new (Ok u) text = ⊥
+IsNotRead IsReason old new (Err s) text = ((f : Fault) × IsReason f × (s ≡ stop_of f)) × (text ≡ []) × (new ≡ old)
 
 -- why there is no schedule: the bytes could not be read, or a line is at fault
 abbrev pub IsTextFault : Type 0 → Option (List ℕ) → Fault → Type 0
 IsTextFault A known f = IsOfBytes f ⊎ IsLineFault A known f
 
 -- nothing if there is no schedule, and else this of the setup that the text says
-abbrev pub PlayText : Type 0 → Option (List ℕ) → Result (Unit {0}) Stop → List ℕ → Type 0
-PlayText A known result text =
-    IsNotRead (IsTextFault A known) result text ⊎ PlaysText A known (HoldsSetup known) result text
+abbrev pub PlayText : Type 0 → Option (List ℕ) → NumberSet → NumberSet → Result (Unit {0}) Stop → List ℕ → Type 0
+PlayText A known old new result text =
+    IsNotRead (IsTextFault A known) old new result text ⊎ PlaysText A known (HoldsSetup known) old new result text
 
 -- a file that was sent back to its beginning
 pub record Rewound {F : Type 0} (position : F → Option ℕ) (bytes : F → Option (List ℕ)) : Type 0 where
@@ -81,18 +86,18 @@ pub record Rewound {F : Type 0} (position : F → Option ℕ) (bytes : F → Opt
 -- The same of a file, which is read from its beginning on, and again. The setup is what the text said the first time,
 -- and the events are what it said the second time.
 abbrev pub FileText : Type 0 → {F : Type 0} → (F → Option (List ℕ)) → (F → Option ℕ) → (F → Option (List ℕ))
-    → Result (Unit {0}) Stop → List ℕ → Type 0
-FileText A remaining position bytes result text =
-    IsNotRead IsOfBytes result text
-    ⊎ ((first : Rewound position bytes) × (IsNotRead (IsTextFault A (remaining first.file)) result text
+    → NumberSet → NumberSet → Result (Unit {0}) Stop → List ℕ → Type 0
+FileText A remaining position bytes old new result text =
+    IsNotRead IsOfBytes old new result text
+    ⊎ ((first : Rewound position bytes) × (IsNotRead (IsTextFault A (remaining first.file)) old new result text
     ⊎ ((again : Rewound position bytes)
-    × PlaysText A (remaining again.file) (HoldsSetup (remaining first.file)) result text)))
+    × PlaysText A (remaining again.file) (HoldsSetup (remaining first.file)) old new result text)))
 
 -- how a play ended, and what is printed of it: its events, and why it stopped if it did
-pub record Ended {W : Type 0} (IsText : Result (Unit {0}) Stop → List ℕ → Type 0) (contents : W → Option (List ℕ))
+pub record Ended {W : Type 0} (IsText : Result (Unit {0}) Stop → List ℕ → Type 0) (page : W → Page)
     (status : Status) (old new : Printer W) : Type 0 where
   pub result : Result (Unit {0}) Stop
   pub text : List ℕ
   pub plays : IsText result text
   pub done : (status ≡ Done) ↔ (IsOk result × ¬ HasFailed new)
-  pub printed : Prints contents old new (text ++ end_text result)
+  pub printed : Prints page old new (text ++ end_text result)

@@ -1,5 +1,8 @@
 pub mod Ends
 pub mod HexFaults
+pub mod NumberSets
+pub mod Reasons
+pub mod Refusals
 pub mod Shown
 pub mod Texts
 pub mod Told

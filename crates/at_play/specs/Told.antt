@@ -11,8 +11,11 @@ use Rattle.at_setup.specs.declared.setup.Setup.{Setup}
 use Rattle.at_world.specs.Plays.{opening_world}
 use Rattle.at_world.specs.Safety.{IsSafe}
 use Rattle.at_world.specs.Worlds.{WorldState, IsPlayable, IsFault, Plays, Refuses}
+use Rattle.at_print.specs.Papers.{Page}
 use Rattle.at_print.specs.Printers.{Prints}
 use Rattle.at_print.specs.Reports.{event_text}
+use Rattle.at_play.specs.Refusals.{TellsRefusals}
+use Rattle.at_play.specs.declared.number_set.NumberSet.{NumberSet}
 use Rattle.at_schedule.specs.Says.{SayAll, Says}
 use Rattle.at_schedule.specs.Schedules.{event_lines, is_event_line}
 use Rattle.at_print.specs.declared.printer.Printer.{Printer}
@@ -29,20 +32,22 @@ Told w (e ∷ es) (r ∷ rs) w' text =
 Told w [] (r ∷ rs) w' text = ⊥
 Told w (e ∷ es) [] w' text = ⊥
 
--- an event was played, and its text is printed
-pub record Tells {A W : Type 0} (contents : W → Option (List ℕ)) (w : WorldState) (e : Event A) (w' : WorldState)
-    (old new : Printer W) : Type 0 where
+-- an event was played, its text is printed, and the number of its refusal is told if it is one
+pub record Tells {A W : Type 0} (page : W → Page) (w : WorldState) (e : Event A) (w' : WorldState)
+    (old new : Printer W) (before after : NumberSet) : Type 0 where
   pub report : Report A
   pub playable : IsPlayable w e
   pub plays : Plays w e report w'
   pub safe : IsSafe w e report w'
-  pub printed : Prints contents old new (event_text w.events report w'.sent (length w.sent))
+  pub printed : Prints page old new (event_text w.events report w'.sent (length w.sent))
+  pub told : TellsRefusals before after (report ∷ [])
 
 -- a line that is no event changes nothing, and the event that any other says is played and printed
-abbrev pub TellsLine : (A : Type 0) {W : Type 0} → (W → Option (List ℕ)) → Bool → List ℕ → WorldState → WorldState
-    → Printer W → Printer W → Type 0
-TellsLine A contents true line w w' old new = (e : Event A) × Says line e × Tells contents w e w' old new
-TellsLine A contents false line w w' old new = (w' ≡ w) × (new ≡ old)
+abbrev pub TellsLine : (A : Type 0) {W : Type 0} → (W → Page) → Bool → List ℕ → WorldState → WorldState
+    → Printer W → Printer W → NumberSet → NumberSet → Type 0
+TellsLine A page true line w w' old new before after =
+    (e : Event A) × Says line e × Tells page w e w' old new before after
+TellsLine A page false line w w' old new before after = (w' ≡ w) × (new ≡ old) × (after ≡ before)
 
 -- an event was not played, and this is why
 pub record IsStopped {A : Type 0} (w : WorldState) (e : Event A) (w' : WorldState) (s : Stop) : Type 0 where

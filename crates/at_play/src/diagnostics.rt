@@ -1,30 +1,36 @@
 //! What a person is told, a line for each reason, as on standard error.
-ghost use Rattle.std.specs.Prelude.{◌≡◌};
+ghost use Rattle.std.specs.Prelude.{◌≡◌, ◌↔◌, ◌⊎◌, ℕ};
+ghost use Rattle.at_play.specs.NumberSets.{HasTold};
 ghost use Rattle.at_print.specs.Printers.{HasFailed};
 
 use crate::hex_reason::HexReason;
+use crate::number_set::NumberSet;
+use crate::reason::Reason;
 use crate::stop::Stop;
 use at_faults::Fault;
-use at_print::Printer;
+use at_print::{Paper, Printer};
 use at_world::Refusal;
 use std::fmt::Display;
-use std::io::Write;
 
 /// A writer of reasons, and the name of the file that they are about.
 #[derive(Drop)]
 pub struct Diagnostics<'a, W> {
     file: &'a str,
     printer: Printer<W>,
+    // The numbers of the refusals that were told.
+    refusals: NumberSet,
 }
 
-impl<'a, W: Write> Diagnostics<'a, W> {
+impl<'a, W: Paper> Diagnostics<'a, W> {
     /// Reasons about the file of this name are written to the writer.
     pub fn new(file: &'a str, writer: W) -> Diagnostics<'a, W>
-        ensures { result.file.now ≡ file.now }
+        ensures file { result.file.now ≡ file.now }
+        ensures untold { (n : ℕ) → ¬ HasTold result n }
     {
         Diagnostics {
             file,
             printer: Printer::new(writer),
+            refusals: NumberSet::new(),
         }
     }
 
@@ -32,6 +38,7 @@ impl<'a, W: Write> Diagnostics<'a, W> {
     /// that failed.
     pub fn tell_stop(&mut self, stop: Stop)
         ensures file { self.new.file ≡ self.old.file }
+        ensures told { self.new.refusals ≡ self.old.refusals }
         ensures stopped { HasFailed self.old.printer → self.new ≡ self.old }
     {
         let file = self.file;
@@ -58,9 +65,37 @@ impl<'a, W: Write> Diagnostics<'a, W> {
         }
     }
 
+    /// Tells why a node refused the event of this place, counted from 0, which stands in the line of this number. A
+    /// number of a refusal is told once, the first time that it comes.
+    pub fn tell_refused(&mut self, number: u8, at: u32, line: usize)
+        ensures file { self.new.file ≡ self.old.file }
+        ensures told { (n : ℕ) → HasTold self.new n ↔ ((n ≡ number) ⊎ HasTold self.old n) }
+        ensures once { HasTold self.old number → self.new.printer ≡ self.old.printer }
+        ensures stopped { HasFailed self.old.printer → self.new.printer ≡ self.old.printer }
+    {
+        if self.refusals.insert(number) {
+            self.tell_reason(number, at, line);
+        }
+    }
+
+    fn tell_reason(&mut self, number: u8, at: u32, line: usize)
+        ensures file { self.new.file ≡ self.old.file }
+        ensures told { self.new.refusals ≡ self.old.refusals }
+        ensures stopped { HasFailed self.old.printer → self.new ≡ self.old }
+    {
+        if let Some(reason) = Reason::of(number) {
+            let file = self.file;
+            writeln!(
+                self.printer,
+                "atnode: {file}:{line}: event {at} was refused: {reason} (refusal {number})"
+            );
+        }
+    }
+
     // Why an event was not played. A delivery may be untimely for what it carries, and for what it would draw.
     fn tell_fault(&mut self, fault: at_world::Fault, which: Option<u64>)
         ensures file { self.new.file ≡ self.old.file }
+        ensures told { self.new.refusals ≡ self.old.refusals }
         ensures stopped { HasFailed self.old.printer → self.new ≡ self.old }
     {
         match (fault, which) {
@@ -81,7 +116,9 @@ impl<'a, W: Write> Diagnostics<'a, W> {
     }
 
     /// Tells that some of what was printed could not be written, if so.
-    pub(crate) fn tell_writes<P: Write>(&mut self, printed: &Printer<P>) {
+    pub(crate) fn tell_writes<P: Paper>(&mut self, printed: &Printer<P>)
+        ensures told { self.new.refusals ≡ self.old.refusals }
+    {
         if printed.has_failed() {
             let file = self.file;
             writeln!(

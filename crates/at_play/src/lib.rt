@@ -3,15 +3,18 @@
 
 mod diagnostics;
 mod hex_reason;
+mod number_set;
 mod playing;
 mod program;
+mod reason;
 mod show;
 mod show_names;
 mod show_segment;
 mod stop;
 
-pub use at_print::{Printer, Status};
+pub use at_print::{Paper, Printer, Status};
 pub use diagnostics::Diagnostics;
 pub use program::{play_file, play_text};
+pub use reason::Reason;
 pub use show::show_text;
 pub use stop::Stop;

@@ -7,14 +7,14 @@ use crate::diagnostics::Diagnostics;
 use crate::playing::play_lines;
 use crate::stop::{Stop, write_stop};
 use at_faults::{MAX_LEN, check_length, read_bytes};
-use at_print::{Printer, Status};
+use at_print::{Paper, Printer, Status};
 use at_schedule::read_setup;
 use std::alloc::Allocator;
-use std::io::{Read, Seek, Write};
+use std::io::{Read, Seek};
 
 /// Reads a schedule to its end, plays it, and prints what came of each event. Why a play ended before its last event is
 /// told to a person as well.
-pub fn play_text<A: Allocator + Copy, R: Read, W: Write, E: Write>(
+pub fn play_text<A: Allocator + Copy, R: Read, W: Paper, E: Paper>(
     alloc: A,
     reader: &mut R,
     printer: &mut Printer<W>,
@@ -23,16 +23,18 @@ pub fn play_text<A: Allocator + Copy, R: Read, W: Write, E: Write>(
     // A schedule that is too long is not played. Said if it is known what the reader holds.
     ensures too_long { IfSome (R.remaining reader.old) (λ all. MAX_LEN < length all → result ≡ Status.Failed) }
     ensures printed { result ≡ Status.Done → ¬ HasFailed printer.new }
-    ensures ended { Ended (PlayText A (R.remaining reader.old)) W.contents result printer.old printer.new }
+    ensures ended { Ended
+        (PlayText A (R.remaining reader.old) diagnostics.old.refusals diagnostics.new.refusals) W.page result
+        printer.old printer.new }
 {
-    let played = play_stream(alloc, reader, printer);
+    let played = play_stream(alloc, reader, printer, diagnostics);
     end(played, printer, diagnostics)
 }
 
 /// Plays a schedule that can be read again from its beginning, as a file can: nothing of it is kept but its setup. It
 /// is read for its length, then for its faults, and last to be played. One that changes meanwhile is told as
 /// unreadable.
-pub fn play_file<A: Allocator + Copy, F: Read + Seek, W: Write, E: Write>(
+pub fn play_file<A: Allocator + Copy, F: Read + Seek, W: Paper, E: Paper>(
     alloc: A,
     file: &mut F,
     printer: &mut Printer<W>,
@@ -40,64 +42,70 @@ pub fn play_file<A: Allocator + Copy, F: Read + Seek, W: Write, E: Write>(
 ) -> Status
     ensures too_long { IfSome (F.remaining file.old) (λ all. MAX_LEN < length all → result ≡ Status.Failed) }
     ensures printed { result ≡ Status.Done → ¬ HasFailed printer.new }
-    ensures ended { Ended (FileText A F.remaining F.stream_position F.stream_bytes) W.contents result
-        printer.old printer.new }
+    ensures ended { Ended (FileText A F.remaining F.stream_position F.stream_bytes
+        diagnostics.old.refusals diagnostics.new.refusals) W.page result printer.old printer.new }
 {
-    let played = play_again(alloc, file, printer);
+    let played = play_again(alloc, file, printer, diagnostics);
     end(played, printer, diagnostics)
 }
 
-fn play_stream<A: Allocator + Copy, R: Read, W: Write>(
+fn play_stream<A: Allocator + Copy, R: Read, W: Paper, E: Paper>(
     alloc: A,
     reader: &mut R,
     printer: &mut Printer<W>,
+    diagnostics: &mut Diagnostics<'_, E>,
 ) -> Result<(), Stop>
     ensures too_long { IfSome (R.remaining reader.old) (λ all. MAX_LEN < length all → IsErr result) }
-    ensures told { (text : List ℕ) × PlayText A (R.remaining reader.old) result text
-        × Prints W.contents printer.old printer.new text }
+    ensures told { (text : List ℕ)
+        × PlayText A (R.remaining reader.old) diagnostics.old.refusals diagnostics.new.refusals result text
+        × Prints W.page printer.old printer.new text }
 {
     let bytes = read_bytes(alloc, reader)?;
     let setup = read_setup(alloc, &mut bytes.as_slice())?;
-    play_lines(alloc, &setup, &mut bytes.as_slice(), printer)
+    play_lines(alloc, &setup, &mut bytes.as_slice(), printer, diagnostics)
 }
 
-fn play_again<A: Allocator + Copy, F: Read + Seek, W: Write>(
+fn play_again<A: Allocator + Copy, F: Read + Seek, W: Paper, E: Paper>(
     alloc: A,
     file: &mut F,
     printer: &mut Printer<W>,
+    diagnostics: &mut Diagnostics<'_, E>,
 ) -> Result<(), Stop>
     ensures too_long { IfSome (F.remaining file.old) (λ all. MAX_LEN < length all → IsErr result) }
-    ensures told { (text : List ℕ) × FileText A F.remaining F.stream_position F.stream_bytes result text
-        × Prints W.contents printer.old printer.new text }
+    ensures told { (text : List ℕ)
+        × FileText A F.remaining F.stream_position F.stream_bytes diagnostics.old.refusals diagnostics.new.refusals
+        result text × Prints W.page printer.old printer.new text }
 {
     check_length(file)?;
     file.rewind()?;
     let setup = read_setup(alloc, file)?;
     file.rewind()?;
-    play_lines(alloc, &setup, file, printer)
+    play_lines(alloc, &setup, file, printer, diagnostics)
 }
 
 // Tells how a play ended, and why it stopped if it did.
-fn end<W: Write, E: Write>(
+fn end<W: Paper, E: Paper>(
     played: Result<(), Stop>,
     printer: &mut Printer<W>,
     diagnostics: &mut Diagnostics<'_, E>,
 ) -> Status
     ensures done { (result ≡ Status.Done) ↔ (IsOk played × ¬ HasFailed printer.new) }
-    ensures printed { Prints W.contents printer.old printer.new (end_text played) }
+    ensures printed { Prints W.page printer.old printer.new (end_text played) }
+    ensures told { diagnostics.new.refusals ≡ diagnostics.old.refusals }
 {
     let status = finish(played, printer, diagnostics);
     diagnostics.tell_writes(printer);
     status
 }
 
-fn finish<W: Write, E: Write>(
+fn finish<W: Paper, E: Paper>(
     played: Result<(), Stop>,
     printer: &mut Printer<W>,
     diagnostics: &mut Diagnostics<'_, E>,
 ) -> Status
     ensures done { (result ≡ Status.Done) ↔ (IsOk played × ¬ HasFailed printer.new) }
-    ensures printed { Prints W.contents printer.old printer.new (end_text played) }
+    ensures printed { Prints W.page printer.old printer.new (end_text played) }
+    ensures told { diagnostics.new.refusals ≡ diagnostics.old.refusals }
 {
     match played {
         Ok(()) => printer.finish(Status::Done),

@@ -12,16 +12,15 @@ use crate::hex_reason::HexReason;
 use crate::show_names::show_names;
 use crate::show_segment::show_segment;
 use at_ddp::{ADSP, ATP, Datagram, NBP};
-use at_print::{Printer, Status, write_frame, write_header, write_raw};
+use at_print::{Paper, Printer, Status, write_frame, write_header, write_raw};
 use at_words::{HexFault, bytes_of};
 use std::alloc::Allocator;
 use std::fmt::Display;
-use std::io::Write;
 
 /// Prints the datagram that a word spells in hexadecimal digits, its header and its packet, or the number of the first
 /// refusal. What follows the datagram is counted only. The bytes are put into the room. Why a word or a datagram is
 /// refused is told to a person as well.
-pub fn show_text<A: Allocator, W: Write, E: Write>(
+pub fn show_text<A: Allocator, W: Paper, E: Paper>(
     word: &[u8],
     room: &mut Vec<u8, A>,
     printer: &mut Printer<W>,
@@ -29,7 +28,7 @@ pub fn show_text<A: Allocator, W: Write, E: Write>(
 ) -> Status
     ensures done { result ≡ Status.Done → Shows word.now × ¬ HasFailed printer.new }
     ensures printed { (text : List ℕ) × WordText word.now (vec_capacity room.old) text
-        × Prints W.contents printer.old printer.new text }
+        × Prints W.page printer.old printer.new text }
     // It fails only if the word is not to be shown, room was missing, or a write failed.
     ensures only { Shows word.now → length word.now / 2 ≤ vec_capacity room.old → ¬ HasFailed printer.new
         → result ≡ Status.Done }
@@ -41,14 +40,14 @@ pub fn show_text<A: Allocator, W: Write, E: Write>(
     printer.finish(status)
 }
 
-fn show_fault<W: Write, E: Write>(
+fn show_fault<W: Paper, E: Paper>(
     fault: HexFault,
     word: &[u8],
     printer: &mut Printer<W>,
     diagnostics: &mut Diagnostics<'_, E>,
 ) -> Status
     ensures failed { result ≡ Status.Failed }
-    ensures printed { Prints W.contents printer.old printer.new (fault_line fault) }
+    ensures printed { Prints W.page printer.old printer.new (fault_line fault) }
 {
     match fault {
         HexFault::NoHex => {
@@ -63,13 +62,13 @@ fn show_fault<W: Write, E: Write>(
     Status::Failed
 }
 
-fn show_bytes<W: Write, E: Write>(
+fn show_bytes<W: Paper, E: Paper>(
     bytes: &[u8],
     printer: &mut Printer<W>,
     diagnostics: &mut Diagnostics<'_, E>,
 ) -> Status
     ensures done { (result ≡ Status.Done) ↔ IsSound bytes.now }
-    ensures printed { (text : List ℕ) × BytesText bytes.now text × Prints W.contents printer.old printer.new text }
+    ensures printed { (text : List ℕ) × BytesText bytes.now text × Prints W.page printer.old printer.new text }
 {
     match at_ddp::decode(bytes) {
         Ok((datagram, rest)) => show_datagram(&datagram, rest.len(), printer, diagnostics),
@@ -78,7 +77,7 @@ fn show_bytes<W: Write, E: Write>(
 }
 
 // The header's line, and the lines of what the datagram carries.
-fn show_datagram<W: Write, E: Write>(
+fn show_datagram<W: Paper, E: Paper>(
     datagram: &Datagram<'_>,
     rest: usize,
     printer: &mut Printer<W>,
@@ -86,13 +85,13 @@ fn show_datagram<W: Write, E: Write>(
 ) -> Status
     ensures done { (result ≡ Status.Done) ↔ IsReadable datagram.now.kind datagram.now.data_.now }
     ensures printed { (text : List ℕ) × DataText datagram.now.kind datagram.now.data_.now text
-        × Prints W.contents printer.old printer.new (header_line (content datagram.now) rest ++ text) }
+        × Prints W.page printer.old printer.new (header_line (content datagram.now) rest ++ text) }
 {
     write_header(printer, datagram, rest);
     show_data(datagram.kind, datagram.data_, printer, diagnostics)
 }
 
-fn show_data<W: Write, E: Write>(
+fn show_data<W: Paper, E: Paper>(
     kind: u8,
     bytes: &[u8],
     printer: &mut Printer<W>,
@@ -100,7 +99,7 @@ fn show_data<W: Write, E: Write>(
 ) -> Status
     ensures done { (result ≡ Status.Done) ↔ IsReadable kind bytes.now }
     ensures printed { (text : List ℕ) × DataText kind bytes.now text
-        × Prints W.contents printer.old printer.new text }
+        × Prints W.page printer.old printer.new text }
 {
     if kind == NBP {
         show_names(bytes, printer, diagnostics)
@@ -114,13 +113,13 @@ fn show_data<W: Write, E: Write>(
     }
 }
 
-fn show_packet<W: Write, E: Write>(
+fn show_packet<W: Paper, E: Paper>(
     bytes: &[u8],
     printer: &mut Printer<W>,
     diagnostics: &mut Diagnostics<'_, E>,
 ) -> Status
     ensures done { (result ≡ Status.Done) ↔ IsPacket bytes.now }
-    ensures printed { (text : List ℕ) × PacketText bytes.now text × Prints W.contents printer.old printer.new text }
+    ensures printed { (text : List ℕ) × PacketText bytes.now text × Prints W.page printer.old printer.new text }
 {
     match at_atp::decode(bytes) {
         Ok(frame) => {
@@ -132,14 +131,14 @@ fn show_packet<W: Write, E: Write>(
 }
 
 // The refusal's number, in the place of the line of what was refused.
-pub(crate) fn show_refusal<F: Display + Drop, W: Write, E: Write>(
+pub(crate) fn show_refusal<F: Display + Drop, W: Paper, E: Paper>(
     fault: F,
     number: Option<u8>,
     printer: &mut Printer<W>,
     diagnostics: &mut Diagnostics<'_, E>,
 ) -> Status
     ensures failed { result ≡ Status.Failed }
-    ensures printed { Prints W.contents printer.old printer.new (refusal_line number) }
+    ensures printed { Prints W.page printer.old printer.new (refusal_line number) }
 {
     match number {
         Some(number) => writeln!(printer, "refused {number}"),

@@ -6,17 +6,16 @@ ghost use Rattle.at_print.specs.Printers.{Prints};
 
 use crate::diagnostics::Diagnostics;
 use crate::show::show_refusal;
-use at_print::{Printer, Status, write_segment};
-use std::io::Write;
+use at_print::{Paper, Printer, Status, write_segment};
 
 /// The line of an ADSP segment, or the number of its first refusal.
-pub(crate) fn show_segment<W: Write, E: Write>(
+pub(crate) fn show_segment<W: Paper, E: Paper>(
     bytes: &[u8],
     printer: &mut Printer<W>,
     diagnostics: &mut Diagnostics<'_, E>,
 ) -> Status
     ensures done { (result ≡ Status.Done) ↔ IsSegment bytes.now }
-    ensures printed { (text : List ℕ) × SegmentText bytes.now text × Prints W.contents printer.old printer.new text }
+    ensures printed { (text : List ℕ) × SegmentText bytes.now text × Prints W.page printer.old printer.new text }
 {
     match at_adsp_frame::decode(bytes) {
         Ok(segment) => {

@@ -9,9 +9,8 @@ ghost use Rattle.at_play.specs.declared.stop.Stop.TheVariants as stop;
 ghost use Rattle.at_world.specs.declared.refusal.Fault.TheVariants as world;
 
 use at_faults::Fault;
-use at_print::Printer;
+use at_print::{Paper, Printer};
 use std::io;
-use std::io::Write;
 
 /// Why a play ends before its last event.
 #[derive(Clone, Copy)]
@@ -63,8 +62,8 @@ impl From<io::Error> for Stop {
 }
 
 /// Prints why a play ended.
-pub(crate) fn write_stop<W: Write>(printer: &mut Printer<W>, stop: Stop)
-    ensures { Prints W.contents printer.old printer.new (stop_line stop) }
+pub(crate) fn write_stop<W: Paper>(printer: &mut Printer<W>, stop: Stop)
+    ensures { Prints W.page printer.old printer.new (stop_line stop) }
 {
     match stop {
         Stop::Text(fault) => write_fault(printer, fault),
@@ -77,8 +76,8 @@ pub(crate) fn write_stop<W: Write>(printer: &mut Printer<W>, stop: Stop)
     }
 }
 
-fn write_fault<W: Write>(printer: &mut Printer<W>, fault: Fault)
-    ensures { Prints W.contents printer.old printer.new (text_fault_line fault) }
+fn write_fault<W: Paper>(printer: &mut Printer<W>, fault: Fault)
+    ensures { Prints W.page printer.old printer.new (text_fault_line fault) }
 {
     match fault {
         Fault::Unreadable(_) => printer.write_all(b"fault 0\n"),

@@ -10,26 +10,27 @@ use Rattle.at_print.specs.Lines.{address_text, header_line, packet_line, pairs, 
 use Rattle.std.specs.List.{concat}
 use Rattle.std.specs.Int.{from_bool}
 use Rattle.at_atp_frame.specs.Frames.{Request, Response}
-use Rattle.std.specs.Prelude.{Option, codes}
-use Rattle.std.specs.Io.KnownBytes.{Appends}
+use Rattle.std.specs.Prelude.{codes}
 use Rattle.std.proofs.KnownBytes.{Appends-trans}
 use Rattle.at_print.specs.declared.printer.Printer.{Printer}
+use Rattle.at_print.specs.Papers.{Page, Writes}
 use Rattle.at_print.specs.Printers.{HasFailed, Prints}
 
-written : {W : Type 0} (contents : W → Option (List ℕ)) (a b c : Printer W) (xs ys : List ℕ) → Prints contents b c ys
-    → HasFailed b ⊎ Appends (contents a.writer) (contents b.writer) xs → HasFailed c
-    ⊎ Appends (contents b.writer) (contents c.writer) ys
-    → HasFailed c ⊎ Appends (contents a.writer) (contents c.writer) (xs ++ ys)
-written contents a b c xs ys second p (inl failed) = inl failed
-written contents a b c xs ys second (inl failed) (inr q) = inl (subst HasFailed (sym (second.stopped failed)) failed)
-written contents a b c xs ys second (inr p) (inr q) = inr
-    (Appends-trans (contents a.writer) (contents b.writer) (contents c.writer) xs ys p q)
+written : {W : Type 0} (page : W → Page) (a b c : Printer W) (xs ys : List ℕ) → Prints page b c ys
+    → HasFailed b ⊎ Writes (page a.writer) (page b.writer) xs → HasFailed c
+    ⊎ Writes (page b.writer) (page c.writer) ys
+    → HasFailed c ⊎ Writes (page a.writer) (page c.writer) (xs ++ ys)
+written page a b c xs ys second p (inl failed) = inl failed
+written page a b c xs ys second (inl failed) (inr q) = inl (subst HasFailed (sym (second.stopped failed)) failed)
+written page a b c xs ys second (inr p) (inr q) = inr
+    (Appends-trans (page a.writer).contents (page b.writer).contents (page c.writer).contents xs ys p q)
 
-pub Prints-trans : {W : Type 0} (contents : W → Option (List ℕ)) (a b c : Printer W) (xs ys : List ℕ)
-    → Prints contents a b xs → Prints contents b c ys → Prints contents a c (xs ++ ys)
-Prints-trans contents a b c xs ys first second = record {
+pub Prints-trans : {W : Type 0} (page : W → Page) (a b c : Printer W) (xs ys : List ℕ)
+    → Prints page a b xs → Prints page b c ys → Prints page a c (xs ++ ys)
+Prints-trans page a b c xs ys first second = record {
   stopped = λ failed. let same = first.stopped failed in second.stopped (subst HasFailed (sym same) failed) ∙ same;
-  written = written contents a b c xs ys second first.written second.written;
+  written = written page a b c xs ys second first.written second.written;
+  tied = λ tied. second.tied (first.tied tied);
 }
 
 pub pairs-append : (xs ys : List ℕ) → pairs (xs ++ ys) ≡ pairs xs ++ pairs ys
@@ -62,61 +63,61 @@ flat8 : (a b c d e f g h r : List ℕ) → (a ++ (b ++ (c ++ (d ++ (e ++ (f ++ (
     ≡ a ++ (b ++ (c ++ (d ++ (e ++ (f ++ (g ++ (h ++ r)))))))
 flat8 a b c d e f g h r = simp append_assoc
 
-module _ {W : Type 0} (contents : W → Option (List ℕ)) where
+module _ {W : Type 0} (page : W → Page) where
   -- five, six or eight parts by one call, and then more
-  pub Prints-five : (x y z : Printer W) (a b c d e r : List ℕ) → Prints contents x y (a ++ (b ++ (c ++ (d ++ e))))
-      → Prints contents y z r
-      → Prints contents x z (a ++ (b ++ (c ++ (d ++ (e ++ r)))))
+  pub Prints-five : (x y z : Printer W) (a b c d e r : List ℕ) → Prints page x y (a ++ (b ++ (c ++ (d ++ e))))
+      → Prints page y z r
+      → Prints page x z (a ++ (b ++ (c ++ (d ++ (e ++ r)))))
   Prints-five x y z a b c d e r p q =
-      subst (Prints contents x z) (flat5 a b c d e r) (Prints-trans contents x y z _ r p q)
+      subst (Prints page x z) (flat5 a b c d e r) (Prints-trans page x y z _ r p q)
 
   pub Prints-six : (x y z : Printer W) (a b c d e f r : List ℕ)
-      → Prints contents x y (a ++ (b ++ (c ++ (d ++ (e ++ f))))) → Prints contents y z r
-      → Prints contents x z (a ++ (b ++ (c ++ (d ++ (e ++ (f ++ r))))))
+      → Prints page x y (a ++ (b ++ (c ++ (d ++ (e ++ f))))) → Prints page y z r
+      → Prints page x z (a ++ (b ++ (c ++ (d ++ (e ++ (f ++ r))))))
   Prints-six x y z a b c d e f r p q =
-      subst (Prints contents x z) (flat6 a b c d e f r) (Prints-trans contents x y z _ r p q)
+      subst (Prints page x z) (flat6 a b c d e f r) (Prints-trans page x y z _ r p q)
 
   pub Prints-eight : (x y z : Printer W) (a b c d e f g h r : List ℕ)
-      → Prints contents x y (a ++ (b ++ (c ++ (d ++ (e ++ (f ++ (g ++ h))))))) → Prints contents y z r
-      → Prints contents x z (a ++ (b ++ (c ++ (d ++ (e ++ (f ++ (g ++ (h ++ r))))))))
-  Prints-eight x y z a b c d e f g h r p q = subst (Prints contents x z) (flat8 a b c d e f g h r)
-      (Prints-trans contents x y z _ r p q)
+      → Prints page x y (a ++ (b ++ (c ++ (d ++ (e ++ (f ++ (g ++ h))))))) → Prints page y z r
+      → Prints page x z (a ++ (b ++ (c ++ (d ++ (e ++ (f ++ (g ++ (h ++ r))))))))
+  Prints-eight x y z a b c d e f g h r p q = subst (Prints page x z) (flat8 a b c d e f g h r)
+      (Prints-trans page x y z _ r p q)
 
   -- a header's line is printed in seven parts
   pub header_prints : (a b c d e f g h : Printer W) (p : Content) (rest : ℕ)
-      → Prints contents a b (codes "ddp length "
+      → Prints page a b (codes "ddp length "
       ++ (decimal (13 + length p.data_) ++ (codes " hops " ++ (decimal p.hops ++ codes " sum "))))
-      → Prints contents b c (sum_text p.sum) → Prints contents c d (codes " from ")
-      → Prints contents d e (address_text p.from)
-      → Prints contents e f (codes " to ") → Prints contents f g (address_text p.to)
-      → Prints contents g h (codes " type " ++ (decimal p.kind ++ (codes " rest " ++ (decimal rest ++ codes "\n"))))
-      → Prints contents a h (header_line p rest)
+      → Prints page b c (sum_text p.sum) → Prints page c d (codes " from ")
+      → Prints page d e (address_text p.from)
+      → Prints page e f (codes " to ") → Prints page f g (address_text p.to)
+      → Prints page g h (codes " type " ++ (decimal p.kind ++ (codes " rest " ++ (decimal rest ++ codes "\n"))))
+      → Prints page a h (header_line p rest)
   header_prints a b c d e f g h p rest p1 p2 p3 p4 p5 p6 p7 =
-      let receiver = Prints-trans contents e f h _ _ p5 (Prints-trans contents f g h _ _ p6 p7) in
-      let sender = Prints-trans contents c d h _ _ p3 (Prints-trans contents d e h _ _ p4 receiver) in
+      let receiver = Prints-trans page e f h _ _ p5 (Prints-trans page f g h _ _ p6 p7) in
+      let sender = Prints-trans page c d h _ _ p3 (Prints-trans page d e h _ _ p4 receiver) in
       Prints-five a b h (codes "ddp length ") _ (codes " hops ") _ (codes " sum ") _ p1
-      (Prints-trans contents b c h _ _ p2 sender)
+      (Prints-trans page b c h _ _ p2 sender)
 
   -- a request's line is printed in four parts, and a response's in two
   pub request_prints : (a b c d e : Printer W) (mask : ℕ) (xo : Bool) (one timer tid : ℕ) (user bytes : List ℕ) → one
       ≡ from_bool xo
-      → Prints contents a b (codes "atp request mask ") → Prints contents b c (pairs (mask ∷ []))
-      → Prints contents c d (codes " xo "
+      → Prints page a b (codes "atp request mask ") → Prints page b c (pairs (mask ∷ []))
+      → Prints page c d (codes " xo "
       ++ (decimal one ++ (codes " timer " ++ (decimal timer ++ (codes " id " ++ decimal tid)))))
-      → Prints contents d e (concat (parts user bytes))
-      → Prints contents a e (packet_line (Request mask xo timer tid user bytes))
+      → Prints page d e (concat (parts user bytes))
+      → Prints page a e (packet_line (Request mask xo timer tid user bytes))
   request_prints a b c d e mask xo one timer tid user bytes is p1 p2 p3 p4 =
       let fields = rw is at p3 in
       let end = Prints-six c d e (codes " xo ") _ (codes " timer ") _ (codes " id ") _ _ fields p4 in
-      Prints-trans contents a b e _ _ p1 (Prints-trans contents b c e _ _ p2 end)
+      Prints-trans page a b e _ _ p1 (Prints-trans page b c e _ _ p2 end)
 
   pub response_prints : (a b c : Printer W) (place : ℕ) (eom sts : Bool) (last asks tid : ℕ) (user bytes : List ℕ)
       → last ≡ from_bool eom → asks ≡ from_bool sts
-      → Prints contents a b (codes "atp response place "
+      → Prints page a b (codes "atp response place "
       ++ (decimal place ++ (codes " eom "
       ++ (decimal last ++ (codes " sts " ++ (decimal asks ++ (codes " id " ++ decimal tid)))))))
-      → Prints contents b c (concat (parts user bytes))
-      → Prints contents a c (packet_line (Response place eom sts tid user bytes))
+      → Prints page b c (concat (parts user bytes))
+      → Prints page a c (packet_line (Response place eom sts tid user bytes))
   response_prints a b c place eom sts last asks tid user bytes is also p1 p2 =
       let fields = rw (is, also) at p1 in
       Prints-eight a b c (codes "atp response place ") _ (codes " eom ") _ (codes " sts ") _

@@ -8,9 +8,10 @@ use Rattle.std.proofs.KnownBytes.{Appends-nil}
 use Rattle.std.specs.List.{flat_map}
 use Rattle.std.proofs.lemmas.Option.{slice_get-get_or}
 use Rattle.std.specs.Fmt.{decimal}
-use Rattle.std.specs.Prelude.{Option, codes, slice_get}
+use Rattle.std.specs.Prelude.{codes, slice_get}
 use Rattle.at_print.specs.Lines.{hex_text}
 use Rattle.at_atp_frame.specs.Packets.{Packet}
+use Rattle.at_print.specs.Papers.{Page}
 use Rattle.at_print.specs.Printers.{Prints}
 use Rattle.at_print.specs.Reports.{packet_text, sent_line, sent_lines}
 use Rattle.at_print.specs.declared.printer.Printer.{Printer}
@@ -25,22 +26,22 @@ flat_map-next f xs i d x lt is =
     ∙ flat_map-append f (take i xs) (x ∷ [])
     ∙ ap (λ l. flat_map f (take i xs) ++ l) (flat_map-cons f x [] ∙ append-nil (f x))
 
-pub Prints-next : {T W : Type 0} (contents : W → Option (List ℕ)) (f : T → List ℕ) (xs : List T) (i : ℕ) (d x : T)
+pub Prints-next : {T W : Type 0} (page : W → Page) (f : T → List ℕ) (xs : List T) (i : ℕ) (d x : T)
     (a b c : Printer W) → i < length xs → x ≡ get_or xs i d
-    → Prints contents a b (flat_map f (take i xs)) → Prints contents b c (f x)
-    → Prints contents a c (flat_map f (take (i + 1) xs))
-Prints-next contents f xs i d x a b c lt is p q =
-    subst (Prints contents a c) (sym (flat_map-next f xs i d x lt is)) (Prints-trans contents a b c _ _ p q)
+    → Prints page a b (flat_map f (take i xs)) → Prints page b c (f x)
+    → Prints page a c (flat_map f (take (i + 1) xs))
+Prints-next page f xs i d x a b c lt is p q =
+    subst (Prints page a c) (sym (flat_map-next f xs i d x lt is)) (Prints-trans page a b c _ _ p q)
 
 -- the same after something that was printed before the first
-pub Prints-after : {T W : Type 0} (contents : W → Option (List ℕ)) (before : List ℕ) (f : T → List ℕ) (xs : List T)
+pub Prints-after : {T W : Type 0} (page : W → Page) (before : List ℕ) (f : T → List ℕ) (xs : List T)
     (i : ℕ) (d x : T) (a b c : Printer W) → i < length xs → x ≡ get_or xs i d
-    → Prints contents a b (before ++ flat_map f (take i xs)) → Prints contents b c (f x)
-    → Prints contents a c (before ++ flat_map f (take (i + 1) xs))
-Prints-after contents before f xs i d x a b c lt is p q =
-    subst (Prints contents a c)
+    → Prints page a b (before ++ flat_map f (take i xs)) → Prints page b c (f x)
+    → Prints page a c (before ++ flat_map f (take (i + 1) xs))
+Prints-after page before f xs i d x a b c lt is p q =
+    subst (Prints page a c)
     (append_assoc before (flat_map f (take i xs)) (f x)
-    ∙ ap (λ l. before ++ l) (sym (flat_map-next f xs i d x lt is))) (Prints-trans contents a b c _ _ p q)
+    ∙ ap (λ l. before ++ l) (sym (flat_map-next f xs i d x lt is))) (Prints-trans page a b c _ _ p q)
 
 -- the lines of the datagrams after the first ones
 pub sent_lines-append : (n : ℕ) (xs ys : List SentDatagram) → sent_lines n (xs ++ ys)
@@ -74,27 +75,31 @@ sent_lines-next first i sent d lt le is =
     ∙ ap (λ l. sent_lines first (drop first (take i sent)) ++ l) (append-nil (sent_line i d))
 
 -- a datagram's line is printed in three parts
-pub Prints-sent : {W : Type 0} (contents : W → Option (List ℕ)) (first i : ℕ) (sent : List SentDatagram)
+pub Prints-sent : {W : Type 0} (page : W → Page) (first i : ℕ) (sent : List SentDatagram)
     (d : SentDatagram) (to : ℕ) (bytes : List ℕ) (a b c e f : Printer W)
     → i < length sent → first ≤ i → slice_get sent i ≡ Some d → to ≡ d.to → bytes ≡ d.bytes
-    → Prints contents a b (sent_lines first (drop first (take i sent)))
-    → Prints contents b c (codes "sent " ++ (decimal i ++ (codes " " ++ (decimal to ++ codes " "))))
-    → Prints contents c e (hex_text bytes) → Prints contents e f (codes "\n")
-    → Prints contents a f (sent_lines first (drop first (take (i + 1) sent)))
-Prints-sent contents first i sent d to bytes a b c e f lt le is goes spelled p q r s =
+    → Prints page a b (sent_lines first (drop first (take i sent)))
+    → Prints page b c (codes "sent " ++ (decimal i ++ (codes " " ++ (decimal to ++ codes " "))))
+    → Prints page c e (hex_text bytes) → Prints page e f (codes "\n")
+    → Prints page a f (sent_lines first (drop first (take (i + 1) sent)))
+Prints-sent page first i sent d to bytes a b c e f lt le is goes spelled p q r s =
     let head = rw goes at q in
     let digits = rw spelled at r in
-    subst (Prints contents a f) (sym (sent_lines-next first i sent d lt le is))
-    (Prints-trans contents a b f _ _ p
-    (Prints-trans contents b c f _ _ head (Prints-trans contents c e f _ _ digits s)))
+    subst (Prints page a f) (sym (sent_lines-next first i sent d lt le is))
+    (Prints-trans page a b f _ _ p
+    (Prints-trans page b c f _ _ head (Prints-trans page c e f _ _ digits s)))
 
-module _ {W : Type 0} (contents : W → Option (List ℕ)) where
-  pub Prints-nothing : (a : Printer W) → Prints contents a a []
-  Prints-nothing a = record { stopped = λ failed. refl; written = inr (Appends-nil (contents a.writer)) }
+module _ {W : Type 0} (page : W → Page) where
+  pub Prints-nothing : (a : Printer W) → Prints page a a []
+  Prints-nothing a = record {
+    stopped = λ failed. refl;
+    written = inr (Appends-nil (page a.writer).contents);
+    tied = λ tied. tied;
+  }
 
   -- a packet is printed in four parts
-  pub Prints-packet : (p : Packet) (a b c d e : Printer W) → Prints contents a b (codes " ")
-      → Prints contents b c (hex_text p.user) → Prints contents c d (codes ":")
-      → Prints contents d e (hex_text p.data_) → Prints contents a e (packet_text p)
+  pub Prints-packet : (p : Packet) (a b c d e : Printer W) → Prints page a b (codes " ")
+      → Prints page b c (hex_text p.user) → Prints page c d (codes ":")
+      → Prints page d e (hex_text p.data_) → Prints page a e (packet_text p)
   Prints-packet p a b c d e p1 p2 p3 p4 =
-      Prints-trans contents a b e _ _ p1 (Prints-trans contents b c e _ _ p2 (Prints-trans contents c d e _ _ p3 p4))
+      Prints-trans page a b e _ _ p1 (Prints-trans page b c e _ _ p2 (Prints-trans page c d e _ _ p3 p4))

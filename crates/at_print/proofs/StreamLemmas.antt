@@ -2,9 +2,9 @@
 use Rattle.std.proofs.Common.{◌≡◌, ℕ, ◌+◌, ◌<◌, List, [], ◌∷◌, ◌++◌, Bool, false, length, take, get_or, refl, sym, ap}
 use Rattle.std.proofs.Common.{subst, ◌∙◌, append-nil, append_assoc}
 use Rattle.std.proofs.lemmas.List.{take_more}
-use Rattle.std.specs.Prelude.{Option}
 use Rattle.at_adsp_end.specs.declared.item.Item.{Item}
 use Rattle.at_print.specs.Items.{is_byte, item_text, items_text}
+use Rattle.at_print.specs.Papers.{Page}
 use Rattle.at_print.specs.Printers.{Prints}
 use Rattle.at_print.specs.declared.printer.Printer.{Printer}
 use Rattle.at_print.proofs.PrintLemmas.{Prints-trans}
@@ -28,7 +28,7 @@ text-next before (first ∷ items) item =
     ∙ sym (append_assoc (item_text before first) rest last)
 
 -- one item more, after what was printed before the first
-module _ {W : Type 0} (contents : W → Option (List ℕ)) (before : List ℕ) (items : List Item) (i : ℕ) (d item : Item)
+module _ {W : Type 0} (page : W → Page) (before : List ℕ) (items : List Item) (i : ℕ) (d item : Item)
     (lt : i < length items) (is : item ≡ get_or items i d) where
   more : take (i + 1) items ≡ take i items ++ item ∷ []
   more = take_more items i d lt ∙ ap (λ x. take i items ++ x ∷ []) (sym is)
@@ -37,11 +37,11 @@ module _ {W : Type 0} (contents : W → Option (List ℕ)) (before : List ℕ) (
   follows-next next h = h ∙ sym (ap (ends_in_byte false) more ∙ ends-next false (take i items) item)
 
   pub Prints-item : (a b c : Printer W) (follows : Bool) → follows ≡ ends_in_byte false (take i items)
-      → Prints contents a b (before ++ items_text false (take i items)) → Prints contents b c (item_text follows item)
-      → Prints contents a c (before ++ items_text false (take (i + 1) items))
+      → Prints page a b (before ++ items_text false (take i items)) → Prints page b c (item_text follows item)
+      → Prints page a c (before ++ items_text false (take (i + 1) items))
   Prints-item a b c follows after p q =
-      let here = subst (λ f. Prints contents b c (item_text f item)) after q in
+      let here = subst (λ f. Prints page b c (item_text f item)) after q in
       let text = ap (items_text false) more ∙ text-next false (take i items) item in
-      subst (Prints contents a c)
+      subst (Prints page a c)
       (append_assoc before (items_text false (take i items)) (item_text (ends_in_byte false (take i items)) item)
-      ∙ ap (λ l. before ++ l) (sym text)) (Prints-trans contents a b c _ _ p here)
+      ∙ ap (λ l. before ++ l) (sym text)) (Prints-trans page a b c _ _ p here)

@@ -4,8 +4,8 @@ ghost use Rattle.std.specs.Fmt.{digit_glyph};
 ghost use Rattle.at_print.specs.Lines.{hex_text, pairs};
 ghost use Rattle.at_print.specs.Printers.{Prints};
 
+use crate::paper::Paper;
 use crate::printer::Printer;
-use std::io::Write;
 
 /// How many bytes are written at a time. A write for each byte costs more than its digits.
 const BLOCK: usize = 64;
@@ -14,8 +14,8 @@ const BLOCK: usize = 64;
 const BLOCK_DIGITS: usize = 128;
 
 /// Pairs of hexadecimal digits, or `-` for no bytes.
-pub(crate) fn write_hex<W: Write>(printer: &mut Printer<W>, bytes: &[u8])
-    ensures { Prints W.contents printer.old printer.new (hex_text bytes.now) }
+pub(crate) fn write_hex<W: Paper>(printer: &mut Printer<W>, bytes: &[u8])
+    ensures { Prints W.page printer.old printer.new (hex_text bytes.now) }
 {
     if bytes.is_empty() {
         printer.write_all(b"-");
@@ -25,8 +25,8 @@ pub(crate) fn write_hex<W: Write>(printer: &mut Printer<W>, bytes: &[u8])
 }
 
 /// Pairs of hexadecimal digits.
-pub(crate) fn write_pairs<W: Write>(printer: &mut Printer<W>, bytes: &[u8])
-    ensures { Prints W.contents printer.old printer.new (pairs bytes.now) }
+pub(crate) fn write_pairs<W: Paper>(printer: &mut Printer<W>, bytes: &[u8])
+    ensures { Prints W.page printer.old printer.new (pairs bytes.now) }
 {
     let mut rest = bytes;
     while let Some((block, after)) = rest.split_at_checked(BLOCK) {
@@ -36,9 +36,9 @@ pub(crate) fn write_pairs<W: Write>(printer: &mut Printer<W>, bytes: &[u8])
     write_block(printer, rest);
 }
 
-fn write_block<W: Write>(printer: &mut Printer<W>, block: &[u8])
+fn write_block<W: Paper>(printer: &mut Printer<W>, block: &[u8])
     requires { length block.now ≤ BLOCK }
-    ensures { Prints W.contents printer.old printer.new (pairs block.now) }
+    ensures { Prints W.page printer.old printer.new (pairs block.now) }
 {
     let mut digits = [0; BLOCK_DIGITS];
     for place in 0..block.len() {

@@ -2,9 +2,11 @@
 #![tactic(auto)]
 
 mod digits;
+pub mod laws;
 mod name_lines;
 mod name_reports;
 mod packet_lines;
+mod paper;
 mod print;
 mod printer;
 mod segment_lines;
@@ -13,6 +15,7 @@ mod stream_reports;
 
 pub use name_lines::write_names;
 pub use packet_lines::{write_frame, write_header, write_raw};
+pub use paper::Paper;
 pub use print::{write_event, write_sent, write_text};
 pub use printer::Printer;
 pub use segment_lines::write_segment;

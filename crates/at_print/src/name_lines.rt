@@ -8,14 +8,14 @@ ghost use Rattle.at_print.specs.Printers.{Prints};
 ghost use Rattle.at_print.specs.Reports.{name_text};
 
 use crate::packet_lines::write_address;
+use crate::paper::Paper;
 use crate::print::write_text;
 use crate::printer::Printer;
 use at_nbp::{Function, Packet, Tuple};
-use std::io::Write;
 
 /// The line of an NBP packet, and a line for each tuple.
-pub fn write_names<W: Write>(printer: &mut Printer<W>, packet: &Packet<'_>)
-    ensures { Prints W.contents printer.old printer.new (names_lines (packet_content packet.now)) }
+pub fn write_names<W: Paper>(printer: &mut Printer<W>, packet: &Packet<'_>)
+    ensures { Prints W.page printer.old printer.new (names_lines (packet_content packet.now)) }
 {
     let tuples = packet.tuples.as_slice();
     printer.write_all(b"nbp ");
@@ -24,8 +24,8 @@ pub fn write_names<W: Write>(printer: &mut Printer<W>, packet: &Packet<'_>)
     write_tuples(printer, tuples);
 }
 
-fn write_function<W: Write>(printer: &mut Printer<W>, function: Function)
-    ensures { Prints W.contents printer.old printer.new (function_word function) }
+fn write_function<W: Paper>(printer: &mut Printer<W>, function: Function)
+    ensures { Prints W.page printer.old printer.new (function_word function) }
 {
     match function {
         Function::BroadcastRequest => printer.write_all(b"brrq"),
@@ -35,16 +35,16 @@ fn write_function<W: Write>(printer: &mut Printer<W>, function: Function)
     }
 }
 
-fn write_tuples<W: Write>(printer: &mut Printer<W>, tuples: &[Tuple<'_>])
-    ensures { Prints W.contents printer.old printer.new (flat_map tuple_line (map content tuples.now)) }
+fn write_tuples<W: Paper>(printer: &mut Printer<W>, tuples: &[Tuple<'_>])
+    ensures { Prints W.page printer.old printer.new (flat_map tuple_line (map content tuples.now)) }
 {
     for tuple in tuples {
         write_tuple(printer, tuple);
     }
 }
 
-fn write_tuple<W: Write>(printer: &mut Printer<W>, tuple: &Tuple<'_>)
-    ensures { Prints W.contents printer.old printer.new (tuple_line (content tuple.now)) }
+fn write_tuple<W: Paper>(printer: &mut Printer<W>, tuple: &Tuple<'_>)
+    ensures { Prints W.page printer.old printer.new (tuple_line (content tuple.now)) }
 {
     printer.write_all(b"tuple ");
     write_name(printer, tuple.object, tuple.kind, tuple.zone);
@@ -54,13 +54,13 @@ fn write_tuple<W: Write>(printer: &mut Printer<W>, tuple: &Tuple<'_>)
 }
 
 /// An object, a type and a zone.
-pub(crate) fn write_name<W: Write>(
+pub(crate) fn write_name<W: Paper>(
     printer: &mut Printer<W>,
     object: &[u8],
     kind: &[u8],
     zone: &[u8],
 )
-    ensures { Prints W.contents printer.old printer.new (name_text object.now kind.now zone.now) }
+    ensures { Prints W.page printer.old printer.new (name_text object.now kind.now zone.now) }
 {
     write_text(printer, object);
     printer.write_all(b":");

@@ -5,13 +5,13 @@ ghost use Rattle.at_print.specs.Printers.{Prints};
 ghost use Rattle.at_print.specs.Reports.{find_text, found_text};
 
 use crate::name_lines::write_name;
+use crate::paper::Paper;
 use crate::printer::Printer;
 use at_nbp::Find;
-use std::io::Write;
 
 /// The finds of a lookup that was finished.
-pub(crate) fn write_found<W: Write>(printer: &mut Printer<W>, finds: &[Find])
-    ensures { Prints W.contents printer.old printer.new (codes "found" ++ flat_map found_text finds.now) }
+pub(crate) fn write_found<W: Paper>(printer: &mut Printer<W>, finds: &[Find])
+    ensures { Prints W.page printer.old printer.new (codes "found" ++ flat_map found_text finds.now) }
 {
     printer.write_all(b"found");
     for find in finds {
@@ -21,16 +21,16 @@ pub(crate) fn write_found<W: Write>(printer: &mut Printer<W>, finds: &[Find])
 }
 
 /// The name of a claim that is taken.
-pub(crate) fn write_taken<W: Write>(printer: &mut Printer<W>, find: &Find)
-    ensures { Prints W.contents printer.old printer.new (codes "taken " ++ find_text find.now) }
+pub(crate) fn write_taken<W: Paper>(printer: &mut Printer<W>, find: &Find)
+    ensures { Prints W.page printer.old printer.new (codes "taken " ++ find_text find.now) }
 {
     printer.write_all(b"taken ");
     write_find(printer, find);
 }
 
 // A name and who has it.
-fn write_find<W: Write>(printer: &mut Printer<W>, find: &Find)
-    ensures { Prints W.contents printer.old printer.new (find_text find.now) }
+fn write_find<W: Paper>(printer: &mut Printer<W>, find: &Find)
+    ensures { Prints W.page printer.old printer.new (find_text find.now) }
 {
     let name = &find.name;
     write_name(

@@ -6,14 +6,14 @@ ghost use Rattle.at_print.specs.Lines.{address_text, header_line, packet_line, p
 ghost use Rattle.at_print.specs.Printers.{Prints};
 
 use crate::digits::write_hex;
+use crate::paper::Paper;
 use crate::printer::Printer;
 use at_atp::Frame;
 use at_ddp::{Address, Datagram, HEADER_LEN};
-use std::io::Write;
 
 /// The line of a datagram's header; so many bytes follow the datagram.
-pub fn write_header<W: Write>(printer: &mut Printer<W>, datagram: &Datagram<'_>, rest: usize)
-    ensures { Prints W.contents printer.old printer.new (header_line (content datagram.now) rest) }
+pub fn write_header<W: Paper>(printer: &mut Printer<W>, datagram: &Datagram<'_>, rest: usize)
+    ensures { Prints W.page printer.old printer.new (header_line (content datagram.now) rest) }
 {
     let len = HEADER_LEN as u64 + datagram.data_.len() as u64;
     write!(printer, "ddp length {len} hops {} sum ", datagram.hops);
@@ -26,8 +26,8 @@ pub fn write_header<W: Write>(printer: &mut Printer<W>, datagram: &Datagram<'_>,
 }
 
 // Four digits, or that no sum was computed.
-fn write_sum<W: Write>(printer: &mut Printer<W>, sum: u16)
-    ensures { Prints W.contents printer.old printer.new (sum_text sum) }
+fn write_sum<W: Paper>(printer: &mut Printer<W>, sum: u16)
+    ensures { Prints W.page printer.old printer.new (sum_text sum) }
 {
     if sum == 0 {
         printer.write_all(b"none");
@@ -36,8 +36,8 @@ fn write_sum<W: Write>(printer: &mut Printer<W>, sum: u16)
     }
 }
 
-pub(crate) fn write_address<W: Write>(printer: &mut Printer<W>, address: Address)
-    ensures { Prints W.contents printer.old printer.new (address_text address) }
+pub(crate) fn write_address<W: Paper>(printer: &mut Printer<W>, address: Address)
+    ensures { Prints W.page printer.old printer.new (address_text address) }
 {
     write!(
         printer,
@@ -47,8 +47,8 @@ pub(crate) fn write_address<W: Write>(printer: &mut Printer<W>, address: Address
 }
 
 /// The line of data that is not read.
-pub fn write_raw<W: Write>(printer: &mut Printer<W>, bytes: &[u8])
-    ensures { Prints W.contents printer.old printer.new (raw_line bytes.now) }
+pub fn write_raw<W: Paper>(printer: &mut Printer<W>, bytes: &[u8])
+    ensures { Prints W.page printer.old printer.new (raw_line bytes.now) }
 {
     printer.write_all(b"raw ");
     write_hex(printer, bytes);
@@ -56,8 +56,8 @@ pub fn write_raw<W: Write>(printer: &mut Printer<W>, bytes: &[u8])
 }
 
 /// The line of an ATP packet.
-pub fn write_frame<W: Write>(printer: &mut Printer<W>, frame: &Frame<'_>)
-    ensures { Prints W.contents printer.old printer.new (packet_line (packet_of frame.now)) }
+pub fn write_frame<W: Paper>(printer: &mut Printer<W>, frame: &Frame<'_>)
+    ensures { Prints W.page printer.old printer.new (packet_line (packet_of frame.now)) }
 {
     match frame {
         Frame::Request {
@@ -94,8 +94,8 @@ pub fn write_frame<W: Write>(printer: &mut Printer<W>, frame: &Frame<'_>)
 }
 
 // The user bytes and the data, at the end of a packet's line.
-fn write_parts<W: Write>(printer: &mut Printer<W>, user: [u8; 4], bytes: &[u8])
-    ensures { Prints W.contents printer.old printer.new (concat (parts user bytes.now)) }
+fn write_parts<W: Paper>(printer: &mut Printer<W>, user: [u8; 4], bytes: &[u8])
+    ensures { Prints W.page printer.old printer.new (concat (parts user bytes.now)) }
 {
     printer.write_all(b" user ");
     write_hex(printer, &user);

@@ -9,6 +9,7 @@ ghost use Rattle.at_print.specs.Reports.{glyph, is_sign, stands_for_itself, text
 
 use crate::digits::{write_hex, write_pairs};
 use crate::name_reports::{write_found, write_taken};
+use crate::paper::Paper;
 use crate::printer::Printer;
 use crate::stream_reports::write_stream_report;
 use at_atp::{Key, Packet};
@@ -16,11 +17,10 @@ use at_ddp::Pascal;
 use at_node::Report;
 use at_world::World;
 use std::alloc::Allocator;
-use std::io::Write;
 
 /// Prints the report of an event.
-pub fn write_event<A: Allocator, W: Write>(printer: &mut Printer<W>, event: u32, report: &Report<A>)
-    ensures { Prints W.contents printer.old printer.new (event_line event report.now) }
+pub fn write_event<A: Allocator, W: Paper>(printer: &mut Printer<W>, event: u32, report: &Report<A>)
+    ensures { Prints W.page printer.old printer.new (event_line event report.now) }
 {
     write!(printer, "{event} ");
     write_report(printer, report);
@@ -28,12 +28,12 @@ pub fn write_event<A: Allocator, W: Write>(printer: &mut Printer<W>, event: u32,
 }
 
 /// Prints the datagrams that a world sent, from a number on.
-pub fn write_sent<A: Allocator + Copy, W: Write>(
+pub fn write_sent<A: Allocator + Copy, W: Paper>(
     printer: &mut Printer<W>,
     world: &World<A>,
     first: usize,
 )
-    ensures { Prints W.contents printer.old printer.new (sent_lines first (drop first world.now.sent)) }
+    ensures { Prints W.page printer.old printer.new (sent_lines first (drop first world.now.sent)) }
 {
     for number in first..world.sent_count() {
         let sent = world.sent(number);
@@ -43,8 +43,8 @@ pub fn write_sent<A: Allocator + Copy, W: Write>(
     }
 }
 
-fn write_report<A: Allocator, W: Write>(printer: &mut Printer<W>, report: &Report<A>)
-    ensures { Prints W.contents printer.old printer.new (report_text report.now) }
+fn write_report<A: Allocator, W: Paper>(printer: &mut Printer<W>, report: &Report<A>)
+    ensures { Prints W.page printer.old printer.new (report_text report.now) }
 {
     match report {
         Report::Begun(tid) => write!(printer, "begun {tid}"),
@@ -77,8 +77,8 @@ fn write_report<A: Allocator, W: Write>(printer: &mut Printer<W>, report: &Repor
     }
 }
 
-fn write_asked<W: Write>(printer: &mut Printer<W>, key: Key, user: [u8; 4], bytes: &[u8])
-    ensures { Prints W.contents printer.old printer.new
+fn write_asked<W: Paper>(printer: &mut Printer<W>, key: Key, user: [u8; 4], bytes: &[u8])
+    ensures { Prints W.page printer.old printer.new
         (asked_text key ++ (hex_text user ++ (codes " " ++ hex_text bytes.now))) }
 {
     write!(
@@ -91,8 +91,8 @@ fn write_asked<W: Write>(printer: &mut Printer<W>, key: Key, user: [u8; 4], byte
     write_hex(printer, bytes);
 }
 
-fn write_zones<W: Write>(printer: &mut Printer<W>, zones: &[Pascal])
-    ensures { Prints W.contents printer.old printer.new (codes "zones" ++ flat_map zone_text zones.now) }
+fn write_zones<W: Paper>(printer: &mut Printer<W>, zones: &[Pascal])
+    ensures { Prints W.page printer.old printer.new (codes "zones" ++ flat_map zone_text zones.now) }
 {
     printer.write_all(b"zones");
     for zone in zones {
@@ -101,8 +101,8 @@ fn write_zones<W: Write>(printer: &mut Printer<W>, zones: &[Pascal])
     }
 }
 
-fn write_response<A: Allocator, W: Write>(printer: &mut Printer<W>, tid: u16, packets: &[Packet<A>])
-    ensures { Prints W.contents printer.old printer.new
+fn write_response<A: Allocator, W: Paper>(printer: &mut Printer<W>, tid: u16, packets: &[Packet<A>])
+    ensures { Prints W.page printer.old printer.new
         ((codes "response " ++ decimal tid) ++ flat_map packet_text packets.now) }
 {
     write!(printer, "response {tid}");
@@ -115,8 +115,8 @@ fn write_response<A: Allocator, W: Write>(printer: &mut Printer<W>, tid: u16, pa
 }
 
 /// Letters, digits and a few signs as they are, `%` and two digits for every other byte, and `%` for the empty text.
-pub fn write_text<W: Write>(printer: &mut Printer<W>, text: &[u8])
-    ensures { Prints W.contents printer.old printer.new (text_word text.now) }
+pub fn write_text<W: Paper>(printer: &mut Printer<W>, text: &[u8])
+    ensures { Prints W.page printer.old printer.new (text_word text.now) }
 {
     if text.is_empty() {
         printer.write_all(b"%");
@@ -125,16 +125,16 @@ pub fn write_text<W: Write>(printer: &mut Printer<W>, text: &[u8])
     }
 }
 
-fn write_glyphs<W: Write>(printer: &mut Printer<W>, text: &[u8])
-    ensures { Prints W.contents printer.old printer.new (flat_map glyph text.now) }
+fn write_glyphs<W: Paper>(printer: &mut Printer<W>, text: &[u8])
+    ensures { Prints W.page printer.old printer.new (flat_map glyph text.now) }
 {
     for byte in text {
         write_glyph(printer, *byte);
     }
 }
 
-fn write_glyph<W: Write>(printer: &mut Printer<W>, byte: u8)
-    ensures { Prints W.contents printer.old printer.new (glyph byte) }
+fn write_glyph<W: Paper>(printer: &mut Printer<W>, byte: u8)
+    ensures { Prints W.page printer.old printer.new (glyph byte) }
 {
     if stands_for_itself(byte) {
         printer.write_all(&[byte]);

@@ -1,10 +1,10 @@
 //! A writer that keeps in mind whether a write to it failed.
 ghost use Rattle.std.specs.Prelude.{◌≡◌, ◌↔◌, true, [], IfSome};
-ghost use Rattle.at_print.specs.Printers.{HasFailed, Prints};
+ghost use Rattle.at_print.specs.Printers.{HasFailed, IsTied, Prints};
 
+use crate::paper::Paper;
 use crate::status::Status;
 use std::fmt::Display;
-use std::io::Write;
 
 /// Prints to a writer up to the first write that fails, and nothing after that.
 #[derive(Drop)]
@@ -13,7 +13,7 @@ pub struct Printer<W> {
     has_failed: bool,
 }
 
-impl<W: Write> Printer<W> {
+impl<W: Paper> Printer<W> {
     pub fn new(writer: W) -> Printer<W>
         ensures fresh { ¬ HasFailed result }
         ensures writer { result.writer ≡ writer }
@@ -25,20 +25,21 @@ impl<W: Write> Printer<W> {
     }
 
     pub fn write_all(&mut self, bytes: &[u8])
-        ensures { Prints W.contents self.old self.new bytes.now }
+        ensures { Prints W.page self.old self.new bytes.now }
     {
         if !self.has_failed {
-            self.has_failed = self.writer.write_all(bytes).is_err();
+            self.has_failed = self.writer.put(bytes).is_err();
         }
     }
 
     /// What `write!` and `writeln!` call.
     pub fn write_fmt<D: Display + Drop>(&mut self, text: D)
         ensures stopped { HasFailed self.old → self.new ≡ self.old }
-        ensures printed { IfSome (D.output text) (Prints W.contents self.old self.new) }
+        ensures tied { IsTied W.page self.old → IsTied W.page self.new }
+        ensures printed { IfSome (D.output text) (Prints W.page self.old self.new) }
     {
         if !self.has_failed {
-            self.has_failed = self.writer.write_fmt(text).is_err();
+            self.has_failed = self.writer.put_text(text).is_err();
         }
     }
 
@@ -51,11 +52,11 @@ impl<W: Write> Printer<W> {
 
     /// Flushes, and hands on the status, or `Failed` if a write or the flush failed.
     pub fn finish(&mut self, status: Status) -> Status
-        ensures printed { Prints W.contents self.old self.new [] }
+        ensures printed { Prints W.page self.old self.new [] }
         ensures done { (result ≡ Status.Done) ↔ ((status ≡ Status.Done) × ¬ HasFailed self.new) }
     {
         if !self.has_failed {
-            self.has_failed = self.writer.flush().is_err();
+            self.has_failed = self.writer.settle().is_err();
         }
         if self.has_failed {
             Status::Failed

@@ -4,13 +4,13 @@ ghost use Rattle.at_print.specs.Printers.{Prints};
 ghost use Rattle.at_print.specs.SegmentLines.{part_text, segment_line};
 
 use crate::digits::write_hex;
+use crate::paper::Paper;
 use crate::printer::Printer;
 use at_adsp_frame::{Body, Segment};
-use std::io::Write;
 
 /// The line of an ADSP segment.
-pub fn write_segment<W: Write>(printer: &mut Printer<W>, segment: &Segment<'_>)
-    ensures { Prints W.contents printer.old printer.new (segment_line (content segment.now)) }
+pub fn write_segment<W: Paper>(printer: &mut Printer<W>, segment: &Segment<'_>)
+    ensures { Prints W.page printer.old printer.new (segment_line (content segment.now)) }
 {
     write!(
         printer,
@@ -26,8 +26,8 @@ pub fn write_segment<W: Write>(printer: &mut Printer<W>, segment: &Segment<'_>)
 }
 
 // What a segment is for.
-fn write_body<W: Write>(printer: &mut Printer<W>, body: &Body<'_>)
-    ensures { Prints W.contents printer.old printer.new (part_text (part body.now)) }
+fn write_body<W: Paper>(printer: &mut Printer<W>, body: &Body<'_>)
+    ensures { Prints W.page printer.old printer.new (part_text (part body.now)) }
 {
     match body {
         Body::Data { end, data_ } => {

@@ -6,19 +6,19 @@ ghost use Rattle.at_print.specs.Printers.{Prints};
 ghost use Rattle.at_print.specs.Reports.{report_text};
 
 use crate::digits::write_pairs;
+use crate::paper::Paper;
 use crate::printer::Printer;
 use at_adsp_end::Item;
 use at_node::Report;
 use std::alloc::Allocator;
-use std::io::Write;
 
 /// A report that only streams give.
-pub(crate) fn write_stream_report<A: Allocator, W: Write>(
+pub(crate) fn write_stream_report<A: Allocator, W: Paper>(
     printer: &mut Printer<W>,
     report: &Report<A>,
 )
     requires { reporter_of report.now ≡ Adsp }
-    ensures { Prints W.contents printer.old printer.new (report_text report.now) }
+    ensures { Prints W.page printer.old printer.new (report_text report.now) }
 {
     match report {
         Report::Opening(id) => write!(printer, "opening {id}"),
@@ -39,8 +39,8 @@ pub(crate) fn write_stream_report<A: Allocator, W: Write>(
 }
 
 // The items that were read: a word for each run of bytes, and one for each end of a message.
-fn write_items<W: Write>(printer: &mut Printer<W>, items: &[Item])
-    ensures { Prints W.contents printer.old printer.new (codes "read" ++ items_text false items.now) }
+fn write_items<W: Paper>(printer: &mut Printer<W>, items: &[Item])
+    ensures { Prints W.page printer.old printer.new (codes "read" ++ items_text false items.now) }
 {
     printer.write_all(b"read");
     let mut follows_byte = false;
@@ -51,8 +51,8 @@ fn write_items<W: Write>(printer: &mut Printer<W>, items: &[Item])
 }
 
 // A byte that follows one goes on with its word.
-fn write_item<W: Write>(printer: &mut Printer<W>, follows_byte: bool, item: Item)
-    ensures { Prints W.contents printer.old printer.new (item_text follows_byte item) }
+fn write_item<W: Paper>(printer: &mut Printer<W>, follows_byte: bool, item: Item)
+    ensures { Prints W.page printer.old printer.new (item_text follows_byte item) }
 {
     match item {
         Item::Byte(byte) => {

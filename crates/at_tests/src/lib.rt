@@ -25,7 +25,11 @@ mod session;
 #[cfg(test)]
 mod steps;
 #[cfg(test)]
+mod told;
+#[cfg(test)]
 mod transcripts;
+#[cfg(test)]
+mod unfailing;
 #[cfg(test)]
 mod writes;
 #[cfg(test)]

@@ -1,5 +1,6 @@
 //! What comes of writes and flushes that fail.
 use crate::failing::Scarce;
+use crate::unfailing::Unfailing;
 use crate::zone_list::{ZONE_LIST, ZONE_LIST_PLAYED};
 use at_play::{Diagnostics, Printer, play_text, show_text};
 
@@ -44,4 +45,17 @@ fn a_write_or_a_flush_that_fails_ends_the_show(rt: HostRuntime) {
             assert!(rt; status.code() == 1);
         }
     }
+}
+
+#[test]
+fn a_play_onto_what_no_write_to_fails_is_done(rt: HostRuntime) {
+    let mut paper = Printer::new(Unfailing { count: 0 });
+    let status = play_text(
+        rt.alloc(),
+        &mut ZONE_LIST.as_bytes(),
+        &mut paper,
+        &mut Diagnostics::new("a.txt", Unfailing { count: 0 }),
+    );
+    assert!(rt; status.code() == 0);
+    assert!(rt; !paper.has_failed());
 }

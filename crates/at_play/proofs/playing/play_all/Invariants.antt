@@ -9,7 +9,8 @@ use Rattle.at_play.proofs.playing.play_all.Given as goal
 -- left
 abbrev pub invariant-loop-line : goal.invariant-loop-line
 invariant-loop-line g l =
-    (so_far : Sofar g.row.A.Denot g.W.Write.contents l.fn.setup l.world l.fn.printer l.printer)
+    (so_far : Sofar g.row.A.Denot g.W.Paper.page l.fn.setup l.world l.fn.printer l.printer l.fn.diagnostics.refusals
+    l.diagnostics.refusals)
     × SaidSoFar (g.R.Read.remaining l.fn.reader)
     (split_known_bytes (reader_remaining (λ r. g.R.Read.remaining r.now)) l.line-iterator) (so_far.0).events
     × (split_byte l.line-iterator ≡ 10)

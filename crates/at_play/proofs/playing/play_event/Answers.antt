@@ -12,8 +12,9 @@ returns-in-Ok g c =
         playable = played.0;
         plays = played.1;
         safe = c.in-Ok.ensures.safe;
-        printed = Prints-trans g.W.Write.contents c.args.printer.now c.write_event.new.printer c.write_sent.new.printer
+        printed = Prints-trans g.W.Paper.page c.args.printer.now c.write_event.new.printer c.write_sent.new.printer
             _ _ line sent;
+        told = c.tell_report.ensures;
       };
       stopped = tt;
     }

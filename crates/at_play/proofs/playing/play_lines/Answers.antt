@@ -23,5 +23,6 @@ returns g c =
         },
         told.1,
         told.2,
+        told.3,
       );
     }

@@ -9,24 +9,27 @@ pub returns-in_err-check_length-clause-told : goal.returns-in_err-check_length-c
 returns-in_err-check_length-clause-told g c =
     let p = err_from_is_err_and c.from_residual.result c.from_residual.ensures.1 in (
       [],
-      inl (not_read _ c.from_residual.result _ p.0 p.1 p.2 c.in_err-check_length.ensures.fault),
-      Prints-nothing g.W.Write.contents c.args.printer.now,
+      inl (not_read _ c.args.diagnostics.now.refusals
+          c.from_residual.result _ p.0 p.1 p.2 c.in_err-check_length.ensures.fault),
+      Prints-nothing g.W.Paper.page c.args.printer.now,
     )
 
 pub returns-in_err-rewind-clause-told : goal.returns-in_err-rewind-clause-told
 returns-in_err-rewind-clause-told g c =
     let p = err_from_is_err_and c.from_residual-in_err-rewind.result c.from_residual-in_err-rewind.ensures.1 in (
       [],
-      inl (not_read _ c.from_residual-in_err-rewind.result p.2.0 p.0 p.1 p.2.2 (bytes_of_read p.2.0 p.2.1)),
-      Prints-nothing g.W.Write.contents c.args.printer.now,
+      inl (not_read _ c.args.diagnostics.now.refusals
+          c.from_residual-in_err-rewind.result p.2.0 p.0 p.1 p.2.2 (bytes_of_read p.2.0 p.2.1)),
+      Prints-nothing g.W.Paper.page c.args.printer.now,
     )
 
 pub returns-in_err-rewind-2-clause-told : goal.returns-in_err-rewind-2-clause-told
 returns-in_err-rewind-2-clause-told g c =
     let p = err_from_is_err_and c.from_residual-in_err-rewind-2.result c.from_residual-in_err-rewind-2.ensures.1 in (
       [],
-      inl (not_read _ c.from_residual-in_err-rewind-2.result p.2.0 p.0 p.1 p.2.2 (bytes_of_read p.2.0 p.2.1)),
-      Prints-nothing g.W.Write.contents c.args.printer.now,
+      inl (not_read _ c.args.diagnostics.now.refusals
+          c.from_residual-in_err-rewind-2.result p.2.0 p.0 p.1 p.2.2 (bytes_of_read p.2.0 p.2.1)),
+      Prints-nothing g.W.Paper.page c.args.printer.now,
     )
 
 pub returns-in_err-setup-clause-told : goal.returns-in_err-setup-clause-told
@@ -39,8 +42,9 @@ returns-in_err-setup-clause-told g c =
       moved = c.in_ok-rewind.ensures.moves;
       kept = c.rewind.ensures.bytes;
     } in
-    let none = not_read _ c.from_residual-in_err-setup.result _ p.0 p.1 p.2 (inr c.in_err-setup.ensures.fault) in
-    ([], inr (first, inl none), Prints-nothing g.W.Write.contents c.args.printer.now)
+    let none = not_read _ c.args.diagnostics.now.refusals
+    c.from_residual-in_err-setup.result _ p.0 p.1 p.2 (inr c.in_err-setup.ensures.fault) in
+    ([], inr (first, inl none), Prints-nothing g.W.Paper.page c.args.printer.now)
 
 pub returns-clause-told : goal.returns-clause-told
 returns-clause-told g c =
@@ -59,8 +63,11 @@ returns-clause-told g c =
       file = c.rewind.new.self;
       moved = c.in_ok-rewind.ensures.moves;
       kept = c.rewind.ensures.bytes;
-    } in
-    (told.0.text, inr (first, inr (again, (setup, c.in_ok-setup.ensures.said, told.0, told.1, refl, told.3))), told.2)
+    } in (
+      told.0.text,
+      inr (first, inr (again, (setup, c.in_ok-setup.ensures.said, told.0, told.1, refl, told.3, told.4))),
+      told.2,
+    )
 
 pub returns-clause-too_long : goal.returns-clause-too_long
 returns-clause-too_long g c = search rules

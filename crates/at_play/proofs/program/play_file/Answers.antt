@@ -1,3 +1,5 @@
+use Rattle.std.proofs.Common.{subst, sym}
+use Rattle.at_play.specs.Ends.{FileText}
 use Rattle.at_play.proofs.PrintedLemmas.{Prints-trans}
 use Rattle.at_play.proofs.ToldLemmas.{too_long_fails}
 use Rattle.at_play.proofs.program.play_file.Goals as goal
@@ -8,9 +10,11 @@ returns-clause-ended g c =
     record {
       result = c.play_again-played.result;
       text = told.0;
-      plays = told.1;
+      plays = subst (λ refusals. FileText g.row.A.Denot g.F.Read.remaining g.F.Seek.stream_position
+          g.F.Seek.stream_bytes c.args.diagnostics.now.refusals refusals c.play_again-played.result told.0)
+          (sym c.end.ensures.told) told.1;
       done = c.end.ensures.done;
-      printed = Prints-trans g.W.Write.contents c.args.printer.now c.play_again-played.new.printer c.end.new.printer
+      printed = Prints-trans g.W.Paper.page c.args.printer.now c.play_again-played.new.printer c.end.new.printer
           told.0 _ told.2 c.end.ensures.printed;
     }
 

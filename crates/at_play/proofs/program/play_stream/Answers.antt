@@ -13,14 +13,15 @@ returns-clause-told g c =
     told.3 in
     let held = held_of g.row.A.Denot setup (g.R.Read.remaining c.args.reader.now) c.as_slice.result.now
     c.in_ok-bytes.bytes.items c.in_ok-bytes.ensures.whole c.as_slice.ensures.value c.in_ok-setup.ensures.said in
-    (told.0.text, inr (setup, held, told.0, told.1, refl, whole), told.2)
+    (told.0.text, inr (setup, held, told.0, told.1, refl, whole, told.4), told.2)
 
 pub returns-in_err-bytes-clause-told : goal.returns-in_err-bytes-clause-told
 returns-in_err-bytes-clause-told g c =
     let p = err_from_is_err_and c.from_residual.result c.from_residual.ensures.1 in (
       [],
-      inl (not_read _ c.from_residual.result _ p.0 p.1 p.2 (inl c.in_err-bytes.ensures.fault)),
-      Prints-nothing g.W.Write.contents c.args.printer.now,
+      inl (not_read _ c.args.diagnostics.now.refusals
+          c.from_residual.result _ p.0 p.1 p.2 (inl c.in_err-bytes.ensures.fault)),
+      Prints-nothing g.W.Paper.page c.args.printer.now,
     )
 
 pub returns-in_err-setup-clause-told : goal.returns-in_err-setup-clause-told
@@ -29,6 +30,7 @@ returns-in_err-setup-clause-told g c =
     let fault = fault_of g.row.A.Denot (g.R.Read.remaining c.args.reader.now) c.as_slice.result.now
     c.in_ok-bytes.bytes.items _ c.in_ok-bytes.ensures.whole c.as_slice.ensures.value c.in_err-setup.ensures.fault in (
       [],
-      inl (not_read _ c.from_residual-in_err-setup.result _ p.0 p.1 p.2 (inr fault)),
-      Prints-nothing g.W.Write.contents c.args.printer.now,
+      inl (not_read _ c.args.diagnostics.now.refusals
+          c.from_residual-in_err-setup.result _ p.0 p.1 p.2 (inr fault)),
+      Prints-nothing g.W.Paper.page c.args.printer.now,
     )

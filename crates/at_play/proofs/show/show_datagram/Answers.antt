@@ -8,7 +8,7 @@ returns-clause-printed g c =
     let shown = c.show_data.ensures.printed in (
       shown.0,
       shown.1,
-      Prints-trans g.W.Write.contents c.args.printer.now c.write_header.new.printer c.show_data.new.printer
+      Prints-trans g.W.Paper.page c.args.printer.now c.write_header.new.printer c.show_data.new.printer
           (header_line (content c.args.datagram.now) c.args.rest) shown.0
           c.write_header.ensures shown.2,
     )

@@ -32,8 +32,8 @@ returns-clause-printed g c = elim c.match-bytes_of.branch [
       let flushed = rw w.printer-is at c.finish.ensures.printed in (
         shown.0,
         Spelled c.bytes_of.new.room.items shown.0 w.in-Ok.ensures.found text,
-        subst (Prints g.W.Write.contents c.args.printer.now c.finish.new.self) (append-nil shown.0)
-            (Prints-trans g.W.Write.contents c.args.printer.now w.show_bytes-status.new.printer c.finish.new.self
+        subst (Prints g.W.Paper.page c.args.printer.now c.finish.new.self) (append-nil shown.0)
+            (Prints-trans g.W.Paper.page c.args.printer.now w.show_bytes-status.new.printer c.finish.new.self
             shown.0 [] shown.2 flushed),
       )
   | in-Err w ↦
@@ -43,8 +43,8 @@ returns-clause-printed g c = elim c.match-bytes_of.branch [
         fault_text c.args.word.now (vec_capacity c.args.room.now) fault
             (λ e. c.bytes_of.ensures.fault (w.in-Err.is ∙ ap Err e))
             (λ e. c.bytes_of.ensures.memory (w.in-Err.is ∙ ap Err e)),
-        subst (Prints g.W.Write.contents c.args.printer.now c.finish.new.self) (append-nil (fault_line fault))
-            (Prints-trans g.W.Write.contents c.args.printer.now w.show_fault-status.new.printer c.finish.new.self
+        subst (Prints g.W.Paper.page c.args.printer.now c.finish.new.self) (append-nil (fault_line fault))
+            (Prints-trans g.W.Paper.page c.args.printer.now w.show_fault-status.new.printer c.finish.new.self
             (fault_line fault) [] w.show_fault-status.ensures.printed flushed),
       )
 ]

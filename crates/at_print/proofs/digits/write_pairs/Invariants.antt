@@ -8,4 +8,4 @@ decreases-loop-block g l = length l.rest
 
 abbrev pub invariant-loop-block : goal.invariant-loop-block
 invariant-loop-block g l = (printed : List ℕ) × (l.fn.bytes ≡ printed ++ l.rest)
-    × Prints g.W.Write.contents l.fn.printer l.printer (pairs printed)
+    × Prints g.W.Paper.page l.fn.printer l.printer (pairs printed)

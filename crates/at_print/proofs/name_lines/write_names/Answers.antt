@@ -11,7 +11,7 @@ returns g c =
     let slice = c.as_slice-tuples.ensures.value in
     let count = ap (length {A = Tuple}) slice ∙ sym (length-map c.args.packet.now.tuples.items content) in
     let lines = rw slice at c.write_tuples.ensures in
-    names_print g.W.Write.contents c.args.printer.now c.write_all.new.self c.write_function.new.printer
+    names_print g.W.Paper.page c.args.printer.now c.write_all.new.self c.write_function.new.printer
     c.writeln.new.self c.write_tuples.new.printer (packet_content c.args.packet.now)
     (length c.as_slice-tuples.result.now) count c.write_all.ensures c.write_function.ensures c.writeln.ensures.printed
     lines

@@ -6,9 +6,9 @@ use Rattle.at_print.proofs.name_reports.write_found.Goals as goal
 
 pub loop-find-preserved : goal.loop-find-preserved
 loop-find-preserved g c =
-    Prints-after g.W.Write.contents (codes "found") found_text c.args.finds.now c.loop-find.find-index
+    Prints-after g.W.Paper.page (codes "found") found_text c.args.finds.now c.loop-find.find-index
     c.find-item.result c.find-item.result
     c.args.printer.now c.loop-find.printer c.write_find.new.printer c.loop-find-test.true c.find-item.is
     c.loop-find.invariant
-    (Prints-trans g.W.Write.contents c.loop-find.printer c.write_all-in-loop-find.new.self c.write_find.new.printer
+    (Prints-trans g.W.Paper.page c.loop-find.printer c.write_all-in-loop-find.new.self c.write_find.new.printer
     (codes " ") (find_text c.find-item.result) c.write_all-in-loop-find.ensures c.write_find.ensures)

@@ -7,4 +7,4 @@ use Rattle.at_print.proofs.name_reports.write_found.Given as goal
 
 abbrev pub invariant-loop-find : goal.invariant-loop-find
 invariant-loop-find g l =
-    Prints g.W.Write.contents l.fn.printer l.printer (codes "found" ++ flat_map found_text (take l.find-index l.finds))
+    Prints g.W.Paper.page l.fn.printer l.printer (codes "found" ++ flat_map found_text (take l.find-index l.finds))

@@ -8,5 +8,5 @@ use Rattle.at_print.proofs.print.write_response.Given as goal
 
 abbrev pub invariant-loop-packet : goal.invariant-loop-packet
 invariant-loop-packet g l =
-    Prints g.W.Write.contents l.fn.printer l.printer
+    Prints g.W.Paper.page l.fn.printer l.printer
     ((codes "response " ++ decimal l.fn.tid) ++ flat_map packet_text (take l.packet-index l.packets))

@@ -6,8 +6,8 @@ use Rattle.at_print.proofs.ReportLemmas.{Prints-sent, Prints-nothing, sent_lines
 use Rattle.at_print.proofs.print.write_sent.Goals as goal
 
 pub loop-number-init : goal.loop-number-init
-loop-number-init g c = subst (Prints g.W.Write.contents c.args.printer.now c.args.printer.now)
-    (sym (sent_lines-none c.args.first c.args.world.now.sent)) (Prints-nothing g.W.Write.contents c.args.printer.now)
+loop-number-init g c = subst (Prints g.W.Paper.page c.args.printer.now c.args.printer.now)
+    (sym (sent_lines-none c.args.first c.args.world.now.sent)) (Prints-nothing g.W.Paper.page c.args.printer.now)
 
 pub loop-number-preserved : goal.loop-number-preserved
 loop-number-preserved g c =
@@ -15,7 +15,7 @@ loop-number-preserved g c =
     let within : c.loop-number.number-counter < length c.args.world.now.sent =
     omega (arith, c.sent_count-number-end.ensures) in
     let past : c.args.first ≤ c.loop-number.number-counter = omega (arith, c.loop-number.auto.number-counter) in
-    Prints-sent g.W.Write.contents c.args.first c.loop-number.number-counter c.args.world.now.sent s.0
+    Prints-sent g.W.Paper.page c.args.first c.loop-number.number-counter c.args.world.now.sent s.0
     c.sent-sent.result.to c.sent-sent.result.bytes.now
     c.args.printer.now c.loop-number.printer c.write.new.self c.write_hex.new.printer c.write_all.new.self
     within past s.1 s.3 s.4 c.loop-number.invariant c.write.ensures.printed c.write_hex.ensures c.write_all.ensures
@@ -24,6 +24,6 @@ pub returns : goal.returns
 returns g c =
     let past : length c.args.world.now.sent ≤ c.loop-number.number-counter =
     omega (arith, c.sent_count-number-end.ensures, c.loop-number-test.false) in
-    subst (λ l. Prints g.W.Write.contents c.args.printer.now c.loop-number.printer
+    subst (λ l. Prints g.W.Paper.page c.args.printer.now c.loop-number.printer
     (sent_lines c.args.first (drop c.args.first l)))
     (take_all c.loop-number.number-counter c.args.world.now.sent past) c.loop-number.invariant

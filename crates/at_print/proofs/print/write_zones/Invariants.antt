@@ -7,4 +7,4 @@ use Rattle.at_print.proofs.print.write_zones.Given as goal
 
 abbrev pub invariant-loop-zone : goal.invariant-loop-zone
 invariant-loop-zone g l =
-    Prints g.W.Write.contents l.fn.printer l.printer (codes "zones" ++ flat_map zone_text (take l.zone-index l.zones))
+    Prints g.W.Paper.page l.fn.printer l.printer (codes "zones" ++ flat_map zone_text (take l.zone-index l.zones))

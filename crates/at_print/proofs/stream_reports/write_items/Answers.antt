@@ -8,9 +8,9 @@ loop-item-preserved g c =
     let items = c.args.items.now in
     let i = c.loop-item.item-index in
     let within = c.loop-item-test.true in (
-      follows-next g.W.Write.contents (codes "read") items i _ _ within refl c.is_byte-follows_byte.result
+      follows-next g.W.Paper.page (codes "read") items i _ _ within refl c.is_byte-follows_byte.result
           c.is_byte-follows_byte.ensures,
-      Prints-item g.W.Write.contents (codes "read") items i _ _ within refl
+      Prints-item g.W.Paper.page (codes "read") items i _ _ within refl
           c.args.printer.now c.loop-item.printer c.write_item.new.printer c.loop-item.follows_byte
           c.loop-item.invariant.0 c.loop-item.invariant.1 c.write_item.ensures,
     )

@@ -8,4 +8,4 @@ use Rattle.at_print.proofs.stream_reports.write_items.Given as goal
 abbrev pub invariant-loop-item : goal.invariant-loop-item
 invariant-loop-item g l =
     (l.follows_byte ≡ ends_in_byte false (take l.item-index l.items))
-    × Prints g.W.Write.contents l.fn.printer l.printer (codes "read" ++ items_text false (take l.item-index l.items))
+    × Prints g.W.Paper.page l.fn.printer l.printer (codes "read" ++ items_text false (take l.item-index l.items))
