@@ -13,4 +13,6 @@ mod responder;
 #[cfg(test)]
 mod segments;
 #[cfg(test)]
+mod tables;
+#[cfg(test)]
 mod texts;

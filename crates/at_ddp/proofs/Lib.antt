@@ -2,6 +2,8 @@ pub mod Alls
 pub mod BitLemmas
 pub mod CountLemmas
 pub mod DistinctLemmas
+pub mod EqualLemmas
+pub mod FoundLemmas
 mod MarkLemmas
 pub mod NumberLemmas
 pub mod Octets
