@@ -13,7 +13,8 @@ use Rattle.at_atp_requester.specs.Requests.{heard, next_number, response_came}
 use Rattle.at_atp_requester.proofs.RequestLemmas.{number_left}
 
 -- an entry that is found has its number in the list
-found_there : (ts : List Transaction) (tid : ℕ) (from : Address) (t : Transaction) → find (is_of tid from) ts ≡ Some t
+pub found_there : (ts : List Transaction) (tid : ℕ) (from : Address) (t : Transaction)
+    → find (is_of tid from) ts ≡ Some t
     → has_number ts tid ≡ true
 found_there [] tid from t h = absurd (cc)
 found_there (x ∷ ts) tid from t h = go (found_there ts tid from t) (x.tid == tid) (same_address x.to from) refl refl h
@@ -25,7 +26,7 @@ found_there (x ∷ ts) tid from t h = go (found_there ts tid from t) (x.tid == t
     go ih false b e f g = rw e (ih g)
 
 -- of numbers that differ, the entry of a number is the one of that number and an address
-same_gone : (ts : List Transaction) (tid : ℕ) (from : Address) (t : Transaction) → NumbersDiffer ts
+pub same_gone : (ts : List Transaction) (tid : ℕ) (from : Address) (t : Transaction) → NumbersDiffer ts
     → find (is_of tid from) ts ≡ Some t → without_first (is_of tid from) ts ≡ without_first (is_numbered tid) ts
 same_gone [] tid from t differ h = refl
 same_gone (x ∷ ts) tid from t differ h = go (same_gone ts tid from t differ.1) (x.tid == tid)
@@ -73,7 +74,7 @@ turns_to A r closed number differ is from f ends this = is ∙ ap (λ o. next_nu
 
 -- ---- a number is free then
 
-shorter : (ts : List Transaction) (tid : ℕ) → has_number ts tid ≡ true
+pub shorter : (ts : List Transaction) (tid : ℕ) → has_number ts tid ≡ true
     → length (without_first (is_numbered tid) ts) + 1 ≡ length ts
 shorter [] tid h = absurd (false≢true h)
 shorter (x ∷ ts) tid h = go (shorter ts tid) (x.tid == tid) refl h

@@ -7,6 +7,7 @@ mod RequestLemmas
 mod RequesterLemmas
 mod ResponseLemmas
 mod RetryLemmas
+mod StandingLemmas
 mod StayLemmas
 mod StepLemmas
 mod TurnLemmas

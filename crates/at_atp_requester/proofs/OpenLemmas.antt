@@ -1,8 +1,8 @@
 -- The transaction of a number, while it is open.
-use Rattle.std.proofs.Common.{◌≡◌, ℕ, zero, suc, ◌+◌, ◌%◌, Bool, true, false, cond, List, [], ◌∷◌, ◌++◌, length, Some}
-use Rattle.std.proofs.Common.{None, refl, ap, subst}
+use Rattle.std.proofs.Common.{◌≡◌, ℕ, ◌+◌, ◌%◌, Bool, true, false, cond, List, [], ◌∷◌, ◌++◌, length, Some}
+use Rattle.std.proofs.Common.{None, refl, ap}
 use Rattle.std.specs.Prelude.{find, nat_lt, ◌==◌, ◌||◌}
-use Rattle.std.proofs.lemmas.Bool.{true≢false, eq-eqb, or_parts}
+use Rattle.std.proofs.lemmas.Bool.{eq-eqb, or_parts}
 use Rattle.at_atp_requester.specs.Requests.{Transaction, Requests, has_number, draw_from, next_number}
 use Rattle.at_ddp.specs.Tables.{replaced, without_first}
 use Rattle.at_ddp.proofs.NumberLemmas.{is_free}

@@ -7,11 +7,14 @@ use Rattle.at_ddp.specs.declared.address.Address.{Address}
 use Rattle.at_atp_frame.specs.Packets.{Packet}
 use Rattle.at_atp_requester.specs.Answers.{Arrival, is_wanted, whole, with_part}
 use Rattle.at_atp_frame.specs.Frames.{Response}
-use Rattle.at_atp_requester.specs.Requests.{Transaction, Requests, is_of, next_number, beginning, is_at_least_once}
+use Rattle.at_atp_requester.specs.Requests.{NumbersDiffer, Transaction, Requests, is_numbered, is_of, next_number}
+use Rattle.at_atp_requester.specs.Requests.{beginning, is_at_least_once}
 use Rattle.at_atp_requester.specs.Requests.{came, came_for, was_kept, is_finished, heard, finishes}
 use Rattle.at_atp_requester.specs.declared.step.Step.TheVariants.{Finished}
 use Rattle.at_atp_requester.proofs.AnswerLemmas.{wanted-within}
+use Rattle.at_ddp.specs.Tables.{without_first}
 use Rattle.at_ddp.proofs.TableLemmas.{Found}
+use Rattle.at_atp_requester.proofs.ClosingLemmas.{same_gone}
 
 -- the transaction is at-least-once, and the packet completes its answer
 pub record Ended (t : Transaction) (place : ℕ) (part : Arrival) : Type 0 where
@@ -94,3 +97,8 @@ pub drawn_next : {E : Type 0} (r : Requests) (tid : ℕ) (o : Result Transaction
     IfOk o (λ t. t ≡ beginning tid to user [] 1 false retries) → IfOk o (λ t. next_number r ≡ Some t.tid)
 drawn_next r tid (Ok t) to user retries drawn is = drawn ∙ ap (λ (x : Transaction). Some x.tid) (sym is)
 drawn_next r tid (Err e) to user retries drawn is = is
+
+-- without the transaction of the number is without the one that was found
+pub gone_at : (r : Requests) (tid : ℕ) (from : Address) (i : ℕ) (f : Found (is_of tid from) r.standing i)
+    → NumbersDiffer r.standing → without_first (is_numbered tid) r.standing ≡ remove r.standing i
+gone_at r tid from i f differ = sym (same_gone r.standing tid from f.entry differ f.first) ∙ f.gone_is

@@ -1,4 +1,5 @@
 pub mod Answers
 pub mod Arriving
 pub mod Requests
+pub mod Standing
 pub mod Wholes

@@ -5,6 +5,7 @@ pub mod laws;
 mod numbers;
 mod part;
 mod requester;
+mod standing;
 mod step;
 mod transaction;
 mod turning;

@@ -1,20 +1,21 @@
 //! The requester of a socket: its open transactions and its calls. `turning.rt` has the turn from one to the next.
-ghost use Rattle.std.specs.Prelude.{◌≡◌, ◌≢◌, ◌↔◌, ◌+◌, ◌≤◌, ◌<◌, ◌∷◌, [], length, remove, if◌then◌else◌, IfOk, IfErr};
+ghost use Rattle.std.specs.Prelude.{◌≡◌, ◌≢◌, ◌↔◌, ◌+◌, ◌≤◌, ◌<◌, ◌∷◌, [], length, IfOk, IfErr};
 ghost use Rattle.std.specs.Prelude.{IfSome, OnErr, IsOk, IsErrOf, true, Some, None};
-ghost use Rattle.std.specs.List.{position_from};
 ghost use Rattle.at_ddp.specs.Outbox.{Sends};
 ghost use Rattle.at_ddp.specs.declared.address.Address.{Address as At};
 ghost use Rattle.at_atp_frame.specs.Frames.{Content, content, number_of, spelled};
 ghost use Rattle.at_atp_requester.specs.Requests.{no_requests, next_number, closing, beginning, begun, request_by};
-ghost use Rattle.at_atp_requester.specs.Requests.{is_of, is_finished, is_ignored, is_numbered, finishes, heard};
+ghost use Rattle.at_atp_requester.specs.Requests.{is_ignored, finishes, heard};
 ghost use Rattle.at_atp_requester.specs.Requests.{retried, IsHeard};
 ghost use Rattle.at_atp_requester.specs.Requests.{IsRequester, IsRetried};
 
 use crate::numbers::next_of;
+use crate::standing::{Standing, index_numbered, index_of, settle};
 use crate::step::{Retry, Step};
 use crate::transaction::{Arriving, Question, Transaction};
 use at_atp_frame::{AtpFault, Frame, MAX_DATA, send};
 use at_ddp::{Address, Outbox};
+use at_table::Table;
 use std::alloc::{AllocError, Allocator, Global};
 use std::marker::Model;
 
@@ -23,7 +24,7 @@ use std::marker::Model;
 pub struct Requester<A: Allocator = Global> {
     pub(crate) alloc: A,
     pub(crate) next: u16,
-    pub(crate) standing: Vec<Transaction<A>, A>,
+    pub(crate) standing: Standing<A>,
 }
 
 impl<A: Allocator> Model for Requester<A> {
@@ -33,7 +34,10 @@ impl<A: Allocator> Model for Requester<A> {
 
     ghost view = { λ r. record { next = r.next; standing = r.standing.items } };
 
-    ghost invariant = { λ r. IsRequester (record { next = r.next; standing = r.standing.items }) };
+    ghost use Rattle.at_atp_requester.specs.Standing.{AreFiled};
+
+    ghost invariant = { λ r. IsRequester (record { next = r.next; standing = r.standing.items })
+        × AreFiled r.standing };
 }
 
 impl<A: Allocator + Copy> Requester<A> {
@@ -43,7 +47,7 @@ impl<A: Allocator + Copy> Requester<A> {
         Requester {
             alloc,
             next: 0,
-            standing: Vec::new(alloc),
+            standing: Table::new(alloc),
         }
     }
 
@@ -63,14 +67,7 @@ impl<A: Allocator + Copy> Requester<A> {
         ensures turn { (from : At) (f : Content) → finishes A self.now from f ≡ true → closed ≡ Some (number_of f)
             → result ≡ next_number (heard {A = A} self.now from f).after }
     {
-        let standing = self.standing.as_slice();
-        let Some(tid) = closed else {
-            return next_of(standing, &standing[..0], self.next);
-        };
-        match index_numbered(standing, tid) {
-            Some(index) => next_of(&standing[..index], &standing[index + 1..], self.next),
-            None => next_of(standing, &standing[..0], self.next),
-        }
+        next_of(&self.standing, closed, self.next)
     }
 
     /// Begins a transaction that asks for `wanted` packets, 1 to 8, and returns its number. The request may be sent
@@ -116,9 +113,9 @@ impl<A: Allocator + Copy> Requester<A> {
             retries,
         };
         let transaction = Transaction::begin(self.alloc, tid, &question)?;
-        self.standing.reserve(1)?;
+        self.standing.reserve()?;
         send(out, to, &transaction.request())?;
-        self.standing.push(transaction).unwrap();
+        self.standing.push(tid, transaction);
         self.next = tid.wrapping_add(1);
         Ok(tid)
     }
@@ -159,7 +156,7 @@ impl<A: Allocator + Copy> Requester<A> {
             user,
             bytes: data_,
         };
-        let transaction = &mut self.standing[index];
+        let transaction = self.standing.at_mut(index);
         let step = transaction.hear(self.alloc, &arriving, out)?;
         settle(&mut self.standing, index, &step);
         Ok(step)
@@ -178,7 +175,7 @@ impl<A: Allocator + Copy> Requester<A> {
         let Some(index) = index_numbered(&self.standing, tid) else {
             return Err(AtpFault::NoSuch);
         };
-        let transaction = &mut self.standing[index];
+        let transaction = self.standing.at_mut(index);
         match transaction.take_retry(out) {
             Err(AllocError) => Err(AtpFault::NoMemory),
             Ok(true) => Ok(Retry::AskedAgain),
@@ -188,32 +185,4 @@ impl<A: Allocator + Copy> Requester<A> {
             }
         }
     }
-}
-
-// Closes the transaction at an index if the step finished it.
-fn settle<A: Allocator>(standing: &mut Vec<Transaction<A>, A>, index: usize, step: &Step<A>)
-    requires { index < length standing.old.items }
-    ensures { standing.new.items ≡ (if is_finished step.now then remove standing.old.items index
-        else standing.old.items) }
-{
-    if let Step::Finished(_) = step {
-        drop(standing.remove(index));
-    }
-}
-
-fn index_numbered<A: Allocator>(standing: &[Transaction<A>], tid: u16) -> Option<usize>
-    ensures first { result ≡ position_from (is_numbered tid) 0 standing.now }
-    ensures within { IfSome result (λ index. index < length standing.now) }
-{
-    standing.iter().position(|t| t.tid() == tid)
-}
-
-pub(crate) fn index_of<A: Allocator>(
-    standing: &[Transaction<A>],
-    tid: u16,
-    from: Address,
-) -> Option<usize>
-    ensures { result ≡ position_from (is_of tid from) 0 standing.now }
-{
-    standing.iter().position(|t| t.is_of(tid, from))
 }

@@ -204,6 +204,7 @@ impl<A: Allocator + Copy> Transaction<A> {
         ensures ok { IfOk result (λ step. IsEffect
             (came self.old arriving.now.sequence_number (arrival_of arriving.now) arriving.now.sts)
             step self.new out.old out.new) }
+        ensures number { self.new.tid ≡ self.old.tid }
         ensures unchanged { OnErr result (self.new ≡ self.old) }
         ensures nothing_sent { OnErr result (Sends out.old out.new []) }
         ensures ignored { is_ignored (came {A = A} self.old arriving.now.sequence_number (arrival_of arriving.now)
@@ -247,6 +248,7 @@ impl<A: Allocator + Copy> Transaction<A> {
               parts = with_part self.old.parts arriving.now.sequence_number (arrival_of arriving.now);
             })
             arriving.now.sts None) step self.new out.old out.new) }
+        ensures number { self.new.tid ≡ self.old.tid }
         ensures unchanged { OnErr result (self.new ≡ self.old) }
         ensures nothing_sent { OnErr result (Sends out.old out.new []) }
     {

@@ -1,13 +1,14 @@
 //! The turn from one transaction to the next, for a reader that asks for page after page: both happen, or neither.
-ghost use Rattle.std.specs.Prelude.{◌≡◌, ◌<◌, ◌∷◌, [], true, false, length, remove, is_some, Some, IfSome, IfOk, OnErr};
+ghost use Rattle.std.specs.Prelude.{◌≡◌, ◌∷◌, [], true, false, is_some, Some, IfSome, IfOk, OnErr};
 ghost use Rattle.std.specs.Prelude.{IsSome};
 ghost use Rattle.at_ddp.specs.Outbox.{Sends};
 ghost use Rattle.at_atp_frame.specs.Frames.{Response, content, spelled};
-ghost use Rattle.at_atp_requester.specs.Requests.{Requests, next_number, beginning, begun, request_by, is_response};
+ghost use Rattle.at_atp_requester.specs.Requests.{Requests, closing, next_number, beginning, begun, request_by, is_response};
 ghost use Rattle.at_atp_requester.specs.Requests.{finishes, has_number, heard};
 
 use crate::numbers::next_of;
-use crate::requester::{Requester, index_of};
+use crate::requester::Requester;
+use crate::standing::{index_of, pass_on};
 use crate::step::Step;
 use crate::transaction::{Arriving, Question, Transaction};
 use at_atp_frame::{Frame, PACKET_LEN, send};
@@ -28,7 +29,10 @@ impl<A: Allocator + Copy> Requester<A> {
         };
         match index_of(&self.standing, tid, from) {
             None => false,
-            Some(index) => self.standing[index].would_end(arriving.sequence_number, arriving.eom),
+            Some(index) => {
+                let transaction = self.standing.at(index);
+                transaction.would_end(arriving.sequence_number, arriving.eom)
+            }
         }
     }
 
@@ -58,29 +62,30 @@ impl<A: Allocator + Copy> Requester<A> {
     {
         let (tid, arriving) = answer_in(frame).unwrap();
         let index = index_of(&self.standing, tid, from).unwrap();
-        let next = self.following(index, from, user, retries)?;
+        let next = self.following(tid, from, user, retries)?;
+        self.standing.reserve()?;
         out.room(1, PACKET_LEN)?;
-        let ended = &mut self.standing[index];
+        let ended = self.standing.at_mut(index);
         let step = ended.finish(self.alloc, &arriving, out)?;
         send(out, from, &next.request()).unwrap();
-        Ok((step, self.pass_on(index, next)))
+        let number = pass_on(&mut self.standing, index, next);
+        self.next = number.wrapping_add(1);
+        Ok((step, number))
     }
 
-    // The transaction that would begin if the one at an index were closed.
+    // The transaction that would begin if the open one of this number were closed.
     fn following(
         &self,
-        index: usize,
+        ended: u16,
         to: Address,
         user: [u8; 4],
         retries: u8,
     ) -> Result<Transaction<A>, AllocError>
-        requires { index < length self.now.standing }
-        ensures drawn { IfOk result (λ t. next_number
-            (record self.now { standing = remove self.now.standing index }) ≡ Some t.tid) }
+        requires { has_number self.now.standing ended ≡ true }
+        ensures drawn { IfOk result (λ t. next_number (closing self.now (Some ended)) ≡ Some t.tid) }
         ensures asks { IfOk result (λ t. t ≡ beginning t.tid to user [] 1 false retries) }
     {
-        let standing = self.standing.as_slice();
-        let tid = next_of(&standing[..index], &standing[index + 1..], self.next).unwrap();
+        let tid = next_of(&self.standing, Some(ended), self.next).unwrap();
         let question = Question {
             to,
             user,
@@ -90,20 +95,6 @@ impl<A: Allocator + Copy> Requester<A> {
             retries,
         };
         Transaction::begin(self.alloc, tid, &question)
-    }
-
-    // Closes the transaction at an index and opens another. Returns the new number.
-    fn pass_on(&mut self, index: usize, next: Transaction<A>) -> u16
-        requires within { index < length self.old.standing }
-        requires fresh { has_number (remove self.old.standing index) next.tid ≡ false }
-        ensures state { self.new ≡ begun (record self.old { standing = remove self.old.standing index }) next }
-        ensures number { result ≡ next.tid }
-    {
-        let tid = next.tid();
-        drop(self.standing.remove(index));
-        self.standing.push(next).unwrap();
-        self.next = tid.wrapping_add(1);
-        tid
     }
 }
 

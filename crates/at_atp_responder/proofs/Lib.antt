@@ -1,6 +1,7 @@
 mod AnsweringLemmas
 mod CountLemmas
 mod EightLemmas
+mod KeyLemmas
 mod OnceLemmas
 mod RecordLemmas
 mod ReplyLemmas

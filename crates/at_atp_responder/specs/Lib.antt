@@ -1,3 +1,4 @@
+pub mod Keys
 pub mod Once
 pub mod Records
 pub mod Replies

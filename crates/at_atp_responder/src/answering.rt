@@ -6,8 +6,8 @@ ghost use Rattle.at_atp_frame.specs.Frames.{spelled_all};
 ghost use Rattle.at_atp_responder.specs.Records.{fit, is_key, record_fault, answer_fault, asked_for, IsAnswered};
 
 use crate::reception::Key;
-use crate::record::{Record, send_answer};
-use crate::records::{bitmap_of, record_fault, settle, settle_copy};
+use crate::record::send_answer;
+use crate::records::{Records, bitmap_of, record_fault, settle, settle_copy};
 use crate::responder::Responder;
 use at_atp_frame::{AtpFault, MAX_DATA, PACKET_LEN, Packet};
 use at_ddp::{Listed, Outbox};
@@ -83,7 +83,7 @@ impl<A: Allocator + Copy> Responder<A> {
 
 // Sends the packets of an answer that its request asked for, and counts them.
 fn send_asked<A: Allocator>(
-    records: &[Record<A>],
+    records: &Records<A>,
     key: Key,
     packets: &[Packet<A>],
     out: &mut Outbox<A>,
@@ -109,7 +109,7 @@ fn send_asked<A: Allocator>(
 
 // Why an answer is refused: first for its packets, then for its request.
 fn answer_fault<A: Allocator>(
-    records: &[Record<A>],
+    records: &Records<A>,
     key: Key,
     packets: &[Packet<A>],
 ) -> Option<AtpFault>

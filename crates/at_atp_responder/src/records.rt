@@ -1,26 +1,67 @@
-//! The list of a responder's records: which of them a packet is for, and when one is added or removed.
+//! The table of a responder's records: which of them a packet is for, and when one is added or removed.
 ghost use Rattle.std.specs.Prelude.{◌≡◌, ◌≢◌, ◌↔◌, ◌<◌, ◌≤◌, ◌∷◌, slice_get, slice_set, [], ◌++◌, length, true, find};
-ghost use Rattle.std.specs.Prelude.{IfOk, IfErr, IfSome, OnErr, IsOk, IsErrOf, Some, None};
-ghost use Rattle.std.specs.List.{position_from};
+ghost use Rattle.std.specs.Prelude.{IfOk, IfErr, IfSome, OnErr, IsOk, IsErrOf, Some, None, drop};
+ghost use Rattle.std.specs.List.{list_any, position_from};
 ghost use Rattle.std.specs.Option.{option_copied};
 ghost use Rattle.at_ddp.specs.Outbox.{Sends};
 ghost use Rattle.at_atp_responder.specs.Records.{Record as Kept, repeated, released, request_came, release_came};
 ghost use Rattle.at_atp_responder.specs.Records.{is_new_and_full, IsRepeat, Waiting, Answered, fit, is_key, is_kept};
 ghost use Rattle.at_atp_responder.specs.Records.{state_fault, record_fault, expiry_fault, asked_bitmap, after_answer};
-ghost use Rattle.at_atp_responder.specs.Records.{IsTaken};
+ghost use Rattle.at_atp_responder.specs.Records.{IsTaken, is_from};
 ghost use Rattle.at_ddp.specs.Tables.{replaced, without_first};
 
 use crate::reception::{Key, Reception};
 use crate::record::Record;
 use at_atp_frame::{AtpFault, Packet};
 use at_ddp::{Listed, Outbox};
+use at_table::Table;
 use std::alloc::{AllocError, Allocator};
+use std::marker::Model;
 
 /// How many records may stand at once.
 const RECORDS: usize = 64;
 
+/// The records in the order in which their requests came, each found by its key.
+#[derive(Drop)]
+pub(crate) struct Records<A: Allocator> {
+    table: Table<Key, Record<A>, A>,
+}
+
+impl<A: Allocator> Model for Records<A> {
+    ghost use Rattle.std.specs.Prelude.{List};
+    ghost use Rattle.at_atp_responder.specs.Records.{Record as Kept};
+    ghost use Rattle.at_atp_responder.specs.Keys.{AreFiled};
+
+    ghost Value = { List Kept };
+
+    ghost view = { λ r. r.table.items };
+
+    ghost invariant = { λ r. AreFiled r.table };
+}
+
+impl<A: Allocator + Copy> Records<A> {
+    pub(crate) fn new(alloc: A) -> Records<A>
+        ensures { result ≡ [] }
+    {
+        Records {
+            table: Table::new(alloc),
+        }
+    }
+}
+
+// Whether a record from this index on is of a request with this number from this node.
+pub(crate) fn any_from<A: Allocator>(records: &Records<A>, index: usize, node: u8, tid: u16) -> bool
+    ensures { result ≡ list_any (is_from node tid) (drop index records.now) }
+{
+    if index >= records.table.len() {
+        return false;
+    }
+    let record = records.table.at(index);
+    record.is_from(node, tid) || any_from(records, index + 1, node, tid)
+}
+
 // Why a request cannot be answered.
-pub(crate) fn record_fault<A: Allocator>(records: &[Record<A>], key: Key) -> Option<AtpFault>
+pub(crate) fn record_fault<A: Allocator>(records: &Records<A>, key: Key) -> Option<AtpFault>
     ensures { result ≡ record_fault (find (is_key key) records.now) }
 {
     match record_of(records, key) {
@@ -30,7 +71,7 @@ pub(crate) fn record_fault<A: Allocator>(records: &[Record<A>], key: Key) -> Opt
 }
 
 // Why a record cannot expire.
-pub(crate) fn expiry_fault<A: Allocator>(records: &[Record<A>], key: Key) -> Option<AtpFault>
+pub(crate) fn expiry_fault<A: Allocator>(records: &Records<A>, key: Key) -> Option<AtpFault>
     ensures { result ≡ expiry_fault (find (is_key key) records.now) }
 {
     match record_of(records, key) {
@@ -40,7 +81,7 @@ pub(crate) fn expiry_fault<A: Allocator>(records: &[Record<A>], key: Key) -> Opt
 }
 
 // Whether the answer to a request will be kept.
-fn is_kept<A: Allocator>(records: &[Record<A>], key: Key) -> bool
+fn is_kept<A: Allocator>(records: &Records<A>, key: Key) -> bool
     ensures { result ≡ is_kept (find (is_key key) records.now) }
 {
     match record_of(records, key) {
@@ -50,7 +91,7 @@ fn is_kept<A: Allocator>(records: &[Record<A>], key: Key) -> bool
 }
 
 // Which packets a request asks for, if it waits.
-pub(crate) fn bitmap_of<A: Allocator>(records: &[Record<A>], key: Key) -> u8
+pub(crate) fn bitmap_of<A: Allocator>(records: &Records<A>, key: Key) -> u8
     ensures { IfSome (find (is_key key) records.now) (λ r. result ≡ asked_bitmap r.state) }
 {
     match record_of(records, key) {
@@ -59,38 +100,38 @@ pub(crate) fn bitmap_of<A: Allocator>(records: &[Record<A>], key: Key) -> u8
     }
 }
 
-pub(crate) fn record_of<A: Allocator>(records: &[Record<A>], key: Key) -> Option<&Record<A>>
+pub(crate) fn record_of<A: Allocator>(records: &Records<A>, key: Key) -> Option<&Record<A>>
     ensures { option_copied result ≡ find (is_key key) records.now }
 {
-    records.iter().find(|e| e.is_of(key))
+    records.table.get(&key)
 }
 
-fn index_of<A: Allocator>(records: &[Record<A>], key: Key) -> Option<usize>
+fn index_of<A: Allocator>(records: &Records<A>, key: Key) -> Option<usize>
     ensures { result ≡ position_from (is_key key) 0 records.now }
 {
-    records.iter().position(|e| e.is_of(key))
+    records.table.index_of(&key)
 }
 
 // Takes a request that asks for at least one packet.
 pub(crate) fn hear_request<A: Allocator + Copy>(
     alloc: A,
-    records: &mut Vec<Record<A>, A>,
+    records: &mut Records<A>,
     key: Key,
     xo: bool,
     bitmap: u8,
     out: &mut Outbox<A>,
 ) -> Result<Reception, AtpFault>
     ensures ok { IfOk result (λ r. IsTaken
-        (request_came records.old.items key xo bitmap (find (is_key key) records.old.items)) r records.new.items
+        (request_came records.old key xo bitmap (find (is_key key) records.old)) r records.new
         out.old out.new) }
-    ensures full { IsErrOf result AtpFault.Full ↔ (is_new_and_full records.old.items key ≡ true) }
+    ensures full { IsErrOf result AtpFault.Full ↔ (is_new_and_full records.old key ≡ true) }
     ensures memory { IfErr result (λ fault. fault ≢ AtpFault.Full → fault ≡ AtpFault.NoMemory) }
-    ensures unchanged { OnErr result (records.new.items ≡ records.old.items) }
+    ensures unchanged { OnErr result (records.new ≡ records.old) }
     ensures nothing_sent { OnErr result (Sends out.old out.new []) }
-    ensures ignored { (request_came records.old.items key xo bitmap (find (is_key key) records.old.items)).reception
+    ensures ignored { (request_came records.old key xo bitmap (find (is_key key) records.old)).reception
         ≡ Reception.Ignored → IsOk result }
-    ensures waits { record_fault (find (is_key key) records.old.items) ≡ None → IsOk result }
-    ensures few { length records.old.items ≤ 64 → length records.new.items ≤ 64 }
+    ensures waits { record_fault (find (is_key key) records.old) ≡ None → IsOk result }
+    ensures few { length records.old ≤ 64 → length records.new ≤ 64 }
 {
     match index_of(records, key) {
         None => add(alloc, records, key, xo, bitmap),
@@ -104,60 +145,62 @@ pub(crate) fn hear_request<A: Allocator + Copy>(
 // Adds a record for a new request.
 fn add<A: Allocator + Copy>(
     alloc: A,
-    records: &mut Vec<Record<A>, A>,
+    records: &mut Records<A>,
     key: Key,
     xo: bool,
     bitmap: u8,
 ) -> Result<Reception, AtpFault>
+    requires { find (is_key key) records.old ≡ None }
     ensures ok { IfOk result (λ r. (r ≡ Reception.New key)
-        × (records.new.items ≡ records.old.items ++ record { key = key; state = Waiting xo bitmap } ∷ [])) }
-    ensures full { IsErrOf result AtpFault.Full ↔ (64 ≤ length records.old.items) }
+        × (records.new ≡ records.old ++ record { key = key; state = Waiting xo bitmap } ∷ [])) }
+    ensures full { IsErrOf result AtpFault.Full ↔ (64 ≤ length records.old) }
     ensures memory { IfErr result (λ fault. fault ≢ AtpFault.Full → fault ≡ AtpFault.NoMemory) }
-    ensures unchanged { OnErr result (records.new.items ≡ records.old.items) }
-    ensures few { length records.old.items ≤ 64 → length records.new.items ≤ 64 }
+    ensures unchanged { OnErr result (records.new ≡ records.old) }
+    ensures few { length records.old ≤ 64 → length records.new ≤ 64 }
 {
-    if records.len() >= RECORDS {
+    if records.table.len() >= RECORDS {
         return Err(AtpFault::Full);
     }
-    records.reserve(1)?;
-    records.push_reserved(Record::waiting(alloc, key, xo, bitmap)?);
+    records.table.reserve()?;
+    let record = Record::waiting(alloc, key, xo, bitmap)?;
+    records.table.push(key, record);
     Ok(Reception::New(key))
 }
 
 // Takes a request again whose record is at this index.
 fn repeat<A: Allocator>(
-    records: &mut Vec<Record<A>, A>,
+    records: &mut Records<A>,
     index: usize,
     bitmap: u8,
     out: &mut Outbox<A>,
 ) -> Result<Reception, AllocError>
-    requires { index < length records.old.items }
-    ensures ok { IfOk result (λ r. (old new : Kept) × (slice_get records.old.items index ≡ Some old)
+    requires { index < length records.old }
+    ensures ok { IfOk result (λ r. (old new : Kept) × (slice_get records.old index ≡ Some old)
         × IsRepeat (repeated old.key bitmap old.state) r old new out.old out.new
-        × (records.new.items ≡ slice_set records.old.items index new)) }
-    ensures unchanged { OnErr result (records.new.items ≡ records.old.items) }
+        × (records.new ≡ slice_set records.old index new)) }
+    ensures unchanged { OnErr result (records.new ≡ records.old) }
     ensures nothing_sent { OnErr result (Sends out.old out.new []) }
-    ensures ignored { (old : Kept) → slice_get records.old.items index ≡ Some old
+    ensures ignored { (old : Kept) → slice_get records.old index ≡ Some old
         → (repeated old.key bitmap old.state).reception ≡ Reception.Ignored → IsOk result }
-    ensures waits { (old : Kept) → slice_get records.old.items index ≡ Some old → state_fault old.state ≡ None
+    ensures waits { (old : Kept) → slice_get records.old index ≡ Some old → state_fault old.state ≡ None
         → IsOk result }
-    ensures as_many { length records.new.items ≡ length records.old.items }
+    ensures as_many { length records.new ≡ length records.old }
 {
-    let record = &mut records[index];
+    let record = records.table.at_mut(index);
     record.come_again(bitmap, out)
 }
 
 // Takes the release of an answer.
-pub(crate) fn hear_release<A: Allocator>(records: &mut Vec<Record<A>, A>, key: Key) -> Reception
-    ensures reception { result ≡ (release_came records.old.items key (find (is_key key) records.old.items)).reception }
-    ensures after { records.new.items
-        ≡ (release_came records.old.items key (find (is_key key) records.old.items)).after }
-    ensures as_many { length records.new.items ≡ length records.old.items }
+pub(crate) fn hear_release<A: Allocator>(records: &mut Records<A>, key: Key) -> Reception
+    ensures reception { result ≡ (release_came records.old key (find (is_key key) records.old)).reception }
+    ensures after { records.new
+        ≡ (release_came records.old key (find (is_key key) records.old)).after }
+    ensures as_many { length records.new ≡ length records.old }
 {
     match index_of(records, key) {
         None => Reception::Ignored,
         Some(index) => {
-            let record = &mut records[index];
+            let record = records.table.at_mut(index);
             record.release()
         }
     }
@@ -165,14 +208,14 @@ pub(crate) fn hear_release<A: Allocator>(records: &mut Vec<Record<A>, A>, key: K
 
 // Keeps the answer if the request is exactly-once, and removes the record otherwise.
 pub(crate) fn settle<A: Allocator>(
-    records: &mut Vec<Record<A>, A>,
+    records: &mut Records<A>,
     key: Key,
     packets: Listed<Packet<A>, A>,
 )
     requires few { length packets ≤ 8 }
     requires fits { fit packets ≡ true }
-    ensures settled { records.new.items ≡ after_answer records.old.items key packets }
-    ensures no_more { length records.new.items ≤ length records.old.items }
+    ensures settled { records.new ≡ after_answer records.old key packets }
+    ensures no_more { length records.new ≤ length records.old }
 {
     if is_kept(records, key) {
         keep(records, key, packets);
@@ -181,29 +224,29 @@ pub(crate) fn settle<A: Allocator>(
     }
 }
 
-fn keep<A: Allocator>(records: &mut Vec<Record<A>, A>, key: Key, packets: Listed<Packet<A>, A>)
+fn keep<A: Allocator>(records: &mut Records<A>, key: Key, packets: Listed<Packet<A>, A>)
     requires few { length packets ≤ 8 }
     requires fits { fit packets ≡ true }
-    ensures kept { records.new.items ≡ replaced (is_key key) (record { key = key; state = Answered packets })
-        records.old.items }
-    ensures as_many { length records.new.items ≡ length records.old.items }
+    ensures kept { records.new ≡ replaced (is_key key) (record { key = key; state = Answered packets })
+        records.old }
+    ensures as_many { length records.new ≡ length records.old }
 {
     if let Some(index) = index_of(records, key) {
-        let record = &mut records[index];
+        let record = records.table.at_mut(index);
         record.keep(packets);
     }
 }
 
 // The same, with a copy of the answer. This needs no memory.
 pub(crate) fn settle_copy<A: Allocator + Copy>(
-    records: &mut Vec<Record<A>, A>,
+    records: &mut Records<A>,
     key: Key,
     packets: &[Packet<A>],
 )
     requires few { length packets.now ≤ 8 }
     requires fits { fit packets.now ≡ true }
-    ensures settled { records.new.items ≡ after_answer records.old.items key packets.now }
-    ensures no_more { length records.new.items ≤ length records.old.items }
+    ensures settled { records.new ≡ after_answer records.old key packets.now }
+    ensures no_more { length records.new ≤ length records.old }
 {
     if is_kept(records, key) {
         keep_copy(records, key, packets);
@@ -212,28 +255,29 @@ pub(crate) fn settle_copy<A: Allocator + Copy>(
     }
 }
 
-fn keep_copy<A: Allocator + Copy>(records: &mut Vec<Record<A>, A>, key: Key, packets: &[Packet<A>])
+fn keep_copy<A: Allocator + Copy>(records: &mut Records<A>, key: Key, packets: &[Packet<A>])
     requires few { length packets.now ≤ 8 }
     requires fits { fit packets.now ≡ true }
-    requires kept { is_kept (find (is_key key) records.old.items) ≡ true }
-    ensures kept { records.new.items ≡ replaced (is_key key) (record { key = key; state = Answered packets.now })
-        records.old.items }
-    ensures as_many { length records.new.items ≡ length records.old.items }
+    requires kept { is_kept (find (is_key key) records.old) ≡ true }
+    ensures kept { records.new ≡ replaced (is_key key) (record { key = key; state = Answered packets.now })
+        records.old }
+    ensures as_many { length records.new ≡ length records.old }
 {
     if let Some(index) = index_of(records, key) {
-        let record = &mut records[index];
+        let record = records.table.at_mut(index);
         record.keep_copy(packets);
     }
 }
 
 // Removes a record. Returns which packets its request asked for.
-pub(crate) fn forget<A: Allocator>(records: &mut Vec<Record<A>, A>, key: Key) -> u8
-    ensures gone { records.new.items ≡ without_first (is_key key) records.old.items }
-    ensures bitmap { IfSome (find (is_key key) records.old.items) (λ r. result ≡ asked_bitmap r.state) }
-    ensures no_more { length records.new.items ≤ length records.old.items }
+pub(crate) fn forget<A: Allocator>(records: &mut Records<A>, key: Key) -> u8
+    ensures gone { records.new ≡ without_first (is_key key) records.old }
+    ensures bitmap { IfSome (find (is_key key) records.old) (λ r. result ≡ asked_bitmap r.state) }
+    ensures no_more { length records.new ≤ length records.old }
 {
-    match index_of(records, key) {
-        None => 0,
-        Some(index) => records.remove(index).bitmap(),
-    }
+    let Some(index) = index_of(records, key) else {
+        return 0;
+    };
+    let record = records.table.remove(index);
+    record.bitmap()
 }

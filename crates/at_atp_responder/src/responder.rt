@@ -9,8 +9,9 @@ ghost use Rattle.at_atp_responder.specs.Records.{IsTaken};
 ghost use Rattle.at_ddp.specs.Tables.{without_first};
 
 use crate::reception::{Key, Reception};
-use crate::record::Record;
-use crate::records::{expiry_fault, forget, hear_release, hear_request, record_fault, record_of};
+use crate::records::{
+    Records, any_from, expiry_fault, forget, hear_release, hear_request, record_fault, record_of,
+};
 use at_atp_frame::{AtpFault, Frame};
 use at_ddp::{Address, Outbox};
 use std::alloc::{Allocator, Global};
@@ -20,7 +21,7 @@ use std::marker::Model;
 #[derive(Drop)]
 pub struct Responder<A: Allocator = Global> {
     pub(crate) alloc: A,
-    pub(crate) records: Vec<Record<A>, A>,
+    pub(crate) records: Records<A>,
 }
 
 impl<A: Allocator> Model for Responder<A> {
@@ -29,11 +30,11 @@ impl<A: Allocator> Model for Responder<A> {
 
     ghost Value = { List Kept };
 
-    ghost view = { λ r. r.records.items };
+    ghost view = { λ r. r.records };
 
     ghost use Rattle.std.specs.Prelude.{◌≤◌, length};
 
-    ghost invariant = { λ r. length r.records.items ≤ 64 };
+    ghost invariant = { λ r. length r.records ≤ 64 };
 }
 
 impl<A: Allocator + Copy> Responder<A> {
@@ -42,7 +43,7 @@ impl<A: Allocator + Copy> Responder<A> {
     {
         Responder {
             alloc,
-            records: Vec::new(alloc),
+            records: Records::new(alloc),
         }
     }
 
@@ -100,7 +101,7 @@ impl<A: Allocator + Copy> Responder<A> {
     pub fn holds_number(&self, node: u8, tid: u16) -> bool
         ensures { result ≡ list_any (is_from node tid) self.now }
     {
-        self.records.iter().any(|e| e.is_from(node, tid))
+        any_from(&self.records, 0, node, tid)
     }
 
     /// Removes the record of a request that waits, as if the request had not come. This needs no memory.

@@ -16,12 +16,12 @@ settle-requires-clause-fits g c =
 
 pub returns-clause-ok : goal.returns-clause-ok
 returns-clause-ok g c =
-    let same = c.deref.ensures.value ∙ c.self.view_is in
+    let same = c.self.view_is in
     let sent = subst (λ (ps : List Packet). Sends c.args.out.now c.send_asked.new.out
-    (spelled_all (asked_for (find (is_key c.args.key) c.deref.result.now) c.args.key ps))) c.as_slice.ensures
+    (spelled_all (asked_for (find (is_key c.args.key) c.self.inside.records) c.args.key ps))) c.as_slice.ensures
     c.in_ok-count.ensures.sent in
     let count = c.in_ok-count.ensures.counts
-    ∙ ap (λ (ps : List Packet). length (asked_for (find (is_key c.args.key) c.deref.result.now) c.args.key ps))
+    ∙ ap (λ (ps : List Packet). length (asked_for (find (is_key c.args.key) c.self.inside.records) c.args.key ps))
     c.as_slice.ensures in record {
       is_new = c.settle.ensures.settled ∙ ap (λ rs. after_answer rs c.args.key c.args.packets) c.self.view_is;
       sends = subst (λ (rs : List Record). Sends c.args.out.now c.send_asked.new.out

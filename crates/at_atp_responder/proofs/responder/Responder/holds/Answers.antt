@@ -6,4 +6,4 @@ use Rattle.at_atp_responder.proofs.responder.Responder.holds.Goals as goal
 
 pub returns : goal.returns
 returns g c = c.is_some.ensures ∙ is_some_copied c.record_of.result
-    ∙ ap is_some (c.record_of.ensures ∙ ap (find (is_key c.args.key)) (c.deref.ensures.value ∙ c.self.view_is))
+    ∙ ap is_some (c.record_of.ensures ∙ ap (find (is_key c.args.key)) (c.self.view_is))

@@ -14,6 +14,6 @@ returns-in-Release-clause-ok g c =
     let after = c.hear_release.ensures.after
     ∙ ap (λ (rs : List Record). (release_came rs key (find (is_key key) rs)).after) c.self.view_is in
     subst (λ f. IsTaken (taken c.args.self.now c.args.from (content f)) c.hear_release.result
-    c.hear_release.new.records.items c.args.out.now c.args.out.now) (sym c.in-Release.is)
-    (taken_release c.args.self.now c.hear_release.new.records.items key c.hear_release.result c.args.out.now reception
+    c.hear_release.new.records c.args.out.now c.args.out.now) (sym c.in-Release.is)
+    (taken_release c.args.self.now c.hear_release.new.records key c.hear_release.result c.args.out.now reception
     after)

@@ -8,7 +8,7 @@ use Rattle.at_atp_responder.proofs.responder.Responder.respond.Goals as goal
 
 pub returns-clause-ok : goal.returns-clause-ok
 returns-clause-ok g c =
-    let same = c.deref.ensures.value ∙ c.self.view_is in record {
+    let same = c.self.view_is in record {
       is_new = c.settle_copy.ensures.settled ∙ ap (λ rs. after_answer rs c.args.key c.args.packets.now) c.self.view_is;
       sends = subst (λ (rs : List Record). Sends c.args.out.now c.send_asked.new.out
           (spelled_all (asked_for (find (is_key c.args.key) rs) c.args.key c.args.packets.now))) same
@@ -22,10 +22,10 @@ pub returns-clause-refuses : goal.returns-clause-refuses
 returns-clause-refuses g c =
     subst (λ (rs : List Record). IfSome (answer_fault rs c.args.key c.args.packets.now)
     (λ fault. Ok c.in_ok-count.count ≡ Err fault))
-    (c.deref.ensures.value ∙ c.self.view_is) c.in_ok-count.ensures.refuses
+    (c.self.view_is) c.in_ok-count.ensures.refuses
 
 pub returns-in_err-count-clause-memory : goal.returns-in_err-count-clause-memory
 returns-in_err-count-clause-memory g c = λ h.
     let told = c.in_err-count.ensures.memory
     (ap (λ (rs : List Record). answer_fault rs c.args.key c.args.packets.now)
-    (c.deref.ensures.value ∙ c.self.view_is) ∙ h) in grind (told, arith, common_steps)
+    (c.self.view_is) ∙ h) in grind (told, arith, common_steps)
