@@ -1,11 +1,9 @@
 -- Lists whose entries differ, after one of them changed.
-use Rattle.std.proofs.Common.{◌≡◌, ℕ, zero, suc, ◌<◌, ◌≤◌, Bool, true, false, cond, List, [], ◌∷◌, ◌++◌, length, get_or}
-use Rattle.std.proofs.Common.{set, Some, None, refl, sym, ap, subst, ◌∙◌, arith}
-use Rattle.std.specs.Prelude.{◌||◌, find, remove}
-use Rattle.std.specs.List.{AllByRecursion, IsDistinct, list_any}
-use Rattle.std.proofs.lemmas.Bool.{true≢false}
+use Rattle.std.proofs.Common.{◌≡◌, ℕ, zero, suc, ◌<◌, Bool, true, false, List, [], ◌∷◌, length, get_or}
+use Rattle.std.proofs.Common.{set, refl, sym, ap, subst, ◌∙◌, arith}
+use Rattle.std.specs.Prelude.{remove}
+use Rattle.std.specs.List.{AllByRecursion, IsDistinct}
 use Rattle.at_ddp.specs.Tables.{replaced, without_first}
-use Rattle.at_ddp.proofs.Alls.{all_both, all_without}
 
 -- an entry stands at this place
 pub record Stands {X : Type 0} (xs : List X) (i : ℕ) (entry : X) : Type 0 where

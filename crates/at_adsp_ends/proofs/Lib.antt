@@ -1,6 +1,7 @@
 mod CountLemmas
 mod DistinctLemmas
 mod IdLemmas
+mod IgnoredLemmas
 mod MoveLemmas
 mod StepLemmas
 mod Places

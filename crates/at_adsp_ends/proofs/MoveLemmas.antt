@@ -1,6 +1,6 @@
 -- What one end did, as what the table did.
-use Rattle.std.proofs.Common.{◌≡◌, ℕ, zero, suc, Bool, true, false, cond, List, [], ◌∷◌, set, Option}
-use Rattle.std.proofs.Common.{Some, None, refl, sym, ap, subst, ◌∙◌, arith}
+use Rattle.std.proofs.Common.{◌≡◌, ℕ, zero, suc, Bool, true, false, List, [], ◌∷◌, set, Option, Some, None, refl, sym}
+use Rattle.std.proofs.Common.{ap, subst, ◌∙◌, arith}
 use Rattle.std.specs.Prelude.{find, remove, IfOk, IsOk, OnErr, OnOk, Result, Ok, Err}
 use Rattle.std.specs.Result.{is_ok}
 use Rattle.std.proofs.lemmas.Bool.{true≢false}
@@ -12,7 +12,7 @@ use Rattle.at_adsp_end.specs.Calls.{is_last, probed, ticked}
 use Rattle.at_adsp_end.specs.Ends.{Change, EndState, SendsTo, addressed, has_remote}
 use Rattle.at_adsp_end.specs.Ends.{spelled_all}
 use Rattle.at_adsp_end.specs.Hearing.{Brings, Asks, Closes, Resets, Answers, Advises, Outcome, Saying, Told}
-use Rattle.at_adsp_end.specs.Hearing.{after_hearing, heard, is_empty, told}
+use Rattle.at_adsp_end.specs.Hearing.{after_hearing, heard}
 use Rattle.at_adsp_end.specs.Loads.{HasRoomTo}
 use Rattle.at_adsp_end.specs.Moves.{IsChange, IsOutcome}
 use Rattle.at_adsp_end.specs.Positions.{wire}
@@ -22,15 +22,16 @@ use Rattle.at_adsp_end.specs.declared.fault.StreamFault.TheVariants.{NoMemory}
 use Rattle.at_adsp_end.specs.declared.forward.Forward.TheVariants.{Jump, Older, Beyond}
 use Rattle.at_adsp_end.specs.declared.remote.Remote.{Remote}
 use Rattle.at_adsp_end.specs.declared.step.Step.{Step}
-use Rattle.at_adsp_end.specs.declared.step.Step.TheVariants.{Again, Heard, Ignored}
+use Rattle.at_adsp_end.specs.declared.step.Step.TheVariants.{Freed, Ignored}
 use Rattle.at_adsp_end.specs.declared.tick.Tick.{Tick}
 use Rattle.at_adsp_end.specs.declared.tick.Tick.TheVariants.{Retransmit, Probe}
-use Rattle.at_adsp_ends.specs.Moves.{IsCalled, IsDone, IsTaken}
+use Rattle.at_adsp_ends.specs.Moves.{IsCalled, IsDone, IsNothing, IsTaken}
 use Rattle.at_adsp_ends.specs.Openings.{ignored}
 use Rattle.at_adsp_ends.specs.Receiving.{settled}
-use Rattle.at_adsp_ends.specs.Tables.{AreEnds, EndTable, freed, moved, stayed}
+use Rattle.at_adsp_ends.specs.Tables.{AreEnds, EndTable, freed, moved, without_end}
 use Rattle.at_adsp_ends.proofs.DistinctLemmas.{Stands}
-use Rattle.at_adsp_ends.proofs.TableLaws.{changed_in, changed_lawful, connected_lawful, removed_in}
+use Rattle.at_adsp_ends.proofs.Places.{At}
+use Rattle.at_adsp_ends.proofs.TableLaws.{changed_in, changed_lawful, connected_lawful, removed_in, removed_lawful}
 
 -- ---- what an end keeps
 
@@ -38,9 +39,6 @@ pub record Keeps (e y : EndState) : Type 0 where
   pub id : y.id ≡ e.id
   pub asked : y.asked ≡ e.asked
   pub remote : y.remote ≡ e.remote
-
-keeps_all : (e : EndState) → Keeps e e
-keeps_all e = record { id = refl; asked = refl; remote = refl }
 
 pub hearing_keeps : (e : EndState) (window : ℕ) (acks : Option ℕ) → Keeps e (hearing wire e window acks).after
 hearing_keeps e window None = record { id = refl; asked = refl; remote = refl }
@@ -73,171 +71,129 @@ ticked_keeps e Probe = probed_keeps e (is_last e Probe)
 
 -- ---- the table
 
+-- the table with these ends in place of its own
+abbrev pub of_ends : EndTable → List EndState → EndTable
+of_ends t ends = record t { ends = ends }
+
+-- the table with this end in that place
+abbrev pub put : EndTable → ℕ → EndState → EndTable
+put t i y = of_ends t (set t.ends i y)
+
 stands_rest : {X : Type 0} (x : X) (xs : List X) (i : ℕ) (e : X) → Stands (x ∷ xs) (suc i) e → Stands xs i e
 stands_rest x xs i e s = record { within = let w = s.within in omega (arith, w); at = s.at }
 
-pub set_same : {X : Type 0} (xs : List X) (i : ℕ) (e : X) → Stands xs i e → set xs i e ≡ xs
+set_same : {X : Type 0} (xs : List X) (i : ℕ) (e : X) → Stands xs i e → set xs i e ≡ xs
 set_same [] i e s = refl
 set_same (x ∷ xs) zero e s = ap (λ y. y ∷ xs) (sym (s.at x))
 set_same (x ∷ xs) (suc i) e s = ap (λ l. x ∷ l) (set_same xs i e (stands_rest x xs i e s))
 
-pub table_same : (t : EndTable) (i : ℕ) (e new : EndState) → Stands t.ends i e → new ≡ e
-    → record t { ends = set t.ends i new } ≡ t
-table_same t i e new s is =
-    ap (λ (l : List EndState). record t { ends = l }) (ap (set t.ends i) is ∙ set_same t.ends i e s)
+module _ {p : EndState → Bool} {t : EndTable} {i : ℕ} {e : EndState} (q : At p t i e) (new : EndState) (a b : Outbox) where
+  table_same : new ≡ e → put t i new ≡ t
+  table_same is = ap (of_ends t) (ap (set t.ends i) is ∙ set_same t.ends i e q.stands)
 
-pub same_lawful : (t : EndTable) (i : ℕ) (e new : EndState) → AreEnds t → Stands t.ends i e → new ≡ e
-    → AreEnds (record t { ends = set t.ends i new })
-same_lawful t i e new h s is = subst AreEnds (sym (table_same t i e new s is)) h
+  same_lawful : new ≡ e → AreEnds (put t i new)
+  same_lawful is = subst AreEnds (sym (table_same is)) q.laws
 
-pub kept_lawful : (t : EndTable) (i : ℕ) (e y new : EndState) → AreEnds t → Stands t.ends i e → Keeps e y → new ≡ y
-    → AreEnds (record t { ends = set t.ends i new })
-kept_lawful t i e y new h s k is = changed_lawful t i e new h s (ap (λ (x : EndState). x.id) is ∙ k.id)
-    (ap (λ (x : EndState). x.remote) is ∙ k.remote)
+  kept_lawful : (y : EndState) → Keeps e y → new ≡ y → AreEnds (put t i new)
+  kept_lawful y k is = changed_lawful t i e new q.laws q.stands (ap (λ (x : EndState). x.id) is ∙ k.id)
+      (ap (λ (x : EndState). x.remote) is ∙ k.remote)
 
-pub move_done : {X : Type 0} (t : EndTable) (i : ℕ) (e y new : EndState) (x answer : X) (sent : List Content)
-    (a b : Outbox) → AreEnds t → Stands t.ends i e → y.id ≡ e.id → y.asked ≡ e.asked → answer ≡ x → new ≡ y
-    → SendsTo a b e.asked sent →
-    IsDone (moved t x y sent) answer (record t { ends = set t.ends i new }) a b
-move_done t i e y new x answer sent a b h s id asked told is sends = record {
-  answer_is = told;
-  state = ap (λ (l : List EndState). record t { ends = l })
-      (ap (set t.ends i) is ∙ sym (changed_in t.ends i e y h.ids_differ s id));
-  sent = subst (λ (to : Address). Sends a b (spelled_all (addressed to sent))) (sym asked) sends;
-}
+  move_done : {X : Type 0} (y : EndState) (x answer : X) (sent : List Content) → y.id ≡ e.id → y.asked ≡ e.asked
+      → answer ≡ x → new ≡ y → SendsTo a b e.asked sent → IsDone (moved t x y sent) answer (put t i new) a b
+  move_done y x answer sent id asked told is sends = record {
+    answer_is = told;
+    state = ap (of_ends t) (ap (set t.ends i) is ∙ sym (changed_in t.ends i e y q.laws.ids_differ q.stands id));
+    sent = subst (λ (to : Address). Sends a b (spelled_all (addressed to sent))) (sym asked) sends;
+  }
 
-pub outcome_done : (t : EndTable) (i : ℕ) (e new : EndState) (o : Outcome) (step : Step) (a b : Outbox) → AreEnds t
-    → Stands t.ends i e → Keeps e o.after → IsOutcome o e.asked step new a b
-    → IsDone (settled t o) step (record t { ends = set t.ends i new }) a b
-outcome_done t i e new o step a b h s k is =
-    move_done t i e o.after new o.step step o.sent a b h s k.id k.asked is.step_is is.state is.sent
+  nothing : new ≡ e → Sends a b [] → IsNothing t (put t i new) a b
+  nothing is none = record { state = table_same is; sent = none }
 
-pub change_done : {X : Type 0} (t : EndTable) (i : ℕ) (e new : EndState) (c : Change) (x answer : X) (a b : Outbox)
-    → AreEnds t → Stands t.ends i e → Keeps e c.after → answer ≡ x → IsChange c e.asked new a b →
-    IsDone (moved t x c.after c.sent) answer (record t { ends = set t.ends i new }) a b
-change_done t i e new c x answer a b h s k told is =
-    move_done t i e c.after new x answer c.sent a b h s k.id k.asked told is.state is.sent
+  pub outcome_lawful : {E : Type 0} (r : Result Step E) (o : Outcome) → Keeps e o.after
+      → IfOk r (λ step. IsOutcome o e.asked step new a b) → OnErr r (new ≡ e) → AreEnds (put t i new)
+  outcome_lawful (Ok step) o k is same = kept_lawful o.after k is.state
+  outcome_lawful (Err x) o k is same = same_lawful same
 
-pub stay_done : {X : Type 0} (t : EndTable) (i : ℕ) (e new : EndState) (x : X) (sent : List Content) (a b : Outbox)
-    → Stands t.ends i e → new ≡ e → SendsTo a b e.asked sent
-    → IsDone (stayed t x e sent) x (record t { ends = set t.ends i new }) a b
-stay_done t i e new x sent a b s is sends = record { answer_is = refl; state = table_same t i e new s is; sent = sends }
+  -- the same for an end that gets its remote
+  pub opened_lawful : {E : Type 0} (r : Result Step E) (o : Outcome) (remote : Remote) → o.after.id ≡ e.id
+      → o.after.remote ≡ Some remote → find (has_remote remote) t.ends ≡ None
+      → IfOk r (λ step. IsOutcome o e.asked step new a b) → OnErr r (new ≡ e) → AreEnds (put t i new)
+  opened_lawful (Ok step) o remote id known none is same =
+      connected_lawful t i e new remote q.laws q.stands (ap (λ (x : EndState). x.id) is.state ∙ id)
+      (ap (λ (x : EndState). x.remote) is.state ∙ known) none
+  opened_lawful (Err x) o remote id known none is same = same_lawful same
 
-pub free_done : {X : Type 0} (t : EndTable) (i : ℕ) (e : EndState) (x answer : X) (ends : List EndState) (a b : Outbox)
-    → AreEnds t → Stands t.ends i e → answer ≡ x → ends ≡ remove t.ends i → Sends a b []
-    → IsDone (freed t x e) answer (record t { ends = ends }) a b
-free_done t i e x answer ends a b h s told gone sends = record {
-  answer_is = told;
-  state = ap (λ (l : List EndState). record t { ends = l }) (gone ∙ sym (removed_in t.ends i e h.ids_differ s));
-  sent = sends;
-}
+  pub taken_outcome : {E : Type 0} (r : Result Step E) (o : Outcome) → o.after.id ≡ e.id → o.after.asked ≡ e.asked
+      → IfOk r (λ step. IsOutcome o e.asked step new a b) → OnErr r (new ≡ e) → OnErr r (Sends a b [])
+      → IsTaken (settled t o) r t (put t i new) a b
+  taken_outcome (Ok step) o id asked is same none =
+      move_done o.after o.step step o.sent id asked is.step_is is.state is.sent
+  taken_outcome (Err x) o id asked is same none = nothing same none
 
--- ---- results
+  pub called_outcome : {E : Type 0} (r : Result Step E) (z : Result Step StreamFault) (o : Outcome) → Keeps e o.after
+      → IfOk r (λ x. z ≡ Ok x) → OnErr r (z ≡ Err NoMemory) → IfOk r (λ step. IsOutcome o e.asked step new a b)
+      → OnErr r (new ≡ e) → OnErr r (Sends a b []) → IsCalled (Ok (settled t o)) z t (put t i new) a b
+  called_outcome (Ok step) z o k good bad is same none =
+      subst (λ (x : Result Step StreamFault). IsCalled (Ok (settled t o)) x t (put t i new) a b) (sym good)
+      (move_done o.after o.step step o.sent k.id k.asked is.step_is is.state is.sent)
+  called_outcome (Err x) z o k good bad is same none =
+      subst (λ (x : Result Step StreamFault). IsCalled (Ok (settled t o)) x t (put t i new) a b) (sym bad)
+      (refl, nothing same none)
+
+  pub change_lawful : {X E : Type 0} (r : Result X E) (c : Change) → Keeps e c.after
+      → OnOk r (IsChange c e.asked new a b) → OnErr r (new ≡ e) → AreEnds (put t i new)
+  change_lawful (Ok x) c k is same = kept_lawful c.after k is.state
+  change_lawful (Err x) c k is same = same_lawful same
+
+  pub called_change : {X Y E : Type 0} (f : X → Y) (r : Result X E) (z : Result Y StreamFault) (c : Change) (y : Y)
+      → Keeps e c.after → IfOk r (λ x. z ≡ Ok (f x)) → OnErr r (z ≡ Err NoMemory) → IfOk r (λ x. f x ≡ y)
+      → OnOk r (IsChange c e.asked new a b) → OnErr r (new ≡ e) → OnErr r (Sends a b [])
+      → IsCalled (Ok (moved t y c.after c.sent)) z t (put t i new) a b
+  called_change {X} {Y} f (Ok x) z c y k good bad told is same none =
+      subst (λ (w : Result Y StreamFault). IsCalled (Ok (moved t y c.after c.sent)) w t (put t i new) a b) (sym good)
+      (move_done c.after y (f x) c.sent k.id k.asked told is.state is.sent)
+  called_change {X} {Y} f (Err x) z c y k good bad told is same none =
+      subst (λ (w : Result Y StreamFault). IsCalled (Ok (moved t y c.after c.sent)) w t (put t i new) a b) (sym bad)
+      (refl, nothing same none)
+
+-- ---- an end is freed
+
+module _ {p : EndState → Bool} {t : EndTable} {i : ℕ} {e : EndState} (q : At p t i e) (ends : List EndState)
+    (gone : ends ≡ remove t.ends i) where
+  pub freed_state : of_ends t ends ≡ without_end t e.id
+  freed_state = ap (of_ends t) (gone ∙ sym (removed_in t.ends i e q.laws.ids_differ q.stands))
+
+  pub freed_lawful : AreEnds (of_ends t ends)
+  freed_lawful = subst AreEnds (sym freed_state) (removed_lawful t e.id q.laws)
+
+  pub freed_called : (id : ℕ) (box : Outbox) → e.id ≡ id
+      → IsCalled (Ok (freed t (Freed e.id) e)) (Ok (Freed id)) t (of_ends t ends) box box
+  freed_called id box named =
+      record { answer_is = ap Freed (sym named); state = freed_state; sent = sends_nothing box }
+
+-- ---- nothing comes of it
 
 pub ignored_done : (t : EndTable) (box : Outbox) → IsDone (ignored t) Ignored t box box
 ignored_done t box = record { answer_is = refl; state = refl; sent = sends_nothing box }
-
-pub ignored_same : (t : EndTable) (i : ℕ) (e new : EndState) (box : Outbox) → Stands t.ends i e → new ≡ e
-    → IsDone (ignored t) Ignored (record t { ends = set t.ends i new }) box box
-ignored_same t i e new box s is =
-    record { answer_is = refl; state = table_same t i e new s is; sent = sends_nothing box }
-
-pub outcome_lawful : {E : Type 0} (r : Result Step E) (t : EndTable) (i : ℕ) (e new : EndState) (o : Outcome)
-    (a b : Outbox) → AreEnds t → Stands t.ends i e → Keeps e o.after
-    → IfOk r (λ step. IsOutcome o e.asked step new a b) → OnErr r (new ≡ e)
-    → AreEnds (record t { ends = set t.ends i new })
-outcome_lawful (Ok step) t i e new o a b h s k is same = kept_lawful t i e o.after new h s k is.state
-outcome_lawful (Err x) t i e new o a b h s k is same = same_lawful t i e new h s same
-
-pub taken_outcome : {E : Type 0} (r : Result Step E) (t : EndTable) (i : ℕ) (e new : EndState) (o : Outcome)
-    (a b : Outbox) → AreEnds t → Stands t.ends i e → Keeps e o.after
-    → IfOk r (λ step. IsOutcome o e.asked step new a b) → OnErr r (new ≡ e) → OnErr r (Sends a b []) →
-    IsTaken (settled t o) r t (record t { ends = set t.ends i new }) a b
-taken_outcome (Ok step) t i e new o a b h s k is same none = outcome_done t i e new o step a b h s k is
-taken_outcome (Err x) t i e new o a b h s k is same none = record { state = table_same t i e new s same; sent = none }
-
--- the same for an end that gets its remote
-pub opened_done : {E : Type 0} (r : Result Step E) (t : EndTable) (i : ℕ) (e new : EndState) (o : Outcome)
-    (a b : Outbox) → AreEnds t → Stands t.ends i e → o.after.id ≡ e.id → o.after.asked ≡ e.asked
-    → IfOk r (λ step. IsOutcome o e.asked step new a b) → OnErr r (new ≡ e) → OnErr r (Sends a b []) →
-    IsTaken (settled t o) r t (record t { ends = set t.ends i new }) a b
-opened_done (Ok step) t i e new o a b h s id asked is same none =
-    move_done t i e o.after new o.step step o.sent a b h s id asked is.step_is is.state is.sent
-opened_done (Err x) t i e new o a b h s id asked is same none =
-    record { state = table_same t i e new s same; sent = none }
-
-pub opened_lawful : {E : Type 0} (r : Result Step E) (t : EndTable) (i : ℕ) (e new : EndState) (o : Outcome)
-    (q : Remote) (a b : Outbox) → AreEnds t → Stands t.ends i e → o.after.id ≡ e.id → o.after.remote ≡ Some q
-    → find (has_remote q) t.ends ≡ None →
-    IfOk r (λ step. IsOutcome o e.asked step new a b) → OnErr r (new ≡ e)
-    → AreEnds (record t { ends = set t.ends i new })
-opened_lawful (Ok step) t i e new o q a b h s id remote none is same =
-    connected_lawful t i e new q h s (ap (λ (x : EndState). x.id) is.state ∙ id)
-    (ap (λ (x : EndState). x.remote) is.state ∙ remote) none
-opened_lawful (Err x) t i e new o q a b h s id remote none is same = same_lawful t i e new h s same
-
-pub called_outcome : {E : Type 0} (r : Result Step E) (q : Result Step StreamFault) (t : EndTable) (i : ℕ)
-    (e new : EndState) (o : Outcome) (a b : Outbox) → AreEnds t → Stands t.ends i e → Keeps e o.after
-    → IfOk r (λ x. q ≡ Ok x) → OnErr r (q ≡ Err NoMemory) →
-    IfOk r (λ step. IsOutcome o e.asked step new a b) → OnErr r (new ≡ e) → OnErr r (Sends a b [])
-    → IsCalled (Ok (settled t o)) q t (record t { ends = set t.ends i new }) a b
-called_outcome (Ok step) q t i e new o a b h s k good bad is same none =
-    subst (λ (x : Result Step StreamFault). IsCalled (Ok (settled t o)) x t (record t { ends = set t.ends i new }) a b)
-    (sym good) (outcome_done t i e new o step a b h s k is)
-called_outcome (Err x) q t i e new o a b h s k good bad is same none =
-    subst (λ (x : Result Step StreamFault). IsCalled (Ok (settled t o)) x t (record t { ends = set t.ends i new }) a b)
-    (sym bad) (refl, record { state = table_same t i e new s same; sent = none })
-
-pub called_change : {X Y E : Type 0} (f : X → Y) (r : Result X E) (q : Result Y StreamFault) (t : EndTable) (i : ℕ)
-    (e new : EndState) (c : Change) (y : Y) (a b : Outbox) → AreEnds t → Stands t.ends i e → Keeps e c.after
-    → IfOk r (λ x. q ≡ Ok (f x)) → OnErr r (q ≡ Err NoMemory) →
-    IfOk r (λ x. f x ≡ y) → OnOk r (IsChange c e.asked new a b) → OnErr r (new ≡ e) → OnErr r (Sends a b [])
-    → IsCalled (Ok (moved t y c.after c.sent)) q t (record t { ends = set t.ends i new }) a b
-called_change {X} {Y} f (Ok x) q t i e new c y a b h s k good bad told is same none =
-    subst (λ (z : Result Y StreamFault). IsCalled (Ok (moved t y c.after c.sent)) z t
-    (record t { ends = set t.ends i new }) a b) (sym good) (change_done t i e new c y (f x) a b h s k told is)
-called_change {X} {Y} f (Err x) q t i e new c y a b h s k good bad told is same none =
-    subst (λ (z : Result Y StreamFault). IsCalled (Ok (moved t y c.after c.sent)) z t
-    (record t { ends = set t.ends i new }) a b) (sym bad)
-    (refl, record { state = table_same t i e new s same; sent = none })
-
-pub change_lawful : {X E : Type 0} (r : Result X E) (t : EndTable) (i : ℕ) (e new : EndState) (c : Change)
-    (a b : Outbox) → AreEnds t → Stands t.ends i e → Keeps e c.after → OnOk r (IsChange c e.asked new a b)
-    → OnErr r (new ≡ e) → AreEnds (record t { ends = set t.ends i new })
-change_lawful (Ok x) t i e new c a b h s k is same = kept_lawful t i e c.after new h s k is.state
-change_lawful (Err x) t i e new c a b h s k is same = same_lawful t i e new h s same
 
 pub refused : {X : Type 0} (fault : StreamFault) (t : EndTable) (box : Outbox)
     → IsCalled {X = X} (Err fault) (Err fault) t t box box
 refused fault t box = (refl, record { state = refl; sent = sends_nothing box })
 
-advice_heeds : (b : Bool) (id : ℕ) → (cond b (Heard id 0) Again ≡ Ignored) → ⊥
-advice_heeds true id e = cc
-advice_heeds false id e = cc
+-- ---- room for what is sent
 
-saying_heeds : (c : Change) (ack : Bool) (s : Saying) → (after_hearing wire c ack s).step ≡ Ignored → ⊥
-saying_heeds c ack (Brings items) e = cc
-saying_heeds c ack Asks e = cc
-saying_heeds c ack Closes e = cc
-saying_heeds c ack (Resets (Jump d)) e = cc
-saying_heeds c ack (Resets Older) e = cc
-saying_heeds c ack (Resets Beyond) e = cc
-saying_heeds c ack (Answers true) e = cc
-saying_heeds c ack (Answers false) e = cc
-saying_heeds c ack Advises e = advice_heeds (is_empty c.after.sender.unacknowledged) c.after.id e
+-- what the table sends for an end is what the end sends
+pub room_asked : (box : Outbox) (e y : EndState) (sent : List Content) → Keeps e y
+    → HasRoomToSend box (spelled_all (addressed y.asked sent)) → HasRoomTo box e.asked sent
+room_asked box e y sent k h =
+    subst (λ (to : Address). HasRoomToSend box (spelled_all (addressed to sent))) k.asked h
 
--- what an open end hears is not ignored
-pub heard_heeds : (e : EndState) (t : Told) → (heard wire e t).step ≡ Ignored → ⊥
-heard_heeds e t h = saying_heeds (hearing wire e t.window t.acks) t.ack t.saying h
-
--- ---- a call that only memory can refuse, where there is room for what it sends
-
-pub room_called : {X E : Type 0} (r : Result X E) (q : Result X StreamFault) (box : Outbox) (e y : EndState)
-    (sent : List Content) → Keeps e y → (HasRoomTo box e.asked sent → IsOk r) → IfOk r (λ x. q ≡ Ok x)
-    → HasRoomToSend box (spelled_all (addressed y.asked sent)) → IsOk q
-room_called {X} {E} r q box e y sent k ok told h =
-    go r (ok (subst (λ (to : Address). HasRoomToSend box (spelled_all (addressed to sent))) k.asked h)) told
+-- a call that only memory can refuse
+pub room_called : {X E : Type 0} (r : Result X E) (z : Result X StreamFault) (box : Outbox) (e y : EndState)
+    (sent : List Content) → Keeps e y → (HasRoomTo box e.asked sent → IsOk r) → IfOk r (λ x. z ≡ Ok x)
+    → HasRoomToSend box (spelled_all (addressed y.asked sent)) → IsOk z
+room_called {X} {E} r z box e y sent k ok told h = go r (ok (room_asked box e y sent k h)) told
   where
-    go : (r : Result X E) → IsOk r → IfOk r (λ x. q ≡ Ok x) → IsOk q
+    go : (r : Result X E) → IsOk r → IfOk r (λ x. z ≡ Ok x) → IsOk z
     go (Ok x) is told = ap is_ok told
     go (Err x) is told = absurd (true≢false (sym is))

@@ -134,13 +134,15 @@ pub(crate) fn end_of<A: Allocator>(ends: &[End<A>], remote: Remote) -> Option<&E
 }
 
 pub(crate) fn index_of_remote<A: Allocator>(ends: &[End<A>], remote: Remote) -> Option<usize>
-    ensures { result ≡ position_from (has_remote remote) 0 ends.now }
+    ensures first { result ≡ position_from (has_remote remote) 0 ends.now }
+    ensures within { IfSome result (λ index. index < length ends.now) }
 {
     ends.iter().position(|end| end.has_remote(remote))
 }
 
 pub(crate) fn index_of<A: Allocator>(ends: &[End<A>], id: u16) -> Option<usize>
-    ensures { result ≡ position_from (has_id id) 0 ends.now }
+    ensures first { result ≡ position_from (has_id id) 0 ends.now }
+    ensures within { IfSome result (λ index. index < length ends.now) }
 {
     ends.iter().position(|end| end.id() == id)
 }

@@ -6,14 +6,22 @@ ghost use Rattle.at_adsp_frame.specs.Segments.{Content};
 ghost use Rattle.at_adsp_end.specs.Ends.{FitsRooms};
 ghost use Rattle.at_adsp_end.specs.Positions.{wire};
 ghost use Rattle.at_adsp_end.specs.declared.item.Item.{Item as Entry};
+ghost use Rattle.at_adsp_end.specs.declared.step.Step.TheVariants.{Ignored};
 ghost use Rattle.at_adsp_end.specs.declared.tick.Tick.{Tick as Timer};
 ghost use Rattle.at_adsp_ends.specs.Calls.{closed_at, connected, read_at, reset_at, ticked_at, wrote};
+ghost use Rattle.at_adsp_ends.specs.Openings.{ignored};
 ghost use Rattle.at_adsp_ends.specs.Receiving.{received};
 ghost use Rattle.at_adsp_ends.specs.Tables.{EndTable, IsId, SendsFew, by_id, next_id};
 
 /// A table has no identifier to give only if 16 ends stand.
 pub fn below_16_an_identifier_is_free()
     ensures { (t : EndTable) → IsId t.next → next_id t ≡ None → 16 ≤ length t.ends }
+{}
+
+/// A segment that is ignored changes nothing and sends nothing.
+pub fn what_is_ignored_does_nothing()
+    ensures { (t : EndTable) (from : Address) (segment : Content)
+        → (received wire t from segment).answer ≡ Ignored → received wire t from segment ≡ ignored t }
 {}
 
 /// A segment makes a table send no more segments than the queues of one end have room for items, twice.

@@ -1,9 +1,9 @@
 //! The packets that open a connection.
 ghost use Rattle.std.specs.Prelude.{◌≡◌, ◌==◌, ◌&&◌, ◌∷◌, [], not, IsOk, OnErr, OnOk, if◌then◌else◌, None};
 ghost use Rattle.at_ddp.specs.Address.{same_address};
-ghost use Rattle.at_ddp.specs.Outbox.{Sends};
+ghost use Rattle.at_ddp.specs.Outbox.{HasRoomToSend, Sends};
 ghost use Rattle.at_adsp_frame.specs.Segments.{content, spelled};
-ghost use Rattle.at_adsp_end.specs.Ends.{denying, is_opening};
+ghost use Rattle.at_adsp_end.specs.Ends.{denying, is_opening, spelled_all};
 ghost use Rattle.at_adsp_end.specs.Positions.{wire};
 ghost use Rattle.at_adsp_ends.specs.Moves.{IsTaken};
 ghost use Rattle.at_adsp_ends.specs.Openings.{ack_came, answer_came, denial_came, room_for};
@@ -26,7 +26,8 @@ impl<A: Allocator + Copy> Ends<A> {
     ) -> Result<Step, AllocError>
         ensures taken { IsTaken (any_request_came wire self.old remote (remote.id == 0)) result self.old self.new
             out.old out.new }
-        ensures ignored { (any_request_came wire self.old remote (remote.id == 0)).answer ≡ Step.Ignored
+        ensures memory { made_id (any_request_came wire self.old remote (remote.id == 0)).answer ≡ None
+            → HasRoomToSend out.old (spelled_all (any_request_came wire self.old remote (remote.id == 0)).sent)
             → IsOk result }
     {
         if remote.id == 0 {
@@ -56,8 +57,10 @@ impl<A: Allocator + Copy> Ends<A> {
     // A request of an end that no end here has as its remote.
     fn answer_new(&mut self, remote: Remote, out: &mut Outbox<A>) -> Result<Step, AllocError>
         requires { by_remote self.old remote ≡ None }
-        ensures { IsTaken (room_for wire self.old remote (if self.old.listening then next_id self.old else None)) result
-            self.old self.new out.old out.new }
+        ensures taken { IsTaken (room_for wire self.old remote (if self.old.listening then next_id self.old else None))
+            result self.old self.new out.old out.new }
+        ensures memory { (if self.old.listening then next_id self.old else None) ≡ None
+            → HasRoomToSend out.old ((remote.address, spelled (denying remote.id)) ∷ []) → IsOk result }
     {
         let Some(id) = self.listening_id() else {
             deny(remote, out)?;
@@ -88,8 +91,8 @@ impl<A: Allocator + Copy> Ends<A> {
     ) -> Result<Step, AllocError>
         ensures taken { IsTaken (answer_came wire self.old remote (content segment.now) (by_remote self.old remote)
             (by_id self.old dest)) result self.old self.new out.old out.new }
-        ensures ignored { (answer_came wire self.old remote (content segment.now) (by_remote self.old remote)
-            (by_id self.old dest)).answer ≡ Step.Ignored → IsOk result }
+        ensures memory { HasRoomToSend out.old (spelled_all (answer_came wire self.old remote (content segment.now)
+            (by_remote self.old remote) (by_id self.old dest)).sent) → IsOk result }
     {
         let is_taken = self.has_remote(remote.address, remote.id);
         let Some(index) = index_of(&self.ends, dest) else {
@@ -118,8 +121,9 @@ impl<A: Allocator + Copy> Ends<A> {
     ) -> Result<Step, AllocError>
         ensures taken { IsTaken (ack_came wire self.old remote (content segment.now) (by_id self.old dest)) result
             self.old self.new out.old out.new }
-        ensures ignored { (ack_came wire self.old remote (content segment.now) (by_id self.old dest)).answer
-            ≡ Step.Ignored → IsOk result }
+        ensures memory { HasRoomToSend out.old
+            (spelled_all (ack_came wire self.old remote (content segment.now) (by_id self.old dest)).sent)
+            → IsOk result }
     {
         let Some(index) = index_of(&self.ends, dest) else {
             return Ok(Step::Ignored);
@@ -160,6 +164,7 @@ fn is_answered<A: Allocator>(end: &End<A>, address: Address, is_taken: bool) -> 
 fn deny<A: Allocator>(remote: Remote, out: &mut Outbox<A>) -> Result<(), AllocError>
     ensures ok { OnOk result (Sends out.old out.new ((remote.address, spelled (denying remote.id)) ∷ [])) }
     ensures err { OnErr result (Sends out.old out.new []) }
+    ensures room { HasRoomToSend out.old ((remote.address, spelled (denying remote.id)) ∷ []) → IsOk result }
 {
     let segment = Segment {
         source: 0,

@@ -1,6 +1,8 @@
 //! Which end a segment is for. What opens a connection stands in `openings.rt`; all else is the end's own.
-ghost use Rattle.std.specs.Prelude.{◌≡◌, IsOk};
+ghost use Rattle.std.specs.Prelude.{◌≡◌, IsOk, None};
+ghost use Rattle.at_ddp.specs.Outbox.{HasRoomToSend};
 ghost use Rattle.at_adsp_frame.specs.Segments.{content};
+ghost use Rattle.at_adsp_end.specs.Ends.{spelled_all};
 ghost use Rattle.at_adsp_end.specs.Positions.{wire};
 ghost use Rattle.at_adsp_ends.specs.Moves.{IsTaken};
 ghost use Rattle.at_adsp_ends.specs.Receiving.{made_id, received, segment_came};
@@ -13,8 +15,8 @@ use at_ddp::{Address, Outbox};
 use std::alloc::{AllocError, Allocator};
 
 impl<A: Allocator + Copy> Ends<A> {
-    /// Takes a segment that came from this address. If it has no effect, this needs no memory. The error is out of
-    /// memory.
+    /// Takes a segment that came from this address. The error is out of memory: only what is sent takes memory, and an
+    /// end that is made.
     pub fn receive(
         &mut self,
         from: Address,
@@ -23,7 +25,9 @@ impl<A: Allocator + Copy> Ends<A> {
     ) -> Result<Step, AllocError>
         ensures taken { IsTaken (received wire self.old from (content segment.now)) result self.old self.new out.old
             out.new }
-        ensures ignored { (received wire self.old from (content segment.now)).answer ≡ Step.Ignored → IsOk result }
+        ensures memory { made_id (received wire self.old from (content segment.now)).answer ≡ None
+            → HasRoomToSend out.old (spelled_all (received wire self.old from (content segment.now)).sent)
+            → IsOk result }
     {
         let remote = Remote {
             address: from,
@@ -66,8 +70,9 @@ impl<A: Allocator + Copy> Ends<A> {
     ) -> Result<Step, AllocError>
         ensures taken { IsTaken (segment_came wire self.old (content segment.now) (by_remote self.old remote)) result
             self.old self.new out.old out.new }
-        ensures ignored { (segment_came wire self.old (content segment.now) (by_remote self.old remote)).answer
-            ≡ Step.Ignored → IsOk result }
+        ensures memory { HasRoomToSend out.old
+            (spelled_all (segment_came wire self.old (content segment.now) (by_remote self.old remote)).sent)
+            → IsOk result }
     {
         let Some(index) = index_of_remote(&self.ends, remote) else {
             return Ok(Step::Ignored);
