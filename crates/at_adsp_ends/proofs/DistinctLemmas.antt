@@ -10,7 +10,7 @@ pub record Stands {X : Type 0} (xs : List X) (i : ℕ) (entry : X) : Type 0 wher
   pub within : i < length xs
   pub at : (d : X) → get_or xs i d ≡ entry
 
-stands_next : {X : Type 0} (x : X) (xs : List X) (i : ℕ) (e : X) → Stands (x ∷ xs) (suc i) e → Stands xs i e
+pub stands_next : {X : Type 0} (x : X) (xs : List X) (i : ℕ) (e : X) → Stands (x ∷ xs) (suc i) e → Stands xs i e
 stands_next x xs i e s = record { within = let w = s.within in omega (arith, w); at = s.at }
 
 -- ---- all entries

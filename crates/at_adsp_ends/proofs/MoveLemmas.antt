@@ -1,6 +1,6 @@
 -- What one end did, as what the table did.
 use Rattle.std.proofs.Common.{◌≡◌, ℕ, zero, suc, Bool, true, false, List, [], ◌∷◌, set, Option, Some, None, refl, sym}
-use Rattle.std.proofs.Common.{ap, subst, ◌∙◌, arith}
+use Rattle.std.proofs.Common.{ap, subst, ◌∙◌}
 use Rattle.std.specs.Prelude.{find, remove, IfOk, IsOk, OnErr, OnOk, Result, Ok, Err}
 use Rattle.std.specs.Result.{is_ok}
 use Rattle.std.proofs.lemmas.Bool.{true≢false}
@@ -29,7 +29,7 @@ use Rattle.at_adsp_ends.specs.Moves.{IsCalled, IsDone, IsNothing, IsTaken}
 use Rattle.at_adsp_ends.specs.Openings.{ignored}
 use Rattle.at_adsp_ends.specs.Receiving.{settled}
 use Rattle.at_adsp_ends.specs.Tables.{AreEnds, EndTable, freed, moved, without_end}
-use Rattle.at_adsp_ends.proofs.DistinctLemmas.{Stands}
+use Rattle.at_adsp_ends.proofs.DistinctLemmas.{Stands, stands_next}
 use Rattle.at_adsp_ends.proofs.Places.{At}
 use Rattle.at_adsp_ends.proofs.TableLaws.{changed_in, changed_lawful, connected_lawful, removed_in, removed_lawful}
 
@@ -79,15 +79,13 @@ of_ends t ends = record t { ends = ends }
 abbrev pub put : EndTable → ℕ → EndState → EndTable
 put t i y = of_ends t (set t.ends i y)
 
-stands_rest : {X : Type 0} (x : X) (xs : List X) (i : ℕ) (e : X) → Stands (x ∷ xs) (suc i) e → Stands xs i e
-stands_rest x xs i e s = record { within = let w = s.within in omega (arith, w); at = s.at }
-
 set_same : {X : Type 0} (xs : List X) (i : ℕ) (e : X) → Stands xs i e → set xs i e ≡ xs
 set_same [] i e s = refl
 set_same (x ∷ xs) zero e s = ap (λ y. y ∷ xs) (sym (s.at x))
-set_same (x ∷ xs) (suc i) e s = ap (λ l. x ∷ l) (set_same xs i e (stands_rest x xs i e s))
+set_same (x ∷ xs) (suc i) e s = ap (λ l. x ∷ l) (set_same xs i e (stands_next x xs i e s))
 
-module _ {p : EndState → Bool} {t : EndTable} {i : ℕ} {e : EndState} (q : At p t i e) (new : EndState) (a b : Outbox) where
+module _ {p : EndState → Bool} {t : EndTable} {i : ℕ} {e : EndState} (q : At p t i e) (new : EndState)
+    (a b : Outbox) where
   table_same : new ≡ e → put t i new ≡ t
   table_same is = ap (of_ends t) (ap (set t.ends i) is ∙ set_same t.ends i e q.stands)
 

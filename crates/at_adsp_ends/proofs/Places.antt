@@ -3,7 +3,7 @@ use Rattle.std.proofs.Common.{◌≡◌, ℕ, Bool, true, List, Option, Some, No
 use Rattle.std.specs.Prelude.{find}
 use Rattle.std.specs.List.{position_from}
 use Rattle.std.proofs.lemmas.Bool.{eqb-true}
-use Rattle.at_ddp.proofs.TableLemmas.{found_by, none_by}
+use Rattle.at_ddp.proofs.TableLemmas.{Found, found_by, none_by}
 use Rattle.at_adsp_end.specs.Ends.{EndState}
 use Rattle.at_adsp_end.specs.declared.rooms.Rooms.{Rooms}
 use Rattle.at_adsp_ends.specs.Tables.{AreEnds, EndTable, has_id}
@@ -20,11 +20,15 @@ pub record At (p : EndState → Bool) (t : EndTable) (i : ℕ) (e : EndState) : 
   pub first : find p t.ends ≡ Some e
   pub stands : Stands t.ends i e
 
--- what a search found, as the code reads it in its place
-pub end_at : {t : EndTable} {i : ℕ} {e : EndState} {given : List EndState} {r : Option ℕ} (p : EndState → Bool)
-    → AreEnds t → given ≡ t.ends → r ≡ position_from p 0 given → r ≡ Some i → e ≡ get_or t.ends i e → At p t i e
-end_at {t} {i} {e} {given} {r} p laws same is some read =
-    let f = found_by p t.ends given r i same is some in
+-- what a search found
+pub found_at : {ends given : List EndState} {r : Option ℕ} {i : ℕ} (p : EndState → Bool) → given ≡ ends
+    → r ≡ position_from p 0 given → r ≡ Some i → Found p ends i
+found_at {ends} {given} {r} {i} p same is some = found_by p ends given r i same is some
+
+-- the same, as the code reads it in its place
+pub end_at : {p : EndState → Bool} {t : EndTable} {i : ℕ} {e : EndState} → AreEnds t → Found p t.ends i
+    → e ≡ get_or t.ends i e → At p t i e
+end_at {p} {t} {i} {e} laws f read =
     let here : f.entry ≡ e = sym (f.at e) ∙ sym read in record {
       laws = laws;
       passes = subst (λ (x : EndState). p x ≡ true) here f.passes;

@@ -5,6 +5,7 @@ use Rattle.std.specs.Prelude.{◌==◌, ◌&&◌, find, remove}
 use Rattle.std.specs.List.{AllByRecursion, IsDistinct}
 use Rattle.std.proofs.lemmas.Bool.Decides.{nat_tests}
 use Rattle.std.proofs.lemmas.List.{length-append, length-set}
+use Rattle.at_ddp.proofs.EqualLemmas.{turned}
 use Rattle.at_ddp.specs.Address.{same_address}
 use Rattle.at_ddp.specs.Tables.{replaced, without_first}
 use Rattle.at_ddp.specs.declared.address.Address.{Address}
@@ -22,18 +23,11 @@ use Rattle.at_adsp_ends.proofs.IdLemmas.{following_id, next_drawn}
 
 -- ---- equal either way
 
-eqb_turned : (a b : ℕ) → (a == b) ≡ (b == a)
-eqb_turned a b = go (b == a) refl
-  where
-    go : (t : Bool) → (b == a) ≡ t → (a == b) ≡ t
-    go true e = grind (arith, nat_tests, e)
-    go false e = grind (arith, nat_tests, e)
-
 address_turned : (a b : Address) → same_address a b ≡ same_address b a
-address_turned a b = λ i. eqb_turned a.net b.net i && eqb_turned a.node b.node i && eqb_turned a.socket b.socket i
+address_turned a b = λ i. turned a.net b.net i && turned a.node b.node i && turned a.socket b.socket i
 
 remote_turned : (a b : Remote) → same_remote a b ≡ same_remote b a
-remote_turned a b = λ i. address_turned a.address b.address i && eqb_turned a.id b.id i
+remote_turned a b = λ i. address_turned a.address b.address i && turned a.id b.id i
 
 shared : Option Remote → Option Remote → Bool
 shared None b = false
@@ -60,7 +54,7 @@ pub found_stands : {X : Type 0} (p : X → Bool) (xs : List X) (i : ℕ) (f : Fo
 found_stands p xs i f = record { within = f.within; at = f.at }
 
 id_apart : (e x : EndState) → has_id x.id e ≡ false → has_id e.id x ≡ false
-id_apart e x h = eqb_turned x.id e.id ∙ h
+id_apart e x h = turned x.id e.id ∙ h
 
 id_own : (e : EndState) → has_id e.id e ≡ true
 id_own e = grind (arith, nat_tests)
@@ -139,7 +133,7 @@ made_lawful t e h drawn apart =
       ids = all_both (λ x. IsId x.id) t.ends (e ∷ []) h.ids (d.drawn.is, tt);
       ids_differ = differ_append (λ a b. has_id a.id b) t.ends e h.ids_differ
           (all_implied (λ x. has_id e.id x ≡ false) (λ x. has_id x.id e ≡ false) t.ends
-          (λ x g. eqb_turned e.id x.id ∙ g) (none_any (has_id e.id) t.ends d.drawn.free));
+          (λ x g. turned e.id x.id ∙ g) (none_any (has_id e.id) t.ends d.drawn.free));
       remotes_differ = differ_append (λ a b. shares a.remote b) t.ends e h.remotes_differ apart;
     }
 

@@ -3,6 +3,7 @@ use Rattle.std.proofs.Common.{◌≡◌, ℕ, ◌+◌, ◌<◌, ◌≤◌, Bool,
 use Rattle.std.proofs.Common.{ap, ◌∙◌, arith}
 use Rattle.std.specs.Prelude.{◌==◌, ◌&&◌}
 use Rattle.std.proofs.lemmas.Bool.{true≢false, false≢true, and_parts, eq-eqb, eqb-true, leb-true}
+use Rattle.at_ddp.proofs.EqualLemmas.{turned}
 use Rattle.at_node.specs.declared.numbers.Draw.{Draw}
 use Rattle.at_node.specs.declared.numbers.Draw.TheVariants.{Conn, Lookup, Tid}
 use Rattle.at_world.specs.Draws.{Draws, is_number, same_draw, last_of, drawn_at, noted, is_no_later}
@@ -28,21 +29,6 @@ last_after : (ds : Draws) (node : ℕ) (draw : Draw) (event j : ℕ) (d : Draw) 
 last_after [] node draw event j d = refl
 last_after (e ∷ ds) node draw event j d = go (last_after ds node draw event j d) (is_number node draw e.0) refl
   where
-    turned : (a b : ℕ) → (a == b) ≡ (b == a)
-    turned a b = go (a == b) refl
-      where
-        other : (c : Bool) → (b == a) ≡ c → c ≡ true → (a == b) ≡ false → ⊥
-        other true g t apart = true≢false (sym (eq-eqb a b (sym (eqb-true b a g))) ∙ apart)
-        other false g t apart = false≢true t
-
-        back : (c : Bool) → (b == a) ≡ c → (a == b) ≡ false → false ≡ c
-        back true g apart = absurd (other true g refl apart)
-        back false g apart = refl
-
-        go : (c : Bool) → (a == b) ≡ c → c ≡ (b == a)
-        go true g = sym (eq-eqb b a (sym (eqb-true a b g)))
-        go false g = back (b == a) refl g
-
     -- the number in front is the one drawn
     same_as : (x y : Draw) → same_draw x y ≡ true → x ≡ y
     same_as (Tid a) (Tid b) h = ap Tid (eqb-true a b h)

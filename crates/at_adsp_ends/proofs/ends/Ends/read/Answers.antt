@@ -1,15 +1,21 @@
 use Rattle.std.proofs.Common.{ℕ, length, refl}
 use Rattle.std.specs.Prelude.{take}
+use Rattle.at_ddp.proofs.TableLemmas.{Found}
 use Rattle.at_adsp_end.specs.Calls.{reading}
 use Rattle.at_adsp_end.specs.Ends.{has_opened}
 use Rattle.at_adsp_end.specs.Positions.{wire}
 use Rattle.at_adsp_end.specs.declared.fault.StreamFault.TheVariants.{NoSuchEnd, NotOpen}
 use Rattle.at_adsp_ends.specs.Moves.{read_of}
 use Rattle.at_adsp_ends.specs.Tables.{has_id}
-use Rattle.at_adsp_ends.proofs.Places.{end_at, none_at, test_at}
+use Rattle.at_adsp_ends.proofs.Places.{end_at, found_at, none_at, test_at}
 use Rattle.at_adsp_ends.proofs.MoveLemmas as move
 use Rattle.at_adsp_ends.proofs.StepLemmas as steps
+use Rattle.at_adsp_ends.proofs.ends.Ends.read.Given.{Over}
 use Rattle.at_adsp_ends.proofs.ends.Ends.read.Goals as goal
+use Rattle.at_adsp_ends.proofs.ends.Ends.read.Goals.{In-Some}
+
+found : (g : Over) (c : In-Some g) → Found (has_id c.args.id) c.self.inside.ends.items c.in-Some.index
+found g c = found_at (has_id c.args.id) c.deref.ensures.value c.index_of.ensures.first c.in-Some.is
 
 pub returns-in_default : goal.returns-in_default
 returns-in_default g c =
@@ -24,8 +30,7 @@ returns-in_default g c =
 
 pub returns-then-not-has_opened : goal.returns-then-not-has_opened
 returns-then-not-has_opened g c =
-    let q = end_at (has_id c.args.id) c.self.invariant c.deref.ensures.value c.index_of.ensures.first c.in-Some.is
-    c.index-end.ensures in
+    let q = end_at c.self.invariant (found g (goal.at.returns-then-not-has_opened g c).In-Some) c.index-end.ensures in
     let shut = test_at q (λ x. has_opened x.phase) c.index-end.ensures c.has_opened.ensures
     c.if-not-has_opened.true in
     rw (← c.self.view_is) (rw (q.first, shut) record {
@@ -38,8 +43,7 @@ returns-then-not-has_opened g c =
 
 pub invariant_of-self : goal.invariant_of-self
 invariant_of-self g c =
-    let q = end_at (has_id c.args.id) c.self.invariant c.deref.ensures.value c.index_of.ensures.first c.in-Some.is
-    c.index_mut-end.ensures.value in
+    let q = end_at c.self.invariant (found g (goal.at.invariant_of-self g c).In-Some) c.index_mut-end.ensures.value in
     let e = c.index_mut-end.result.now in
     move.change_lawful q c.read.new.self c.args.out.now c.read.new.out c.read.result
     (reading wire e (length c.args.items.now)) (steps.read_keeps e (length c.args.items.now)) c.read.ensures.ok
@@ -47,8 +51,7 @@ invariant_of-self g c =
 
 pub returns-clause-call : goal.returns-clause-call
 returns-clause-call g c =
-    let q = end_at (has_id c.args.id) c.self.invariant c.deref.ensures.value c.index_of.ensures.first c.in-Some.is
-    c.index_mut-end.ensures.value in
+    let q = end_at c.self.invariant (found g (goal.at.returns-clause-call g c).In-Some) c.index_mut-end.ensures.value in
     let e = c.index_mut-end.result.now in
     let n = length c.args.items.now in
     let got = take n e.receiver.unread in
@@ -65,7 +68,7 @@ returns-clause-call g c =
 
 pub returns-clause-memory : goal.returns-clause-memory
 returns-clause-memory g c =
-    let q = end_at (has_id c.args.id) c.self.invariant c.deref.ensures.value c.index_of.ensures.first c.in-Some.is
+    let q = end_at c.self.invariant (found g (goal.at.returns-clause-memory g c).In-Some)
     c.index_mut-end.ensures.value in
     let e = c.index_mut-end.result.now in
     let n = length c.args.items.now in
