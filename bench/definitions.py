@@ -15,7 +15,7 @@ import re
 import sys
 
 USE = re.compile(r"^(?:pub )?use Rattle\.([\w.]+?)(?:\.\{([^}]*)\}| as (\w+))?$", re.MULTILINE)
-HEAD = re.compile(r"^(?:abbrev )?(?:pub )?(?:record |data )?([^\s:({]+)")
+HEAD = re.compile(r"^(?:(?:abbrev|unfoldable) )?(?:pub )?(?:record |data )?([^\s:({]+)")
 WORD = re.compile(r"[A-Za-z_][\w-]*(?:\.[A-Za-z_][\w-]*)?")
 
 Module = collections.namedtuple("Module", "imports modules definitions")

@@ -42,7 +42,7 @@ kind_of_timer (timer.Lookup id) = Nbp
 kind_of_timer (timer.Resend id) = Adsp
 kind_of_timer (timer.Probe id) = Adsp
 
--- which part alone reports this; nobody, if several do, or none
+-- which part alone reports this; nobody, if several do
 abbrev pub reporter_of : {A : Type 0} → Report A → Kind
 reporter_of report.Picked = Session
 reporter_of (report.Begun tid) = Atp
@@ -51,6 +51,7 @@ reporter_of (report.Served count) = Atp
 reporter_of (report.Asked key user bytes) = Atp
 reporter_of (report.Zones names) = Atp
 reporter_of report.TableSet = Atp
+reporter_of report.Expired = Atp
 reporter_of (report.ZoneFault number) = Atp
 reporter_of report.ZonesFailed = Atp
 reporter_of report.Kept = Atp
@@ -62,9 +63,11 @@ reporter_of (report.Found finds) = Nbp
 reporter_of report.Claimed = Nbp
 reporter_of (report.Taken f) = Nbp
 reporter_of report.Registered = Nbp
+reporter_of report.Unregistered = Nbp
 reporter_of report.Relayed = Nbp
 reporter_of (report.Names count) = Nbp
 reporter_of (report.Finds count) = Nbp
+reporter_of report.ListenSet = Adsp
 reporter_of (report.Opening id) = Adsp
 reporter_of (report.Made id) = Adsp
 reporter_of (report.Opened id) = Adsp

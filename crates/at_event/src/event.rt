@@ -212,8 +212,8 @@ pub enum Report<A: Allocator = Global> {
     Begun(u16),
     /// A request was answered, and so many packets were sent.
     Answered(u8),
-    /// The record of a request was removed, and nothing was sent.
-    Done,
+    /// The release timer removed the record of a request.
+    Expired,
     /// The router answered a zone request, and sent so many packets.
     Served(u8),
     /// A new request was delivered to the service: who asked under which number, and what.
@@ -251,12 +251,16 @@ pub enum Report<A: Allocator = Global> {
     Taken(Find),
     /// A name was registered.
     Registered,
+    /// A name was taken away.
+    Unregistered,
     /// The router asked every node for names.
     Relayed,
     /// A lookup was answered with so many names.
     Names(usize),
     /// So many finds of a reply are new.
     Finds(usize),
+    /// It was set whether requests for connections are answered.
+    ListenSet,
     /// An end of a stream asks for its connection, under this identifier.
     Opening(u16),
     /// A request for a connection made this end of a stream.

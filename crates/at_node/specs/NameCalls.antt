@@ -105,7 +105,7 @@ without_name n object kind =
 
 abbrev pub unregistered_as : {A : Type 0} → SocketState → List ℕ → List ℕ → Option Registered → Outcome A SocketState
 unregistered_as n object kind None = refused_by n NoSuchName
-unregistered_as n object kind (Some name) = becomes report.Done (without_name n object kind)
+unregistered_as n object kind (Some name) = becomes report.Unregistered (without_name n object kind)
 
 -- the node's user takes a name away
 abbrev pub unregister_called : {A : Type 0} → SocketState → List ℕ → List ℕ → Outcome A SocketState

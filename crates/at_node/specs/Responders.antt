@@ -36,7 +36,7 @@ with_records_at a socket rs =
 abbrev pub expired : {A : Type 0} → AtpState → ℕ → Key → Option AtpFault → Outcome A AtpState
 expired a socket key (Some fault) = idle a (refused_as (number_of fault))
 expired a socket key None = record {
-  report = report.Done;
+  report = report.Expired;
   state = with_records_at a socket (without_first (is_key key) (records_at a socket));
   out = [];
 }

@@ -99,7 +99,7 @@ impl<A: Allocator + Copy> NamePart<A> {
             → IsStep (unregister_called self.old object.now kind.now) self.old sent result self.new sent }
     {
         match self.socket.unregister(object, kind) {
-            Ok(()) => Report::Done,
+            Ok(()) => Report::Unregistered,
             Err(fault) => refused(fault.number()),
         }
     }

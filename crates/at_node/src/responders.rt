@@ -30,7 +30,7 @@ impl<A: Allocator + Copy> AtpPart<A> {
             _ => Err(AtpFault::NoSuch),
         };
         match expired {
-            Ok(()) => Report::Done,
+            Ok(()) => Report::Expired,
             Err(fault) => refused(fault.number()),
         }
     }

@@ -49,7 +49,7 @@ fn write_report<A: Allocator, W: Paper>(printer: &mut Printer<W>, report: &Repor
     match report {
         Report::Begun(tid) => write!(printer, "begun {tid}"),
         Report::Answered(count) => write!(printer, "answered {count}"),
-        Report::Done => printer.write_all(b"done"),
+        Report::Expired => printer.write_all(b"done"),
         Report::Served(count) => write!(printer, "served {count}"),
         Report::Asked { key, user, data_ } => write_asked(printer, *key, *user, data_.as_slice()),
         Report::Zones(zones) => write_zones(printer, zones.as_slice()),
@@ -64,6 +64,7 @@ fn write_report<A: Allocator, W: Paper>(printer: &mut Printer<W>, report: &Repor
         Report::Found(finds) => write_found(printer, finds.as_slice()),
         Report::Claimed => printer.write_all(b"claimed"),
         Report::Registered => printer.write_all(b"done"),
+        Report::Unregistered => printer.write_all(b"done"),
         Report::TableSet => printer.write_all(b"done"),
         Report::Picked => printer.write_all(b"done"),
         Report::Taken(find) => write_taken(printer, find),

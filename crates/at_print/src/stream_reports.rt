@@ -21,6 +21,7 @@ pub(crate) fn write_stream_report<A: Allocator, W: Paper>(
     ensures { Prints W.page printer.old printer.new (report_text report.now) }
 {
     match report {
+        Report::ListenSet => printer.write_all(b"done"),
         Report::Opening(id) => write!(printer, "opening {id}"),
         Report::Made(id) => write!(printer, "made {id}"),
         Report::Opened(id) => write!(printer, "opened {id}"),

@@ -29,7 +29,7 @@ use Rattle.at_zip.specs.declared.fault.ZipFault.{ZipFault}
 use Rattle.at_node.specs.AtpHearing.{AtSocket, AtpSocket, HearsAt, Requester, Service, Zones as ZoneSocket}
 use Rattle.at_node.specs.AtpParts.{AtpState, Reading, after_heard, asking as asker, asks, packet_in, serving, tid_of}
 use Rattle.at_node.specs.AtpParts.{zones_at}
-use Rattle.at_event.specs.Kinds.{Kind, Atp, Nobody, kind_of_call, kind_of_timer}
+use Rattle.at_event.specs.Kinds.{Kind, Atp, Nobody, kind_of_call, kind_of_timer, reporter_of}
 use Rattle.at_node.specs.Nodes.{NodeState, called, timed, with_atp}
 use Rattle.at_event.specs.Outcomes.{Outcome, idle, over, refused_as, sent_by}
 use Rattle.at_node.specs.RequesterSocket.{AtRequester, after_retry, ask_called, asked_as, hears_other, reported_other}
@@ -54,7 +54,7 @@ use Rattle.at_event.specs.declared.service.Reply.{Reply}
 use Rattle.at_session.specs.Sessions.{SessionState}
 use Rattle.at_steps.specs.SessionSteps.{after as kept_after}
 use Rattle.at_steps.proofs.Kept.{in_session}
-use Rattle.at_steps.specs.Acts.{Act, Calls, Fires, Gets, is_atp, owner_of}
+use Rattle.at_steps.specs.Acts.{Act, Calls, Fires, Gets, is_atp}
 
 -- a report of ATP and ZIP, or nobody's
 abbrev pub IsOfAtp : Kind → Type 0
@@ -63,7 +63,7 @@ IsOfAtp Nobody = Unit {0}
 IsOfAtp other = ⊥
 
 abbrev pub SaidOfAtp : (A : Type 0) → Act A → Report A → Type 0
-SaidOfAtp A act r = IsOfAtp (owner_of act r)
+SaidOfAtp A act r = IsOfAtp (reporter_of r)
 
 abbrev pub IsOfTransactions : (A : Type 0) → Act A → Outcome A AtpState → Type 0
 IsOfTransactions A act o = AllByRecursion (λ p. p.kind ≡ atp_kind) o.out × SaidOfAtp A act o.report

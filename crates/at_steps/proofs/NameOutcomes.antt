@@ -24,7 +24,7 @@ use Rattle.at_node.specs.NameCalls.{sent_of, becomes, refused_by, looks_up, foun
 use Rattle.at_node.specs.NameCalls.{claim_called, told_of, finished_as, finish_called, asked_again, lookup_fired}
 use Rattle.at_node.specs.NameCalls.{registered_as, register_called, unregistered_as, unregister_called}
 use Rattle.at_node.specs.NameHearing.{HearsName, HearsNames, HearsNbpFault, told_by}
-use Rattle.at_event.specs.Kinds.{Kind, Nbp, Nobody, kind_of_call, kind_of_timer}
+use Rattle.at_event.specs.Kinds.{Kind, Nbp, Nobody, kind_of_call, kind_of_timer, reporter_of}
 use Rattle.at_node.specs.Nodes.{NodeState, with_names, called, timed}
 use Rattle.at_event.specs.Outcomes.{Outcome, idle, over, refused_as, sent_by}
 use Rattle.at_event.specs.declared.event.Call.{Call}
@@ -39,7 +39,7 @@ use Rattle.at_event.specs.declared.seat.Seat.{Seat}
 use Rattle.at_session.specs.Sessions.{SessionState, finds_kept, pattern_asked}
 use Rattle.at_steps.specs.SessionSteps.{after as kept_after}
 use Rattle.at_steps.proofs.Kept.{in_session}
-use Rattle.at_steps.specs.Acts.{Act, Calls, Fires, Gets, IsSaid, is_nbp, owner_of}
+use Rattle.at_steps.specs.Acts.{Act, Calls, Fires, Gets, IsSaid, is_nbp}
 
 -- a report of names, or nobody's
 abbrev pub IsOfNbp : Kind → Type 0
@@ -49,7 +49,7 @@ IsOfNbp other = ⊥
 
 -- a report that may be said
 abbrev pub SaidOfNames : (A : Type 0) → Act A → Report A → Type 0
-SaidOfNames A act r = IsOfNbp (owner_of act r) × IsSaid act r
+SaidOfNames A act r = IsOfNbp (reporter_of r) × IsSaid act r
 
 abbrev pub IsOfLookups : (A : Type 0) → Act A → Outcome A SocketState → Type 0
 IsOfLookups A act o = AllByRecursion (λ p. p.kind ≡ nbp_kind) o.out × SaidOfNames A act o.report

@@ -6,7 +6,7 @@ use Rattle.std.proofs.lemmas.Bool.{true≢false}
 use Rattle.at_ddp.specs.Datagram.{Content as Datagram, BeginsWith, canonical}
 use Rattle.at_ddp.specs.declared.address.Address.{Address}
 use Rattle.at_ddp.specs.Protocols.{atp_kind, nbp_kind, adsp_kind}
-use Rattle.at_event.specs.Kinds.{Kind, Adsp, Atp, Nbp, Nobody, Session, kind_of_call, kind_of_timer}
+use Rattle.at_event.specs.Kinds.{Kind, Adsp, Atp, Nbp, Nobody, Session, kind_of_call, kind_of_timer, reporter_of}
 use Rattle.at_event.specs.Outcomes.{Outcome, Outgoing, Over, Through, idle, over}
 use Rattle.at_event.specs.Seats.{is_for_all, is_mine}
 use Rattle.at_event.specs.declared.event.Call.{Call}
@@ -23,7 +23,7 @@ use Rattle.at_node.specs.Hearing.{Hears, HearsIt, HearsMine}
 use Rattle.at_node.specs.NameHearing.{HearsNames}
 use Rattle.at_node.specs.Nodes.{NodeState, called, over_atp, timed, with_names, with_session, with_streams}
 use Rattle.at_stream_socket.specs.Hearing.{HearsStreams}
-use Rattle.at_steps.specs.Acts.{Act, Calls, Fires, Gets, IsSaid, is_adsp, is_atp, is_nbp, owner_of}
+use Rattle.at_steps.specs.Acts.{Act, Calls, Fires, Gets, IsSaid, is_adsp, is_atp, is_nbp}
 use Rattle.at_node.specs.SessionCalls.{picked_as}
 use Rattle.at_session.specs.Sessions.{SessionState, is_listed, list_kept, picking}
 use Rattle.at_steps.specs.SessionSteps.{MayPick, after as kept_after}
@@ -44,9 +44,9 @@ pub record ComesOfNothing (A : Type 0) (n : NodeState) (act : Act A) (o : Outcom
   pub kept : SessionState
   pub is : o ≡ in_session kept (idle n report)
   pub keeps : kept ≡ kept_after n.session act report
-  pub its : IsNobodys (owner_of act report)
+  pub its : IsNobodys (reporter_of report)
   pub said : IsSaid act report
-  pub picks : MayPick n.session act report (owner_of act report)
+  pub picks : MayPick n.session act report (reporter_of report)
 
 -- what comes of an event comes of this protocol
 abbrev pub Comes : (A : Type 0) → NodeState → Act A → Outcome A NodeState → Kind → Type 0
@@ -65,12 +65,12 @@ pub record ComesByType (A : Type 0) (n : NodeState) (which : ℕ) (o : Outcome A
   pub adsp : (kind == adsp_kind) ≡ false → is_adsp whose ≡ false
 
 -- another protocol tells of no zone list
-no_list_of_names : (A : Type 0) (s : SessionState) (which : ℕ) (r : Report A) → IsOfNbp (owner_of (Gets which) r) → s
+no_list_of_names : (A : Type 0) (s : SessionState) (which : ℕ) (r : Report A) → IsOfNbp (reporter_of r) → s
     ≡ list_kept s r
 no_list_of_names A s which (report.Zones names) h = absurd h
 no_list_of_names A s which r h = refl
 
-no_list_of_streams : (A : Type 0) (s : SessionState) (which : ℕ) (r : Report A) → IsOfAdsp (owner_of (Gets which) r)
+no_list_of_streams : (A : Type 0) (s : SessionState) (which : ℕ) (r : Report A) → IsOfAdsp (reporter_of r)
     → s ≡ list_kept s r
 no_list_of_streams A s which (report.Zones names) h = absurd h
 no_list_of_streams A s which r h = refl
@@ -136,8 +136,8 @@ module _ (A : Type 0) (n : NodeState) where
 
 module _ (A : Type 0) (n : NodeState) (which : ℕ) (said : Reply A) (o : Outcome A NodeState) where
   pub nothing_comes : (kind : ℕ) (r : Report A) → o ≡ idle n r → n.session ≡ list_kept n.session r
-      → IsNobodys (owner_of (Gets which) r) → IsSaid (Gets which) r
-      → MayPick n.session (Gets which) r (owner_of (Gets which) r) → ComesByType A n which o kind
+      → IsNobodys (reporter_of r) → IsSaid (Gets which) r
+      → MayPick n.session (Gets which) r (reporter_of r) → ComesByType A n which o kind
   nothing_comes kind r is keeps its may picks = record {
     whose = Nobody;
     comes = record { report = r; kept = n.session; is = is; keeps = keeps; its = its; said = may; picks = picks };

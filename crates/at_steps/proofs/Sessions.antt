@@ -1,6 +1,6 @@
 -- Each event of a node is a step of its user's session.
-use Rattle.std.proofs.Common.{◌≡◌, ℕ, List, inl, inr, refl, sym, subst}
-use Rattle.at_event.specs.Kinds.{Kind, Adsp, Atp, Nbp, Nobody, Session, kind_of_call, kind_of_timer}
+use Rattle.std.proofs.Common.{ℕ, List, inl, inr, refl, sym, subst}
+use Rattle.at_event.specs.Kinds.{Kind, Adsp, Atp, Nbp, Nobody, Session, kind_of_call, kind_of_timer, reporter_of}
 use Rattle.at_event.specs.Outcomes.{Outcome}
 use Rattle.at_event.specs.declared.event.Call.{Call}
 use Rattle.at_event.specs.declared.event.Report.{Report}
@@ -9,7 +9,7 @@ use Rattle.at_event.specs.declared.service.Reply.{Reply}
 use Rattle.at_node.specs.Hearing.{Hears}
 use Rattle.at_node.specs.Nodes.{NodeState, called, timed}
 use Rattle.at_session.specs.Sessions.{SessionState}
-use Rattle.at_steps.specs.Acts.{Act, Calls, Fires, Gets, owner_of}
+use Rattle.at_steps.specs.Acts.{Act, Calls, Fires, Gets}
 use Rattle.at_steps.specs.SessionSteps.{IsStep, MayPick}
 use Rattle.at_steps.proofs.AtpOutcomes.{IsOfAtp}
 use Rattle.at_steps.proofs.NameOutcomes.{IsOfNbp}
@@ -41,15 +41,15 @@ module _ (A : Type 0) (n : NodeState) where
   comes_steps act o Atp h =
       let r = h.part.report in
       subst (Steps act) (sym h.is)
-      (record { becomes = h.keeps; picks = of_atp A n.session act r (owner_of act r) h.its.1 })
+      (record { becomes = h.keeps; picks = of_atp A n.session act r (reporter_of r) h.its.1 })
   comes_steps act o Nbp h =
       let r = h.part.report in
       subst (Steps act) (sym h.is)
-      (record { becomes = h.keeps; picks = of_nbp A n.session act r (owner_of act r) h.its.1.0 })
+      (record { becomes = h.keeps; picks = of_nbp A n.session act r (reporter_of r) h.its.1.0 })
   comes_steps act o Adsp h =
       let r = h.part.report in
       subst (Steps act) (sym h.is)
-      (record { becomes = h.keeps; picks = of_adsp A n.session act r (owner_of act r) h.its.reports })
+      (record { becomes = h.keeps; picks = of_adsp A n.session act r (reporter_of r) h.its.reports })
   comes_steps act o Nobody h = subst (Steps act) (sym h.is) (record { becomes = h.keeps; picks = h.picks })
   comes_steps act o Session h = subst (Steps act) (sym h.is) (record { becomes = h.keeps; picks = h.picks })
 

@@ -22,7 +22,7 @@ use Rattle.at_adsp_end.specs.declared.tick.Tick.TheVariants as tick
 use Rattle.at_adsp_ends.specs.Calls.{closed_at, connected, frees, read_at, reset_at, ticked_at, wrote}
 use Rattle.at_adsp_ends.specs.Receiving.{received, settled}
 use Rattle.at_adsp_ends.specs.Tables.{Done, EndTable, by_id, freed, moved, next_id}
-use Rattle.at_event.specs.Kinds.{Kind, Adsp, Nobody, kind_of_call, kind_of_timer}
+use Rattle.at_event.specs.Kinds.{Kind, Adsp, Nobody, kind_of_call, kind_of_timer, reporter_of}
 use Rattle.at_event.specs.Outcomes.{Outcome, idle, over, refused_as, sent_by}
 use Rattle.at_event.specs.Seats.{at_socket}
 use Rattle.at_event.specs.declared.event.Call.{Call}
@@ -42,7 +42,7 @@ use Rattle.at_stream_socket.specs.Sockets.{answered, streams_at, told_by}
 use Rattle.at_session.specs.Sessions.{SessionState, address_at}
 use Rattle.at_steps.specs.SessionSteps.{after as kept_after}
 use Rattle.at_steps.proofs.Kept.{in_session}
-use Rattle.at_steps.specs.Acts.{Act, Calls, Fires, Forges, Gets, IsSaid, is_adsp, owner_of}
+use Rattle.at_steps.specs.Acts.{Act, Calls, Fires, Forges, Gets, IsSaid, is_adsp}
 
 -- a report of streams, or nobody's
 abbrev pub IsOfAdsp : Kind → Type 0
@@ -52,7 +52,7 @@ IsOfAdsp other = ⊥
 
 pub record IsOfStreams (A : Type 0) (act : Act A) (o : Outcome A EndTable) : Type 0 where
   pub sends : AllByRecursion (λ p. p.kind ≡ adsp_kind) o.out
-  pub reports : IsOfAdsp (owner_of act o.report)
+  pub reports : IsOfAdsp (reporter_of o.report)
   pub said : IsSaid act o.report
 
 -- what comes of an event at a node is what comes of it at the socket for streams
@@ -70,7 +70,7 @@ all_adsp own (push ∷ pushes) = (refl, all_adsp own pushes)
 
 -- a report that may be said
 abbrev pub MaySay : (A : Type 0) → Act A → Report A → Type 0
-MaySay A act r = IsOfAdsp (owner_of act r) × IsSaid act r
+MaySay A act r = IsOfAdsp (reporter_of r) × IsSaid act r
 
 module _ (A : Type 0) (act : Act A) (t : EndTable) where
   refused : (number : Option ℕ) → IsOfStreams A act (idle t (refused_as number))

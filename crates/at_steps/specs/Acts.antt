@@ -1,6 +1,6 @@
--- What happens at a node, whose report it is, and which reports there are.
+-- What happens at a node, and which reports there are.
 use Rattle.std.specs.Prelude.{ℕ, Bool, true, false}
-use Rattle.at_event.specs.Kinds.{Kind, Nobody, Atp, Nbp, Adsp, kind_of_call, kind_of_timer, reporter_of}
+use Rattle.at_event.specs.Kinds.{Kind, Nobody, Atp, Nbp, Adsp, reporter_of}
 use Rattle.at_event.specs.declared.event.Call.{Call}
 use Rattle.at_event.specs.declared.event.Report.{Report}
 use Rattle.at_event.specs.declared.event.Report.TheVariants as report
@@ -12,12 +12,6 @@ pub data Act (A : Type 0) : Type 0 where
   Fires : Timer → Act A
   Gets : (which : ℕ) → Act A
   Forges : Act A
-
--- which part's report it is: `done` is that of whose call or timer it was
-abbrev pub owner_of : {A : Type 0} → Act A → Report A → Kind
-owner_of (Calls call) report.Done = kind_of_call call
-owner_of (Fires timer) report.Done = kind_of_timer timer
-owner_of act r = reporter_of r
 
 abbrev pub is_atp : Kind → Bool
 is_atp Atp = true
@@ -42,4 +36,4 @@ IsSaid act report.NoMemory = Unit {0}
 IsSaid (Gets which) report.Ignored = Unit {0}
 IsSaid (Gets which) report.Again = Unit {0}
 IsSaid (Fires time) report.Again = Unit {0}
-IsSaid act r = IsSomebodys (owner_of act r)
+IsSaid act r = IsSomebodys (reporter_of r)

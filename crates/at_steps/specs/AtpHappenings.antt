@@ -16,12 +16,13 @@ use Rattle.at_zip.specs.Zones.{IsTable}
 use Rattle.at_node.specs.AtpParts.{AtpState, Reading, asking, serving, zones_at}
 use Rattle.at_node.specs.Numbers.{drawn_by}
 use Rattle.at_node.specs.Nodes.{NodeState}
+use Rattle.at_event.specs.Kinds.{reporter_of}
 use Rattle.at_event.specs.Outcomes.{Outcome, Outgoing}
 use Rattle.at_node.specs.declared.numbers.Draw.{Draw}
 use Rattle.at_node.specs.declared.numbers.Draw.TheVariants.{Tid}
 use Rattle.at_event.specs.declared.event.Report.{Report}
 use Rattle.at_event.specs.declared.event.Report.TheVariants as report
-use Rattle.at_steps.specs.Acts.{Act, owner_of, is_atp, IsSaid}
+use Rattle.at_steps.specs.Acts.{Act, is_atp, IsSaid}
 use Rattle.at_steps.specs.AtpReports.{Matches}
 use Rattle.at_steps.specs.AtpSteps.{Change, IsStep}
 
@@ -133,5 +134,5 @@ Passes A history net number n act o = (h : Happens A history net number n act o)
 pub record IsForeign {A : Type 0} (n : NodeState) (act : Act A) (o : Outcome A NodeState) : Type 0 where
   pub same : o.state.atp ≡ n.atp
   pub sends : AllByRecursion (λ p. (p.kind == atp_kind) ≡ false) o.out
-  pub reports : is_atp (owner_of act o.report) ≡ false
+  pub reports : is_atp (reporter_of o.report) ≡ false
   pub said : IsSaid act o.report

@@ -32,7 +32,7 @@ began_under net number act r key = false
 
 -- the release timer removed the record of this key at one of the node's responders
 abbrev pub expired_at : {A : Type 0} → ℕ → ℕ → Act A → Report A → Address → Key → Bool
-expired_at net number (Fires (timer.Release own k socket tid)) report.Done at key =
+expired_at net number (Fires (timer.Release own k socket tid)) report.Expired at key =
     same_address (record { net = net; node = number; socket = own }) at
     && same_key (record { from = record { net = net; node = k; socket = socket }; tid = tid }) key
 expired_at net number act r at key = false

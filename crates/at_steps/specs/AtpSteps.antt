@@ -53,7 +53,7 @@ is_plain (Gets which) report.Kept = true
 is_plain (Gets which) report.Released = true
 is_plain (Fires time) report.Again = true
 is_plain (Fires time) (report.Failed tid) = true
-is_plain (Fires (timer.Release own node socket tid)) report.Done = true
+is_plain (Fires (timer.Release own node socket tid)) report.Expired = true
 is_plain act r = false
 
 -- the transactions before and after, the part before and after, what happened, and its report

@@ -1,6 +1,5 @@
 -- Which happening of the network of names and lookups a step of a node is (Inside AppleTalk, NBP, "Name lookup").
-use Rattle.std.specs.Prelude.{◌≡◌, ℕ, ◌^◌, ◌<◌, ◌==◌, ◌&&◌, ◌++◌, nat_lt, Bool, false, List, [], ◌∷◌, Option, Some}
-use Rattle.std.specs.Prelude.{None}
+use Rattle.std.specs.Prelude.{◌≡◌, ℕ, ◌^◌, ◌<◌, ◌==◌, ◌&&◌, ◌++◌, nat_lt, Bool, false, List, ◌∷◌, Option, Some}
 use Rattle.std.specs.List.{AllByRecursion}
 use Rattle.at_ddp.specs.declared.address.Address.{Address}
 use Rattle.at_nbp.specs.Askers.{IsAskedBy}
@@ -15,12 +14,13 @@ use Rattle.at_name_socket.specs.NameSockets.{names_of}
 use Rattle.at_name_socket.specs.Sockets.{IsSocket}
 use Rattle.at_name_socket.specs.Steps as sockets
 use Rattle.at_node.specs.Numbers.{drawn_by}
+use Rattle.at_event.specs.Kinds.{reporter_of}
 use Rattle.at_event.specs.Calls.{IsZone}
 use Rattle.at_node.specs.Nodes.{NodeState}
 use Rattle.at_event.specs.Outcomes.{Outcome}
 use Rattle.at_node.specs.declared.numbers.Draw.{Draw}
 use Rattle.at_node.specs.declared.numbers.Draw.TheVariants.{Lookup}
-use Rattle.at_steps.specs.Acts.{Act, is_nbp, owner_of}
+use Rattle.at_steps.specs.Acts.{Act, is_nbp}
 use Rattle.at_steps.specs.NameSteps.{IsStep}
 
 -- ---- a node in a network
@@ -99,4 +99,4 @@ IsHappening {A} setting history net number n act o = Happens setting history net
 pub record IsForeign {A : Type 0} (n : NodeState) (act : Act A) (o : Outcome A NodeState) : Type 0 where
   pub same : o.state.names ≡ n.names
   pub sends : AllByRecursion (λ p. (p.kind == nbp_kind) ≡ false) o.out
-  pub reports : is_nbp (owner_of act o.report) ≡ false
+  pub reports : is_nbp (reporter_of o.report) ≡ false

@@ -127,7 +127,7 @@ pub record TakesAway {A : Type 0} (c : Change A) : Type 0 where
   pub kind : List ℕ
   pub name : Registered
   pub act : c.act ≡ Calls (Unregister object kind)
-  pub report : c.report ≡ report.Done
+  pub report : c.report ≡ report.Unregistered
   pub stood : find (is_called object kind) c.part.table.names ≡ Some name
   pub table : c.now.table ≡ record c.part.table {
     names = without_first (is_called object kind) c.part.table.names;

@@ -1,12 +1,12 @@
 -- What a step of a node is in words of its user's session: which reports the session keeps, and which zone may be
 -- picked (Inside AppleTalk, ZIP, "GetZoneList"; NBP, "Name lookup").
 use Rattle.std.specs.Prelude.{◌≡◌, ℕ, List, true}
-use Rattle.at_event.specs.Kinds.{Kind, Session}
+use Rattle.at_event.specs.Kinds.{Kind, Session, reporter_of}
 use Rattle.at_event.specs.declared.event.Call.TheVariants.{Finish, Pick}
 use Rattle.at_event.specs.declared.event.Report.{Report}
 use Rattle.at_event.specs.declared.event.Report.TheVariants as report
 use Rattle.at_session.specs.Sessions.{SessionState, finds_kept, is_listed, list_kept, picking}
-use Rattle.at_steps.specs.Acts.{Act, Calls, Gets, owner_of}
+use Rattle.at_steps.specs.Acts.{Act, Calls, Gets}
 
 -- the zone is picked, unless this is refused
 abbrev pub pick_kept : {A : Type 0} → SessionState → List ℕ → Report A → SessionState
@@ -34,4 +34,4 @@ MayPick s act r other = Unit {0}
 -- a step of a session
 pub record IsStep {A : Type 0} (s : SessionState) (act : Act A) (r : Report A) (now : SessionState) : Type 0 where
   pub becomes : now ≡ after s act r
-  pub picks : MayPick s act r (owner_of act r)
+  pub picks : MayPick s act r (reporter_of r)

@@ -17,6 +17,7 @@ use Rattle.at_adsp.specs.Network.{Sent, Setting, Strange, Takes, Ticks, Writes, 
 use Rattle.at_adsp.specs.Streams.{Stream}
 use Rattle.at_nbp.specs.declared.find.Find.{Find as Found}
 use Rattle.at_session.specs.Sessions.{SessionState, address_at}
+use Rattle.at_event.specs.Kinds.{reporter_of}
 use Rattle.at_event.specs.Outcomes.{Outcome}
 use Rattle.at_event.specs.declared.event.Call.TheVariants.{Close, Connect, Listen, Open, Read, Reset, Write}
 use Rattle.at_event.specs.declared.event.Report.{Report}
@@ -27,7 +28,7 @@ use Rattle.at_node.specs.Nodes.{NodeState}
 use Rattle.at_node.specs.declared.numbers.Draw.{Draw}
 use Rattle.at_node.specs.declared.numbers.Draw.TheVariants.{Conn}
 use Rattle.at_stream_socket.specs.Sockets.{streams_at}
-use Rattle.at_steps.specs.Acts.{Act, Calls, Fires, Gets, is_adsp, owner_of}
+use Rattle.at_steps.specs.Acts.{Act, Calls, Fires, Gets, is_adsp}
 use Rattle.at_steps.specs.StreamSteps.{Change, IsStep}
 
 -- ---- a node in a network
@@ -162,4 +163,4 @@ Passes setting history net number n act o =
 pub record IsForeign {A : Type 0} (n : NodeState) (act : Act A) (o : Outcome A NodeState) : Type 0 where
   pub same : o.state.streams ≡ n.streams
   pub sends : AllByRecursion (λ p. (p.kind == adsp_kind) ≡ false) o.out
-  pub reports : is_adsp (owner_of act o.report) ≡ false
+  pub reports : is_adsp (reporter_of o.report) ≡ false

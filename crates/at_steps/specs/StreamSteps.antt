@@ -21,7 +21,7 @@ use Rattle.at_steps.specs.Acts.{Act, Calls, Fires, Gets}
 abbrev pub is_plain : {A : Type 0} → Act A → Report A → Bool
 is_plain act (report.Refused number) = true
 is_plain act report.NoMemory = true
-is_plain (Calls (Listen on)) report.Done = true
+is_plain (Calls (Listen on)) report.ListenSet = true
 is_plain (Calls (Close id)) (report.Closed it) = it == id
 is_plain (Calls (Close id)) (report.Freed it) = it == id
 is_plain (Fires (timer.Resend id)) report.Idle = true

@@ -22,7 +22,7 @@ called s t told (Ok d) = answered s told d
 
 -- the node's user sets whether requests for connections are answered
 abbrev pub listen_called : {A : Type 0} → EndTable → Bool → Outcome A EndTable
-listen_called t on = record { report = report.Done; state = listened t on; out = [] }
+listen_called t on = record { report = report.ListenSet; state = listened t on; out = [] }
 
 -- the node's user asks an address for a connection
 abbrev pub connect_called : {A : Type 0} → Seat → EndTable → Address → Outcome A EndTable

@@ -17,7 +17,7 @@ impl<A: Allocator + Copy> StreamSocket<A> {
         ensures { (sent : List Posted) → IsStep (listen_called self.old on) self.old sent result self.new sent }
     {
         self.ends.listen(on);
-        Report::Done
+        Report::ListenSet
     }
 
     /// Asks an address for a connection.

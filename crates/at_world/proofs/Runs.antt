@@ -3,6 +3,7 @@ use Rattle.std.proofs.Common.{◌≡◌, ◌⊎◌, inl, inr, ⊎_elim, Bool, tr
 use Rattle.std.proofs.Common.{Result, Ok, Err, refl, sym, ap, subst, ◌∙◌}
 use Rattle.at_ddp.specs.Datagrams.{Posted}
 use Rattle.std.proofs.lemmas.Bool.{true≢false}
+use Rattle.at_event.specs.Kinds.{reporter_of}
 use Rattle.at_event.specs.declared.event.Report.{Report}
 use Rattle.at_event.specs.declared.event.Report.TheVariants.{NoMemory}
 use Rattle.at_node.specs.Hearing.{Hears}
@@ -14,8 +15,7 @@ use Rattle.at_setup.specs.declared.event.Event.TheVariants as event
 use Rattle.at_setup.specs.declared.setup.Setup.{Setup}
 use Rattle.at_world.specs.declared.transcript.Transcript.{Transcript}
 use Rattle.at_world.specs.declared.transcript.PlayFault.{PlayFault}
-use Rattle.at_steps.specs.Acts.{is_adsp, is_atp, is_nbp}
-use Rattle.at_world.specs.Cables.{Cable, owner_of}
+use Rattle.at_world.specs.Cables.{Cable}
 use Rattle.at_world.specs.Events.{NoForge, act_of, is_forged, node_of}
 use Rattle.at_world.specs.Machine.{Machine, opening_machine, Step, Run, IsRun}
 use Rattle.at_world.specs.Plays.{opening_world, Follows, IsPlay}
@@ -115,10 +115,8 @@ module _ (A : Type 0) (w : WorldState) (m : Machine) (t : Tied A w m) (e : Event
         (subst (λ x. Follow A w m t e x (recorded w (node_of e) o.report o.state (map posted o.out))) (sym l.0)
         (together o seat good))
 
-    of_nothing : PartLaws A → is_over w ≡ false → is_atp (owner_of {A = A} e NoMemory) ≡ false
-        → is_nbp (owner_of {A = A} e NoMemory) ≡ false → is_adsp (owner_of {A = A} e NoMemory) ≡ false
-        → Nothing r n after out → Follow A w m t e r w'
-    of_nothing laws runs not_atp not_nbp not_adsp l =
+    of_nothing : PartLaws A → is_over w ≡ false → Nothing r n after out → Follow A w m t e r w'
+    of_nothing laws runs l =
         let has = t.sessions in
         let its = has.sessions (node_of e) n stands in
         let fits = its.fits in
@@ -127,11 +125,11 @@ module _ (A : Type 0) (w : WorldState) (m : Machine) (t : Tied A w m) (e : Event
         let number = seat.number in
         of_good (idle n NoMemory) refl (
           passed A laws.atp w m.cable m.atp t.cable t.atp e n stands (idle n NoMemory) refl
-              (record { same = refl; sends = tt; reports = not_atp; said = tt }),
+              (record { same = refl; sends = tt; reports = refl; said = tt }),
           named.passed A laws.names w m.cable m.sessions m.names t.cable t.sessions t.names e n stands
-              (idle n NoMemory) refl (record { same = refl; sends = tt; reports = not_nbp }),
+              (idle n NoMemory) refl (record { same = refl; sends = tt; reports = refl }),
           streamed.passed A laws.streams w m.cable m.sessions m.streams t.cable t.sessions t.streams runs e n stands
-              (idle n NoMemory) refl (record { same = refl; sends = tt; reports = not_adsp }),
+              (idle n NoMemory) refl (record { same = refl; sends = tt; reports = refl }),
           told.good_next A w m.cable m.sessions e n (idle n NoMemory) t.sessions stands number
               (told.nothing_steps A n.session (act_of e)) fits,
         ) l
@@ -156,7 +154,7 @@ followed A laws w m (event.Call k call) r w' t sent playable both =
     let n = p.node in
     let seat = call_keeps_seat A n call in
     ⊎_elim
-    (of_nothing A w m t (event.Call k call) n p.stands r p.after p.out w' p.booked laws runs refl refl refl)
+    (of_nothing A w m t (event.Call k call) n p.stands r p.after p.out w' p.booked laws runs)
     (of_good A w m t (event.Call k call) n p.stands r p.after p.out w' p.booked (called n call) seat (
       call_follows A laws.atp w m.cable m.atp t.cable t.atp k n p.stands call both.1 timely seat,
       named.call_follows A laws.names w m.cable m.sessions m.names t.cable t.sessions t.names k n p.stands call both.1
@@ -172,7 +170,7 @@ followed A laws w m (event.Timer k time) r w' t sent playable p =
     let n = p.node in
     let seat = timer_keeps_seat A n time in
     ⊎_elim
-    (of_nothing A w m t (event.Timer k time) n p.stands r p.after p.out w' p.booked laws runs refl refl refl)
+    (of_nothing A w m t (event.Timer k time) n p.stands r p.after p.out w' p.booked laws runs)
     (of_good A w m t (event.Timer k time) n p.stands r p.after p.out w' p.booked (timed n time) seat (
       timer_follows A laws.atp w m.cable m.atp t.cable t.atp k n p.stands time seat,
       named.timer_follows A laws.names w m.cable m.sessions m.names t.cable t.sessions t.names k n p.stands time seat,
@@ -196,7 +194,7 @@ followed A laws w m (event.Deliver which k) r w' t sent playable d =
     let said = p.steps.0 in
     let later = p.steps.2 in
     ⊎_elim
-    (of_nothing A w m t (event.Deliver which k) n p.stands r p.after p.out w' p.booked laws runs refl refl refl)
+    (of_nothing A w m t (event.Deliver which k) n p.stands r p.after p.out w' p.booked laws runs)
     (λ (x : (o : Outcome A NodeState) × Hears said n (d.datagram).bytes o × Its o r p.after p.out). let seat =
     hearing_keeps_seat A said n (d.datagram).bytes x.0 x.1 in of_good A w m t
     (event.Deliver which k) n p.stands r p.after p.out w' p.booked x.0 seat (
@@ -231,7 +229,7 @@ runs A laws w m (e ∷ es) (r ∷ rs) w' t sent h =
     let rest = runs A laws h.0 one.0 es rs w' one.2 sent.1 h.3 in
     let grown = one.3 in
     let step = one.1 in
-    let table = table_follows m.cable m.atp e r (one.0).atp (owner_of e r) refl step.atp in
+    let table = table_follows m.cable m.atp e r (one.0).atp (reporter_of r) refl step.atp in
     let told = subst (λ l. Tells (m.cable).net (table_by e r (m.atp).table) l es rs ((rest.2).atp).history) grown.1
     (subst (λ zones. Tells (m.cable).net zones ((one.2).atp).history es rs ((rest.2).atp).history) table
     (subst (λ (c : Cable). Tells c.net ((one.0).atp).table ((one.2).atp).history es rs ((rest.2).atp).history)

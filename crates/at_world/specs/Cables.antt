@@ -1,7 +1,6 @@
--- What the machine knows that is of no protocol: the cable, whose report it is, and which reports there are.
+-- What the machine knows that is of no protocol: the cable, and which reports there are.
 use Rattle.std.specs.Prelude.{◌≡◌, ℕ, Option}
 use Rattle.at_ddp.specs.declared.address.Address.{Address}
-use Rattle.at_event.specs.Kinds.{Kind}
 use Rattle.at_event.specs.declared.event.Report.{Report}
 use Rattle.at_steps.specs.Acts as acts
 use Rattle.at_world.specs.Events.{act_of}
@@ -20,10 +19,6 @@ opening s = record { net = s.net; router = router_of s.nodes }
 -- a socket of the cable
 abbrev pub at_net : Cable → ℕ → ℕ → Address
 at_net c node socket = record { net = c.net; node = node; socket = socket }
-
--- which part's report it is
-abbrev pub owner_of : {A : Type 0} → Event A → Report A → Kind
-owner_of e r = acts.owner_of (act_of e) r
 
 -- is there such a report of an event?
 abbrev pub IsSaid : {A : Type 0} → Event A → Report A → Type 0

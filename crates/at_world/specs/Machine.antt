@@ -1,11 +1,12 @@
 -- The abstract machine: what the nodes' users may be told. It has no packet, no record, no window and no timer. It is
 -- the cable, a part for each protocol, and what each node's user was told.
 use Rattle.std.specs.Prelude.{◌≡◌, List, [], ◌∷◌, take, Result, Ok, Err}
+use Rattle.at_event.specs.Kinds.{reporter_of}
 use Rattle.at_event.specs.declared.event.Report.{Report}
 use Rattle.at_world.specs.AtpGuards as atp
 use Rattle.at_world.specs.AtpGuards.{AtpMachine}
 use Rattle.at_world.specs.Cables as cables
-use Rattle.at_world.specs.Cables.{Cable, owner_of}
+use Rattle.at_world.specs.Cables.{Cable}
 use Rattle.at_world.specs.Events.{NoForge}
 use Rattle.at_world.specs.NameGuards as names
 use Rattle.at_world.specs.NameGuards.{NameMachine}
@@ -37,9 +38,9 @@ opening_machine s = record {
 -- one step: of the cable, of each part, by whose report it is, and of the session of the node's user
 pub record Step {A : Type 0} (m : Machine) (e : Event A) (r : Report A) (m' : Machine) : Type 0 where
   pub cable : cables.Step m.cable e r m'.cable
-  pub atp : atp.StepBy m.cable m.atp e r m'.atp (owner_of e r)
-  pub names : names.StepBy m.sessions m.names e r m'.names (owner_of e r)
-  pub streams : streams.StepBy m.cable m.sessions m.streams e r m'.streams (owner_of e r)
+  pub atp : atp.StepBy m.cable m.atp e r m'.atp (reporter_of r)
+  pub names : names.StepBy m.sessions m.names e r m'.names (reporter_of r)
+  pub streams : streams.StepBy m.cable m.sessions m.streams e r m'.streams (reporter_of r)
   pub sessions : sessions.Step m.sessions e r m'.sessions
 
 -- the machine may give these reports to these events, one step after another

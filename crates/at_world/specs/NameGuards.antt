@@ -168,7 +168,7 @@ Says ss m (event.Call node (Finish id)) report.Claimed m' = EndsClaim m node id 
 Says ss m (event.Call node (Finish id)) (report.Taken owner) m' = LosesClaim m node id owner m'
 Says ss m (event.Call node (Register object kind socket)) report.Registered m' =
     RegistersName m node object kind socket m'
-Says ss m (event.Call node (Unregister object kind)) report.Done m' = TakesAway m node object kind m'
+Says ss m (event.Call node (Unregister object kind)) report.Unregistered m' = TakesAway m node object kind m'
 Says ss m (event.Deliver which node) report.Relayed m' = m' ≡ next m
 Says ss m (event.Deliver which node) (report.Names count) m' = m' ≡ next m
 Says ss m (event.Deliver which node) (report.Finds count) m' = m' ≡ next m

@@ -77,7 +77,7 @@ Says c ss m (event.Call node (Write id items)) (report.Wrote count) m' =
     Does c m node id (Wrote (take count items)) m'
 Says c ss m (event.Call node (Read id count)) (report.Read items) m' = ReadsEnd c m node id items m'
 Says c ss m (event.Call node (Reset id)) report.StreamReset m' = Does c m node id GaveUp m'
-Says c ss m (event.Call node (Listen on)) report.Done m' = m' ≡ next m
+Says c ss m (event.Call node (Listen on)) report.ListenSet m' = m' ≡ next m
 Says c ss m (event.Call node (Close id)) (report.Closed closed) m' = m' ≡ next m
 Says c ss m (event.Call node (Close id)) (report.Freed freed) m' = m' ≡ next m
 Says c ss m (event.Timer node time) (report.Closed id) m' = m' ≡ next m

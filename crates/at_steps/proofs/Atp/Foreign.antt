@@ -5,14 +5,14 @@ use Rattle.std.proofs.lemmas.Bool.{true≢false}
 use Rattle.at_ddp.specs.Datagram.{Content as Datagram, BeginsWith, canonical}
 use Rattle.at_ddp.specs.declared.address.Address.{Address}
 use Rattle.at_ddp.specs.Protocols.{atp_kind, nbp_kind, adsp_kind}
-use Rattle.at_event.specs.Kinds.{Kind, Adsp, Atp, Nbp, Nobody, Session, kind_of_call, kind_of_timer}
+use Rattle.at_event.specs.Kinds.{Kind, Adsp, Atp, Nbp, Nobody, Session, kind_of_call, kind_of_timer, reporter_of}
 use Rattle.at_event.specs.Outcomes.{Outcome}
 use Rattle.at_event.specs.declared.event.Call.{Call}
 use Rattle.at_event.specs.declared.event.Timer.{Timer}
 use Rattle.at_event.specs.declared.service.Reply.{Reply}
 use Rattle.at_node.specs.Hearing.{Hears}
 use Rattle.at_node.specs.Nodes.{NodeState, called, timed}
-use Rattle.at_steps.specs.Acts.{Act, Calls, Fires, Gets, is_atp, owner_of}
+use Rattle.at_steps.specs.Acts.{Act, Calls, Fires, Gets, is_atp}
 use Rattle.at_steps.specs.AtpHappenings.{IsForeign}
 use Rattle.at_steps.proofs.Outcomes.{Comes, IsNobodys, call_comes, datagram_comes, others_sent, timer_comes}
 use Rattle.at_steps.proofs.NameOutcomes.{IsOfNbp}
@@ -45,25 +45,25 @@ foreign : (A : Type 0) (n : NodeState) (act : Act A) (o : Outcome A NodeState) (
 foreign A n act o Nbp apart h = subst (IsForeign n act) (sym h.is) (record {
   same = refl;
   sends = others_sent nbp_kind atp_kind refl h.part.out h.its.0;
-  reports = apart_nbp (owner_of act h.part.report) h.its.1.0;
+  reports = apart_nbp (reporter_of h.part.report) h.its.1.0;
   said = h.its.1.1;
 })
 foreign A n act o Adsp apart h = subst (IsForeign n act) (sym h.is) (record {
   same = refl;
   sends = others_sent adsp_kind atp_kind refl h.part.out h.its.sends;
-  reports = apart_adsp (owner_of act h.part.report) h.its.reports;
+  reports = apart_adsp (reporter_of h.part.report) h.its.reports;
   said = h.its.said;
 })
 foreign A n act o Nobody apart h = subst (IsForeign n act) (sym h.is) (record {
   same = refl;
   sends = tt;
-  reports = apart_nobody (owner_of act h.report) h.its;
+  reports = apart_nobody (reporter_of h.report) h.its;
   said = h.said;
 })
 foreign A n act o Session apart h = subst (IsForeign n act) (sym h.is) (record {
   same = refl;
   sends = tt;
-  reports = apart_nobody (owner_of act h.report) h.its;
+  reports = apart_nobody (reporter_of h.report) h.its;
   said = h.said;
 })
 foreign A n act o Atp apart h = absurd (true≢false apart)

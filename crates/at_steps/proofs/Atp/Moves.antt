@@ -2,7 +2,7 @@
 -- begins.
 use Rattle.std.proofs.Common.{◌≡◌, ℕ, Bool, true, false, cond, List, [], ◌∷◌, ◌++◌, Option, Some, None, refl, sym, ap}
 use Rattle.std.proofs.Common.{subst, ◌∙◌}
-use Rattle.std.specs.Prelude.{◌==◌, ◌&&◌, length, replicate}
+use Rattle.std.specs.Prelude.{◌&&◌, length, replicate}
 use Rattle.std.specs.List.{AllByRecursion}
 use Rattle.std.proofs.lemmas.Bool.{eq-eqb, true≢false}
 use Rattle.std.proofs.lemmas.List.{append-nil}
@@ -26,11 +26,12 @@ use Rattle.at_zip.specs.Zones.{IsTable}
 use Rattle.at_node.specs.AtpParts.{AtpState, Reading, asking, serving, zones_at}
 use Rattle.at_node.specs.Numbers.{drawn_by}
 use Rattle.at_node.specs.Nodes.{NodeState, with_atp}
-use Rattle.at_event.specs.Outcomes.{Outcome, Outgoing, idle, sent_by}
+use Rattle.at_event.specs.Kinds.{reporter_of}
+use Rattle.at_event.specs.Outcomes.{Outcome, idle, sent_by}
 use Rattle.at_event.specs.declared.event.Report.{Report}
 use Rattle.at_event.specs.declared.event.Report.TheVariants as report
 use Rattle.at_event.specs.declared.event.Timer.TheVariants as timer
-use Rattle.at_steps.specs.Acts.{Act, Calls, Fires, Gets, owner_of, is_atp, Forges}
+use Rattle.at_steps.specs.Acts.{Act, Calls, Fires, Gets, is_atp}
 use Rattle.at_steps.specs.AtpReports.{Matches}
 use Rattle.at_steps.specs.AtpHappenings.{Stands, IsOn, IsOpen, IsHappening, IsForeign, Passes, SendsAtp, numbers_drawn}
 use Rattle.at_steps.specs.AtpHappenings.{atp_coding}
@@ -46,25 +47,19 @@ all_atp own (x ∷ xs) = (refl, all_atp own xs)
 
 -- ---- reports of other protocols
 
-foreign_is_quiet : (A : Type 0) (r : Report A) (act : Act A) → is_atp (owner_of act r) ≡ false → is_quiet r act ≡ true
-foreign_is_quiet A (report.Begun tid) (Calls call) h = absurd (true≢false h)
-foreign_is_quiet A (report.Begun tid) (Gets which) h = absurd (true≢false h)
-foreign_is_quiet A (report.Begun tid) Forges h = absurd (true≢false h)
-foreign_is_quiet A (report.Begun tid) (Fires time) h = absurd (true≢false h)
+foreign_is_quiet : (A : Type 0) (r : Report A) (act : Act A) → is_atp (reporter_of r) ≡ false → is_quiet r act ≡ true
+foreign_is_quiet A (report.Begun tid) act h = absurd (true≢false h)
 foreign_is_quiet A (report.Answered count) (Calls call) h = absurd (true≢false h)
 foreign_is_quiet A (report.Served count) (Gets which) h = absurd (true≢false h)
 foreign_is_quiet A (report.Asked k user bytes) (Gets which) h = absurd (true≢false h)
 foreign_is_quiet A (report.Response tid packets) (Gets which) h = absurd (true≢false h)
-foreign_is_quiet A report.Done (Fires (timer.Release own node socket tid)) h = absurd (true≢false h)
+foreign_is_quiet A report.Expired (Fires (timer.Release own node socket tid)) h = absurd (true≢false h)
 foreign_is_quiet A r act h = refl
 
-foreign_draws_nothing : (A : Type 0) (act : Act A) (r : Report A) (event : ℕ) (who : Address) → is_atp (owner_of act r)
-    ≡ false → numbers_drawn event who (drawn_by r) ≡ []
-foreign_draws_nothing A (Calls call) (report.Begun tid) event who h = absurd (true≢false h)
-foreign_draws_nothing A (Gets which) (report.Begun tid) event who h = absurd (true≢false h)
-foreign_draws_nothing A Forges (report.Begun tid) event who h = absurd (true≢false h)
-foreign_draws_nothing A (Fires time) (report.Begun tid) event who h = absurd (true≢false h)
-foreign_draws_nothing A act r event who h = refl
+foreign_draws_nothing : (A : Type 0) (r : Report A) (event : ℕ) (who : Address) → is_atp (reporter_of r) ≡ false
+    → numbers_drawn event who (drawn_by r) ≡ []
+foreign_draws_nothing A (report.Begun tid) event who h = absurd (true≢false h)
+foreign_draws_nothing A r event who h = refl
 
 -- ---- lists of transactions
 
@@ -198,7 +193,7 @@ module _ (A : Type 0) (history : List Happening) (n : NodeState) (act : Act A)
 
   pub foreign_passes : (o : Outcome A NodeState) → IsForeign n act o → Passes A history n.seat.net n.seat.number n act o
   foreign_passes o foreign = passing o foreign (foreign_is_quiet A o.report act foreign.reports)
-      (foreign_draws_nothing A act o.report (after A history).event (asking n.seat.net n.seat.number) foreign.reports)
+      (foreign_draws_nothing A o.report (after A history).event (asking n.seat.net n.seat.number) foreign.reports)
 
   -- ---- one socket changes
 

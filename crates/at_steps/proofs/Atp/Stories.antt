@@ -36,7 +36,7 @@ is_quiet (report.Answered count) (Calls call) = false
 is_quiet (report.Served count) (Gets which) = false
 is_quiet (report.Asked k user bytes) (Gets which) = false
 is_quiet (report.Response tid packets) (Gets which) = false
-is_quiet report.Done (Fires (timer.Release own node socket tid)) = false
+is_quiet report.Expired (Fires (timer.Release own node socket tid)) = false
 is_quiet r act = true
 
 no_begin : (A : Type 0) (net number : ℕ) (act : Act A) (r : Report A) (key : Key) → is_quiet r act ≡ true
@@ -58,7 +58,7 @@ no_expiry : (A : Type 0) (net number : ℕ) (act : Act A) (r : Report A) (at : A
 no_expiry A net number (Calls call) r at key q = refl
 no_expiry A net number (Gets which) r at key q = refl
 no_expiry A net number (Fires (timer.Retry tid)) r at key q = refl
-no_expiry A net number (Fires (timer.Release own k' socket tid')) report.Done at key q = absurd (false≢true q)
+no_expiry A net number (Fires (timer.Release own k' socket tid')) report.Expired at key q = absurd (false≢true q)
 no_expiry A net number (Fires (timer.Release own k' socket tid')) r at key q = refl
 no_expiry A net number (Fires (timer.Lookup id)) r at key q = refl
 no_expiry A net number (Fires (timer.Resend id)) r at key q = refl
@@ -251,7 +251,7 @@ module _ (A : Type 0) (net number : ℕ) (table : Option (List (List ℕ))) (n :
       ≡ record { from = record { net = net; node = node; socket = socket }; tid = tid } →
       expiry_fault (find (is_key key) (n.responders place)) ≡ None
       → Matches {A = A} net number table n (Expires place key)
-      (Fires (timer.Release own node socket tid)) report.Done
+      (Fires (timer.Release own node socket tid)) report.Expired
   expires_match own node socket tid place key here its free = record {
     draws_it = λ x. refl;
     expires_it = λ at x. λ i. is_none (free i) && same_address (here i) at && same_key (its i) x;

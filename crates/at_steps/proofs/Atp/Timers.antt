@@ -71,7 +71,7 @@ reads_another reading tid r h is = turned (tid == r.tid) refl (ap (λ o. is_read
 abbrev pub expired_in : {A : Type 0} → AtpState → List Record → Bool → Bool → Key → Option AtpFault → Outcome A AtpState
 expired_in a rs x y key (Some fault) = idle a (refused_as (number_of fault))
 expired_in a rs x y key None = record {
-  report = report.Done;
+  report = report.Expired;
   state = cond x (record a { service_responder = without_first (is_key key) rs })
       (cond y (record a { zone_responder = without_first (is_key key) rs }) a);
   out = [];
@@ -172,7 +172,7 @@ module _ (A : Type 0) (history : List Happening) (n : NodeState) (st : Stands A 
       → expiry_fault (find (is_key (record { from = at_socket n.seat node socket; tid = tid })) rs) ≡ None →
       Matches {A = A} n.seat.net n.seat.number n.atp.table (after A history)
       (Expires at (record { from = at_socket n.seat node socket; tid = tid }))
-      (Fires (timer.Release own node socket tid)) report.Done
+      (Fires (timer.Release own node socket tid)) report.Expired
   expiry_matches at rs here is free =
       expires_match A n.seat.net n.seat.number n.atp.table (after A history) own node socket tid at
       (record { from = at_socket n.seat node socket; tid = tid }) here refl
@@ -190,7 +190,7 @@ module _ (A : Type 0) (history : List Happening) (n : NodeState) (st : Stands A 
       service_happens A history n (Fires (timer.Release own node socket tid)) st
       (Expires (serving n.seat.net n.seat.number) (record { from = at_socket n.seat node socket; tid = tid }))
       (without_first (is_key (record { from = at_socket n.seat node socket; tid = tid })) n.atp.service_responder)
-      [] report.Done tt tt
+      [] report.Expired tt tt
       (expired_is (serving n.seat.net n.seat.number) n.atp.service_responder st.service is) refl
       (expiry_matches (serving n.seat.net n.seat.number) n.atp.service_responder
       (ap (at_socket n.seat n.seat.number) (sym (eqb-true own 129 ex))) st.service is)
@@ -199,7 +199,7 @@ module _ (A : Type 0) (history : List Happening) (n : NodeState) (st : Stands A 
       zones_happen A history n (Fires (timer.Release own node socket tid)) st
       (Expires (zones_at n.seat.net n.seat.number) (record { from = at_socket n.seat node socket; tid = tid }))
       (without_first (is_key (record { from = at_socket n.seat node socket; tid = tid })) n.atp.zone_responder) []
-      report.Done tt tt
+      report.Expired tt tt
       (expired_is (zones_at n.seat.net n.seat.number) n.atp.zone_responder st.zones is) refl
       (expiry_matches (zones_at n.seat.net n.seat.number) n.atp.zone_responder
       (ap (at_socket n.seat n.seat.number) (sym (eqb-true own 6 ey))) st.zones is)

@@ -257,7 +257,7 @@ module _ (A : Type 0) (laws : CallLaws A) (setting : Setting) (history : List Ha
       let h = laws.unregisters (after setting history) (names_of n.seat.net n.seat.number) n.names object kind lawful in
       let i = h.is in
       let b = i.becomes in (
-        moved A setting history n st (Calls (Unregister object kind)) report.Done
+        moved A setting history n st (Calls (Unregister object kind)) report.Unregistered
             (without_name n.names object kind) Stays [] h (λ now is. is),
         Unregisters (record {
           object = object;

@@ -5,14 +5,14 @@ use Rattle.std.proofs.lemmas.Bool.{true≢false}
 use Rattle.at_ddp.specs.Datagram.{Content as Datagram, BeginsWith, canonical}
 use Rattle.at_ddp.specs.declared.address.Address.{Address}
 use Rattle.at_ddp.specs.Protocols.{atp_kind, nbp_kind, adsp_kind}
-use Rattle.at_event.specs.Kinds.{Kind, Adsp, Atp, Nbp, Nobody, Session, kind_of_call, kind_of_timer}
+use Rattle.at_event.specs.Kinds.{Kind, Adsp, Atp, Nbp, Nobody, Session, kind_of_call, kind_of_timer, reporter_of}
 use Rattle.at_event.specs.Outcomes.{Outcome}
 use Rattle.at_event.specs.declared.event.Call.{Call}
 use Rattle.at_event.specs.declared.event.Timer.{Timer}
 use Rattle.at_event.specs.declared.service.Reply.{Reply}
 use Rattle.at_node.specs.Hearing.{Hears}
 use Rattle.at_node.specs.Nodes.{NodeState, called, timed}
-use Rattle.at_steps.specs.Acts.{Act, Calls, Fires, Gets, is_nbp, owner_of}
+use Rattle.at_steps.specs.Acts.{Act, Calls, Fires, Gets, is_nbp}
 use Rattle.at_steps.specs.NameHappenings.{IsForeign}
 use Rattle.at_steps.proofs.Outcomes.{Comes, IsNobodys, call_comes, datagram_comes, others_sent, timer_comes}
 use Rattle.at_steps.proofs.AtpOutcomes.{IsOfAtp}
@@ -45,22 +45,22 @@ foreign : (A : Type 0) (n : NodeState) (act : Act A) (o : Outcome A NodeState) (
 foreign A n act o Atp apart h = subst (IsForeign n act) (sym h.is) (record {
   same = refl;
   sends = others_sent atp_kind nbp_kind refl h.part.out h.its.0;
-  reports = apart_atp (owner_of act h.part.report) h.its.1;
+  reports = apart_atp (reporter_of h.part.report) h.its.1;
 })
 foreign A n act o Adsp apart h = subst (IsForeign n act) (sym h.is) (record {
   same = refl;
   sends = others_sent adsp_kind nbp_kind refl h.part.out h.its.sends;
-  reports = apart_adsp (owner_of act h.part.report) h.its.reports;
+  reports = apart_adsp (reporter_of h.part.report) h.its.reports;
 })
 foreign A n act o Nobody apart h = subst (IsForeign n act) (sym h.is) (record {
   same = refl;
   sends = tt;
-  reports = apart_nobody (owner_of act h.report) h.its;
+  reports = apart_nobody (reporter_of h.report) h.its;
 })
 foreign A n act o Session apart h = subst (IsForeign n act) (sym h.is) (record {
   same = refl;
   sends = tt;
-  reports = apart_nobody (owner_of act h.report) h.its;
+  reports = apart_nobody (reporter_of h.report) h.its;
 })
 foreign A n act o Nbp apart h = absurd (true≢false apart)
 

@@ -1,34 +1,27 @@
 -- A step of another protocol leaves names and lookups as they were.
-use Rattle.std.proofs.Common.{◌≡◌, ℕ, Bool, true, false, cond, List, [], ◌∷◌, None, refl, sym, ap, subst, ◌∙◌}
-use Rattle.std.specs.Prelude.{◌==◌, length, replicate}
-use Rattle.std.specs.List.{AllByRecursion}
+use Rattle.std.proofs.Common.{◌≡◌, ℕ, false, List, None, refl, sym, ap, subst, ◌∙◌}
+use Rattle.std.specs.Prelude.{length, replicate}
 use Rattle.std.proofs.lemmas.Bool.{true≢false}
-use Rattle.at_ddp.specs.Address.{same_address}
 use Rattle.at_ddp.specs.declared.address.Address.{Address}
-use Rattle.at_ddp.proofs.Octets.{same_address-true}
-use Rattle.at_ddp.specs.Posts.{put}
 use Rattle.at_ddp.proofs.PostLemmas.{put_itself}
-use Rattle.at_ddp.specs.Protocols.{nbp_kind}
 use Rattle.at_steps.proofs.Entries.{entries_foreign}
 use Rattle.at_nbp.specs.Network.{Begun, Happening, Other, Setting, after}
 use Rattle.at_name_socket.specs.NameSockets.{SocketState, names_of}
 use Rattle.at_name_socket.specs.Sockets.{IsSocket}
 use Rattle.at_node.specs.Numbers.{drawn_by}
 use Rattle.at_node.specs.Nodes.{NodeState}
-use Rattle.at_event.specs.Outcomes.{Outcome, Outgoing}
+use Rattle.at_event.specs.Kinds.{reporter_of}
+use Rattle.at_event.specs.Outcomes.{Outcome}
 use Rattle.at_event.specs.declared.event.Report.{Report}
 use Rattle.at_event.specs.declared.event.Report.TheVariants as report
-use Rattle.at_steps.specs.Acts.{Act, Calls, Fires, Gets, is_nbp, owner_of, Forges}
+use Rattle.at_steps.specs.Acts.{Act, is_nbp}
 use Rattle.at_steps.specs.NameHappenings.{BeginsBy, Happens, IsForeign, Stands, name_coding}
 
 -- the report of another protocol draws no identifier
-foreign_begins : (A : Type 0) (act : Act A) (r : Report A) (event : ℕ) (who : Address) (before : List Begun)
-    → is_nbp (owner_of act r) ≡ false → BeginsBy event who (drawn_by r) before before
-foreign_begins A (Calls call) (report.Looking id) event who before h = absurd (true≢false h)
-foreign_begins A (Gets which) (report.Looking id) event who before h = absurd (true≢false h)
-foreign_begins A Forges (report.Looking id) event who before h = absurd (true≢false h)
-foreign_begins A (Fires time) (report.Looking id) event who before h = absurd (true≢false h)
-foreign_begins A act r event who before h = refl
+foreign_begins : (A : Type 0) (r : Report A) (event : ℕ) (who : Address) (before : List Begun)
+    → is_nbp (reporter_of r) ≡ false → BeginsBy event who (drawn_by r) before before
+foreign_begins A (report.Looking id) event who before h = absurd (true≢false h)
+foreign_begins A r event who before h = refl
 
 pub foreign_passes : (A : Type 0) (setting : Setting) (history : List Happening) (n : NodeState) (act : Act A)
     → Stands setting history n.seat.net n.seat.number n → (o : Outcome A NodeState) → IsForeign n act o
@@ -49,7 +42,7 @@ foreign_passes A setting history n act st o foreign =
       more = replicate (length o.out) None;
       sent = refl;
       posts = entries_foreign name_coding (after setting history).event o.out foreign.sends;
-      begun = foreign_begins A act o.report (after setting history).event (names_of n.seat.net n.seat.number)
+      begun = foreign_begins A o.report (after setting history).event (names_of n.seat.net n.seat.number)
           (after setting history).begun foreign.reports;
       socket = subst IsSocket (sym foreign.same) st.socket;
       own = ap (λ (s : SocketState). s.table.own) foreign.same ∙ st.own;

@@ -246,7 +246,7 @@ module _ (A : Type 0) (changes : AllChange) (paired : AllPaired) (setting : Sett
   listening on =
       happens A setting history n st (Calls (Listen on)) (sockets.listen_called n.streams on)
       (Listens at on) tt tt here (inl refl) (becomes_listening old at n.streams on st.stands)
-      (plain_step A setting history n st paired (Calls (Listen on)) report.Done
+      (plain_step A setting history n st paired (Calls (Listen on)) report.ListenSet
       (streams (done setting old (Listens at on))) refl tt (changes setting history (Listens at on) st.timely))
 
   pub call_happens : (call : Call A) → IsCall call → is_adsp (kind_of_call call) ≡ true

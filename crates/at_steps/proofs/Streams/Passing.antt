@@ -1,40 +1,30 @@
 -- A step of another protocol leaves all streams as they were.
-use Rattle.std.proofs.Common.{◌≡◌, inr, ℕ, Bool, true, false, cond, List, [], ◌∷◌, ◌++◌, None, refl, sym, ap, ◌∙◌}
-use Rattle.std.specs.Prelude.{◌==◌, length, replicate}
-use Rattle.std.specs.List.{AllByRecursion}
+use Rattle.std.proofs.Common.{◌≡◌, inr, ℕ, false, List, [], ◌++◌, None, refl, sym, ap, ◌∙◌}
+use Rattle.std.specs.Prelude.{length, replicate}
 use Rattle.std.proofs.lemmas.Bool.{true≢false}
-use Rattle.at_ddp.specs.Address.{same_address}
 use Rattle.at_ddp.specs.declared.address.Address.{Address}
-use Rattle.at_ddp.proofs.Octets.{same_address-true}
 use Rattle.at_adsp.specs.Connections.{streams}
-use Rattle.at_ddp.specs.Posts.{put}
 use Rattle.at_ddp.proofs.PostLemmas.{put_itself}
-use Rattle.at_ddp.specs.Protocols.{adsp_kind}
 use Rattle.at_steps.proofs.Entries.{entries_foreign}
 use Rattle.at_adsp.specs.Network.{Happening, Other, Setting, after}
-use Rattle.at_event.specs.Outcomes.{Outcome, Outgoing}
+use Rattle.at_event.specs.Kinds.{reporter_of}
+use Rattle.at_event.specs.Outcomes.{Outcome}
 use Rattle.at_event.specs.declared.event.Report.{Report}
 use Rattle.at_event.specs.declared.event.Report.TheVariants as report
 use Rattle.at_node.specs.Numbers.{drawn_by}
 use Rattle.at_node.specs.Nodes.{NodeState}
 use Rattle.at_stream_socket.specs.Sockets.{streams_at}
-use Rattle.at_steps.specs.Acts.{Act, Calls, Fires, Gets, is_adsp, owner_of, Forges}
+use Rattle.at_steps.specs.Acts.{Act, is_adsp}
 use Rattle.at_steps.specs.StreamHappenings.{Drawn, IsForeign, Passes, Stands, identifiers, numbers_drawn, stream_coding}
 
 -- the report of another protocol draws no identifier
-foreign_draws : (A : Type 0) (act : Act A) (r : Report A) (event : ℕ) (who : Address) → is_adsp (owner_of act r)
-    ≡ false → numbers_drawn event who (drawn_by r) ≡ []
-foreign_draws A (Calls call) (report.Opening id) event who h = absurd (true≢false h)
-foreign_draws A (Gets which) (report.Opening id) event who h = absurd (true≢false h)
-foreign_draws A Forges (report.Opening id) event who h = absurd (true≢false h)
-foreign_draws A (Fires time) (report.Opening id) event who h = absurd (true≢false h)
-foreign_draws A (Calls call) (report.Made id) event who h = absurd (true≢false h)
-foreign_draws A (Gets which) (report.Made id) event who h = absurd (true≢false h)
-foreign_draws A Forges (report.Made id) event who h = absurd (true≢false h)
-foreign_draws A (Fires time) (report.Made id) event who h = absurd (true≢false h)
-foreign_draws A act (report.Begun tid) event who h = refl
-foreign_draws A act (report.Looking id) event who h = refl
-foreign_draws A act r event who h = refl
+foreign_draws : (A : Type 0) (r : Report A) (event : ℕ) (who : Address) → is_adsp (reporter_of r) ≡ false
+    → numbers_drawn event who (drawn_by r) ≡ []
+foreign_draws A (report.Opening id) event who h = absurd (true≢false h)
+foreign_draws A (report.Made id) event who h = absurd (true≢false h)
+foreign_draws A (report.Begun tid) event who h = refl
+foreign_draws A (report.Looking id) event who h = refl
+foreign_draws A r event who h = refl
 
 pub foreign_passes : (A : Type 0) (setting : Setting) (history : List Happening) (n : NodeState) (act : Act A)
     → Stands setting history n.seat.net n.seat.number n → (o : Outcome A NodeState) → IsForeign n act o
@@ -53,7 +43,7 @@ foreign_passes A setting history n act st o foreign = (
     sent = refl;
     posts = entries_foreign stream_coding (after setting history).event o.out foreign.sends;
     drawn = ap (λ (l : List Drawn). l ++ identifiers (streams (after setting history)))
-        (sym (foreign_draws A act o.report (after setting history).event
+        (sym (foreign_draws A o.report (after setting history).event
         (streams_at n.seat.net n.seat.number) foreign.reports));
   },
   refl,

@@ -8,7 +8,7 @@ use Rattle.at_node.specs.AtpParts.{asking, serving, zones_at}
 use Rattle.at_event.specs.Calls.{IsCall}
 use Rattle.at_node.specs.Numbers.{DrawsHearing, draw_of}
 use Rattle.at_node.specs.Hearing.{Hears}
-use Rattle.at_event.specs.Kinds.{Kind, Atp, kind_of_call, kind_of_timer}
+use Rattle.at_event.specs.Kinds.{Kind, Atp, kind_of_call, kind_of_timer, reporter_of}
 use Rattle.at_node.specs.Nodes.{NodeState, called, timed}
 use Rattle.at_event.specs.Outcomes.{Outcome}
 use Rattle.at_event.specs.Services.{is_asked}
@@ -22,7 +22,7 @@ use Rattle.at_steps.specs.Acts.{is_atp}
 use Rattle.at_steps.specs.AtpHappenings.{IsForeign, IsHappening, IsOn, Passes, ReadsAtLeastOnce, Stands}
 use Rattle.at_steps.specs.AtpSteps.{IsStep}
 use Rattle.at_world.specs.AtpGuards.{AtpMachine, StepBy, next}
-use Rattle.at_world.specs.Cables.{Cable, IsSaid, owner_of}
+use Rattle.at_world.specs.Cables.{Cable, IsSaid}
 use Rattle.at_world.specs.Events.{act_of, node_of}
 use Rattle.at_world.specs.Sents.{SentDatagram}
 use Rattle.at_world.specs.Worlds.{WorldState, DrawsFree, IsFree, node_at}
@@ -122,7 +122,7 @@ module _ (A : Type 0) (laws : Laws A) (w : WorldState) (c : Cable) (m : AtpMachi
             (done A (after A t.history) x.happening).asked refl
             (pass_becomes A laws w c m ct.wires e n o.state o.report t stands x.same_table
             (done A (after A t.history) x.happening).asked (same ∙ t.asked) foreign.same
-            (moment_passes A c m e o.report (owner_of e o.report) foreign.reports))
+            (moment_passes A c m e o.report (reporter_of o.report) foreign.reports))
 
   -- a number that is drawn is free in the network
   draws_free : (tid : ℕ) → IsFree w (node_of e) (Tid tid)

@@ -8,6 +8,7 @@ use Rattle.at_atp.specs.Transactions.{Transaction, is_transaction}
 use Rattle.at_zip.specs.Zones.{IsTable}
 use Rattle.at_node.specs.AtpParts.{Reading as ZoneReading, asking, zones_at}
 use Rattle.at_node.specs.Nodes.{NodeState}
+use Rattle.at_event.specs.Kinds.{reporter_of}
 use Rattle.at_event.specs.declared.event.Report.{Report}
 use Rattle.at_event.specs.declared.event.Report.TheVariants as report
 use Rattle.at_event.specs.declared.event.Timer.TheVariants as timer
@@ -15,7 +16,7 @@ use Rattle.at_steps.specs.Acts.{Act, Calls, Fires, Gets, Forges}
 use Rattle.at_steps.specs.AtpHappenings.{sets_table}
 use Rattle.at_steps.specs.AtpSteps.{is_plain}
 use Rattle.at_world.specs.AtpGuards.{AtpMachine, StepBy, next}
-use Rattle.at_world.specs.Cables.{Cable, IsSaid, owner_of}
+use Rattle.at_world.specs.Cables.{Cable, IsSaid}
 use Rattle.at_world.specs.Events.{act_of, node_of}
 use Rattle.at_world.specs.Worlds.{WorldState, node_at}
 use Rattle.at_setup.specs.declared.event.Event.{Event}
@@ -26,7 +27,7 @@ use Rattle.at_world.proofs.Atp.Tie.{Laws, Becomes, HasTable, IsReading, AtpTie, 
 
 -- the machine says this of an event, as a report that there is
 abbrev pub Allows : {A : Type 0} → Cable → AtpMachine → Event A → Report A → AtpMachine → Type 0
-Allows c m e r m' = IsSaid e r × StepBy c m e r m' (owner_of e r)
+Allows c m e r m' = IsSaid e r × StepBy c m e r m' (reporter_of r)
 
 pub so_at : (A : Type 0) (c : Cable) (m m' : AtpMachine) (e e' : Event A) (r r' : Report A) → e ≡ e' → r ≡ r'
     → Allows c m e' r' m' → Allows c m e r m'
@@ -50,7 +51,7 @@ plainly A c m (event.Deliver which node) report.Kept h = (tt, refl)
 plainly A c m (event.Deliver which node) report.Released h = (tt, refl)
 plainly A c m (event.Timer node time) report.Again h = (tt, refl)
 plainly A c m (event.Timer node time) (report.Failed tid) h = (tt, refl)
-plainly A c m (event.Timer node (timer.Release own k socket tid)) report.Done h = (tt, refl)
+plainly A c m (event.Timer node (timer.Release own k socket tid)) report.Expired h = (tt, refl)
 plainly A c m e r h = absurd (false≢true h)
 
 -- nor does it set a table

@@ -8,6 +8,7 @@ use Rattle.at_atp.specs.Transactions.{Transaction, transaction_of, answered}
 use Rattle.at_zip.specs.Request.{RequestSpells}
 use Rattle.at_node.specs.AtpParts.{AtpState, asking, zones_at}
 use Rattle.at_node.specs.Nodes.{NodeState}
+use Rattle.at_event.specs.Kinds.{reporter_of}
 use Rattle.at_event.specs.declared.event.Call.TheVariants.{SetZones, Ask, Answer}
 use Rattle.at_event.specs.declared.event.Report.{Report}
 use Rattle.at_event.specs.declared.event.Report.TheVariants as report
@@ -17,7 +18,7 @@ use Rattle.at_steps.specs.AtpSteps.{Change, ComesToReading, IsPlain, BeginsAskin
 use Rattle.at_steps.specs.AtpSteps.{GivesAnswer, ServesPage, HandsUp, Finishes, TurnsPage, EndsReading, FailsReading}
 use Rattle.at_steps.specs.AtpSteps.{IsStep, Tells, All, TooMany, Faulty, is_plain, page_answer, page_asked}
 use Rattle.at_world.specs.AtpGuards.{AtpMachine, StepBy, next}
-use Rattle.at_world.specs.Cables.{Cable, IsSaid, owner_of}
+use Rattle.at_world.specs.Cables.{Cable, IsSaid}
 use Rattle.at_world.specs.Events.{act_of, node_of}
 use Rattle.at_world.specs.Worlds.{WorldState, node_at}
 use Rattle.at_setup.specs.declared.event.Event.{Event}
@@ -198,7 +199,7 @@ module _ (A : Type 0) (laws : Laws A) (w : WorldState) (cable : Cable) (m : AtpM
 
   -- a step of another protocol
   pub pass_becomes : (ts : List Transaction) → ts ≡ m.asked → x.atp ≡ n.atp
-      → StepBy cable m e r (next m) (owner_of e r) → Becomes A cable m e x r ts
+      → StepBy cable m e r (next m) (reporter_of r) → Becomes A cable m e x r ts
   pass_becomes ts same part allows = subst (Becomes A cable m e x r) (sym same) (record {
     table = m.table;
     is_table = t.table;

@@ -1,11 +1,11 @@
 -- The machine's zone table after a step is the one that the event and its report say.
 use Rattle.std.proofs.Common.{◌≡◌, refl, ap}
-use Rattle.at_event.specs.Kinds.{Kind, Nobody, Session, Atp, Nbp, Adsp}
+use Rattle.at_event.specs.Kinds.{Kind, Nobody, Session, Atp, Nbp, Adsp, reporter_of}
 use Rattle.at_event.specs.declared.event.Call.TheVariants.{Zones, SetZones, Ask, Answer}
 use Rattle.at_event.specs.declared.event.Report.{Report}
 use Rattle.at_event.specs.declared.event.Report.TheVariants as report
 use Rattle.at_world.specs.AtpGuards.{AtpMachine, Says, StepBy}
-use Rattle.at_world.specs.Cables.{Cable, owner_of}
+use Rattle.at_world.specs.Cables.{Cable}
 use Rattle.at_world.specs.Stories.{table_by}
 use Rattle.at_setup.specs.declared.event.Event.{Event}
 use Rattle.at_setup.specs.declared.event.Event.TheVariants as event
@@ -33,22 +33,19 @@ says_table c m (event.Deliver which node) (report.Response tid packets) m' h = t
 says_table c m (event.Deliver which node) (report.Zones names) m' h = table_of h.becomes
 says_table c m (event.Deliver which node) report.Kept m' h = table_of h
 says_table c m (event.Deliver which node) report.Released m' h = table_of h
-says_table c m (event.Timer node timer) report.Done m' h = table_of h
+says_table c m (event.Timer node timer) report.Expired m' h = table_of h
 says_table c m (event.Timer node timer) (report.Failed tid) m' h = table_of h
 says_table c m (event.Timer node timer) report.ZonesFailed m' h = table_of h.becomes
 says_table c m e r m' h = absurd h
 
 -- a report that sets the table is of this part
 moment_table : {A : Type 0} (m : AtpMachine) (e : Event A) (r : Report A) (m' : AtpMachine) → m'.table ≡ m.table
-    → (owner_of e r ≡ Atp → ⊥) → IsTableBy m e r m'
-moment_table m (event.Call node call) report.TableSet m' same other = absurd (other refl)
-moment_table m (event.Deliver which node) report.TableSet m' same other = absurd (other refl)
-moment_table m (event.Timer node timer) report.TableSet m' same other = absurd (other refl)
-moment_table m (event.Forge node bytes) report.TableSet m' same other = absurd (other refl)
+    → (reporter_of r ≡ Atp → ⊥) → IsTableBy m e r m'
+moment_table m e report.TableSet m' same other = absurd (other refl)
 moment_table m e r m' same other = same
 
 pub table_follows : {A : Type 0} (c : Cable) (m : AtpMachine) (e : Event A) (r : Report A) (m' : AtpMachine)
-    (owner : Kind) → owner_of e r ≡ owner → StepBy c m e r m' owner → IsTableBy m e r m'
+    (owner : Kind) → reporter_of r ≡ owner → StepBy c m e r m' owner → IsTableBy m e r m'
 table_follows c m e r m' Atp its h = says_table c m e r m' h
 table_follows c m e r m' Nbp its h = moment_table m e r m' (table_of h) (λ is. cc)
 table_follows c m e r m' Adsp its h = moment_table m e r m' (table_of h) (λ is. cc)

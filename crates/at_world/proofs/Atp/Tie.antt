@@ -1,10 +1,9 @@
 -- What ties a world to what the machine knows of transactions and of the zone list, through a history of the network of
 -- its requesters and responders.
-use Rattle.std.proofs.Common.{◌≡◌, ℕ, ◌+◌, true, false, cond, List, [], ◌∷◌, ◌++◌, map, Option, Some, None, refl, sym}
+use Rattle.std.proofs.Common.{◌≡◌, ℕ, ◌+◌, true, false, List, ◌∷◌, ◌++◌, map, Option, Some, None, refl, sym}
 use Rattle.std.proofs.Common.{ap, subst, ◌∙◌}
 use Rattle.std.specs.Prelude.{◌==◌}
 use Rattle.std.specs.List.{AllByRecursion}
-use Rattle.at_ddp.specs.Address.{same_address}
 use Rattle.at_ddp.specs.Datagram.{canonical, IsAddress}
 use Rattle.at_ddp.specs.declared.address.Address.{Address}
 use Rattle.at_atp_frame.specs.Frames.{Content, IsLawful, spelled, owner, number_of}
@@ -20,9 +19,9 @@ use Rattle.at_event.specs.Calls.{IsCall}
 use Rattle.at_node.specs.Numbers.{Carries, drawn_by, holds}
 use Rattle.at_node.specs.AtpParts.{Reading as ZoneReading, asking, serving, zones_at}
 use Rattle.at_node.specs.Hearing.{Hears}
-use Rattle.at_event.specs.Kinds.{kind_of_call, kind_of_timer}
+use Rattle.at_event.specs.Kinds.{kind_of_call, kind_of_timer, reporter_of}
 use Rattle.at_node.specs.Nodes.{NodeState, called, timed}
-use Rattle.at_event.specs.Outcomes.{Outcome, Outgoing, posted}
+use Rattle.at_event.specs.Outcomes.{Outcome, posted}
 use Rattle.at_event.specs.Services.{is_asked}
 use Rattle.at_node.specs.declared.numbers.Draw.{Draw}
 use Rattle.at_node.specs.declared.numbers.Draw.TheVariants.{Tid}
@@ -39,7 +38,7 @@ use Rattle.at_steps.specs.AtpHappenings.{Happens, HoldsNo, IsForeign, IsHappenin
 use Rattle.at_steps.specs.AtpHappenings.{numbers_drawn, atp_coding}
 use Rattle.at_world.specs.Draws.{noted as noted_in}
 use Rattle.at_world.specs.AtpGuards.{AtpMachine, Reading, StepBy, since_of, next}
-use Rattle.at_world.specs.Cables.{Cable, owner_of}
+use Rattle.at_world.specs.Cables.{Cable}
 use Rattle.at_world.specs.Events.{act_of, node_of}
 use Rattle.at_world.specs.Stories.{Grows, Matches}
 use Rattle.at_world.specs.Worlds.{WorldState, node_at, recorded}
@@ -126,7 +125,7 @@ pub record Becomes (A : Type 0) (c : Cable) (m : AtpMachine) (e : Event A) (x : 
   pub table : List (List ℕ)
   pub is_table : IsTable table
   pub readings : List Reading
-  pub allows : StepBy c m e r (moved m table asked readings) (owner_of e r)
+  pub allows : StepBy c m e r (moved m table asked readings) (reporter_of r)
   pub here : HasTable c table (node_of e) x
   pub elsewhere : (j : ℕ) (y : NodeState) → (node_of e == j) ≡ false → HasTable c m.table j y → HasTable c table j y
   pub reading : IsReading c (moved m table asked readings) (node_of e) x.atp.reading
@@ -178,7 +177,7 @@ with_table A net number its table n h act r same m =
 abbrev pub Good : (A : Type 0) (w : WorldState) (c : Cable) (m : AtpMachine) (wires : List Wire) → AtpTie A w c wires m
     → Event A → Outcome A NodeState → Type 0
 Good A w c m wires t e o =
-    (m' : AtpMachine) × StepBy c m e o.report m' (owner_of e o.report)
+    (m' : AtpMachine) × StepBy c m e o.report m' (reporter_of o.report)
     × (now : AtpTie A (recorded w (node_of e) o.report o.state (map posted o.out)) c
     (wires ++ map (wire w.events) o.out) m') × Grown A c m.table t.history now.history e o.report
 

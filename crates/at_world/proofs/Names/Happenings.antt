@@ -5,7 +5,7 @@ use Rattle.at_name_socket.specs.Sockets.{Stays, open_at}
 use Rattle.at_event.specs.Calls.{IsCall}
 use Rattle.at_node.specs.Numbers.{drawn_by}
 use Rattle.at_node.specs.Hearing.{Hears}
-use Rattle.at_event.specs.Kinds.{Kind, Nbp, kind_of_call, kind_of_timer}
+use Rattle.at_event.specs.Kinds.{Kind, Nbp, kind_of_call, kind_of_timer, reporter_of}
 use Rattle.at_node.specs.Nodes.{NodeState, called, timed}
 use Rattle.at_event.specs.Outcomes.{Outcome}
 use Rattle.at_event.specs.declared.event.Call.{Call}
@@ -13,10 +13,9 @@ use Rattle.at_event.specs.declared.event.Report.{Report}
 use Rattle.at_event.specs.declared.event.Report.TheVariants as report
 use Rattle.at_event.specs.declared.event.Timer.{Timer}
 use Rattle.at_event.specs.declared.service.Reply.{Reply}
-use Rattle.at_steps.specs.Acts.{Act, Calls, Fires, Gets, is_nbp, Forges}
-use Rattle.at_steps.specs.Acts as acts
+use Rattle.at_steps.specs.Acts.{is_nbp}
 use Rattle.at_steps.specs.NameHappenings.{Happens, IsForeign, IsHappening, Stands}
-use Rattle.at_world.specs.Cables.{Cable, owner_of}
+use Rattle.at_world.specs.Cables.{Cable}
 use Rattle.at_world.specs.Events.{act_of, node_of}
 use Rattle.at_world.specs.NameGuards.{NameMachine, StepBy, next}
 use Rattle.at_world.specs.Sents.{SentDatagram}
@@ -38,14 +37,10 @@ moment_passes A ss m e r Nbp h = absurd (cc)
 moment_passes A ss m e r other h = refl
 
 -- such a report draws no identifier
-draws_none : (A : Type 0) (act : Act A) (r : Report A) → is_nbp (acts.owner_of act r) ≡ false
-    → IsDrawn Stays (drawn_by r)
-draws_none A (Calls call) (report.Looking id) h = absurd (cc)
-draws_none A (Fires time) (report.Looking id) h = absurd (cc)
-draws_none A (Gets which) (report.Looking id) h = absurd (cc)
-draws_none A Forges (report.Looking id) h = absurd (cc)
-draws_none A act (report.Begun tid) h = tt
-draws_none A act r h = tt
+draws_none : (A : Type 0) (r : Report A) → is_nbp (reporter_of r) ≡ false → IsDrawn Stays (drawn_by r)
+draws_none A (report.Looking id) h = absurd (cc)
+draws_none A (report.Begun tid) h = tt
+draws_none A r h = tt
 
 module _ (A : Type 0) (laws : NameLaws A) (w : WorldState) (c : Cable) (ss : Sessions) (m : NameMachine)
     (ct : CableTie w c) (st : SessionTie w c ss) (t : NameTie w c ct.wires m) (e : Event A) (n : NodeState)
@@ -102,11 +97,11 @@ module _ (A : Type 0) (laws : NameLaws A) (w : WorldState) (c : Cable) (ss : Ses
         good_next A w c ss ct.wires m e n o t stands h number (record {
           names = m.names;
           change = Stays;
-          allows = moment_passes A ss m e o.report (owner_of e o.report) foreign.reports;
+          allows = moment_passes A ss m e o.report (reporter_of o.report) foreign.reports;
           tables = same_names A laws w c ss m ct.wires e n o.state o.report t stands
               (let told = told_there in told.same) (λ i. (foreign.same i).table);
           opened = λ id i. open_at (foreign.same i) id;
-          drawn = draws_none A (act_of e) o.report foreign.reports;
+          drawn = draws_none A o.report foreign.reports;
         })
 
 -- ---- each event

@@ -311,7 +311,7 @@ module _ (A : Type 0) (laws : NameLaws A) (w : WorldState) (c : Cable) (ss : Ses
         names = named.names;
         change = Stays;
         allows = so_at A ss m (moved m named.names (node_of e) Stays) e
-            (event.Call (node_of e) (Unregister s.object s.kind)) r report.Done
+            (event.Call (node_of e) (Unregister s.object s.kind)) r report.Unregistered
             (called_at e (Unregister s.object s.kind) s.act) s.report
             (record {
               name = s.name;
@@ -321,7 +321,7 @@ module _ (A : Type 0) (laws : NameLaws A) (w : WorldState) (c : Cable) (ss : Ses
         tables = λ k. ap (λ (y : Table). cond (node_of e == k) y (m.names k))
             (sym (s.table ∙ ap (without s.object s.kind) own_names));
         opened = s.lookups;
-        drawn = draws_none Stays report.Done s.report tt;
+        drawn = draws_none Stays report.Unregistered s.report tt;
       }
 
   pub step_becomes : IsStep its_change → Steps

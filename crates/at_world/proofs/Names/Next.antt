@@ -5,9 +5,8 @@ use Rattle.std.specs.Prelude.{◌==◌, ◌&&◌}
 use Rattle.std.proofs.lemmas.Bool.{true≢false, eq-eqb, lt-ltb}
 use Rattle.at_ddp.specs.Address.{same_address}
 use Rattle.at_ddp.specs.declared.address.Address.{Address}
-use Rattle.at_ddp.proofs.Octets.{same_address-true, same_address_itself}
+use Rattle.at_ddp.proofs.Octets.{same_address-true}
 use Rattle.at_nbp.specs.NameTables.{Table}
-use Rattle.at_ddp.specs.Posts.{put}
 use Rattle.at_ddp.proofs.PostLemmas.{put_here}
 use Rattle.at_world.proofs.Entries.{Entries, entries_both, entries_of}
 use Rattle.at_nbp.specs.Network.{after, done}
@@ -15,9 +14,10 @@ use Rattle.at_name_socket.specs.NameSockets.{names_of}
 use Rattle.at_name_socket.specs.Sockets.{open_at}
 use Rattle.at_node.specs.Numbers.{drawn_by}
 use Rattle.at_node.specs.Nodes.{NodeState}
+use Rattle.at_event.specs.Kinds.{reporter_of}
 use Rattle.at_event.specs.Outcomes.{Outcome, posted}
 use Rattle.at_steps.specs.NameHappenings.{Happens, is_names_socket, name_coding}
-use Rattle.at_world.specs.Cables.{Cable, owner_of}
+use Rattle.at_world.specs.Cables.{Cable}
 use Rattle.at_world.specs.Events.{act_of, node_of}
 use Rattle.at_world.specs.NameGuards.{NameMachine, StepBy}
 use Rattle.at_world.specs.SessionGuards.{Sessions}
@@ -32,7 +32,7 @@ use Rattle.at_world.proofs.Names.Times.{all_noted_then}
 -- the machine follows this outcome of a node's step
 abbrev pub Good : (A : Type 0) (w : WorldState) (c : Cable) (ss : Sessions) (m : NameMachine) (wires : List Wire)
     → Event A → Outcome A NodeState → Type 0
-Good A w c ss m wires e o = (m' : NameMachine) × StepBy ss m e o.report m' (owner_of e o.report)
+Good A w c ss m wires e o = (m' : NameMachine) × StepBy ss m e o.report m' (reporter_of o.report)
     × NameTie (recorded w (node_of e) o.report o.state (map posted o.out)) c (wires ++ map (wire w.events) o.out) m'
 
 module _ (A : Type 0) (w : WorldState) (c : Cable) (ss : Sessions) (wires : List Wire) (m : NameMachine) (e : Event A)

@@ -1,16 +1,16 @@
 -- What each kind of step of a node is in the machine.
-use Rattle.std.proofs.Common.{◌≡◌, true, false}
+use Rattle.std.proofs.Common.{◌≡◌, true}
 use Rattle.std.proofs.Common.{refl, sym, subst}
 use Rattle.std.proofs.lemmas.Bool.{false≢true}
 use Rattle.at_name_socket.specs.Sockets.{Stays}
 use Rattle.at_node.specs.Numbers.{drawn_by}
+use Rattle.at_event.specs.Kinds.{reporter_of}
 use Rattle.at_event.specs.declared.event.Report.{Report}
 use Rattle.at_event.specs.declared.event.Report.TheVariants as report
 use Rattle.at_event.specs.declared.event.Timer.TheVariants as timer
 use Rattle.at_steps.specs.NameSteps.{is_plain}
-use Rattle.at_world.specs.Cables.{owner_of}
 use Rattle.at_world.specs.Events.{act_of}
-use Rattle.at_world.specs.NameGuards.{Finds, Lookup, NameMachine, StepBy, next}
+use Rattle.at_world.specs.NameGuards.{NameMachine, StepBy, next}
 use Rattle.at_world.specs.SessionGuards.{Sessions}
 use Rattle.at_setup.specs.declared.event.Event.{Event}
 use Rattle.at_setup.specs.declared.event.Event.TheVariants as event
@@ -18,7 +18,7 @@ use Rattle.at_world.proofs.Names.Lookups.{IsDrawn}
 
 -- the machine says this of an event
 abbrev pub Allows : {A : Type 0} → Sessions → NameMachine → Event A → Report A → NameMachine → Type 0
-Allows ss m e r m' = StepBy ss m e r m' (owner_of e r)
+Allows ss m e r m' = StepBy ss m e r m' (reporter_of r)
 
 pub so_at : (A : Type 0) (ss : Sessions) (m m' : NameMachine) (e e' : Event A) (r r' : Report A) → e ≡ e' → r ≡ r'
     → Allows ss m e' r' m' → Allows ss m e r m'

@@ -1,7 +1,6 @@
 -- What ties a world to what the machine knows of names and lookups, through a history of the network of its sockets for
 -- names.
-use Rattle.std.proofs.Common.{◌≡◌, ℕ, ◌<◌, true, false, cond, List, [], ◌∷◌, ◌++◌, length, map, Option, Some, None, sym}
-use Rattle.std.proofs.Common.{ap, ◌∙◌}
+use Rattle.std.proofs.Common.{◌≡◌, ℕ, ◌<◌, true, false, cond, List, [], length, Option, Some}
 use Rattle.std.specs.Prelude.{IfSome, ◌==◌}
 use Rattle.std.specs.List.{AllByRecursion}
 use Rattle.at_ddp.specs.Datagram.{canonical}
@@ -23,9 +22,9 @@ use Rattle.at_name_socket.specs.declared.neighbour.Neighbour.{Neighbour}
 use Rattle.at_event.specs.Calls.{IsCall}
 use Rattle.at_node.specs.Numbers.{Carries, drawn_by}
 use Rattle.at_node.specs.Hearing.{Hears}
-use Rattle.at_event.specs.Kinds.{kind_of_call, kind_of_timer}
+use Rattle.at_event.specs.Kinds.{kind_of_call, kind_of_timer, reporter_of}
 use Rattle.at_node.specs.Nodes.{NodeState, called, timed}
-use Rattle.at_event.specs.Outcomes.{Outcome, Outgoing}
+use Rattle.at_event.specs.Outcomes.{Outcome}
 use Rattle.at_node.specs.declared.numbers.Draw.TheVariants.{Lookup as Identifier}
 use Rattle.at_event.specs.declared.event.Call.{Call}
 use Rattle.at_event.specs.declared.event.Report.{Report}
@@ -33,13 +32,13 @@ use Rattle.at_event.specs.declared.event.Timer.{Timer}
 use Rattle.at_event.specs.declared.service.Reply.{Reply}
 use Rattle.at_steps.specs.Acts.{Act, Calls, Fires, Gets, is_nbp}
 use Rattle.at_steps.specs.NameHappenings.{Happens, IsForeign, IsHappening, Stands, is_names_socket, name_coding}
-use Rattle.at_world.specs.Cables.{Cable, owner_of}
+use Rattle.at_world.specs.Cables.{Cable}
 use Rattle.at_world.specs.Events.{node_of}
 use Rattle.at_world.specs.NameGuards.{Directory, NameMachine, StepBy, next}
 use Rattle.at_world.specs.SessionGuards.{Sessions}
 use Rattle.at_world.specs.Worlds.{WorldState, node_at}
 use Rattle.at_setup.specs.declared.event.Event.{Event}
-use Rattle.at_world.proofs.CableTie.{Wire, wire}
+use Rattle.at_world.proofs.CableTie.{Wire}
 use Rattle.at_world.proofs.Names.Lookups.{IsDrawn, Known, lookups_after}
 use Rattle.at_world.proofs.Names.Moments.{Past}
 use Rattle.at_world.proofs.Names.Times.{IsNoted}
@@ -120,7 +119,7 @@ pub record Becomes (A : Type 0) (ss : Sessions) (m : NameMachine) (e : Event A) 
     (r : Report A) : Type 0 where
   pub names : Directory
   pub change : Change
-  pub allows : StepBy ss m e r (moved m names (node_of e) change) (owner_of e r)
+  pub allows : StepBy ss m e r (moved m names (node_of e) change) (reporter_of r)
   pub tables : (k : ℕ) → names k ≡ cond (node_of e == k) x.names.table (m.names k)
   pub opened : (id : ℕ) → open_at x.names id ≡ changed change (open_at n.names) id
   pub drawn : IsDrawn change (drawn_by r)

@@ -3,7 +3,7 @@ use Rattle.std.proofs.Common.{◌≡◌, inl, inr, ℕ, Bool, true, false, ◌�
 use Rattle.at_adsp.specs.Connections.{streams}
 use Rattle.at_adsp.specs.Network.{Reads, after, done}
 use Rattle.at_event.specs.Calls.{IsCall}
-use Rattle.at_event.specs.Kinds.{Kind, Adsp, kind_of_call, kind_of_timer}
+use Rattle.at_event.specs.Kinds.{Kind, Adsp, kind_of_call, kind_of_timer, reporter_of}
 use Rattle.at_event.specs.Outcomes.{Outcome}
 use Rattle.at_event.specs.declared.event.Call.{Call}
 use Rattle.at_event.specs.declared.event.Call.TheVariants.{Read}
@@ -20,7 +20,7 @@ use Rattle.at_node.specs.Nodes.{NodeState, called, timed}
 use Rattle.at_node.specs.declared.numbers.Draw.TheVariants.{Conn}
 use Rattle.at_steps.specs.Acts.{is_adsp}
 use Rattle.at_steps.specs.StreamHappenings.{IsForeign, IsHappening, Passes, Stands}
-use Rattle.at_world.specs.Cables.{Cable, owner_of}
+use Rattle.at_world.specs.Cables.{Cable}
 use Rattle.at_world.specs.Events.{act_of, node_of}
 use Rattle.at_world.specs.Sents.{SentDatagram}
 use Rattle.at_world.specs.StreamGuards.{StepBy, StreamMachine, next}
@@ -107,8 +107,8 @@ module _ (A : Type 0) (laws : StreamLaws A) (w : WorldState) (c : Cable) (ss : S
             let becomes : moved m (streams (done t.setting (after t.setting t.history) x.happening))
             ≡ next m = ap (moved m) (same ∙ sym t.streams_are) in
             good_next A w c ss ct.wires m e n o t stands x number
-            (subst (λ y. StepBy c ss m e o.report y (owner_of e o.report)) (sym becomes)
-            (nothing_changes A c ss m e o.report (owner_of e o.report) foreign.reports))
+            (subst (λ y. StepBy c ss m e o.report y (reporter_of o.report)) (sym becomes)
+            (nothing_changes A c ss m e o.report (reporter_of o.report) foreign.reports))
 
 -- ---- each event
 

@@ -6,20 +6,20 @@ use Rattle.std.proofs.lemmas.Bool.{true≢false, eqb-true, eq-eqb}
 use Rattle.at_ddp.specs.Address.{same_address}
 use Rattle.at_ddp.specs.Tables.{replaced}
 use Rattle.at_ddp.specs.declared.address.Address.{Address}
-use Rattle.at_ddp.proofs.Octets.{same_address-true, same_address_itself}
+use Rattle.at_ddp.proofs.Octets.{same_address-true}
 use Rattle.at_adsp_ends.specs.Tables.{EndTable}
 use Rattle.at_adsp.specs.Connections.{streams}
-use Rattle.at_ddp.specs.Posts.{put}
 use Rattle.at_ddp.proofs.PostLemmas.{put_here}
 use Rattle.at_world.proofs.Entries.{Entries, entries_both, entries_of}
 use Rattle.at_adsp.specs.Network.{after, done}
 use Rattle.at_adsp.specs.Streams.{Stream}
+use Rattle.at_event.specs.Kinds.{reporter_of}
 use Rattle.at_event.specs.Outcomes.{Outcome, posted}
 use Rattle.at_node.specs.Numbers.{drawn_by}
 use Rattle.at_node.specs.Nodes.{NodeState}
 use Rattle.at_steps.specs.StreamHappenings.{Happens, identifiers, stream_coding}
 use Rattle.at_stream_socket.specs.Sockets.{streams_at}
-use Rattle.at_world.specs.Cables.{Cable, owner_of}
+use Rattle.at_world.specs.Cables.{Cable}
 use Rattle.at_world.specs.Events.{act_of, node_of}
 use Rattle.at_world.specs.StreamGuards.{StepBy, StreamMachine, next}
 use Rattle.at_world.specs.SessionGuards.{Sessions}
@@ -38,7 +38,7 @@ moved m ss = next (record m { streams = ss })
 -- the machine follows this outcome of a node's step
 abbrev pub Good : (A : Type 0) (w : WorldState) (c : Cable) (ss : Sessions) (m : StreamMachine) (wires : List Wire)
     → Event A → Outcome A NodeState → Type 0
-Good A w c ss m wires e o = (m' : StreamMachine) × StepBy c ss m e o.report m' (owner_of e o.report)
+Good A w c ss m wires e o = (m' : StreamMachine) × StepBy c ss m e o.report m' (reporter_of o.report)
     × StreamTie (recorded w (node_of e) o.report o.state (map posted o.out)) c (wires ++ map (wire w.events) o.out) m'
 
 -- the sockets of two nodes are apart as the nodes are
@@ -64,7 +64,7 @@ module _ (A : Type 0) (w : WorldState) (c : Cable) (ss : Sessions) (wires : List
     (stands : node_at w (node_of e) ≡ Some n)
     (h : Happens t.setting t.history c.net (node_of e) n (act_of e) o) (number : o.state.seat.number ≡ node_of e)
     (allows : StepBy c ss m e o.report (moved m (streams (done t.setting (after t.setting t.history) h.happening)))
-    (owner_of e o.report)) where
+    (reporter_of o.report)) where
   its : HasEnds c.net t.setting t.history (node_of e) n
   its = t.ends (node_of e) n stands
 

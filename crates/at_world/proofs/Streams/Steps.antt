@@ -23,6 +23,7 @@ use Rattle.at_adsp_end.specs.Positions.{Numbers}
 use Rattle.at_adsp_ends.specs.Calls.{read_at}
 use Rattle.at_adsp_ends.specs.Tables as ends
 use Rattle.at_adsp_ends.specs.Tables.{Done, EndTable, by_id}
+use Rattle.at_event.specs.Kinds.{reporter_of}
 use Rattle.at_event.specs.Outcomes.{Outcome}
 use Rattle.at_event.specs.declared.event.Call.TheVariants.{Close, Connect, Listen, Open, Read, Reset, Write}
 use Rattle.at_event.specs.declared.event.Report.{Report}
@@ -35,7 +36,7 @@ use Rattle.at_steps.specs.StreamSteps.{IsStep, asked_by, is_plain}
 use Rattle.at_stream_socket.specs.Sockets.{streams_at}
 use Rattle.at_session.specs.Sessions.{SessionState}
 use Rattle.at_world.specs.SessionGuards.{Sessions}
-use Rattle.at_world.specs.Cables.{Cable, at_net, owner_of}
+use Rattle.at_world.specs.Cables.{Cable, at_net}
 use Rattle.at_world.specs.Events.{act_of, node_of}
 use Rattle.at_world.specs.StreamGuards.{Does, MakesEnd, StepBy, StreamMachine, next}
 use Rattle.at_world.specs.Worlds.{WorldState, is_over}
@@ -48,7 +49,7 @@ use Rattle.at_world.proofs.Streams.Tie.{StreamLaws, StreamTie}
 
 -- the machine says this of an event
 abbrev pub Allows : {A : Type 0} → Cable → Sessions → StreamMachine → Event A → Report A → StreamMachine → Type 0
-Allows c ss m e r m' = StepBy c ss m e r m' (owner_of e r)
+Allows c ss m e r m' = StepBy c ss m e r m' (reporter_of r)
 
 so_at : (A : Type 0) (c : Cable) (ss : Sessions) (m m' : StreamMachine) (e e' : Event A) (r r' : Report A) → e ≡ e' → r
     ≡ r' → Allows c ss m e' r' m' → Allows c ss m e r m'
@@ -66,7 +67,7 @@ plainly A c ss m (event.Timer node time) (report.Refused number) h = refl
 plainly A c ss m (event.Timer node time) report.NoMemory h = refl
 plainly A c ss m (event.Forge node bytes) (report.Refused number) h = refl
 plainly A c ss m (event.Forge node bytes) report.NoMemory h = refl
-plainly A c ss m (event.Call node (Listen on)) report.Done h = refl
+plainly A c ss m (event.Call node (Listen on)) report.ListenSet h = refl
 plainly A c ss m (event.Call node (Close id)) (report.Closed it) h = refl
 plainly A c ss m (event.Call node (Close id)) (report.Freed it) h = refl
 plainly A c ss m (event.Timer node (timer.Resend id)) report.Idle h = refl

@@ -1,0 +1,29 @@
+use Rattle.std.proofs.Common.{◌≡◌, ap, sym, ◌∙◌}
+use Rattle.at_adsp_end.specs.Positions.{wire}
+use Rattle.at_adsp_ends.specs.Calls.{closed_at}
+use Rattle.at_adsp_ends.specs.Tables.{by_id}
+use Rattle.at_stream_socket.specs.Sockets.{told_by}
+use Rattle.at_stream_socket.proofs.CallLemmas.{IsBox, call_step, reported, told_some, told_takes}
+use Rattle.at_stream_socket.proofs.socket.StreamSocket.close.Goals as goal
+use Rattle.at_stream_socket.proofs.socket.StreamSocket.close.Goals.{in-Ok, in-Err}
+
+pub returns : goal.returns
+returns g c =
+    let box : IsBox c.args.seat c.outbox_over-outbox.result c.close-closed.new.out c.args.out.now.items
+    c.into_list.result.items =
+    record {
+      items = c.outbox_over-outbox.ensures.items;
+      from = c.outbox_over-outbox.ensures.from;
+      kind = c.outbox_over-outbox.ensures.kind;
+      back = c.into_list.ensures.items;
+    } in
+    let same : c.match-closed.result ≡ reported (told_by {A = g.row.A.Denot}) c.close-closed.result =
+    elim c.match-closed.branch [
+      | in-Ok w ↦ w.result-is ∙ w.told_by.ensures.report ∙ ap (reported (told_by {A = g.row.A.Denot})) (sym w.in-Ok.is)
+      | in-Err w ↦ w.result-is ∙ w.refused_by.ensures ∙ ap (reported (told_by {A = g.row.A.Denot})) (sym w.in-Err.is)
+    ] in
+    rw (same, ← c.self.view_is)
+    (call_step c.args.seat c.self.inside.ends c.close-closed.new.self told_by
+    (closed_at wire c.self.inside.ends (by_id c.self.inside.ends c.args.id)) c.close-closed.result
+    c.outbox_over-outbox.result c.close-closed.new.out c.args.out.now.items c.into_list.result.items
+    (told_some g.row.A.Denot) (told_takes g.row.A.Denot) box c.close-closed.ensures.call)
