@@ -35,8 +35,7 @@ pub enum Call<A: Allocator = Global> {
         /// How often the request may be sent again, 0 to 255 times.
         retries: u8,
     },
-    /// Answers a request that was delivered to the service: who asked, under which number, and the answer. An answer
-    /// has 1 to 8 packets with at most 578 bytes of data each.
+    /// Answers a request that was delivered to the service, by 1 to 8 packets with at most 578 bytes of data each.
     Answer {
         node: u8,
         socket: u8,
@@ -60,9 +59,8 @@ pub enum Call<A: Allocator = Global> {
         kind: Pascal,
         socket: u8,
     },
-    /// Ends a lookup, and with it a claim.
+    /// Ends the lookup of this identifier, and with it a claim.
     Finish {
-        /// The identifier of the lookup.
         id: u8,
     },
     /// Registers a name for a socket, whoever has it elsewhere.
@@ -148,8 +146,8 @@ impl<A: Allocator> Call<A> {
                 object,
                 kind,
                 socket,
-            } => ranges_of_own(object, kind, *socket),
-            Call::Register {
+            }
+            | Call::Register {
                 object,
                 kind,
                 socket,
@@ -169,8 +167,7 @@ impl<A: Allocator> Call<A> {
             Call::Reset { id } | Call::Close { id } => {
                 let _id = *id;
             }
-            Call::Open { index: _ } | Call::Listen { on: _ } => {}
-            Call::Zones => {}
+            Call::Open { index: _ } | Call::Listen { on: _ } | Call::Zones => {}
         }
     }
 }
@@ -182,8 +179,7 @@ pub enum Timer {
     Retry {
         tid: u16,
     },
-    /// The record of an exactly-once request that was answered is to go. `own` is the socket that answered, 6 or 129,
-    /// and the rest says who asked and under which number.
+    /// The record of an exactly-once request is to go, which the socket `own` answered, 6 or 129.
     Release {
         own: u8,
         node: u8,

@@ -1,7 +1,7 @@
 -- Which datagrams draw a number at a node, and which number.
 use Rattle.std.proofs.Common.{◌≡◌, ◌⊎◌, ℕ, Bool, true, false, List, Option, Some, None, inl}
 use Rattle.std.proofs.Common.{inr, refl, sym, ap, subst, ◌∙◌}
-use Rattle.std.specs.Prelude.{IfSome, MatchBool, ◌==◌, ◌||◌}
+use Rattle.std.specs.Prelude.{IfSome, MatchBool, ◌==◌, ◌||◌, ◌↔◌}
 use Rattle.at_ddp.specs.Datagram.{Content as Datagram}
 use Rattle.at_ddp.specs.declared.address.Address.{Address}
 use Rattle.at_ddp.specs.Protocols.{atp_kind, nbp_kind, adsp_kind}
@@ -16,7 +16,7 @@ use Rattle.at_event.specs.declared.service.Reply.{Reply}
 use Rattle.at_event.specs.declared.service.Reply.TheVariants.{Later}
 use Rattle.at_node.specs.AtpHearing.{HearsAtp}
 use Rattle.at_node.specs.AtpParts.{AtpState}
-use Rattle.at_node.specs.Numbers.{DrawsHearing, drawn_by}
+use Rattle.at_node.specs.Numbers.{IsTold, drawn_by}
 use Rattle.at_node.specs.declared.numbers.Draw.TheVariants.{Conn}
 use Rattle.at_node.specs.Hearing.{Hears, HearsDatagram, HearsIt, HearsMine}
 use Rattle.at_node.specs.NameHearing.{HearsName, HearsNames, HearsNbpFault, told_by}
@@ -26,13 +26,18 @@ use Rattle.at_adsp_end.specs.declared.step.Step.{Step}
 use Rattle.at_adsp_end.specs.declared.step.Step.TheVariants as step
 use Rattle.at_adsp_ends.specs.Receiving.{made_id, received}
 use Rattle.at_adsp_ends.specs.Tables.{EndTable}
-use Rattle.at_stream_socket.specs.Hearing.{HearsAdspFault, HearsSegment, HearsStreams, Makes, segment_heard}
+use Rattle.at_stream_socket.specs.Hearing.{HearsAdspFault, HearsSegment, HearsStreams, Makes, Requests, segment_heard}
 use Rattle.at_stream_socket.specs.Sockets.{told_by as told_as}
 use Rattle.at_event.specs.Outcomes.{Outcome, Over, Through, idle, over}
 use Rattle.at_node.specs.RequesterSocket.{AtRequester}
 use Rattle.at_event.specs.Seats.{is_for_all, is_mine}
 use Rattle.at_node.proofs.AnsweringLemmas.{TellsNothing, by_asker}
 use Rattle.at_node.proofs.NumberLemmas.{draw_same, nat_same}
+
+-- which segments make an end
+abbrev pub MakingLaw : Type 0
+MakingLaw = (t : EndTable) (from : Address) (s : _) (id : ℕ)
+    → made_id (received wire t from s).answer ≡ Some id ↔ Requests t from s id
 
 -- a datagram for the socket for streams, whose segment makes an end
 pub record BySegment (n : NodeState) (d : Datagram) (draw : Draw) : Type 0 where
@@ -119,7 +124,7 @@ module _ (A : Type 0) where
       go true (inl h) = told_none o _ h.outcome (told h.step)
       go true (inr h) = told_none o _ h.outcome refl
 
-  module _ (said : Reply A) (n : NodeState) (d : Datagram) (o : Outcome A NodeState) (draw : Draw)
+  module _ (making : MakingLaw) (said : Reply A) (n : NodeState) (d : Datagram) (o : Outcome A NodeState) (draw : Draw)
       (draws : drawn_by o.report ≡ Some draw) where
     nothing : drawn_by o.report ≡ None → Drawing n d o draw
     nothing none = let both : None ≡ Some draw = sym none ∙ draws in absurd (cc)
@@ -162,7 +167,12 @@ module _ (A : Type 0) where
               mine = mine;
               kind = kind;
               id = told.0;
-              makes = record { socket = e; segment = h.segment; spelled = h.spelled; makes = told.1 };
+              makes = record {
+                socket = e;
+                segment = h.segment;
+                spelled = h.spelled;
+                makes = (making n.streams d.from h.segment told.0).0 told.1;
+              };
               is = told.2;
             })
         go true e (inr h) = none_of (told_none p _ h.outcome refl)
@@ -238,7 +248,7 @@ found_by_packet A n d f s from (Some draw) seat sender mine kind socket spelled 
     )
 
 -- a segment that makes an end is heard so
-module _ (A : Type 0) (n : NodeState) (d : Datagram)
+module _ (A : Type 0) (making : MakingLaw) (n : NodeState) (d : Datagram)
     (mine : (is_for_all n.seat d.kind d.to || is_mine n.seat d.to) ≡ true) (kind : d.kind ≡ adsp_kind) where
   pub made_hears : (id : ℕ) → Makes n.streams d id → (said : Reply A) × (o : Outcome A NodeState) × HearsIt said n d o
       × (drawn_by o.report ≡ Some (Conn id))
@@ -253,7 +263,7 @@ module _ (A : Type 0) (n : NodeState) (d : Datagram)
         over (with_streams n) part,
         rw (mine, atp, nbp, adsp) (part, heard_, refl),
         made_draws A
-            (received wire n.streams d.from m.segment).answer id m.makes,
+            (received wire n.streams d.from m.segment).answer id ((making n.streams d.from m.segment id).1 m.makes),
       )
 
   pub found_by_segment : (r : Option Draw) → IfSome r (λ draw. (id : ℕ) × Makes n.streams d id × (draw ≡ Conn id))
@@ -265,7 +275,7 @@ module _ (A : Type 0) (n : NodeState) (d : Datagram)
       (x.0, x.1, x.2, x.3 ∙ ap Some (sym h.2))
 
 -- a fault draws nothing
-pub only_datagrams : (A : Type 0) (n : NodeState) (bytes : List ℕ) (draw : Draw) → DrawsHearing A n bytes draw
+pub only_datagrams : (A : Type 0) (n : NodeState) (bytes : List ℕ) (draw : Draw) → IsTold A n bytes draw
     → (said : Reply A) × (o : Outcome A NodeState) × HearsDatagram said n bytes o × (drawn_by o.report ≡ Some draw)
 only_datagrams A n bytes draw h = go h.hears
   where

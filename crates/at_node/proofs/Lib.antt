@@ -1,4 +1,5 @@
 mod AnsweringLemmas
+mod CallDraws
 mod NumberLemmas
 mod DrawLemmas
 mod ListLemmas
@@ -11,3 +12,5 @@ mod ResponderLemmas
 mod ServingLemmas
 mod SentHeard
 mod SessionLemmas
+mod ToldLemmas
+mod TurningLemmas

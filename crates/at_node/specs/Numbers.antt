@@ -1,25 +1,40 @@
--- Numbers that are not to be reused while a packet or a record has them.
-use Rattle.std.specs.Prelude.{◌≡◌, ℕ, ◌||◌, Bool, false, List, Option, Some, None, ◌⊎◌}
+-- Numbers that are not to be reused while a packet or a record has them: which one an event draws, which are held, and
+-- which a datagram carries.
+use Rattle.std.specs.Prelude.{◌≡◌, ℕ, ◌+◌, ◌≤◌, ◌==◌, ◌||◌, nat_lt, is_none, is_some, if◌then◌else◌, Bool, true, false}
+use Rattle.std.specs.Prelude.{List, length, find, option_map, Option, Some, None, ◌⊎◌}
 use Rattle.std.specs.List.{list_any}
 use Rattle.at_ddp.specs.Datagram.{Content as Datagram, BeginsWith}
 use Rattle.at_ddp.specs.Protocols.{atp_kind, nbp_kind, adsp_kind}
-use Rattle.at_atp_frame.specs.Frames.{Content, Spells}
+use Rattle.at_ddp.specs.Tables.{without_first}
+use Rattle.at_ddp.specs.declared.address.Address.{Address}
+use Rattle.at_atp_frame.specs.Frames.{Content, Response, Spells}
 use Rattle.at_atp_frame.specs.Frames.{owner, number_of}
+use Rattle.at_atp_frame.specs.Packets.{Packet}
+use Rattle.at_atp_requester.specs.Answers.{Arrival, is_wanted, whole, with_part}
+use Rattle.at_atp_requester.specs.Requests.{Requests, Transaction, is_of, next_number}
 use Rattle.at_atp_responder.specs.Records.{is_from}
-use Rattle.at_adsp_ends.specs.Tables.{has_remote_at}
+use Rattle.at_zip.specs.Page.{Page, Spells as SpellsPage}
+use Rattle.at_nbp.specs.Lookups.{next_id}
+use Rattle.at_nbp.specs.NameTables.{is_no_text}
+use Rattle.at_adsp_ends.specs.Tables.{has_remote_at, next_id as next_end}
 use Rattle.at_name_socket.specs.Carrying as names
 use Rattle.at_stream_socket.specs.Carrying as streams
+use Rattle.at_stream_socket.specs.Hearing.{Makes}
+use Rattle.at_event.specs.Outcomes.{Outcome}
+use Rattle.at_event.specs.Seats.{is_mine}
+use Rattle.at_event.specs.declared.event.Call.{Call}
+use Rattle.at_event.specs.declared.event.Call.TheVariants.{Ask, Claim, Connect, Find, Open, Zones}
+use Rattle.at_event.specs.declared.event.Report.{Report}
+use Rattle.at_event.specs.declared.event.Report.TheVariants as report
+use Rattle.at_event.specs.declared.service.Reply.{Reply}
+use Rattle.at_session.specs.Sessions.{address_at}
+use Rattle.at_node.specs.AtpParts.{AtpState, Reading}
+use Rattle.at_node.specs.Hearing.{Hears}
+use Rattle.at_node.specs.Nodes.{NodeState}
 use Rattle.at_node.specs.declared.numbers.Draw.{Draw}
 use Rattle.at_node.specs.declared.numbers.Draw.TheVariants.{Tid, Lookup, Conn}
 use Rattle.at_node.specs.declared.numbers.Input.{Input}
 use Rattle.at_node.specs.declared.numbers.Input.TheVariants as input
-use Rattle.at_event.specs.declared.event.Call.{Call}
-use Rattle.at_event.specs.declared.event.Report.{Report}
-use Rattle.at_event.specs.declared.event.Report.TheVariants as report
-use Rattle.at_event.specs.declared.service.Reply.{Reply}
-use Rattle.at_node.specs.Hearing.{Hears}
-use Rattle.at_node.specs.Nodes.{NodeState, called, timed}
-use Rattle.at_event.specs.Outcomes.{Outcome}
 
 -- the number that the node drew, if this is its report
 abbrev pub drawn_by : {A : Type 0} → Report A → Option Draw
@@ -29,23 +44,89 @@ drawn_by (report.Opening id) = Some (Conn id)
 drawn_by (report.Made id) = Some (Conn id)
 drawn_by other = None
 
--- the number that a call will draw, if memory does not run out
+-- the next number of a transaction, the next identifier of a lookup, and the next of an end
+abbrev pub next_tid : NodeState → Option Draw
+next_tid n = option_map (λ tid. Tid tid) (next_number n.atp.requester)
+
+abbrev pub next_lookup : NodeState → Option Draw
+next_lookup n = option_map (λ id. Lookup id) (next_id n.names.lookups)
+
+abbrev pub next_conn : NodeState → Option Draw
+next_conn n = option_map (λ id. Conn id) (next_end n.streams)
+
+-- The number that a call will draw, if memory does not run out: the next one, if the call begins a transaction, a
+-- lookup or an end. Refused are a zone list without a router or while one is read, a request of more than 578 bytes, a
+-- claim that names nothing, and a place where nothing was found.
 abbrev pub draw_of : {A : Type 0} → NodeState → Call A → Option Draw
-draw_of n call = drawn_by (called n call).report
+draw_of n Zones = if is_none n.seat.router || is_some n.atp.reading then None else next_tid n
+draw_of n (Ask node socket user bytes wanted xo retries) = if nat_lt 578 (length bytes) then None else next_tid n
+draw_of n (Find object kind _) = next_lookup n
+draw_of n (Claim object kind socket) = if is_no_text object || is_no_text kind then None else next_lookup n
+draw_of n (Connect node socket) = next_conn n
+draw_of n (Open index) = if is_none (address_at n.session index) then None else next_conn n
+draw_of n other = None
+
+-- with a packet for this place, the answer to an open at-least-once transaction is whole
+pub record Completes (r : Requests) (from : Address) (tid place : ℕ) (part : Arrival) : Type 0 where
+  pub transaction : Transaction
+  pub stands : find (is_of tid from) r.standing ≡ Some transaction
+  pub at_least_once : transaction.xo ≡ false
+  pub wanted : is_wanted transaction.parts place ≡ true
+  pub all : is_some (whole (with_part transaction.parts place part)) ≡ true
+
+-- A packet from an address ends the transaction that reads the zone list, by a page after which the next one is asked
+-- for under this number: it is not the last page, and with it there are not too many names.
+pub record TurnsPage (a : AtpState) (from : Address) (f : Content) (tid : ℕ) : Type 0 where
+  pub reading : Reading
+  pub reads : a.reading ≡ Some reading
+  pub place : ℕ
+  pub ends : Bool
+  pub status : Bool
+  pub packet : Packet
+  pub answers : f ≡ Response place ends status reading.tid packet.user packet.data_
+  pub completes : Completes a.requester from reading.tid place (record { eom = ends; packet = packet })
+  pub page : Page
+  pub has_page : SpellsPage packet.user packet.data_ page
+  pub goes_on : page.last ≡ false
+  pub few : length reading.names + length page.names ≤ 1024
+  pub next : next_number (record a.requester {
+    standing = without_first (is_of reading.tid from) a.requester.standing;
+  }) ≡ Some tid
+
+-- the datagram has such a packet, for the socket that asks
+pub record HasTurn (a : AtpState) (d : Datagram) (tid : ℕ) : Type 0 where
+  pub is_atp : d.kind ≡ atp_kind
+  pub socket : (d.to.socket == 128) ≡ true
+  pub packet : Content
+  pub spelled : Spells d.data_ packet
+  pub turns : TurnsPage a d.from packet tid
+
+-- a datagram for the node makes it draw this number: a page of the zone list, or a request that makes an end
+abbrev pub DrawsBy : NodeState → Datagram → Draw → Type 0
+DrawsBy n d (Tid tid) = HasTurn n.atp d tid
+DrawsBy n d (Lookup id) = ⊥
+DrawsBy n d (Conn id) = (d.kind ≡ adsp_kind) × Makes n.streams d id
+
+-- received bytes make the node draw this number: they begin with such a datagram
+pub record DrawsHearing (n : NodeState) (bytes : List ℕ) (draw : Draw) : Type 0 where
+  pub datagram : Datagram
+  pub rest : List ℕ
+  pub begins : BeginsWith bytes datagram rest
+  pub is_for_it : is_mine n.seat datagram.to ≡ true
+  pub draws : DrawsBy n datagram draw
+
+-- the number that an input makes the node draw; a timer draws none
+abbrev pub Draws : {A : Type 0} → NodeState → Input A → Draw → Type 0
+Draws n (input.Call call) draw = draw_of n call.now ≡ Some draw
+Draws n (input.Timer timer) draw = ⊥
+Draws n (input.Received bytes) draw = DrawsHearing n bytes.now draw
 
 -- what comes of these bytes, whatever the service replies, tells of this number
-pub record DrawsHearing (A : Type 0) (n : NodeState) (bytes : List ℕ) (draw : Draw) : Type 0 where
+pub record IsTold (A : Type 0) (n : NodeState) (bytes : List ℕ) (draw : Draw) : Type 0 where
   pub said : Reply A
   pub outcome : Outcome A NodeState
   pub hears : Hears said n bytes outcome
   pub tells : drawn_by outcome.report ≡ Some draw
-
--- The same for any input: this is the number that its outcome tells of. A page that makes the next one be asked for
--- draws a number too, and so does a request for a connection that makes an end.
-abbrev pub Draws : {A : Type 0} → NodeState → Input A → Draw → Type 0
-Draws n (input.Call call) draw = draw_of n call.now ≡ Some draw
-Draws {A} n (input.Timer timer) draw = drawn_by (timed {A = A} n timer).report ≡ Some draw
-Draws {A} n (input.Received bytes) draw = DrawsHearing A n bytes.now draw
 
 -- does the node hold a record of a request of that node with this number, or an end that is connected to one there
 -- with this identifier? nobody holds the identifier of a lookup

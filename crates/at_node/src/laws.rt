@@ -1,5 +1,5 @@
 //! Laws of what a node receives. The functions only call the laws of the layers below: each contract is a law.
-ghost use Rattle.std.specs.Prelude.{◌≡◌, ℕ, ◌^◌, ◌<◌, ◌≤◌, Bool, List};
+ghost use Rattle.std.specs.Prelude.{◌≡◌, ◌↔◌, ℕ, ◌^◌, ◌<◌, ◌≤◌, Bool, List, None};
 ghost use Rattle.at_ddp.specs.Datagram.{IsAddress, canonical, written};
 ghost use Rattle.at_ddp.specs.declared.address.Address.{Address};
 ghost use Rattle.at_ddp.specs.Protocols.{atp_kind};
@@ -8,10 +8,13 @@ ghost use Rattle.at_atp_requester.specs.Requests.{Heard};
 ghost use Rattle.at_zip.specs.Page.{Page, IsLawful as IsLawfulPage, page_user, page_data};
 ghost use Rattle.at_zip.specs.Request.{request_user};
 ghost use Rattle.at_node.specs.AtpParts.{AtpState};
-ghost use Rattle.at_node.specs.Nodes.{NodeState};
+ghost use Rattle.at_node.specs.Nodes.{NodeState, called, timed};
+ghost use Rattle.at_event.specs.declared.event.Call.{Call};
+ghost use Rattle.at_event.specs.declared.event.Timer.{Timer};
 ghost use Rattle.at_event.specs.Outcomes.{Outcome};
 ghost use Rattle.at_atp_frame.specs.Frames.{owner, number_of};
-ghost use Rattle.at_node.specs.Numbers.{Carries};
+ghost use Rattle.at_node.specs.Numbers.{Carries, DrawsHearing, IsTold, draw_of, drawn_by};
+ghost use Rattle.at_node.specs.declared.numbers.Draw.{Draw};
 ghost use Rattle.at_node.specs.declared.numbers.Draw.TheVariants.{Tid};
 ghost use Rattle.at_node.specs.Hearing.{Hears, HearsSent};
 ghost use Rattle.at_node.specs.ZoneReading.{ReadsPage, TakesPage};
@@ -46,6 +49,16 @@ pub fn pages_are_served_and_taken<A: Allocator>()
 {
     at_zip::laws::what_is_written_is_read();
     at_zip::laws::one_page_a_spelling();
+}
+
+/// The number that an event draws is the one that its report tells of.
+pub fn what_is_drawn_is_told<A: Allocator>()
+    ensures call { (n : NodeState) (call : Call A) → drawn_by (called n call).report ≡ draw_of n call }
+    ensures timer { (n : NodeState) (time : Timer) → drawn_by (timed {A = A} n time).report ≡ None }
+    ensures bytes { (n : NodeState) (bytes : List ℕ) (draw : Draw) → IsTold A n bytes draw
+        ↔ DrawsHearing n bytes draw }
+{
+    at_stream_socket::laws::requests_alone_make_ends();
 }
 
 /// The bytes of a packet carry the number of that packet.

@@ -9,7 +9,7 @@ ghost use Rattle.at_nbp.specs.Lookups.{next_id};
 ghost use Rattle.at_node.specs.AtpParts.{AtpState};
 ghost use Rattle.at_adsp_ends.specs.Tables.{next_id as next_end};
 ghost use Rattle.at_node.specs.Numbers.{Carries, CarriesConn, CarriesLookup, CarriesOne, CarriesTid, Draws};
-ghost use Rattle.at_node.specs.Numbers.{DrawsHearing, draw_of, drawn_by, end_drawn, holds};
+ghost use Rattle.at_node.specs.Numbers.{IsTold, draw_of, drawn_by, end_drawn, holds};
 ghost use Rattle.at_node.specs.Hearing.{HearsIt};
 ghost use Rattle.at_node.specs.Nodes.{NodeState};
 ghost use Rattle.at_event.specs.Outcomes.{Outcome as Result};
@@ -20,6 +20,7 @@ ghost use Rattle.at_stream_socket.specs.Hearing.{Makes};
 ghost use Rattle.at_event.specs.declared.service.Reply.{Reply as Said};
 
 use crate::incoming::Incoming;
+use crate::laws::what_is_drawn_is_told;
 use crate::node::Node;
 use crate::requester_socket::{REQUESTER_SOCKET, tid_of};
 use at_atp::MAX_DATA;
@@ -27,6 +28,7 @@ use at_atp_frame::owner;
 use at_ddp::{ADSP, ATP, Datagram, NBP, decode};
 use at_event::{Call, Timer};
 use at_nbp::is_no_name;
+use at_stream_socket::laws::requests_alone_make_ends;
 use std::alloc::{Allocator, Global};
 
 /// A number that a node draws. It is not to be drawn again while a packet or a record has it, or an end that is
@@ -55,6 +57,7 @@ impl<A: Allocator + Copy> Node<A> {
         ensures found { IfSome result (Draws self.now input.now) }
         ensures only { (draw : Drawn) → Draws self.now input.now draw → result ≡ Some draw }
     {
+        what_is_drawn_is_told::<A>();
         match input {
             Input::Call(call) => self.draw_of_call(call),
             Input::Timer(_) => None,
@@ -110,8 +113,8 @@ impl<A: Allocator + Copy> Node<A> {
     }
 
     fn draw_of_bytes(&self, bytes: &[u8]) -> Option<Draw>
-        ensures found { IfSome result (DrawsHearing A self.now bytes.now) }
-        ensures only { (draw : Drawn) → DrawsHearing A self.now bytes.now draw → result ≡ Some draw }
+        ensures found { IfSome result (IsTold A self.now bytes.now) }
+        ensures only { (draw : Drawn) → IsTold A self.now bytes.now draw → result ≡ Some draw }
     {
         match decode(bytes) {
             Ok((datagram, _)) => self.draw_of_datagram(&datagram),
@@ -127,6 +130,7 @@ impl<A: Allocator + Copy> Node<A> {
         ensures only { (said : Said A) (o : Result A NodeState) → HearsIt said self.now (written datagram.now) o
             → (draw : Drawn) → drawn_by o.report ≡ Some draw → result ≡ Some draw }
     {
+        requests_alone_make_ends();
         if !self.seat.is_for(datagram.kind, datagram.to) {
             return None;
         }

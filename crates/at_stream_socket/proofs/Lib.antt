@@ -1,3 +1,4 @@
 mod CallLemmas
 mod HearLemmas
+mod MakingLemmas
 mod NumberLemmas

@@ -1,13 +1,15 @@
 -- What a datagram of ADSP does to the socket of a node for streams.
-use Rattle.std.specs.Prelude.{MatchBool, ◌≡◌, ℕ, ◌==◌, true, List, Some, ◌⊎◌}
+use Rattle.std.specs.Prelude.{MatchBool, ◌≡◌, ℕ, ◌==◌, true, false, List, Some, None, ◌⊎◌}
 use Rattle.at_ddp.specs.Datagram.{Content as Datagram}
 use Rattle.at_ddp.specs.declared.address.Address.{Address}
 use Rattle.at_adsp_frame.specs.Fault.{IsFirstFault, number_of}
-use Rattle.at_adsp_frame.specs.Segments.{Content, Spells}
+use Rattle.at_adsp_frame.specs.Segments.{Content, Open, Spells}
 use Rattle.at_adsp_frame.specs.declared.fault.AdspFault.{AdspFault}
+use Rattle.at_adsp_frame.specs.declared.segment.OpenKind.TheVariants.{Request}
 use Rattle.at_adsp_end.specs.Positions.{wire}
-use Rattle.at_adsp_ends.specs.Receiving.{made_id, received}
-use Rattle.at_adsp_ends.specs.Tables.{EndTable}
+use Rattle.at_adsp_ends.specs.Openings.{sender_of}
+use Rattle.at_adsp_ends.specs.Receiving.{received}
+use Rattle.at_adsp_ends.specs.Tables.{EndTable, by_remote, next_id}
 use Rattle.at_event.specs.Outcomes.{Outcome, idle}
 use Rattle.at_event.specs.declared.event.Report.TheVariants as report
 use Rattle.at_event.specs.declared.seat.Seat.{Seat}
@@ -38,9 +40,19 @@ HearsStreams s t d o =
     (HearsSegment s t d o ⊎ HearsAdspFault t d.data_ o)
     (o ≡ idle t report.Ignored)
 
--- the datagram has a request for a connection, which makes an end with this identifier
+-- A segment from an address requests a connection, and an end is made for it under this identifier: such requests are
+-- answered, no end here is connected to the one that asks, and the identifier is the next.
+pub record Requests (t : EndTable) (from : Address) (s : Content) (id : ℕ) : Type 0 where
+  pub dest : ℕ
+  pub asks : s.body ≡ Open Request dest
+  pub named : (s.source == 0) ≡ false
+  pub apart : by_remote t (sender_of from s) ≡ None
+  pub listens : t.listening ≡ true
+  pub next : next_id t ≡ Some id
+
+-- the datagram has such a request
 pub record Makes (t : EndTable) (d : Datagram) (id : ℕ) : Type 0 where
   pub socket : (d.to.socket == 130) ≡ true
   pub segment : Content
   pub spelled : Spells d.data_ segment
-  pub makes : made_id (received wire t d.from segment).answer ≡ Some id
+  pub makes : Requests t d.from segment id

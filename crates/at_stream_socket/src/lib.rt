@@ -4,6 +4,7 @@
 mod calls;
 mod carrying;
 mod hearing;
+pub mod laws;
 mod reading;
 mod socket;
 

@@ -83,19 +83,19 @@ pub one : (w : WorldState) (which : ℕ) (s t : SentDatagram) → slice_get w.se
 one w which s t here there = let both : Some s ≡ Some t = sym here ∙ there in cc
 
 -- what the bytes that were sent would make the node draw
-abbrev pub HeardFree : (A : Type 0) → WorldState → ℕ → List ℕ → Type 0
-HeardFree A w k bytes = DrawsFree w k (λ n draw. DrawsHearing A n bytes draw)
+abbrev pub HeardFree : WorldState → ℕ → List ℕ → Type 0
+HeardFree w k bytes = DrawsFree w k (λ n draw. DrawsHearing n bytes draw)
 
 pub timely_at : (A : Type 0) (w : WorldState) (which k : ℕ) (s : SentDatagram) → slice_get w.sent which ≡ Some s
-    → IsFresh w s → HeardFree A w k s.bytes → IsTimely {A = A} w (event.Deliver which k)
-timely_at A w which k s is fresh free = λ t there. subst (ComesInTime A w k) (one w which s t is there)
+    → IsFresh w s → HeardFree w k s.bytes → IsTimely {A = A} w (event.Deliver which k)
+timely_at A w which k s is fresh free = λ t there. subst (ComesInTime w k) (one w which s t is there)
     (record { fresh = fresh; free = free })
 
 -- the node would draw a number that is held
 pub held_there : (A : Type 0) (w : WorldState) (which k : ℕ) (s : SentDatagram) (bytes : List ℕ)
-    → slice_get w.sent which ≡ Some s → bytes ≡ s.bytes → ¬ HeardFree A w k bytes
+    → slice_get w.sent which ≡ Some s → bytes ≡ s.bytes → ¬ HeardFree w k bytes
     → IsTimely {A = A} w (event.Deliver which k) → ⊥
-held_there A w which k s bytes is same held timely = held (subst (HeardFree A w k) (sym same) (timely s is).free)
+held_there A w which k s bytes is same held timely = held (subst (HeardFree w k) (sym same) (timely s is).free)
 
 pub stale_there : (A : Type 0) (w : WorldState) (which k : ℕ) (s : SentDatagram) (ds : Draws) (bytes : List ℕ) (e : ℕ)
     → slice_get w.sent which ≡ Some s → ds ≡ w.last → bytes ≡ s.bytes → e ≡ s.event →
@@ -112,7 +112,7 @@ stale_there A w which k s ds bytes e is known same when (node, draw, carries, la
 
 pub delivered : (A : Type 0) (w : WorldState) (which k : ℕ) (s : SentDatagram) (bytes : Bor (List ℕ)) (w' : WorldState)
     (answer : Result (Report A) Fault) → is_over w ≡ false → slice_get w.sent which ≡ Some s → is_for s k ≡ true
-    → IsFresh w s → HeardFree A w k s.bytes →
+    → IsFresh w s → HeardFree w k s.bytes →
     bytes.now ≡ s.bytes → IfOk answer (λ r. PlaysAt w k (Takes {A = A} (input.Received bytes)) r w')
     → IfOk answer (λ r. IsPlayable {A = A} w (event.Deliver which k) × PlaysDelivery w which k r w')
 delivered A w which k s bytes w' (Err f) runs is for fresh free same played = tt
@@ -138,7 +138,7 @@ delivered A w which k s bytes w' (Ok r) runs is for fresh free same played = (
 
 pub not_delivered : (A : Type 0) (w : WorldState) (which k : ℕ) (s : SentDatagram) (bytes : Bor (List ℕ))
     (w' : WorldState) (answer : Result (Report A) Fault) → is_over w ≡ false → slice_get w.sent which ≡ Some s
-    → is_for s k ≡ true → IsFresh w s → HeardFree A w k s.bytes →
+    → is_for s k ≡ true → IsFresh w s → HeardFree w k s.bytes →
     bytes.now ≡ s.bytes → IfErr answer (λ f. IsNotTaken {A = A} w k (input.Received bytes) f w')
     → IfErr answer (λ f. IsFault {A = A} w (event.Deliver which k) f w')
 not_delivered A w which k s bytes w' (Ok r) runs is for fresh free same h = tt

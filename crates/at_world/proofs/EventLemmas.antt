@@ -20,19 +20,17 @@ use Rattle.at_world.proofs.WorldLemmas.{one_stands}
 module _ (A : Type 0) (w w' : WorldState) (e : Event A) (k : ℕ) (time : Timer) (answer : Result (Report A) Fault)
     (is : e ≡ event.Timer k time) (runs : is_over w ≡ false) where
   pub fired : IfOk answer (λ r. PlaysAt w k (Takes {A = A} (input.Timer time)) r w')
-      → IfOk answer (λ r. DrawsFree w k (λ n x. DrawsFor {A = A} n (input.Timer time) x))
       → IfOk answer (λ r. IsPlayable w e × Plays w e r w')
-  fired h free = subst (λ x. IfOk answer (λ r. IsPlayable w x × Plays w x r w')) (sym is) (go answer h free)
+  fired h = subst (λ x. IfOk answer (λ r. IsPlayable w x × Plays w x r w')) (sym is) (go answer h)
     where
       go : (a : Result (Report A) Fault) → IfOk a (λ r. PlaysAt w k (Takes {A = A} (input.Timer time)) r w')
-          → IfOk a (λ r. DrawsFree w k (λ n x. DrawsFor {A = A} n (input.Timer time) x))
           → IfOk a (λ r. IsPlayable {A = A} w (event.Timer k time) × Plays w (event.Timer k time) r w')
-      go (Err f) p q = tt
-      go (Ok r) p q = (
+      go (Err f) p = tt
+      go (Ok r) p = (
         record {
           allowed = refused_at A w (event.Timer k time) None runs
               (one_stands w k p.node p.stands);
-          timely = q;
+          timely = tt;
         },
         p,
       )
@@ -45,11 +43,11 @@ module _ (A : Type 0) (w w' : WorldState) (e : Event A) (k : ℕ) (time : Timer)
           → IfErr a (λ f. IsFault {A = A} w (event.Timer k time) f w')
       go (Ok r) p = tt
       go (Err fault.NoMemory) p =
-          (p.0, p.1, λ whole. record { allowed = refused_at A w (event.Timer k time) None runs p.2; timely = p.3 })
+          (p.0, p.1, λ whole. record { allowed = refused_at A w (event.Timer k time) None runs p.2; timely = tt })
       go (Err (fault.Refused Limit)) p = (refused_at A w (event.Timer k time) (Some Limit) runs p.0, p.1)
       go (Err (fault.Refused NoDatagram)) p = (refused_at A w (event.Timer k time) (Some NoDatagram) runs p.0, p.1)
       go (Err (fault.Refused NotForNode)) p = (refused_at A w (event.Timer k time) (Some NotForNode) runs p.0, p.1)
-      go (Err (fault.Refused Untimely)) p = ((refused_at A w (event.Timer k time) None runs p.0, p.1), p.2)
+      go (Err (fault.Refused Untimely)) p = absurd (p.1 (λ n here draw draws. absurd draws))
 
 -- a call draws a number only if it is free
 module _ (A : Type 0) (w w' : WorldState) (e : Event A) (k : ℕ) (call : Call A) (lent : Bor (Call A))

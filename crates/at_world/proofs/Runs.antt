@@ -1,13 +1,17 @@
 -- Every play is a run of the machine.
 use Rattle.std.proofs.Common.{◌≡◌, ◌⊎◌, inl, inr, ⊎_elim, Bool, true, false, cond, List, [], ◌∷◌, map, take, Some, None}
-use Rattle.std.proofs.Common.{Result, Ok, Err, refl, sym, ap, subst, ◌∙◌}
+use Rattle.std.proofs.Common.{ℕ, Result, Ok, Err, refl, sym, ap, subst, ◌∙◌}
+use Rattle.std.specs.Prelude.{◌↔◌}
 use Rattle.at_ddp.specs.Datagrams.{Posted}
 use Rattle.std.proofs.lemmas.Bool.{true≢false}
 use Rattle.at_event.specs.Kinds.{reporter_of}
+use Rattle.at_event.specs.declared.event.Call.{Call}
 use Rattle.at_event.specs.declared.event.Report.{Report}
 use Rattle.at_event.specs.declared.event.Report.TheVariants.{NoMemory}
 use Rattle.at_node.specs.Hearing.{Hears}
 use Rattle.at_node.specs.Nodes.{NodeState, called, timed}
+use Rattle.at_node.specs.Numbers.{DrawsHearing, IsTold, draw_of, drawn_by}
+use Rattle.at_node.specs.declared.numbers.Draw.{Draw}
 use Rattle.at_event.specs.Outcomes.{Outcome, idle, posted, IsStep, Comes}
 use Rattle.at_event.specs.Services.{is_asked}
 use Rattle.at_setup.specs.declared.event.Event.{Event}
@@ -20,7 +24,8 @@ use Rattle.at_world.specs.Events.{NoForge, act_of, is_forged, node_of}
 use Rattle.at_world.specs.Machine.{Machine, opening_machine, Step, Run, IsRun}
 use Rattle.at_world.specs.Plays.{opening_world, Follows, IsPlay}
 use Rattle.at_world.specs.Stories.{Tells, table_by}
-use Rattle.at_world.specs.Worlds.{WorldState, IsPlayable, Plays, is_over, node_at, recorded, refusal, refusal_at}
+use Rattle.at_world.specs.Worlds.{WorldState, DrawsFree, IsPlayable, Plays, is_over, node_at, recorded, refusal}
+use Rattle.at_world.specs.Worlds.{refusal_at}
 use Rattle.at_world.proofs.Atp.Happenings.{Follows as FollowsAtp, call_follows, datagram_follows, passed, timer_follows}
 use Rattle.at_world.proofs.Atp.Tables.{table_follows}
 use Rattle.at_world.proofs.Atp.Tie.{Laws, AtpTie, Grown}
@@ -51,6 +56,8 @@ pub record PartLaws (A : Type 0) : Type 0 where
   pub names : NameLaws A
   pub streams : StreamLaws A
   pub sessions : SessionLaws A
+  pub drawn : (n : NodeState) (call : Call A) → drawn_by (called n call).report ≡ draw_of n call
+  pub heard : (n : NodeState) (bytes : List ℕ) (draw : Draw) → IsTold A n bytes draw ↔ DrawsHearing n bytes draw
 
 -- ---- the two ends of a step
 
@@ -148,7 +155,8 @@ followed : (A : Type 0) → PartLaws A
     → (w : WorldState) (m : Machine) (e : Event A) (r : Report A) (w' : WorldState) (t : Tied A w m) → is_forged e
     ≡ false → IsPlayable w e → Plays w e r w' → Follow A w m t e r w'
 followed A laws w m (event.Call k call) r w' t sent playable both =
-    let timely = playable.timely in
+    let timely : DrawsFree w k (λ x draw. drawn_by (called x call).report ≡ Some draw) =
+    λ x here draw is. playable.timely x here draw (sym (laws.drawn x call) ∙ is) in
     let runs = still_runs {A = A} w (event.Call k call) playable.allowed in
     let p = both.0 in
     let n = p.node in
@@ -186,6 +194,8 @@ followed A laws w m (event.Deliver which k) r w' t sent playable d =
     let p = d.plays in
     let n = p.node in
     let in_time = timely d.datagram d.was_sent in
+    let free : DrawsFree w k (λ x draw. IsTold A x (d.datagram).bytes draw) =
+    λ x here draw told. in_time.free x here draw ((laws.heard x (d.datagram).bytes draw).0 told) in
     let c = comes A laws.atp w m.cable m.atp t.cable t.atp which d.datagram d.was_sent in_time.fresh in
     let c' = names_coming.comes A laws.names w m.cable m.names t.cable t.names which d.datagram
     d.was_sent in_time.fresh in
@@ -198,12 +208,12 @@ followed A laws w m (event.Deliver which k) r w' t sent playable d =
     (λ (x : (o : Outcome A NodeState) × Hears said n (d.datagram).bytes o × Its o r p.after p.out). let seat =
     hearing_keeps_seat A said n (d.datagram).bytes x.0 x.1 in of_good A w m t
     (event.Deliver which k) n p.stands r p.after p.out w' p.booked x.0 seat (
-      datagram_follows A laws.atp w m.cable m.atp t.cable t.atp k n p.stands which d.datagram c in_time.free said x.0
+      datagram_follows A laws.atp w m.cable m.atp t.cable t.atp k n p.stands which d.datagram c free said x.0
           (λ asked. later (ap is_asked (x.2).0 ∙ asked)) x.1 seat,
       named.datagram_follows A laws.names w m.cable m.sessions m.names t.cable t.sessions t.names k n p.stands which
           d.datagram c' said x.0 x.1 seat,
       streamed.datagram_follows A laws.streams w m.cable m.sessions m.streams t.cable t.sessions t.streams runs k n
-          p.stands which d.datagram c'' in_time.free said x.0 x.1 seat,
+          p.stands which d.datagram c'' free said x.0 x.1 seat,
       told.datagram_follows A laws.sessions laws.names w m.cable m.sessions m.names t.cable t.sessions t.names k n
           p.stands which (d.datagram).bytes said x.0 x.1 seat,
     ) x.2)

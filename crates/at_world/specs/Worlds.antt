@@ -86,18 +86,18 @@ abbrev pub DrawsFree : WorldState → ℕ → (NodeState → Draw → Type 0) �
 DrawsFree w k D = (n : NodeState) → node_at w k ≡ Some n → (draw : Draw) → D n draw → IsFree w k draw
 
 -- a datagram comes before its numbers are drawn again, and what it makes the node draw is free
-pub record ComesInTime (A : Type 0) (w : WorldState) (k : ℕ) (s : SentDatagram) : Type 0 where
+pub record ComesInTime (w : WorldState) (k : ℕ) (s : SentDatagram) : Type 0 where
   pub fresh : IsFresh w s
-  pub free : DrawsFree w k (λ n draw. DrawsHearing A n s.bytes draw)
+  pub free : DrawsFree w k (λ n draw. DrawsHearing n s.bytes draw)
 
 -- No packet outlives the number that it carries. A datagram comes before its numbers are drawn again, and no number is
--- drawn while a record is held under it. Bytes that no node sent were sent at no time, so only what they draw is looked
--- at.
+-- drawn while a record is held under it. A timer draws none. Bytes that no node sent were sent at no time, so only what
+-- they draw is looked at.
 abbrev pub IsTimely : {A : Type 0} → WorldState → Event A → Type 0
 IsTimely w (event.Call k call) = DrawsFree w k (λ n draw. draw_of n call ≡ Some draw)
-IsTimely {A} w (event.Deliver which k) = (s : SentDatagram) → slice_get w.sent which ≡ Some s → ComesInTime A w k s
-IsTimely {A} w (event.Timer k timer) = DrawsFree w k (λ n draw. drawn_by (timed {A = A} n timer).report ≡ Some draw)
-IsTimely {A} w (event.Forge k bytes) = DrawsFree w k (λ n draw. DrawsHearing A n bytes draw)
+IsTimely w (event.Deliver which k) = (s : SentDatagram) → slice_get w.sent which ≡ Some s → ComesInTime w k s
+IsTimely w (event.Timer k timer) = Unit {0}
+IsTimely w (event.Forge k bytes) = DrawsFree w k (λ n draw. DrawsHearing n bytes draw)
 
 -- an event that nothing refuses
 pub record IsPlayable {A : Type 0} (w : WorldState) (e : Event A) : Type 0 where

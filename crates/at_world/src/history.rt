@@ -44,6 +44,7 @@ pub(crate) fn steps_make_a_history<A: Allocator>()
     at_steps::laws::streams::what_is_read_reads_from_a_peer::<A>();
     at_atp::laws::what_is_sent_is_lawful::<A>();
     at_node::laws::what_is_sent_carries_its_number();
+    at_node::laws::what_is_drawn_is_told::<A>();
     at_zip::laws::what_is_written_is_read();
     at_zip::laws::one_page_a_spelling();
     at_zip::laws::a_page_is_the_longest_run();

@@ -1,13 +1,13 @@
 -- What is known of a packet of the network that comes in time.
-use Rattle.std.proofs.Common.{◌≡◌, ℕ, zero, suc, Bool, true, false, cond, List, [], ◌∷◌, Option, Some, refl, sym, ap}
+use Rattle.std.proofs.Common.{◌≡◌, ℕ, Bool, true, false, cond, List, [], ◌∷◌, Some, refl, sym, ap}
 use Rattle.std.proofs.Common.{subst, ◌∙◌}
-use Rattle.std.specs.Prelude.{IfSome, ◌==◌}
+use Rattle.std.specs.Prelude.{◌==◌}
 use Rattle.std.specs.List.{AllByRecursion}
 use Rattle.std.proofs.lemmas.Bool.{and_parts}
 use Rattle.at_ddp.specs.Address.{same_address}
 use Rattle.at_ddp.specs.declared.address.Address.{Address}
 use Rattle.at_ddp.proofs.Octets.{same_address-true}
-use Rattle.at_ddp.specs.Posts.{AllSent, packet_at}
+use Rattle.at_ddp.specs.Posts.{packet_at}
 use Rattle.at_atp.specs.Network.{Network, Sent, is_fresh, ComesInTime}
 use Rattle.at_atp.specs.Transactions.{Transaction, Asked, is_transaction, transaction_of}
 use Rattle.at_steps.specs.AtpHappenings.{IsOn}

@@ -1,6 +1,6 @@
 -- A number that a node does not hold is free at its responders.
 use Rattle.std.proofs.Common.{◌≡◌, ℕ, Bool, true, false, cond, List, [], ◌∷◌, Some, None, refl, sym, ap, ◌∙◌}
-use Rattle.std.specs.Prelude.{find, ◌==◌, ◌||◌, ◌&&◌}
+use Rattle.std.specs.Prelude.{find, ◌==◌, ◌&&◌}
 use Rattle.std.specs.List.{list_any}
 use Rattle.std.proofs.lemmas.Bool.{true≢false, and_parts, eq-eqb, or_parts}
 use Rattle.at_ddp.specs.Address.{same_address}

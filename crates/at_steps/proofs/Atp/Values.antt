@@ -1,8 +1,7 @@
 -- Values at one address.
-use Rattle.std.proofs.Common.{◌≡◌, Bool, true, false, cond, refl, sym, ap, ◌∙◌}
+use Rattle.std.proofs.Common.{◌≡◌, Bool, true, false, cond, refl}
 use Rattle.at_ddp.specs.Address.{same_address}
 use Rattle.at_ddp.specs.declared.address.Address.{Address}
-use Rattle.at_ddp.proofs.Octets.{same_address-true, same_address_itself}
 use Rattle.at_ddp.specs.Posts.{put}
 
 pub put_twice : {X : Type 0} (f : Address → X) (at : Address) (x y : X) (a : Address) → put (put f at x) at y a

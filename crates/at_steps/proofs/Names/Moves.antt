@@ -1,18 +1,16 @@
 -- A step of the socket for names as a step of its node, and an event that leaves the socket as it was.
-use Rattle.std.proofs.Common.{◌≡◌, ℕ, ◌<◌, Bool, true, false, cond, List, [], ◌∷◌, Option, Some, None, refl, sym, ap}
+use Rattle.std.proofs.Common.{◌≡◌, ℕ, ◌<◌, Bool, true, false, cond, List, [], Option, Some, None, refl, sym, ap}
 use Rattle.std.proofs.Common.{subst, ◌∙◌, arith, lit<}
-use Rattle.std.specs.Prelude.{◌&&◌, map}
+use Rattle.std.specs.Prelude.{◌&&◌}
 use Rattle.std.proofs.lemmas.Bool.{eq-eqb, lt-ltb}
 use Rattle.at_ddp.specs.Address.{same_address}
 use Rattle.at_ddp.specs.declared.address.Address.{Address}
 use Rattle.at_ddp.proofs.Octets.{same_address-true}
 use Rattle.at_nbp.specs.Lookups.{AreLookups}
 use Rattle.at_ddp.specs.Posts.{put, stamped}
-use Rattle.at_ddp.specs.Protocols.{nbp_kind}
 use Rattle.at_steps.specs.Entries.{AreEntries}
 use Rattle.at_steps.proofs.Entries.{entries_of}
 use Rattle.at_nbp.specs.Network.{Begun, FindsStood, Happening, Setting, after, done}
-use Rattle.at_nbp.specs.Packets.{Content}
 use Rattle.at_name_socket.specs.NameSockets.{SocketState, names_of}
 use Rattle.at_name_socket.specs.Sockets as sockets
 use Rattle.at_name_socket.specs.Sockets.{Stays}
@@ -21,7 +19,7 @@ use Rattle.at_name_socket.specs.Steps.{StandsLawfully, begun_with, spelled}
 use Rattle.at_node.specs.Numbers.{drawn_by}
 use Rattle.at_node.specs.NameCalls.{sent_of}
 use Rattle.at_node.specs.Nodes.{NodeState, with_names}
-use Rattle.at_event.specs.Outcomes.{Outcome, idle, refused_as, sent_by}
+use Rattle.at_event.specs.Outcomes.{Outcome, idle, refused_as}
 use Rattle.at_node.specs.declared.numbers.Draw.{Draw}
 use Rattle.at_event.specs.declared.event.Report.{Report}
 use Rattle.at_event.specs.declared.event.Report.TheVariants as report

@@ -5,7 +5,6 @@ use Rattle.std.specs.Prelude.{find, nat_le, ◌&&◌}
 use Rattle.std.proofs.lemmas.Bool.Decides.{nat_tests}
 use Rattle.at_ddp.specs.declared.address.Address.{Address}
 use Rattle.at_ddp.specs.Protocols.{atp_kind}
-use Rattle.at_atp_frame.specs.Fault as atp
 use Rattle.at_atp_frame.specs.Frames.{Content}
 use Rattle.at_atp_frame.specs.Packets.{Packet}
 use Rattle.at_atp_frame.specs.declared.fault.AtpFault.{AtpFault}

@@ -11,7 +11,7 @@ use Rattle.at_atp_frame.specs.Frames.{Content, Request, Response, Release, Spell
 use Rattle.at_atp_frame.specs.Packets.{Packet}
 use Rattle.at_atp_frame.specs.declared.fault.AtpFault.{AtpFault}
 use Rattle.at_atp_frame.specs.declared.fault.AtpFault.TheVariants as atps
-use Rattle.at_atp_responder.specs.Records.{AsksForEight, Record, Released, Taken}
+use Rattle.at_atp_responder.specs.Records.{AsksForEight, Record, Taken}
 use Rattle.at_atp_responder.specs.Records.{asked_for, finds_no_place, is_key}
 use Rattle.at_atp_responder.specs.Records.{is_new_and_full, is_passed_over, taken}
 use Rattle.at_atp_responder.specs.declared.reception.Key.{Key}

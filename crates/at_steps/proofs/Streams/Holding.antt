@@ -1,6 +1,6 @@
 -- An identifier that no end of a node is connected to is no remote of an end there.
 use Rattle.std.proofs.Common.{◌≡◌, ℕ, Bool, true, false, cond, List, [], ◌∷◌, Option, Some, None, refl, sym, ap, ◌∙◌}
-use Rattle.std.specs.Prelude.{find, ◌==◌, ◌||◌, ◌&&◌}
+use Rattle.std.specs.Prelude.{find, ◌==◌, ◌&&◌}
 use Rattle.std.specs.List.{list_any}
 use Rattle.std.proofs.lemmas.Bool.{true≢false, and_parts, eq-eqb, eqb-true, or_parts}
 use Rattle.at_ddp.specs.Address.{same_address}

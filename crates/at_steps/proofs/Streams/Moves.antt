@@ -6,8 +6,6 @@ use Rattle.std.proofs.lemmas.Bool.{true≢false, eq-eqb, lt-ltb}
 use Rattle.std.proofs.lemmas.List.{append-nil}
 use Rattle.at_ddp.specs.Datagram.{IsAddress}
 use Rattle.at_ddp.specs.declared.address.Address.{Address}
-use Rattle.at_adsp_frame.specs.Segments.{Content}
-use Rattle.at_adsp_end.specs.Ends.{spelled_all}
 use Rattle.at_adsp_end.specs.declared.fault.StreamFault.{StreamFault}
 use Rattle.at_adsp_ends.specs.Calls.{listened}
 use Rattle.at_adsp_ends.specs.Tables.{Done, EndTable, by_id}
@@ -15,14 +13,13 @@ use Rattle.at_adsp.specs.Connections.{streams}
 use Rattle.at_adsp.specs.Lawfully.{IsInRange}
 use Rattle.at_ddp.specs.Posts.{put, stamped}
 use Rattle.at_ddp.proofs.PostLemmas.{put_itself}
-use Rattle.at_ddp.specs.Protocols.{adsp_kind}
 use Rattle.at_steps.specs.Entries.{AreEntries}
 use Rattle.at_steps.proofs.Entries.{entries_of}
 use Rattle.at_adsp.specs.Network.{Happening, IsTimely, Network, Other, Sent, Setting, after, calls_with, does_with}
 use Rattle.at_adsp.specs.Network.{done, listens}
 use Rattle.at_adsp.specs.Streams.{Deed, GaveUp, Read, Stream, Wrote, has_number, read_after, with_deed, with_peer}
 use Rattle.at_adsp.specs.Streams.{written_after}
-use Rattle.at_event.specs.Outcomes.{Outcome, Outgoing, idle, refused_as, sent_by}
+use Rattle.at_event.specs.Outcomes.{Outcome, Outgoing, idle, refused_as}
 use Rattle.at_event.specs.declared.event.Report.{Report}
 use Rattle.at_event.specs.declared.event.Report.TheVariants as report
 use Rattle.at_event.specs.declared.seat.Seat.{Seat}

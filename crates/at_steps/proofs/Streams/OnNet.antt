@@ -32,7 +32,6 @@ use Rattle.at_adsp_ends.specs.Openings.{ack_came, answer_came, answers_again, co
 use Rattle.at_adsp_ends.specs.Openings.{heard_opening, ignored, is_answered, opened, request_came, room_for}
 use Rattle.at_adsp_ends.specs.Receiving.{any_request_came, opening_came, part_came, segment_came, settled}
 use Rattle.at_adsp_ends.specs.Tables.{Done, EndTable, by_id, by_remote, freed, has_id, made, moved, next_id, stayed}
-use Rattle.at_adsp.specs.Network.{after}
 
 -- ---- what an end hears leaves the address that it asked, or that asked it
 

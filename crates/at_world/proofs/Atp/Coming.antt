@@ -1,19 +1,18 @@
 -- What is known of a datagram that comes in time.
-use Rattle.std.proofs.Common.{◌≡◌, ◌⊎◌, inl, inr, ⊎_elim, ℕ, zero, suc, true, false, List, [], ◌∷◌, map, Option, Some}
-use Rattle.std.proofs.Common.{None, refl, sym, ap, subst, ◌∙◌}
-use Rattle.std.specs.Prelude.{slice_get, IfSome, ◌==◌}
+use Rattle.std.proofs.Common.{◌≡◌, ◌⊎◌, inl, inr, ⊎_elim, ℕ, true, Some}
+use Rattle.std.proofs.Common.{sym, ap, subst, ◌∙◌}
+use Rattle.std.specs.Prelude.{slice_get}
 use Rattle.at_atp.specs.Lawfully.{IsLawfullySent}
 use Rattle.at_atp_frame.specs.Frames.{owner, number_of}
-use Rattle.at_ddp.specs.Posts.{AllSent, packet_at}
+use Rattle.at_ddp.specs.Posts.{packet_at}
 use Rattle.at_ddp.proofs.PostLemmas.{sent_at}
-use Rattle.at_ddp.specs.Protocols.{atp_kind}
 use Rattle.at_steps.specs.AtpHappenings.{atp_coding}
 use Rattle.at_world.proofs.Entries.{sent_in, IsPacketAt, IsAnothers}
 use Rattle.at_atp.specs.Network.{Sent, is_fresh, after}
 use Rattle.at_node.specs.declared.numbers.Draw.TheVariants.{Tid}
 use Rattle.at_world.specs.AtpGuards.{AtpMachine}
 use Rattle.at_world.specs.Cables.{Cable}
-use Rattle.at_world.proofs.CableTie.{Wire, CableTie, spelled_wire}
+use Rattle.at_world.proofs.CableTie.{CableTie}
 use Rattle.at_world.specs.Sents.{SentDatagram}
 use Rattle.at_world.specs.Worlds.{WorldState, IsFresh}
 use Rattle.at_world.specs.Stories.{posted_packet}

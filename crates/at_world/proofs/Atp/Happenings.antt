@@ -6,7 +6,7 @@ use Rattle.at_atp.specs.Transactions.{Transaction, transaction_of}
 use Rattle.at_zip.specs.Zones.{IsTable}
 use Rattle.at_node.specs.AtpParts.{asking, serving, zones_at}
 use Rattle.at_event.specs.Calls.{IsCall}
-use Rattle.at_node.specs.Numbers.{DrawsHearing, draw_of}
+use Rattle.at_node.specs.Numbers.{IsTold, drawn_by}
 use Rattle.at_node.specs.Hearing.{Hears}
 use Rattle.at_event.specs.Kinds.{Kind, Atp, kind_of_call, kind_of_timer, reporter_of}
 use Rattle.at_node.specs.Nodes.{NodeState, called, timed}
@@ -134,7 +134,8 @@ module _ (A : Type 0) (laws : Laws A) (w : WorldState) (c : Cable) (m : AtpMachi
 
 module _ (A : Type 0) (laws : Laws A) (w : WorldState) (c : Cable) (m : AtpMachine) (ct : CableTie w c)
     (t : AtpTie A w c ct.wires m) (k : ℕ) (n : NodeState) (stands : node_at w k ≡ Some n) where
-  pub call_follows : (call : Call A) → IsCall call → DrawsFree w k (λ y draw. draw_of y call ≡ Some draw)
+  pub call_follows : (call : Call A) → IsCall call
+      → DrawsFree w k (λ y draw. drawn_by (called y call).report ≡ Some draw)
       → (called n call).state.seat ≡ n.seat → Follows A w c m ct t (event.Call k call) (called n call)
   call_follows call range free seat = go (is_atp (kind_of_call call)) refl
     where
@@ -156,7 +157,7 @@ module _ (A : Type 0) (laws : Laws A) (w : WorldState) (c : Cable) (m : AtpMachi
           (laws.foreign_timer n time other)
 
   pub datagram_follows : (which : ℕ) (d : SentDatagram) → Comes A w c m ct t which d
-      → DrawsFree w k (λ y draw. DrawsHearing A y d.bytes draw) → (said : Reply A) (o : Outcome A NodeState)
+      → DrawsFree w k (λ y draw. IsTold A y d.bytes draw) → (said : Reply A) (o : Outcome A NodeState)
       → (is_asked o.report ≡ true → said ≡ Later) → Hears said n d.bytes o → o.state.seat ≡ n.seat
       → Follows A w c m ct t (event.Deliver which k) o
   datagram_follows which d (inr x) free said o later hears seat =

@@ -3,7 +3,7 @@ use Rattle.std.proofs.Common.{◌≡◌, ℕ, ◌+◌, Bool, true, false, cond, 
 use Rattle.std.proofs.Common.{ap, subst, ◌∙◌}
 use Rattle.std.specs.Prelude.{find, nat_le, ◌==◌, ◌&&◌, ◌||◌, not}
 use Rattle.std.specs.List.{AllByRecursion, list_all, list_any}
-use Rattle.std.proofs.lemmas.Bool.{true≢false, and_parts, eqb-true, le-leb, or_parts}
+use Rattle.std.proofs.lemmas.Bool.{and_parts, eqb-true, le-leb, or_parts}
 use Rattle.at_ddp.specs.Address.{same_address}
 use Rattle.at_ddp.specs.declared.address.Address.{Address}
 use Rattle.at_ddp.proofs.Octets.{same_address-true}

@@ -1,11 +1,10 @@
 -- What is known of a datagram that comes in time, in words of segments.
-use Rattle.std.proofs.Common.{◌≡◌, ◌⊎◌, inl, inr, ⊎_elim, ℕ, zero, suc, true, false, List, [], ◌∷◌, map, Option, Some}
-use Rattle.std.proofs.Common.{None, refl, sym, ap, subst, ◌∙◌}
-use Rattle.std.specs.Prelude.{slice_get, IfSome, ◌==◌, ◌&&◌}
+use Rattle.std.proofs.Common.{◌≡◌, ◌⊎◌, inl, inr, ⊎_elim, ℕ, true, List, Some}
+use Rattle.std.proofs.Common.{sym, ap, subst, ◌∙◌}
+use Rattle.std.specs.Prelude.{slice_get, ◌&&◌}
 use Rattle.at_adsp.specs.Lawfully.{IsLawfullySent}
-use Rattle.at_ddp.specs.Posts.{AllSent, packet_at}
+use Rattle.at_ddp.specs.Posts.{packet_at}
 use Rattle.at_ddp.proofs.PostLemmas.{sent_at}
-use Rattle.at_ddp.specs.Protocols.{adsp_kind}
 use Rattle.at_steps.specs.StreamHappenings.{stream_coding}
 use Rattle.at_world.proofs.Entries.{sent_in, wire_of, IsPacketAt, IsAnothers}
 use Rattle.at_adsp.specs.Network.{Sent, after, dest_of, is_fresh}

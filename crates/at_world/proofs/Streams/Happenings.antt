@@ -14,7 +14,7 @@ use Rattle.at_event.specs.declared.service.Reply.{Reply}
 use Rattle.at_adsp.specs.Meetings.{ReadsWith}
 use Rattle.at_adsp.specs.Orders.{ReadsInOrder}
 use Rattle.at_stream_socket.specs.Sockets.{streams_at}
-use Rattle.at_node.specs.Numbers.{DrawsHearing, drawn_by}
+use Rattle.at_node.specs.Numbers.{IsTold, drawn_by}
 use Rattle.at_node.specs.Hearing.{Hears}
 use Rattle.at_node.specs.Nodes.{NodeState, called, timed}
 use Rattle.at_node.specs.declared.numbers.Draw.TheVariants.{Conn}
@@ -155,7 +155,7 @@ module _ (A : Type 0) (laws : StreamLaws A) (w : WorldState) (c : Cable) (ss : S
           (laws.foreign_timer n time other)
 
   pub datagram_follows : (which : ℕ) (d : SentDatagram) → Comes w c m ct.wires t which d
-      → DrawsFree w k (λ x draw. DrawsHearing A x d.bytes draw) → (said : Reply A) (o : Outcome A NodeState)
+      → DrawsFree w k (λ x draw. IsTold A x d.bytes draw) → (said : Reply A) (o : Outcome A NodeState)
       → Hears said n d.bytes o → o.state.seat ≡ n.seat → Good A w c ss m ct.wires (event.Deliver which k) o
   datagram_follows which d (inr x) free said o hears seat =
       passed A laws w c ss m ct st t runs (event.Deliver which k) n stands o seat

@@ -1,6 +1,6 @@
 -- What ties a world to what the machine knows of streams, through a history of the network of its ends.
-use Rattle.std.proofs.Common.{◌≡◌, ℕ, ◌<◌, ◌≤◌, Bool, true, false, List, [], ◌∷◌, ◌++◌, length, map, Option, Some, None}
-use Rattle.std.proofs.Common.{refl, sym, ap, subst, ◌∙◌, arith}
+use Rattle.std.proofs.Common.{◌≡◌, ℕ, ◌<◌, ◌≤◌, Bool, true, false, List, [], ◌∷◌, length, Some, None}
+use Rattle.std.proofs.Common.{sym, subst}
 use Rattle.std.specs.Prelude.{is_some, ◌==◌, ◌&&◌}
 use Rattle.std.specs.List.{AllByRecursion}
 use Rattle.at_ddp.specs.Address.{same_address}
@@ -22,7 +22,7 @@ use Rattle.at_adsp.specs.Network.{AllTimely, Happening, NoneNames, Reads, Sent, 
 use Rattle.at_adsp.specs.Orders.{ReadsInOrder}
 use Rattle.at_event.specs.Calls.{IsCall}
 use Rattle.at_event.specs.Kinds.{kind_of_call, kind_of_timer}
-use Rattle.at_event.specs.Outcomes.{Outcome, Outgoing}
+use Rattle.at_event.specs.Outcomes.{Outcome}
 use Rattle.at_event.specs.declared.event.Call.{Call}
 use Rattle.at_event.specs.declared.event.Call.TheVariants.{Read}
 use Rattle.at_event.specs.declared.event.Report.TheVariants as report
@@ -40,7 +40,7 @@ use Rattle.at_stream_socket.specs.Sockets.{streams_at}
 use Rattle.at_world.specs.Cables.{Cable}
 use Rattle.at_world.specs.StreamGuards.{StreamMachine}
 use Rattle.at_world.specs.Worlds.{WorldState, node_at}
-use Rattle.at_world.proofs.CableTie.{Wire, wire}
+use Rattle.at_world.proofs.CableTie.{Wire}
 use Rattle.at_world.proofs.Streams.Times.{IsNoted}
 
 -- an end that this node's event makes gets a number that no end has as its remote

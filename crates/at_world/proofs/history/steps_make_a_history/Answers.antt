@@ -97,7 +97,16 @@ returns g c s events reports w lawful =
     } in
     let told = c.an_event_is_a_step_of_the_session.ensures in
     let sessions : SessionLaws A = record { called = told.call; timed = told.timer; heard = told.datagram } in
-    let both : PartLaws A = record { atp = laws; names = names; streams = streams; sessions = sessions } in
+    let draws = c.what_is_drawn_is_told.ensures in
+    let both : PartLaws A =
+    record {
+      atp = laws;
+      names = names;
+      streams = streams;
+      sessions = sessions;
+      drawn = draws.call;
+      heard = draws.bytes;
+    } in
     λ sent_all follows.
     let opened = tied_at_opening A s setups names lawful in
     let ran = runs A both (opening_world s) (opening_machine s) events reports w opened.0 sent_all follows in

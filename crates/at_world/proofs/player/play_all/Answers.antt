@@ -1,4 +1,4 @@
-use Rattle.std.proofs.Common.{◌≡◌, ◌+◌, ◌∷◌, ◌++◌, [], ℕ, List, ◌∙◌, length, ap, arith, inl, inr, refl, subst}
+use Rattle.std.proofs.Common.{◌≡◌, ◌+◌, ◌∷◌, ◌++◌, [], ℕ, List, ◌∙◌, length, ap, arith, inr, refl, subst}
 use Rattle.std.proofs.lemmas.List.{length-append, take_all}
 use Rattle.at_world.specs.Plays.{opening_world, Follows}
 use Rattle.at_world.specs.Safety.{Safely}

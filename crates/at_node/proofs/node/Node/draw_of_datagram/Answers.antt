@@ -30,7 +30,8 @@ pub returns-in-Ok-clause-only : goal.returns-in-Ok-clause-only
 returns-in-Ok-clause-only g c = λ said o h draw is.
     let n : NodeState = c.args.self.now in
     let d : Datagram = written c.args.datagram.now in
-    let b = packet_of g.row.A.Denot n d o draw (by_packet g.row.A.Denot said n d o draw is h)
+    let making = c.requests_alone_make_ends.ensures in
+    let b = packet_of g.row.A.Denot n d o draw (by_packet g.row.A.Denot making said n d o draw is h)
     (ne_eqb d.kind adsp_kind c.if-datagram-eq-ADSP.false) in
     let seat : c.in-Ok.packet.seat ≡ n.seat = c.in-Ok.ensures.seat ∙ ap (λ (x : NodeState). x.seat) c.self.view_is in
     let packet : content c.in-Ok.packet.frame ≡ b.packet = c.in-Ok.ensures.only b.packet b.spelled in
@@ -48,13 +49,13 @@ returns-then-datagram-eq-ADSP-clause-found g c =
     let mine : (is_for_all n.seat d.kind d.to || is_mine n.seat d.to) ≡ true =
     sym (c.is_for.ensures ∙ ap (λ (x : NodeState). is_for_all x.seat d.kind d.to || is_mine x.seat d.to)
     c.self.view_is) ∙ c.if-not-is_for.false in
-    found_by_segment g.row.A.Denot n d mine c.if-datagram-eq-ADSP.true c.draw_of_segment.result
-    c.draw_of_segment.ensures.found
+    found_by_segment g.row.A.Denot c.requests_alone_make_ends.ensures n d mine c.if-datagram-eq-ADSP.true
+    c.draw_of_segment.result c.draw_of_segment.ensures.found
 
 pub returns-then-datagram-eq-ADSP-clause-only : goal.returns-then-datagram-eq-ADSP-clause-only
 returns-then-datagram-eq-ADSP-clause-only g c = λ said o h draw is.
     let n : NodeState = c.args.self.now in
     let d : Datagram = written c.args.datagram.now in
     let b = segment_of g.row.A.Denot n d o draw
-    (by_packet g.row.A.Denot said n d o draw is h) c.if-datagram-eq-ADSP.true in
+    (by_packet g.row.A.Denot c.requests_alone_make_ends.ensures said n d o draw is h) c.if-datagram-eq-ADSP.true in
     c.draw_of_segment.ensures.only b.id b.makes ∙ ap Some (sym b.is)

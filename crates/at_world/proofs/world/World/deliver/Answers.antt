@@ -118,7 +118,7 @@ returns-clause-played g c =
     let u = stamped_in c.args.self.now.sent es ps c.args.which
     (get_or es c.args.which c.index.result.now) c.node.result c.get-2.result.now
     (ap (λ (w : WorldState). w.sent) c.self.view_is) here c.node.ensures c.get-2.ensures in
-    let free = subst (HeardFree g.row.A.Denot c.args.self.now c.args.node)
+    let free = subst (HeardFree c.args.self.now c.args.node)
     (u.4 ∙ ap (λ (d : SentDatagram). d.bytes) (one c.args.self.now c.args.which u.0 s.0 u.1 s.1))
     (c.draws_held.ensures.free c.if-draws_held.false) in
     let t = stamped_in c.args.self.now.sent es ps c.args.which
@@ -146,7 +146,7 @@ returns-clause-not_played g c =
     let u = stamped_in c.args.self.now.sent es ps c.args.which
     (get_or es c.args.which c.index.result.now) c.node.result c.get-2.result.now
     (ap (λ (w : WorldState). w.sent) c.self.view_is) here c.node.ensures c.get-2.ensures in
-    let free = subst (HeardFree g.row.A.Denot c.args.self.now c.args.node)
+    let free = subst (HeardFree c.args.self.now c.args.node)
     (u.4 ∙ ap (λ (d : SentDatagram). d.bytes) (one c.args.self.now c.args.which u.0 s.0 u.1 s.1))
     (c.draws_held.ensures.free c.if-draws_held.false) in
     let t = stamped_in c.args.self.now.sent es ps c.args.which
@@ -177,7 +177,7 @@ returns-in_default-clause-not_played g c =
     let u = stamped_in c.args.self.now.sent es ps c.args.which
     (get_or es c.args.which c.index.result.now) c.node.result c.get-2.result.now
     (ap (λ (w : WorldState). w.sent) c.self.view_is) here c.node.ensures c.get-2.ensures in
-    let free = subst (HeardFree g.row.A.Denot c.args.self.now c.args.node)
+    let free = subst (HeardFree c.args.self.now c.args.node)
     (u.4 ∙ ap (λ (d : SentDatagram). d.bytes) (one c.args.self.now c.args.which u.0 s.0 u.1 s.1))
     (c.draws_held.ensures.free c.if-draws_held.false) in (
       refl,

@@ -6,7 +6,7 @@ pub returns-in-Timer-clause-played : goal.returns-in-Timer-clause-played
 returns-in-Timer-clause-played g c =
     fired g.row.A.Denot c.args.self.now c.play-in-Timer.new.self c.args.event.now c.in-Timer.node c.in-Timer.timer
     c.play-in-Timer.result c.in-Timer.is (sym c.is_over.ensures ∙ c.if-is_over.false)
-    c.play-in-Timer.ensures.played c.play-in-Timer.ensures.free
+    c.play-in-Timer.ensures.played
 
 pub returns-in-Timer-clause-not_played : goal.returns-in-Timer-clause-not_played
 returns-in-Timer-clause-not_played g c =

@@ -1,0 +1,269 @@
+-- What a call draws, its report tells. A timer draws nothing.
+use Rattle.std.proofs.Common.{◌≡◌, ℕ, Bool, true, false, cond, List, length, find, option_map, Option, Some, None, refl}
+use Rattle.std.specs.Prelude.{◌||◌, is_none, is_some, nat_lt, Result, Ok, Err}
+use Rattle.at_ddp.specs.declared.address.Address.{Address}
+use Rattle.at_atp_frame.specs.Fault as atp
+use Rattle.at_atp_frame.specs.Packets.{Packet}
+use Rattle.at_atp_frame.specs.declared.fault.AtpFault.{AtpFault}
+use Rattle.at_atp_frame.specs.declared.fault.AtpFault.TheVariants.{AtpTooLong}
+use Rattle.at_atp_requester.specs.Requests.{Retried, next_number, retried}
+use Rattle.at_atp_requester.specs.declared.step.Retry.{Retry}
+use Rattle.at_atp_requester.specs.declared.step.Retry.TheVariants as retry
+use Rattle.at_atp_responder.specs.Records.{answer_fault, expiry_fault, is_key}
+use Rattle.at_atp_responder.specs.declared.reception.Key.{Key}
+use Rattle.at_zip.specs.Fault as zip
+use Rattle.at_zip.specs.Zones.{table_fault}
+use Rattle.at_zip.specs.declared.fault.ZipFault.{ZipFault}
+use Rattle.at_nbp.specs.Fault as nbp
+use Rattle.at_nbp.specs.Lookups.{Search, next_id, search_of}
+use Rattle.at_nbp.specs.NameTables.{is_called, is_no_text, register_fault}
+use Rattle.at_nbp.specs.declared.fault.NbpFault.{NbpFault}
+use Rattle.at_nbp.specs.declared.fault.NbpFault.TheVariants.{EmptyName}
+use Rattle.at_nbp.specs.declared.name.Name.{Name}
+use Rattle.at_nbp.specs.declared.names.Registered.{Registered}
+use Rattle.at_adsp_end.specs.Calls.{is_idle, is_last, probed, ticked}
+use Rattle.at_adsp_end.specs.Ends.{EndState, is_closed, is_open}
+use Rattle.at_adsp_end.specs.Fault as adsp
+use Rattle.at_adsp_end.specs.Positions.{wire}
+use Rattle.at_adsp_end.specs.Sending.{closing}
+use Rattle.at_adsp_end.specs.declared.fault.StreamFault.{StreamFault}
+use Rattle.at_adsp_end.specs.declared.fault.StreamFault.TheVariants.{NotOpen}
+use Rattle.at_adsp_end.specs.declared.step.Step.{Step}
+use Rattle.at_adsp_end.specs.declared.step.Step.TheVariants as step
+use Rattle.at_adsp_end.specs.declared.tick.Tick.{Tick}
+use Rattle.at_adsp_end.specs.declared.tick.Tick.TheVariants as tick
+use Rattle.at_adsp_ends.specs.Calls.{closed_at, connected, frees, read_at, reset_at, ticked_at, wrote}
+use Rattle.at_adsp_ends.specs.Receiving.{settled}
+use Rattle.at_adsp_ends.specs.Tables.{Done, EndTable, by_id, freed, moved, next_id as next_end}
+use Rattle.at_name_socket.specs.NameSockets.{SocketState, finish, finish_fault}
+use Rattle.at_name_socket.specs.declared.step.Finished.{Finished}
+use Rattle.at_name_socket.specs.declared.step.Finished.TheVariants as finished
+use Rattle.at_stream_socket.specs.Calls as calls
+use Rattle.at_stream_socket.specs.Sockets.{told_by as told_as}
+use Rattle.at_event.specs.Outcomes.{Outcome, idle, refused_as}
+use Rattle.at_event.specs.Seats.{at_socket}
+use Rattle.at_event.specs.declared.event.Call.{Call}
+use Rattle.at_event.specs.declared.event.Call.TheVariants.{Zones, SetZones, Ask, Answer, Pick}
+use Rattle.at_event.specs.declared.event.Call.TheVariants.{Find, Claim, Finish, Register, Unregister}
+use Rattle.at_event.specs.declared.event.Call.TheVariants.{Open, Listen, Connect, Write, Read, Reset, Close}
+use Rattle.at_event.specs.declared.event.Report.{Report}
+use Rattle.at_event.specs.declared.event.Report.TheVariants as report
+use Rattle.at_event.specs.declared.event.Timer.{Timer}
+use Rattle.at_event.specs.declared.event.Timer.TheVariants as timer
+use Rattle.at_event.specs.declared.seat.Seat.{Seat}
+use Rattle.at_session.specs.Sessions.{SessionState, address_at, is_listed, pattern_asked}
+use Rattle.at_node.specs.AtpParts.{AtpState, Reading}
+use Rattle.at_node.specs.NameCalls.{asked_again, claimed_as, finished_as, found_as, refused_by, registered_as, told_of}
+use Rattle.at_node.specs.NameCalls.{unregistered_as}
+use Rattle.at_node.specs.Nodes.{NodeState, called, timed}
+use Rattle.at_node.specs.Numbers.{draw_of, drawn_by}
+use Rattle.at_node.specs.RequesterSocket.{after_retry, asked_as, retry_fired}
+use Rattle.at_node.specs.Responders.{expired, records_at}
+use Rattle.at_node.specs.ServiceSocket.{answered_with}
+use Rattle.at_node.specs.SessionCalls.{open_called, picked_as}
+use Rattle.at_node.specs.ZoneReading.{after_failing, is_reading, reading_begins, zones_called}
+use Rattle.at_node.specs.ZoneSocket.{set_zones_called, table_set}
+use Rattle.at_node.specs.declared.numbers.Draw.{Draw}
+use Rattle.at_node.specs.declared.numbers.Draw.TheVariants.{Conn, Lookup, Tid}
+
+module _ (A : Type 0) where
+  -- this is drawn
+  abbrev By : {S : Type 0} → Outcome A S → Option Draw → Type 0
+  By o draw = drawn_by o.report ≡ draw
+
+  refused : {S : Type 0} (s : S) (number : Option ℕ) → By (idle s (refused_as number)) None
+  refused s None = refl
+  refused s (Some k) = refl
+
+  -- ---- transactions
+
+  module _ (s : Seat) (a : AtpState) where
+    begins : (router : ℕ) (o : Option ℕ) → By (reading_begins s a router o) (option_map (λ tid. Tid tid) o)
+    begins router None = refl
+    begins router (Some tid) = refl
+
+    reads : (router : Option ℕ) (now : Option Reading) → By (zones_called s a router now)
+        (cond (is_none router || is_some now) None (option_map (λ tid. Tid tid) (next_number a.requester)))
+    reads None now = refl
+    reads (Some router) (Some r) = refl
+    reads (Some router) None = begins router (next_number a.requester)
+
+    asked : (to : Address) (user bytes : List ℕ) (wanted : ℕ) (xo : Bool) (retries : ℕ) (o : Option ℕ)
+        → By (asked_as s a to user bytes wanted xo retries o) (option_map (λ tid. Tid tid) o)
+    asked to user bytes wanted xo retries None = refl
+    asked to user bytes wanted xo retries (Some tid) = refl
+
+    asks : (to : Address) (user bytes : List ℕ) (wanted : ℕ) (xo : Bool) (retries : ℕ) (b : Bool)
+        → By (cond b (idle a (refused_as (atp.number_of AtpTooLong)))
+        (asked_as s a to user bytes wanted xo retries (next_number a.requester)))
+        (cond b None (option_map (λ tid. Tid tid) (next_number a.requester)))
+    asks to user bytes wanted xo retries true = refl
+    asks to user bytes wanted xo retries false = asked to user bytes wanted xo retries (next_number a.requester)
+
+    answers : (key : Key) (packets : List Packet) (o : Option AtpFault) → By (answered_with s a key packets o) None
+    answers key packets None = refl
+    answers key packets (Some fault) = refused a (atp.number_of fault)
+
+    sets : (names : List (List ℕ)) (o : Option ZipFault) → By (table_set a names o) None
+    sets names None = refl
+    sets names (Some fault) = refused a (zip.number_of fault)
+
+    sets_zones : (table : Option (List (List ℕ))) (names : List (List ℕ)) → By (set_zones_called a table names) None
+    sets_zones None names = refl
+    sets_zones (Some table) names = sets names (table_fault names)
+
+    failing : (tid : ℕ) (r : Retried) (b : Bool) → By (after_failing a tid r.after b) None
+    failing tid r true = refl
+    failing tid r false = refl
+
+    retries : (tid : ℕ) (r : Retried) (x : Retry) → By (after_retry s a tid r x) None
+    retries tid r retry.AskedAgain = refl
+    retries tid r retry.Failed = failing tid r (is_reading a.reading tid)
+
+    retries_some : (tid : ℕ) (o : Option Retried) → By (retry_fired s a tid o) None
+    retries_some tid None = refl
+    retries_some tid (Some r) = retries tid r r.step
+
+    expires : (own : ℕ) (key : Key) (o : Option AtpFault) → By (expired a own key o) None
+    expires own key None = refl
+    expires own key (Some fault) = refused a (atp.number_of fault)
+
+  -- ---- names
+
+  module _ (s : Seat) (n : SocketState) where
+    finds : (pattern : Name) (o : Option ℕ) → By (found_as s n pattern o) (option_map (λ id. Lookup id) o)
+    finds pattern None = refl
+    finds pattern (Some id) = refl
+
+    claimed : (object kind : List ℕ) (socket : ℕ) (o : Option ℕ)
+        → By (claimed_as s n object kind socket o) (option_map (λ id. Lookup id) o)
+    claimed object kind socket None = refl
+    claimed object kind socket (Some id) = refl
+
+    claims : (object kind : List ℕ) (socket : ℕ) (b : Bool)
+        → By (cond b (refused_by n EmptyName) (claimed_as s n object kind socket (next_id n.lookups)))
+        (cond b None (option_map (λ id. Lookup id) (next_id n.lookups)))
+    claims object kind socket true = refl
+    claims object kind socket false = claimed object kind socket (next_id n.lookups)
+
+    told : (f : Finished A) → drawn_by (told_of f) ≡ None
+    told (finished.Found finds) = refl
+    told finished.Claimed = refl
+    told (finished.Taken f) = refl
+
+    finishes : (id : ℕ) (o : Option NbpFault) → By (finished_as n id o) None
+    finishes id None = told (finish {A = A} n id).finished
+    finishes id (Some fault) = refused n (nbp.number_of fault)
+
+    registers : (object kind : List ℕ) (socket : ℕ) (o : Option NbpFault)
+        → By (registered_as n object kind socket o) None
+    registers object kind socket None = refl
+    registers object kind socket (Some fault) = refused n (nbp.number_of fault)
+
+    unregisters : (object kind : List ℕ) (o : Option Registered) → By (unregistered_as n object kind o) None
+    unregisters object kind None = refl
+    unregisters object kind (Some name) = refl
+
+    asks_again : (o : Option Search) → By (asked_again s n o) None
+    asks_again None = refl
+    asks_again (Some search) = refl
+
+  -- ---- streams
+
+  module _ (s : Seat) (t : EndTable) where
+    connects : (to : Address) (o : Option ℕ) → By (calls.called s t report.Opening (connected t to o))
+        (option_map (λ id. Conn id) o)
+    connects to None = refl
+    connects to (Some id) = refl
+
+    opens : (o : Option Address) → By (open_called s t o)
+        (cond (is_none o) None (option_map (λ id. Conn id) (next_end t)))
+    opens None = refl
+    opens (Some to) = connects to (next_end t)
+
+    -- what draws nothing, whatever it is
+    plain : {X : Type 0} (told : X → Report A) → ((x : X) → drawn_by (told x) ≡ None)
+        → (r : Result (Done X) StreamFault) → By (calls.called s t told r) None
+    plain told none (Ok d) = none d.answer
+    plain told none (Err fault) = refused t (adsp.number_of fault)
+
+    either_none : (b : Bool) (x y : Done Step) → drawn_by {A = A} (told_as x.answer) ≡ None
+        → drawn_by {A = A} (told_as y.answer) ≡ None → By (calls.called s t told_as (cond b (Ok x) (Ok y))) None
+    either_none true x y none other = none
+    either_none false x y none other = other
+
+    closes : (o : Option EndState) → By (calls.called s t told_as (closed_at wire t o)) None
+    closes None = refl
+    closes (Some e) = either_none (is_open e.phase)
+        (moved t (step.Closed e.id) (closing wire e).after (closing wire e).sent) (freed t (step.Freed e.id) e)
+        refl refl
+
+    idles : (b : Bool) → drawn_by {A = A} (told_as (cond b step.Idle step.Again)) ≡ None
+    idles true = refl
+    idles false = refl
+
+    probes : (e : EndState) (b : Bool) → drawn_by {A = A} (told_as (probed wire e b).step) ≡ None
+    probes e true = refl
+    probes e false = refl
+
+    ticks : (e : EndState) (x : Tick) → drawn_by {A = A} (told_as (ticked wire e x).step) ≡ None
+    ticks e tick.Retransmit = idles (is_idle e)
+    ticks e tick.Probe = probes e (is_last e tick.Probe)
+
+    unless_closed : (b : Bool) (r : Result (Done Step) StreamFault) → By (calls.called s t told_as r) None
+        → By (calls.called s t told_as (cond b (Err NotOpen) r)) None
+    unless_closed true r none = refl
+    unless_closed false r none = none
+
+    ticks_at : (x : Tick) (o : Option EndState) → By (calls.called s t told_as (ticked_at wire t x o)) None
+    ticks_at x None = refl
+    ticks_at x (Some e) =
+        let first : Done Step = freed t (step.Freed e.id) e in
+        let other : Done Step = settled t (ticked wire e x) in
+        unless_closed (is_closed e.phase) (cond (frees e x) (Ok first) (Ok other))
+        (either_none (frees e x) first other refl (ticks e x))
+
+  -- ---- all of them
+
+  picks : (s : SessionState) (zone : List ℕ) (b : Bool) → By (picked_as s zone b) None
+  picks s zone true = refl
+  picks s zone false = refl
+
+  pub call_draws : (n : NodeState) (call : Call A) → By (called n call) (draw_of n call)
+  call_draws n Zones = reads n.seat n.atp n.seat.router n.atp.reading
+  call_draws n (SetZones names) = sets_zones n.seat n.atp n.atp.table names
+  call_draws n (Ask node socket user bytes wanted xo retries) =
+      asks n.seat n.atp (at_socket n.seat node socket) user bytes wanted xo retries (nat_lt 578 (length bytes))
+  call_draws n (Answer node socket tid packets) =
+      let key : Key = record { from = at_socket n.seat node socket; tid = tid } in
+      answers n.seat n.atp key packets (answer_fault n.atp.service_responder key packets)
+  call_draws n (Pick zone) = picks n.session zone (is_listed n.session zone)
+  call_draws n (Find object kind zone) =
+      finds n.seat n.names (pattern_asked n.session object kind zone) (next_id n.names.lookups)
+  call_draws n (Claim object kind socket) =
+      claims n.seat n.names object kind socket (is_no_text object || is_no_text kind)
+  call_draws n (Finish id) = finishes n.seat n.names id (finish_fault n.names id)
+  call_draws n (Register object kind socket) =
+      registers n.seat n.names object kind socket (register_fault n.names.table.names object kind)
+  call_draws n (Unregister object kind) =
+      unregisters n.seat n.names object kind (find (is_called object kind) n.names.table.names)
+  call_draws n (Open index) = opens n.seat n.streams (address_at n.session index)
+  call_draws n (Listen on) = refl
+  call_draws n (Connect node socket) =
+      connects n.seat n.streams (at_socket n.seat node socket) (next_end n.streams)
+  call_draws n (Write id items) =
+      plain n.seat n.streams report.Wrote (λ x. refl) (wrote wire n.streams items (by_id n.streams id))
+  call_draws n (Read id count) =
+      plain n.seat n.streams report.Read (λ x. refl) (read_at wire n.streams count (by_id n.streams id))
+  call_draws n (Reset id) =
+      plain n.seat n.streams (λ x. report.StreamReset) (λ x. refl) (reset_at wire n.streams (by_id n.streams id))
+  call_draws n (Close id) = closes n.seat n.streams (by_id n.streams id)
+
+  pub timer_draws : (n : NodeState) (time : Timer) → By (timed n time) None
+  timer_draws n (timer.Retry tid) = retries_some n.seat n.atp tid (retried n.atp.requester tid)
+  timer_draws n (timer.Release own node socket tid) =
+      let key : Key = record { from = at_socket n.seat node socket; tid = tid } in
+      expires n.seat n.atp own key (expiry_fault (find (is_key key) (records_at n.atp own)))
+  timer_draws n (timer.Lookup id) = asks_again n.seat n.names (search_of n.names.lookups id)
+  timer_draws n (timer.Resend id) = ticks_at n.seat n.streams tick.Retransmit (by_id n.streams id)
+  timer_draws n (timer.Probe id) = ticks_at n.seat n.streams tick.Probe (by_id n.streams id)
