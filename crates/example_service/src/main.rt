@@ -28,9 +28,18 @@ const MOST_ROUNDS: u32 = 10;
 fn main(rt: HostRuntime) -> io::Result<()> {
     let mut client = node(rt.alloc(), CLIENT);
     let mut server = node(rt.alloc(), SERVER);
-    let mut sent = ask(&rt, &mut client)?;
+    exchange(&rt, &mut client, &mut server)
+}
+
+// The client asks, and datagrams are handed over until none is left.
+fn exchange<R: Print + AllocGlobal>(
+    rt: &R,
+    client: &mut Node,
+    server: &mut Node,
+) -> io::Result<()> {
+    let mut sent = ask(rt, client)?;
     for _round in 0..MOST_ROUNDS {
-        sent = hand_over(&rt, &mut client, &mut server, &sent)?;
+        sent = hand_over(rt, client, server, &sent)?;
     }
     println!(rt; "datagrams left: {}", sent.len())
 }
