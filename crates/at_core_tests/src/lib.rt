@@ -5,6 +5,10 @@
 #[cfg(test)]
 mod datagrams;
 #[cfg(test)]
+mod listed_finds;
+#[cfg(test)]
+mod listed_names;
+#[cfg(test)]
 mod names;
 #[cfg(test)]
 mod pages;

@@ -2,6 +2,7 @@ mod FewLemmas
 mod OpenLemmas
 mod ClosedLemmas
 mod OwedLemmas
+mod OpeningLemmas
 mod PacketSteps
 mod SocketLemmas
 mod StepLemmas

@@ -1,8 +1,8 @@
 -- The finds that join, tuple by tuple.
 use Rattle.std.proofs.Common.{◌≡◌, ℕ, ◌+◌, ◌-◌, ◌<◌, ◌≤◌, Bool, true, false, cond, List, [], ◌∷◌, ◌++◌, length, get_or}
 use Rattle.std.proofs.Common.{take, map, set, Some, None, refl, sym, ap, subst, ◌∙◌, append_assoc, append-nil, arith}
-use Rattle.std.specs.Prelude.{find, IfOk, OnErr, OnOk, Result, Ok, Err}
-use Rattle.std.proofs.lemmas.List.{length-append, map_more, take_all}
+use Rattle.std.specs.Prelude.{find, IfOk, IsOk, OnErr, OnOk, Result, Ok, Err}
+use Rattle.std.proofs.lemmas.List.{length-append, map_more, set-get_or, take_all}
 use Rattle.at_ddp.proofs.TableLemmas.{Found}
 use Rattle.at_nbp.specs.Lookups.{AreLookups, Heard, Lookups, Search, all_joined, answered, find_of, has_id, heard}
 use Rattle.at_nbp.specs.Lookups.{is_reply, joined, joins, reply_came}
@@ -100,6 +100,21 @@ heard_as l p i f (Ok n) new reply is =
     ∙ ap (λ (k : List Search). record l { searches = k }) (sym (f.set_is (answered f.entry p.tuples)))
     ∙ ap (λ (h : Heard). h.after) (sym (heard_some l p f.entry reply f.first))
 heard_as l p i f (Err e) new reply is = tt
+
+-- what a search says of the reply that it heard
+pub record IsHeardBy {E : Type 0} (s : Search) (tuples : List Entry) (r : Result ℕ E) (new : Search) : Type 0 where
+  pub state : OnOk r (new ≡ answered s tuples)
+  pub count : IfOk r (λ n. length s.finds + n ≡ length (answered s tuples).finds)
+  pub unchanged : OnErr r (new ≡ s)
+  pub none : length (answered s tuples).finds ≡ length s.finds → IsOk r
+
+-- put back as it was, a search leaves the table
+pub stays : {E : Type 0} (l : Lookups) (id i : ℕ) (f : Found (has_id id) l.searches i) (r : Result ℕ E) (new : Search)
+    → OnErr r (new ≡ f.entry) → OnErr r (record l { searches = set l.searches i new } ≡ l)
+stays l id i f (Ok n) new same = tt
+stays l id i f (Err e) new same = ap (λ (s : Search). record l { searches = set l.searches i s })
+    (same ∙ sym (f.at f.entry))
+    ∙ ap (λ (k : List Search). record l { searches = k }) (set-get_or l.searches i f.entry)
 
 grows : (pattern : Name) (finds : List Find) (ts : List Entry) → length finds ≤ length (all_joined pattern finds ts)
 grows pattern finds [] = omega arith

@@ -6,6 +6,7 @@ mod FindLemmas
 mod HearingLemmas
 mod Histories
 mod ListLemmas
+mod KnownLemmas
 mod LookupLaws
 mod NameTableLemmas
 mod NetworkLemmas
@@ -16,4 +17,5 @@ mod Ranges
 mod ReplyExistence
 mod ReplyLemmas
 mod StoodLemmas
+mod TitleLemmas
 mod TupleLemmas

@@ -1,5 +1,5 @@
 -- What holds of every table of lookups, after each call.
-use Rattle.std.proofs.Common.{◌≡◌, ℕ, zero, suc, ◌+◌, ◌%◌, ◌<◌, Bool, true, false, cond, List, [], ◌∷◌, ◌++◌, length}
+use Rattle.std.proofs.Common.{◌≡◌, ℕ, ◌+◌, ◌%◌, ◌<◌, Bool, true, false, cond, List, [], ◌∷◌, ◌++◌, length}
 use Rattle.std.proofs.Common.{find, Option, Some, None, refl, sym, subst, ◌∙◌, arith}
 use Rattle.std.specs.Prelude.{nat_lt, not, ◌==◌, ◌&&◌}
 use Rattle.std.specs.List.{AllByRecursion, IsDistinct, list_any}
@@ -119,7 +119,7 @@ closed_lawful l id h = record {
 
 -- ---- finds that join
 
-turned : (a b : Find) → same_find a b ≡ same_find b a
+pub turned : (a b : Find) → same_find a b ≡ same_find b a
 turned a b = λ i.
     nat_list_eq_equiv.symm a.name.object b.name.object i && nat_list_eq_equiv.symm a.name.kind b.name.kind i
     && nat_list_eq_equiv.symm a.name.zone b.name.zone i

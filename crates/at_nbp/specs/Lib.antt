@@ -8,4 +8,5 @@ pub mod Network
 pub mod Packets
 pub mod Relays
 pub mod Replies
+pub mod Titles
 pub mod Tuples

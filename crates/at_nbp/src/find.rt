@@ -5,7 +5,7 @@ use crate::name::Name;
 use at_ddp::{Address, Pascal};
 
 /// A name that a lookup found, and the socket that has it.
-#[derive(Debug, Drop, PartialEq, Eq)]
+#[derive(Debug, Drop, PartialEq, Eq, Hash)]
 pub struct Find {
     pub name: Name,
     pub address: Address,

@@ -15,6 +15,7 @@ mod relaying;
 mod replies;
 mod search;
 mod strings;
+mod title;
 mod tuple;
 
 pub use fault::NbpFault;

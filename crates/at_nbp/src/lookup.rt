@@ -165,7 +165,8 @@ impl<A: Allocator + Copy> Lookup<A> {
         requires { place < length (finds_in (search_of self.now id)) }
         ensures { slice_get (finds_in (search_of self.now id)) place ≡ Some result.now }
     {
-        &search_of(&self.searches, id).unwrap().finds[place]
+        let search = search_of(&self.searches, id).unwrap();
+        &search.finds.as_slice()[place]
     }
 
     /// Closes the lookup of this identifier and drops its finds. This needs no memory.

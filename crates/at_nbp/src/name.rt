@@ -7,7 +7,7 @@ use at_patterns::matches_text;
 
 /// The name of an entity, or a pattern of names. In a pattern `=` stands for any object or type, and `*` for any zone.
 /// The first byte 0xC5 in another object or type of a pattern stands for zero or more bytes.
-#[derive(Debug, Drop, PartialEq, Eq)]
+#[derive(Debug, Drop, PartialEq, Eq, Hash)]
 pub struct Name {
     pub object: Pascal,
     /// The type of the object.

@@ -10,9 +10,12 @@ ghost use Rattle.at_nbp.specs.NameTables.{AreNames, register_fault};
 use crate::fault::NbpFault;
 use crate::find::{Find, copy_of};
 use crate::name::Name;
-use at_ddp::{Address, Pascal, same_text};
+use crate::title::Title;
+use at_ddp::{Address, Pascal};
 use at_patterns::is_any_text;
+use indexmap::IndexMap;
 use std::alloc::{Allocator, Global};
+use std::hash::{BuildHasherDefault, FoldHasher};
 use std::marker::Model;
 
 /// The most names of a node.
@@ -35,17 +38,20 @@ pub struct Names<A: Allocator = Global> {
     pub(crate) alloc: A,
     pub(crate) own: Address,
     pub(crate) zone: Pascal,
-    pub(crate) list: Vec<Registered, A>,
+    // Each name as it was registered, under its title.
+    pub(crate) names: IndexMap<Title, Registered, BuildHasherDefault<FoldHasher>, A>,
 }
 
 impl<A: Allocator> Model for Names<A> {
     ghost use Rattle.at_nbp.specs.NameTables.{AreNames, Table};
+    ghost use Rattle.at_nbp.specs.Titles.{AreTitled};
+    ghost use Rattle.indexmap.specs.IndexMap.{values};
 
     ghost Value = { Table };
 
-    ghost view = { λ n. record { own = n.own; zone = n.zone; names = n.list.items } };
+    ghost view = { λ n. record { own = n.own; zone = n.zone; names = values n.names } };
 
-    ghost invariant = { λ n. AreNames n.list.items };
+    ghost invariant = { λ n. AreNames (values n.names) × AreTitled n.names };
 }
 
 impl<A: Allocator + Copy> Names<A> {
@@ -63,7 +69,7 @@ impl<A: Allocator + Copy> Names<A> {
             alloc,
             own,
             zone,
-            list: Vec::new(alloc),
+            names: IndexMap::new(alloc),
         }
     }
 
@@ -71,7 +77,7 @@ impl<A: Allocator + Copy> Names<A> {
     pub fn limits(&self)
         ensures { AreNames self.now.names }
     {
-        let _count = self.list.len();
+        let _count = self.names.len();
     }
 
     /// The socket of the table, and its network and node.
@@ -96,17 +102,19 @@ impl<A: Allocator + Copy> Names<A> {
         ensures memory { IfErr result (λ fault. register_fault self.old.names object kind ≡ None
             → fault ≡ NbpFault.NoMemory) }
     {
-        if let Some(fault) = register_fault(&self.list, &object, &kind) {
+        if let Some(fault) = self.register_fault(&object, &kind) {
             return Err(fault);
         }
-        self.list.reserve(1)?;
-        let enumerator = least_free(&self.list, socket);
-        self.list.push_reserved(Registered {
+        self.names.reserve(1)?;
+        let title = Title::of(&object, &kind);
+        let enumerator = least_free(self.names.values().as_slice(), socket);
+        let name = Registered {
             object,
             kind,
             socket,
             enumerator,
-        });
+        };
+        self.names.insert(title, name).unwrap();
         Ok(())
     }
 
@@ -119,10 +127,9 @@ impl<A: Allocator + Copy> Names<A> {
         ensures found { IsOk result ↔ IsSome (find (is_called object.now kind.now) self.old.names) }
         ensures refuses { IfErr result (λ fault. fault ≡ NbpFault.NoSuchName) }
     {
-        let Some(index) = index_of(&self.list, object, kind) else {
+        let Some(_name) = self.names.shift_remove(&Title::of(object, kind)) else {
             return Err(NbpFault::NoSuchName);
         };
-        let _ = self.list.remove(index);
         Ok(())
     }
 
@@ -130,7 +137,7 @@ impl<A: Allocator + Copy> Names<A> {
     pub fn find(&self, object: &Pascal, kind: &Pascal) -> Option<Find>
         ensures { result ≡ option_map (own_find self.now) (find (is_called object.now kind.now) self.now.names) }
     {
-        let name = named(&self.list, object, kind)?;
+        let name = self.named(object, kind)?;
         Some(Find {
             name: Name {
                 object: copy_of(&name.object),
@@ -144,20 +151,33 @@ impl<A: Allocator + Copy> Names<A> {
             enumerator: name.enumerator,
         })
     }
-}
 
-/// Why a name cannot be registered beside these.
-fn register_fault(names: &[Registered], object: &Pascal, kind: &Pascal) -> Option<NbpFault>
-    ensures { result ≡ register_fault names.now object.now kind.now }
-{
-    if is_no_name(object, kind) {
-        Some(NbpFault::EmptyName)
-    } else if is_registered(names, object, kind) {
-        Some(NbpFault::NameInUse)
-    } else if names.len() >= MAX_NAMES {
-        Some(NbpFault::NamesFull)
-    } else {
-        None
+    // Why a name cannot be registered beside those that stand.
+    fn register_fault(&self, object: &Pascal, kind: &Pascal) -> Option<NbpFault>
+        ensures { result ≡ register_fault self.now.names object.now kind.now }
+    {
+        if is_no_name(object, kind) {
+            Some(NbpFault::EmptyName)
+        } else if self.named(object, kind).is_some() {
+            Some(NbpFault::NameInUse)
+        } else if self.names.len() >= MAX_NAMES {
+            Some(NbpFault::NamesFull)
+        } else {
+            None
+        }
+    }
+
+    fn named(&self, object: &Pascal, kind: &Pascal) -> Option<&Registered>
+        ensures { option_copied result ≡ find (is_called object.now kind.now) self.now.names }
+    {
+        self.names.get(&Title::of(object, kind))
+    }
+
+    // The names in the order in which they were registered.
+    pub(crate) fn listed(&self) -> &[Registered]
+        ensures { result.now ≡ self.now.names }
+    {
+        self.names.values().as_slice()
     }
 }
 
@@ -172,30 +192,6 @@ fn is_no_text(text: &[u8]) -> bool
     ensures { result ≡ is_no_text text.now }
 {
     text.is_empty() || is_any_text(text)
-}
-
-fn is_registered(names: &[Registered], object: &Pascal, kind: &Pascal) -> bool
-    ensures { result ≡ is_some (find (is_called object.now kind.now) names.now) }
-{
-    named(names, object, kind).is_some()
-}
-
-fn named<'a>(names: &'a [Registered], object: &Pascal, kind: &Pascal) -> Option<&'a Registered>
-    ensures { option_copied result ≡ find (is_called object.now kind.now) names.now }
-{
-    names.iter().find(|name| is_called(name, object, kind))
-}
-
-fn index_of(names: &[Registered], object: &Pascal, kind: &Pascal) -> Option<usize>
-    ensures { result ≡ position_from (is_called object.now kind.now) 0 names.now }
-{
-    names.iter().position(|name| is_called(name, object, kind))
-}
-
-fn is_called(name: &Registered, object: &Pascal, kind: &Pascal) -> bool
-    ensures { result ≡ is_called object.now kind.now name.now }
-{
-    same_text(name.object.bytes(), object.bytes()) && same_text(name.kind.bytes(), kind.bytes())
 }
 
 /// The least number that no name of the socket has.

@@ -45,7 +45,7 @@ impl<A: Allocator + Copy> Names<A> {
         ensures short { All FitsStrings (matching self.now pattern.now) }
     {
         let mut count = 0;
-        for name in self.list.as_slice() {
+        for name in self.listed() {
             if self.is_match(pattern, name) {
                 let _tuple = self.tuple_of(name);
                 count += 1;
@@ -60,8 +60,8 @@ impl<A: Allocator + Copy> Names<A> {
         ensures short { IfOk result (λ found. All FitsStrings (map content found.items)) }
         ensures few { IfOk result (λ found. length found.items ≤ 64) }
     {
-        let mut found = Vec::with_capacity(self.alloc, self.list.len())?;
-        for name in self.list.as_slice() {
+        let mut found = Vec::with_capacity(self.alloc, self.names.len())?;
+        for name in self.listed() {
             if self.is_match(pattern, name) {
                 found.push(self.tuple_of(name)).unwrap();
             }

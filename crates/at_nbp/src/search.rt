@@ -1,7 +1,8 @@
 //! One open lookup, and which tuples of a reply join its finds.
 ghost use Rattle.std.specs.Prelude.{◌≡◌, ◌≤◌, ◌<◌, ◌-◌, ◌+◌, ◌++◌, ◌∷◌, [], All, length, map, IfOk, OnOk, OnErr, IsOk};
-ghost use Rattle.std.specs.Prelude.{if◌then◌else◌, vec_capacity};
-ghost use Rattle.std.specs.List.{list_any};
+ghost use Rattle.std.specs.Prelude.{if◌then◌else◌};
+ghost use Rattle.std.specs.List.{IsDistinct, list_any};
+ghost use Rattle.indexmap.specs.IndexSet.{spare};
 ghost use Rattle.at_nbp.specs.Lookups.{all_joined, answered, asked, asking, beginning, find_of, is_star, joins};
 ghost use Rattle.at_nbp.specs.Lookups.{same_find};
 ghost use Rattle.at_nbp.specs.Tuples.{FitsStrings, content};
@@ -12,18 +13,23 @@ use crate::packet::MAX_TUPLES;
 use crate::tuple::Tuple;
 use arrayvec::ArrayVec;
 use at_ddp::{Address, Pascal};
+use indexmap::IndexSet;
 use std::alloc::{AllocError, Allocator};
+use std::hash::{BuildHasherDefault, FoldHasher};
 use std::marker::Model;
 
 /// The most finds of a lookup. Further ones are dropped.
 pub const MAX_FINDS: usize = 256;
+
+/// The finds of a lookup, in order of arrival.
+type Finds<A> = IndexSet<Find, BuildHasherDefault<FoldHasher>, A>;
 
 /// An open lookup.
 #[derive(Drop)]
 pub(crate) struct Search<A: Allocator> {
     pub(crate) id: u8,
     pattern: Name,
-    pub(crate) finds: Vec<Find, A>,
+    pub(crate) finds: Finds<A>,
 }
 
 impl<A: Allocator> Model for Search<A> {
@@ -31,19 +37,19 @@ impl<A: Allocator> Model for Search<A> {
 
     ghost Value = { Open };
 
-    ghost view = { λ s. record { id = s.id; pattern = s.pattern; finds = s.finds.items } };
+    ghost view = { λ s. record { id = s.id; pattern = s.pattern; finds = s.finds.keys } };
 
-    ghost invariant = { λ s. IsSearch (record { id = s.id; pattern = s.pattern; finds = s.finds.items }) };
+    ghost invariant = { λ s. IsSearch (record { id = s.id; pattern = s.pattern; finds = s.finds.keys }) };
 }
 
-impl<A: Allocator> Search<A> {
+impl<A: Allocator + Copy> Search<A> {
     pub(crate) fn begin(alloc: A, id: u8, pattern: Name) -> Search<A>
         ensures { result ≡ beginning id pattern }
     {
         Search {
             id,
             pattern: asked(pattern),
-            finds: Vec::new(alloc),
+            finds: IndexSet::new(alloc),
         }
     }
 
@@ -97,10 +103,14 @@ fn asked(pattern: Name) -> Name
 }
 
 // The finds of a reply that join those that are there, in the order of their tuples.
-fn joining(pattern: &Name, finds: &[Find], tuples: &[Tuple<'_>]) -> ArrayVec<Find, MAX_TUPLES>
+fn joining<A: Allocator>(
+    pattern: &Name,
+    finds: &Finds<A>,
+    tuples: &[Tuple<'_>],
+) -> ArrayVec<Find, MAX_TUPLES>
     requires short { All FitsStrings (map content tuples.now) }
     requires few { length tuples.now ≤ 15 }
-    ensures { finds.now ++ result.items ≡ all_joined pattern.now finds.now (map content tuples.now) }
+    ensures { finds.now.keys ++ result.items ≡ all_joined pattern.now finds.now.keys (map content tuples.now) }
 {
     let mut joining = ArrayVec::new();
     for tuple in tuples {
@@ -139,14 +149,20 @@ fn is_star(zone: &[u8]) -> bool
     matches!(zone, [b'*'])
 }
 
-fn joins(pattern: &Name, finds: &[Find], joining: &[Find], find: &Find) -> bool
+fn joins<A: Allocator>(pattern: &Name, finds: &Finds<A>, joining: &[Find], find: &Find) -> bool
     requires { length joining.now ≤ 15 }
-    ensures { result ≡ joins pattern.now (finds.now ++ joining.now) find.now }
+    ensures { result ≡ joins pattern.now (finds.now.keys ++ joining.now) find.now }
 {
     matches(pattern, &find.name)
-        && !is_known(finds, find)
+        && !is_found(finds, find)
         && !is_known(joining, find)
         && finds.len() + joining.len() < MAX_FINDS
+}
+
+fn is_found<A: Allocator>(finds: &Finds<A>, find: &Find) -> bool
+    ensures { result ≡ list_any (same_find find.now) finds.now.keys }
+{
+    finds.contains(find)
 }
 
 fn is_known(finds: &[Find], find: &Find) -> bool
@@ -165,12 +181,13 @@ fn same_find(a: &Find, b: &Find) -> bool
         && a.enumerator == b.enumerator
 }
 
-// Appends finds in their order. The vector has room for them.
-fn append<A: Allocator>(finds: &mut Vec<Find, A>, mut joining: ArrayVec<Find, MAX_TUPLES>)
-    requires { length finds.old.items + length joining.items ≤ vec_capacity finds.old }
-    ensures { finds.new.items ≡ finds.old.items ++ joining.items }
+// Appends finds that are new, in their order. There is room for them.
+fn append<A: Allocator>(finds: &mut Finds<A>, mut joining: ArrayVec<Find, MAX_TUPLES>)
+    requires room { length joining.items ≤ spare finds.old }
+    requires new { IsDistinct same_find (finds.old.keys ++ joining.items) }
+    ensures { finds.new.keys ≡ finds.old.keys ++ joining.items }
 {
     while !joining.is_empty() {
-        finds.push(joining.remove(0)).unwrap();
+        finds.insert(joining.remove(0)).unwrap();
     }
 }

@@ -7,4 +7,4 @@ pub invariant_of-result : goal.invariant_of-result
 unfolding IsDistinct
 invariant_of-result g c =
     subst (λ finds. IsSearch (record { id = c.args.id; pattern = c.asked.result; finds = finds }))
-    (sym c.new.ensures.items) (record { few = omega arith; match = tt; differ = tt })
+    (sym c.new.ensures.empty) (record { few = omega arith; match = tt; differ = tt })
