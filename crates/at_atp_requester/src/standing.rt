@@ -1,5 +1,6 @@
 //! The open transactions in their table, each found by its number.
-ghost use Rattle.std.specs.Prelude.{◌≡◌, ◌+◌, ◌<◌, ◌≤◌, ◌++◌, ◌∷◌, [], false, if◌then◌else◌, length, remove, Some, IfSome};
+ghost use Rattle.std.specs.Prelude.{◌≡◌, ◌+◌, ◌<◌, ◌≤◌, ◌++◌, ◌∷◌, [], false, if◌then◌else◌, length, remove, Some};
+ghost use Rattle.std.specs.Prelude.{IfSome};
 ghost use Rattle.std.specs.List.{position_from};
 ghost use Rattle.at_atp_requester.specs.Requests.{NumbersDiffer, has_number, is_finished, is_numbered, is_of};
 ghost use Rattle.at_atp_requester.specs.Standing.{AreFiled};

@@ -3,8 +3,8 @@ ghost use Rattle.std.specs.Prelude.{◌≡◌, ◌∷◌, [], true, false, is_so
 ghost use Rattle.std.specs.Prelude.{IsSome};
 ghost use Rattle.at_ddp.specs.Outbox.{Sends};
 ghost use Rattle.at_atp_frame.specs.Frames.{Response, content, spelled};
-ghost use Rattle.at_atp_requester.specs.Requests.{Requests, closing, next_number, beginning, begun, request_by, is_response};
-ghost use Rattle.at_atp_requester.specs.Requests.{finishes, has_number, heard};
+ghost use Rattle.at_atp_requester.specs.Requests.{Requests, closing, next_number, beginning, begun, request_by};
+ghost use Rattle.at_atp_requester.specs.Requests.{finishes, has_number, heard, is_response};
 
 use crate::numbers::next_of;
 use crate::requester::Requester;
