@@ -17,6 +17,8 @@ mod responder;
 #[cfg(test)]
 mod segments;
 #[cfg(test)]
+mod stream_memory;
+#[cfg(test)]
 mod tables;
 #[cfg(test)]
 mod texts;
