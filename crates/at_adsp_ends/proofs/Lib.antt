@@ -1,9 +1,12 @@
+mod AnswerLemmas
 mod CountLemmas
 mod DistinctLemmas
+mod FiledLemmas
+mod FindLemmas
 mod IdLemmas
 mod IgnoredLemmas
 mod MoveLemmas
-mod StepLemmas
 mod Places
 mod SegmentCounts
+mod StepLemmas
 mod TableLaws

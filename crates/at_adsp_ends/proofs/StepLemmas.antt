@@ -1,6 +1,6 @@
 -- What an end keeps at each call; what is read; which timers free it; how ends open.
 use Rattle.std.proofs.Common.{◌≡◌, ℕ, ◌≤◌, Bool, true, false, cond, List, [], ◌∷◌, ◌++◌, length, Option}
-use Rattle.std.proofs.Common.{Some, None, get_or, refl, sym, ap, subst, ◌∙◌, arith}
+use Rattle.std.proofs.Common.{Some, None, slice_get, refl, sym, ap, subst, ◌∙◌, arith}
 use Rattle.std.specs.Prelude.{◌&&◌, ◌==◌, find, is_none, is_some, not, take, IfOk, IsOk, OnErr, OnOk, Result, Ok, Err}
 use Rattle.std.specs.Result.{is_ok}
 use Rattle.std.proofs.Math.Seq.{take-append_seam}
@@ -32,16 +32,16 @@ use Rattle.at_adsp_ends.proofs.Places.{At, test_at}
 -- ---- calls
 
 pub reset_keeps : (e : EndState) → Keeps e (resetting_now wire e).after
-reset_keeps e = record { id = refl; asked = refl; remote = refl }
+reset_keeps e = record { id = refl; asked = refl; remote = refl; phase = λ h. h }
 
 pub close_keeps : (e : EndState) → Keeps e (closed e (closing wire e)).after
-close_keeps e = record { id = refl; asked = refl; remote = refl }
+close_keeps e = record { id = refl; asked = refl; remote = refl; phase = λ h. absurd (cc) }
 
 pub read_keeps : (e : EndState) (n : ℕ) → Keeps e (reading wire e n).after
-read_keeps e n = record { id = refl; asked = refl; remote = refl }
+read_keeps e n = record { id = refl; asked = refl; remote = refl; phase = λ h. h }
 
 pub write_keeps : (e : EndState) (items : List Item) → Keeps e (writing wire e items).after
-write_keeps e items = record { id = refl; asked = refl; remote = refl }
+write_keeps e items = record { id = refl; asked = refl; remote = refl; phase = λ h. h }
 
 pub any_unit : {E : Type 0} (r : Result (Unit {0}) E) → IfOk r (λ x. x ≡ tt)
 any_unit (Ok x) = refl
@@ -100,15 +100,20 @@ live_phase e live is = true≢false (sym (ap is_closed is) ∙ live)
 pub ack_keeps : (e : EndState) (s : Content)
     → Keeps e (opened (record e { phase = phase.Open }) []
     (heard_opening wire (record e { phase = phase.Open }) s)).after
-ack_keeps e s = let h = hearing_keeps (record e { phase = phase.Open }) s.window (acks wire e.sender s.next) in
-    record { id = h.id; asked = h.asked; remote = h.remote }
+ack_keeps e s =
+    let h = hearing_keeps (record e { phase = phase.Open }) s.window (acks wire e.sender s.next) in record {
+      id = h.id;
+      asked = h.asked;
+      remote = h.remote;
+      phase = λ o. absurd (true≢false (sym (h.phase o)));
+    }
 
 pub answer_keeps : (e : EndState) (r : Remote) (s : Content)
     → Keeps (connected_to e r)
     (opened (connected_to e r) (confirming wire (connected_to e r) ∷ [])
     (heard_opening wire (connected_to e r) s)).after
 answer_keeps e r s = let h = hearing_keeps (connected_to e r) s.window (acks wire e.sender s.next) in
-    record { id = h.id; asked = h.asked; remote = h.remote }
+    record { id = h.id; asked = h.asked; remote = h.remote; phase = h.phase }
 
 none_there : (a b : Bool) (there : Option EndState) → (a && b && is_none there) ≡ true → there ≡ None
 none_there a b None h = refl
@@ -124,7 +129,7 @@ taken_is (Some e) a b taken is = ap (λ x. a && b && not x) (sym is)
 
 -- what the code found by the place of the end that is answered, and by its remote
 pub answered_at : {p : EndState → Bool} {t : EndTable} {i : ℕ} {e x : EndState} {r b taken : Bool} → At p t i e
-    → (remote : Remote) → taken ≡ is_some (find (has_remote remote) t.ends) → x ≡ get_or t.ends i x
+    → (remote : Remote) → taken ≡ is_some (find (has_remote remote) t.ends) → slice_get t.ends i ≡ Some x
     → r ≡ (is_opening x.phase && same_address x.asked remote.address && not taken) → r ≡ b
     → is_answered e remote (find (has_remote remote) t.ends) ≡ b
 answered_at {t = t} {e = e} {taken = taken} q remote there read is said =

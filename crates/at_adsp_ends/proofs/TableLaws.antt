@@ -1,6 +1,6 @@
 -- What holds of a table holds after each change of it.
-use Rattle.std.proofs.Common.{◌≡◌, ℕ, Bool, true, false, List, [], ◌∷◌, set, Option, Some, None, refl, sym, ap, subst}
-use Rattle.std.proofs.Common.{◌∙◌, arith}
+use Rattle.std.proofs.Common.{◌≡◌, ℕ, Bool, true, false, List, [], ◌∷◌, set, slice_get, Option, Some, None, refl, sym}
+use Rattle.std.proofs.Common.{ap, subst, ◌∙◌, arith}
 use Rattle.std.specs.Prelude.{◌==◌, ◌&&◌, find, remove}
 use Rattle.std.specs.List.{AllByRecursion, IsDistinct}
 use Rattle.std.proofs.lemmas.Bool.Decides.{nat_tests}
@@ -10,7 +10,6 @@ use Rattle.at_ddp.specs.Address.{same_address}
 use Rattle.at_ddp.specs.Tables.{replaced, without_first}
 use Rattle.at_ddp.specs.declared.address.Address.{Address}
 use Rattle.at_ddp.proofs.Alls.{all_both, all_implied, all_without, none_any, none_met}
-use Rattle.at_ddp.proofs.TableLemmas.{Found}
 use Rattle.at_ddp.proofs.DistinctLemmas.{differ_append, differ_without}
 use Rattle.at_ddp.proofs.CountLemmas.{length_without}
 use Rattle.at_adsp_end.specs.Ends.{EndState, has_remote, is_remote, same_remote}
@@ -19,6 +18,7 @@ use Rattle.at_adsp_end.specs.declared.rooms.Rooms.{Rooms}
 use Rattle.at_adsp_ends.specs.Tables.{AreEnds, AreRooms, EndTable, IsId, has_id, next_id, no_ends, shares, with_end}
 use Rattle.at_adsp_ends.specs.Tables.{without_end}
 use Rattle.at_adsp_ends.proofs.DistinctLemmas.{Stands, all_set, all_stands, differ_new, differ_set, gone_by, set_by}
+use Rattle.at_adsp_ends.proofs.Places.{stands_at}
 use Rattle.at_adsp_ends.proofs.IdLemmas.{following_id, next_drawn}
 
 -- ---- equal either way
@@ -26,7 +26,7 @@ use Rattle.at_adsp_ends.proofs.IdLemmas.{following_id, next_drawn}
 address_turned : (a b : Address) → same_address a b ≡ same_address b a
 address_turned a b = λ i. turned a.net b.net i && turned a.node b.node i && turned a.socket b.socket i
 
-remote_turned : (a b : Remote) → same_remote a b ≡ same_remote b a
+pub remote_turned : (a b : Remote) → same_remote a b ≡ same_remote b a
 remote_turned a b = λ i. address_turned a.address b.address i && turned a.id b.id i
 
 shared : Option Remote → Option Remote → Bool
@@ -49,9 +49,6 @@ shares_turned : (x y : EndState) → shares x.remote y ≡ shares y.remote x
 shares_turned x y = shares_is x.remote y ∙ shared_turned x.remote y.remote ∙ sym (shares_is y.remote x)
 
 -- ---- an end in its place
-
-pub found_stands : {X : Type 0} (p : X → Bool) (xs : List X) (i : ℕ) (f : Found p xs i) → Stands xs i f.entry
-found_stands p xs i f = record { within = f.within; at = f.at }
 
 id_apart : (e x : EndState) → has_id x.id e ≡ false → has_id e.id x ≡ false
 id_apart e x h = turned x.id e.id ∙ h
@@ -120,6 +117,13 @@ removed_lawful t id h = record {
   ids_differ = differ_without (λ a b. has_id a.id b) (has_id id) t.ends h.ids_differ;
   remotes_differ = differ_without (λ a b. shares a.remote b) (has_id id) t.ends h.remotes_differ;
 }
+
+-- an end in its place goes
+pub gone_lawful : (t : EndTable) (i : ℕ) (e : EndState) (rest : List EndState) → AreEnds t → slice_get t.ends i ≡ Some e
+    → rest ≡ remove t.ends i → AreEnds (record t { ends = rest })
+gone_lawful t i e rest h at is =
+    subst (λ (l : List EndState). AreEnds (record t { ends = l }))
+    (removed_in t.ends i e h.ids_differ (stands_at at) ∙ sym is) (removed_lawful t e.id h)
 
 -- an end is made, and no end here is connected to its remote
 pub made_lawful : (t : EndTable) (e : EndState) → AreEnds t → next_id t ≡ Some e.id

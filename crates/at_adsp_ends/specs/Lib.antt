@@ -1,4 +1,5 @@
 pub mod Calls
+pub mod Filed
 pub mod Moves
 pub mod Openings
 pub mod Receiving

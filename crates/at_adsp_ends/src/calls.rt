@@ -8,8 +8,9 @@ ghost use Rattle.at_adsp_ends.specs.Calls.{wrote};
 ghost use Rattle.at_adsp_ends.specs.Moves.{IsCalled, read_of};
 ghost use Rattle.at_adsp_ends.specs.Tables.{by_id, next_id};
 
-use crate::ends::{Ends, index_of};
+use crate::ends::{Ends, MAX_ENDS};
 use crate::identifiers::following;
+use crate::standing::index_of;
 use at_adsp_end::{End, Item, Step, StreamFault, Tick};
 use at_ddp::{Address, Outbox};
 use std::alloc::{AllocError, Allocator};
@@ -23,9 +24,10 @@ impl<A: Allocator + Copy> Ends<A> {
             return Err(StreamFault::EndsFull);
         };
         let end = End::connector(self.alloc, self.rooms, id, to)?;
-        self.ends.reserve(1)?;
+        self.ends.reserve()?;
+        self.remotes.reserve(MAX_ENDS)?;
         end.ask(out)?;
-        self.ends.push(end).unwrap();
+        self.ends.push(id, end);
         self.next = following(id);
         Ok(id)
     }
@@ -41,12 +43,12 @@ impl<A: Allocator + Copy> Ends<A> {
         let Some(index) = index_of(&self.ends, id) else {
             return Err(StreamFault::NoSuchEnd);
         };
-        let end = &self.ends[index];
+        let end = self.ends.at(index);
         if end.is_open() {
-            let end = &mut self.ends[index];
+            let end = self.ends.at_mut(index);
             return or_memory(end.close(out));
         }
-        drop(self.ends.remove(index));
+        self.remove_at(index);
         Ok(Step::Freed(id))
     }
 
@@ -63,15 +65,15 @@ impl<A: Allocator + Copy> Ends<A> {
         let Some(index) = index_of(&self.ends, id) else {
             return Err(StreamFault::NoSuchEnd);
         };
-        let end = &self.ends[index];
+        let end = self.ends.at(index);
         if end.is_closed() {
             return Err(StreamFault::NotOpen);
         }
         if frees(end, tick) {
-            drop(self.ends.remove(index));
+            self.remove_at(index);
             return Ok(Step::Freed(id));
         }
-        let end = &mut self.ends[index];
+        let end = self.ends.at_mut(index);
         or_memory(end.tick(tick, out))
     }
 
@@ -94,11 +96,11 @@ impl<A: Allocator + Copy> Ends<A> {
         let Some(index) = index_of(&self.ends, id) else {
             return Err(StreamFault::NoSuchEnd);
         };
-        let end = &self.ends[index];
+        let end = self.ends.at(index);
         if !end.has_opened() {
             return Err(StreamFault::NotOpen);
         }
-        let end = &mut self.ends[index];
+        let end = self.ends.at_mut(index);
         or_memory(end.read(items, out))
     }
 
@@ -111,11 +113,11 @@ impl<A: Allocator + Copy> Ends<A> {
         let Some(index) = index_of(&self.ends, id) else {
             return Err(StreamFault::NoSuchEnd);
         };
-        let end = &self.ends[index];
+        let end = self.ends.at(index);
         if !end.is_open() {
             return Err(StreamFault::NotOpen);
         }
-        let end = &mut self.ends[index];
+        let end = self.ends.at_mut(index);
         or_memory(end.reset(out))
     }
 
@@ -134,14 +136,14 @@ impl<A: Allocator + Copy> Ends<A> {
         let Some(index) = index_of(&self.ends, id) else {
             return Err(StreamFault::NoSuchEnd);
         };
-        let end = &self.ends[index];
+        let end = self.ends.at(index);
         if !end.is_open() {
             return Err(StreamFault::NotOpen);
         }
         if finds_no_room(end, items) {
             return Err(StreamFault::NoRoom);
         }
-        let end = &mut self.ends[index];
+        let end = self.ends.at_mut(index);
         or_memory(end.write(items, out))
     }
 }

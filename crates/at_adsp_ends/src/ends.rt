@@ -1,6 +1,6 @@
 //! The table of a node's ends: which of them an identifier or a remote names, and what is asked of the table.
 ghost use Rattle.std.specs.Prelude.{◌≡◌, ◌≢◌, ◌≤◌, ◌<◌, ◌↔◌, find, length, is_some};
-ghost use Rattle.std.specs.Prelude.{IfOk, IfErr, IfSome, OnErr, IsOk, None, Err};
+ghost use Rattle.std.specs.Prelude.{IfOk, IfErr, IfSome, OnErr, IsOk, None, Err, remove};
 ghost use Rattle.std.specs.List.{AllByRecursion, position_from, list_any};
 ghost use Rattle.std.specs.Option.{option_copied};
 ghost use Rattle.at_ddp.specs.Outbox.{Sends};
@@ -11,8 +11,12 @@ ghost use Rattle.at_adsp_ends.specs.Tables.{AreEnds, AreRooms, by_id, by_remote,
 ghost use Rattle.at_adsp_ends.specs.Tables.{next_id, no_ends};
 
 use crate::identifiers::{FIRST, free_id};
+use crate::remotes::{Remotes, forget, id_under};
+use crate::standing::{Standing, any_at_from, end_named, index_of, limits_from};
 use at_adsp_end::{End, Remote, Rooms, StreamFault};
 use at_ddp::Address;
+use at_table::Table;
+use indexmap::IndexMap;
 use std::alloc::{Allocator, Global};
 use std::marker::Model;
 
@@ -26,7 +30,9 @@ pub struct Ends<A: Allocator = Global> {
     pub(crate) listening: bool,
     pub(crate) next: u16,
     pub(crate) rooms: Rooms,
-    pub(crate) ends: Vec<End<A>, A>,
+    pub(crate) ends: Standing<A>,
+    // Has room for each end that gets its remote later, so that no answer finds it full.
+    pub(crate) remotes: Remotes<A>,
 }
 
 impl<A: Allocator> Model for Ends<A> {
@@ -36,8 +42,12 @@ impl<A: Allocator> Model for Ends<A> {
 
     ghost view = { λ t. record { listening = t.listening; next = t.next; rooms = t.rooms; ends = t.ends.items } };
 
+    ghost use Rattle.indexmap.specs.IndexMap.{spare};
+    ghost use Rattle.at_adsp_ends.specs.Filed.{AreFiled, named};
+
     ghost invariant = { λ t. AreEnds
-        (record { listening = t.listening; next = t.next; rooms = t.rooms; ends = t.ends.items }) };
+        (record { listening = t.listening; next = t.next; rooms = t.rooms; ends = t.ends.items })
+        × AreFiled t.ends (named t.remotes) (spare t.remotes) };
 }
 
 impl<A: Allocator + Copy> Ends<A> {
@@ -51,7 +61,8 @@ impl<A: Allocator + Copy> Ends<A> {
             listening: false,
             next: FIRST,
             rooms,
-            ends: Vec::new(alloc),
+            ends: Table::new(alloc),
+            remotes: IndexMap::new(alloc),
         }
     }
 
@@ -67,7 +78,7 @@ impl<A: Allocator + Copy> Ends<A> {
         ensures ends { AreEnds self.now }
         ensures queues { AllByRecursion FitsRooms self.now.ends }
     {
-        limits_of(&self.ends);
+        limits_from(&self.ends, 0);
         let _next = self.next;
     }
 
@@ -88,7 +99,7 @@ impl<A: Allocator + Copy> Ends<A> {
     pub fn has_remote(&self, address: Address, id: u16) -> bool
         ensures { result ≡ is_some (by_remote self.now (record { address = address; id = id })) }
     {
-        end_of(&self.ends, Remote { address, id }).is_some()
+        self.end_of(Remote { address, id }).is_some()
     }
 
     /// Whether an end is connected to one with this identifier at a node with this number, whatever its network and its
@@ -96,7 +107,7 @@ impl<A: Allocator + Copy> Ends<A> {
     pub fn holds_number(&self, node: u8, id: u16) -> bool
         ensures { result ≡ list_any (has_remote_at node id) self.now.ends }
     {
-        self.ends.iter().any(|end| has_remote_at(end, node, id))
+        any_at_from(&self.ends, 0, node, id)
     }
 
     /// How many items can be read of an end that is open or was.
@@ -109,49 +120,31 @@ impl<A: Allocator + Copy> Ends<A> {
             Some(_) => Err(StreamFault::NotOpen),
         }
     }
-}
 
-// Whether the remote of an end has this identifier at a node with this number.
-fn has_remote_at<A: Allocator + Copy>(end: &End<A>, node: u8, id: u16) -> bool
-    ensures { result ≡ has_remote_at node id end.now }
-{
-    match end.remote() {
-        None => false,
-        Some(remote) => remote.address.node == node && remote.id == id,
+    // Where the end stands that has this remote.
+    pub(crate) fn index_of_remote(&self, remote: Remote) -> Option<usize>
+        ensures first { result ≡ position_from (has_remote remote) 0 self.now.ends }
+        ensures within { IfSome result (λ index. index < length self.now.ends) }
+    {
+        let id = id_under(&self.remotes, remote)?;
+        index_of(&self.ends, id)
     }
-}
 
-fn end_named<A: Allocator>(ends: &[End<A>], id: u16) -> Option<&End<A>>
-    ensures { option_copied result ≡ find (has_id id) ends.now }
-{
-    ends.iter().find(|end| end.id() == id)
-}
+    pub(crate) fn end_of(&self, remote: Remote) -> Option<&End<A>>
+        ensures { option_copied result ≡ find (has_remote remote) self.now.ends }
+    {
+        let index = self.index_of_remote(remote)?;
+        Some(self.ends.at(index))
+    }
 
-pub(crate) fn end_of<A: Allocator>(ends: &[End<A>], remote: Remote) -> Option<&End<A>>
-    ensures { option_copied result ≡ find (has_remote remote) ends.now }
-{
-    ends.iter().find(|end| end.has_remote(remote))
-}
-
-pub(crate) fn index_of_remote<A: Allocator>(ends: &[End<A>], remote: Remote) -> Option<usize>
-    ensures first { result ≡ position_from (has_remote remote) 0 ends.now }
-    ensures within { IfSome result (λ index. index < length ends.now) }
-{
-    ends.iter().position(|end| end.has_remote(remote))
-}
-
-pub(crate) fn index_of<A: Allocator>(ends: &[End<A>], id: u16) -> Option<usize>
-    ensures first { result ≡ position_from (has_id id) 0 ends.now }
-    ensures within { IfSome result (λ index. index < length ends.now) }
-{
-    ends.iter().position(|end| end.id() == id)
-}
-
-fn limits_of<A: Allocator + Copy>(ends: &[End<A>])
-    ensures { AllByRecursion FitsRooms ends.now }
-{
-    if let [end, rest @ ..] = ends {
-        end.limits();
-        limits_of(rest);
+    // Removes the end at an index. This needs no memory.
+    pub(crate) fn remove_at(&mut self, index: usize)
+        requires { index < length self.old.ends }
+        ensures { self.new ≡ record self.old { ends = remove self.old.ends index } }
+    {
+        let end = self.ends.remove(index);
+        if let Some(remote) = end.remote() {
+            forget(&mut self.remotes, remote);
+        }
     }
 }

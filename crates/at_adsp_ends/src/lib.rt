@@ -7,6 +7,8 @@ mod identifiers;
 pub mod laws;
 mod openings;
 mod receiving;
+mod remotes;
+mod standing;
 
 pub use at_adsp_end::{Item, Phase, Remote, Rooms, Step, StreamFault, Tick};
 pub use ends::{Ends, MAX_ENDS};

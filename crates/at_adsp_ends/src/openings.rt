@@ -10,8 +10,10 @@ ghost use Rattle.at_adsp_ends.specs.Openings.{ack_came, answer_came, denial_came
 ghost use Rattle.at_adsp_ends.specs.Receiving.{any_request_came, made_id};
 ghost use Rattle.at_adsp_ends.specs.Tables.{by_id, by_remote, next_id};
 
-use crate::ends::{Ends, end_of, index_of};
+use crate::ends::{Ends, MAX_ENDS};
 use crate::identifiers::following;
+use crate::remotes::note;
+use crate::standing::index_of;
 use at_adsp_end::{End, Remote, Step};
 use at_adsp_frame::{Body, OpenKind, Segment, send};
 use at_ddp::{Address, Outbox};
@@ -33,7 +35,7 @@ impl<A: Allocator + Copy> Ends<A> {
         if remote.id == 0 {
             return Ok(Step::Ignored);
         }
-        match end_of(&self.ends, remote) {
+        match self.end_of(remote) {
             None => self.answer_new(remote, out),
             Some(end) if end.answers_again() => {
                 end.answer(out)?;
@@ -67,9 +69,11 @@ impl<A: Allocator + Copy> Ends<A> {
             return Ok(Step::Turned);
         };
         let end = End::half(self.alloc, self.rooms, id, remote)?;
-        self.ends.reserve(1)?;
+        self.ends.reserve()?;
+        self.remotes.reserve(MAX_ENDS)?;
         end.answer(out)?;
-        self.ends.push(end).unwrap();
+        self.ends.push(id, end);
+        note(&mut self.remotes, remote, id);
         self.next = following(id);
         Ok(Step::Made(id))
     }
@@ -98,12 +102,14 @@ impl<A: Allocator + Copy> Ends<A> {
         let Some(index) = index_of(&self.ends, dest) else {
             return Ok(Step::Ignored);
         };
-        let end = &self.ends[index];
+        let end = self.ends.at(index);
         if is_answered(end, remote.address, is_taken) {
-            let end = &mut self.ends[index];
-            return end.open(remote, segment, out);
+            let end = self.ends.at_mut(index);
+            let step = end.open(remote, segment, out)?;
+            note(&mut self.remotes, remote, dest);
+            return Ok(step);
         }
-        let end = &self.ends[index];
+        let end = self.ends.at(index);
         if !end.confirms_again(remote) {
             return Ok(Step::Ignored);
         }
@@ -128,11 +134,11 @@ impl<A: Allocator + Copy> Ends<A> {
         let Some(index) = index_of(&self.ends, dest) else {
             return Ok(Step::Ignored);
         };
-        let end = &self.ends[index];
+        let end = self.ends.at(index);
         if !end.waits_for(remote) {
             return Ok(Step::Ignored);
         }
-        let end = &mut self.ends[index];
+        let end = self.ends.at_mut(index);
         end.open_half(segment, out)
     }
 
@@ -144,11 +150,11 @@ impl<A: Allocator + Copy> Ends<A> {
         let Some(index) = index_of(&self.ends, dest) else {
             return Step::Ignored;
         };
-        let end = &self.ends[index];
+        let end = self.ends.at(index);
         if !end.asks(from) {
             return Step::Ignored;
         }
-        drop(self.ends.remove(index));
+        self.remove_at(index);
         Step::Denied(dest)
     }
 }

@@ -8,7 +8,7 @@ ghost use Rattle.at_adsp_ends.specs.Moves.{IsTaken};
 ghost use Rattle.at_adsp_ends.specs.Receiving.{made_id, received, segment_came};
 ghost use Rattle.at_adsp_ends.specs.Tables.{by_remote};
 
-use crate::ends::{Ends, index_of_remote};
+use crate::ends::Ends;
 use at_adsp_end::{Remote, Step};
 use at_adsp_frame::{Body, OpenKind, Segment};
 use at_ddp::{Address, Outbox};
@@ -74,14 +74,14 @@ impl<A: Allocator + Copy> Ends<A> {
             (spelled_all (segment_came wire self.old (content segment.now) (by_remote self.old remote)).sent)
             → IsOk result }
     {
-        let Some(index) = index_of_remote(&self.ends, remote) else {
+        let Some(index) = self.index_of_remote(remote) else {
             return Ok(Step::Ignored);
         };
-        let end = &self.ends[index];
+        let end = self.ends.at(index);
         if !end.is_open() {
             return Ok(Step::Ignored);
         }
-        let end = &mut self.ends[index];
+        let end = self.ends.at_mut(index);
         end.receive(segment, out)
     }
 }

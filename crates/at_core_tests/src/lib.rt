@@ -5,6 +5,8 @@
 #[cfg(test)]
 mod datagrams;
 #[cfg(test)]
+mod listed_ends;
+#[cfg(test)]
 mod listed_finds;
 #[cfg(test)]
 mod listed_names;

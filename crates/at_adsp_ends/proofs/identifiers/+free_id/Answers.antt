@@ -6,10 +6,10 @@ use Rattle.at_adsp_ends.proofs.identifiers.+free_id.Goals as goal
 
 pub returns-then-is_used : goal.returns-then-is_used
 returns-then-is_used g t c = (rw c.following.ensures at c.free_id.ensures)
-    ∙ sym (first_free-step following (λ id. list_any (has_id id) c.args.ends.now) c.args.tries c.args.first true
+    ∙ sym (first_free-step following (λ id. list_any (has_id id) c.args.ends.now.items) c.args.tries c.args.first true
     c.if-tries-eq0.false (sym c.is_used.ensures ∙ c.if-is_used.true))
 
 pub returns-else-is_used : goal.returns-else-is_used
 returns-else-is_used g t c =
-    sym (first_free-step following (λ id. list_any (has_id id) c.args.ends.now) c.args.tries c.args.first false
+    sym (first_free-step following (λ id. list_any (has_id id) c.args.ends.now.items) c.args.tries c.args.first false
     c.if-tries-eq0.false (sym c.is_used.ensures ∙ c.if-is_used.false))

@@ -1,43 +1,40 @@
 use Rattle.std.proofs.Common.{refl}
-use Rattle.at_ddp.proofs.TableLemmas.{Found}
 use Rattle.at_adsp_frame.specs.Segments.{content}
 use Rattle.at_adsp_end.specs.Ends.{has_remote, is_open}
 use Rattle.at_adsp_end.specs.Hearing.{heard, told}
 use Rattle.at_adsp_end.specs.Positions.{wire}
-use Rattle.at_adsp_ends.proofs.Places.{end_at, found_at, none_at, test_at}
+use Rattle.at_adsp_ends.proofs.FiledLemmas.{lent_at}
+use Rattle.at_adsp_ends.proofs.Places.{end_at, none_at, place_in, test_at}
 use Rattle.at_adsp_ends.proofs.MoveLemmas as move
-use Rattle.at_adsp_ends.proofs.ends.Ends.hear_segment.Given.{Over}
 use Rattle.at_adsp_ends.proofs.ends.Ends.hear_segment.Goals as goal
-use Rattle.at_adsp_ends.proofs.ends.Ends.hear_segment.Goals.{In-Some}
-
-found : (g : Over) (c : In-Some g) → Found (has_remote c.args.remote) c.self.inside.ends.items c.in-Some.index
-found g c = found_at (has_remote c.args.remote) c.deref.ensures.value c.index_of_remote.ensures.first c.in-Some.is
 
 pub returns-in_default : goal.returns-in_default
 returns-in_default g c =
-    let none = none_at (has_remote c.args.remote) c.deref.ensures.value c.index_of_remote.ensures.first
-    c.in_default.is in
+    let first = place_in (has_remote c.args.remote) c.self.view_is c.index_of_remote.ensures.first in
+    let none = none_at (has_remote c.args.remote) c.self.inside.ends.items first c.in_default.is in
     rw (← c.self.view_is) (rw none record { taken = move.ignored_done _ _; memory = λ h. refl })
 
 pub returns-then-not-is_open : goal.returns-then-not-is_open
 returns-then-not-is_open g c =
-    let q = end_at c.self.invariant (found g (goal.at.returns-then-not-is_open g c).In-Some) c.index-end.ensures in
-    let shut = test_at q (λ x. is_open x.phase) c.index-end.ensures c.is_open.ensures c.if-not-is_open.true in
+    let first = place_in (has_remote c.args.remote) c.self.view_is c.index_of_remote.ensures.first in
+    let q = end_at (has_remote c.args.remote) c.self.invariant.0 first c.in-Some.is c.at-end.ensures in
+    let shut = test_at q (λ x. is_open x.phase) c.at-end.ensures c.is_open.ensures c.if-not-is_open.true in
     rw (← c.self.view_is) (rw (q.first, shut) record { taken = move.ignored_done _ _; memory = λ h. refl })
 
 pub invariant_of-self : goal.invariant_of-self
 invariant_of-self g c =
-    let q = end_at c.self.invariant (found g (goal.at.invariant_of-self g c).In-Some) c.index_mut-end.ensures.value in
-    let e = c.index_mut-end.result.now in
+    let e = c.at_mut-end.result.now in
     let says = told wire e (content c.args.segment.now) in
-    move.outcome_lawful q c.receive.new.self c.args.out.now c.receive.new.out c.receive.result (heard wire e says)
-    (move.heard_keeps e says) c.receive.ensures.ok c.receive.ensures.unchanged
+    let lent = lent_at c.self.invariant.1 c.at_mut-end.ensures.value c.at_mut-end.ensures.keyed in
+    move.outcome_lawful c.self.invariant.0 lent c.receive.new.self c.args.out.now c.receive.new.out
+    c.receive.result (heard wire e says) (move.heard_keeps e says) c.receive.ensures.ok c.receive.ensures.unchanged
 
 pub returns : goal.returns
 returns g c =
-    let q = end_at c.self.invariant (found g (goal.at.returns g c).In-Some) c.index_mut-end.ensures.value in
-    let e = c.index_mut-end.result.now in
-    let live = test_at q (λ x. is_open x.phase) c.index-end.ensures c.is_open.ensures c.if-not-is_open.false in
+    let first = place_in (has_remote c.args.remote) c.self.view_is c.index_of_remote.ensures.first in
+    let q = end_at (has_remote c.args.remote) c.self.invariant.0 first c.in-Some.is c.at_mut-end.ensures.value in
+    let e = c.at_mut-end.result.now in
+    let live = test_at q (λ x. is_open x.phase) c.at-end.ensures c.is_open.ensures c.if-not-is_open.false in
     let says = told wire e (content c.args.segment.now) in
     let does = heard wire e says in
     let keeps = move.heard_keeps e says in

@@ -8,11 +8,10 @@ pub returns-then-count-lt-MAX_ENDS-clause-none : goal.returns-then-count-lt-MAX_
 returns-then-count-lt-MAX_ENDS-clause-none g c =
     let t = table c.self.inside.listening c.self.inside.next c.self.inside.rooms c.self.inside.ends.items in
     let few : length c.args.self.now.ends ≡ length t.ends = ap (λ (k : EndTable). length k.ends) (sym c.self.view_is) in
-    let count : c.len-count.result ≡ length t.ends = omega (arith, c.len-count.ensures, c.self.inside.ends.ok.0) in (
+    let count : c.len-count.result ≡ length t.ends = c.len-count.ensures.items in (
       λ none.
           let tries : free_id (c.len-count.result + 1) t.next t.ends
-          ≡ None = ap (free_id (c.len-count.result + 1) t.next) (sym c.deref.ensures.value) ∙ sym c.free_id.ensures
-          ∙ none in
+          ≡ None = sym c.free_id.ensures ∙ none in
           let most = tried (c.len-count.result + 1) t.next t.ends (omega (arith, c.if-count-lt-MAX_ENDS.true)) tries in
           absurd (omega (arith, most, count)),
       λ full. absurd (omega (arith, full, few, count, c.if-count-lt-MAX_ENDS.true)),
