@@ -1,0 +1,55 @@
+-- A cable of UDP sockets: its ports, and what a socket's answer is to the cable.
+use Rattle.std.specs.Prelude.{◌≡◌, ℕ, ◌+◌, nat_lt, min, if◌then◌else◌, List, Option, Some, None, Result, Ok, Err}
+use Rattle.std.specs.Prelude.{IsErr}
+use Rattle.std.specs.List.{Contains}
+use Rattle.std.specs.IoError.{error_kind}
+use Rattle.std.specs.declared.io.Error.{Error}
+use Rattle.std.specs.declared.io.ErrorKind.{ErrorKind}
+use Rattle.std.specs.declared.io.ErrorKind.TheVariants.{WouldBlock}
+use Rattle.at_cable.specs.Calls.{IsCounted, last_count}
+use Rattle.at_cable.specs.declared.fault.CableFault.{CableFault}
+use Rattle.at_udp.specs.declared.bind.BindFault.{BindFault}
+use Rattle.at_udp.specs.declared.bind.BindFault.TheVariants as fault
+
+pub record UdpState : Type 0 where
+  pub first : ℕ  -- node n is at the port that is n above this one
+  pub nodes : List ℕ  -- whose sockets these are, in the order of the setup
+  pub failed : ℕ  -- how many calls failed
+
+-- the port of a node; there are 65,536
+abbrev pub port_of : ℕ → ℕ → Option ℕ
+port_of first node = if nat_lt (first + node) 65536 then Some (first + node) else None
+
+-- this node's socket could not be bound
+abbrev pub IsOf : ℕ → ℕ → BindFault → Type 0
+IsOf first node (fault.NoSocket n port why) = (n ≡ node) × (port ≡ first + node)
+IsOf first node fault.NoMemory = ⊥
+
+-- the socket of one of these nodes could not be bound, or memory ran out
+abbrev pub IsOfSome : ℕ → List ℕ → BindFault → Type 0
+IsOfSome first nodes (fault.NoSocket n port why) = Contains nodes n × (port ≡ first + n)
+IsOfSome first nodes fault.NoMemory = Unit {0}
+
+abbrev pub counted : UdpState → UdpState
+counted c = record c { failed = min (c.failed + 1) last_count }
+
+-- an answer is counted, and the sockets stay
+pub record Stays {T : Type 0} (c : UdpState) (answer : Result T CableFault) (c' : UdpState) : Type 0 where
+  pub counted : IsCounted c.failed answer c'.failed
+  pub first : c'.first ≡ c.first
+  pub nodes : c'.nodes ≡ c.nodes
+
+-- a send is done if the socket took the payload
+abbrev pub IsSent : Result ℕ Error → Result (Unit {0}) CableFault → Type 0
+IsSent (Ok count) answer = answer ≡ Ok tt
+IsSent (Err error) answer = IsErr answer
+
+-- nothing waits for a socket that would block, and any other error is a fault
+abbrev pub HearsNothing : ErrorKind → Result (Option ℕ) CableFault → Type 0
+HearsNothing WouldBlock answer = answer ≡ Ok None
+HearsNothing kind answer = IsErr answer
+
+-- a receive has what the socket got
+abbrev pub Hears : Result ℕ Error → Result (Option ℕ) CableFault → Type 0
+Hears (Ok count) answer = answer ≡ Ok (Some count)
+Hears (Err error) answer = HearsNothing (error_kind error) answer
