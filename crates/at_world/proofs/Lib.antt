@@ -19,6 +19,7 @@ mod Seeking
 mod SentLemmas
 mod Sessions
 mod SetupLemmas
+mod Staying
 mod Streams
 mod Tied
 mod TiedAtOpening

@@ -9,14 +9,18 @@ mod places;
 mod player;
 mod refusal;
 mod sent;
+mod taking;
 mod timely;
 mod transcript;
 mod view;
 mod world;
 
 pub use at_setup::{Event, NodeSetup, Setup};
+pub use opening::opening_nodes;
+pub use places::place_of;
 pub use player::play;
 pub use refusal::{Fault, Refusal};
 pub use sent::{Sent, SentList};
+pub use taking::take;
 pub use transcript::{PlayFault, Transcript};
 pub use world::World;

@@ -14,7 +14,7 @@ use at_zip::Zones;
 use std::alloc::{AllocError, Allocator};
 
 /// The nodes of a setup before anything happened. The error is out of memory.
-pub(crate) fn opening_nodes<A: Allocator + Copy>(
+pub fn opening_nodes<A: Allocator + Copy>(
     alloc: A,
     setup: &Setup<A>,
 ) -> Result<Vec<Node<A>, A>, AllocError>

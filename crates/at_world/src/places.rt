@@ -26,7 +26,8 @@ fn is_held_by_some<A: Allocator + Copy>(nodes: &[Node<A>], node: u8, draw: Draw)
     }
 }
 
-pub(crate) fn place_of<A: Allocator + Copy>(nodes: &[Node<A>], number: u8) -> Option<usize>
+/// The place of the node of this number, if it stands among these.
+pub fn place_of<A: Allocator + Copy>(nodes: &[Node<A>], number: u8) -> Option<usize>
     ensures { result ≡ position_from (is_numbered number) 0 nodes.now }
 {
     let count = nodes.len();

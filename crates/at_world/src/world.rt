@@ -2,7 +2,6 @@
 ghost use Rattle.std.specs.Prelude.{◌≡◌, Err, ◌==◌, ◌||◌, IfOk, IfErr, IsOk, IsErr, OnOk, OnErr, None, false, true};
 ghost use Rattle.std.specs.Prelude.{◌≤◌, ◌-◌, ◌++◌, length, replicate};
 ghost use Rattle.at_node.specs.Numbers.{Draws, drawn_by};
-ghost use Rattle.at_node.specs.Limits.{IsWithin};
 ghost use Rattle.at_world.specs.Draws.{noted};
 ghost use Rattle.at_world.specs.Plays.{opening_world};
 ghost use Rattle.at_world.specs.Safety.{AreWithin, IsSafe};
@@ -15,9 +14,10 @@ use crate::opening::opening_nodes;
 use crate::places::{is_held, place_of};
 use crate::refusal::{Fault, Refusal};
 use crate::sent::{SentList, stamp_all};
+use crate::taking::take;
 use crate::timely::is_fresh;
 use at_ddp::{Bytes, Datagrams};
-use at_node::{Deferring, Draw, Input, Node, Report};
+use at_node::{Draw, Input, Node, Report};
 use at_setup::{Event, Setup};
 use at_steps::laws::safety::every_event_is_safe;
 use std::alloc::{AllocError, Allocator};
@@ -210,35 +210,6 @@ impl<A: Allocator + Copy> World<A> {
             return Err(Fault::NoMemory);
         };
         self.play(node, &Input::Received(bytes.as_slice()))
-    }
-}
-
-// A node takes an input, and keeps to its limits.
-fn take<A: Allocator + Copy>(
-    node: &mut Node<A>,
-    input: &Input<'_, A>,
-    out: &mut Datagrams<A>,
-) -> Report<A>
-    ensures takes { Takes input.now node.old out.old.items result node.new out.new.items }
-    ensures within { IsWithin node.new }
-{
-    let report = give(node, input, out);
-    node.limits();
-    report
-}
-
-// A node takes an input. Its service leaves every answer for later.
-fn give<A: Allocator + Copy>(
-    node: &mut Node<A>,
-    input: &Input<'_, A>,
-    out: &mut Datagrams<A>,
-) -> Report<A>
-    ensures { Takes input.now node.old out.old.items result node.new out.new.items }
-{
-    match input {
-        Input::Call(call) => node.call(call, out),
-        Input::Timer(timer) => node.timer(*timer, out),
-        Input::Received(bytes) => node.receive(&mut Deferring, bytes, out),
     }
 }
 
