@@ -1,0 +1,5 @@
+mod CountLemmas
+mod NodeLemmas
+mod PlayLemmas
+mod RunLemmas
+mod SendLemmas

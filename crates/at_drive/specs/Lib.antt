@@ -1,0 +1,4 @@
+pub mod Drives
+pub mod Logs
+pub mod Sendings
+pub mod Steps

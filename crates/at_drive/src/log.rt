@@ -1,0 +1,75 @@
+//! What comes of a drive.
+ghost use Rattle.std.specs.Prelude.{◌≡◌, ◌<◌, ◌++◌, ◌∷◌, [], OnOk, OnErr, IsOk, vec_len, vec_capacity};
+ghost use Rattle.at_drive.specs.Drives.{logged, no_log};
+ghost use Rattle.at_drive.specs.Logs.{HasRoom, news_of, with_report};
+
+use at_ddp::{Bytes, Datagrams};
+use at_node::Report;
+use std::alloc::{AllocError, Allocator, Global};
+
+/// What came to a node at a poll.
+#[derive(Drop)]
+pub struct Arrival<A: Allocator = Global> {
+    /// The place of the poll among the steps.
+    pub at: usize,
+    pub bytes: Bytes<A>,
+}
+
+/// What came of the steps of a drive.
+#[derive(Drop)]
+pub struct Log<A: Allocator = Global> {
+    /// The report of each call, of each timer, and of each poll at which a datagram came.
+    pub reports: Vec<Report<A>, A>,
+    /// What was sent with each of these reports. A datagram stands here whether or not its send failed.
+    pub sent: Vec<Datagrams<A>, A>,
+    /// What came at each poll at which a datagram came.
+    pub arrived: Vec<Arrival<A>, A>,
+    /// For each failed call of the cable, the place of its step.
+    pub faults: Vec<usize, A>,
+}
+
+/// The drive ran out of memory. This is the place of the step that was not driven, and the log of those before it.
+#[derive(Drop)]
+pub struct DriveFault<A: Allocator = Global> {
+    pub at: usize,
+    pub log: Log<A>,
+}
+
+impl<A: Allocator + Copy> Log<A> {
+    // The log before the first step.
+    pub(crate) fn new(alloc: A) -> Log<A>
+        ensures { logged result ≡ no_log }
+    {
+        Log {
+            reports: Vec::new(alloc),
+            sent: Vec::new(alloc),
+            arrived: Vec::new(alloc),
+            faults: Vec::new(alloc),
+        }
+    }
+}
+
+impl<A: Allocator> Log<A> {
+    // Makes room for one report with what belongs to it.
+    pub(crate) fn reserve(&mut self) -> Result<(), AllocError>
+        ensures log { logged self.new ≡ logged self.old }
+        ensures room { OnOk result (HasRoom self.new) }
+    {
+        self.reports.reserve(1)?;
+        self.sent.reserve(1)?;
+        self.arrived.reserve(1)?;
+        Ok(())
+    }
+
+    // Adds a report, what was sent with it, and what had come.
+    pub(crate) fn push(&mut self, report: Report<A>, out: Datagrams<A>, news: Option<Arrival<A>>)
+        requires { HasRoom self.old }
+        ensures { logged self.new ≡ with_report (logged self.old) report out (news_of news) }
+    {
+        self.reports.push(report).unwrap();
+        self.sent.push(out).unwrap();
+        if let Some(arrival) = news {
+            self.arrived.push(arrival).unwrap();
+        }
+    }
+}
