@@ -22,8 +22,8 @@ pub trait Cable {
     fn send(&mut self, from: u8, to: u8, bytes: &[u8]) -> Result<(), CableFault>
         ensures { sends self.old from to bytes.now result self.new };
 
-    /// Takes a datagram that waits for a node, if one does. Its bytes go to the start of the buffer, and their number is
-    /// returned; what doesn't fit is lost.
+    /// Takes a datagram that waits for a node, if one does. Its bytes go to the start of the buffer, and their number
+    /// is returned; what doesn't fit is lost.
     fn receive(&mut self, node: u8, buffer: &mut [u8]) -> Result<Option<usize>, CableFault>
         ensures answer { receives self.old node (length buffer.old) (received result buffer.new) self.new }
         ensures within { IfOk result (λ o. IfSome o (λ count. count ≤ length buffer.new)) };

@@ -32,8 +32,8 @@ module _ {A C : Type 0} (S : C → ℕ → ℕ → List ℕ → Result (Unit {0}
       (run.0, run.1, run.2, and_one (at + 1) ss s run.0 run.1 mid between d' c' run.3 later)
 
   -- the step at a place follows those before it
-  pub next_driven : (steps : List (Step A)) (at : ℕ) (s : Step A) (d : Driving A) (c : C) (mid : Driving A) (between : C)
-      (d' : Driving A) (c' : C) → at < length steps → s ≡ get_or steps at s →
+  pub next_driven : (steps : List (Step A)) (at : ℕ) (s : Step A) (d : Driving A) (c : C) (mid : Driving A)
+      (between : C) (d' : Driving A) (c' : C) → at < length steps → s ≡ get_or steps at s →
       Runs S R 0 (take at steps) d c mid between → Drives S R at s mid between d' c'
       → Runs S R 0 (take (at + 1) steps) d c d' c'
   next_driven steps at s d c mid between d' c' within is run last =

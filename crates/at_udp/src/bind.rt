@@ -1,5 +1,5 @@
 //! The sockets of a cable: where each node's is bound, and why one isn't.
-ghost use Rattle.std.specs.Prelude.{◌≡◌, ◌+◌, IfErr};
+ghost use Rattle.std.specs.Prelude.{◌≡◌, ◌+◌, IfErr, is_some};
 ghost use Rattle.at_udp.specs.Sockets.{IsOf, port_of};
 
 use std::io;
@@ -30,7 +30,9 @@ fn port_of(first: u16, node: u8) -> Option<u16>
 }
 
 /// Where a node's socket is, if the node has a port.
-pub(crate) fn address_of(first: u16, node: u8) -> Option<SocketAddr> {
+pub(crate) fn address_of(first: u16, node: u8) -> Option<SocketAddr>
+    ensures { is_some result ≡ is_some (port_of first node) }
+{
     let port = port_of(first, node)?;
     Some(SocketAddr::from((Ipv4Addr::LOCALHOST, port)))
 }

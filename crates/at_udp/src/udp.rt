@@ -1,6 +1,6 @@
 //! The cable of UDP sockets.
-ghost use Rattle.std.specs.Prelude.{◌≡◌, ◌≤◌, if◌then◌else◌, IfOk, IfErr, IfSome, length};
-ghost use Rattle.at_udp.specs.Sockets.{IsOfSome, Stays, counted};
+ghost use Rattle.std.specs.Prelude.{◌≡◌, ◌≤◌, if◌then◌else◌, IfOk, IfErr, IfSome, Ok, is_none, length, true};
+ghost use Rattle.at_udp.specs.Sockets.{IsOfSome, Stays, counted, port_of};
 
 use crate::bind::{BindFault, address_of, socket_of};
 use crate::socket::{received, sent};
@@ -41,8 +41,8 @@ impl<A: Allocator> Model for UdpCable<A> {
 }
 
 impl<A: Allocator + Copy> UdpCable<A> {
-    /// Binds a socket for each of these nodes, where node n is at port `first` + n. The error names the first node whose
-    /// socket could not be bound, or is out of memory.
+    /// Binds a socket for each of these nodes, where node n is at port `first` + n. The error names the first node
+    /// whose socket could not be bound, or is out of memory.
     pub fn bind<R: Net>(
         alloc: A,
         net: &R,
@@ -138,8 +138,10 @@ fn send_from(seats: &[Seat], first: u16, from: u8, to: u8, bytes: &[u8]) -> Resu
     Ok(())
 }
 
-// Sends a payload to a node. If it has no port, the payload is lost.
-fn send_to(socket: &UdpSocket, first: u16, to: u8, bytes: &[u8]) -> Result<(), CableFault> {
+// Sends a payload to a node. If it has no port, the payload is lost, and no call fails for it.
+fn send_to(socket: &UdpSocket, first: u16, to: u8, bytes: &[u8]) -> Result<(), CableFault>
+    ensures { is_none (port_of first to) ≡ true → result ≡ Ok tt }
+{
     match address_of(first, to) {
         Some(address) => sent(socket.send_to(bytes, address)),
         None => Ok(()),

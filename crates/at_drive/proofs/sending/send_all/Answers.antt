@@ -8,7 +8,8 @@ loop-index-preserved g c =
     let before = c.loop-index.invariant.sent in
     let its = c.send.ensures.sent in
     let note = fault_of c.args.at its.0 in
-    let within : c.loop-index.index < length c.args.out.now.items = omega (arith, c.loop-index-test.true, c.len-index-end.ensures) in
+    let within : c.loop-index.index < length c.args.out.now.items =
+    omega (arith, c.loop-index-test.true, c.len-index-end.ensures) in
     record {
       sent = (
         before.0 ++ note,
