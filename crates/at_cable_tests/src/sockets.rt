@@ -6,7 +6,8 @@ use std::net::{Ipv4Addr, Net, SocketAddr, UdpSocket};
 use std::process::Abort;
 use std::test::Fail;
 
-/// A cable for these nodes, and its first port.
+/// A cable for these nodes, and its first port. Each test has a node 5, so no other test that runs at the same time has
+/// the same first port.
 pub(crate) fn free_cable<R: Net + Abort>(rt: &R, alloc: Global, nodes: &[u8]) -> (UdpCable, u16) {
     for place in 0..100u16 {
         let first = 20_000 + place * 256;
@@ -29,8 +30,8 @@ fn unbound(cable: Result<UdpCable, BindFault>) -> Option<(u8, u32)> {
 
 #[test]
 fn a_port_in_use_names_its_node_and_the_port(rt: HostRuntime) -> Result<(), Fail> {
-    let (_cable, first) = free_cable(&rt, rt.alloc(), &[7]);
-    let second = UdpCable::bind(rt.alloc(), &rt, first, &[5, 7]);
+    let (_cable, first) = free_cable(&rt, rt.alloc(), &[5, 7]);
+    let second = UdpCable::bind(rt.alloc(), &rt, first, &[6, 7]);
     assert!(rt; unbound(second) == Some((7, u32::from(first) + 7)));
     let past_the_last = UdpCable::bind(rt.alloc(), &rt, u16::MAX, &[5]);
     assert!(rt; unbound(past_the_last) == Some((5, 65_540)));

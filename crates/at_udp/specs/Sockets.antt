@@ -1,7 +1,7 @@
 -- A cable of UDP sockets: its ports, and what a socket's answer is to the cable.
 use Rattle.std.specs.Prelude.{◌≡◌, ℕ, ◌+◌, nat_lt, min, if◌then◌else◌, List, Option, Some, None, Result, Ok, Err}
-use Rattle.std.specs.Prelude.{IsErr}
-use Rattle.std.specs.List.{Contains}
+use Rattle.std.specs.Prelude.{◌≢◌, ◌<◌, ◌==◌, Bool, true, false, IsErr, is_none}
+use Rattle.std.specs.List.{Contains, list_any}
 use Rattle.std.specs.IoError.{error_kind}
 use Rattle.std.specs.declared.io.Error.{Error}
 use Rattle.std.specs.declared.io.ErrorKind.{ErrorKind}
@@ -33,11 +33,30 @@ IsOfSome first nodes fault.NoMemory = Unit {0}
 abbrev pub counted : UdpState → UdpState
 counted c = record c { failed = min (c.failed + 1) last_count }
 
+-- has this node a socket here?
+abbrev pub has : UdpState → ℕ → Bool
+has c node = list_any (λ n. n == node) c.nodes
+
 -- an answer is counted, and the sockets stay
 pub record Stays {T : Type 0} (c : UdpState) (answer : Result T CableFault) (c' : UdpState) : Type 0 where
   pub counted : IsCounted c.failed answer c'.failed
   pub first : c'.first ≡ c.first
   pub nodes : c'.nodes ≡ c.nodes
+
+-- A send is counted. A node without a socket sends nothing, and what goes to a node that has no port is lost, though no
+-- call fails for it.
+pub record Sends (c : UdpState) (sender to : ℕ) (answer : Result (Unit {0}) CableFault) (c' : UdpState)
+    : Type 0 where
+  pub stays : Stays c answer c'
+  pub stranger : has c sender ≡ false → IsErr answer
+  pub lost : c.failed < last_count → has c sender ≡ true → to ≢ 255 → is_none (port_of c.first to) ≡ true
+      → answer ≡ Ok tt
+
+-- A receive is counted, and fails for a node without a socket.
+pub record Receives (c : UdpState) (node : ℕ) (answer : Result (Option (List ℕ)) CableFault) (c' : UdpState)
+    : Type 0 where
+  pub stays : Stays c answer c'
+  pub stranger : has c node ≡ false → IsErr answer
 
 -- a send is done if the socket took the payload
 abbrev pub IsSent : Result ℕ Error → Result (Unit {0}) CableFault → Type 0

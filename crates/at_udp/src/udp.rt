@@ -1,6 +1,9 @@
 //! The cable of UDP sockets.
-ghost use Rattle.std.specs.Prelude.{◌≡◌, ◌≤◌, if◌then◌else◌, IfOk, IfErr, IfSome, Ok, is_none, length, true};
-ghost use Rattle.at_udp.specs.Sockets.{IsOfSome, Stays, counted, port_of};
+ghost use Rattle.std.specs.Prelude.{◌≡◌, ◌≤◌, if◌then◌else◌, IfOk, IfErr, IfSome, IsErr, Ok, is_none, length};
+ghost use Rattle.std.specs.Prelude.{◌≢◌, ◌<◌, ◌==◌, is_some, map, true, false};
+ghost use Rattle.std.specs.List.{list_any, position_from};
+ghost use Rattle.at_udp.specs.Sockets.{IsOfSome, Receives, Sends, counted, port_of};
+ghost use Rattle.at_udp.specs.Seats.{node_of};
 
 use crate::bind::{BindFault, address_of, socket_of};
 use crate::socket::{received, sent};
@@ -88,10 +91,10 @@ impl<A: Allocator> UdpCable<A> {
 impl<A: Allocator> Cable for UdpCable<A> {
     ghost failed = { λ c. c.failed };
 
-    // Any answer may come, but it is counted, and the sockets stay.
-    ghost sends = { λ before from to bytes answer after. Stays before answer after };
+    // Of what a socket does, any answer may come, but it is counted.
+    ghost sends = { λ before from to bytes answer after. Sends before from to answer after };
 
-    ghost receives = { λ before node room answer after. Stays before answer after };
+    ghost receives = { λ before node room answer after. Receives before node answer after };
 
     fn send(&mut self, from: u8, to: u8, bytes: &[u8]) -> Result<(), CableFault> {
         if self.failures == u64::MAX {
@@ -115,25 +118,51 @@ impl<A: Allocator> Cable for UdpCable<A> {
         self.failures
     }
 
-    ghost send_is_counted = { λ before from to bytes answer after h. h.counted };
+    ghost send_is_counted = { λ before from to bytes answer after h. h.stays.counted };
 
-    ghost receive_is_counted = { λ before node room answer after h. h.counted };
+    ghost receive_is_counted = { λ before node room answer after h. h.stays.counted };
 }
 
-fn seat_of(seats: &[Seat], node: u8) -> Option<&Seat> {
-    seats.iter().find(|seat| seat.node == node)
+// The place of a node's socket, if it has one here.
+fn place_of(seats: &[Seat], node: u8) -> Option<usize>
+    ensures within { IfSome result (λ place. place < length seats.now) }
+    ensures has { is_some result ≡ list_any (λ n. n == node) (map node_of seats.now) }
+{
+    position_of(seats, node)
+}
+
+fn position_of(seats: &[Seat], node: u8) -> Option<usize>
+    ensures { result ≡ position_from (λ s. s.node == node) 0 seats.now }
+{
+    seats.iter().position(|seat| seat.node == node)
 }
 
 // Sends a payload to each node that it is for, up to the first that fails. A node without a socket sends nothing.
-fn send_from(seats: &[Seat], first: u16, from: u8, to: u8, bytes: &[u8]) -> Result<(), CableFault> {
-    let Some(seat) = seat_of(seats, from) else {
-        return Err(CableFault);
-    };
-    if to != EVERY_NODE {
-        return send_to(&seat.socket, first, to, bytes);
+fn send_from(seats: &[Seat], first: u16, from: u8, to: u8, bytes: &[u8]) -> Result<(), CableFault>
+    ensures stranger { list_any (λ n. n == from) (map node_of seats.now) ≡ false → IsErr result }
+    ensures lost { list_any (λ n. n == from) (map node_of seats.now) ≡ true → to ≢ 255
+        → is_none (port_of first to) ≡ true → result ≡ Ok tt }
+{
+    match place_of(seats, from) {
+        Some(place) => send_by(&seats[place].socket, seats, first, to, bytes),
+        None => Err(CableFault),
     }
-    for other in seats {
-        send_to(&seat.socket, first, other.node, bytes)?;
+}
+
+fn send_by(
+    socket: &UdpSocket,
+    seats: &[Seat],
+    first: u16,
+    to: u8,
+    bytes: &[u8],
+) -> Result<(), CableFault>
+    ensures { to ≢ 255 → is_none (port_of first to) ≡ true → result ≡ Ok tt }
+{
+    if to != EVERY_NODE {
+        return send_to(socket, first, to, bytes);
+    }
+    for seat in seats {
+        send_to(socket, first, seat.node, bytes)?;
     }
     Ok(())
 }
@@ -149,10 +178,11 @@ fn send_to(socket: &UdpSocket, first: u16, to: u8, bytes: &[u8]) -> Result<(), C
 }
 
 fn receive_at(seats: &[Seat], node: u8, buffer: &mut [u8]) -> Result<Option<usize>, CableFault>
-    ensures { IfOk result (λ o. IfSome o (λ count. count ≤ length buffer.new)) }
+    ensures stranger { list_any (λ n. n == node) (map node_of seats.now) ≡ false → IsErr result }
+    ensures within { IfOk result (λ o. IfSome o (λ count. count ≤ length buffer.new)) }
 {
-    let Some(seat) = seat_of(seats, node) else {
-        return Err(CableFault);
-    };
-    received(seat.socket.recv(buffer))
+    match place_of(seats, node) {
+        Some(place) => received(seats[place].socket.recv(buffer)),
+        None => Err(CableFault),
+    }
 }
