@@ -4,4 +4,5 @@ mod NumberSetLemmas
 mod PrintedLemmas
 mod RefusalLemmas
 mod ShownLemmas
+mod TextLines
 mod ToldLemmas

@@ -56,7 +56,7 @@ none_said A (Some text) = ([], event_lines text, refl, tt)
 abbrev pub FirstLine : Type 0
 FirstLine = (rest : List ℕ) → 0 < length rest → lines_in rest ≡ first_piece 10 rest ∷ lines_in (drop_through 10 rest)
 
-filter_by : (b : Bool) (line : List ℕ) (lines : List (List ℕ)) → is_event_line line ≡ b
+pub filter_by : (b : Bool) (line : List ℕ) (lines : List (List ℕ)) → is_event_line line ≡ b
     → filter is_event_line (line ∷ lines)
     ≡ (if b then line ∷ filter is_event_line lines else filter is_event_line lines)
 filter_by b line lines is = ap (λ v. if v then line ∷ filter is_event_line lines else filter is_event_line lines) is
@@ -72,7 +72,7 @@ event_left law b rest piece some first is =
     ∙ filter_by b piece later is
 
 -- one line more
-adds_by : (A : Type 0) (b : Bool) (line : List ℕ) (all rest : List ℕ) (lines : List (List ℕ))
+pub adds_by : (A : Type 0) (b : Bool) (line : List ℕ) (all rest : List ℕ) (lines : List (List ℕ))
     (es more : List (Event A)) → SaidSoFar (Some all) (Some rest) es
     → event_lines rest ≡ (if b then line ∷ lines else lines) → Adds b line es more → (said : List (List ℕ))
     × (event_lines all ≡ said ++ lines) × SayAll said more

@@ -1,5 +1,5 @@
 -- How a play ends, and all that is printed of it.
-use Rattle.std.specs.Prelude.{◌≡◌, ◌↔◌, ◌⊎◌, ℕ, List, [], ◌++◌, Option, Some, Result, Ok, Err, IfSome, IsOk}
+use Rattle.std.specs.Prelude.{◌≡◌, ◌↔◌, ◌⊎◌, ℕ, List, [], ◌++◌, Option, Some, Result, Ok, Err, IfErr, IfSome, IsOk}
 use Rattle.std.specs.Prelude.{true, codes}
 use Rattle.std.specs.Fmt.{decimal}
 use Rattle.std.specs.Io.KnownBytes.{Keeps}
@@ -71,10 +71,17 @@ IsNotRead IsReason old new (Err s) text = ((f : Fault) × IsReason f × (s ≡ s
 abbrev pub IsTextFault : Type 0 → Option (List ℕ) → Fault → Type 0
 IsTextFault A known f = IsOfBytes f ⊎ IsLineFault A known f
 
--- nothing if there is no schedule, and else this of the setup that the text says
+-- an event was refused, or memory ran out; it is not the text that is at fault
+abbrev pub IsOfPlaying : Stop → Type 0
+IsOfPlaying (stop.Text f) = ⊥
+IsOfPlaying (stop.Event f at line which) = Unit {0}
+
+-- Nothing if there is no schedule, and else this of the setup that the text says. The text is read to its end before
+-- the first event, so that no fault of it comes later.
 abbrev pub PlayText : Type 0 → Option (List ℕ) → NumberSet → NumberSet → Result (Unit {0}) Stop → List ℕ → Type 0
 PlayText A known old new result text =
-    IsNotRead (IsTextFault A known) old new result text ⊎ PlaysText A known (HoldsSetup known) old new result text
+    IsNotRead (IsTextFault A known) old new result text
+    ⊎ (PlaysText A known (HoldsSetup known) old new result text × IfErr result IsOfPlaying)
 
 -- a file that was sent back to its beginning
 pub record Rewound {F : Type 0} (position : F → Option ℕ) (bytes : F → Option (List ℕ)) : Type 0 where

@@ -5,6 +5,7 @@ mod diagnostics;
 mod hex_reason;
 mod number_set;
 mod playing;
+mod playing_text;
 mod program;
 mod reason;
 mod show;

@@ -110,7 +110,7 @@ fn event_of<A: Allocator + Copy>(
     }
 }
 
-fn play_event<A: Allocator + Copy, W: Paper, E: Paper>(
+pub(crate) fn play_event<A: Allocator + Copy, W: Paper, E: Paper>(
     world: &mut World<A>,
     event: &Event<A>,
     line: usize,

@@ -5,6 +5,7 @@ ghost use Rattle.at_print.specs.Printers.{HasFailed, Prints};
 
 use crate::diagnostics::Diagnostics;
 use crate::playing::play_lines;
+use crate::playing_text::play_bytes;
 use crate::stop::{Stop, write_stop};
 use at_faults::{MAX_LEN, check_length, read_bytes};
 use at_print::{Paper, Printer, Status};
@@ -62,7 +63,7 @@ fn play_stream<A: Allocator + Copy, R: Read, W: Paper, E: Paper>(
 {
     let bytes = read_bytes(alloc, reader)?;
     let setup = read_setup(alloc, &mut bytes.as_slice())?;
-    play_lines(alloc, &setup, &mut bytes.as_slice(), printer, diagnostics)
+    play_bytes(alloc, &setup, bytes.as_slice(), printer, diagnostics)
 }
 
 fn play_again<A: Allocator + Copy, F: Read + Seek, W: Paper, E: Paper>(

@@ -1,0 +1,158 @@
+-- The lines of a text in memory: the first of those that are left, the event that it says, and what a schedule has
+-- after it.
+use Rattle.std.proofs.Common.{◌≡◌, ℕ, suc, ◌+◌, ◌<◌, Bool, true, false, cond, List, [], ◌∷◌, ◌++◌, length, take, drop}
+use Rattle.std.proofs.Common.{Some, None, Ok, Err, Result, IfErr, refl, sym, ap, subst, ◌∙◌, append_assoc, arith}
+use Rattle.std.specs.Prelude.{◌-◌, ◌==◌, filter, if◌then◌else◌}
+use Rattle.std.proofs.lemmas.Bool.Decides.{nat_tests}
+use Rattle.std.proofs.lemmas.List.{length-drop, take_all}
+use Rattle.std.specs.List.{position_from}
+use Rattle.at_setup.specs.declared.event.Event.{Event}
+use Rattle.at_setup.specs.declared.setup.Setup.{Setup}
+use Rattle.at_setup_lines.specs.Drafts.{Draft}
+use Rattle.at_world.specs.Worlds.{WorldState}
+use Rattle.at_world.specs.declared.refusal.Fault.TheVariants as fault
+use Rattle.at_print.specs.Papers.{Page}
+use Rattle.at_print.specs.declared.printer.Printer.{Printer}
+use Rattle.at_schedule.specs.Drafts.{BeginSchedule, HoldsSetup, IsRead, IsSchedule}
+use Rattle.at_schedule.specs.Says.{Says}
+use Rattle.at_schedule.specs.Schedules.{add_first, event_lines, is_event_line, lines_in}
+use Rattle.at_play.specs.Told.{IsStopped, NextSays, StopsIn, StopsLine, TellsLine}
+use Rattle.at_play.specs.declared.number_set.NumberSet.{NumberSet}
+use Rattle.at_play.specs.declared.stop.Stop.{Stop}
+use Rattle.at_play.specs.declared.stop.Stop.TheVariants as stop
+use Rattle.at_play.proofs.LineLemmas.{Adds, SaidSoFar, adds_by, filter_by}
+use Rattle.at_play.proofs.ToldLemmas.{Sofar, sofar_line, stops_refused}
+
+-- ---- the first line
+
+abbrev pub is_feed : ℕ → Bool
+is_feed byte = byte == 10
+
+-- the text ends its first line at this place
+abbrev pub EndsAt : List ℕ → ℕ → Type 0
+EndsAt text i = lines_in text ≡ take i text ∷ lines_in (drop (suc i) text)
+
+ends_from : (text : List ℕ) (from i : ℕ) → position_from is_feed from text ≡ Some i
+    → (j : ℕ) × (i ≡ from + j) × EndsAt text j
+ends_from [] from i h = absurd (cc)
+ends_from (c ∷ text) from i h = go (λ g. ends_from text (from + 1) i g) (is_feed c) refl h
+  where
+    go : (position_from is_feed (from + 1) text ≡ Some i → (j : ℕ) × (i ≡ from + 1 + j) × EndsAt text j) → (b : Bool)
+        → is_feed c ≡ b → cond b (Some from) (position_from is_feed (from + 1) text) ≡ Some i
+        → (j : ℕ) × (i ≡ from + j) × EndsAt (c ∷ text) j
+    go ih true is g = let same : from ≡ i = cc in
+        (0, omega arith, ap (λ b. if b then [] ∷ lines_in text else add_first c (lines_in text)) is)
+    go ih false is g = let rest = ih g in (
+      suc rest.0,
+      omega (arith, rest.1),
+      ap (λ b. if b then [] ∷ lines_in text else add_first c (lines_in text)) is ∙ ap (add_first c) rest.2,
+    )
+
+-- what stands before the first line feed, and what stands after it
+pub cut_at : (text : List ℕ) (i : ℕ) → position_from is_feed 0 text ≡ Some i
+    → lines_in text ≡ take i text ∷ lines_in (take (length text - (i + 1)) (drop (i + 1) text))
+cut_at text i h =
+    let f = ends_from text 0 i h in
+    let same : f.0 ≡ i = omega (arith, f.1) in
+    let next : suc i ≡ i + 1 = omega arith in
+    let later = drop (i + 1) text in
+    subst (EndsAt text) same f.2 ∙ ap (λ n. take i text ∷ lines_in (drop n text)) next
+    ∙ ap (λ l. take i text ∷ lines_in l)
+    (sym (take_all (length text - (i + 1)) later (omega (arith, length-drop (i + 1) text))))
+
+-- a text without a line feed is one line
+pub one_line : (c : ℕ) (text : List ℕ) (from : ℕ) → position_from is_feed from (c ∷ text) ≡ None
+    → lines_in (c ∷ text) ≡ (c ∷ text) ∷ []
+one_line c [] from h = go (is_feed c) refl h
+  where
+    go : (b : Bool) → is_feed c ≡ b → cond b (Some from) None ≡ None → lines_in (c ∷ []) ≡ (c ∷ []) ∷ []
+    go true is g = absurd (cc)
+    go false is g = ap (λ b. if b then [] ∷ [] else add_first c []) is
+one_line c (d ∷ text) from h = go (λ g. one_line d text (from + 1) g) (is_feed c) refl h
+  where
+    go : (position_from is_feed (from + 1) (d ∷ text) ≡ None → lines_in (d ∷ text) ≡ (d ∷ text) ∷ []) → (b : Bool)
+        → is_feed c ≡ b → cond b (Some from) (position_from is_feed (from + 1) (d ∷ text)) ≡ None
+        → lines_in (c ∷ d ∷ text) ≡ (c ∷ d ∷ text) ∷ []
+    go ih true is g = absurd (cc)
+    go ih false is g =
+        ap (λ b. if b then [] ∷ lines_in (d ∷ text) else add_first c (lines_in (d ∷ text))) is ∙ ap (add_first c) (ih g)
+
+pub uncut : (text : List ℕ) → 0 < length text → position_from is_feed 0 text ≡ None → lines_in text ≡ text ∷ []
+uncut [] some h = absurd (omega (arith, some))
+uncut (c ∷ text) some h = one_line c text 0 h
+
+pub none_left : (text : List ℕ) → (length text == 0) ≡ true → text ≡ []
+none_left [] h = refl
+none_left (c ∷ text) h = absurd (grind (arith, nat_tests, h))
+
+-- ---- the event that it says
+
+left_by : (rest later line : List ℕ) (b : Bool) → lines_in rest ≡ line ∷ lines_in later → is_event_line line ≡ b
+    → event_lines rest ≡ (if b then line ∷ event_lines later else event_lines later)
+left_by rest later line b cut is = ap (filter is_event_line) cut ∙ filter_by b line (lines_in later) is
+
+-- where the play of a line stops, the play of the text stops
+pub stops_in : (A : Type 0) (all rest later line : List ℕ) (es : List (Event A)) (w : WorldState) (s : Stop)
+    → SaidSoFar (Some all) (Some rest) es → lines_in rest ≡ line ∷ lines_in later
+    → StopsLine A (Some line) w s → StopsIn A (Some all) es w s
+stops_in A all rest later line es w (stop.Text f) said cut h = h
+stops_in A all rest later line es w (stop.Event fault.NoMemory n number which) said cut h = h
+stops_in A all rest later line es w (stop.Event (fault.Refused r) n number which) (said, same, so_far) cut h =
+    let left = left_by rest later line true cut h.1 in
+    let e = h.2.0 in
+    (h.0, (e, h.2.1, (said, event_lines later, line, same ∙ ap (λ l. said ++ l) left, so_far, h.2.2)))
+
+-- one line more of the text
+module _ (A : Type 0) {W : Type 0} (page : W → Page) (setup : Setup A) where
+  pub text_played : (all rest later line : List ℕ) (w w' : WorldState) (a b c : Printer W) (u v z : NumberSet)
+      (before : Sofar A page setup w a b u v) → SaidSoFar (Some all) (Some rest) (before.0).events
+      → lines_in rest ≡ line ∷ lines_in later → TellsLine A page (is_event_line line) line w w' b c v z
+      → (after : Sofar A page setup w' a c u z) × SaidSoFar (Some all) (Some later) (after.0).events
+  text_played all rest later line w w' a b c u v z before said cut told =
+      let after = sofar_line A page setup (is_event_line line) line w w' a b c u v z before told in (
+        after.0,
+        adds_by A (is_event_line line) line all rest (event_lines later) (before.0).events ((after.0).0).events said
+            (left_by rest later line (is_event_line line) cut refl) after.1,
+      )
+
+-- an event that a line says was not played
+pub stops_said : (A : Type 0) (line : List ℕ) (w w' : WorldState) (e : Event A) (r : Result (Unit {0}) Stop)
+    (P Q : Type 0) → (is_event_line line ≡ true) × Says line e → IfErr r (λ s. P × Q × IsStopped w e w' s)
+    → IfErr r (λ s. P × Q × StopsLine A (Some line) w s)
+stops_said A line w w' e (Ok u) P Q has h = tt
+stops_said A line w w' e (Err s) P Q has h = (h.0, h.1, stops_refused A line w e w' s has.0 has.1 h.2)
+
+-- ---- what was read of the lines before
+
+-- the lines of the text are those that were read and those that are left
+pub record IsLeft (A : Type 0) (all rest : List ℕ) (d : Draft) : Type 0 where
+  pub lines : List (List ℕ)
+  pub read : IsRead A lines d
+  pub parts : lines_in all ≡ lines ++ lines_in rest
+
+pub none_read : (A : Type 0) (all : List ℕ) (d : Draft) → IsRead A [] d → IsLeft A all all d
+none_read A all d h = record { lines = []; read = h; parts = refl }
+
+one_more : (A : Type 0) (all rest later line : List ℕ) (d : Draft) (l : IsLeft A all rest d)
+    → lines_in rest ≡ line ∷ lines_in later → lines_in all ≡ (l.lines ++ line ∷ []) ++ lines_in later
+one_more A all rest later line d l cut =
+    l.parts ∙ ap (λ k. l.lines ++ k) cut ∙ sym (append_assoc l.lines (line ∷ []) (lines_in later))
+
+pub read_more : (A : Type 0) (all rest later line : List ℕ) (d d' : Draft) → IsLeft A all rest d
+    → lines_in rest ≡ line ∷ lines_in later
+    → ((lines : List (List ℕ)) → IsRead A lines d → IsRead A (lines ++ line ∷ []) d') → IsLeft A all later d'
+read_more A all rest later line d d' l cut taken = record {
+  lines = l.lines ++ line ∷ [];
+  read = taken l.lines l.read;
+  parts = one_more A all rest later line d l cut;
+}
+
+-- a schedule begins with them and the next line
+pub begins : (A : Type 0) (setup : Setup A) (all rest later line : List ℕ) (d : Draft) → HoldsSetup (Some all) setup
+    → IsLeft A all rest d → lines_in rest ≡ line ∷ lines_in later
+    → (lines : List (List ℕ)) × IsRead A lines d × BeginSchedule A (lines ++ line ∷ [])
+begins A setup all rest later line d (es, is) l cut = (
+  l.lines,
+  l.read,
+  (lines_in later, setup, es, subst (λ k. IsSchedule k setup es) (one_more A all rest later line d l cut) is),
+)

@@ -1,0 +1,115 @@
+//! The play of a schedule that lies in memory: whatever its first reading took, its second takes too.
+ghost use Rattle.std.specs.Prelude.{◌≡◌, ◌==◌, ◌<◌, ◌∷◌, ◌++◌, [], true, length, IfErr, IfSome, List, OnOk, Some, ℕ};
+ghost use Rattle.std.specs.List.{position_from};
+ghost use Rattle.at_play.specs.Ends.{IsOfPlaying, Obeys};
+ghost use Rattle.at_play.specs.Refusals.{TellsRefusals};
+ghost use Rattle.at_play.specs.Told.{IsWhole, Played, StopsLine, TellsLine};
+ghost use Rattle.at_print.specs.Printers.{Prints};
+ghost use Rattle.at_schedule.specs.Drafts.{BeginSchedule, HoldsSetup, IsRead};
+ghost use Rattle.at_schedule.specs.Schedules.{is_event_line, lines_in};
+ghost use Rattle.at_setup.specs.Setups.{is_lawful};
+
+use crate::diagnostics::Diagnostics;
+use crate::playing::play_event;
+use crate::stop::Stop;
+use at_faults::LineFault;
+use at_print::{Paper, Printer};
+use at_schedule::Draft;
+use at_world::laws::{at_most_16_nodes_stand, exactly_once_requests_run_once, steps_are_a_run};
+use at_world::{Setup, World};
+use std::alloc::Allocator;
+
+/// Plays the events of a schedule, whose setup was read of it before, up to the first that is refused, and prints each.
+pub(crate) fn play_bytes<A: Allocator + Copy, W: Paper, E: Paper>(
+    alloc: A,
+    setup: &Setup<A>,
+    text: &[u8],
+    printer: &mut Printer<W>,
+    diagnostics: &mut Diagnostics<'_, E>,
+) -> Result<(), Stop>
+    requires lawful { is_lawful setup.now ≡ true }
+    requires held { HoldsSetup (Some text.now) setup.now }
+    ensures told { (p : Played setup.now) × Obeys setup.now p
+        × Prints W.page printer.old printer.new p.text × IsWhole A (Some text.now) result p
+        × TellsRefusals diagnostics.old.refusals diagnostics.new.refusals p.reports }
+    ensures playing { IfErr result IsOfPlaying }
+{
+    at_most_16_nodes_stand::<A>();
+    steps_are_a_run::<A>();
+    exactly_once_requests_run_once::<A>();
+    play_each(alloc, setup, text, printer, diagnostics)
+}
+
+fn play_each<A: Allocator + Copy, W: Paper, E: Paper>(
+    alloc: A,
+    setup: &Setup<A>,
+    text: &[u8],
+    printer: &mut Printer<W>,
+    diagnostics: &mut Diagnostics<'_, E>,
+) -> Result<(), Stop>
+    requires { HoldsSetup (Some text.now) setup.now }
+    ensures told { (p : Played setup.now)
+        × Prints W.page printer.old printer.new p.text × IsWhole A (Some text.now) result p
+        × TellsRefusals diagnostics.old.refusals diagnostics.new.refusals p.reports }
+    ensures playing { IfErr result IsOfPlaying }
+{
+    let Ok(mut world) = World::open(alloc, setup) else {
+        return Err(Stop::no_memory(0, 0));
+    };
+    let mut draft = Draft::new(alloc);
+    let mut number = 0usize;
+    let mut rest = text;
+    while !rest.is_empty() {
+        number = number.saturating_add(1);
+        let (line, later) = cut_line(rest);
+        take_line(&mut world, &mut draft, number, line, printer, diagnostics)?;
+        rest = later;
+    }
+    Ok(())
+}
+
+// The first line, without its line feed, and what follows it.
+fn cut_line(text: &[u8]) -> (&[u8], &[u8])
+    requires { 0 < length text.now }
+    ensures cut { lines_in text.now ≡ result.0.now ∷ lines_in result.1.now }
+    ensures less { length result.1.now < length text.now }
+{
+    match end_of_line(text) {
+        Some(end) => (&text[..end], &text[end + 1..]),
+        None => (text, &[]),
+    }
+}
+
+fn end_of_line(text: &[u8]) -> Option<usize>
+    ensures first { result ≡ position_from (λ byte. byte == 10) 0 text.now }
+    ensures within { IfSome result (λ end. end < length text.now) }
+{
+    text.iter().position(|byte| *byte == b'\n')
+}
+
+// Plays the event of a line that a schedule has after the lines before it, if it has one.
+fn take_line<A: Allocator + Copy, W: Paper, E: Paper>(
+    world: &mut World<A>,
+    draft: &mut Draft<A>,
+    number: usize,
+    line: &[u8],
+    printer: &mut Printer<W>,
+    diagnostics: &mut Diagnostics<'_, E>,
+) -> Result<(), Stop>
+    requires { (lines : List (List ℕ)) × IsRead A lines draft.old × BeginSchedule A (lines ++ line.now ∷ []) }
+    ensures told { OnOk result (TellsLine A W.page (is_event_line line.now) line.now world.old world.new
+        printer.old printer.new diagnostics.old.refusals diagnostics.new.refusals) }
+    ensures taken { OnOk result ((lines : List (List ℕ)) → IsRead A lines draft.old
+        → IsRead A (lines ++ line.now ∷ []) draft.new) }
+    ensures stopped { IfErr result
+        (λ stop. (printer.new ≡ printer.old) × (diagnostics.new.refusals ≡ diagnostics.old.refusals)
+        × StopsLine A (Some line.now) world.old stop) }
+    ensures playing { IfErr result IsOfPlaying }
+{
+    match draft.take_line(line) {
+        Ok(Some(event)) => play_event(world, &event, number, printer, diagnostics),
+        Ok(None) => Ok(()),
+        Err(LineFault::NoMemory) => Err(Stop::no_memory(world.played(), number)),
+        Err(LineFault::Unlawful(_)) => unreachable!(),
+    }
+}
