@@ -50,6 +50,13 @@ impl<W: Paper> Printer<W> {
         self.has_failed
     }
 
+    /// What was printed to.
+    pub fn into_writer(self) -> W
+        ensures { result ≡ self.writer }
+    {
+        self.writer
+    }
+
     /// Flushes, and hands on the status, or `Failed` if a write or the flush failed.
     pub fn finish(&mut self, status: Status) -> Status
         ensures printed { Prints W.page self.old self.new [] }

@@ -1,0 +1,15 @@
+//! A node in the hands of a program that is not Rattle: calls and timers go in as words, and a report comes out as
+//! words. All memory is the system's, by `Global`, as that of the program is.
+#![tactic(auto)]
+
+mod held;
+mod line;
+mod opening;
+mod room;
+mod text;
+mod withheld;
+
+pub use held::HeldNode;
+pub use line::Line;
+pub use opening::OpenFault;
+pub use withheld::Withheld;
