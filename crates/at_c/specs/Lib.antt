@@ -1,0 +1,4 @@
+-- What a program in C is given.
+pub mod Calls
+pub mod Handles
+pub mod Statuses

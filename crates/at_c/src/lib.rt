@@ -1,0 +1,148 @@
+//! A node for programs in C. The file `include/at_node.h` declares these functions, and says what a program owes.
+#![tactic(auto)]
+
+ghost use Rattle.std.specs.Prelude.{◌≡◌};
+ghost use Rattle.std.specs.declared.option.Option.TheVariants.{None};
+ghost use Rattle.at_c.specs.Calls.{At, HandsNext, HandsRefusal, HandsTold, Opens, PlaysLine, ReceivesBytes};
+
+mod handle;
+mod opening;
+mod status;
+
+use handle::AtNode;
+use opening::opened;
+use status::{DONE, NOT_OPEN, handed_status, open_status, played_status, received_status};
+use std::alloc::Global;
+
+/// The number of this library, which rises with each change of what these functions promise.
+const VERSION: u32 = 1;
+
+/// The number of this library.
+#[unsafe(no_mangle)]
+pub extern "C" fn at_node_version() -> u32
+    ensures { result ≡ 1 }
+{
+    VERSION
+}
+
+/// Opens the node of this number, of the cable that the first lines of a schedule set up. A node that the handle held
+/// is closed then. If no node is opened, the handle stays as it is.
+#[unsafe(no_mangle)]
+pub extern "C" fn at_node_open(alloc: Global, handle: &mut AtNode, setup: &[u8], number: u8) -> u32
+    ensures { Opens setup.now number handle.old.node result handle.new.node }
+{
+    match opened(alloc, setup, number) {
+        Ok(node) => {
+            handle.put(alloc, node);
+            DONE
+        }
+        Err(fault) => open_status(fault),
+    }
+}
+
+/// Closes the node, and frees all its memory.
+#[unsafe(no_mangle)]
+pub extern "C" fn at_node_close(alloc: Global, handle: &mut AtNode)
+    ensures { handle.new.node ≡ None }
+{
+    drop(handle.take(alloc));
+}
+
+/// Plays `call CALL` or `timer TIMER`.
+#[unsafe(no_mangle)]
+pub extern "C" fn at_node_play(alloc: Global, handle: &mut AtNode, line: &[u8]) -> u32
+    ensures { At handle.old.node result handle.new.node (PlaysLine line.now result) }
+{
+    let Some(mut node) = handle.take(alloc) else {
+        return NOT_OPEN;
+    };
+    let played = node.play(alloc, line);
+    handle.put(alloc, node);
+    played_status(played)
+}
+
+/// Takes the bytes of a datagram that came.
+#[unsafe(no_mangle)]
+pub extern "C" fn at_node_receive(alloc: Global, handle: &mut AtNode, bytes: &[u8]) -> u32
+    ensures { At handle.old.node result handle.new.node (ReceivesBytes bytes.now result) }
+{
+    let Some(mut node) = handle.take(alloc) else {
+        return NOT_OPEN;
+    };
+    let received = node.receive(bytes);
+    handle.put(alloc, node);
+    received_status(received)
+}
+
+/// Hands out the datagram that waits for longest, its length, and the number of the node that it goes to.
+#[unsafe(no_mangle)]
+pub extern "C" fn at_node_next_datagram(
+    alloc: Global,
+    handle: &mut AtNode,
+    to: &mut u8,
+    room: &mut [u8],
+    length: &mut usize,
+) -> u32
+    ensures node { At handle.old.node result handle.new.node
+        (HandsNext to.old room.old length.old result to.new room.new length.new) }
+    ensures untouched { handle.old.node ≡ None → (to.new ≡ to.old) × (room.new ≡ room.old) × (length.new ≡ length.old) }
+{
+    let Some(mut node) = handle.take(alloc) else {
+        return NOT_OPEN;
+    };
+    let next = node.next_datagram(alloc, room);
+    handle.put(alloc, node);
+    match next {
+        Ok((number, count)) => {
+            *to = number;
+            handed_status(Ok(count), length)
+        }
+        Err(why) => handed_status(Err(why), length),
+    }
+}
+
+/// Hands out the line of the last event, under this number, and its length.
+#[unsafe(no_mangle)]
+pub extern "C" fn at_node_report(
+    alloc: Global,
+    handle: &mut AtNode,
+    event: u32,
+    room: &mut [u8],
+    length: &mut usize,
+) -> u32
+    ensures node { At handle.old.node result handle.new.node
+        (HandsTold event room.old length.old result room.new length.new) }
+    ensures untouched { handle.old.node ≡ None → (room.new ≡ room.old) × (length.new ≡ length.old) }
+{
+    let Some(node) = handle.take(alloc) else {
+        return NOT_OPEN;
+    };
+    let told = node.report(alloc, event, room);
+    handle.put(alloc, node);
+    handed_status(told, length)
+}
+
+/// Hands out the number and the sentence of the refusal, if the last event was refused, and the sentence's length.
+#[unsafe(no_mangle)]
+pub extern "C" fn at_node_refusal(
+    alloc: Global,
+    handle: &mut AtNode,
+    number: &mut u8,
+    room: &mut [u8],
+    length: &mut usize,
+) -> u32
+    ensures node { At handle.old.node result handle.new.node
+        (HandsRefusal number.old room.old length.old result number.new room.new length.new) }
+    ensures untouched { handle.old.node ≡ None
+        → (number.new ≡ number.old) × (room.new ≡ room.old) × (length.new ≡ length.old) }
+{
+    let Some(node) = handle.take(alloc) else {
+        return NOT_OPEN;
+    };
+    if let Some(refusal) = node.refusal() {
+        *number = refusal;
+    }
+    let told = node.sentence(alloc, room);
+    handle.put(alloc, node);
+    handed_status(told, length)
+}

@@ -1,0 +1,19 @@
+//! The opening of a node on the heap.
+ghost use Rattle.std.specs.Prelude.{IfErr, IfOk};
+ghost use Rattle.at_held.specs.Held.{IsOpened};
+ghost use Rattle.at_held.specs.Openings.{IsFault};
+
+use at_held::{HeldNode, OpenFault};
+use std::alloc::Global;
+
+/// The node of this number, of the cable that the first lines of a schedule set up.
+pub(crate) fn opened(alloc: Global, setup: &[u8], number: u8) -> Result<Box<HeldNode>, OpenFault>
+    ensures opened { IfOk result (λ node. IsOpened setup.now number node.value) }
+    ensures fault { IfErr result (IsFault setup.now number) }
+{
+    let node = HeldNode::open(alloc, setup, number)?;
+    match Box::new(alloc, node) {
+        Ok(node) => Ok(node),
+        Err(_) => Err(OpenFault::NoMemory),
+    }
+}
