@@ -1,5 +1,6 @@
-/* Three nodes on a cable, all in one program: node 5 reads the zone list, finds the name of node 7, opens a stream to it
-   and writes. Each datagram that a node sends is handed on at once to the nodes that it is for.
+/* Three nodes on a cable, all in one program. Node 5 reads the zone list, finds the name of node 7, opens a stream to it
+   and writes, and asks the service of node 7. Each datagram that a node sends is handed on at once to those that it is
+   for.
 
        ./three_nodes             prints what `atnode play` prints of the same events
        ./three_nodes schedule    prints these events, as a schedule
@@ -38,6 +39,7 @@ struct sent {
 static struct sent sent[MAX_SENT];
 static size_t sent_count, delivered_count;
 static uint32_t event_count;
+static uint8_t text[MAX_TEXT]; /* the report of the last event */
 static enum { RESULTS, SCHEDULE, NOTHING } printed;
 
 static void fail(const char *what, uint32_t status) {
@@ -53,11 +55,11 @@ static void print_sent(const struct sent *datagram) {
 
 /* Tells what came of an event, and takes what the node sent. */
 static void take(int which) {
-    static uint8_t text[MAX_TEXT];
     size_t length = 0;
-    uint32_t status = at_node_report(&nodes[which], event_count++, text, sizeof text, &length);
+    uint32_t status = at_node_report(&nodes[which], event_count++, text, sizeof text - 1, &length);
     if (status != AT_NODE_OK) fail("report", status);
-    if (printed == RESULTS) fwrite(text, 1, length, stdout);
+    text[length] = '\0';
+    if (printed == RESULTS) fputs((const char *)text, stdout);
     while (sent_count < MAX_SENT) {
         struct sent *next = &sent[sent_count];
         status = at_node_next_datagram(&nodes[which], &next->to, next->bytes, sizeof next->bytes, &next->length);
@@ -70,11 +72,30 @@ static void take(int which) {
     fail("more datagrams than the cable holds", 0);
 }
 
+/* Plays a line such as "call zones". */
+static void event(int which, const char *line) {
+    const char *rest = strchr(line, ' ');
+    if (printed == SCHEDULE) printf("%.*s %u%s\n", (int)(rest - line), line, numbers[which], rest);
+    uint32_t status = at_node_play(&nodes[which], (const uint8_t *)line, strlen(line));
+    if (status != AT_NODE_OK) fail(line, status);
+    take(which);
+}
+
+/* The service of each node: it answers a request with the byte 2A. */
+static void serve(int which) {
+    unsigned node, socket, number;
+    char line[64];
+    if (sscanf((const char *)text, "%*u asked %u %u %u", &node, &socket, &number) != 3) return;
+    snprintf(line, sizeof line, "call answer %u %u %u 00000000:2A", node, socket, number);
+    event(which, line);
+}
+
 static void deliver(const struct sent *datagram, int which) {
     if (printed == SCHEDULE) printf("deliver %zu %u\n", (size_t)(datagram - sent), numbers[which]);
     uint32_t status = at_node_receive(&nodes[which], datagram->bytes, datagram->length);
     if (status != AT_NODE_OK) fail("receive", status);
     take(which);
+    serve(which);
 }
 
 /* Hands on what was sent, up to the last datagram that comes of it. */
@@ -88,13 +109,9 @@ static void settle(void) {
     }
 }
 
-/* Plays a line such as "call zones", and all that comes of it. */
+/* Plays a line, and all that comes of it. */
 static void play(int which, const char *line) {
-    const char *rest = strchr(line, ' ');
-    if (printed == SCHEDULE) printf("%.*s %u%s\n", (int)(rest - line), line, numbers[which], rest);
-    uint32_t status = at_node_play(&nodes[which], (const uint8_t *)line, strlen(line));
-    if (status != AT_NODE_OK) fail(line, status);
-    take(which);
+    event(which, line);
     settle();
 }
 
@@ -131,6 +148,7 @@ int main(int argc, char **argv) {
     play(1, "call read 1 10");
     play(1, "call close 1");
     play(2, "timer probe 1");
+    play(1, "call ask 7 129 00000000 61736B 1 xo 3");
     if (argc == 3 && strcmp(argv[1], "time") == 0) play_rounds(atol(argv[2]));
     for (int which = 0; which < NODES; which++) at_node_close(&nodes[which]);
     return 0;
