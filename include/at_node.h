@@ -23,12 +23,12 @@ typedef struct at_node {
 enum {
     AT_NODE_OK = 0,
     AT_NODE_NO_MEMORY = 1,    /* malloc or realloc gave none; the call can be made again */
-    AT_NODE_NO_SETUP = 2,     /* the text is no schedule, or sets up no cable */
+    AT_NODE_NO_SETUP = 2,     /* the text is no schedule, so it sets up no cable */
     AT_NODE_NO_SUCH_NODE = 3, /* the cable has no node of this number */
     AT_NODE_NO_EVENT = 4,     /* the line says no call and no timer */
     AT_NODE_NOT_OPEN = 5,     /* the handle has no node */
     AT_NODE_MISSING = 6,      /* there is nothing to hand out */
-    AT_NODE_NO_ROOM = 7       /* it is longer than the room; *length tells how long it is, and it can be asked for again */
+    AT_NODE_NO_ROOM = 7       /* it is longer than the room, as *length tells; it can be asked for again */
 };
 
 /* The most bytes of a datagram: so much room is enough for each. */
@@ -38,22 +38,22 @@ enum { AT_NODE_MAX_DATAGRAM = 599 };
 enum { AT_NODE_EVERYONE = 255 };
 
 /* Each pointer to bytes points to as many as the size_t after it says, all of them with a value (char room[599] = {0}).
-   No pointer is null, not even to no bytes, and no two of a call point into the same memory. The caller owns all of this
-   memory. Nothing of it is kept after a call. Texts are bytes of any value, and end where their length says. */
+   No pointer is null, not even to no bytes, and no two of a call point into the same memory. The caller owns all of
+   this memory. Nothing of it is kept after a call. Texts are bytes of any value, and end where their length says. */
 
 /* The number of this library, 1. It rises with each change of what is promised here. */
 uint32_t at_node_version(void);
 
-/* Opens a node. `setup` has the first lines of a schedule, as "net 10\nnode 5 zone Lab\n..", and `number`, 1 to 254, says
-   which of its nodes this is. A node that the handle has is closed once the new one is open.
+/* Opens a node. `setup` has the first lines of a schedule, as "net 10\nnode 5 zone Lab\n..", and `number`, 1 to 254,
+   says which of its nodes this is. A node that the handle has is closed once the new one is open.
    AT_NODE_OK, AT_NODE_NO_SETUP, AT_NODE_NO_SUCH_NODE or AT_NODE_NO_MEMORY. */
 uint32_t at_node_open(at_node *node, const uint8_t *setup, size_t length, uint8_t number);
 
 /* Frees all that the node has. The handle has none then, and may be opened again, or forgotten. */
 void at_node_close(at_node *node);
 
-/* Plays "call CALL" or "timer TIMER", as a schedule says them of a node, but without its number and without a line feed.
-   What the node reports is handed out by at_node_report, and what it sends by at_node_next_datagram.
+/* Plays "call CALL" or "timer TIMER", as a schedule says them of a node, but without its number and without a line
+   feed. What the node reports is handed out by at_node_report, and what it sends by at_node_next_datagram.
    AT_NODE_OK, AT_NODE_NO_EVENT, AT_NODE_NOT_OPEN or AT_NODE_NO_MEMORY. */
 uint32_t at_node_play(at_node *node, const uint8_t *line, size_t length);
 
@@ -61,18 +61,18 @@ uint32_t at_node_play(at_node *node, const uint8_t *line, size_t length);
    AT_NODE_OK, AT_NODE_NOT_OPEN or AT_NODE_NO_MEMORY. */
 uint32_t at_node_receive(at_node *node, const uint8_t *bytes, size_t length);
 
-/* Hands out the datagram that the node sent first of those that it still has: `*length` bytes in `bytes`, for the node of
-   number `*to` or for AT_NODE_EVERYONE. Each is handed out once, in the order of sending.
+/* Hands out the datagram that the node sent first of those that it still has: `*length` bytes in `bytes`, for the node
+   of number `*to` or for AT_NODE_EVERYONE. Each is handed out once, in the order of sending.
    AT_NODE_OK, AT_NODE_MISSING, AT_NODE_NO_ROOM or AT_NODE_NOT_OPEN. */
 uint32_t at_node_next_datagram(at_node *node, uint8_t *to, uint8_t *bytes, size_t room, size_t *length);
 
-/* Hands out the line of the last call, timer or datagram, as "7 begun 0\n" if `event` is 7: `*length` bytes in `text`. It
-   can be asked for as often as wanted, up to the next call, timer or datagram.
+/* Hands out the line of the last call, timer or datagram, as "7 begun 0\n" if `event` is 7: `*length` bytes in `text`.
+   It can be asked for as often as wanted, up to the next call, timer or datagram.
    AT_NODE_OK, AT_NODE_MISSING, AT_NODE_NO_ROOM, AT_NODE_NOT_OPEN or AT_NODE_NO_MEMORY. */
 uint32_t at_node_report(at_node *node, uint32_t event, uint8_t *text, size_t room, size_t *length);
 
 /* Hands out why the last call, timer or datagram was refused, if it was: the number of its report in `*number`, and the
-   sentence, `*length` bytes in `text`, without a line feed. `*number` is written also if there is no room for the sentence.
+   sentence, `*length` bytes in `text`, without a line feed. `*number` is written also if the sentence is not.
    AT_NODE_OK, AT_NODE_MISSING, AT_NODE_NO_ROOM, AT_NODE_NOT_OPEN or AT_NODE_NO_MEMORY. */
 uint32_t at_node_refusal(at_node *node, uint8_t *number, uint8_t *text, size_t room, size_t *length);
 

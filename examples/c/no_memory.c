@@ -1,6 +1,6 @@
 /* Lets each allocation of a program fail in turn, and checks what is promised of a call that finds no memory: that it
-   changes nothing, so that the call, made once more, does what it would have done. So each run prints the same lines, and
-   frees all.
+   changes nothing, so that the call, made once more, does what it would have done. So each run prints the same lines,
+   and frees all.
 
    To build it, with KIT the folder of the toolchain, after ./atnode lib:
 

@@ -19,7 +19,9 @@ sent = []
 
 def ask(name, number, *words, wanted=(OK,)):
     """Calls a function of the library. Bytes are passed as a pointer and their length."""
-    passed = [it for word in words for it in ((word, ctypes.c_size_t(len(word))) if isinstance(word, bytes) else (word,))]
+    passed = []
+    for word in words:
+        passed += [word, ctypes.c_size_t(len(word))] if isinstance(word, bytes) else [word]
     status = getattr(LIBRARY, "at_node_" + name)(ctypes.byref(nodes[number]), *passed)
     assert status in wanted, f"at_node_{name} of node {number}: status {status}"
     return status

@@ -1,6 +1,6 @@
-/* Three nodes on a cable, all in one program. Node 5 reads the zone list, finds the name of node 7, opens a stream to it
-   and writes, and asks the service of node 7. Each datagram that a node sends is handed on at once to those that it is
-   for.
+/* Three nodes on a cable, all in one program. Node 5 reads the zone list, finds the name of node 7, opens a stream to
+   it and writes, and asks the service of node 7. Each datagram that a node sends is handed on at once to those that it
+   is for.
 
        ./three_nodes             prints what `atnode play` prints of the same events
        ./three_nodes schedule    prints these events, as a schedule
