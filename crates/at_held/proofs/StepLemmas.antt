@@ -1,5 +1,5 @@
 -- A step adds to the end of what was sent, and so to the end of what waits of it.
-use Rattle.std.proofs.Common.{Bor, ◌≡◌, ◌∙◌, ◌++◌, ◌≤◌, ℕ, Bool, true, false, List, length, drop, map, refl, ap}
+use Rattle.std.proofs.Common.{◌≡◌, ◌∙◌, ◌≤◌, ℕ, Bool, true, false, List, length, drop, map, refl, ap}
 use Rattle.std.proofs.lemmas.List.{drop-append-le}
 use Rattle.std.specs.Prelude.{MatchBool}
 use Rattle.std.specs.declared.alloc.Global.{Global}
