@@ -1,13 +1,13 @@
 -- Where each datagram of a list lies.
 use Rattle.std.proofs.Common.{◌≡◌, ℕ, zero, suc, ◌+◌, ◌-◌, ◌<◌, ◌≤◌, List, [], ◌∷◌, ◌++◌, length, take, drop, refl, sym}
 use Rattle.std.proofs.Common.{ap, subst, ◌∙◌, append_assoc, arith, Some, None, ◌⊎◌, inl, inr, get_or}
-use Rattle.std.specs.Prelude.{slice_range, slice_get}
+use Rattle.std.specs.Prelude.{slice_range, slice_get, map}
 use Rattle.std.specs.Option.{option_map_or}
 use Rattle.std.proofs.lemmas.Option.{slice_get_within, slice_get_cases}
 use Rattle.std.proofs.lemmas.List.{length-append, take-append-le, drop-append-le, length-drop, take_rest}
-use Rattle.std.proofs.Math.Seq.{drop-append_seam}
+use Rattle.std.proofs.Math.Seq.{drop-append_seam, drop-append-add}
 use Rattle.at_ddp.specs.Datagrams.{Posted}
-use Rattle.at_ddp.specs.Marks.{pieces, AreMarks, start_at}
+use Rattle.at_ddp.specs.Marks.{pieces, AreMarks, behind, start_at}
 use Rattle.at_ddp.specs.declared.datagrams.Mark.{Mark}
 
 pub length-pieces : (start : ℕ) (ms : List Mark) (bytes : List ℕ) → length (pieces start ms bytes) ≡ length ms
@@ -61,6 +61,60 @@ pieces_after ms ms' bytes bytes' bytes'' front back node h first second last =
     let len : length bytes'' ≡ length bytes + length (front ++ back) = ap length whole
     ∙ length-append bytes (front ++ back) in
     rw (last, len, whole) (pieces-push 0 ms bytes (front ++ back) node h)
+
+-- ---- the datagrams of another list behind those of one
+
+-- each mark is within the bytes
+pub mark_within : (from : ℕ) (ms : List Mark) (len k : ℕ) (d : Mark) → AreMarks from ms len → k < length ms
+    → (get_or ms k d).end ≤ len
+mark_within from [] len k d h lt = absurd (omega arith)
+mark_within from (m ∷ ms) len zero d h lt = AreMarks-le m.end ms len h.1
+mark_within from (m ∷ ms) len (suc k) d h lt = mark_within m.end ms len k d h.1 (omega arith)
+
+AreMarks-behind : (base from : ℕ) (ms : List Mark) (len : ℕ) → AreMarks from ms len
+    → AreMarks (base + from) (map (behind base) ms) (base + len)
+AreMarks-behind base from [] len h = ap (λ n. base + n) h
+AreMarks-behind base from (m ∷ ms) len h = (omega (arith, h.0), AreMarks-behind base m.end ms len h.1)
+
+AreMarks-both : (start : ℕ) (ms others : List Mark) (len more : ℕ) → AreMarks start ms len → AreMarks 0 others more
+    → AreMarks start (ms ++ map (behind len) others) (len + more)
+AreMarks-both start [] others len more h g =
+    subst (λ n. AreMarks n (map (behind len) others) (len + more)) (omega (arith, h))
+    (AreMarks-behind len 0 others more g)
+AreMarks-both start (m ∷ ms) others len more h g = (h.0, AreMarks-both m.end ms others len more h.1 g)
+
+piece_behind : (bytes more : List ℕ) (from end : ℕ)
+    → slice_range (bytes ++ more) (length bytes + from) (length bytes + end) ≡ slice_range more from end
+piece_behind bytes more from end =
+    ap (λ n. take n (drop (length bytes + from) (bytes ++ more))) (omega arith)
+    ∙ ap (take (end - from)) (drop-append-add bytes more from)
+
+pieces-behind : (bytes more : List ℕ) (from : ℕ) (ms : List Mark)
+    → pieces (length bytes + from) (map (behind (length bytes)) ms) (bytes ++ more) ≡ pieces from ms more
+pieces-behind bytes more from [] = refl
+pieces-behind bytes more from (m ∷ ms) =
+    rw (piece_behind bytes more from m.end, pieces-behind bytes more m.end ms) refl
+
+pieces-both : (start : ℕ) (ms others : List Mark) (bytes more : List ℕ) → AreMarks start ms (length bytes)
+    → pieces start (ms ++ map (behind (length bytes)) others) (bytes ++ more)
+    ≡ pieces start ms bytes ++ pieces 0 others more
+pieces-both start [] others bytes more h =
+    ap (λ n. pieces n (map (behind (length bytes)) others) (bytes ++ more)) (omega (arith, h))
+    ∙ pieces-behind bytes more 0 others
+pieces-both start (m ∷ ms) others bytes more h =
+    let first = piece_stays start m.end bytes more h.0 (AreMarks-le m.end ms (length bytes) h.1) in
+    rw (first, pieces-both m.end ms others bytes more h.1) refl
+
+-- the marks and the pieces of both lists
+pub both : (ms others ms' : List Mark) (bytes more bytes' : List ℕ) (base : ℕ) → AreMarks 0 ms (length bytes)
+    → AreMarks 0 others (length more) → base ≡ length bytes → ms' ≡ ms ++ map (behind base) others
+    → bytes' ≡ bytes ++ more
+    → AreMarks 0 ms' (length bytes') × (pieces 0 ms' bytes' ≡ pieces 0 ms bytes ++ pieces 0 others more)
+both ms others ms' bytes more bytes' base h g at marks all = rw (marks, all, at) (
+  subst (AreMarks 0 (ms ++ map (behind (length bytes)) others)) (sym (length-append bytes more))
+      (AreMarks-both 0 ms others (length bytes) (length more) h g),
+  pieces-both 0 ms others bytes more h,
+)
 
 -- ---- the datagram at an index
 

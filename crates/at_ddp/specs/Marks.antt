@@ -1,5 +1,5 @@
 -- How finished datagrams lie in memory one behind the other.
-use Rattle.std.specs.Prelude.{◌≡◌, ℕ, zero, suc, ◌≤◌, List, [], ◌∷◌, slice_get, slice_range}
+use Rattle.std.specs.Prelude.{◌≡◌, ℕ, zero, suc, ◌+◌, ◌≤◌, List, [], ◌∷◌, slice_get, slice_range}
 use Rattle.std.specs.Option.{option_map_or}
 use Rattle.at_ddp.specs.Datagrams.{Posted}
 use Rattle.at_ddp.specs.declared.datagrams.Mark.{Mark}
@@ -13,6 +13,10 @@ pieces start (m ∷ ms) bytes = record { node = m.node; bytes = slice_range byte
 abbrev pub AreMarks : ℕ → List Mark → ℕ → Type 0
 AreMarks start [] len = start ≡ len
 AreMarks start (m ∷ ms) len = (start ≤ m.end) × AreMarks m.end ms len
+
+-- the same mark, where so many bytes come before its datagrams
+abbrev pub behind : ℕ → Mark → Mark
+behind base m = record m { end = base + m.end }
 
 -- where the piece at an index starts
 abbrev pub start_at : ℕ → List Mark → ℕ → ℕ

@@ -1,8 +1,8 @@
 //! Finished datagrams in the order of sending, each with the node that it goes to.
 ghost use Rattle.std.specs.Prelude.{◌≡◌, ℕ, ◌+◌, ◌<◌, ◌≤◌, ◌∷◌, [], ◌++◌, ◌==◌, length, slice_get, slice_index_or};
-ghost use Rattle.std.specs.Prelude.{slice_range, OnOk, OnErr, IsOk, Some};
+ghost use Rattle.std.specs.Prelude.{◌^◌, slice_range, map, All, OnOk, OnErr, IsOk, Some, vec_capacity, vec_len};
 ghost use Rattle.at_ddp.specs.Datagrams.{Posted, HasRoom};
-ghost use Rattle.at_ddp.specs.Marks.{start_at};
+ghost use Rattle.at_ddp.specs.Marks.{behind, start_at};
 ghost use Rattle.at_ddp.specs.declared.datagrams.Mark.{Mark};
 
 use std::alloc::{AllocError, Allocator, Global};
@@ -107,6 +107,46 @@ impl<A: Allocator> Datagrams<A> {
         let end = self.bytes.len();
         self.marks.push(Mark { end, node }).unwrap();
         Ok(())
+    }
+
+    /// Moves all datagrams of another list to the end of this one. The other list keeps its room. The error is out of
+    /// memory.
+    pub fn append(&mut self, other: &mut Datagrams<A>) -> Result<(), AllocError>
+        ensures ok { OnOk result
+            ((self.new.items ≡ self.old.items ++ other.old.items) × (other.new.items ≡ [])) }
+        ensures err { OnErr result
+            ((self.new.items ≡ self.old.items) × (other.new.items ≡ other.old.items)) }
+    {
+        self.marks.reserve(other.marks.len())?;
+        self.bytes.reserve(other.bytes.len())?;
+        push_marks(&mut self.marks, &other.marks, self.bytes.len());
+        self.bytes.extend_from_slice(&other.bytes).unwrap();
+        other.clear();
+        Ok(())
+    }
+
+    // Takes all datagrams out, and keeps the room.
+    fn clear(&mut self)
+        ensures { self.new.items ≡ [] }
+    {
+        self.bytes.clear();
+        self.marks.clear();
+    }
+}
+
+// Appends these marks, which count from the byte at `base` on. The list has room for them.
+fn push_marks<A: Allocator>(marks: &mut Vec<Mark, A>, others: &[Mark], base: usize)
+    requires room { vec_len marks.old + length others.now ≤ vec_capacity marks.old }
+    requires fits { All (λ (m : Mark). base + m.end < 2 ^ 64) others.now }
+    ensures { marks.new.items ≡ marks.old.items ++ map (behind base) others.now }
+{
+    for mark in others {
+        marks
+            .push(Mark {
+                end: base + mark.end,
+                node: mark.node,
+            })
+            .unwrap();
     }
 }
 
