@@ -24,3 +24,5 @@ mod stream_memory;
 mod tables;
 #[cfg(test)]
 mod texts;
+#[cfg(test)]
+mod tuples;

@@ -1,10 +1,6 @@
 //! The finds of a lookup beside the plain list that their contracts speak of, over the same replies.
-ghost use Rattle.std.specs.Prelude.{◌≡◌, ◌≤◌, ◌∷◌, [], All, length, map};
-ghost use Rattle.at_nbp.specs.Tuples.{FitsStrings, content};
-
-use arrayvec::ArrayVec;
 use at_ddp::{Address, Datagrams, Outbox, Pascal};
-use at_nbp::{Find, Function, Lookup, MAX_FINDS, MAX_TUPLES, Name, Packet, Tuple};
+use at_nbp::{Find, Function, Lookup, MAX_FINDS, Name, Tuple, decode, encode};
 use std::process::Abort;
 
 const OWN: Address = Address {
@@ -53,9 +49,7 @@ fn drawn(rt: &impl Abort, number: u32) -> Find {
     }
 }
 
-fn tuple_of(find: &Find) -> Tuple<'_>
-    ensures { FitsStrings (content result) }
-{
+fn tuple_of(find: &Find) -> Tuple<'_> {
     Tuple {
         address: find.address,
         enumerator: find.enumerator,
@@ -65,16 +59,11 @@ fn tuple_of(find: &Find) -> Tuple<'_>
     }
 }
 
-fn reply(id: u8, find: &Find) -> Packet<'_>
-    ensures { All FitsStrings (map content result.tuples.items) }
-{
-    let mut tuples = ArrayVec::<Tuple<'_>, MAX_TUPLES>::new();
-    tuples.push(tuple_of(find));
-    Packet {
-        function: Function::Reply,
-        id,
-        tuples,
-    }
+// A reply that brings a find.
+fn reply(rt: &(impl Abort + AllocGlobal), id: u8, find: &Find) -> Vec<u8> {
+    let mut bytes = Vec::new(rt.alloc());
+    encode(Function::Reply, id, &[tuple_of(find)], &mut bytes).expect(rt, "no reply");
+    bytes
 }
 
 // Keeps a find that is new, while there is a place for it, and returns how many it kept.
@@ -98,7 +87,9 @@ fn the_finds_of_a_lookup_are_the_plain_list_of_what_is_new(rt: HostRuntime) {
     for _reply in 0..REPLIES {
         number = following(number);
         let find = drawn(&rt, number);
-        let kept = lookup.receive(&reply(id, &find)).expect(&rt, "no memory");
+        let bytes = reply(&rt, id, &find);
+        let (packet, _) = decode(&bytes).expect(&rt, "no packet");
+        let kept = lookup.receive(&packet).expect(&rt, "no memory");
         assert!(rt; kept == keep_plainly(&rt, &mut plain, &find));
     }
     assert!(rt; lookup.count(id) == Ok(MAX_FINDS));

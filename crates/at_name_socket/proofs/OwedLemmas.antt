@@ -1,17 +1,15 @@
 -- What a packet would do, if memory ran out for it.
-use Rattle.std.proofs.Common.{◌≡◌, ℕ, List, [], ◌∷◌, map, get_or, Option, Some, None, Result, Ok, Err, refl, sym, subst}
-use Rattle.std.proofs.Common.{arith}
-use Rattle.std.specs.Prelude.{IfErr, OnErr, length}
+use Rattle.std.proofs.Common.{◌≡◌, ℕ, List, [], ◌∷◌, map, length, Option, Some, None, Result, Ok, Err, refl, sym, subst}
+use Rattle.std.specs.Prelude.{IfErr, OnErr}
 use Rattle.at_ddp.specs.declared.address.Address.{Address}
 use Rattle.at_nbp.specs.Lookups as lookups
 use Rattle.at_nbp.specs.Packets.{BeginsWith, Content}
 use Rattle.at_nbp.specs.Replies.{AreReplies, matching, pattern_of, sent_reply}
-use Rattle.at_nbp.specs.Tuples.{Entry, content}
+use Rattle.at_nbp.specs.Tuples.{Entry}
 use Rattle.at_nbp.specs.declared.fault.NbpFault.{NbpFault}
 use Rattle.at_nbp.specs.declared.fault.NbpFault.TheVariants.{NoMemory}
 use Rattle.at_nbp.specs.declared.function.Function.{Function}
 use Rattle.at_nbp.specs.declared.function.Function.TheVariants.{BroadcastRequest, ForwardRequest, LookUp, Reply}
-use Rattle.at_nbp.specs.declared.tuple.Tuple.{Tuple}
 use Rattle.at_name_socket.specs.NameSockets.{AnswersTo, Hears, Relays, SocketState, Takes, counted, relayed_in}
 use Rattle.at_name_socket.specs.declared.neighbour.Neighbour.{Neighbour}
 use Rattle.at_name_socket.specs.declared.step.Heard.{Heard}
@@ -65,22 +63,6 @@ Owed s bytes fault = fault ≡ NoMemory → (h : Heard) × (new : SocketState) �
 pub owed : {T : Type 0} (r : Result T NbpFault) (s : SocketState) (bytes rest : List ℕ) (p : Content)
     → BeginsWith bytes p rest → SomeStep s p p.function → IfErr r (Owed s bytes)
 owed r s bytes rest p begins step = if_err r (Owed s bytes) (λ e is. hears_some s bytes rest p begins step)
-
--- what stands where there is no tuple
-abbrev pub blank_tuple : Tuple
-blank_tuple = record {
-  address = record { net = 0; node = 0; socket = 0 };
-  enumerator = 0;
-  object = record { ref_ptr = (0, 0); now = [] };
-  kind = record { ref_ptr = (0, 0); now = [] };
-  zone = record { ref_ptr = (0, 0); now = [] };
-}
-
-pub one_content : (items : List Tuple) (d : Tuple) → length items ≡ 1 → map content items
-    ≡ content (get_or items 0 d) ∷ []
-one_content [] d is = absurd (cc)
-one_content (t ∷ []) d is = refl
-one_content (t ∷ u ∷ ts) d is = absurd (omega (arith, is))
 
 -- a lookup is answered by these replies, if some are its answer
 pub answers_some : (s : SocketState) (id : ℕ) (t : Entry) → (replies : List (List Entry))

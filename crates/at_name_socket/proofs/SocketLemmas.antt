@@ -1,7 +1,7 @@
--- Packets with one tuple, and lists of finds and claims.
+-- What is relayed, and lists of finds and claims.
 use Rattle.std.proofs.Common.{◌≡◌, ℕ, zero, suc, ◌+◌, ◌<◌, List, [], ◌∷◌, ◌++◌, length, get_or, take, map, Option, Some}
 use Rattle.std.proofs.Common.{None, IsSome, refl, sym, ap, subst, ◌∙◌, append-nil, arith}
-use Rattle.std.specs.Prelude.{All, find, slice_get, IfSome, Result, Ok, Err}
+use Rattle.std.specs.Prelude.{find, slice_get, IfSome, Result, Ok, Err}
 use Rattle.std.specs.List.{position_from}
 use Rattle.std.proofs.lemmas.Bool.{eqb-true}
 use Rattle.at_ddp.proofs.TableLemmas.{found, none_by, without_none}
@@ -18,21 +18,9 @@ use Rattle.at_nbp.specs.Lookups.{Search, closed, counted, finds_in, search_of}
 use Rattle.at_nbp.specs.NameTables.{register_fault, registered}
 use Rattle.at_nbp.specs.Packets.{Content, spelling}
 use Rattle.at_nbp.specs.Relays.{relayed}
-use Rattle.at_nbp.specs.Tuples.{Entry, FitsStrings, content}
+use Rattle.at_nbp.specs.Tuples.{Entry}
 use Rattle.at_nbp.specs.declared.fault.NbpFault.{NbpFault}
 use Rattle.at_nbp.specs.declared.find.Find.{Find}
-use Rattle.at_nbp.specs.declared.tuple.Tuple.{Tuple}
-
--- a list of one entry is that entry
-pub one_tuple : (tuples : List Tuple) (d : Tuple) → length tuples ≡ 1 → tuples ≡ get_or tuples 0 d ∷ []
-one_tuple [] d one = absurd (omega (arith, one))
-one_tuple (t ∷ []) d one = refl
-one_tuple (t ∷ u ∷ ts) d one = absurd (omega (arith, one))
-
-pub one_fits : (tuples : List Tuple) (d : Tuple) → length tuples ≡ 1 → All FitsStrings (map content tuples)
-    → FitsStrings (content (get_or tuples 0 d))
-one_fits [] d one fits = absurd (omega (arith, one))
-one_fits (t ∷ ts) d one fits = fits 0 (content t) (omega arith)
 
 -- ---- lists of finds
 
@@ -46,20 +34,17 @@ take_found (y ∷ ys) (suc i) x h =
 
 -- ---- what is relayed
 
-pub relayed_one : (s : SocketState) (neighbours : List Neighbour) (p : Content) (tuples : List Tuple) (d : Tuple)
-    (zone : List ℕ) → length tuples ≡ 1 → p.tuples ≡ map content tuples →
-    zone ≡ zone_of s.table.zone neighbours (get_or tuples 0 d).address.node
-    → (record s.table.own { node = 255 }, spelling (relayed zone p)) ∷ [] ≡ relayed_in s neighbours p
-relayed_one s neighbours p [] d zone one are is = absurd (omega (arith, one))
-relayed_one s neighbours p (t ∷ u ∷ ts) d zone one are is = absurd (omega (arith, one))
-relayed_one s neighbours p (t ∷ []) d zone one are is =
+pub relayed_one : (s : SocketState) (neighbours : List Neighbour) (p : Content) (t : Entry) (zone : List ℕ)
+    → p.tuples ≡ t ∷ [] → zone ≡ zone_of s.table.zone neighbours t.address.node →
+    (record s.table.own { node = 255 }, spelling (relayed zone p)) ∷ [] ≡ relayed_in s neighbours p
+relayed_one s neighbours p t zone one is =
     let sent : Entry → Address
     × List ℕ = λ e. (
       record s.table.own { node = 255 },
       spelling
           (relayed (zone_of s.table.zone neighbours e.address.node) p),
     ) in
-    ap (λ z. (record s.table.own { node = 255 }, spelling (relayed z p)) ∷ []) is ∙ ap (map sent) (sym are)
+    ap (λ z. (record s.table.own { node = 255 }, spelling (relayed z p)) ∷ []) is ∙ ap (map sent) (sym one)
 
 pub sends_nothing : (out : Outbox) → Sends out out []
 sends_nothing out = record { items = sym (append-nil out.items); from = refl; kind = refl }

@@ -1,8 +1,7 @@
 //! Whose identifier a packet of names carries. By it a packet is told that comes too late.
-ghost use Rattle.std.specs.Prelude.{◌≡◌, ℕ, IfSome, Some, length, map};
+ghost use Rattle.std.specs.Prelude.{◌≡◌, ℕ, IfSome, Some, length};
 ghost use Rattle.at_name_socket.specs.Carrying.{Carries, owner_by};
 ghost use Rattle.at_nbp.specs.Packets.{HasCount};
-ghost use Rattle.at_nbp.specs.Tuples.{content};
 
 use at_ddp::Address;
 use at_nbp::{Function, Packet, decode};
@@ -21,12 +20,12 @@ pub fn carried(to: Address, bytes: &[u8]) -> Option<(u8, u8)>
 
 // The node that drew the identifier of a packet to this address.
 fn owner_of(to: Address, packet: &Packet<'_>) -> u8
-    requires { HasCount packet.now.function (length packet.now.tuples.items) }
-    ensures { result ≡ owner_by to packet.now.function (map content packet.now.tuples.items) }
+    requires { HasCount packet.now.function (length packet.now.tuples) }
+    ensures { result ≡ owner_by to packet.now.function packet.now.tuples }
 {
     if matches!(packet.function, Function::Reply) {
         to.node
     } else {
-        packet.tuples[0].address.node
+        packet.tuples.only().address.node
     }
 }

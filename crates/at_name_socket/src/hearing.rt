@@ -1,5 +1,5 @@
 //! What packets do at the socket.
-ghost use Rattle.std.specs.Prelude.{◌≡◌, ◌≢◌, ◌==◌, [], ◌∷◌, All, List, ℕ, length, map, find, IfOk, IfErr, OnErr};
+ghost use Rattle.std.specs.Prelude.{◌≡◌, ◌≢◌, ◌==◌, [], ◌∷◌, List, ℕ, length, map, find, IfOk, IfErr, OnErr};
 ghost use Rattle.std.specs.Prelude.{IsErrOf, if◌then◌else◌};
 ghost use Rattle.std.specs.Option.{option_copied};
 ghost use Rattle.at_ddp.specs.Outbox.{Sends};
@@ -9,7 +9,6 @@ ghost use Rattle.at_name_socket.specs.NameSockets.{is_node, zone_of, zone_or};
 ghost use Rattle.at_name_socket.specs.declared.step.Heard.{Heard as Come};
 ghost use Rattle.at_nbp.specs.Fault.{IsFirstFault};
 ghost use Rattle.at_nbp.specs.Packets.{HasCount, packet_content};
-ghost use Rattle.at_nbp.specs.Tuples.{FitsStrings, content};
 ghost use Rattle.at_nbp.specs.declared.fault.NbpFault.{NbpFault as Fault};
 
 use crate::neighbour::Neighbour;
@@ -42,16 +41,15 @@ impl<A: Allocator + Copy> NameSocket<A> {
 
     // Answers a lookup.
     fn answer(&self, packet: &Packet<'_>, out: &mut Outbox<A>) -> Result<Heard, AllocError>
-        requires one { length packet.now.tuples.items ≡ 1 }
-        requires short { All FitsStrings (map content packet.now.tuples.items) }
+        requires { length packet.now.tuples ≡ 1 }
         ensures ok { IfOk result (λ h. (pushes : List (At × List ℕ))
-            × AnswersTo self.now packet.now.id (map content packet.now.tuples.items) h pushes
+            × AnswersTo self.now packet.now.id packet.now.tuples h pushes
             × Sends out.old out.new pushes) }
         ensures owed { OnErr result ((h : Come) × (pushes : List (At × List ℕ))
-            × AnswersTo self.now packet.now.id (map content packet.now.tuples.items) h pushes) }
+            × AnswersTo self.now packet.now.id packet.now.tuples h pushes) }
         ensures nothing_sent { OnErr result (Sends out.old out.new []) }
     {
-        let tuple = &packet.tuples[0];
+        let tuple = packet.tuples.only();
         let count = self
             .names
             .answer(packet.id, tuple.address, &tuple.name(), out)?;
@@ -64,8 +62,7 @@ impl<A: Allocator + Copy> NameSocket<A> {
 
     // Keeps what a reply found.
     fn keep(&mut self, packet: &Packet<'_>) -> Result<Heard, AllocError>
-        requires reply { packet.now.function ≡ Function.Reply }
-        requires short { All FitsStrings (map content packet.now.tuples.items) }
+        requires { packet.now.function ≡ Function.Reply }
         ensures ok { IfOk result (λ h. Takes self.old (packet_content packet.now) Function.Reply h self.new []) }
         ensures unchanged { OnErr result (self.new ≡ self.old) }
     {
@@ -79,8 +76,7 @@ impl<A: Allocator + Copy> NameSocket<A> {
 
     // Relays a request, if this node is the router.
     fn relay(&self, packet: &Packet<'_>, out: &mut Outbox<A>) -> Result<Heard, AllocError>
-        requires one { length packet.now.tuples.items ≡ 1 }
-        requires short { All FitsStrings (map content packet.now.tuples.items) }
+        requires { length packet.now.tuples ≡ 1 }
         ensures ok { IfOk result (λ h. (pushes : List (At × List ℕ))
             × Relays self.now (packet_content packet.now) self.now.neighbours h pushes
             × Sends out.old out.new pushes) }
@@ -90,7 +86,8 @@ impl<A: Allocator + Copy> NameSocket<A> {
             return Ok(Heard::Ignored);
         };
         let own = self.names.zone();
-        let zone = zone_of(own, neighbours.as_slice(), packet.tuples[0].address.node);
+        let asker = packet.tuples.only().address;
+        let zone = zone_of(own, neighbours.as_slice(), asker.node);
         let every_node = Address {
             node: EVERY_NODE,
             ..self.names.own()

@@ -1,78 +1,44 @@
 -- The finds that join, tuple by tuple.
-use Rattle.std.proofs.Common.{◌≡◌, ℕ, ◌+◌, ◌-◌, ◌<◌, ◌≤◌, Bool, true, false, cond, List, [], ◌∷◌, ◌++◌, length, get_or}
-use Rattle.std.proofs.Common.{take, map, set, Some, None, refl, sym, ap, subst, ◌∙◌, append_assoc, append-nil, arith}
+use Rattle.std.proofs.Common.{◌≡◌, ℕ, ◌+◌, ◌-◌, ◌≤◌, Bool, true, false, cond, List, [], ◌∷◌, ◌++◌, length, set}
+use Rattle.std.proofs.Common.{Some, None, refl, sym, ap, subst, ◌∙◌, arith}
 use Rattle.std.specs.Prelude.{find, IfOk, IsOk, OnErr, OnOk, Result, Ok, Err}
-use Rattle.std.proofs.lemmas.List.{length-append, map_more, set-get_or, take_all}
+use Rattle.std.proofs.lemmas.List.{length-append, set-get_or}
 use Rattle.at_ddp.proofs.TableLemmas.{Found}
 use Rattle.at_nbp.specs.Lookups.{AreLookups, Heard, Lookups, Search, all_joined, answered, find_of, has_id, heard}
 use Rattle.at_nbp.specs.Lookups.{is_reply, joined, joins, reply_came}
 use Rattle.at_nbp.specs.Packets.{Content}
-use Rattle.at_nbp.specs.Tuples.{Entry, content}
+use Rattle.at_nbp.specs.Tuples.{Entry}
 use Rattle.at_nbp.specs.declared.find.Find.{Find}
 use Rattle.at_nbp.specs.declared.name.Name.{Name}
-use Rattle.at_nbp.specs.declared.tuple.Tuple.{Tuple}
 use Rattle.at_nbp.proofs.LookupLaws.{heard_lawful}
 
-last_joined : (pattern : Name) (finds : List Find) (ts : List Entry) (t : Entry)
-    → all_joined pattern finds (ts ++ t ∷ []) ≡ joined pattern (all_joined pattern finds ts) (find_of pattern t)
-last_joined pattern finds [] t = refl
-last_joined pattern finds (x ∷ ts) t = last_joined pattern (joined pattern finds (find_of pattern x)) ts t
+-- a tuple that does not join leaves the finds
+pub passed_over : (pattern : Name) (finds : List Find) (old new : List Entry) (t : Entry) (f : Find) → old ≡ t ∷ new
+    → f ≡ find_of pattern t → joins pattern finds f ≡ false → all_joined pattern finds old
+    ≡ all_joined pattern finds new
+passed_over pattern finds old new t f is read misses =
+    let same : joined pattern finds (find_of pattern t) ≡ finds = ap (joined pattern finds) (sym read)
+    ∙ ap (λ b. cond b (finds ++ f ∷ []) finds) misses in
+    ap (all_joined pattern finds) is ∙ ap (λ l. all_joined pattern l new) same
 
--- the finds of the first tuples stand behind those that were there
-pub record AreJoined (pattern : Name) (finds : List Find) (tuples : List Tuple) (i : ℕ)
-    (joining : List Find) : Type 0 where
-  pub are : finds ++ joining ≡ all_joined pattern finds (map content (take i tuples))
-  pub few : length joining ≤ i
+-- and one that joins stands behind them
+pub joined_next : (pattern : Name) (finds : List Find) (old new : List Entry) (t : Entry) (f : Find) → old ≡ t ∷ new
+    → f ≡ find_of pattern t → joins pattern finds f ≡ true → all_joined pattern finds old
+    ≡ all_joined pattern (finds ++ f ∷ []) new
+joined_next pattern finds old new t f is read hits =
+    let one : joined pattern finds (find_of pattern t) ≡ finds ++ f ∷ [] = ap (joined pattern finds) (sym read)
+    ∙ ap (λ b. cond b (finds ++ f ∷ []) finds) hits in
+    ap (all_joined pattern finds) is ∙ ap (λ l. all_joined pattern l new) one
 
-next_joined : (pattern : Name) (finds : List Find) (tuples : List Tuple) (i : ℕ) (joining : List Find) (d t : Tuple)
-    (f : Find) → AreJoined pattern finds tuples i joining → i < length tuples → t ≡ get_or tuples i d →
-    f ≡ find_of pattern (content t) → all_joined pattern finds (map content (take (i + 1) tuples))
-    ≡ joined pattern (finds ++ joining) f
-next_joined pattern finds tuples i joining d t f j lt at is =
-    ap (all_joined pattern finds) (map_more content tuples i d lt)
-    ∙ last_joined pattern finds (map content (take i tuples)) (content (get_or tuples i d))
-    ∙ (λ k. joined pattern (sym j.are k) (find_of pattern (content (sym at k))))
-    ∙ ap (joined pattern (finds ++ joining)) (sym is)
-
-pub joined_more : (pattern : Name) (finds : List Find) (tuples : List Tuple) (i : ℕ) (joining joining' : List Find)
-    (d t : Tuple) (f : Find) → AreJoined pattern finds tuples i joining → i < length tuples → t ≡ get_or tuples i d →
-    f ≡ find_of pattern (content t) → joins pattern (finds ++ joining) f ≡ true → joining' ≡ joining ++ f ∷ []
-    → AreJoined pattern finds tuples (i + 1) joining'
-joined_more pattern finds tuples i joining joining' d t f j lt at is hit pushed =
-    let one : joined pattern (finds ++ joining) f ≡ (finds ++ joining) ++ f ∷ [] = rw hit refl in
-    record {
-      are = ap (λ l. finds ++ l) pushed ∙ sym (append_assoc finds joining (f ∷ []))
-          ∙ sym (next_joined pattern finds tuples i joining d t f j lt at is ∙ one);
-      few = omega (arith, j.few, ap (length {A = Find}) pushed, length-append joining (f ∷ []));
-    }
-
-pub joined_same : (pattern : Name) (finds : List Find) (tuples : List Tuple) (i : ℕ) (joining : List Find)
-    (d t : Tuple) (f : Find) → AreJoined pattern finds tuples i joining → i < length tuples → t ≡ get_or tuples i d →
-    f ≡ find_of pattern (content t) → joins pattern (finds ++ joining) f ≡ false
-    → AreJoined pattern finds tuples (i + 1) joining
-joined_same pattern finds tuples i joining d t f j lt at is misses =
-    let none : joined pattern (finds ++ joining) f ≡ finds ++ joining = rw misses refl in
-    record {
-      are = sym (next_joined pattern finds tuples i joining d t f j lt at is ∙ none);
-      few = omega (arith, j.few);
-    }
-
-pub joined_none : (pattern : Name) (finds : List Find) (tuples : List Tuple) (joining : List Find) → joining ≡ []
-    → AreJoined pattern finds tuples 0 joining
-joined_none pattern finds tuples joining none =
-    record { are = ap (λ l. finds ++ l) none ∙ append-nil finds; few = rw none (omega arith) }
-
-pub joined_all : (pattern : Name) (finds : List Find) (tuples : List Tuple) (i : ℕ) (joining : List Find)
-    → AreJoined pattern finds tuples i joining → length tuples ≤ i → finds ++ joining
-    ≡ all_joined pattern finds (map content tuples)
-joined_all pattern finds tuples i joining j all = j.are
-    ∙ ap (λ (l : List Tuple). all_joined pattern finds (map content l)) (take_all i tuples all)
-
--- ---- finds that are appended
-
-pub count_joined : (s : Search) (tuples : List Entry) (joining : List Find) → s.finds ++ joining
-    ≡ (answered s tuples).finds → length s.finds + length joining ≡ length (answered s tuples).finds
-count_joined s tuples joining are = sym (length-append s.finds joining) ∙ ap (length {A = Find}) are
+-- the finds never get fewer
+pub grows : (pattern : Name) (finds : List Find) (ts : List Entry) → length finds ≤ length (all_joined pattern finds ts)
+grows pattern finds [] = omega arith
+grows pattern finds (t ∷ ts) = go (λ l. grows pattern l ts) (joins pattern finds (find_of pattern t))
+  where
+    go : ((l : List Find) → length l ≤ length (all_joined pattern l ts)) → (b : Bool)
+        → length finds ≤ length (all_joined pattern (cond b (finds ++ find_of pattern t ∷ []) finds) ts)
+    go ih true = omega (arith, ih (finds ++ find_of pattern t ∷ []), length-append finds (find_of pattern t ∷ []))
+    go ih false = ih finds
 
 -- ---- what comes of a reply
 
@@ -115,15 +81,6 @@ stays l id i f (Ok n) new same = tt
 stays l id i f (Err e) new same = ap (λ (s : Search). record l { searches = set l.searches i s })
     (same ∙ sym (f.at f.entry))
     ∙ ap (λ (k : List Search). record l { searches = k }) (set-get_or l.searches i f.entry)
-
-grows : (pattern : Name) (finds : List Find) (ts : List Entry) → length finds ≤ length (all_joined pattern finds ts)
-grows pattern finds [] = omega arith
-grows pattern finds (t ∷ ts) = go (λ l. grows pattern l ts) (joins pattern finds (find_of pattern t))
-  where
-    go : ((l : List Find) → length l ≤ length (all_joined pattern l ts)) → (b : Bool)
-        → length finds ≤ length (all_joined pattern (cond b (finds ++ find_of pattern t ∷ []) finds) ts)
-    go ih true = omega (arith, ih (finds ++ find_of pattern t ∷ []), length-append finds (find_of pattern t ∷ []))
-    go ih false = ih finds
 
 -- if no find is counted, none joined
 pub heard_quiet : (l : Lookups) (p : Content) (s : Search) → heard l p ≡ reply_came l p (Some s) → (heard l p).count

@@ -19,3 +19,4 @@ mod ReplyLemmas
 mod StoodLemmas
 mod TitleLemmas
 mod TupleLemmas
+mod UnreadLemmas

@@ -1,4 +1,4 @@
--- Tuples that are read, measured or written so far.
+-- Tuples that are measured or written so far.
 use Rattle.std.proofs.Common.{◌≡◌, ℕ, ◌+◌, ◌*◌, ◌<◌, ◌≤◌, List, [], ◌∷◌, ◌++◌, length, get_or, take, drop, map, sym, ap}
 use Rattle.std.proofs.Common.{subst, ◌∙◌, append_assoc, append-nil, arith}
 use Rattle.std.specs.Prelude.{All}
@@ -7,9 +7,7 @@ use Rattle.std.proofs.lemmas.List.{map-append, map_more, get_or-map, length-appe
 use Rattle.std.proofs.lemmas.List.{take-append-drop}
 use Rattle.std.proofs.lemmas.List.Concat.{flat_map-append}
 use Rattle.std.proofs.lemmas.List.Elements.{All-push}
-use Rattle.at_nbp.specs.Fault.{IsTupleFault, StandsAfterTuples}
-use Rattle.at_nbp.specs.Tuples.{Entry, IsTuple, FitsStrings, content, string_spelling, tuple_spelling}
-use Rattle.at_nbp.specs.declared.fault.NbpFault.{NbpFault}
+use Rattle.at_nbp.specs.Tuples.{Entry, FitsStrings, content, string_spelling, tuple_spelling}
 use Rattle.at_nbp.specs.declared.tuple.Tuple.{Tuple}
 
 -- the bytes of tuples, one behind the other
@@ -28,40 +26,6 @@ spelled_more tuples i d t lt at =
     ap (flat_map tuple_spelling) (map_more content tuples i d lt)
     ∙ spelled_push (map content (take i tuples)) (content (get_or tuples i d))
     ∙ ap (λ (u : Tuple). spelled (take i tuples) ++ tuple_spelling (content u)) (sym at)
-
--- ---- tuples that are read
-
-pub record AreTaken (bytes : List ℕ) (items : List Tuple) (count : ℕ) (rest : List ℕ) : Type 0 where
-  pub each : All IsTuple (map content items)
-  pub counted : length items ≡ count
-  pub follows : bytes ≡ spelled items ++ rest
-
-pub taken_more : (bytes : List ℕ) (items items' : List Tuple) (count : ℕ) (rest after : List ℕ) (t : Tuple)
-    → AreTaken bytes items count rest → IsTuple (content t) →
-    rest ≡ tuple_spelling (content t) ++ after → items' ≡ items ++ t ∷ [] → AreTaken bytes items' (count + 1) after
-taken_more bytes items items' count rest after t taken ok is pushed =
-    let entries : map content items' ≡ map content items ++ content t ∷ [] = ap (map content) pushed
-    ∙ map-append content items (t ∷ []) in
-    record {
-      each = subst (All IsTuple) (sym entries) (All-push IsTuple (map content items) (content t) taken.each ok);
-      counted = omega (arith, ap (length {A = Tuple}) pushed, length-append items (t ∷ []), taken.counted);
-      follows = taken.follows ∙ ap (λ l. spelled items ++ l) is
-          ∙ sym (append_assoc (spelled items) (tuple_spelling (content t)) after)
-          ∙ ap (λ l. l ++ after) (sym
-          (ap (flat_map tuple_spelling) entries ∙ spelled_push (map content items) (content t)));
-    }
-
-pub fault_after : (fault : NbpFault) (bytes : List ℕ) (items : List Tuple) (count end : ℕ) (rest : List ℕ)
-    → AreTaken bytes items count rest → count < end → IsTupleFault fault rest →
-    StandsAfterTuples fault end bytes
-fault_after fault bytes items count end rest taken lt stands = record {
-  tuples = map content items;
-  each = taken.each;
-  fewer = omega (arith, length-map items content, taken.counted, lt);
-  rest = rest;
-  follows = taken.follows;
-  stands = stands;
-}
 
 -- ---- tuples that are measured
 

@@ -119,7 +119,7 @@ closed_lawful l id h = record {
 
 -- ---- finds that join
 
-pub turned : (a b : Find) → same_find a b ≡ same_find b a
+turned : (a b : Find) → same_find a b ≡ same_find b a
 turned a b = λ i.
     nat_list_eq_equiv.symm a.name.object b.name.object i && nat_list_eq_equiv.symm a.name.kind b.name.kind i
     && nat_list_eq_equiv.symm a.name.zone b.name.zone i
@@ -127,7 +127,7 @@ turned a b = λ i.
     && nat_eq_equiv.symm a.address.socket b.address.socket i)
     && nat_eq_equiv.symm a.enumerator b.enumerator i
 
-not_true : (b : Bool) → not b ≡ true → b ≡ false
+pub not_true : (b : Bool) → not b ≡ true → b ≡ false
 not_true true h = absurd (true≢false (sym h))
 not_true false h = refl
 

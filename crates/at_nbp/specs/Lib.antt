@@ -10,3 +10,4 @@ pub mod Relays
 pub mod Replies
 pub mod Titles
 pub mod Tuples
+pub mod Unread

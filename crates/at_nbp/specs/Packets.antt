@@ -1,19 +1,19 @@
 -- NBP packets and their spelling (Inside AppleTalk, NBP, "NBP packet formats").
-use Rattle.std.specs.Prelude.{◌≡◌, ℕ, ◌+◌, ◌*◌, ◌<◌, ◌≤◌, List, ◌∷◌, ◌++◌, length, map, All}
+use Rattle.std.specs.Prelude.{◌≡◌, ℕ, ◌+◌, ◌*◌, ◌<◌, ◌≤◌, List, ◌∷◌, ◌++◌, length, All}
 use Rattle.std.specs.List.{flat_map}
-use Rattle.at_nbp.specs.Tuples.{Entry, IsTuple, content, tuple_spelling}
+use Rattle.at_nbp.specs.Tuples.{Entry, IsTuple, tuple_spelling}
 use Rattle.at_nbp.specs.declared.function.Function.{Function}
 use Rattle.at_nbp.specs.declared.function.Function.TheVariants.{BroadcastRequest, LookUp, Reply, ForwardRequest}
 use Rattle.at_nbp.specs.declared.packet.Packet.{Packet}
 
--- the fields of a packet, wherever its strings lie in memory
+-- the fields of a packet, wherever its tuples lie in memory
 pub record Content : Type 0 where
   pub function : Function
   pub id : ℕ
   pub tuples : List Entry
 
 abbrev pub packet_content : Packet → Content
-packet_content p = record { function = p.function; id = p.id; tuples = map content p.tuples.items }
+packet_content p = record { function = p.function; id = p.id; tuples = p.tuples }
 
 -- the number of a function: BrRq, LkUp, LkUp-Reply and FwdReq
 abbrev pub code : Function → ℕ

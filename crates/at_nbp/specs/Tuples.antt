@@ -23,16 +23,6 @@ content t = record {
   zone = t.zone.now;
 }
 
--- what stands in a free place of an array of tuples
-abbrev pub blank : Entry
-blank = record {
-  address = record { net = 0; node = 0; socket = 0 };
-  enumerator = 0;
-  object = [];
-  kind = [];
-  zone = [];
-}
-
 -- an object, a type or a zone has at most 32 bytes
 pub record IsString (text : List ℕ) : Type 0 where
   pub fits : length text ≤ 32

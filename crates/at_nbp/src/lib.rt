@@ -17,6 +17,7 @@ mod search;
 mod strings;
 mod title;
 mod tuple;
+mod tuples;
 
 pub use fault::NbpFault;
 pub use find::{Find, copy_of};
@@ -28,3 +29,4 @@ pub use packet::{MAX_TUPLES, Packet, decode, encode};
 pub use relaying::relay;
 pub use search::MAX_FINDS;
 pub use tuple::Tuple;
+pub use tuples::Tuples;

@@ -1,5 +1,5 @@
 //! A node's open lookups. One of them, with what it found, stands in `search.rt`.
-ghost use Rattle.std.specs.Prelude.{◌≡◌, ◌≢◌, ◌≤◌, ◌<◌, ◌+◌, ◌↔◌, ◌∷◌, [], All, length, map, find, slice_get, true};
+ghost use Rattle.std.specs.Prelude.{◌≡◌, ◌≢◌, ◌≤◌, ◌<◌, ◌+◌, ◌↔◌, ◌∷◌, [], length, find, slice_get, true};
 ghost use Rattle.std.specs.Prelude.{Some, None, Err, IfOk, IfErr, IfSome, OnOk, OnErr, IsOk, IsSome, IsErrOf};
 ghost use Rattle.std.specs.List.{list_any, position_from};
 ghost use Rattle.std.specs.Option.{option_copied};
@@ -7,7 +7,6 @@ ghost use Rattle.at_ddp.specs.Outbox.{Sends};
 ghost use Rattle.at_nbp.specs.Lookups.{begun, beginning, closed, counted, finds_in, free_id, has_id, heard};
 ghost use Rattle.at_nbp.specs.Lookups.{AreLookups, is_question, next_id, search_of, sent_question};
 ghost use Rattle.at_nbp.specs.Packets.{packet_content};
-ghost use Rattle.at_nbp.specs.Tuples.{FitsStrings, content};
 
 use crate::asking::send_one;
 use crate::fault::NbpFault;
@@ -115,11 +114,10 @@ impl<A: Allocator + Copy> Lookup<A> {
         Ok(id)
     }
 
-    /// Takes a packet, whose strings have at most 32 bytes, and returns how many finds are new. Only a reply to an open
-    /// lookup has any: each of its tuples that matches and is new, while there are fewer than 256. If none is new, this
-    /// needs no memory. The error is out of memory.
+    /// Takes a packet, and returns how many finds are new. Only a reply to an open lookup has any: each of its tuples
+    /// that matches and is new, while there are fewer than 256. If none is new, this needs no memory. The error is out
+    /// of memory.
     pub fn receive(&mut self, packet: &Packet<'_>) -> Result<usize, AllocError>
-        requires { All FitsStrings (map content packet.now.tuples.items) }
         ensures count { IfOk result (λ count. count ≡ (heard self.old (packet_content packet.now)).count) }
         ensures state { OnOk result (self.new ≡ (heard self.old (packet_content packet.now)).after) }
         ensures unchanged { OnErr result (self.new ≡ self.old) }

@@ -10,15 +10,15 @@
 ghost use Rattle.std.specs.Prelude.{◌≡◌, ◌≢◌, ◌+◌, ◌*◌, ◌<◌, ◌≤◌, ◌++◌, ◌↔◌, List, ℕ, length, map, All, IfOk, IfErr};
 ghost use Rattle.std.specs.Prelude.{OnOk, OnErr, OnSome, IfSome, IsOkAnd, IsErrOf, IsTrue, vec_len, vec_capacity};
 ghost use Rattle.std.specs.List.{flat_map};
-ghost use Rattle.at_nbp.specs.Tuples.{Entry, IsTuple, FitsStrings, content, tuple_spelling};
+ghost use Rattle.at_nbp.specs.Tuples.{FitsStrings, content, tuple_spelling};
 ghost use Rattle.at_nbp.specs.Packets.{Content, BeginsWith, packet_content, spelling, HasCount};
-ghost use Rattle.at_nbp.specs.Fault.{IsFirstFault, StandsAfterTuples};
+ghost use Rattle.at_nbp.specs.Fault.{IsFirstFault};
 ghost use Rattle.at_nbp.specs.declared.fault.NbpFault.{NbpFault as Fault};
 
 use crate::fault::NbpFault;
 use crate::function::Function;
-use crate::tuple::{Tuple, has_strings, push_tuple, spelled_len, take_tuple};
-use arrayvec::ArrayVec;
+use crate::tuple::{Tuple, has_strings, push_tuple, spelled_len};
+use crate::tuples::{Tuples, take_tuples};
 use std::alloc::Allocator;
 
 /// The most tuples of a packet.
@@ -30,14 +30,14 @@ pub(crate) const HEADER_LEN: usize = 2;
 // The first byte holds the function in its high four bits, and the number of tuples in the others.
 const COUNTS: u8 = 16;
 
-/// A decoded packet. The strings of its tuples stay in the bytes that it was decoded from.
+/// A decoded packet. Its tuples stay in the bytes that it was decoded from.
 #[derive(Drop)]
 pub struct Packet<'a> {
     pub function: Function,
     /// The identifier of the lookup.
     pub id: u8,
     /// One tuple if the packet asks, and 0 to 15 in a reply.
-    pub tuples: ArrayVec<Tuple<'a>, MAX_TUPLES>,
+    pub tuples: Tuples<'a>,
 }
 
 /// Decodes the packet at the front of the input, and returns it with the bytes after it. The packet says how many
@@ -45,9 +45,8 @@ pub struct Packet<'a> {
 pub fn decode(input: &[u8]) -> Result<(Packet<'_>, &[u8]), NbpFault>
     // What is decoded is spelled there.
     ensures found { IfOk result (λ r. BeginsWith input.now (packet_content r.0) r.1.now) }
-    // It has as many tuples as it may, and no string is over 32 bytes.
-    ensures counted { IfOk result (λ r. HasCount r.0.function (length r.0.tuples.items)) }
-    ensures short { IfOk result (λ r. All FitsStrings (map content r.0.tuples.items)) }
+    // It has as many tuples as it may.
+    ensures counted { IfOk result (λ r. HasCount r.0.function (length r.0.tuples)) }
     // What is spelled there is decoded.
     ensures only { (p : Content) (rest : List ℕ) → BeginsWith input.now p rest
         → IsOkAnd result (λ r. (packet_content r.0 ≡ p) × (r.1.now ≡ rest)) }
@@ -90,27 +89,6 @@ fn has_count(function: Function, count: usize) -> bool
     } else {
         count == 1
     }
-}
-
-/// So many tuples at the front, and the bytes after them.
-fn take_tuples(
-    count: u8,
-    bytes: &[u8],
-) -> Result<(ArrayVec<Tuple<'_>, MAX_TUPLES>, &[u8]), NbpFault>
-    requires { count ≤ 15 }
-    ensures each { IfOk result (λ r. All IsTuple (map content r.0.items)) }
-    ensures count { IfOk result (λ r. length r.0.items ≡ count) }
-    ensures found { IfOk result (λ r. bytes.now ≡ flat_map tuple_spelling (map content r.0.items) ++ r.1.now) }
-    ensures fault { IfErr result (λ fault. StandsAfterTuples fault count bytes.now) }
-{
-    let mut tuples = ArrayVec::new();
-    let mut rest = bytes;
-    for _ in 0..count {
-        let (tuple, after) = take_tuple(rest)?;
-        tuples.push(tuple);
-        rest = after;
-    }
-    Ok((tuples, rest))
 }
 
 /// Appends a packet. A packet other than a reply has one tuple, and a string at most 32 bytes.

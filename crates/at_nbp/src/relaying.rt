@@ -1,5 +1,5 @@
 //! What a router makes of a request to look a name up.
-ghost use Rattle.std.specs.Prelude.{◌≡◌, ◌∷◌, [], All, length, map, OnOk, OnErr, if◌then◌else◌};
+ghost use Rattle.std.specs.Prelude.{◌≡◌, ◌∷◌, [], length, OnOk, OnErr, if◌then◌else◌};
 ghost use Rattle.at_ddp.specs.Outbox.{Sends};
 ghost use Rattle.at_nbp.specs.Packets.{packet_content, spelling};
 ghost use Rattle.at_nbp.specs.Relays.{in_zone, relayed};
@@ -13,8 +13,8 @@ use crate::tuple::Tuple;
 use at_ddp::{Address, Outbox, Pascal};
 use std::alloc::{AllocError, Allocator};
 
-/// Relays a request that came to a router, which has one tuple with strings of at most 32 bytes: asks `to` the same by
-/// a LkUp. The zone of the node that asks stands for `*` and for an empty zone. The error is out of memory.
+/// Relays a request that came to a router, which has one tuple: asks `to` the same by a LkUp. The zone of the node that
+/// asks stands for `*` and for an empty zone. The error is out of memory.
 pub fn relay<A: Allocator + Copy>(
     alloc: A,
     packet: &Packet<'_>,
@@ -22,13 +22,13 @@ pub fn relay<A: Allocator + Copy>(
     to: Address,
     out: &mut Outbox<A>,
 ) -> Result<(), AllocError>
-    requires one { length packet.now.tuples.items ≡ 1 }
-    requires short { All FitsStrings (map content packet.now.tuples.items) }
+    requires { length packet.now.tuples ≡ 1 }
     ensures ok { OnOk result (Sends out.old out.new
         ((to, spelling (relayed zone.now (packet_content packet.now))) ∷ [])) }
     ensures err { OnErr result (Sends out.old out.new []) }
 {
-    let tuple = tuple_in_zone(&packet.tuples[0], zone);
+    let asked = packet.tuples.only();
+    let tuple = tuple_in_zone(&asked, zone);
     send_one(alloc, Function::LookUp, packet.id, &tuple, to, out)
 }
 

@@ -1,7 +1,7 @@
 //! One open lookup, and which tuples of a reply join its finds.
-ghost use Rattle.std.specs.Prelude.{◌≡◌, ◌≤◌, ◌<◌, ◌-◌, ◌+◌, ◌++◌, ◌∷◌, [], All, length, map, IfOk, OnOk, OnErr, IsOk};
-ghost use Rattle.std.specs.Prelude.{if◌then◌else◌};
-ghost use Rattle.std.specs.List.{IsDistinct, list_any};
+ghost use Rattle.std.specs.Prelude.{◌≡◌, ◌≤◌, ◌<◌, ◌+◌, ◌++◌, ◌∷◌, [], true, length, None, IfOk, IfSome, OnOk, OnErr};
+ghost use Rattle.std.specs.Prelude.{IsOk, if◌then◌else◌};
+ghost use Rattle.std.specs.List.{list_any};
 ghost use Rattle.indexmap.specs.IndexSet.{spare};
 ghost use Rattle.at_nbp.specs.Lookups.{all_joined, answered, asked, asking, beginning, find_of, is_star, joins};
 ghost use Rattle.at_nbp.specs.Lookups.{same_find};
@@ -9,9 +9,8 @@ ghost use Rattle.at_nbp.specs.Tuples.{FitsStrings, content};
 
 use crate::find::Find;
 use crate::name::{Name, is_any_zone, matches};
-use crate::packet::MAX_TUPLES;
 use crate::tuple::Tuple;
-use arrayvec::ArrayVec;
+use crate::tuples::Tuples;
 use at_ddp::{Address, Pascal};
 use indexmap::IndexSet;
 use std::alloc::{AllocError, Allocator};
@@ -68,23 +67,22 @@ impl<A: Allocator + Copy> Search<A> {
     }
 
     // Keeps the finds of a reply that join, and returns how many they are. If there are none, it needs no memory.
-    pub(crate) fn hear(&mut self, tuples: &[Tuple<'_>]) -> Result<usize, AllocError>
-        requires short { All FitsStrings (map content tuples.now) }
-        requires few { length tuples.now ≤ 15 }
-        ensures state { OnOk result (self.new ≡ answered self.old (map content tuples.now)) }
+    pub(crate) fn hear(&mut self, tuples: &Tuples<'_>) -> Result<usize, AllocError>
+        ensures state { OnOk result (self.new ≡ answered self.old tuples.now) }
         ensures count { IfOk result (λ count. length self.old.finds + count
-            ≡ length (answered self.old (map content tuples.now)).finds) }
+            ≡ length (answered self.old tuples.now).finds) }
         ensures unchanged { OnErr result (self.new ≡ self.old) }
-        ensures none { length (answered self.old (map content tuples.now)).finds ≡ length self.old.finds
-            → IsOk result }
+        ensures none { length (answered self.old tuples.now).finds ≡ length self.old.finds → IsOk result }
     {
-        let joining = joining(&self.pattern, &self.finds, tuples);
-        let count = joining.len();
-        if count > 0 {
-            self.finds.reserve(count)?;
-            append(&mut self.finds, joining);
-        }
-        Ok(count)
+        let mut tuples = tuples.iter();
+        let Some(find) = next_joining(&self.pattern, &self.finds, &mut tuples) else {
+            return Ok(0);
+        };
+        let known = self.finds.len();
+        self.finds.reserve(1 + tuples.unread())?;
+        self.finds.insert(find).unwrap();
+        join_all(&self.pattern, &mut self.finds, &mut tuples);
+        Ok(self.finds.len() - known)
     }
 }
 
@@ -102,24 +100,35 @@ fn asked(pattern: Name) -> Name
     }
 }
 
-// The finds of a reply that join those that are there, in the order of their tuples.
-fn joining<A: Allocator>(
+// Takes tuples up to the next that joins the finds, and returns it as a find; none if no more joins.
+fn next_joining<A: Allocator>(
     pattern: &Name,
     finds: &Finds<A>,
-    tuples: &[Tuple<'_>],
-) -> ArrayVec<Find, MAX_TUPLES>
-    requires short { All FitsStrings (map content tuples.now) }
-    requires few { length tuples.now ≤ 15 }
-    ensures { finds.now.keys ++ result.items ≡ all_joined pattern.now finds.now.keys (map content tuples.now) }
+    tuples: &mut Tuples<'_>,
+) -> Option<Find>
+    ensures joins { IfSome result (λ f. joins pattern.now finds.now.keys f ≡ true) }
+    ensures passed { IfSome result (λ f. all_joined pattern.now finds.now.keys tuples.old
+        ≡ all_joined pattern.now (finds.now.keys ++ f ∷ []) tuples.new) }
+    ensures fewer { IfSome result (λ f. length tuples.new < length tuples.old) }
+    ensures none { result ≡ None → all_joined pattern.now finds.now.keys tuples.old ≡ finds.now.keys }
 {
-    let mut joining = ArrayVec::new();
-    for tuple in tuples {
-        let find = find_of(pattern, tuple);
-        if joins(pattern, finds, &joining, &find) {
-            joining.push(find);
+    while let Some(tuple) = tuples.take_next() {
+        let find = find_of(pattern, &tuple);
+        if joins(pattern, finds, &find) {
+            return Some(find);
         }
     }
-    joining
+    None
+}
+
+// Appends each tuple that joins. There is room for all of them.
+fn join_all<A: Allocator>(pattern: &Name, finds: &mut Finds<A>, tuples: &mut Tuples<'_>)
+    requires { length tuples.old ≤ spare finds.old }
+    ensures { finds.new.keys ≡ all_joined pattern.now finds.old.keys tuples.old }
+{
+    while let Some(find) = next_joining(pattern, finds, tuples) {
+        finds.insert(find).unwrap();
+    }
 }
 
 // A tuple of a reply as a find.
@@ -149,45 +158,14 @@ fn is_star(zone: &[u8]) -> bool
     matches!(zone, [b'*'])
 }
 
-fn joins<A: Allocator>(pattern: &Name, finds: &Finds<A>, joining: &[Find], find: &Find) -> bool
-    requires { length joining.now ≤ 15 }
-    ensures { result ≡ joins pattern.now (finds.now.keys ++ joining.now) find.now }
+fn joins<A: Allocator>(pattern: &Name, finds: &Finds<A>, find: &Find) -> bool
+    ensures { result ≡ joins pattern.now finds.now.keys find.now }
 {
-    matches(pattern, &find.name)
-        && !is_found(finds, find)
-        && !is_known(joining, find)
-        && finds.len() + joining.len() < MAX_FINDS
+    matches(pattern, &find.name) && !is_found(finds, find) && finds.len() < MAX_FINDS
 }
 
 fn is_found<A: Allocator>(finds: &Finds<A>, find: &Find) -> bool
     ensures { result ≡ list_any (same_find find.now) finds.now.keys }
 {
     finds.contains(find)
-}
-
-fn is_known(finds: &[Find], find: &Find) -> bool
-    ensures { result ≡ list_any (same_find find.now) finds.now }
-{
-    finds.iter().any(|known| same_find(find, known))
-}
-
-fn same_find(a: &Find, b: &Find) -> bool
-    ensures { result ≡ same_find a.now b.now }
-{
-    a.name.object == b.name.object
-        && a.name.kind == b.name.kind
-        && a.name.zone == b.name.zone
-        && a.address == b.address
-        && a.enumerator == b.enumerator
-}
-
-// Appends finds that are new, in their order. There is room for them.
-fn append<A: Allocator>(finds: &mut Finds<A>, mut joining: ArrayVec<Find, MAX_TUPLES>)
-    requires room { length joining.items ≤ spare finds.old }
-    requires new { IsDistinct same_find (finds.old.keys ++ joining.items) }
-    ensures { finds.new.keys ≡ finds.old.keys ++ joining.items }
-{
-    while !joining.is_empty() {
-        finds.insert(joining.remove(0)).unwrap();
-    }
 }

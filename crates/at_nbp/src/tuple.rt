@@ -46,27 +46,6 @@ impl<'a> Tuple<'a> {
     }
 }
 
-// What an array of tuples holds in places that are free.
-impl<'a> Default for Tuple<'a> {
-    ghost use Rattle.at_nbp.specs.Tuples.{blank, content};
-
-    ghost is_default = { λ t. content t ≡ blank };
-
-    fn default() -> Tuple<'a> {
-        Tuple {
-            address: Address {
-                net: 0,
-                node: 0,
-                socket: 0,
-            },
-            enumerator: 0,
-            object: &[],
-            kind: &[],
-            zone: &[],
-        }
-    }
-}
-
 /// The tuple at the front, and the bytes after it.
 pub(crate) fn take_tuple(bytes: &[u8]) -> Result<(Tuple<'_>, &[u8]), NbpFault>
     ensures found { IfOk result (λ r. IsTuple (content r.0) × (bytes.now ≡ tuple_spelling (content r.0) ++ r.1.now)) }

@@ -1,13 +1,11 @@
 -- The parts of an NBP packet's lines, printed one after the other.
-use Rattle.std.proofs.Common.{◌≡◌, ◌++◌, List, ℕ, length, map, [], subst, sym}
+use Rattle.std.proofs.Common.{◌≡◌, ◌++◌, List, ℕ, length, [], subst, sym}
 use Rattle.std.specs.Fmt.{decimal}
 use Rattle.std.specs.List.{flat_map}
 use Rattle.std.specs.Prelude.{codes}
 use Rattle.std.proofs.lemmas.List.{append-nil}
-use Rattle.std.proofs.lemmas.List.Folds.{flat_map-map}
 use Rattle.at_nbp.specs.Packets.{Content}
-use Rattle.at_nbp.specs.Tuples.{Entry, content}
-use Rattle.at_nbp.specs.declared.tuple.Tuple.{Tuple}
+use Rattle.at_nbp.specs.Tuples.{Entry}
 use Rattle.at_print.specs.Lines.{address_text}
 use Rattle.at_print.specs.NameLines.{function_word, names_lines, tuple_line}
 use Rattle.at_print.specs.Papers.{Page}
@@ -15,13 +13,6 @@ use Rattle.at_print.specs.Printers.{Prints}
 use Rattle.at_print.specs.Reports.{name_text, text_word}
 use Rattle.at_print.specs.declared.printer.Printer.{Printer}
 use Rattle.at_print.proofs.PrintLemmas.{Prints-five, Prints-trans}
-
--- the line of a tuple, wherever its strings lie in memory
-abbrev pub line_of : Tuple → List ℕ
-line_of t = tuple_line (content t)
-
-pub lines_of : (tuples : List Tuple) → flat_map line_of tuples ≡ flat_map tuple_line (map content tuples)
-lines_of tuples = sym (flat_map-map tuple_line content tuples)
 
 module _ {W : Type 0} (page : W → Page) where
   pub name_prints : (a b c d e f : Printer W) (object kind zone : List ℕ) → Prints page a b (text_word object)

@@ -1,6 +1,6 @@
 -- What several prints print, one after the other.
 use Rattle.std.proofs.Common.{arith, Bool, append_assoc, ◌≡◌, ◌⊎◌, ◌+◌, ◌<◌, ◌/◌, ◌%◌, ◌++◌, ◌∷◌, [], List, ℕ, true}
-use Rattle.std.proofs.Common.{length, take, get_or, inl, inr, refl, sym, ap, subst, ◌∙◌}
+use Rattle.std.proofs.Common.{length, take, get_or, inl, inr, refl, sym, ap, subst, ◌∙◌, append-nil}
 use Rattle.std.proofs.Math.ListN.{set}
 use Rattle.std.proofs.lemmas.Grind.{take-set_at}
 use Rattle.std.proofs.lemmas.List.{length-set, take_more}
@@ -32,6 +32,34 @@ Prints-trans page a b c xs ys first second = record {
   written = written page a b c xs ys second first.written second.written;
   tied = λ tied. second.tied (first.tied tied);
 }
+
+-- ---- a text that is printed piece by piece
+
+-- some of the text was printed, and this is left
+pub record TextLeft {W : Type 0} (page : W → Page) (before now : Printer W) (text left : List ℕ) : Type 0 where
+  pub printed : List ℕ
+  pub prints : Prints page before now printed
+  pub whole : text ≡ printed ++ left
+
+pub text_begun : {W : Type 0} (page : W → Page) (a b : Printer W) (text piece left : List ℕ) → Prints page a b piece
+    → text ≡ piece ++ left → TextLeft page a b text left
+text_begun page a b text piece left first is = record { printed = piece; prints = first; whole = is }
+
+pub text_more : {W : Type 0} (page : W → Page) (a b c : Printer W) (text left piece after : List ℕ)
+    → TextLeft page a b text left → left ≡ piece ++ after → Prints page b c piece → TextLeft page a c text after
+text_more page a b c text left piece after so_far is next = record {
+  printed = so_far.printed ++ piece;
+  prints = Prints-trans page a b c so_far.printed piece so_far.prints next;
+  whole = so_far.whole ∙ ap (λ l. so_far.printed ++ l) is ∙ sym (append_assoc so_far.printed piece after);
+}
+
+pub text_ended : {W : Type 0} (page : W → Page) (a b : Printer W) (text left : List ℕ) → TextLeft page a b text left
+    → left ≡ [] → Prints page a b text
+text_ended page a b text left so_far none =
+    subst (Prints page a b) (sym (so_far.whole ∙ ap (λ l. so_far.printed ++ l) none ∙ append-nil so_far.printed))
+    so_far.prints
+
+-- ---- digits
 
 pub pairs-append : (xs ys : List ℕ) → pairs (xs ++ ys) ≡ pairs xs ++ pairs ys
 pairs-append [] ys = refl

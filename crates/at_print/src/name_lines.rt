@@ -1,5 +1,5 @@
 //! How NBP packets print: a line for the packet, and one for each of its tuples.
-ghost use Rattle.std.specs.Prelude.{◌++◌, map};
+ghost use Rattle.std.specs.Prelude.{◌++◌};
 ghost use Rattle.std.specs.List.{flat_map};
 ghost use Rattle.at_nbp.specs.Packets.{packet_content};
 ghost use Rattle.at_nbp.specs.Tuples.{content};
@@ -11,17 +11,17 @@ use crate::packet_lines::write_address;
 use crate::paper::Paper;
 use crate::print::write_text;
 use crate::printer::Printer;
-use at_nbp::{Function, Packet, Tuple};
+use at_nbp::{Function, Packet, Tuple, Tuples};
 
 /// The line of an NBP packet, and a line for each tuple.
 pub fn write_names<W: Paper>(printer: &mut Printer<W>, packet: &Packet<'_>)
     ensures { Prints W.page printer.old printer.new (names_lines (packet_content packet.now)) }
 {
-    let tuples = packet.tuples.as_slice();
     printer.write_all(b"nbp ");
     write_function(printer, packet.function);
-    writeln!(printer, " id {} count {}", packet.id, tuples.len());
-    write_tuples(printer, tuples);
+    let count = packet.tuples.unread();
+    writeln!(printer, " id {} count {}", packet.id, count);
+    write_tuples(printer, &packet.tuples);
 }
 
 fn write_function<W: Paper>(printer: &mut Printer<W>, function: Function)
@@ -35,11 +35,11 @@ fn write_function<W: Paper>(printer: &mut Printer<W>, function: Function)
     }
 }
 
-fn write_tuples<W: Paper>(printer: &mut Printer<W>, tuples: &[Tuple<'_>])
-    ensures { Prints W.page printer.old printer.new (flat_map tuple_line (map content tuples.now)) }
+fn write_tuples<W: Paper>(printer: &mut Printer<W>, tuples: &Tuples<'_>)
+    ensures { Prints W.page printer.old printer.new (flat_map tuple_line tuples.now) }
 {
-    for tuple in tuples {
-        write_tuple(printer, tuple);
+    for tuple in tuples.iter() {
+        write_tuple(printer, &tuple);
     }
 }
 

@@ -1,8 +1,7 @@
 use Rattle.std.proofs.Common.{◌∙◌, ◌/◌, ◌%◌, ℕ, List, sym, drop, get_or, refl, subst, arith, rules}
-use Rattle.std.proofs.lemmas.List.{length-map, take_rest}
+use Rattle.std.proofs.lemmas.List.{take_rest}
 use Rattle.at_nbp.specs.Fault.{IsFirstFault, StandsAfterTuples}
 use Rattle.at_nbp.specs.Packets.{HasCount}
-use Rattle.at_nbp.specs.Tuples.{content}
 use Rattle.at_nbp.proofs.PacketLemmas.{has_function, begins_with, first_in_tuples}
 use Rattle.at_nbp.proofs.packet.parse.Goals as goal
 
@@ -44,5 +43,4 @@ returns-clause-found c =
     let e = c.in_ok-tuples.ensures in
     begins_with input (drop 2 input) c.in_ok-tuples.rest.now c.in-Some.function (get_or input 0 0 % 16)
     (get_or input 1 0) _ named counted (omega (arith, c.type_inv.input 1)) e.each
-    (length-map c.in_ok-tuples.tuples.items content ∙ e.count)
-    (sym (take_rest input 2) ∙ e.found)
+    e.count (sym (take_rest input 2) ∙ e.found)

@@ -1,9 +1,8 @@
-use Rattle.std.proofs.Common.{List, ℕ, length, map, refl, sym, ap, subst, ◌∙◌}
+use Rattle.std.proofs.Common.{List, ℕ, refl, sym, subst}
 use Rattle.at_ddp.specs.Outbox.{Sends}
 use Rattle.at_ddp.specs.declared.address.Address.{Address}
 use Rattle.at_nbp.specs.Packets.{packet_content}
 use Rattle.at_nbp.specs.Tuples.{content}
-use Rattle.at_nbp.specs.declared.tuple.Tuple.{Tuple}
 use Rattle.at_name_socket.specs.NameSockets.{Relays, SocketState, relayed_in}
 use Rattle.at_name_socket.specs.declared.step.Heard.TheVariants.{Relayed}
 use Rattle.at_name_socket.proofs.SocketLemmas.{relayed_one}
@@ -19,10 +18,9 @@ returns-clause-ok g c =
     } in
     let packet = packet_content c.args.packet.now in
     let neighbours = c.in-Some.neighbours in
-    let one = ap (length {A = Tuple}) c.deref.ensures.0 ∙ c.requires.one in
     let zone = rw (c.zone-own.ensures, c.as_slice.ensures) at c.zone_of-zone.ensures in
-    let sent = relayed_one s neighbours packet c.deref.result.now _ c.zone_of-zone.result.now one
-    (ap (map content) (sym c.deref.ensures.0)) zone in
+    let sent = relayed_one s neighbours packet (content c.only.result) c.zone_of-zone.result.now
+    c.only.ensures.value zone in
     let pushed = rw c.own.ensures at c.in_ok-relay.ensures.ok in
     subst (λ (t : SocketState). (x : List (Address × List ℕ)) × Relays t packet t.neighbours Relayed x
     × Sends c.args.out.now c.relay.new.out x) c.self.view_is (

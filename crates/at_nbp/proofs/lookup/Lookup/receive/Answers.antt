@@ -1,10 +1,8 @@
-use Rattle.std.proofs.Common.{◌≡◌, List, None, true, map, sym, ap, subst, ◌∙◌, arith}
-use Rattle.std.specs.Prelude.{All, find}
+use Rattle.std.proofs.Common.{◌≡◌, None, true, sym, ap, ◌∙◌, arith}
+use Rattle.std.specs.Prelude.{find}
 use Rattle.at_ddp.proofs.TableLemmas.{Found, found_by, none_by}
 use Rattle.at_nbp.specs.Lookups.{Heard, Lookups, has_id, is_reply}
 use Rattle.at_nbp.specs.Packets.{packet_content}
-use Rattle.at_nbp.specs.Tuples.{FitsStrings, content}
-use Rattle.at_nbp.specs.declared.tuple.Tuple.{Tuple}
 use Rattle.at_nbp.proofs.FindLemmas.{IsHeardBy, heard_as, heard_count, heard_none, heard_quiet, heard_some}
 use Rattle.at_nbp.proofs.FindLemmas.{set_lawful, stays}
 use Rattle.at_nbp.proofs.lookup.Lookup.receive.Given.{Over}
@@ -38,10 +36,10 @@ hears : (g : Over) (c : After-hear g) (f : Found (has_id c.args.packet.now.id) c
 hears g c f =
     let lent = c.index_mut-search.ensures.value ∙ f.at c.index_mut-search.result.now in
     record {
-      state = rw (lent, c.deref-2.ensures.0) at c.hear.ensures.state;
-      count = rw (lent, c.deref-2.ensures.0) at c.hear.ensures.count;
+      state = rw lent at c.hear.ensures.state;
+      count = rw lent at c.hear.ensures.count;
       unchanged = rw lent at c.hear.ensures.unchanged;
-      none = rw (lent, c.deref-2.ensures.0) at c.hear.ensures.none;
+      none = rw lent at c.hear.ensures.none;
     }
 
 pub returns-in_default-clause-count : goal.returns-in_default-clause-count
@@ -60,10 +58,6 @@ pub index_mut-search-requires : goal.index_mut-search-requires
 index_mut-search-requires g c =
     let f = found g (goal.at.index_mut-search-requires g c).In-Some in
     omega (arith, c.self.inside.searches.ok.0, f.within)
-
-pub hear-requires-clause-short : goal.hear-requires-clause-short
-hear-requires-clause-short g c = subst (λ (l : List Tuple). All FitsStrings (map content l))
-    (sym c.deref-2.ensures.0) c.requires
 
 pub invariant_of-self : goal.invariant_of-self
 invariant_of-self g c =
