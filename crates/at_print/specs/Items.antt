@@ -8,6 +8,11 @@ abbrev pub is_byte : Item → Bool
 is_byte (Byte b) = true
 is_byte End = false
 
+-- is the first of them a byte?
+abbrev pub starts_with_byte : List Item → Bool
+starts_with_byte [] = false
+starts_with_byte (item ∷ items) = is_byte item
+
 -- the digits of a byte that follows one go on with its word; every other item begins a word
 abbrev pub item_text : Bool → Item → List ℕ
 item_text follows_byte (Byte b) = (if follows_byte then [] else codes " ") ++ pairs (b ∷ [])

@@ -8,7 +8,7 @@ use crate::paper::Paper;
 use crate::printer::Printer;
 
 /// How many bytes are written at a time. A write for each byte costs more than its digits.
-const BLOCK: usize = 64;
+pub(crate) const BLOCK: usize = 64;
 
 /// Two digits for each byte of a block.
 const BLOCK_DIGITS: usize = 128;

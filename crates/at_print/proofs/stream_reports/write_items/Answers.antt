@@ -1,16 +1,18 @@
-use Rattle.std.proofs.Common.{refl}
+use Rattle.std.proofs.Common.{◌≡◌, ◌++◌, drop, false, sym, ◌∙◌}
 use Rattle.std.specs.Prelude.{codes}
-use Rattle.at_print.proofs.StreamLemmas.{Prints-item, follows-next}
+use Rattle.at_print.specs.Items.{items_text, starts_with_byte}
+use Rattle.at_print.proofs.PrintLemmas.{text_more}
 use Rattle.at_print.proofs.stream_reports.write_items.Goals as goal
 
-pub loop-item-preserved : goal.loop-item-preserved
-loop-item-preserved g c =
-    let items = c.args.items.now in
-    let i = c.loop-item.item-index in
-    let within = c.loop-item-test.true in (
-      follows-next g.W.Paper.page (codes "read") items i _ _ within refl c.is_byte-follows_byte.result
-          c.is_byte-follows_byte.ensures,
-      Prints-item g.W.Paper.page (codes "read") items i _ _ within refl
-          c.args.printer.now c.loop-item.printer c.write_item.new.printer c.loop-item.follows_byte
-          c.loop-item.invariant.0 c.loop-item.invariant.1 c.write_item.ensures,
-    )
+pub loop-rest-preserved : goal.loop-rest-preserved
+loop-rest-preserved g c =
+    let front = c.write_front-count.ensures.printed in
+    let left = items_text c.loop-rest.follows_byte c.loop-rest.rest.now in
+    let after = items_text c.starts_with_byte-follows_byte.result c.split_at.result.1.now in
+    let next : c.starts_with_byte-follows_byte.result ≡ starts_with_byte c.loop-rest.rest.now =
+    c.starts_with_byte-follows_byte.ensures in
+    let back : c.split_at.result.1.now ≡ drop c.write_front-count.result c.loop-rest.rest.now = c.split_at.ensures.back in
+    let parts : left ≡ front.0 ++ after = front.2
+    ∙ (λ i. front.0 ++ items_text (sym next i) (sym back i)) in
+    text_more g.W.Paper.page c.args.printer.now c.loop-rest.printer c.write_front-count.new.printer
+    (codes "read" ++ items_text false c.args.items.now) left front.0 after c.loop-rest.invariant parts front.1
