@@ -1,3 +1,4 @@
+pub mod Diagnostics
 pub mod Ends
 pub mod HexFaults
 pub mod NumberSets

@@ -1,15 +1,18 @@
 //! What a person is told, a line for each reason, as on standard error.
-ghost use Rattle.std.specs.Prelude.{◌≡◌, ◌↔◌, ◌⊎◌, ℕ};
+ghost use Rattle.std.specs.Prelude.{◌≡◌, ◌≢◌, ◌↔◌, ◌⊎◌, ℕ, List, Some};
+ghost use Rattle.at_play.specs.Diagnostics.{event_told, file_told, line_told, refusal_told, stop_told};
+ghost use Rattle.at_play.specs.Diagnostics.{stopped_told, text_told};
 ghost use Rattle.at_play.specs.NumberSets.{HasTold};
-ghost use Rattle.at_print.specs.Printers.{HasFailed};
+ghost use Rattle.at_print.specs.Printers.{HasFailed, Prints};
+ghost use Rattle.at_steps.specs.Safety.{number_of, Reason as Why};
 
 use crate::hex_reason::HexReason;
 use crate::number_set::NumberSet;
 use crate::reason::Reason;
+use crate::sentence::{Sentence, reason_of, sentence_of};
 use crate::stop::Stop;
-use at_faults::Fault;
+use at_faults::{Fault, Rule};
 use at_print::{Paper, Printer};
-use at_world::Refusal;
 use std::fmt::Display;
 
 /// A writer of reasons, and the name of the file that they are about.
@@ -40,38 +43,93 @@ impl<'a, W: Paper> Diagnostics<'a, W> {
         ensures file { self.new.file ≡ self.old.file }
         ensures told { self.new.refusals ≡ self.old.refusals }
         ensures stopped { HasFailed self.old.printer → self.new ≡ self.old }
+        ensures line { (reason : List ℕ)
+            × Prints W.page self.old.printer self.new.printer (stop_told self.old.file.now stop reason) }
     {
-        let file = self.file;
         match stop {
-            Stop::Text(Fault::Line { number, rule }) => {
-                writeln!(self.printer, "atnode: {file}:{number}: {rule}");
-            }
-            Stop::Text(fault) => writeln!(self.printer, "atnode: {file}: {fault}"),
-            Stop::Event { line: 0, fault, .. } => {
-                writeln!(self.printer, "atnode: {file}: {fault}");
-            }
+            Stop::Text(fault) => self.tell_text(fault),
             Stop::Event {
                 fault,
                 at,
                 line,
                 which,
-            } => {
-                write!(
-                    self.printer,
-                    "atnode: {file}:{line}: event {at} was not played: "
-                );
-                self.tell_fault(fault, which);
-            }
+            } => self.tell_event(fault, at, line, which),
         }
     }
 
+    // Tells why there is no schedule.
+    fn tell_text(&mut self, fault: Fault)
+        ensures file { self.new.file ≡ self.old.file }
+        ensures told { self.new.refusals ≡ self.old.refusals }
+        ensures line { (reason : List ℕ)
+            × Prints W.page self.old.printer self.new.printer (text_told self.old.file.now fault reason) }
+    {
+        match fault {
+            Fault::Line { number, rule } => self.tell_rule(number, rule),
+            _ => self.tell_of_file(&sentence_of(fault)),
+        }
+    }
+
+    // Tells why an event was not played, or that there was no memory for any line.
+    fn tell_event(&mut self, fault: at_world::Fault, at: u32, line: usize, which: Option<u64>)
+        ensures file { self.new.file ≡ self.old.file }
+        ensures told { self.new.refusals ≡ self.old.refusals }
+        ensures line { (reason : List ℕ)
+            × Prints W.page self.old.printer self.new.printer (stopped_told self.old.file.now at line reason) }
+    {
+        if line == 0 {
+            self.tell_of_file(&sentence_of(fault));
+        } else {
+            self.tell_unplayed(at, line, &reason_of(fault, which));
+        }
+    }
+
+    // Tells which rule a line breaks.
+    fn tell_rule(&mut self, number: usize, rule: Rule)
+        ensures file { self.new.file ≡ self.old.file }
+        ensures told { self.new.refusals ≡ self.old.refusals }
+        ensures line { (reason : List ℕ)
+            × Prints W.page self.old.printer self.new.printer (line_told self.old.file.now number reason) }
+    {
+        let file = self.file;
+        let reason = sentence_of(rule);
+        writeln!(self.printer, "atnode: {file}:{number}: {reason}");
+    }
+
+    fn tell_of_file(&mut self, reason: &Sentence)
+        ensures file { self.new.file ≡ self.old.file }
+        ensures told { self.new.refusals ≡ self.old.refusals }
+        ensures line { Prints W.page self.old.printer self.new.printer
+            (file_told self.old.file.now reason.now.bytes) }
+    {
+        let file = self.file;
+        writeln!(self.printer, "atnode: {file}: {reason}");
+    }
+
+    fn tell_unplayed(&mut self, at: u32, line: usize, reason: &Sentence)
+        ensures file { self.new.file ≡ self.old.file }
+        ensures told { self.new.refusals ≡ self.old.refusals }
+        ensures line { Prints W.page self.old.printer self.new.printer
+            (event_told self.old.file.now at line reason.now.bytes) }
+    {
+        let file = self.file;
+        writeln!(
+            self.printer,
+            "atnode: {file}:{line}: event {at} was not played: {reason}"
+        );
+    }
+
     /// Tells why a node refused the event of this place, counted from 0, which stands in the line of this number. A
-    /// number of a refusal is told once, the first time that it comes.
+    /// number of a refusal is told once, the first time that it comes. A number that no refusal has is not told.
     pub fn tell_refused(&mut self, number: u8, at: u32, line: usize)
         ensures file { self.new.file ≡ self.old.file }
         ensures told { (n : ℕ) → HasTold self.new n ↔ ((n ≡ number) ⊎ HasTold self.old n) }
         ensures once { HasTold self.old number → self.new.printer ≡ self.old.printer }
         ensures stopped { HasFailed self.old.printer → self.new.printer ≡ self.old.printer }
+        ensures line { ¬ HasTold self.old number → (why : Why) → number_of why ≡ Some number
+            → (reason : List ℕ) × Prints W.page self.old.printer self.new.printer
+            (refusal_told self.old.file.now number at line reason) }
+        ensures silent { ((why : Why) → number_of why ≢ Some number) → self.new.printer ≡ self.old.printer }
     {
         if self.refusals.insert(number) {
             self.tell_reason(number, at, line);
@@ -82,37 +140,28 @@ impl<'a, W: Paper> Diagnostics<'a, W> {
         ensures file { self.new.file ≡ self.old.file }
         ensures told { self.new.refusals ≡ self.old.refusals }
         ensures stopped { HasFailed self.old.printer → self.new ≡ self.old }
+        ensures line { (why : Why) → number_of why ≡ Some number
+            → (reason : List ℕ) × Prints W.page self.old.printer self.new.printer
+            (refusal_told self.old.file.now number at line reason) }
+        ensures silent { ((why : Why) → number_of why ≢ Some number) → self.new.printer ≡ self.old.printer }
     {
         if let Some(reason) = Reason::of(number) {
-            let file = self.file;
-            writeln!(
-                self.printer,
-                "atnode: {file}:{line}: event {at} was refused: {reason} (refusal {number})"
-            );
+            self.tell_known(number, at, line, reason);
         }
     }
 
-    // Why an event was not played. A delivery may be untimely for what it carries, and for what it would draw.
-    fn tell_fault(&mut self, fault: at_world::Fault, which: Option<u64>)
+    fn tell_known(&mut self, number: u8, at: u32, line: usize, reason: Reason)
         ensures file { self.new.file ≡ self.old.file }
         ensures told { self.new.refusals ≡ self.old.refusals }
-        ensures stopped { HasFailed self.old.printer → self.new ≡ self.old }
+        ensures line { (reason : List ℕ) × Prints W.page self.old.printer self.new.printer
+            (refusal_told self.old.file.now number at line reason) }
     {
-        match (fault, which) {
-            (at_world::Fault::Refused(Refusal::Untimely), Some(which)) => writeln!(
-                self.printer,
-                "a number in datagram {which} has been drawn again since, \
-                    or a node still holds a record or an end under the number that it would draw (refusal 72)"
-            ),
-            (at_world::Fault::Refused(Refusal::Untimely), None) => writeln!(
-                self.printer,
-                "a node still holds a record or an end under the number that would be drawn (refusal 72)"
-            ),
-            (at_world::Fault::Refused(refusal), _) => {
-                writeln!(self.printer, "{refusal} (refusal {})", refusal.number());
-            }
-            (at_world::Fault::NoMemory, _) => writeln!(self.printer, "out of memory"),
-        }
+        let file = self.file;
+        let reason = sentence_of(reason);
+        writeln!(
+            self.printer,
+            "atnode: {file}:{line}: event {at} was refused: {reason} (refusal {number})"
+        );
     }
 
     /// Tells that some of what was printed could not be written, if so.

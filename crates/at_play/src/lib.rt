@@ -8,6 +8,7 @@ mod playing;
 mod playing_text;
 mod program;
 mod reason;
+mod sentence;
 mod show;
 mod show_names;
 mod show_segment;
