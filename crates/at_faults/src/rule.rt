@@ -16,9 +16,15 @@ pub enum Rule {
     /// The first word says what a line is.
     #[error("a line begins with `net`, `node`, `zones`, `call`, `deliver`, `timer`, `forge` or `#`")]
     FirstWord,
+    /// The first word says what a line is, where nodes talk over sockets.
+    #[error("a line begins with `net`, `port`, `node`, `zones`, `call`, `timer`, `poll` or `#`")]
+    DriveFirstWord,
     /// `net N`
     #[error("`net` wants a network's number, 1 to 65535, as in \"net 10\"")]
     Net,
+    /// `port P`
+    #[error("`port` wants a number, 0 to 65535, as in \"port 47200\"")]
+    Port,
     /// `node N [router] [zone TEXT] [rooms R S]`
     #[error("`node` wants a number, 1 to 254, then `router`, `zone` and `rooms` if needed, \
         as in \"node 1 router zone Lab\"")]
@@ -98,6 +104,9 @@ pub enum Rule {
     /// `forge N HEX`
     #[error("`forge` wants a node and the bytes that come to it, as in \"forge 1 000D0000000A000A0105068003\"")]
     Forge,
+    /// `poll N`
+    #[error("`poll` wants a node, as in \"poll 5\"")]
+    Poll,
     /// `timer N TIMER ..`
     #[error("`timer` wants a node and `retry`, `release`, `lookup`, `resend` or `probe`, as in \"timer 5 retry 0\"")]
     Timer,
@@ -123,6 +132,18 @@ pub enum Rule {
     /// `net` stands once.
     #[error("`net` stands once")]
     NetOnce,
+    /// `port` comes right after `net`.
+    #[error("`port` comes right after `net`, as in \"port 47200\"")]
+    PortSecond,
+    /// `port` stands once.
+    #[error("`port` stands once, right after `net`")]
+    PortOnce,
+    /// The port of a node is at most 65,535.
+    #[error("a node's port is that of `port` and its number more, and at most 65535")]
+    PortOfNode,
+    /// The router that has to follow has a port too.
+    #[error("the nodes have zones, so a router has to follow, and no port up to 65535 is left for it")]
+    PortOfRouter,
     /// Nodes come before the zones and the events.
     #[error("a `node` line comes before `zones` and before the events")]
     NodesFirst,
@@ -153,6 +174,15 @@ pub enum Rule {
     /// A zone table has at most 1,024 names.
     #[error("`zones` has at most 1,024 names")]
     ZonesFitTable,
+    /// The node of an event stands in the setup, where nodes talk over sockets.
+    #[error("no node of this number stands in the setup")]
+    NodeStands,
+    /// What the cable delivers is not written where nodes talk over sockets.
+    #[error("`deliver` and `forge` are for `play`; over sockets a node is polled, as in \"poll 5\"")]
+    PlayAlone,
+    /// A schedule over sockets has a port.
+    #[error("the schedule ends without a `port` line")]
+    NoPort,
     /// A schedule has a network.
     #[error("the schedule ends without a `net` line")]
     NoNet,

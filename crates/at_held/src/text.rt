@@ -12,7 +12,7 @@ pub(crate) fn line_of(alloc: Global, event: u32, report: &Report) -> Result<Vec<
     ensures { IfOk result (λ line. line.items ≡ event_line event report.now) }
 {
     let mut printer = Printer::new(Vec::new(alloc));
-    write_event(&mut printer, event, report);
+    write_event(&mut printer, event as usize, report);
     if printer.has_failed() {
         return Err(AllocError);
     }

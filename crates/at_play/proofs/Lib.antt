@@ -1,8 +1,10 @@
 mod EventLemmas
 mod LineLemmas
+mod NewsLemmas
 mod NumberSetLemmas
 mod PrintedLemmas
 mod RefusalLemmas
 mod ShownLemmas
 mod TextLines
+mod TellsLemmas
 mod ToldLemmas

@@ -36,8 +36,19 @@ abbrev pub stop_told : List ℕ → Stop → List ℕ → List ℕ
 stop_told file (stop.Text fault) reason = text_told file fault reason
 stop_told file (stop.Event fault at line which) reason = stopped_told file at line reason
 
--- why a node refused an event, by the number of the refusal
-abbrev pub refusal_told : List ℕ → ℕ → ℕ → ℕ → List ℕ → List ℕ
-refusal_told file number at line reason =
+-- why a node refused an event, by its place and the number of the refusal
+abbrev pub refused_told : List ℕ → ℕ → ℕ → List ℕ → List ℕ
+refused_told file number at reason =
+    codes "atnode: " ++ (file ++ (codes ": event " ++ (decimal at
+    ++ (codes " was refused: " ++ (reason ++ (codes " (refusal " ++ (decimal number ++ codes ")\n")))))))
+
+-- the same of an event in a line
+abbrev pub refused_in_told : List ℕ → ℕ → ℕ → ℕ → List ℕ → List ℕ
+refused_in_told file line number at reason =
     codes "atnode: " ++ (file ++ (codes ":" ++ (decimal line ++ (codes ": event " ++ (decimal at
     ++ (codes " was refused: " ++ (reason ++ (codes " (refusal " ++ (decimal number ++ codes ")\n")))))))))
+
+-- if no line is known, none is told
+abbrev pub refusal_told : List ℕ → ℕ → ℕ → ℕ → List ℕ → List ℕ
+refusal_told file number at line reason =
+    if line == 0 then refused_told file number at reason else refused_in_told file line number at reason

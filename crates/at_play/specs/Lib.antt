@@ -1,4 +1,5 @@
 pub mod Diagnostics
+pub mod Driven
 pub mod Ends
 pub mod HexFaults
 pub mod NumberSets

@@ -1,7 +1,7 @@
 //! What a person is told, a line for each reason, as on standard error.
 ghost use Rattle.std.specs.Prelude.{◌≡◌, ◌≢◌, ◌↔◌, ◌⊎◌, ℕ, List, Some};
 ghost use Rattle.at_play.specs.Diagnostics.{event_told, file_told, line_told, refusal_told, stop_told};
-ghost use Rattle.at_play.specs.Diagnostics.{stopped_told, text_told};
+ghost use Rattle.at_play.specs.Diagnostics.{refused_in_told, refused_told, stopped_told, text_told};
 ghost use Rattle.at_play.specs.NumberSets.{HasTold};
 ghost use Rattle.at_print.specs.Printers.{HasFailed, Prints};
 ghost use Rattle.at_steps.specs.Safety.{number_of, Reason as Why};
@@ -11,6 +11,7 @@ use crate::number_set::NumberSet;
 use crate::reason::Reason;
 use crate::sentence::{Sentence, reason_of, sentence_of};
 use crate::stop::Stop;
+use at_cable::CableFault;
 use at_faults::{Fault, Rule};
 use at_print::{Paper, Printer};
 use std::fmt::Display;
@@ -119,9 +120,10 @@ impl<'a, W: Paper> Diagnostics<'a, W> {
         );
     }
 
-    /// Tells why a node refused the event of this place, counted from 0, which stands in the line of this number. A
-    /// number of a refusal is told once, the first time that it comes. A number that no refusal has is not told.
-    pub fn tell_refused(&mut self, number: u8, at: u32, line: usize)
+    /// Tells why a node refused the event of this place, counted from 0, which stands in the line of this number, or 0 if
+    /// that is not known. A number of a refusal is told once, the first time that it comes. A number that no refusal has
+    /// is not told.
+    pub fn tell_refused(&mut self, number: u8, at: usize, line: usize)
         ensures file { self.new.file ≡ self.old.file }
         ensures told { (n : ℕ) → HasTold self.new n ↔ ((n ≡ number) ⊎ HasTold self.old n) }
         ensures once { HasTold self.old number → self.new.printer ≡ self.old.printer }
@@ -136,7 +138,7 @@ impl<'a, W: Paper> Diagnostics<'a, W> {
         }
     }
 
-    fn tell_reason(&mut self, number: u8, at: u32, line: usize)
+    fn tell_reason(&mut self, number: u8, at: usize, line: usize)
         ensures file { self.new.file ≡ self.old.file }
         ensures told { self.new.refusals ≡ self.old.refusals }
         ensures stopped { HasFailed self.old.printer → self.new ≡ self.old }
@@ -146,22 +148,77 @@ impl<'a, W: Paper> Diagnostics<'a, W> {
         ensures silent { ((why : Why) → number_of why ≢ Some number) → self.new.printer ≡ self.old.printer }
     {
         if let Some(reason) = Reason::of(number) {
-            self.tell_known(number, at, line, reason);
+            self.tell_known(number, at, line, &sentence_of(reason));
         }
     }
 
-    fn tell_known(&mut self, number: u8, at: u32, line: usize, reason: Reason)
+    fn tell_known(&mut self, number: u8, at: usize, line: usize, reason: &Sentence)
         ensures file { self.new.file ≡ self.old.file }
         ensures told { self.new.refusals ≡ self.old.refusals }
-        ensures line { (reason : List ℕ) × Prints W.page self.old.printer self.new.printer
-            (refusal_told self.old.file.now number at line reason) }
+        ensures line { Prints W.page self.old.printer self.new.printer
+            (refusal_told self.old.file.now number at line reason.now.bytes) }
+    {
+        if line == 0 {
+            self.tell_of_event(number, at, reason);
+        } else {
+            self.tell_of_event_in(line, number, at, reason);
+        }
+    }
+
+    fn tell_of_event(&mut self, number: u8, at: usize, reason: &Sentence)
+        ensures file { self.new.file ≡ self.old.file }
+        ensures told { self.new.refusals ≡ self.old.refusals }
+        ensures line { Prints W.page self.old.printer self.new.printer
+            (refused_told self.old.file.now number at reason.now.bytes) }
     {
         let file = self.file;
-        let reason = sentence_of(reason);
+        writeln!(
+            self.printer,
+            "atnode: {file}: event {at} was refused: {reason} (refusal {number})"
+        );
+    }
+
+    fn tell_of_event_in(&mut self, line: usize, number: u8, at: usize, reason: &Sentence)
+        ensures file { self.new.file ≡ self.old.file }
+        ensures told { self.new.refusals ≡ self.old.refusals }
+        ensures line { Prints W.page self.old.printer self.new.printer
+            (refused_in_told self.old.file.now line number at reason.now.bytes) }
+    {
+        let file = self.file;
         writeln!(
             self.printer,
             "atnode: {file}:{line}: event {at} was refused: {reason} (refusal {number})"
         );
+    }
+
+    /// Tells that a call of the cable failed at the event of this place.
+    pub(crate) fn tell_cable(&mut self, at: usize)
+        ensures told { self.new.refusals ≡ self.old.refusals }
+    {
+        let file = self.file;
+        writeln!(
+            self.printer,
+            "atnode: {file}: event {at}: {CableFault}; each call that fails has a line `cable`"
+        );
+    }
+
+    /// Tells that there was no memory for the event of this place.
+    pub(crate) fn tell_unmade(&mut self, at: usize)
+        ensures told { self.new.refusals ≡ self.old.refusals }
+    {
+        let file = self.file;
+        writeln!(
+            self.printer,
+            "atnode: {file}: event {at} was not driven: out of memory"
+        );
+    }
+
+    /// Tells the reason for which a line is at fault.
+    pub(crate) fn tell_line<D: Display + Drop>(&mut self, line: usize, reason: D)
+        ensures told { self.new.refusals ≡ self.old.refusals }
+    {
+        let file = self.file;
+        writeln!(self.printer, "atnode: {file}:{line}: {reason}");
     }
 
     /// Tells that some of what was printed could not be written, if so.

@@ -2,7 +2,9 @@
 #![tactic(auto)]
 
 mod diagnostics;
+mod drive;
 mod hex_reason;
+mod news;
 mod number_set;
 mod playing;
 mod playing_text;
@@ -16,7 +18,8 @@ mod stop;
 
 pub use at_print::{Paper, Printer, Status};
 pub use diagnostics::Diagnostics;
-pub use program::{play_file, play_text};
+pub use drive::drive_text;
+pub use program::{end_at_fault, end_at_line, play_file, play_text};
 pub use reason::Reason;
 pub use show::show_text;
 pub use stop::Stop;

@@ -127,7 +127,7 @@ pub(crate) fn play_event<A: Allocator + Copy, W: Paper, E: Paper>(
     let first = world.sent_count();
     match world.step(event) {
         Ok(report) => {
-            write_event(printer, at, &report);
+            write_event(printer, at as usize, &report);
             write_sent(printer, world, first);
             tell_report(diagnostics, &report, at, line);
             Ok(())
@@ -151,7 +151,7 @@ fn tell_report<A: Allocator, E: Paper>(
     ensures { TellsRefusals diagnostics.old.refusals diagnostics.new.refusals (report.now ∷ []) }
 {
     if let Report::Refused(number) = report {
-        diagnostics.tell_refused(*number, at, line);
+        diagnostics.tell_refused(*number, at as usize, line);
     }
 }
 

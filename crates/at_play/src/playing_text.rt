@@ -1,12 +1,11 @@
 //! The play of a schedule that lies in memory: whatever its first reading took, its second takes too.
-ghost use Rattle.std.specs.Prelude.{◌≡◌, ◌==◌, ◌<◌, ◌∷◌, ◌++◌, [], true, length, IfErr, IfSome, List, OnOk, Some, ℕ};
-ghost use Rattle.std.specs.List.{position_from};
+ghost use Rattle.std.specs.Prelude.{◌≡◌, ◌∷◌, ◌++◌, [], true, IfErr, List, OnOk, Some, ℕ};
 ghost use Rattle.at_play.specs.Ends.{IsOfPlaying, Obeys};
 ghost use Rattle.at_play.specs.Refusals.{TellsRefusals};
 ghost use Rattle.at_play.specs.Told.{IsWhole, Played, StopsLine, TellsLine};
 ghost use Rattle.at_print.specs.Printers.{Prints};
 ghost use Rattle.at_schedule.specs.Drafts.{BeginSchedule, HoldsSetup, IsRead};
-ghost use Rattle.at_schedule.specs.Schedules.{is_event_line, lines_in};
+ghost use Rattle.at_schedule.specs.Schedules.{is_event_line};
 ghost use Rattle.at_setup.specs.Setups.{is_lawful};
 
 use crate::diagnostics::Diagnostics;
@@ -14,7 +13,7 @@ use crate::playing::play_event;
 use crate::stop::Stop;
 use at_faults::LineFault;
 use at_print::{Paper, Printer};
-use at_schedule::Draft;
+use at_schedule::{Draft, cut_line};
 use at_world::laws::{at_most_16_nodes_stand, exactly_once_requests_run_once, steps_are_a_run};
 use at_world::{Setup, World};
 use std::alloc::Allocator;
@@ -66,25 +65,6 @@ fn play_each<A: Allocator + Copy, W: Paper, E: Paper>(
         rest = later;
     }
     Ok(())
-}
-
-// The first line, without its line feed, and what follows it.
-fn cut_line(text: &[u8]) -> (&[u8], &[u8])
-    requires { 0 < length text.now }
-    ensures cut { lines_in text.now ≡ result.0.now ∷ lines_in result.1.now }
-    ensures less { length result.1.now < length text.now }
-{
-    match end_of_line(text) {
-        Some(end) => (&text[..end], &text[end + 1..]),
-        None => (text, &[]),
-    }
-}
-
-fn end_of_line(text: &[u8]) -> Option<usize>
-    ensures first { result ≡ position_from (λ byte. byte == 10) 0 text.now }
-    ensures within { IfSome result (λ end. end < length text.now) }
-{
-    text.iter().position(|byte| *byte == b'\n')
 }
 
 // Plays the event of a line that a schedule has after the lines before it, if it has one.

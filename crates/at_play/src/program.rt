@@ -1,16 +1,18 @@
 //! The play of a schedule, from its text to what is printed.
-ghost use Rattle.std.specs.Prelude.{◌≡◌, ◌<◌, ◌↔◌, List, ℕ, length, IfSome, IsErr, IsOk};
-ghost use Rattle.at_play.specs.Ends.{Ended, FileText, PlayText, end_text};
+ghost use Rattle.std.specs.Prelude.{◌≡◌, ◌<◌, ◌↔◌, ◌++◌, List, ℕ, codes, length, IfSome, IsErr, IsOk};
+ghost use Rattle.std.specs.Fmt.{decimal};
+ghost use Rattle.at_play.specs.Ends.{Ended, FileText, PlayText, end_text, text_fault_line};
 ghost use Rattle.at_print.specs.Printers.{HasFailed, Prints};
 
 use crate::diagnostics::Diagnostics;
 use crate::playing::play_lines;
 use crate::playing_text::play_bytes;
-use crate::stop::{Stop, write_stop};
-use at_faults::{MAX_LEN, check_length, read_bytes};
+use crate::stop::{Stop, write_fault, write_stop};
+use at_faults::{Fault, MAX_LEN, check_length, read_bytes};
 use at_print::{Paper, Printer, Status};
 use at_schedule::read_setup;
 use std::alloc::Allocator;
+use std::fmt::Display;
 use std::io::{Read, Seek};
 
 /// Reads a schedule to its end, plays it, and prints what came of each event. Why a play ended before its last event is
@@ -116,4 +118,38 @@ fn finish<W: Paper, E: Paper>(
             printer.finish(Status::Failed)
         }
     }
+}
+
+/// Prints that there is no schedule, and tells why.
+pub fn end_at_fault<W: Paper, E: Paper>(
+    fault: Fault,
+    printer: &mut Printer<W>,
+    diagnostics: &mut Diagnostics<'_, E>,
+) -> Status
+    ensures failed { result ≡ Status.Failed }
+    ensures printed { Prints W.page printer.old printer.new (text_fault_line fault) }
+{
+    write_fault(printer, fault);
+    diagnostics.tell_stop(Stop::from(fault));
+    let _status = printer.finish(Status::Failed);
+    diagnostics.tell_writes(printer);
+    Status::Failed
+}
+
+/// Prints that the line of this number, counted from 1, is at fault, and tells this reason.
+pub fn end_at_line<D: Display + Drop, W: Paper, E: Paper>(
+    number: usize,
+    reason: D,
+    printer: &mut Printer<W>,
+    diagnostics: &mut Diagnostics<'_, E>,
+) -> Status
+    ensures failed { result ≡ Status.Failed }
+    ensures printed { Prints W.page printer.old printer.new
+        (codes "fault " ++ (decimal number ++ codes "\n")) }
+{
+    writeln!(printer, "fault {number}");
+    diagnostics.tell_line(number, reason);
+    let _status = printer.finish(Status::Failed);
+    diagnostics.tell_writes(printer);
+    Status::Failed
 }

@@ -76,7 +76,8 @@ pub(crate) fn write_stop<W: Paper>(printer: &mut Printer<W>, stop: Stop)
     }
 }
 
-fn write_fault<W: Paper>(printer: &mut Printer<W>, fault: Fault)
+/// Prints that there is no schedule.
+pub(crate) fn write_fault<W: Paper>(printer: &mut Printer<W>, fault: Fault)
     ensures { Prints W.page printer.old printer.new (text_fault_line fault) }
 {
     match fault {

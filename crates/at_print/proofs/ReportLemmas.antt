@@ -7,13 +7,12 @@ use Rattle.std.proofs.lemmas.List.Concat.{flat_map-cons}
 use Rattle.std.proofs.KnownBytes.{Appends-nil}
 use Rattle.std.specs.List.{flat_map}
 use Rattle.std.proofs.lemmas.Option.{slice_get-get_or}
-use Rattle.std.specs.Fmt.{decimal}
 use Rattle.std.specs.Prelude.{codes, slice_get}
 use Rattle.at_print.specs.Lines.{hex_text}
 use Rattle.at_atp_frame.specs.Packets.{Packet}
 use Rattle.at_print.specs.Papers.{Page}
 use Rattle.at_print.specs.Printers.{Prints}
-use Rattle.at_print.specs.Reports.{packet_text, sent_line, sent_lines}
+use Rattle.at_print.specs.Reports.{datagram_line, packet_text, sent_line, sent_lines}
 use Rattle.at_print.specs.declared.printer.Printer.{Printer}
 use Rattle.at_print.proofs.PrintLemmas.{Prints-trans}
 use Rattle.at_world.specs.Sents.{SentDatagram}
@@ -74,20 +73,15 @@ sent_lines-next first i sent d lt le is =
     ∙ ap (λ k. sent_lines first (drop first (take i sent)) ++ sent_lines k (d ∷ [])) place
     ∙ ap (λ l. sent_lines first (drop first (take i sent)) ++ l) (append-nil (sent_line i d))
 
--- a datagram's line is printed in three parts
-pub Prints-sent : {W : Type 0} (page : W → Page) (first i : ℕ) (sent : List SentDatagram)
-    (d : SentDatagram) (to : ℕ) (bytes : List ℕ) (a b c e f : Printer W)
-    → i < length sent → first ≤ i → slice_get sent i ≡ Some d → to ≡ d.to → bytes ≡ d.bytes
-    → Prints page a b (sent_lines first (drop first (take i sent)))
-    → Prints page b c (codes "sent " ++ (decimal i ++ (codes " " ++ (decimal to ++ codes " "))))
-    → Prints page c e (hex_text bytes) → Prints page e f (codes "\n")
-    → Prints page a f (sent_lines first (drop first (take (i + 1) sent)))
-Prints-sent page first i sent d to bytes a b c e f lt le is goes spelled p q r s =
-    let head = rw goes at q in
-    let digits = rw spelled at r in
-    subst (Prints page a f) (sym (sent_lines-next first i sent d lt le is))
-    (Prints-trans page a b f _ _ p
-    (Prints-trans page b c f _ _ head (Prints-trans page c e f _ _ digits s)))
+-- the lines of the datagrams so far, and that of the next one
+pub Prints-sent : {W : Type 0} (page : W → Page) (first i : ℕ) (sent : List SentDatagram) (d : SentDatagram) (to : ℕ)
+    (bytes : List ℕ) (a b c : Printer W) → i < length sent → first ≤ i → slice_get sent i ≡ Some d → to ≡ d.to
+    → bytes ≡ d.bytes → Prints page a b (sent_lines first (drop first (take i sent)))
+    → Prints page b c (datagram_line i to bytes) → Prints page a c (sent_lines first (drop first (take (i + 1) sent)))
+Prints-sent page first i sent d to bytes a b c lt le is goes spelled p q =
+    let line : datagram_line i to bytes ≡ sent_line i d = (λ j. datagram_line i (goes j) (spelled j)) in
+    subst (Prints page a c) (sym (sent_lines-next first i sent d lt le is))
+    (Prints-trans page a b c _ _ p (subst (Prints page b c) line q))
 
 module _ {W : Type 0} (page : W → Page) where
   pub Prints-nothing : (a : Printer W) → Prints page a a []

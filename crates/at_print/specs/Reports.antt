@@ -105,10 +105,12 @@ abbrev pub event_line : {A : Type 0} → ℕ → Report A → List ℕ
 event_line at r = (decimal at ++ codes " ") ++ (report_text r ++ codes "\n")
 
 -- the line of a datagram: its number, the node that it goes to, and its bytes
+abbrev pub datagram_line : ℕ → ℕ → List ℕ → List ℕ
+datagram_line number to bytes =
+    (codes "sent " ++ (decimal number ++ (codes " " ++ (decimal to ++ codes " ")))) ++ (hex_text bytes ++ codes "\n")
+
 abbrev pub sent_line : ℕ → SentDatagram → List ℕ
-sent_line number d =
-    (codes "sent " ++ (decimal number ++ (codes " " ++ (decimal d.to ++ codes " "))))
-    ++ (hex_text d.bytes ++ codes "\n")
+sent_line number d = datagram_line number d.to d.bytes
 
 -- a line for each of these datagrams, which are numbered from here on
 abbrev pub sent_lines : ℕ → List SentDatagram → List ℕ

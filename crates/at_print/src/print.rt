@@ -4,7 +4,8 @@ ghost use Rattle.std.specs.Fmt.{decimal};
 ghost use Rattle.std.specs.List.{flat_map};
 ghost use Rattle.at_print.specs.Lines.{hex_text};
 ghost use Rattle.at_print.specs.Printers.{Prints};
-ghost use Rattle.at_print.specs.Reports.{asked_text, event_line, packet_text, report_text, sent_lines, zone_text};
+ghost use Rattle.at_print.specs.Reports.{asked_text, datagram_line, event_line, packet_text, report_text, sent_lines};
+ghost use Rattle.at_print.specs.Reports.{zone_text};
 ghost use Rattle.at_print.specs.Reports.{glyph, is_sign, stands_for_itself, text_word};
 
 use crate::digits::{write_hex, write_pairs};
@@ -19,7 +20,11 @@ use at_world::World;
 use std::alloc::Allocator;
 
 /// Prints the report of an event.
-pub fn write_event<A: Allocator, W: Paper>(printer: &mut Printer<W>, event: u32, report: &Report<A>)
+pub fn write_event<A: Allocator, W: Paper>(
+    printer: &mut Printer<W>,
+    event: usize,
+    report: &Report<A>,
+)
     ensures { Prints W.page printer.old printer.new (event_line event report.now) }
 {
     write!(printer, "{event} ");
@@ -37,10 +42,17 @@ pub fn write_sent<A: Allocator + Copy, W: Paper>(
 {
     for number in first..world.sent_count() {
         let sent = world.sent(number);
-        write!(printer, "sent {number} {} ", sent.to);
-        write_hex(printer, sent.bytes);
-        printer.write_all(b"\n");
+        write_datagram(printer, number, sent.to, sent.bytes);
     }
+}
+
+/// Prints a datagram that was sent: its number, the node that it goes to, and its bytes.
+pub fn write_datagram<W: Paper>(printer: &mut Printer<W>, number: usize, to: u8, bytes: &[u8])
+    ensures { Prints W.page printer.old printer.new (datagram_line number to bytes.now) }
+{
+    write!(printer, "sent {number} {to} ");
+    write_hex(printer, bytes);
+    printer.write_all(b"\n");
 }
 
 fn write_report<A: Allocator, W: Paper>(printer: &mut Printer<W>, report: &Report<A>)

@@ -57,14 +57,21 @@ impl<W: Paper> Printer<W> {
         self.writer
     }
 
+    /// Hands on what the writer still holds back.
+    pub fn flush(&mut self)
+        ensures { Prints W.page self.old self.new [] }
+    {
+        if !self.has_failed {
+            self.has_failed = self.writer.settle().is_err();
+        }
+    }
+
     /// Flushes, and hands on the status, or `Failed` if a write or the flush failed.
     pub fn finish(&mut self, status: Status) -> Status
         ensures printed { Prints W.page self.old self.new [] }
         ensures done { (result ≡ Status.Done) ↔ ((status ≡ Status.Done) × ¬ HasFailed self.new) }
     {
-        if !self.has_failed {
-            self.has_failed = self.writer.settle().is_err();
-        }
+        self.flush();
         if self.has_failed {
             Status::Failed
         } else {

@@ -35,7 +35,7 @@ with_line A lines line d s heard plain before whole (draft, (es, said), order, l
     )
 
 module _ (A : Type 0) (lines : List (List ℕ)) (d : Draft) (more : List (List ℕ)) (s : Setup A) where
-  ended : IsEnding more → (has_events d ≡ true → more ≡ []) → IsSetup (setup_words lines ++ map words_of more) s
+  ended : IsEnding 254 more → (has_events d ≡ true → more ≡ []) → IsSetup (setup_words lines ++ map words_of more) s
       → IsRead A lines d → BeginSchedule A lines
   ended (inl none) over whole (draft, (es, said), order, late, early) =
       let setup = subst (λ m. IsSetup (setup_words lines ++ map words_of m) s) none whole in (
@@ -53,6 +53,6 @@ module _ (A : Type 0) (lines : List (List ℕ)) (d : Draft) (more : List (List �
       (subst (λ m. IsSetup (setup_words lines ++ map words_of m) s) router whole) read
 
 -- a schedule begins with the lines that were read
-pub begin_read : (A : Type 0) (lines : List (List ℕ)) (d : Draft) → CanEnd A d (setup_words lines) → IsRead A lines d
+pub begin_read : (A : Type 0) (lines : List (List ℕ)) (d : Draft) → CanEnd A 254 d (setup_words lines) → IsRead A lines d
     → BeginSchedule A lines
 begin_read A lines d end read = ended A lines d end.more end.setup end.ending end.over end.whole read

@@ -1,3 +1,4 @@
+mod CutLemmas
 mod EndLemmas
 mod EventLemmas
 mod HeadLemmas

@@ -13,7 +13,8 @@ use crate::event_line::{call_event, delivery_event, forged_event, timer_event};
 use at_faults::{LineFault, Rule};
 use at_setup::{Event, Setup};
 use at_setup_lines::SetupDraft;
-use at_words::{Words, is_word};
+use at_setup_lines::laws::lines_begin_with_known_words;
+use at_words::Words;
 use std::alloc::{Allocator, Global};
 use std::marker::Model;
 
@@ -52,6 +53,7 @@ impl<A: Allocator + Copy> Draft<A> {
         ensures only { IfUnlawful result ((lines : List (List ℕ)) → IsRead A lines self.old
             → ¬ BeginSchedule A (lines ++ line.now ∷ [])) }
     {
+        lines_begin_with_known_words::<A>();
         if is_passed_over(line) {
             return Ok(None);
         }
@@ -100,15 +102,7 @@ impl<A: Allocator + Copy> Draft<A> {
         ensures kept { OnErr result (self.new ≡ self.old) }
         ensures only { IfUnlawful result (Refuses A self.old (word.now ∷ words_of words.entry.rest.now)) }
     {
-        if is_word(word, b"net") {
-            self.setup.take_net(words)
-        } else if is_word(word, b"node") {
-            self.setup.take_node(words)
-        } else if is_word(word, b"zones") {
-            self.setup.take_zones(words)
-        } else {
-            Err(LineFault::Unlawful(Rule::FirstWord))
-        }
+        self.setup.take_line(word, words)
     }
 
     /// The setup, if the lines so far are a schedule, or what is missing.
@@ -137,7 +131,8 @@ fn event_of<A: Allocator + Copy>(
     }
 }
 
-fn is_passed_over(line: &[u8]) -> bool
+/// Whether a line says nothing: it is empty, or begins with `#`.
+pub fn is_passed_over(line: &[u8]) -> bool
     ensures { result ≡ is_passed_over line.now }
 {
     match line.first() {

@@ -38,8 +38,8 @@ pub fn read_setup<A: Allocator + Copy, R: Read>(alloc: A, reader: &mut R) -> Res
     }
 }
 
-// What is wrong with a schedule that has this line, counted from 1.
-fn fault_at(fault: LineFault, number: usize, line: &[u8]) -> Fault
+/// What is wrong with a text that has this line, counted from 1, at which nothing may follow the lines before it.
+pub fn fault_at(fault: LineFault, number: usize, line: &[u8]) -> Fault
     ensures unlawful { (rule : Told) → fault ≡ LineFault.Unlawful rule → (r : Told) × (result ≡ Fault.Line number r) }
     ensures memory { fault ≡ LineFault.NoMemory → result ≡ Fault.NoMemory }
 {

@@ -1,12 +1,12 @@
 -- Which line makes a setup whole.
-use Rattle.std.proofs.Common.{arith, ◌≡◌, ℕ, ◌<◌, List, [], ◌∷◌, ◌++◌, length, cond, Bool, true, false, not, ◌&&◌}
+use Rattle.std.proofs.Common.{arith, ◌≡◌, ℕ, ◌<◌, ◌≤◌, nat_le, List, [], ◌∷◌, ◌++◌, length, cond, Bool, true, false, not, ◌&&◌}
 use Rattle.std.proofs.Common.{Some, inl, inr, refl, sym, ap, subst, ◌∙◌, filter, map, append-nil}
 use Rattle.std.specs.Fmt.{decimal}
 use Rattle.std.specs.Prelude.{codes}
-use Rattle.std.specs.List.{All}
+use Rattle.std.specs.List.{All, list_all}
 use Rattle.std.specs.Char.{digit_value}
 use Rattle.std.specs.Str.Parse.{AllDigits}
-use Rattle.std.proofs.lemmas.Bool.{cond-false, cond-true, false≢true, ne_eqb, or_right}
+use Rattle.std.proofs.lemmas.Bool.{and_from, cond-false, cond-true, false≢true, le-leb, ne_eqb, or_right}
 use Rattle.std.proofs.lemmas.Fmt.{decimal_is_IsNumeral}
 use Rattle.std.proofs.lemmas.List.Elements.{All-cons, All-nil}
 use Rattle.std.proofs.lemmas.List.Splits.{slice_split_at}
@@ -16,8 +16,8 @@ use Rattle.at_words.specs.Words.{has_bytes, is_space, words_of}
 use Rattle.at_setup.specs.Setups.{are_lawful_nodes, has_router}
 use Rattle.at_setup.specs.declared.setup.Setup.{Setup}
 use Rattle.at_setup_lines.specs.Drafts.{Draft, IsDraft, IsDraftAt, is_event, setup_of}
-use Rattle.at_setup_lines.specs.Endings.{CanEnd, router_line}
-use Rattle.at_setup_lines.specs.NodeLists.{have_zones}
+use Rattle.at_setup_lines.specs.Endings.{CanEnd, HasPlace, router_line}
+use Rattle.at_setup_lines.specs.NodeLists.{have_zones, lacks_router}
 use Rattle.at_setup_lines.specs.SetupLines.{IsSetup, SaysNet, SaysNode, SaysPlace}
 use Rattle.at_setup_lines.specs.declared.draft.Stage.{Stage}
 use Rattle.at_setup_lines.specs.declared.draft.Stage.TheVariants.{Event, Net, Node, Table}
@@ -75,8 +75,14 @@ net_said = (codes "1", refl, (((omega arith, (omega arith, tt)), refl), omega ar
 
 -- ---- what was read, and a line more
 
-module _ (A : Type 0) (d : Draft) (lines : List (List (List ℕ))) where
-  as_it_is : IsSetup lines (setup_of d) → CanEnd A d lines
+-- a router that has to follow finds a number
+place_of : (most : ℕ) (d : Draft) → HasPlace most d → lacks_router d.nodes ≡ true → length d.nodes < 16
+    → length d.nodes < most
+place_of most d (byte, inl many) lacks few = omega (arith, many, few)
+place_of most d (byte, inr place) lacks few = place lacks
+
+module _ (A : Type 0) (most : ℕ) (d : Draft) (lines : List (List (List ℕ))) where
+  as_it_is : IsSetup lines (setup_of d) → CanEnd A most d lines
   as_it_is h =
       let s : Setup A = record { net = d.net; nodes = d.nodes; zones = d.zones } in
       record {
@@ -85,10 +91,13 @@ module _ (A : Type 0) (d : Draft) (lines : List (List (List ℕ))) where
         ending = inl refl;
         over = λ over. refl;
         whole = subst (λ l. IsSetup l s) (sym (append-nil lines)) h;
+        added = [];
+        follows = sym (append-nil d.nodes);
+        small = refl;
       }
 
-  with_net : d.stage ≡ Net → lines ≡ [] → CanEnd A d lines
-  with_net stage none =
+  with_net : d.stage ≡ Net → lines ≡ [] → d.nodes ≡ [] → CanEnd A most d lines
+  with_net stage none no_nodes =
       let s : Setup A = record { net = 1; nodes = []; zones = [] } in
       record {
         more = codes "net 1" ∷ [];
@@ -97,12 +106,16 @@ module _ (A : Type 0) (d : Draft) (lines : List (List (List ℕ))) where
         over = λ over. absurd (false≢true (sym (ap is_event stage) ∙ over));
         whole = subst (λ l. IsSetup (l ++ map words_of (codes "net 1" ∷ [])) s) (sym none)
             (inl ((net_said, tt), refl), refl);
+        added = [];
+        follows = sym (append-nil d.nodes ∙ no_nodes);
+        small = refl;
       }
 
-  with_router : d.stage ≡ Node → IsDraftAt Node lines d → (k : ℕ) → 0 < k → k < 255
-      → are_lawful_nodes (d.nodes ++ router_at k ∷ []) ≡ true → CanEnd A d lines
-  with_router stage (say, none, begin) k some few lawful =
+  with_router : d.stage ≡ Node → IsDraftAt Node lines d → most < 255 → (k : ℕ) → 0 < k → k ≤ most
+      → are_lawful_nodes (d.nodes ++ router_at k ∷ []) ≡ true → CanEnd A most d lines
+  with_router stage (say, none, begin) byte k some few lawful =
       let nodes = d.nodes ++ router_at k ∷ [] in
+      let small : k < 255 = omega (arith, byte, few) in
       record {
         more = router_line k ∷ [];
         setup = record { net = d.net; nodes = nodes; zones = [] };
@@ -110,37 +123,44 @@ module _ (A : Type 0) (d : Draft) (lines : List (List (List ℕ))) where
         over = λ over. absurd (false≢true (sym (ap is_event stage) ∙ over));
         whole = (
           inl (
-            head_more lines d.net d.nodes (words_of (router_line k)) (router_at k) say (router_said k some few),
+            head_more lines d.net d.nodes (words_of (router_line k)) (router_at k) say (router_said k some small),
             refl,
           ),
           lawful_with (record { stage = Node; net = d.net; nodes = nodes; zones = [] })
               (net_fits lines d.net d.nodes say) lawful (or_right (has_router nodes) true refl),
         );
+        added = router_at k ∷ [];
+        follows = refl;
+        small = and_from (nat_le k most) true (le-leb k most few) refl;
       }
 
-  lacking_by : d.stage ≡ Node → IsDraftAt Node lines d → (have_zones d.nodes && not (has_router d.nodes)) ≡ true
-      → Fit d.nodes → Placed d.nodes → CanEnd A d lines
-  lacking_by stage h lacks f (inl (has, all)) = absurd (lacks_no d.nodes lacks (lawful_if d.nodes f
+  lacking_by : HasPlace most d → d.stage ≡ Node → IsDraftAt Node lines d → lacks_router d.nodes ≡ true
+      → Fit d.nodes → Placed d.nodes → CanEnd A most d lines
+  lacking_by place stage h lacks f (inl (has, all)) = absurd (lacks_no d.nodes lacks (lawful_if d.nodes f
       (cond-true (has_router d.nodes) (all_zoned d.nodes) (none_zoned d.nodes) has ∙ all)))
-  lacking_by stage h lacks f (inr (inl (lone, none))) = absurd (lacks_no d.nodes lacks (lawful_if d.nodes f
+  lacking_by place stage h lacks f (inr (inl (lone, none))) = absurd (lacks_no d.nodes lacks (lawful_if d.nodes f
       (cond-false (has_router d.nodes) (all_zoned d.nodes) (none_zoned d.nodes) lone ∙ none)))
-  lacking_by stage h lacks f (inr (inr (lone, all, few))) =
-      let (k, some, small, lawful) = router_follows d.nodes f lone all few in
-      with_router stage h k some small lawful
+  lacking_by place stage h lacks f (inr (inr (lone, all, few))) =
+      let (k, some, small, lawful) = router_follows most d.nodes place.0 (place_of most d place lacks few) f lone all
+      few in
+      with_router stage h place.0 k some small lawful
 
-  node_by : (b : Bool) → (have_zones d.nodes && not (has_router d.nodes)) ≡ b → d.stage ≡ Node → IsDraft lines d
-      → CanEnd A d lines
-  node_by false fits stage h = as_it_is (event_at_node d stage fits lines h)
-  node_by true lacks stage h =
+  node_by : HasPlace most d → (b : Bool) → lacks_router d.nodes ≡ b → d.stage ≡ Node → IsDraft lines d
+      → CanEnd A most d lines
+  node_by place false fits stage h = as_it_is (event_at_node d stage fits lines h)
+  node_by place true lacks stage h =
       let (say, none, (more, lawful)) = subst (λ st. IsDraftAt st lines d) stage h in
       let f = fit_from d.nodes more lawful in
-      lacking_by stage (say, none, (more, lawful)) lacks f f.placed
+      lacking_by place stage (say, none, (more, lawful)) lacks f f.placed
 
-  stage_by : (st : Stage) → d.stage ≡ st → IsDraft lines d → CanEnd A d lines
-  stage_by Net stage h = with_net stage (subst (λ st. IsDraftAt st lines d) stage h).0
-  stage_by Node stage h = node_by (have_zones d.nodes && not (has_router d.nodes)) refl stage h
-  stage_by Table stage h = as_it_is (event_later d (inl stage) lines h)
-  stage_by Event stage h = as_it_is (event_later d (inr stage) lines h)
+  stage_by : HasPlace most d → (st : Stage) → d.stage ≡ st → IsDraft lines d → CanEnd A most d lines
+  stage_by place Net stage h =
+      let drafted = subst (λ st. IsDraftAt st lines d) stage h in
+      with_net stage drafted.0 drafted.2
+  stage_by place Node stage h = node_by place (lacks_router d.nodes) refl stage h
+  stage_by place Table stage h = as_it_is (event_later d (inl stage) lines h)
+  stage_by place Event stage h = as_it_is (event_later d (inr stage) lines h)
 
-pub can_end : (A : Type 0) (d : Draft) (lines : List (List (List ℕ))) → IsDraft lines d → CanEnd A d lines
-can_end A d lines h = stage_by A d lines d.stage refl h
+pub can_end : (A : Type 0) (most : ℕ) (d : Draft) (lines : List (List (List ℕ))) → HasPlace most d → IsDraft lines d
+    → CanEnd A most d lines
+can_end A most d lines place h = stage_by A most d lines place d.stage refl h

@@ -147,7 +147,7 @@ table_at lines more line net nodes zones (head, last, is, say, said, router) =
 abbrev pub At : {A : Type 0} → List (List (List ℕ)) → List (List ℕ) → Setup A → Type 0
 At lines line s = AtNet lines line s.net ⊎ (AtNode lines line s.net s.nodes ⊎ AtZones lines line s.net s.nodes s.zones)
 
-setup_at : (A : Type 0) (lines more : List (List (List ℕ))) (line : List (List ℕ)) (s : Setup A)
+pub setup_at : (A : Type 0) (lines more : List (List (List ℕ))) (line : List (List ℕ)) (s : Setup A)
     → AreSetup (lines ++ line ∷ more) s → At lines line s
 setup_at A lines more line s (inl (head, none)) =
     elim (head_at lines more line s.net s.nodes head) [ inl net ↦ inl net | inr node ↦ inr (inl node) ]
@@ -161,11 +161,11 @@ begin_at A lines line (more, s, (are, lawful)) =
 
 -- ---- lines with a zone table
 
-no_table_line : (line : List (List ℕ)) (names : List (List ℕ)) (n : NodeSetup) → SaysZones line names
+pub no_table_line : (line : List (List ℕ)) (names : List (List ℕ)) (n : NodeSetup) → SaysZones line names
     → ¬ SaysNode line n
 no_table_line line names n (words, is, are) h = zones_no_node words n (subst (λ l. SaysNode l n) is h)
 
-no_table_net : (line : List (List ℕ)) (names : List (List ℕ)) (n : ℕ) → SaysZones line names → ¬ SaysNet line n
+pub no_table_net : (line : List (List ℕ)) (names : List (List ℕ)) (n : ℕ) → SaysZones line names → ¬ SaysNet line n
 no_table_net line names n (words, is, are) h = zones_no_net words n (subst (λ l. SaysNet l n) is h)
 
 -- no lines say a zone table, and only the network and the nodes

@@ -1,9 +1,12 @@
+mod CrowdLemmas
 mod DraftLemmas
 mod EndingLemmas
+mod FirstWordLemmas
 mod FitLemmas
 mod HeadLemmas
 mod LineLemmas
 mod NameLemmas
+mod OneSetupLemmas
 mod RouterLemmas
 mod RuleLemmas
 mod SaidLemmas

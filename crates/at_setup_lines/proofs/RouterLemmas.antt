@@ -12,7 +12,7 @@ use Rattle.at_setup_lines.specs.NodeLists.{BeginNodes, has_number}
 use Rattle.at_setup_lines.proofs.FitLemmas.{Fit, Placed, all_zoned, count_cons, counted, fit_more, lawful_if}
 use Rattle.at_setup_lines.proofs.FitLemmas.{none_zoned}
 
-abbrev others : ℕ → List NodeSetup → List NodeSetup
+abbrev pub others : ℕ → List NodeSetup → List NodeSetup
 others j ns = filter (λ n. not (has_number j n)) ns
 
 fewer_by : (j : ℕ) (n : NodeSetup) (ns : List NodeSetup) (b : Bool) → (n.node == j) ≡ b
@@ -23,7 +23,7 @@ fewer_by j n ns true is rest = let here = count_cons (has_number j) n ns
 fewer_by j n ns false is rest = let here = count_cons (has_number j) n ns
     ∙ ap (λ b. cond b 1 0 + count_by (has_number j) ns) is in omega (arith, rest, here)
 
-others_fewer : (j : ℕ) (ns : List NodeSetup) → length (others j ns) + count_by (has_number j) ns ≡ length ns
+pub others_fewer : (j : ℕ) (ns : List NodeSetup) → length (others j ns) + count_by (has_number j) ns ≡ length ns
 others_fewer j [] = refl
 others_fewer j (n ∷ ns) = fewer_by j n ns (n.node == j) refl (others_fewer j ns)
 
@@ -37,7 +37,7 @@ count_by_other j k differ n ns true is rest =
 count_by_other j k differ n ns false is rest = count_cons (has_number k) n (others j ns)
     ∙ ap (λ m. cond (n.node == k) 1 0 + m) rest ∙ sym (count_cons (has_number k) n ns)
 
-others_count : (j k : ℕ) → k ≢ j → (ns : List NodeSetup) → count_by (has_number k) (others j ns)
+pub others_count : (j k : ℕ) → k ≢ j → (ns : List NodeSetup) → count_by (has_number k) (others j ns)
     ≡ count_by (has_number k) ns
 others_count j k differ [] = refl
 others_count j k differ (n ∷ ns) = count_by_other j k differ n ns (n.node == j) refl (others_count j k differ ns)
@@ -69,15 +69,16 @@ not_any p ns none = go (list_any p ns) refl
     go true is = let some = counted p ns is in absurd (omega (arith, some, none))
 
 -- such a router can follow nodes that need one
-pub router_follows : (ns : List NodeSetup) → Fit ns → has_router ns ≡ false → all_zoned ns ≡ true → length ns < 16
-    → (k : ℕ) × (0 < k) × (k < 255) × (are_lawful_nodes (ns ++ router_at k ∷ []) ≡ true)
-router_follows ns f lone zoned few =
-    let (k, positive, small, none) = free 254 ns (omega (arith, few)) in
+pub router_follows : (most : ℕ) (ns : List NodeSetup) → most < 255 → length ns < most → Fit ns
+    → has_router ns ≡ false → all_zoned ns ≡ true → length ns < 16
+    → (k : ℕ) × (0 < k) × (k ≤ most) × (are_lawful_nodes (ns ++ router_at k ∷ []) ≡ true)
+router_follows most ns byte place f lone zoned few =
+    let (k, positive, small, none) = free most ns place in
     let r = router_at k in
     let lawful : is_lawful_node r ≡ true =
     and_from (nat_lt 0 k && nat_lt k 255 && is_room 64) (is_room 64)
     (and_from (nat_lt 0 k && nat_lt k 255) (is_room 64)
-    (and_from (nat_lt 0 k) (nat_lt k 255) (lt-ltb 0 k positive) (lt-ltb k 255 (omega (arith, small)))) refl) refl in
+    (and_from (nat_lt 0 k) (nat_lt k 255) (lt-ltb 0 k positive) (lt-ltb k 255 (omega (arith, small, byte)))) refl) refl in
     let has : has_router (ns ++ r ∷ []) ≡ true = list_any-append (λ n. n.router) ns (r ∷ [])
     ∙ or_right (has_router ns) true refl in
     let all : all_zoned (ns ++ r ∷ []) ≡ true = list_all-append (λ n. is_zone n.zone) ns (r ∷ [])
@@ -85,14 +86,15 @@ router_follows ns f lone zoned few =
     let fit = fit_more ns r f few lawful (not_any (has_number k) ns none) (λ _. lone) (inl (has, all)) in (
       k,
       positive,
-      omega (arith, small),
+      small,
       lawful_if (ns ++ r ∷ []) fit
           (cond-true (has_router (ns ++ r ∷ [])) (all_zoned (ns ++ r ∷ [])) (none_zoned (ns ++ r ∷ [])) has ∙ all),
     )
 
 with_router : (ns : List NodeSetup) → Fit ns → has_router ns ≡ false → all_zoned ns ≡ true → length ns < 16
     → BeginNodes ns
-with_router ns f lone zoned few = let (k, some, small, lawful) = router_follows ns f lone zoned few in
+with_router ns f lone zoned few =
+    let (k, some, small, lawful) = router_follows 254 ns (omega arith) (omega (arith, few)) f lone zoned few in
     (router_at k ∷ [], lawful)
 
 alone : (ns : List NodeSetup) → are_lawful_nodes ns ≡ true → BeginNodes ns

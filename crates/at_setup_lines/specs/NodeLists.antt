@@ -22,6 +22,10 @@ has_number k n = n.node == k
 abbrev pub have_zones : List NodeSetup → Bool
 have_zones ns = list_any (λ n. is_some n.zone) ns
 
+-- a router has to follow them
+abbrev pub lacks_router : List NodeSetup → Bool
+lacks_router ns = have_zones ns && not (has_router ns)
+
 -- it is in a zone just if the nodes before it are
 abbrev pub fits_zones : List NodeSetup → NodeSetup → Bool
 fits_zones ns n = (length ns == 0) || (if is_some n.zone then have_zones ns else not (have_zones ns))

@@ -11,7 +11,7 @@ use crate::table::table_of;
 use at_ddp::{Listed, Pascal};
 use at_faults::{LineFault, Rule};
 use at_setup::{NodeSetup, Setup};
-use at_words::Words;
+use at_words::{Words, is_word};
 use std::alloc::{Allocator, Global};
 use std::marker::Model;
 
@@ -49,7 +49,8 @@ impl<A: Allocator> Model for SetupDraft<A> {
 impl<A: Allocator + Copy> SetupDraft<A> {
     /// No line is read yet.
     pub fn new(alloc: A) -> SetupDraft<A>
-        ensures { IsDraft [] result }
+        ensures draft { IsDraft [] result }
+        ensures early { has_events result ≡ false }
     {
         SetupDraft {
             alloc,
@@ -60,8 +61,35 @@ impl<A: Allocator + Copy> SetupDraft<A> {
         }
     }
 
-    /// Takes the line of the network, after its first word.
-    pub fn take_net(&mut self, words: Words<'_>) -> Result<(), LineFault>
+    /// The nodes so far.
+    pub fn nodes(&self) -> &[NodeSetup]
+        ensures { result.now ≡ self.now.nodes }
+    {
+        self.nodes.as_slice()
+    }
+
+    /// Takes the line that begins with this word, which is no event's.
+    pub fn take_line(&mut self, word: &[u8], words: Words<'_>) -> Result<(), LineFault>
+        ensures taken { OnOk result (Takes self.old (word.now ∷ words_of words.entry.rest.now) self.new) }
+        ensures kept { OnErr result (self.new ≡ self.old) }
+        ensures only { IfErr result (λ fault. fault ≢ LineFault.NoMemory
+            → Refuses A self.old (word.now ∷ words_of words.entry.rest.now)) }
+        ensures early { OnOk result (has_events self.new ≡ false) }
+        ensures late { has_events self.old ≡ true → IsErr result }
+    {
+        if is_word(word, b"net") {
+            self.take_net(words)
+        } else if is_word(word, b"node") {
+            self.take_node(words)
+        } else if is_word(word, b"zones") {
+            self.take_zones(words)
+        } else {
+            Err(LineFault::Unlawful(Rule::FirstWord))
+        }
+    }
+
+    // Takes the line of the network, after its first word.
+    fn take_net(&mut self, words: Words<'_>) -> Result<(), LineFault>
         ensures taken { OnOk result (Takes self.old (codes "net" ∷ words_of words.entry.rest.now) self.new) }
         ensures kept { OnErr result (self.new ≡ self.old) }
         ensures only { IfErr result (λ fault. fault ≢ LineFault.NoMemory
@@ -80,8 +108,8 @@ impl<A: Allocator + Copy> SetupDraft<A> {
         }
     }
 
-    /// Takes the line of a node, after its first word.
-    pub fn take_node(&mut self, words: Words<'_>) -> Result<(), LineFault>
+    // Takes the line of a node, after its first word.
+    fn take_node(&mut self, words: Words<'_>) -> Result<(), LineFault>
         ensures taken { OnOk result (Takes self.old (codes "node" ∷ words_of words.entry.rest.now) self.new) }
         ensures kept { OnErr result (self.new ≡ self.old) }
         ensures only { IfErr result (λ fault. fault ≢ LineFault.NoMemory
@@ -102,8 +130,8 @@ impl<A: Allocator + Copy> SetupDraft<A> {
         Ok(())
     }
 
-    /// Takes the line of the zone table, after its first word.
-    pub fn take_zones(&mut self, words: Words<'_>) -> Result<(), LineFault>
+    // Takes the line of the zone table, after its first word.
+    fn take_zones(&mut self, words: Words<'_>) -> Result<(), LineFault>
         ensures taken { OnOk result (Takes self.old (codes "zones" ∷ words_of words.entry.rest.now) self.new) }
         ensures kept { OnErr result (self.new ≡ self.old) }
         ensures only { IfErr result (λ fault. fault ≢ LineFault.NoMemory

@@ -9,3 +9,4 @@ mod nodes;
 mod table;
 
 pub use draft::SetupDraft;
+pub use nodes::lacks_router;

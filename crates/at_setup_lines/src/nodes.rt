@@ -2,8 +2,8 @@
 ghost use Rattle.std.specs.Prelude.{◌≡◌, ◌&&◌, not, ◌++◌, ◌∷◌, [], true, is_none, IsNone, IsSome};
 ghost use Rattle.std.specs.List.{list_any};
 ghost use Rattle.at_setup.specs.Setups.{has_router};
-ghost use Rattle.at_setup_lines.specs.NodeLists.{BeginNodes, fits_zones, has_number, have_zones, is_node, node_fits};
-ghost use Rattle.at_setup_lines.specs.NodeLists.{router_fits};
+ghost use Rattle.at_setup_lines.specs.NodeLists.{BeginNodes, fits_zones, has_number, have_zones, is_node};
+ghost use Rattle.at_setup_lines.specs.NodeLists.{lacks_router, node_fits, router_fits};
 
 use at_faults::Rule;
 use at_setup::NodeSetup;
@@ -23,9 +23,9 @@ fn are_in_zones(nodes: &[NodeSetup]) -> bool
     nodes.iter().any(|node| node.zone.is_some())
 }
 
-/// Whether a router has to follow.
-pub(crate) fn lacks_router(nodes: &[NodeSetup]) -> bool
-    ensures { result ≡ (have_zones nodes.now && not (has_router nodes.now)) }
+/// Whether a router has to follow these nodes.
+pub fn lacks_router(nodes: &[NodeSetup]) -> bool
+    ensures { result ≡ lacks_router nodes.now }
 {
     are_in_zones(nodes) && !has_router(nodes)
 }

@@ -114,7 +114,7 @@ fn told<A: Allocator + Copy>(
             report = give(rt, alloc, node, *step, &mut out);
         }
         assert!(rt; sent_in(rt, &out) == *sent);
-        write_event(&mut printer, event, &report);
+        write_event(&mut printer, event as usize, &report);
     }
     lacked
 }

@@ -16,7 +16,7 @@ static ANSWERED: &[u8] =
 fn compare(rt: &impl Abort, alloc: Global, transcript: &Transcript) {
     let mut text = Vec::new(alloc);
     let mut printer = Printer::new(&mut text);
-    for (event, report) in (0u32..).zip(transcript.reports.as_slice()) {
+    for (event, report) in transcript.reports.as_slice().iter().enumerate() {
         write_event(&mut printer, event, report);
     }
     let want = b"0 begun 0\n1 served 1\n2 zones Lab Office\n";

@@ -12,18 +12,17 @@ loop-number-init g c = subst (Prints g.W.Paper.page c.args.printer.now c.args.pr
 pub loop-number-preserved : goal.loop-number-preserved
 loop-number-preserved g c =
     let s = c.sent-sent.ensures in
-    let within : c.loop-number.number-counter < length c.args.world.now.sent =
+    let within : c.loop-number.number < length c.args.world.now.sent =
     omega (arith, c.sent_count-number-end.ensures) in
-    let past : c.args.first ≤ c.loop-number.number-counter = omega (arith, c.loop-number.auto.number-counter) in
-    Prints-sent g.W.Paper.page c.args.first c.loop-number.number-counter c.args.world.now.sent s.0
-    c.sent-sent.result.to c.sent-sent.result.bytes.now
-    c.args.printer.now c.loop-number.printer c.write.new.self c.write_hex.new.printer c.write_all.new.self
-    within past s.1 s.3 s.4 c.loop-number.invariant c.write.ensures.printed c.write_hex.ensures c.write_all.ensures
+    let past : c.args.first ≤ c.loop-number.number = omega (arith, c.loop-number.auto.number) in
+    Prints-sent g.W.Paper.page c.args.first c.loop-number.number c.args.world.now.sent s.0
+    c.sent-sent.result.to c.sent-sent.result.bytes.now c.args.printer.now c.loop-number.printer
+    c.write_datagram.new.printer within past s.1 s.3 s.4 c.loop-number.invariant c.write_datagram.ensures
 
 pub returns : goal.returns
 returns g c =
-    let past : length c.args.world.now.sent ≤ c.loop-number.number-counter =
+    let past : length c.args.world.now.sent ≤ c.loop-number.number =
     omega (arith, c.sent_count-number-end.ensures, c.loop-number-test.false) in
     subst (λ l. Prints g.W.Paper.page c.args.printer.now c.loop-number.printer
     (sent_lines c.args.first (drop c.args.first l)))
-    (take_all c.loop-number.number-counter c.args.world.now.sent past) c.loop-number.invariant
+    (take_all c.loop-number.number c.args.world.now.sent past) c.loop-number.invariant

@@ -5,4 +5,4 @@ use Rattle.at_print.proofs.print.write_sent.Given as goal
 
 abbrev pub invariant-loop-number : goal.invariant-loop-number
 invariant-loop-number g l = Prints g.W.Paper.page l.initial.printer l.printer
-    (sent_lines l.first (drop l.first (take l.number-counter l.world.sent)))
+    (sent_lines l.first (drop l.first (take l.number l.world.sent)))

@@ -1,4 +1,4 @@
-use Rattle.std.proofs.Common.{ℕ, List, [], ◌∷◌, ◌++◌, subst, ◌∙◌}
+use Rattle.std.proofs.Common.{ℕ, List, [], ◌∷◌, ◌++◌, ◌<◌, ◌⊎◌, inl, subst, ◌∙◌, arith}
 use Rattle.std.specs.Prelude.{vec_items}
 use Rattle.at_schedule.specs.Drafts.{BeginSchedule, IsRead}
 use Rattle.at_schedule.specs.Schedules.{setup_words}
@@ -6,6 +6,9 @@ use Rattle.at_schedule.proofs.EndLemmas.{begin_read}
 use Rattle.at_schedule.proofs.LineLemmas.{all_held, broken_of, line_refused, next_left, none_held}
 use Rattle.at_schedule.proofs.LineLemmas.{numbered_more, told_of}
 use Rattle.at_schedule.proofs.schedule.read_setup.Goals as goal
+
+any_router : {P : Type 0} → (254 < 255) × ((15 < 254) ⊎ P)
+any_router = (omega arith, inl (omega arith))
 
 pub loop-line-preserved : goal.loop-line-preserved
 loop-line-preserved g c =
@@ -37,7 +40,7 @@ returns-in-Err-clause-fault g c =
     (¬ BeginSchedule A more) c.take_line.result c.in-Err.fault c.in-Err.is c.take_line.ensures.only
     (λ never. subst (λ l. ¬ BeginSchedule A (read ++ l ∷ [])) c.deref.ensures.value (never read so_far)) in
     let begins = begin_read A read c.loop-line.draft
-    (c.each_draft_can_end.ensures c.loop-line.draft (setup_words read) so_far.0) so_far in
+    (c.each_draft_can_end.ensures 254 c.loop-line.draft (setup_words read) any_router so_far.0) so_far in
     line_refused A (g.R.Read.remaining c.args.reader.now) _ read c.in_ok-line.line.items c.in-Err.fault _
     c.fault_at.result number later begins broken
     (told_of c.in-Err.fault _ c.fault_at.result c.fault_at.ensures.unlawful c.fault_at.ensures.memory)
@@ -52,6 +55,6 @@ pub returns-in-Err-finish-clause-fault : goal.returns-in-Err-finish-clause-fault
 returns-in-Err-finish-clause-fault g c =
     let ((read, so_far, number, left), byte) = c.loop-line.invariant in
     let begins = begin_read g.row.A.Denot read c.loop-line.draft
-    (c.each_draft_can_end.ensures c.loop-line.draft (setup_words read) so_far.0) so_far in
+    (c.each_draft_can_end.ensures 254 c.loop-line.draft (setup_words read) any_router so_far.0) so_far in
     none_held g.row.A.Denot (g.R.Read.remaining c.args.reader.now) _ read c.loop-line.draft _ c.in-Err-finish.rule
     number left c.in-None.ensures.steps.2 so_far begins c.in-Err-finish.ensures.only

@@ -21,7 +21,8 @@ returns-in_default-clause-only g c lines read =
     let A = A-type g.row.A in
     let none : words_of c.args.line.now ≡ [] = ap words_of (sym c.of-words.ensures) ∙ c.in_default.ensures.steps.0 in
     no_such_head A lines c.args.line.now c.args.self.now (sym c.is_passed_over.ensures ∙ c.if-is_passed_over.false)
-    (ap are_event_words none) (subst (Refuses A c.args.self.now) (sym none) (no_word A c.args.self.now)) read
+    (ap are_event_words none) (subst (Refuses A c.args.self.now) (sym none)
+    (no_word A c.lines_begin_with_known_words.ensures.setups c.args.self.now)) read
 
 pub returns-in_ok-event-clause-taken : goal.returns-in_ok-event-clause-taken
 returns-in_ok-event-clause-taken g c lines read =

@@ -1,0 +1,6 @@
+mod BeginLemmas
+mod BodyLemmas
+mod RefusalLemmas
+mod StepLemmas
+mod TakeLemmas
+mod TextLemmas
