@@ -12,7 +12,7 @@ use crate::places::{has_node, place_among};
 use crate::sending::send_all;
 use crate::step::Step;
 use at_cable::{Cable, CableFault};
-use at_ddp::{Bytes, Datagrams};
+use at_ddp::{Bytes, Datagrams, Received};
 use at_node::{Input, Node};
 use at_setup::Setup;
 use at_world::{opening_nodes, take};
@@ -163,7 +163,8 @@ impl<A: Allocator + Copy> Drive<A> {
             at,
             bytes: Bytes::copy_of(self.alloc, bytes)?,
         };
-        self.play(cable, at, node, &Input::Received(bytes), Some(arrival))
+        let received = Received::of(bytes);
+        self.play(cable, at, node, &Input::Received(&received), Some(arrival))
     }
 
     // A node takes an input, and what it sends is sent on the cable. All memory is asked for before anything is sent.

@@ -11,7 +11,7 @@ use crate::opening::{OpenFault, node_of};
 use crate::room::place;
 use crate::text::{line_of, sentence_of};
 use crate::withheld::Withheld;
-use at_ddp::Datagrams;
+use at_ddp::{Datagrams, Received};
 use at_faults::LineFault;
 use at_node::{Input, Node, Report};
 use at_world::take;
@@ -69,7 +69,7 @@ impl HeldNode {
     pub fn receive(&mut self, bytes: &[u8]) -> Result<(), AllocError>
         ensures { Happens (Receives bytes.now) self.old result self.new }
     {
-        self.take(&Input::Received(bytes))
+        self.take(&Input::Received(&Received::of(bytes)))
     }
 
     // If the node is out of memory, nothing changed, and the report of the event before stays.

@@ -9,7 +9,7 @@ ghost use Rattle.at_node.specs.Hearing.{HearsIt, Hears};
 ghost use Rattle.at_node.specs.Nodes.{over_atp};
 
 use crate::node::{Node, refused};
-use at_ddp::{ADSP, ATP, Datagram, Datagrams, NBP, decode};
+use at_ddp::{ADSP, ATP, Datagram, Datagrams, NBP, Received};
 use at_event::{Report, Service};
 use std::alloc::{AllocError, Allocator};
 
@@ -26,14 +26,28 @@ impl<A: Allocator + Copy> Node<A> {
             × Comes (Hears said self.old bytes.now) self.old out.old.items result self.new out.new.items
             × Serves S.serves result said service.old service.new }
     {
-        match decode(bytes) {
-            Ok((datagram, _)) => self.hear(service, &datagram, out),
+        self.hear(service, &Received::of(bytes), out)
+    }
+
+    /// Takes received bytes that were decoded before.
+    pub fn hear<S: Service<A>>(
+        &mut self,
+        service: &mut S,
+        received: &Received<'_>,
+        out: &mut Datagrams<A>,
+    ) -> Report<A>
+        ensures { (said : Reply A)
+            × Comes (Hears said self.old received.now) self.old out.old.items result self.new out.new.items
+            × Serves S.serves result said service.old service.new }
+    {
+        match received.datagram() {
+            Ok(datagram) => self.hear_datagram(service, &datagram, out),
             Err(fault) => refused(fault.number()),
         }
     }
 
     // Takes a datagram: the part that speaks its protocol does, if it is for this node.
-    fn hear<S: Service<A>>(
+    fn hear_datagram<S: Service<A>>(
         &mut self,
         service: &mut S,
         datagram: &Datagram<'_>,

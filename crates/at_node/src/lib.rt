@@ -21,5 +21,5 @@ mod zone_socket;
 
 pub use at_event::{Call, Deferring, NodeFault, PacketCount, Reply, Report, Seat, Service, Timer};
 pub use node::Node;
-pub use numbers::{Draw, Input, carried};
+pub use numbers::{Draw, Input, carried, carried_in};
 pub use settings::Settings;

@@ -25,7 +25,7 @@ use crate::node::Node;
 use crate::requester_socket::{REQUESTER_SOCKET, tid_of};
 use at_atp::MAX_DATA;
 use at_atp_frame::owner;
-use at_ddp::{ADSP, ATP, Datagram, NBP, decode};
+use at_ddp::{ADSP, ATP, Datagram, NBP, Received};
 use at_event::{Call, Timer};
 use at_nbp::is_no_name;
 use at_stream_socket::laws::requests_alone_make_ends;
@@ -48,7 +48,7 @@ pub enum Draw {
 pub enum Input<'a, A: Allocator = Global> {
     Call(&'a Call<A>),
     Timer(Timer),
-    Received(&'a [u8]),
+    Received(&'a Received<'a>),
 }
 
 impl<A: Allocator + Copy> Node<A> {
@@ -61,7 +61,7 @@ impl<A: Allocator + Copy> Node<A> {
         match input {
             Input::Call(call) => self.draw_of_call(call),
             Input::Timer(_) => None,
-            Input::Received(bytes) => self.draw_of_bytes(bytes),
+            Input::Received(received) => self.draw_of_received(received),
         }
     }
 
@@ -112,12 +112,12 @@ impl<A: Allocator + Copy> Node<A> {
         }
     }
 
-    fn draw_of_bytes(&self, bytes: &[u8]) -> Option<Draw>
-        ensures found { IfSome result (IsTold A self.now bytes.now) }
-        ensures only { (draw : Drawn) → IsTold A self.now bytes.now draw → result ≡ Some draw }
+    fn draw_of_received(&self, received: &Received<'_>) -> Option<Draw>
+        ensures found { IfSome result (IsTold A self.now received.now) }
+        ensures only { (draw : Drawn) → IsTold A self.now received.now draw → result ≡ Some draw }
     {
-        match decode(bytes) {
-            Ok((datagram, _)) => self.draw_of_datagram(&datagram),
+        match received.datagram() {
+            Ok(datagram) => self.draw_of_datagram(&datagram),
             Err(_) => None,
         }
     }
@@ -201,7 +201,14 @@ impl<A: Allocator + Copy> Node<A> {
 pub fn carried(bytes: &[u8]) -> [Option<(u8, Draw)>; 2]
     ensures { (node : ℕ) (draw : Drawn) → Contains result (Some (node, draw)) ↔ Carries bytes.now node draw }
 {
-    let Ok((datagram, _)) = decode(bytes) else {
+    carried_in(&Received::of(bytes))
+}
+
+/// The same of received bytes that were decoded before.
+pub fn carried_in(received: &Received<'_>) -> [Option<(u8, Draw)>; 2]
+    ensures { (node : ℕ) (draw : Drawn) → Contains result (Some (node, draw)) ↔ Carries received.now node draw }
+{
+    let Ok(datagram) = received.datagram() else {
         return [None, None];
     };
     if datagram.kind == ADSP {

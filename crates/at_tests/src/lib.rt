@@ -11,6 +11,8 @@ mod failing;
 #[cfg(test)]
 mod forged;
 #[cfg(test)]
+mod ignored;
+#[cfg(test)]
 mod lookups;
 #[cfg(test)]
 mod reads;

@@ -78,7 +78,8 @@ fn question<A: Allocator>(rt: &impl Abort, alloc: A) -> Call<A> {
     }
 }
 
-fn give<A: Allocator + Copy>(
+/// Gives a node a step.
+pub(crate) fn give<A: Allocator + Copy>(
     rt: &impl Abort,
     alloc: A,
     node: &mut Node<A>,
@@ -128,8 +129,8 @@ fn sent_in<'a, A: Allocator>(rt: &impl Abort, list: &'a Datagrams<A>) -> &'a [u8
     list.get(0)
 }
 
-// Node 1 is the router, of one request for memory: its table.
-fn node_of<A: Allocator + Copy>(rt: &impl Abort, alloc: A, number: u8) -> Node<A> {
+/// A node of network 10. Node 1 is the router, of one request for memory: its table.
+pub(crate) fn node_of<A: Allocator + Copy>(rt: &impl Abort, alloc: A, number: u8) -> Node<A> {
     let seat = Seat {
         net: 10,
         number,

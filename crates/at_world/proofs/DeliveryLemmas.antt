@@ -110,10 +110,10 @@ stale_there A w which k s ds bytes e is known same when (node, draw, carries, la
 
 -- ---- what is answered
 
-pub delivered : (A : Type 0) (w : WorldState) (which k : ℕ) (s : SentDatagram) (bytes : Bor (List ℕ)) (w' : WorldState)
+pub delivered : (A : Type 0) (w : WorldState) (which k : ℕ) (s : SentDatagram) (bytes : List ℕ) (w' : WorldState)
     (answer : Result (Report A) Fault) → is_over w ≡ false → slice_get w.sent which ≡ Some s → is_for s k ≡ true
     → IsFresh w s → HeardFree w k s.bytes →
-    bytes.now ≡ s.bytes → IfOk answer (λ r. PlaysAt w k (Takes {A = A} (input.Received bytes)) r w')
+    bytes ≡ s.bytes → IfOk answer (λ r. PlaysAt w k (Receives {A = A} bytes) r w')
     → IfOk answer (λ r. IsPlayable {A = A} w (event.Deliver which k) × PlaysDelivery w which k r w')
 delivered A w which k s bytes w' (Err f) runs is for fresh free same played = tt
 delivered A w which k s bytes w' (Ok r) runs is for fresh free same played = (
@@ -136,25 +136,19 @@ delivered A w which k s bytes w' (Ok r) runs is for fresh free same played = (
   },
 )
 
-pub not_delivered : (A : Type 0) (w : WorldState) (which k : ℕ) (s : SentDatagram) (bytes : Bor (List ℕ))
-    (w' : WorldState) (answer : Result (Report A) Fault) → is_over w ≡ false → slice_get w.sent which ≡ Some s
-    → is_for s k ≡ true → IsFresh w s → HeardFree w k s.bytes →
-    bytes.now ≡ s.bytes → IfErr answer (λ f. IsNotTaken {A = A} w k (input.Received bytes) f w')
+-- memory ran out
+pub not_delivered : (A : Type 0) (w : WorldState) (which k : ℕ) (s : SentDatagram) (w' : WorldState)
+    (answer : Result (Report A) Fault) → is_over w ≡ false → slice_get w.sent which ≡ Some s → is_for s k ≡ true
+    → node_refusal (node_at w k) ≡ None → IsFresh w s → HeardFree w k s.bytes
+    → IfErr answer (λ f. (f ≡ fault.NoMemory) × (w'.failed ≡ true) × (w'.sent ≡ w.sent))
     → IfErr answer (λ f. IsFault {A = A} w (event.Deliver which k) f w')
-not_delivered A w which k s bytes w' (Ok r) runs is for fresh free same h = tt
-not_delivered A w which k s bytes w' (Err fault.NoMemory) runs is for fresh free same h = (
-  h.0,
-  h.1,
-  λ whole. record {
-    allowed = for_it A w which k s None runs is for h.2;
-    timely = timely_at A w which k s is fresh free;
-  },
-)
-not_delivered A w which k s bytes w' (Err (fault.Refused Limit)) runs is for fresh free same h =
-    (for_it A w which k s (Some Limit) runs is for h.0, h.1)
-not_delivered A w which k s bytes w' (Err (fault.Refused NoDatagram)) runs is for fresh free same h =
-    (for_it A w which k s (Some NoDatagram) runs is for h.0, h.1)
-not_delivered A w which k s bytes w' (Err (fault.Refused NotForNode)) runs is for fresh free same h =
-    (for_it A w which k s (Some NotForNode) runs is for h.0, h.1)
-not_delivered A w which k s bytes w' (Err (fault.Refused Untimely)) runs is for fresh free same h =
-    ((for_it A w which k s None runs is for h.0, held_there A w which k s bytes.now is same h.1), h.2)
+not_delivered A w which k s w' (Ok r) runs is for there fresh free h = tt
+not_delivered A w which k s w' (Err f) runs is for there fresh free h =
+    subst (λ x. IsFault {A = A} w (event.Deliver which k) x w') (sym h.0) (
+      h.1,
+      h.2,
+      λ whole. record {
+        allowed = for_it A w which k s None runs is for there;
+        timely = timely_at A w which k s is fresh free;
+      },
+    )

@@ -1,18 +1,19 @@
 -- What is stamped with its event: how many there are, and which stands at an index.
-use Rattle.std.proofs.Common.{◌≡◌, ℕ, zero, suc, List, [], ◌∷◌, ◌≤◌, ◌<◌, length, Some, refl, sym, ap, ◌∙◌, arith}
-use Rattle.std.specs.Prelude.{slice_get, nat_le, nat_lt, ◌||◌}
-use Rattle.std.proofs.lemmas.Bool.Decides.{nat_tests}
+use Rattle.std.proofs.Common.{◌≡◌, ℕ, zero, suc, List, [], ◌∷◌, ◌++◌, length, map, replicate, Some, refl, sym, ap, ◌∙◌}
+use Rattle.std.proofs.Common.{arith}
+use Rattle.std.proofs.lemmas.List.{length-append}
+use Rattle.std.specs.Prelude.{slice_get}
 use Rattle.at_ddp.specs.Datagrams.{Posted}
-use Rattle.at_world.specs.Sents.{SentDatagram, stamped}
+use Rattle.at_world.specs.Sents.{SentDatagram, stamp, stamped}
 
-pub length-stamped : (es : List ℕ) (ps : List Posted) → length es ≤ length ps → length (stamped es ps) ≡ length es
+pub length-stamped : (es : List ℕ) (ps : List Posted) → length es ≡ length ps → length (stamped es ps) ≡ length es
 length-stamped [] ps fits = refl
 length-stamped (e ∷ es) [] fits = absurd (omega arith)
 length-stamped (e ∷ es) (p ∷ ps) fits = ap (λ n. suc n) (length-stamped es ps (omega arith))
 
 -- how long a list of what is stamped is
 pub length_in : (items : List SentDatagram) (es : List ℕ) (ps : List Posted) → stamped es ps ≡ items
-    → length es ≤ length ps → length items ≡ length es
+    → length es ≡ length ps → length items ≡ length es
 length_in items es ps is fits = ap (length {A = SentDatagram}) (sym is) ∙ length-stamped es ps fits
 
 stamped_at : (es : List ℕ) (ps : List Posted) (i e : ℕ) (p : Posted) → slice_get es i ≡ Some e → slice_get ps i
@@ -42,7 +43,35 @@ stamped_in items es ps i e to bytes is here node data_ =
           ∙ ap (λ (p : Posted). p.bytes) same,
     )
 
--- whether a world is over, by how many stamps it has
-pub over_by : (events len count : ℕ) → events < 200000 → len ≡ count → nat_lt 868928 len
-    ≡ (nat_le 200000 events || nat_lt 868928 count)
-over_by events len count few same = grind (arith, nat_tests, same)
+-- ---- what an event sent, behind what was sent before
+
+length_replicate : (n event : ℕ) → length (replicate n event) ≡ n
+length_replicate zero event = refl
+length_replicate (suc n) event = ap (λ m. suc m) (length_replicate n event)
+
+stamped_more : (es : List ℕ) (ps out : List Posted) (event : ℕ) → length es ≡ length ps
+    → stamped (es ++ replicate (length out) event) (ps ++ out) ≡ stamped es ps ++ map (stamp event) out
+stamped_more [] [] out event same = all out
+  where
+    all : (out : List Posted) → stamped (replicate (length out) event) out ≡ map (stamp event) out
+    all [] = refl
+    all (p ∷ out) = ap (λ l. stamp event p ∷ l) (all out)
+stamped_more [] (p ∷ ps) out event same = absurd (omega arith)
+stamped_more (e ∷ es) [] out event same = absurd (omega arith)
+stamped_more (e ∷ es) (p ∷ ps) out event same = ap (λ l. stamp e p ∷ l) (stamped_more es ps out event (omega arith))
+
+-- what a list holds that has the datagrams of an event at its end
+pub more_stamped : (es es' : List ℕ) (ps ps' out : List Posted) (count event : ℕ) → length es ≡ length ps
+    → ps' ≡ ps ++ out → count ≡ length out → es' ≡ es ++ replicate count event
+    → (length es' ≡ length ps') × (stamped es' ps' ≡ stamped es ps ++ map (stamp event) out)
+more_stamped es es' ps ps' out count event same list counted stamps = (
+  omega (
+    arith,
+    ap (length {A = ℕ}) stamps,
+    length-append es (replicate count event),
+    length_replicate count event,
+    ap (length {A = Posted}) list,
+    length-append ps out,
+  ),
+  (λ j. stamped ((stamps ∙ ap (λ n. es ++ replicate n event) counted) j) (list j)) ∙ stamped_more es ps out event same,
+)

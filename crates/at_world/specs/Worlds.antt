@@ -81,6 +81,12 @@ holds_some nodes k (Some draw) = list_any (λ n. holds n k draw) nodes
 abbrev pub IsFree : WorldState → ℕ → Draw → Type 0
 IsFree w k draw = holds_some w.nodes k (Some draw) ≡ false
 
+-- under the numbers that a node draws so none of these nodes holds a record or an end
+abbrev pub AreFree : List NodeState → ℕ → (NodeState → Draw → Type 0) → Type 0
+AreFree nodes k D =
+    (n : NodeState) → find (is_numbered k) nodes ≡ Some n → (draw : Draw) → D n draw
+    → holds_some nodes k (Some draw) ≡ false
+
 -- the numbers that a node draws so are free
 abbrev pub DrawsFree : WorldState → ℕ → (NodeState → Draw → Type 0) → Type 0
 DrawsFree w k D = (n : NodeState) → node_at w k ≡ Some n → (draw : Draw) → D n draw → IsFree w k draw
@@ -122,6 +128,15 @@ recorded w k r after out = record {
   nodes = replaced (is_numbered k) after w.nodes;
   sent = w.sent ++ map (stamp w.events) out;
   last = noted w.last k w.events (drawn_by r);
+  events = w.events + 1;
+  failed = false;
+}
+
+-- what some node drew and sent is recorded as that of the next event
+abbrev pub with_event : WorldState → ℕ → Option Draw → List Posted → WorldState
+with_event w k drawn out = record w {
+  sent = w.sent ++ map (stamp w.events) out;
+  last = noted w.last k w.events drawn;
   events = w.events + 1;
   failed = false;
 }

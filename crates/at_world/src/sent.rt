@@ -1,7 +1,7 @@
 //! The datagrams that were sent, numbered from 0, each with the event that sent it.
-ghost use Rattle.std.specs.Prelude.{◌≡◌, ◌<◌, ◌≤◌, ◌-◌, ◌++◌, length, take, replicate, slice_get, Some, [], OnOk};
-ghost use Rattle.std.specs.Prelude.{OnErr};
-ghost use Rattle.at_world.specs.Sents.{SentDatagram, stamped};
+ghost use Rattle.std.specs.Prelude.{◌≡◌, ◌<◌, ◌≤◌, ◌+◌, ◌++◌, length, map, replicate, slice_get, Some, [], OnOk, OnErr};
+ghost use Rattle.std.specs.Prelude.{vec_capacity, vec_len};
+ghost use Rattle.at_world.specs.Sents.{SentDatagram, stamp};
 
 use at_ddp::Datagrams;
 use std::alloc::{AllocError, Allocator, Global};
@@ -21,20 +21,19 @@ pub struct Sent<'a> {
 #[derive(Drop)]
 pub struct SentList<A: Allocator = Global> {
     list: Datagrams<A>,
-    // The event that sent each datagram. The list may have more datagrams, if memory ran out for this; those do not
-    // count.
+    // The event that sent each datagram.
     events: Vec<u32, A>,
 }
 
 impl<A: Allocator> Model for SentList<A> {
-    ghost use Rattle.std.specs.Prelude.{◌≤◌, List, length};
+    ghost use Rattle.std.specs.Prelude.{◌≡◌, List, length};
     ghost use Rattle.at_world.specs.Sents.{SentDatagram, stamped};
 
     ghost Value = { List SentDatagram };
 
     ghost view = { λ s. stamped s.events.items s.list.items };
 
-    ghost invariant = { λ s. length s.events.items ≤ length s.list.items };
+    ghost invariant = { λ s. length s.events.items ≡ length s.list.items };
 }
 
 impl<A: Allocator + Copy> SentList<A> {
@@ -49,13 +48,6 @@ impl<A: Allocator + Copy> SentList<A> {
 }
 
 impl<A: Allocator> SentList<A> {
-    pub(crate) fn of(list: Datagrams<A>, events: Vec<u32, A>) -> SentList<A>
-        requires { length events.items ≤ length list.items }
-        ensures { result ≡ stamped events.items list.items }
-    {
-        SentList { list, events }
-    }
-
     pub fn len(&self) -> usize
         ensures { result ≡ length self.now }
     {
@@ -73,37 +65,27 @@ impl<A: Allocator> SentList<A> {
             bytes: self.list.get(index),
         }
     }
-}
 
-// Stamps the datagrams without a stamp, up to `count` in all. If memory runs out, none is stamped.
-pub(crate) fn stamp_all<A: Allocator>(
-    stamps: &mut Vec<u32, A>,
-    count: usize,
-    event: u32,
-) -> Result<(), AllocError>
-    requires { length stamps.old.items ≤ count }
-    ensures ok { OnOk result
-        (stamps.new.items ≡ stamps.old.items ++ replicate (count - length stamps.old.items) event) }
-    ensures kept { OnErr result (stamps.new.items ≡ stamps.old.items) }
-{
-    let before = stamps.len();
-    let stamped = push_all(stamps, count - before, event);
-    if stamped.is_err() {
-        stamps.truncate(before);
+    // Moves what an event sent to the end. If memory runs out, nothing is added.
+    pub(crate) fn append(&mut self, out: &mut Datagrams<A>, event: u32) -> Result<(), AllocError>
+        ensures ok { OnOk result
+            ((self.new ≡ self.old ++ map (stamp event) out.old.items) × (out.new.items ≡ [])) }
+        ensures err { OnErr result (self.new ≡ self.old) }
+    {
+        let count = out.len();
+        self.events.reserve(count)?;
+        self.list.append(out)?;
+        push_all(&mut self.events, count, event);
+        Ok(())
     }
-    stamped
 }
 
-fn push_all<A: Allocator>(
-    stamps: &mut Vec<u32, A>,
-    count: usize,
-    event: u32,
-) -> Result<(), AllocError>
-    ensures ok { OnOk result (stamps.new.items ≡ stamps.old.items ++ replicate count event) }
-    ensures kept { take (length stamps.old.items) stamps.new.items ≡ stamps.old.items }
+// Appends a stamp so many times. The list has room for them.
+fn push_all<A: Allocator>(stamps: &mut Vec<u32, A>, count: usize, event: u32)
+    requires { vec_len stamps.old + count ≤ vec_capacity stamps.old }
+    ensures { stamps.new.items ≡ stamps.old.items ++ replicate count event }
 {
     for _i in 0..count {
-        stamps.push(event)?;
+        stamps.push(event).unwrap();
     }
-    Ok(())
 }

@@ -33,6 +33,6 @@ fn give<A: Allocator + Copy>(
     match input {
         Input::Call(call) => node.call(call, out),
         Input::Timer(timer) => node.timer(*timer, out),
-        Input::Received(bytes) => node.receive(&mut Deferring, bytes, out),
+        Input::Received(received) => node.hear(&mut Deferring, received, out),
     }
 }

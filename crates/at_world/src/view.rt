@@ -18,7 +18,7 @@ impl<A: Allocator + Copy> World<A> {
     pub fn sent_count(&self) -> usize
         ensures { result ≡ length self.now.sent }
     {
-        self.stamps.len()
+        self.sent.len()
     }
 
     /// The datagram of a number. Datagrams are numbered from 0 in the order of sending.
@@ -27,10 +27,6 @@ impl<A: Allocator + Copy> World<A> {
         ensures { (s : SentDatagram) × (slice_get self.now.sent number ≡ Some s) × (result.event ≡ s.event)
             × (result.to ≡ s.to) × (result.bytes.now ≡ s.bytes) }
     {
-        Sent {
-            event: self.stamps[number],
-            to: self.datagrams.node(number),
-            bytes: self.datagrams.get(number),
-        }
+        self.sent.get(number)
     }
 }

@@ -1,27 +1,29 @@
 //! The world: its nodes, all that they sent, and the step that plays one event or says why not.
-ghost use Rattle.std.specs.Prelude.{◌≡◌, Err, ◌==◌, ◌||◌, IfOk, IfErr, IsOk, IsErr, OnOk, OnErr, None, false, true};
-ghost use Rattle.std.specs.Prelude.{◌≤◌, ◌-◌, ◌++◌, length, replicate};
-ghost use Rattle.at_node.specs.Numbers.{Draws, drawn_by};
+ghost use Rattle.std.specs.Prelude.{◌≡◌, Err, ◌==◌, ◌||◌, IfOk, IfErr, IsOk, IsErr, OnOk, OnErr, None, Some, false};
+ghost use Rattle.std.specs.Prelude.{true};
 ghost use Rattle.at_world.specs.Draws.{noted};
+ghost use Rattle.std.specs.List.{position_from};
+ghost use Rattle.at_node.specs.Numbers.{Draws, drawn_by};
 ghost use Rattle.at_world.specs.Plays.{opening_world};
 ghost use Rattle.at_world.specs.Safety.{AreWithin, IsSafe};
-ghost use Rattle.at_world.specs.Worlds.{DrawsFree, IsNotTaken, IsPlayable, Plays, PlaysAt};
+ghost use Rattle.at_world.specs.Worlds.{AreFree, DrawsFree, IsNotTaken, IsPlayable, Plays, PlaysAt};
 ghost use Rattle.at_world.specs.Worlds.{PlaysDelivery, Takes, IsFault, Refuses, refusal, refusal_at, node_refusal};
-ghost use Rattle.at_world.specs.Worlds.{node_at, is_over};
+ghost use Rattle.at_world.specs.Worlds.{node_at, is_numbered, is_over, with_event};
 
 use crate::draws::LastDraws;
 use crate::opening::opening_nodes;
 use crate::places::{is_held, place_of};
 use crate::refusal::{Fault, Refusal};
-use crate::sent::{SentList, stamp_all};
+use crate::sent::SentList;
 use crate::taking::take;
 use crate::timely::is_fresh;
-use at_ddp::{Bytes, Datagrams};
+use at_ddp::{Datagrams, Received};
 use at_node::{Draw, Input, Node, Report};
 use at_setup::{Event, Setup};
 use at_steps::laws::safety::every_event_is_safe;
 use std::alloc::{AllocError, Allocator};
 use std::marker::Model;
+use std::mem;
 
 /// The most events that are played.
 const MAX_EVENTS: u32 = 200_000;
@@ -34,17 +36,16 @@ const MAX_DATAGRAMS: usize = 868_928;
 pub struct World<A: Allocator> {
     alloc: A,
     nodes: Vec<Node<A>, A>,
-    pub(crate) datagrams: Datagrams<A>,
-    // The event that sent each datagram. If the world failed, those of its last event may be missing.
-    pub(crate) stamps: Vec<u32, A>,
+    // An empty list, whose room is used again by each event.
+    out: Datagrams<A>,
+    pub(crate) sent: SentList<A>,
     last: LastDraws<A>,
     pub(crate) events: u32,
     failed: bool,
 }
 
 impl<A: Allocator> Model for World<A> {
-    ghost use Rattle.std.specs.Prelude.{◌≡◌, ◌≤◌, length, false};
-    ghost use Rattle.at_world.specs.Sents.{stamped};
+    ghost use Rattle.std.specs.Prelude.{◌≡◌, []};
     ghost use Rattle.at_world.specs.Safety.{AreWithin};
     ghost use Rattle.at_world.specs.Worlds.{WorldState};
 
@@ -52,15 +53,14 @@ impl<A: Allocator> Model for World<A> {
 
     ghost view = { λ w. record {
       nodes = w.nodes.items;
-      sent = stamped w.stamps.items w.datagrams.items;
+      sent = w.sent;
       last = w.last;
       events = w.events;
       failed = w.failed;
     } };
 
     // Each node keeps to its limits.
-    ghost invariant = { λ w. (length w.stamps.items ≤ length w.datagrams.items)
-        × (w.failed ≡ false → length w.stamps.items ≡ length w.datagrams.items) × AreWithin w.nodes.items };
+    ghost invariant = { λ w. (w.out.items ≡ []) × AreWithin w.nodes.items };
 }
 
 impl<A: Allocator + Copy> World<A> {
@@ -72,8 +72,8 @@ impl<A: Allocator + Copy> World<A> {
         Ok(World {
             alloc,
             nodes,
-            datagrams: Datagrams::new(alloc),
-            stamps: Vec::new(alloc),
+            out: Datagrams::new(alloc),
+            sent: SentList::new(alloc),
             last: LastDraws::new(alloc),
             events: 0,
             failed: false,
@@ -83,7 +83,7 @@ impl<A: Allocator + Copy> World<A> {
     pub(crate) fn into_sent(self) -> SentList<A>
         ensures { result ≡ self.sent }
     {
-        SentList::of(self.datagrams, self.stamps)
+        self.sent
     }
 
     /// Plays an event, or says why not. A world that ran out of memory has failed, and plays no more events.
@@ -128,14 +128,16 @@ impl<A: Allocator + Copy> World<A> {
             }
             Event::Deliver { which, node } => self.deliver(*which, *node),
             Event::Timer { node, timer } => self.play(*node, &Input::Timer(*timer)),
-            Event::Forge { node, bytes } => self.play(*node, &Input::Received(bytes.as_slice())),
+            Event::Forge { node, bytes } => {
+                self.play(*node, &Input::Received(&Received::of(bytes.as_slice())))
+            }
         }
     }
 
     fn is_over(&self) -> bool
         ensures { result ≡ is_over self.now }
     {
-        self.events >= MAX_EVENTS || self.stamps.len() > MAX_DATAGRAMS
+        self.events >= MAX_EVENTS || self.sent.len() > MAX_DATAGRAMS
     }
 
     // A node takes an input, unless it would draw a number under which some node still holds a record or an end.
@@ -149,37 +151,15 @@ impl<A: Allocator + Copy> World<A> {
         let Some(place) = place_of(&self.nodes, node) else {
             return Err(Fault::Refused(Refusal::NotForNode));
         };
-        if self.draws_held(node, input) {
+        if draws_held(&self.nodes, place, node, input) {
             return Err(Fault::Refused(Refusal::Untimely));
         }
-        let report = take(&mut self.nodes[place], input, &mut self.datagrams);
-        let count = self.datagrams.len();
-        let drawn = drawn_by(&report);
-        let booked = book(
-            &mut self.stamps,
-            &mut self.last,
-            count,
-            node,
-            drawn,
-            self.events,
-        );
-        self.failed = booked.is_err();
-        self.events += 1;
-        kept(booked, report)
+        let mut out = mem::replace(&mut self.out, Datagrams::new(self.alloc));
+        let report = take(&mut self.nodes[place], input, &mut out);
+        self.finish(node, report, out)
     }
 
-    // Whether a node would draw a number under which some node still holds a record or an end.
-    fn draws_held(&self, node: u8, input: &Input<'_, A>) -> bool
-        ensures held { result ≡ true → ¬ DrawsFree self.now node (λ n draw. Draws n input.now draw) }
-        ensures free { result ≡ false → DrawsFree self.now node (λ n draw. Draws n input.now draw) }
-    {
-        let Some(place) = place_of(&self.nodes, node) else {
-            return false;
-        };
-        let draw = self.nodes[place].draw_of(input);
-        is_held(&self.nodes, node, draw)
-    }
-
+    // The bytes that come stay where they lie, since what the node sends goes to a list of its own first.
     fn deliver(&mut self, which: u64, node: u8) -> Result<Report<A>, Fault>
         requires whole { self.old.failed ≡ false }
         requires runs { is_over self.old ≡ false }
@@ -188,29 +168,85 @@ impl<A: Allocator + Copy> World<A> {
         ensures not_played { IfErr result
             (λ fault. IsFault {A = A} self.old (Event.Deliver which node) fault self.new) }
     {
-        if which >= self.stamps.len() as u64 {
+        if which >= self.sent.len() as u64 {
             return Err(Fault::Refused(Refusal::NoDatagram));
         }
-        let which = which as usize;
-        if !is_for(self.datagrams.node(which), node) {
+        let sent = self.sent.get(which as usize);
+        if !is_for(sent.to, node) {
             return Err(Fault::Refused(Refusal::NotForNode));
         }
-        if place_of(&self.nodes, node).is_none() {
+        let Some(place) = place_of(&self.nodes, node) else {
             return Err(Fault::Refused(Refusal::NotForNode));
-        }
-        if !is_fresh(&self.last, self.datagrams.get(which), self.stamps[which]) {
-            return Err(Fault::Refused(Refusal::Untimely));
-        }
-        if self.draws_held(node, &Input::Received(self.datagrams.get(which))) {
-            return Err(Fault::Refused(Refusal::Untimely));
-        }
-        // The bytes are copied, since what the node sends may move the list that they lie in.
-        let Ok(bytes) = Bytes::copy_of(self.alloc, self.datagrams.get(which)) else {
-            self.failed = true;
-            return Err(Fault::NoMemory);
         };
-        self.play(node, &Input::Received(bytes.as_slice()))
+        let received = Received::of(sent.bytes);
+        if !is_fresh(&self.last, &received, sent.event) {
+            return Err(Fault::Refused(Refusal::Untimely));
+        }
+        let input = Input::Received(&received);
+        if draws_held(&self.nodes, place, node, &input) {
+            return Err(Fault::Refused(Refusal::Untimely));
+        }
+        let mut out = mem::replace(&mut self.out, Datagrams::new(self.alloc));
+        let report = take(&mut self.nodes[place], &input, &mut out);
+        self.finish(node, report, out)
     }
+
+    // Records what a node drew and sent at an event. If memory runs out, the world has failed.
+    fn finish(&mut self, node: u8, report: Report<A>, out: Datagrams<A>) -> Result<Report<A>, Fault>
+        requires { is_over self.old ≡ false }
+        ensures recorded { IfOk result (λ r. (r ≡ report)
+            × (self.new ≡ with_event self.old node (drawn_by report) out.items)) }
+        ensures failed { IfErr result (λ fault. (fault ≡ Fault.NoMemory) × (self.new.failed ≡ true)
+            × (self.new.sent ≡ self.old.sent)) }
+    {
+        let recorded = self.record(node, drawn_by(&report), out);
+        self.failed = recorded.is_err();
+        kept(recorded, report)
+    }
+
+    fn record(&mut self, node: u8, drawn: Option<Draw>, out: Datagrams<A>) -> Result<(), AllocError>
+        requires { is_over self.old ≡ false }
+        ensures recorded { OnOk result
+            (record self.new { failed = false } ≡ with_event self.old node drawn out.items) }
+        ensures kept { OnErr result (self.new.sent ≡ self.old.sent) }
+    {
+        let mut out = out;
+        note(&mut self.last, node, drawn, self.events)?;
+        self.sent.append(&mut out, self.events)?;
+        self.out = out;
+        self.events += 1;
+        Ok(())
+    }
+}
+
+// Records the number that an event drew, if it drew one.
+fn note<A: Allocator + Copy>(
+    last: &mut LastDraws<A>,
+    node: u8,
+    drawn: Option<Draw>,
+    event: u32,
+) -> Result<(), AllocError>
+    ensures { OnOk result (last.new ≡ noted last.old node event drawn) }
+{
+    match drawn {
+        Some(draw) => last.note(node, draw, event),
+        None => Ok(()),
+    }
+}
+
+// Whether the node of a number, at its place, would draw a number under which some node still holds a record or an end.
+fn draws_held<A: Allocator + Copy>(
+    nodes: &[Node<A>],
+    place: usize,
+    node: u8,
+    input: &Input<'_, A>,
+) -> bool
+    requires { position_from (is_numbered node) 0 nodes.now ≡ Some place }
+    ensures held { result ≡ true → ¬ AreFree nodes.now node (λ n draw. Draws n input.now draw) }
+    ensures free { result ≡ false → AreFree nodes.now node (λ n draw. Draws n input.now draw) }
+{
+    let draw = nodes[place].draw_of(input);
+    is_held(nodes, node, draw)
 }
 
 // The number that a node drew, if this is its report.
@@ -225,33 +261,15 @@ fn drawn_by<A: Allocator>(report: &Report<A>) -> Option<Draw>
     }
 }
 
-// Records what an event drew and sent. If memory runs out, nothing that it sent is stamped.
-fn book<A: Allocator + Copy>(
-    stamps: &mut Vec<u32, A>,
-    last: &mut LastDraws<A>,
-    count: usize,
-    node: u8,
-    drawn: Option<Draw>,
-    event: u32,
-) -> Result<(), AllocError>
-    requires { length stamps.old.items ≤ count }
-    ensures drawn { OnOk result (last.new ≡ noted last.old node event drawn) }
-    ensures stamped { OnOk result
-        (stamps.new.items ≡ stamps.old.items ++ replicate (count - length stamps.old.items) event) }
-    ensures kept { OnErr result (stamps.new.items ≡ stamps.old.items) }
-{
-    if let Some(draw) = drawn {
-        last.note(node, draw, event)?;
-    }
-    stamp_all(stamps, count, event)
-}
-
 // The report, unless memory ran out for the record of what was drawn and sent.
-fn kept<A: Allocator>(booked: Result<(), AllocError>, report: Report<A>) -> Result<Report<A>, Fault>
-    ensures ok { IfOk result (λ r. (r ≡ report) × IsOk booked) }
-    ensures err { IfErr result (λ fault. (fault ≡ Fault.NoMemory) × IsErr booked) }
+fn kept<A: Allocator>(
+    recorded: Result<(), AllocError>,
+    report: Report<A>,
+) -> Result<Report<A>, Fault>
+    ensures ok { IfOk result (λ r. (r ≡ report) × IsOk recorded) }
+    ensures err { IfErr result (λ fault. (fault ≡ Fault.NoMemory) × IsErr recorded) }
 {
-    match booked {
+    match recorded {
         Ok(()) => Ok(report),
         Err(AllocError) => Err(Fault::NoMemory),
     }

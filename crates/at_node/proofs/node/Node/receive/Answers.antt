@@ -1,39 +1,4 @@
-use Rattle.std.proofs.Common.{inl, inr, refl, ◌∙◌}
-use Rattle.at_ddp.specs.Datagram.{content}
-use Rattle.at_node.specs.Hearing.{Hears, HearsIt}
-use Rattle.at_event.specs.declared.service.Reply.TheVariants.{Later}
-use Rattle.at_node.proofs.OutcomeLemmas.{ddp_number, comes_refused, comes_wider}
-use Rattle.at_node.proofs.ResponderLemmas.{not_served}
 use Rattle.at_node.proofs.node.Node.receive.Goals as goal
 
-pub returns-in-Err : goal.returns-in-Err
-returns-in-Err g c =
-    let number = ddp_number c.in-Err.fault c.args.bytes.now c.in-Err.ensures.fault in (
-      Later,
-      comes_refused (Hears Later c.args.self.now c.args.bytes.now) c.args.self.now c.args.out.now.items
-          c.refused.result c.number.result number.0 (c.number.ensures ∙ number.1) c.refused.ensures.report
-          (inr (record {
-            fault = c.in-Err.fault;
-            number = number.0;
-            first = c.in-Err.ensures.fault;
-            numbered = number.1;
-            outcome = refl;
-          })),
-      not_served _ c.refused.result Later c.args.service.now c.refused.ensures.not_asked,
-    )
-
-pub returns-in-Ok : goal.returns-in-Ok
-returns-in-Ok g c =
-    let r = c.hear.ensures in (
-      r.0,
-      comes_wider (HearsIt r.0 c.args.self.now (content c.in-Ok.datagram))
-          (Hears r.0 c.args.self.now c.args.bytes.now) c.args.self.now c.args.out.now.items c.hear.result
-          c.hear.new.self c.hear.new.out.items
-          (λ o p. inl (record {
-            datagram = content c.in-Ok.datagram;
-            rest = c.in-Ok.field-0-1.now;
-            begins = c.in-Ok.ensures.found;
-            outcome = p;
-          })) r.1,
-      r.2,
-    )
+pub returns : goal.returns
+returns g c = rw c.of.ensures at c.hear.ensures

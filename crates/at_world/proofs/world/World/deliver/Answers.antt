@@ -1,194 +1,172 @@
-use Rattle.std.proofs.Common.{◌≡◌, ◌∙◌, ◌<◌, length, get_or, true, false, sym, ap, subst, refl, arith}
-use Rattle.std.proofs.lemmas.Bool.{true≢false}
-use Rattle.std.proofs.lemmas.Option.{slice_get-get_or}
-use Rattle.at_world.specs.Sents.{SentDatagram, stamped}
-use Rattle.at_world.specs.Worlds.{WorldState, is_for}
-use Rattle.at_world.proofs.DeliveryLemmas.{HeardFree, timely_at, held_there, not_sent, not_for, for_it, for_same}
-use Rattle.at_world.proofs.DeliveryLemmas.{misses, hits, one, fresh_there, stale_there, delivered, not_delivered}
-use Rattle.at_world.proofs.SentLemmas.{length_in, stamped_in}
+use Rattle.std.proofs.Common.{rules, ◌≡◌, ◌∙◌, ◌≤◌, [], List, ℕ, None, Some, false, length, sym, ap, refl, subst, arith, true}
+use Rattle.std.specs.Prelude.{nat_le, nat_lt, ◌||◌, slice_get, IfErr}
+use Rattle.std.specs.List.{position_from}
+use Rattle.at_ddp.specs.Datagrams.{Posted}
+use Rattle.at_ddp.proofs.Alls.{all_replaced}
+use Rattle.at_ddp.proofs.TableLemmas.{Found, found_by, none_by}
+use Rattle.at_node.specs.Limits.{IsWithin}
+use Rattle.at_node.specs.Nodes.{NodeState}
+use Rattle.at_node.specs.Numbers.{DrawsHearing}
+use Rattle.at_world.specs.Safety.{AreWithin}
+use Rattle.at_world.specs.Sents.{SentDatagram}
+use Rattle.at_world.specs.Worlds.{AreFree, IsFresh, Receives, WorldState, is_for, is_numbered, node_at, node_refusal}
+use Rattle.at_world.specs.declared.refusal.Fault.TheVariants as fault
+use Rattle.at_world.proofs.DeliveryLemmas.{HeardFree, delivered, for_it, for_same, fresh_there, held_there, not_delivered}
+use Rattle.at_world.proofs.DeliveryLemmas.{not_sent, stale_there}
+use Rattle.at_world.proofs.WorldLemmas.{node_stands, none_stands, one_stands, recorded_by, taken}
+use Rattle.at_world.proofs.world.World.deliver.Given.{Over}
+use Rattle.at_world.proofs.world.World.deliver.Goals.{After-get-sent, In-Some}
 use Rattle.at_world.proofs.world.World.deliver.Goals as goal
 
+-- the datagram that is to be delivered
+sent_there : (g : Over) (c : After-get-sent g) → (s : SentDatagram)
+    × (slice_get c.args.self.now.sent c.args.which ≡ Some s) × (c.get-sent.result.event ≡ s.event)
+    × (c.get-sent.result.to ≡ s.to) × (c.get-sent.result.bytes.now ≡ s.bytes)
+sent_there g c = subst (λ (w : WorldState). (s : SentDatagram) × (slice_get w.sent c.args.which ≡ Some s)
+    × (c.get-sent.result.event ≡ s.event) × (c.get-sent.result.to ≡ s.to) × (c.get-sent.result.bytes.now ≡ s.bytes))
+    c.self.view_is c.get-sent.ensures
+
+-- the node stands at the place
+stands_there : (g : Over) (c : In-Some g) → Found (is_numbered c.args.node) c.self.inside.nodes.items c.in-Some.place
+stands_there g c = found_by (is_numbered c.args.node) c.self.inside.nodes.items c.deref.result.now c.place_of.result
+    c.in-Some.place c.deref.ensures.value c.place_of.ensures c.in-Some.is
+
+there : (g : Over) (c : In-Some g) → node_refusal (node_at c.args.self.now c.args.node) ≡ None
+there g c =
+    let f = stands_there g c in
+    one_stands c.args.self.now c.args.node f.entry
+    (node_stands c.args.self.now c.args.node c.self.inside.nodes.items c.in-Some.place f.entry
+    (ap (λ (w : WorldState). w.nodes) c.self.view_is) f refl)
+
+-- it is for this node
+for_there : (g : Over) (c : In-Some g) (s : SentDatagram) → c.get-sent.result.to ≡ s.to
+    → is_for s c.args.node ≡ true
+for_there g c s same = sym (c.if-not-is_for.ensures ∙ for_same s c.get-sent.result.to c.args.node same)
+
 pub returns-then-which-len-clause-not_played : goal.returns-then-which-len-clause-not_played
-returns-then-which-len-clause-not_played g c =
-    let len = length_in (stamped c.self.inside.stamps.items c.self.inside.datagrams.items) c.self.inside.stamps.items
-    c.self.inside.datagrams.items refl c.self.invariant.0 in
-    let past = c.if-which-len.true in (
-      not_sent g.row.A.Denot c.args.self.now c.args.which c.args.node c.requires.runs
-          (omega (
-            arith,
-            len,
-            ap (λ (w : WorldState). length w.sent) c.self.view_is,
-            c.len.ensures,
-            c.self.inside.stamps.ok.0,
-            past,
-          )),
+returns-then-which-len-clause-not_played g c = (
+  not_sent g.row.A.Denot c.args.self.now c.args.which c.args.node c.requires.runs
+      (omega (
+        arith,
+        ap (λ (w : WorldState). length w.sent) c.self.view_is,
+        c.len.ensures,
+        c.if-which-len.true,
+      )),
+  refl,
+)
+
+pub returns-in_default-clause-not_played : goal.returns-in_default-clause-not_played
+returns-in_default-clause-not_played g c =
+    let s = sent_there g (goal.at.returns-in_default-clause-not_played g c).After-get-sent in
+    let for : is_for s.0 c.args.node
+    ≡ true = sym (c.if-not-is_for.ensures ∙ for_same s.0 c.get-sent.result.to c.args.node s.3) in
+    let none = none_by (is_numbered c.args.node) c.self.inside.nodes.items c.deref.result.now c.place_of.result
+    c.deref.ensures.value c.place_of.ensures c.in_default.is in (
+      for_it g.row.A.Denot c.args.self.now c.args.which c.args.node s.0 _ c.requires.runs s.1 for
+          (none_stands c.args.self.now c.args.node c.self.inside.nodes.items
+          (ap (λ (w : WorldState). w.nodes) c.self.view_is) none),
       refl,
     )
 
-pub returns-then-not-is_for-clause-not_played : goal.returns-then-not-is_for-clause-not_played
-returns-then-not-is_for-clause-not_played g c =
-    let es = c.self.inside.stamps.items in
-    let ps = c.self.inside.datagrams.items in
-    let lt : c.args.which < length es = omega (arith, c.len.ensures, c.self.inside.stamps.ok.0, c.if-which-len.false) in
-    let here = slice_get-get_or es c.args.which 0 lt in
-    let s = stamped_in c.args.self.now.sent es ps c.args.which
-    (get_or es c.args.which 0) c.node.result c.node.ensures.0.bytes
-    (ap (λ (w : WorldState). w.sent) c.self.view_is) here c.node.ensures
-    (c.node.ensures.0, c.node.ensures.1, refl) in
-    let for : is_for s.0 c.args.node
-    ≡ false = sym (c.if-not-is_for.ensures ∙ for_same s.0 c.node.result c.args.node s.3) in
-    (not_for g.row.A.Denot c.args.self.now c.args.which c.args.node s.0 c.requires.runs s.1 for, refl)
-
-pub returns-then-is_none-clause-not_played : goal.returns-then-is_none-clause-not_played
-returns-then-is_none-clause-not_played g c =
-    let es = c.self.inside.stamps.items in
-    let ps = c.self.inside.datagrams.items in
-    let lt : c.args.which < length es = omega (arith, c.len.ensures, c.self.inside.stamps.ok.0, c.if-which-len.false) in
-    let here = slice_get-get_or es c.args.which 0 lt in
-    let s = stamped_in c.args.self.now.sent es ps c.args.which
-    (get_or es c.args.which 0) c.node.result c.node.ensures.0.bytes
-    (ap (λ (w : WorldState). w.sent) c.self.view_is) here c.node.ensures
-    (c.node.ensures.0, c.node.ensures.1, refl) in
-    let for : is_for s.0 c.args.node
-    ≡ true = sym (c.if-not-is_for.ensures ∙ for_same s.0 c.node.result c.args.node s.3) in
-    let none = misses c.args.self.now c.args.node c.self.inside.nodes.items c.deref.result.now c.place_of.result
-    c.is_none.result (ap (λ (w : WorldState). w.nodes) c.self.view_is) c.deref.ensures.value c.place_of.ensures
-    c.is_none.ensures c.if-is_none.true in
-    (for_it g.row.A.Denot c.args.self.now c.args.which c.args.node s.0 _ c.requires.runs s.1 for none, refl)
-
 pub returns-then-not-is_fresh-clause-not_played : goal.returns-then-not-is_fresh-clause-not_played
 returns-then-not-is_fresh-clause-not_played g c =
-    let es = c.self.inside.stamps.items in
-    let ps = c.self.inside.datagrams.items in
-    let lt : c.args.which < length es = omega (arith, c.len.ensures, c.self.inside.stamps.ok.0, c.if-which-len.false) in
-    let here = slice_get-get_or es c.args.which c.index.result.now lt in
-    let s = stamped_in c.args.self.now.sent es ps c.args.which
-    (get_or es c.args.which c.index.result.now) c.node.result c.get.result.now
-    (ap (λ (w : WorldState). w.sent) c.self.view_is) here c.node.ensures c.get.ensures in
-    let for : is_for s.0 c.args.node
-    ≡ true = sym (c.if-not-is_for.ensures ∙ for_same s.0 c.node.result c.args.node s.3) in
-    let some = hits c.args.self.now c.args.node c.self.inside.nodes.items c.deref.result.now c.place_of.result
-    c.is_none.result (ap (λ (w : WorldState). w.nodes) c.self.view_is) c.deref.ensures.value c.place_of.ensures
-    c.is_none.ensures c.if-is_none.false in
+    let at = (goal.at.returns-then-not-is_fresh-clause-not_played g c).In-Some in
+    let s = sent_there g (goal.at.returns-then-not-is_fresh-clause-not_played g c).After-get-sent in
     let stale = stale_there g.row.A.Denot c.args.self.now c.args.which c.args.node s.0 c.self.inside.last
-    c.get.result.now c.index.result.now s.1 (ap (λ (w : WorldState). w.last) c.self.view_is) s.4
-    (c.index.ensures ∙ s.2) (c.is_fresh.ensures.stale c.if-not-is_fresh.true) in
-    ((for_it g.row.A.Denot c.args.self.now c.args.which c.args.node s.0 _ c.requires.runs s.1 for some, stale), refl)
-
-pub returns-then-draws_held-clause-not_played : goal.returns-then-draws_held-clause-not_played
-returns-then-draws_held-clause-not_played g c =
-    let es = c.self.inside.stamps.items in
-    let ps = c.self.inside.datagrams.items in
-    let lt : c.args.which < length es = omega (arith, c.len.ensures, c.self.inside.stamps.ok.0, c.if-which-len.false) in
-    let here = slice_get-get_or es c.args.which c.index.result.now lt in
-    let s = stamped_in c.args.self.now.sent es ps c.args.which
-    (get_or es c.args.which c.index.result.now) c.node.result c.get-2.result.now
-    (ap (λ (w : WorldState). w.sent) c.self.view_is) here c.node.ensures c.get-2.ensures in
-    let for : is_for s.0 c.args.node
-    ≡ true = sym (c.if-not-is_for.ensures ∙ for_same s.0 c.node.result c.args.node s.3) in
-    let some = hits c.args.self.now c.args.node c.self.inside.nodes.items c.deref.result.now c.place_of.result
-    c.is_none.result (ap (λ (w : WorldState). w.nodes) c.self.view_is) c.deref.ensures.value c.place_of.ensures
-    c.is_none.ensures c.if-is_none.false in (
+    c.of-received.result c.get-sent.result.event s.1 (ap (λ (w : WorldState). w.last) c.self.view_is)
+    (c.of-received.ensures ∙ s.4) s.2 (c.is_fresh.ensures.stale c.if-not-is_fresh.true) in (
       (
-        for_it g.row.A.Denot c.args.self.now c.args.which c.args.node s.0 _ c.requires.runs s.1 for some,
-        held_there
-            g.row.A.Denot c.args.self.now c.args.which c.args.node s.0 c.get-2.result.now s.1 s.4
-            (c.draws_held.ensures.held c.if-draws_held.true),
+        for_it g.row.A.Denot c.args.self.now c.args.which c.args.node s.0 _ c.requires.runs s.1 (for_there g at s.0 s.3)
+            (there g at),
+        stale,
       ),
       refl,
     )
 
-pub get-requires-3 : goal.get-requires-3
-get-requires-3 g c = omega (arith, c.self.invariant.0, c.len.ensures, c.self.inside.stamps.ok.0, c.if-which-len.false)
+pub draws_held-requires : goal.draws_held-requires
+draws_held-requires g c =
+    ap (position_from (is_numbered c.args.node) 0) (c.deref-2.ensures.value ∙ sym c.deref.ensures.value)
+    ∙ sym c.place_of.ensures ∙ c.in-Some.is
+
+pub returns-then-draws_held-clause-not_played : goal.returns-then-draws_held-clause-not_played
+returns-then-draws_held-clause-not_played g c =
+    let at = (goal.at.returns-then-draws_held-clause-not_played g c).In-Some in
+    let s = sent_there g (goal.at.returns-then-draws_held-clause-not_played g c).After-get-sent in
+    let same = c.deref-2.ensures.value ∙ ap (λ (w : WorldState). w.nodes) c.self.view_is in
+    let held = subst (λ l. ¬ AreFree l c.args.node (λ n draw. DrawsHearing n c.of-received.result draw)) same
+    (c.draws_held.ensures.held c.if-draws_held.true) in (
+      (
+        for_it g.row.A.Denot c.args.self.now c.args.which c.args.node s.0 _ c.requires.runs s.1 (for_there g at s.0 s.3)
+            (there g at),
+        held_there g.row.A.Denot c.args.self.now c.args.which c.args.node s.0 c.of-received.result s.1
+            (c.of-received.ensures ∙ s.4) held,
+      ),
+      refl,
+    )
+
+pub index_mut-requires : goal.index_mut-requires
+index_mut-requires g c =
+    let f = stands_there g (goal.at.index_mut-requires g c).In-Some in
+    omega (arith, f.within, c.self.inside.nodes.ok.0)
+
+pub invariant_of-self : goal.invariant_of-self
+invariant_of-self g c =
+    let f = stands_there g (goal.at.invariant_of-self g c).In-Some in
+    let empty : c.replace-out.new.dest.items ≡ [] = search rules in (
+      empty,
+      subst AreWithin (f.set_is c.take-report.new.node)
+          (all_replaced IsWithin (is_numbered c.args.node) c.take-report.new.node c.self.inside.nodes.items
+          c.self.invariant.1 c.take-report.ensures.within),
+    )
+
+pub finish-requires : goal.finish-requires
+finish-requires g c =
+    ap (λ (w : WorldState). nat_le 200000 w.events || nat_lt 868928 (length w.sent)) c.self.view_is ∙ c.requires.runs
 
 pub returns-clause-played : goal.returns-clause-played
 returns-clause-played g c =
-    let es = c.self.inside.stamps.items in
-    let ps = c.self.inside.datagrams.items in
-    let lt : c.args.which < length es = omega (arith, c.len.ensures, c.self.inside.stamps.ok.0, c.if-which-len.false) in
-    let here = slice_get-get_or es c.args.which c.index.result.now lt in
-    let s = stamped_in c.args.self.now.sent es ps c.args.which
-    (get_or es c.args.which c.index.result.now) c.node.result c.get.result.now
-    (ap (λ (w : WorldState). w.sent) c.self.view_is) here c.node.ensures c.get.ensures in
-    let for : is_for s.0 c.args.node
-    ≡ true = sym (c.if-not-is_for.ensures ∙ for_same s.0 c.node.result c.args.node s.3) in
-    let fresh = fresh_there c.args.self.now s.0 c.self.inside.last c.get.result.now c.index.result.now
-    (ap (λ (w : WorldState). w.last) c.self.view_is) s.4 (c.index.ensures ∙ s.2)
-    (c.is_fresh.ensures.fresh c.if-not-is_fresh.false) in
-    let u = stamped_in c.args.self.now.sent es ps c.args.which
-    (get_or es c.args.which c.index.result.now) c.node.result c.get-2.result.now
-    (ap (λ (w : WorldState). w.sent) c.self.view_is) here c.node.ensures c.get-2.ensures in
-    let free = subst (HeardFree c.args.self.now c.args.node)
-    (u.4 ∙ ap (λ (d : SentDatagram). d.bytes) (one c.args.self.now c.args.which u.0 s.0 u.1 s.1))
-    (c.draws_held.ensures.free c.if-draws_held.false) in
-    let t = stamped_in c.args.self.now.sent es ps c.args.which
-    (get_or es c.args.which c.index.result.now) c.node.result c.get-3.result.now
-    (ap (λ (w : WorldState). w.sent) c.self.view_is) here c.node.ensures c.get-3.ensures in
-    let same = c.as_slice.ensures ∙ c.in-Ok.ensures ∙ t.4
-    ∙ ap (λ (d : SentDatagram). d.bytes) (one c.args.self.now c.args.which t.0 s.0 t.1 s.1) in
-    delivered g.row.A.Denot c.args.self.now c.args.which c.args.node s.0 c.as_slice.result _ c.play.result
-    c.requires.runs s.1 for fresh free same c.play.ensures.played
+    let at = (goal.at.returns-clause-played g c).In-Some in
+    let s = sent_there g (goal.at.returns-clause-played g c).After-get-sent in
+    let f = stands_there g at in
+    let same = ap (λ (w : WorldState). w.nodes) c.self.view_is in
+    let given = c.index_mut.result.now in
+    let empty : c.replace-out.result.items ≡ [] = search rules in
+    let bytes = c.of-received.ensures ∙ s.4 in
+    let fresh = fresh_there c.args.self.now s.0 c.self.inside.last c.of-received.result c.get-sent.result.event
+    (ap (λ (w : WorldState). w.last) c.self.view_is) bytes s.2 (c.is_fresh.ensures.fresh c.if-not-is_fresh.false) in
+    let free = subst (HeardFree c.args.self.now c.args.node) bytes
+    (subst (λ l. AreFree l c.args.node (λ n draw. DrawsHearing n c.of-received.result draw))
+    (c.deref-2.ensures.value ∙ same) (c.draws_held.ensures.free c.if-draws_held.false)) in
+    let stands = node_stands c.args.self.now c.args.node c.self.inside.nodes.items c.in-Some.place given same f
+    (c.index_mut.ensures.value ∙ f.at given) in
+    delivered g.row.A.Denot c.args.self.now c.args.which c.args.node s.0 c.of-received.result c.finish.new.self
+    c.finish.result c.requires.runs s.1 (for_there g at s.0 s.3) fresh free bytes
+    (taken g.row.A.Denot c.args.self.now c.finish.new.self _ c.args.node (Receives c.of-received.result)
+    c.take-report.result c.finish.result (λ is. record {
+      node = given;
+      stands = stands;
+      after = c.take-report.new.node;
+      out = c.take-report.new.out.items;
+      steps = subst (λ (ps : List Posted). Receives c.of-received.result given ps c.take-report.result
+          c.take-report.new.node c.take-report.new.out.items) empty c.take-report.ensures.takes;
+      booked = recorded_by g.row.A.Denot c.args.self.now c.finish.new.self c.args.node c.in-Some.place
+          c.take-report.result c.self.inside.nodes.items c.take-report.new.node c.self.inside.sent c.self.inside.last
+          c.self.inside.events c.self.inside.failed c.take-report.new.out.items c.self.view_is c.requires.whole f is;
+    }) c.finish.ensures.recorded)
 
 pub returns-clause-not_played : goal.returns-clause-not_played
 returns-clause-not_played g c =
-    let es = c.self.inside.stamps.items in
-    let ps = c.self.inside.datagrams.items in
-    let lt : c.args.which < length es = omega (arith, c.len.ensures, c.self.inside.stamps.ok.0, c.if-which-len.false) in
-    let here = slice_get-get_or es c.args.which c.index.result.now lt in
-    let s = stamped_in c.args.self.now.sent es ps c.args.which
-    (get_or es c.args.which c.index.result.now) c.node.result c.get.result.now
-    (ap (λ (w : WorldState). w.sent) c.self.view_is) here c.node.ensures c.get.ensures in
-    let for : is_for s.0 c.args.node
-    ≡ true = sym (c.if-not-is_for.ensures ∙ for_same s.0 c.node.result c.args.node s.3) in
-    let fresh = fresh_there c.args.self.now s.0 c.self.inside.last c.get.result.now c.index.result.now
-    (ap (λ (w : WorldState). w.last) c.self.view_is) s.4 (c.index.ensures ∙ s.2)
-    (c.is_fresh.ensures.fresh c.if-not-is_fresh.false) in
-    let u = stamped_in c.args.self.now.sent es ps c.args.which
-    (get_or es c.args.which c.index.result.now) c.node.result c.get-2.result.now
-    (ap (λ (w : WorldState). w.sent) c.self.view_is) here c.node.ensures c.get-2.ensures in
-    let free = subst (HeardFree c.args.self.now c.args.node)
-    (u.4 ∙ ap (λ (d : SentDatagram). d.bytes) (one c.args.self.now c.args.which u.0 s.0 u.1 s.1))
-    (c.draws_held.ensures.free c.if-draws_held.false) in
-    let t = stamped_in c.args.self.now.sent es ps c.args.which
-    (get_or es c.args.which c.index.result.now) c.node.result c.get-3.result.now
-    (ap (λ (w : WorldState). w.sent) c.self.view_is) here c.node.ensures c.get-3.ensures in
-    let same = c.as_slice.ensures ∙ c.in-Ok.ensures ∙ t.4
-    ∙ ap (λ (d : SentDatagram). d.bytes) (one c.args.self.now c.args.which t.0 s.0 t.1 s.1) in
-    not_delivered g.row.A.Denot c.args.self.now c.args.which c.args.node s.0 c.as_slice.result _ c.play.result
-    c.requires.runs s.1 for fresh free same c.play.ensures.not_played
-
-pub returns-in_default-clause-not_played : goal.returns-in_default-clause-not_played
-returns-in_default-clause-not_played g c =
-    let es = c.self.inside.stamps.items in
-    let ps = c.self.inside.datagrams.items in
-    let lt : c.args.which < length es = omega (arith, c.len.ensures, c.self.inside.stamps.ok.0, c.if-which-len.false) in
-    let here = slice_get-get_or es c.args.which c.index.result.now lt in
-    let s = stamped_in c.args.self.now.sent es ps c.args.which
-    (get_or es c.args.which c.index.result.now) c.node.result c.get.result.now
-    (ap (λ (w : WorldState). w.sent) c.self.view_is) here c.node.ensures c.get.ensures in
-    let for : is_for s.0 c.args.node
-    ≡ true = sym (c.if-not-is_for.ensures ∙ for_same s.0 c.node.result c.args.node s.3) in
-    let some = hits c.args.self.now c.args.node c.self.inside.nodes.items c.deref.result.now c.place_of.result
-    c.is_none.result (ap (λ (w : WorldState). w.nodes) c.self.view_is) c.deref.ensures.value c.place_of.ensures
-    c.is_none.ensures c.if-is_none.false in
-    let fresh = fresh_there c.args.self.now s.0 c.self.inside.last c.get.result.now c.index.result.now
-    (ap (λ (w : WorldState). w.last) c.self.view_is) s.4 (c.index.ensures ∙ s.2)
-    (c.is_fresh.ensures.fresh c.if-not-is_fresh.false) in
-    let u = stamped_in c.args.self.now.sent es ps c.args.which
-    (get_or es c.args.which c.index.result.now) c.node.result c.get-2.result.now
-    (ap (λ (w : WorldState). w.sent) c.self.view_is) here c.node.ensures c.get-2.ensures in
-    let free = subst (HeardFree c.args.self.now c.args.node)
-    (u.4 ∙ ap (λ (d : SentDatagram). d.bytes) (one c.args.self.now c.args.which u.0 s.0 u.1 s.1))
-    (c.draws_held.ensures.free c.if-draws_held.false) in (
-      refl,
-      ap (λ (w : WorldState). w.sent) c.self.view_is,
-      λ whole.
-          record {
-            allowed = for_it g.row.A.Denot c.args.self.now c.args.which c.args.node s.0 _ c.requires.runs s.1 for
-                some;
-            timely = timely_at g.row.A.Denot c.args.self.now c.args.which c.args.node s.0 s.1 fresh free;
-          },
-    )
-
-pub invariant_of-self : goal.invariant_of-self
-invariant_of-self g c = (c.self.invariant.0, λ e. absurd (true≢false e), c.self.invariant.2)
+    let at = (goal.at.returns-clause-not_played g c).In-Some in
+    let s = sent_there g (goal.at.returns-clause-not_played g c).After-get-sent in
+    let same = ap (λ (w : WorldState). w.nodes) c.self.view_is in
+    let bytes = c.of-received.ensures ∙ s.4 in
+    let fresh = fresh_there c.args.self.now s.0 c.self.inside.last c.of-received.result c.get-sent.result.event
+    (ap (λ (w : WorldState). w.last) c.self.view_is) bytes s.2 (c.is_fresh.ensures.fresh c.if-not-is_fresh.false) in
+    let free = subst (HeardFree c.args.self.now c.args.node) bytes
+    (subst (λ l. AreFree l c.args.node (λ n draw. DrawsHearing n c.of-received.result draw))
+    (c.deref-2.ensures.value ∙ same) (c.draws_held.ensures.free c.if-draws_held.false)) in
+    not_delivered g.row.A.Denot c.args.self.now c.args.which c.args.node s.0 c.finish.new.self c.finish.result
+    c.requires.runs s.1 (for_there g at s.0 s.3) (there g at) fresh free
+    (subst (λ (sent : List SentDatagram). IfErr c.finish.result (λ f. (f ≡ fault.NoMemory)
+    × (c.finish.new.self.failed ≡ true) × (c.finish.new.self.sent ≡ sent)))
+    (ap (λ (w : WorldState). w.sent) c.self.view_is) c.finish.ensures.failed)

@@ -41,13 +41,15 @@ returns-in-Deliver-clause-not_played g c =
 pub returns-in-Forge-clause-played : goal.returns-in-Forge-clause-played
 returns-in-Forge-clause-played g c =
     forged g.row.A.Denot c.args.self.now c.play-in-Forge.new.self c.args.event.now c.in-Forge.node c.in-Forge.bytes
-    c.as_slice.result c.play-in-Forge.result c.in-Forge.is c.as_slice.ensures
+    (record { ref_ptr = (0, 0); now = c.of.result }) c.play-in-Forge.result c.in-Forge.is
+    (c.of.ensures ∙ c.as_slice.ensures)
     (sym c.is_over.ensures ∙ c.if-is_over.false)
     c.play-in-Forge.ensures.played c.play-in-Forge.ensures.free
 
 pub returns-in-Forge-clause-not_played : goal.returns-in-Forge-clause-not_played
 returns-in-Forge-clause-not_played g c =
     not_forged g.row.A.Denot c.args.self.now c.play-in-Forge.new.self c.args.event.now c.in-Forge.node c.in-Forge.bytes
-    c.as_slice.result c.play-in-Forge.result c.in-Forge.is c.as_slice.ensures
+    (record { ref_ptr = (0, 0); now = c.of.result }) c.play-in-Forge.result c.in-Forge.is
+    (c.of.ensures ∙ c.as_slice.ensures)
     (sym c.is_over.ensures ∙ c.if-is_over.false)
     c.play-in-Forge.ensures.not_played

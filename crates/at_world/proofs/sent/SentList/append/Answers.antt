@@ -1,0 +1,17 @@
+use Rattle.std.proofs.Common.{◌≡◌, ◌++◌, map, sym, ◌∙◌, ap, refl, replicate}
+use Rattle.at_ddp.specs.Datagrams.{Posted}
+use Rattle.at_world.specs.Sents.{SentDatagram, stamp, stamped}
+use Rattle.at_world.proofs.SentLemmas.{more_stamped}
+use Rattle.at_world.proofs.sent.SentList.append.Given.{Over}
+use Rattle.at_world.proofs.sent.SentList.append.Goals.{After-push_all}
+use Rattle.at_world.proofs.sent.SentList.append.Goals as goal
+
+pub returns-clause-ok : goal.returns-clause-ok
+returns-clause-ok g c = (
+  (more_stamped c.self.inside.events.items c.push_all.new.stamps.items c.self.inside.list.items
+      c.append.new.self.items c.args.out.now.items c.len-count.result c.args.event c.self.invariant
+      c.in_ok-append.ensures.ok.0 c.len-count.ensures
+      (c.push_all.ensures ∙ rw c.in_ok-reserve.ensures.items refl)).1
+      ∙ ap (λ (l : _). l ++ map (stamp c.args.event) c.args.out.now.items) c.self.view_is,
+  c.in_ok-append.ensures.ok.1,
+)
