@@ -8,6 +8,8 @@ use std::alloc::{AllocError, Global};
 pub enum Request<'a> {
     /// To play this file, or the standard input for `-`.
     Play(&'a str),
+    /// To drive this file's nodes over sockets, or those of the standard input for `-`.
+    Udp(&'a str),
     /// To show the datagram that this word spells in hexadecimal digits.
     Show(&'a str),
     /// Nothing that is known.
@@ -29,10 +31,12 @@ pub fn request_of<'a>(alloc: Global, words: &'a [String]) -> Request<'a> {
 fn asked_by<'a>(alloc: Global, words: &'a [String]) -> Result<Option<Request<'a>>, Error> {
     let command = Command::new(alloc, "atnode")
         .subcommand(subcommand(alloc, "play", "FILE")?)?
+        .subcommand(subcommand(alloc, "udp", "FILE")?)?
         .subcommand(subcommand(alloc, "show", "HEX")?)?;
     let matches = command.try_get_matches_from(words)?;
     match matches.subcommand() {
         Some(("play", play)) => Ok(play.get_str("FILE").map(Request::Play)),
+        Some(("udp", udp)) => Ok(udp.get_str("FILE").map(Request::Udp)),
         Some((_, show)) => Ok(show.get_str("HEX").map(Request::Show)),
         None => Ok(None),
     }

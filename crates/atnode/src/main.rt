@@ -1,25 +1,29 @@
-//! Plays schedules of AppleTalk nodes on one cable, and shows datagrams: `atnode play FILE`, `atnode show HEX`.
+//! Plays schedules of AppleTalk nodes on one cable, drives nodes over UDP, and shows datagrams: `atnode play FILE`,
+//! `atnode udp FILE`, `atnode show HEX`.
 #![tactic(auto)]
 
 mod command_line;
 mod telling;
 #[cfg(test)]
 mod tests;
+mod udp;
 
 use at_play::{Diagnostics, Printer, Status, play_file, play_text, show_text};
 use command_line::{Request, request_of};
 use std::env::Env;
 use std::io::{BufWriter, ErrorKind, Read, Seek, Write};
+use std::net::Net;
 use std::process::ExitCode;
 use std::rt::Files;
 use std::{env, fs, io};
 use telling::{tell, tell_unopened, tell_usage};
+use udp::udp_named;
 
 /// The status after a command line that asks for nothing.
 const USAGE: u8 = 2;
 
 /// What stands for the name of a file in what is told of the standard input.
-const STANDARD_INPUT: &str = "standard input";
+pub(crate) const STANDARD_INPUT: &str = "standard input";
 
 fn main(rt: HostRuntime) -> ExitCode {
     let mut errors = rt.stderr();
@@ -28,7 +32,7 @@ fn main(rt: HostRuntime) -> ExitCode {
 }
 
 // Does what the command line asks for, and tells the status to end with. An error is a write that failed.
-fn run<R: Env + Files + Input + Print + AllocGlobal, E: Write>(
+fn run<R: Env + Files + Input + Print + Net + AllocGlobal, E: Write>(
     rt: &R,
     errors: &mut E,
 ) -> io::Result<u8> {
@@ -39,6 +43,7 @@ fn run<R: Env + Files + Input + Print + AllocGlobal, E: Write>(
     };
     match request_of(rt.alloc(), words.as_slice()) {
         Request::Play(file) => play_named(rt, file, errors),
+        Request::Udp(file) => udp_named(rt, file, errors),
         Request::Show(word) => show_word(rt, word, errors),
         Request::Usage => usage(rt, errors),
         Request::NoMemory => stop(rt, errors),
@@ -56,7 +61,7 @@ fn usage<E: Write>(rt: &impl Print, errors: &mut E) -> io::Result<u8> {
 }
 
 // There is no memory for the first event.
-fn stop<E: Write>(rt: &impl Print, errors: &mut E) -> io::Result<u8> {
+pub(crate) fn stop<E: Write>(rt: &impl Print, errors: &mut E) -> io::Result<u8> {
     tell(errors, "out of memory");
     rt.println("stopped nomemory at 0")?;
     Ok(Status::Failed.code())
@@ -74,12 +79,20 @@ fn play_named<R: Files + Input + Print + AllocGlobal, E: Write>(
     }
     match fs::open(rt, file) {
         Ok(mut opened) => play_opened(rt, file, &mut opened, errors),
-        Err(error) => {
-            tell_unopened(rt.alloc(), errors, file, error);
-            rt.println("fault 0")?;
-            Ok(Status::Failed.code())
-        }
+        Err(error) => unopened(rt, file, error, errors),
     }
+}
+
+// There is no file of this name.
+pub(crate) fn unopened<R: Print + AllocGlobal, E: Write>(
+    rt: &R,
+    file: &str,
+    error: io::Error,
+    errors: &mut E,
+) -> io::Result<u8> {
+    tell_unopened(rt.alloc(), errors, file, error);
+    rt.println("fault 0")?;
+    Ok(Status::Failed.code())
 }
 
 // A pipe has no beginning to go back to, and is read whole.

@@ -4,9 +4,11 @@ use std::io;
 use std::io::Write;
 
 /// The page for a command line that asks for nothing.
-const PAGE: &str = "atnode 0.1 plays schedules of AppleTalk nodes on one cable, and shows datagrams.
+const PAGE: &str =
+    "atnode 0.1 plays schedules of AppleTalk nodes on one cable, drives nodes over UDP, and shows datagrams.
 
   atnode play FILE   plays a schedule, and prints what each event comes to
+  atnode udp FILE    drives the nodes of a schedule over UDP on this machine, and prints the same
   atnode show HEX    shows a datagram, or tells the first rule that it breaks
 
 FILE is a schedule as text, one line for each event; `-` is standard input.

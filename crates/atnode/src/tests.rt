@@ -6,12 +6,16 @@ use std::io::ErrorKind;
 use std::test::Fail;
 
 // Words after the program's name, and what they ask for.
-static LINES: [(&str, Request); 34] = [
+static LINES: [(&str, Request); 43] = [
     ("play a", Request::Play("a")),
     ("play -", Request::Play("-")),
     ("play -- -", Request::Play("-")),
     ("play -- --help", Request::Play("--help")),
     ("play help", Request::Play("help")),
+    ("udp a", Request::Udp("a")),
+    ("udp -", Request::Udp("-")),
+    ("udp -- -", Request::Udp("-")),
+    ("udp play", Request::Udp("play")),
     ("show 00", Request::Show("00")),
     ("show -", Request::Show("-")),
     ("show -- -", Request::Show("-")),
@@ -27,6 +31,10 @@ static LINES: [(&str, Request); 34] = [
     ("play --help", Request::Usage),
     ("play -h", Request::Usage),
     ("play a --version", Request::Usage),
+    ("udp", Request::Usage),
+    ("udp a b", Request::Usage),
+    ("udp -a", Request::Usage),
+    ("udp --help", Request::Usage),
     ("show", Request::Usage),
     ("show 00 15", Request::Usage),
     ("show -0", Request::Usage),
@@ -35,16 +43,17 @@ static LINES: [(&str, Request); 34] = [
     ("help", Request::Usage),
     ("help play", Request::Usage),
     ("help show", Request::Usage),
+    ("help udp", Request::Usage),
     ("--help", Request::Usage),
     ("-h", Request::Usage),
     ("--version", Request::Usage),
     ("-V", Request::Usage),
     ("pla a", Request::Usage),
-    ("udp a", Request::Usage),
+    ("ud a", Request::Usage),
 ];
 
 #[test]
-fn a_play_or_a_show_of_one_word_is_all_that_can_be_asked_for(rt: HostRuntime) -> Result<(), Fail> {
+fn a_command_of_one_word_is_all_that_can_be_asked_for(rt: HostRuntime) -> Result<(), Fail> {
     for (line, want) in LINES.iter() {
         let mut words = Vec::new(rt.alloc());
         words.push(String::from_str(rt.alloc(), "atnode")?)?;
@@ -98,6 +107,7 @@ fn the_usage_is_a_page_with_each_command_an_example_and_the_version(
     for part in [
         "atnode 0.1 ",
         "\n  atnode play FILE   ",
+        "\n  atnode udp FILE    ",
         "\n  atnode show HEX    ",
         "\nFILE is ",
         "\nHEX is ",
