@@ -9,8 +9,12 @@ mod failing;
 #[cfg(test)]
 mod hostile;
 #[cfg(test)]
+mod lines;
+#[cfg(test)]
 mod loopback;
 #[cfg(test)]
 mod schedules;
 #[cfg(test)]
 mod sockets;
+#[cfg(test)]
+mod texts;
