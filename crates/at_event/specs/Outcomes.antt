@@ -48,9 +48,11 @@ abbrev pub Exactly : {A S : Type 0} → Outcome A S → List Posted → Report A
 Exactly o before r new after = (r ≡ o.report) × (new ≡ o.state) × (after ≡ before ++ map posted o.out)
 
 -- can an event with this report run out of memory? A refusal cannot, and neither can the end of a transaction without
--- retries, of a record or of a name, the picking of a zone, or what sets whether an end listens
+-- retries, of a record or of a name, the picking of a zone, or what sets whether an end listens. What is ignored has no
+-- effect, and takes no memory either.
 abbrev pub takes_memory : {A : Type 0} → Report A → Bool
 takes_memory (report.Refused number) = false
+takes_memory report.Ignored = false
 takes_memory (report.Failed tid) = false
 takes_memory report.Expired = false
 takes_memory report.Unregistered = false

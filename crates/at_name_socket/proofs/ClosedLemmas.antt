@@ -7,7 +7,6 @@ use Rattle.std.proofs.lemmas.Bool.{eqb-true}
 use Rattle.at_ddp.specs.Tables.{without_first}
 use Rattle.at_ddp.proofs.Alls.{all_implied, all_without}
 use Rattle.at_ddp.proofs.DistinctLemmas.{differ_without}
-use Rattle.at_nbp.specs.Lookups as lookups
 use Rattle.at_nbp.specs.Lookups.{AreLookups, Lookups, Search, answered, closed, has_id, heard, is_reply}
 use Rattle.at_nbp.specs.Lookups.{reply_came, search_of}
 use Rattle.at_nbp.specs.NameTables.{Table}

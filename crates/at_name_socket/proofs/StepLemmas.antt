@@ -4,9 +4,7 @@ use Rattle.std.proofs.Common.{Option, Some, None, refl, sym, ap, subst, ◌∙�
 use Rattle.std.specs.Prelude.{All, ◌||◌, is_some, nat_le}
 use Rattle.std.specs.List.{AllByRecursion, IsDistinct, list_any}
 use Rattle.std.proofs.lemmas.Bool.Decides.{nat_tests}
-use Rattle.at_ddp.specs.Address.{same_address}
 use Rattle.at_ddp.specs.declared.address.Address.{Address}
-use Rattle.at_ddp.proofs.Octets.{same_address_itself}
 use Rattle.at_name_socket.specs.NameSockets.{SocketState, any_pattern, claim_begun, opening, own_zone}
 use Rattle.at_name_socket.specs.Sockets.{IsClaim, IsSocket, Opens, Stays, changed, open_at}
 use Rattle.at_name_socket.specs.Steps.{Becomes, Happens, StandsLawfully, spelled}
@@ -16,7 +14,6 @@ use Rattle.at_nbp.specs.Lawfully.{IsName}
 use Rattle.at_nbp.specs.Lookups as lookups
 use Rattle.at_nbp.specs.Lookups.{Lookups, Search, asked, beginning, closed, next_id, question, search_of, sent_question}
 use Rattle.at_nbp.specs.NameTables.{Table, has_number, is_called, is_no_text, number_from, register_fault}
-use Rattle.at_ddp.specs.Posts.{put}
 use Rattle.at_ddp.proofs.PostLemmas.{put_here, put_there}
 use Rattle.at_nbp.specs.Network.{Begins, Network, Other, Retries, begins, done, retries}
 use Rattle.at_nbp.specs.Packets.{Content}

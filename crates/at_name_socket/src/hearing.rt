@@ -1,6 +1,6 @@
 //! What packets do at the socket.
 ghost use Rattle.std.specs.Prelude.{◌≡◌, ◌≢◌, ◌==◌, [], ◌∷◌, List, ℕ, length, map, find, IfOk, IfErr, OnErr};
-ghost use Rattle.std.specs.Prelude.{IsErrOf, if◌then◌else◌};
+ghost use Rattle.std.specs.Prelude.{IsErrOf, IsOk, None, if◌then◌else◌};
 ghost use Rattle.std.specs.Option.{option_copied};
 ghost use Rattle.at_ddp.specs.Outbox.{Sends};
 ghost use Rattle.at_ddp.specs.declared.address.Address.{Address as At};
@@ -8,6 +8,7 @@ ghost use Rattle.at_name_socket.specs.NameSockets.{AnswersTo, Hears, Relays, Soc
 ghost use Rattle.at_name_socket.specs.NameSockets.{is_node, zone_of, zone_or};
 ghost use Rattle.at_name_socket.specs.declared.step.Heard.{Heard as Come};
 ghost use Rattle.at_nbp.specs.Fault.{IsFirstFault};
+ghost use Rattle.at_nbp.specs.Lookups.{heard};
 ghost use Rattle.at_nbp.specs.Packets.{HasCount, packet_content};
 ghost use Rattle.at_nbp.specs.declared.fault.NbpFault.{NbpFault as Fault};
 
@@ -19,14 +20,15 @@ use at_nbp::{Function, NbpFault, Packet, decode, relay};
 use std::alloc::{AllocError, Allocator};
 
 impl<A: Allocator + Copy> NameSocket<A> {
-    /// Takes the data of a datagram. The packet at its front is what counts: bytes after it are ignored.
+    /// Takes the data of a datagram. The packet at its front is what counts: bytes after it are ignored. A packet that
+    /// has no effect needs no memory.
     pub fn receive(&mut self, bytes: &[u8], out: &mut Outbox<A>) -> Result<Heard, NbpFault>
         ensures ok { IfOk result (λ h. (pushes : List (At × List ℕ)) × Hears self.old bytes.now h self.new pushes
             × Sends out.old out.new pushes) }
         ensures refused { (fault : Fault) → IsFirstFault fault bytes.now → IsErrOf result fault }
         ensures fault { IfErr result (λ fault. fault ≢ NbpFault.NoMemory → IsFirstFault fault bytes.now) }
         ensures owed { IfErr result (λ fault. fault ≡ NbpFault.NoMemory → (h : Come) × (new : SocketState)
-            × (pushes : List (At × List ℕ)) × Hears self.old bytes.now h new pushes) }
+            × (pushes : List (At × List ℕ)) × Hears self.old bytes.now h new pushes × (h ≢ Heard.Ignored)) }
         ensures unchanged { OnErr result (self.new ≡ self.old) }
         ensures nothing_sent { OnErr result (Sends out.old out.new []) }
     {
@@ -46,7 +48,7 @@ impl<A: Allocator + Copy> NameSocket<A> {
             × AnswersTo self.now packet.now.id packet.now.tuples h pushes
             × Sends out.old out.new pushes) }
         ensures owed { OnErr result ((h : Come) × (pushes : List (At × List ℕ))
-            × AnswersTo self.now packet.now.id packet.now.tuples h pushes) }
+            × AnswersTo self.now packet.now.id packet.now.tuples h pushes × (h ≢ Heard.Ignored)) }
         ensures nothing_sent { OnErr result (Sends out.old out.new []) }
     {
         let tuple = packet.tuples.only();
@@ -64,6 +66,7 @@ impl<A: Allocator + Copy> NameSocket<A> {
     fn keep(&mut self, packet: &Packet<'_>) -> Result<Heard, AllocError>
         requires { packet.now.function ≡ Function.Reply }
         ensures ok { IfOk result (λ h. Takes self.old (packet_content packet.now) Function.Reply h self.new []) }
+        ensures ignored { (heard self.old.lookups (packet_content packet.now)).count ≡ 0 → IsOk result }
         ensures unchanged { OnErr result (self.new ≡ self.old) }
     {
         let count = self.lookups.receive(packet)?;
@@ -80,6 +83,7 @@ impl<A: Allocator + Copy> NameSocket<A> {
         ensures ok { IfOk result (λ h. (pushes : List (At × List ℕ))
             × Relays self.now (packet_content packet.now) self.now.neighbours h pushes
             × Sends out.old out.new pushes) }
+        ensures ignored { self.now.neighbours ≡ None → IsOk result }
         ensures nothing_sent { OnErr result (Sends out.old out.new []) }
     {
         let Some(neighbours) = &self.neighbours else {

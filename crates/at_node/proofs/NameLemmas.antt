@@ -56,19 +56,20 @@ told_some A heard.Relayed = refl
 told_some A (heard.Answered count) = refl
 told_some A (heard.Kept count) = refl
 
-told_takes : (A : Type 0) (h : Heard) → takes_memory {A = A} (told_by h) ≡ true
-told_takes A heard.Ignored = refl
-told_takes A heard.Relayed = refl
-told_takes A (heard.Answered count) = refl
-told_takes A (heard.Kept count) = refl
+told_takes : (A : Type 0) (h : Heard) → (h ≡ heard.Ignored → ⊥) → takes_memory {A = A} (told_by h) ≡ true
+told_takes A heard.Ignored heeds = absurd (heeds refl)
+told_takes A heard.Relayed heeds = refl
+told_takes A (heard.Answered count) heeds = refl
+told_takes A (heard.Kept count) heeds = refl
 
 -- what the data of a datagram does at the socket for names
 abbrev pub HearsData : {A : Type 0} → Seat → SocketState → List ℕ → Outcome A SocketState → Type 0
 HearsData s n bytes o = HearsName s n bytes o ⊎ HearsNbpFault n bytes o
 
+-- some packet that the data begins with has an effect
 abbrev pub SomeStep : SocketState → List ℕ → Type 0
 SomeStep n bytes = (h : Heard) × (new : SocketState) × (pushes : List (Address × List ℕ))
-    × SocketHears n bytes h new pushes
+    × SocketHears n bytes h new pushes × (h ≡ heard.Ignored → ⊥)
 
 module _ (A : Type 0) (s : Seat) (n : SocketState) (bytes : List ℕ) (before : List Posted) where
   -- a packet was taken
@@ -98,7 +99,7 @@ module _ (A : Type 0) (s : Seat) (n : SocketState) (bytes : List ℕ) (before : 
           record { report = told_by x.0; state = x.1; out = sent_of s x.2 },
           inl
               (record { step = x.0; new = x.1; pushes = x.2; hears = x.3; outcome = refl }),
-          told_takes A x.0,
+          told_takes A x.0 x.4,
         ),
       )
 

@@ -4,7 +4,7 @@ use Rattle.at_ddp.specs.Datagrams.{Posted}
 use Rattle.at_ddp.specs.declared.address.Address.{Address}
 use Rattle.at_ddp.specs.Protocols.{atp_kind}
 use Rattle.at_atp_frame.specs.Frames.{Content, spelled_all}
-use Rattle.at_atp_requester.specs.Requests.{heard}
+use Rattle.at_atp_requester.specs.Requests.{heard, is_ignored}
 use Rattle.at_atp_requester.specs.declared.step.Step.{Step}
 use Rattle.at_atp_requester.specs.declared.step.Step.TheVariants as step
 use Rattle.at_zip.specs.Fault as zip
@@ -50,19 +50,20 @@ module _ {A : Type 0} (said : Reply A) (s : Seat) (a : AtpState) (from : Address
       (hears_other s a (tid_of f) (heard {A = A} a.requester from f)) (reported_other (tid_of f) x) new after
       other_at (ap (reported_other (tid_of f)) is, same, sent) (other_some (tid_of f) x)
 
-  pub other_wanted : Wanted said s a from f
-  other_wanted = (
+  -- one that has an effect
+  pub other_wanted : (is_ignored (heard {A = A} a.requester from f).step ≡ true → ⊥) → Wanted said s a from f
+  other_wanted heeds = (
     hears_other s a (tid_of f) (heard {A = A} a.requester from f),
     other_at,
     go
-        (heard {A = A} a.requester from f).step,
+        (heard {A = A} a.requester from f).step heeds,
   )
     where
-      go : (x : Step A) → takes_memory (reported_other {A = A} (tid_of f) x) ≡ true
-      go step.Ignored = refl
-      go step.Kept = refl
-      go step.AskAgain = refl
-      go (step.Finished packets) = refl
+      go : (x : Step A) → (is_ignored x ≡ true → ⊥) → takes_memory (reported_other {A = A} (tid_of f) x) ≡ true
+      go step.Ignored heeds = absurd (heeds refl)
+      go step.Kept heeds = refl
+      go step.AskAgain heeds = refl
+      go (step.Finished packets) heeds = refl
 
 -- ---- the page that a reading asked for
 

@@ -95,17 +95,19 @@ module _ (A : Type 0) (said : Reply A) (s : Seat) (a : AtpState) (from : Address
       )
       (ap wants_memory reports ∙ release_some _ (taken old from f).reception)
 
+  -- a request that finds a place, and has an effect
   pub service_takes : (f : Content) (user bytes : List ℕ) → (finds_no_place a.service_responder from f ≡ true → ⊥)
+      → ((taken a.service_responder from f).reception ≡ reception.Ignored → ⊥)
       → takes_memory (service_asked s a from f user bytes said).report ≡ true
-  service_takes f user bytes some = rw (not_true (finds_no_place a.service_responder from f) some)
-      (go (taken a.service_responder from f).reception)
+  service_takes f user bytes some heeds = rw (not_true (finds_no_place a.service_responder from f) some)
+      (go (taken a.service_responder from f).reception heeds)
     where
-      go : (r : Reception) → takes_memory (at_service s a (taken a.service_responder from f) user bytes said r).report
-          ≡ true
-      go reception.Ignored = refl
-      go (reception.Again count) = refl
-      go reception.Released = refl
-      go (reception.New key) = refl
+      go : (r : Reception) → (r ≡ reception.Ignored → ⊥)
+          → takes_memory (at_service s a (taken a.service_responder from f) user bytes said r).report ≡ true
+      go reception.Ignored heeds = absurd (heeds refl)
+      go (reception.Again count) heeds = refl
+      go reception.Released heeds = refl
+      go (reception.New key) heeds = refl
 
 -- ---- the router's zone socket
 
@@ -185,15 +187,17 @@ module _ (A : Type 0) (said : Reply A) (s : Seat) (a : AtpState) where
           (zone_asked s a from (Frames.Request mask xo timer tid user bytes) t start)
       good_request t start is asks = rw is (inl (record { start = start; asks = asks; outcome = refl }))
 
+-- a request that finds a place, and has an effect
 pub zone_takes : (A : Type 0) (s : Seat) (a : AtpState) (from : Address) (f : Content) (table : List (List ℕ))
     (start : ℕ) → (finds_no_place a.zone_responder from f ≡ true → ⊥)
+    → ((taken a.zone_responder from f).reception ≡ reception.Ignored → ⊥)
     → takes_memory (zone_asked {A = A} s a from f table start).report ≡ true
-zone_takes A s a from f table start some = rw (not_true (finds_no_place a.zone_responder from f) some)
-    (go (taken a.zone_responder from f).reception)
+zone_takes A s a from f table start some heeds = rw (not_true (finds_no_place a.zone_responder from f) some)
+    (go (taken a.zone_responder from f).reception heeds)
   where
-    go : (r : Reception) → takes_memory
+    go : (r : Reception) → (r ≡ reception.Ignored → ⊥) → takes_memory
         (at_zones {A = A} s a (taken a.zone_responder from f) (page_packet table start) r).report ≡ true
-    go reception.Ignored = refl
-    go (reception.Again count) = refl
-    go reception.Released = refl
-    go (reception.New key) = refl
+    go reception.Ignored heeds = absurd (heeds refl)
+    go (reception.Again count) heeds = refl
+    go reception.Released heeds = refl
+    go (reception.New key) heeds = refl

@@ -2,22 +2,28 @@
 use Rattle.std.proofs.Common.{◌≡◌, ℕ, Bool, true, false, cond, List, [], ◌∷◌, ◌++◌, length, map, Option, Some, None}
 use Rattle.std.proofs.Common.{Result, Ok, Err, refl, sym, ap, subst, ◌∙◌}
 use Rattle.std.specs.Prelude.{◌==◌, ◌&&◌, min, not, take, drop}
+use Rattle.std.specs.Result.{ForOk}
 use Rattle.std.proofs.lemmas.List.{append-nil, drop_min, take_min}
 use Rattle.at_ddp.specs.Datagrams.{Posted}
 use Rattle.at_ddp.specs.Outbox.{Outbox, Sends, finished}
 use Rattle.at_ddp.specs.declared.address.Address.{Address}
 use Rattle.at_ddp.specs.Protocols.{adsp_kind}
-use Rattle.at_adsp_end.specs.Ends.{EndState, acknowledging, free, has_opened, is_open, spelled_all}
+use Rattle.at_adsp_end.specs.Calls.{is_idle, is_last, probed, ticked}
+use Rattle.at_adsp_end.specs.Ends.{EndState, acknowledging, free, has_opened, is_closed, is_open, spelled_all}
 use Rattle.at_adsp_end.specs.Fault.{number_of}
 use Rattle.at_adsp_end.specs.Positions.{wire}
+use Rattle.at_adsp_end.specs.Sending.{closing}
 use Rattle.at_adsp_end.specs.declared.fault.StreamFault.{StreamFault}
 use Rattle.at_adsp_end.specs.declared.fault.StreamFault.TheVariants.{NotOpen}
 use Rattle.at_adsp_end.specs.declared.item.Item.{Item}
 use Rattle.at_adsp_end.specs.declared.step.Step.{Step}
 use Rattle.at_adsp_end.specs.declared.step.Step.TheVariants as step
-use Rattle.at_adsp_ends.specs.Calls.{read_at, unread_at}
+use Rattle.at_adsp_end.specs.declared.tick.Tick.{Tick}
+use Rattle.at_adsp_end.specs.declared.tick.Tick.TheVariants as tick
+use Rattle.at_adsp_ends.specs.Calls.{closed_at, frees, read_at, ticked_at, unread_at}
 use Rattle.at_adsp_ends.specs.Moves.{IsCalled}
-use Rattle.at_adsp_ends.specs.Tables.{Done, EndTable, moved}
+use Rattle.at_adsp_ends.specs.Receiving.{settled}
+use Rattle.at_adsp_ends.specs.Tables.{Done, EndTable, freed, moved}
 use Rattle.at_event.specs.Outcomes.{IsStep, idle, posted, refused_as, sent_by, takes_memory, wants_memory}
 use Rattle.at_event.specs.declared.event.Report.{Report}
 use Rattle.at_event.specs.declared.event.Report.TheVariants as report
@@ -65,18 +71,19 @@ told_some A (step.Dropped id) = refl
 told_some A (step.Closed id) = refl
 told_some A (step.Freed id) = refl
 
-pub told_takes : (A : Type 0) (s : Step) → takes_memory {A = A} (told_by s) ≡ true
-told_takes A step.Ignored = refl
-told_takes A (step.Made id) = refl
-told_takes A (step.Opened id) = refl
-told_takes A step.Turned = refl
-told_takes A (step.Denied id) = refl
-told_takes A step.Again = refl
-told_takes A step.Idle = refl
-told_takes A (step.Heard id items) = refl
-told_takes A (step.Dropped id) = refl
-told_takes A (step.Closed id) = refl
-told_takes A (step.Freed id) = refl
+-- what is told takes memory, unless it is told as ignored
+pub told_takes : (A : Type 0) (s : Step) → (s ≡ step.Ignored → ⊥) → takes_memory {A = A} (told_by s) ≡ true
+told_takes A step.Ignored heeds = absurd (heeds refl)
+told_takes A (step.Made id) heeds = refl
+told_takes A (step.Opened id) heeds = refl
+told_takes A step.Turned heeds = refl
+told_takes A (step.Denied id) heeds = refl
+told_takes A step.Again heeds = refl
+told_takes A step.Idle heeds = refl
+told_takes A (step.Heard id items) heeds = refl
+told_takes A (step.Dropped id) heeds = refl
+told_takes A (step.Closed id) heeds = refl
+told_takes A (step.Freed id) heeds = refl
 
 -- ---- calls
 
@@ -93,7 +100,7 @@ refused_step A t start (Some n) = (refl, refl, sym (append-nil start))
 
 pub call_step : {A X : Type 0} (s : Seat) (old new : EndTable) (told : X → Report A) (r : Result (Done X) StreamFault)
     (tried : Result X StreamFault) (box boxed : Outbox) (before after : List Posted) →
-    ((x : X) → wants_memory (told x) ≡ false) → ((x : X) → takes_memory (told x) ≡ true)
+    ((x : X) → wants_memory (told x) ≡ false) → ForOk r (λ d. takes_memory (told d.answer) ≡ true)
     → IsBox s box boxed before after → IsCalled r tried old new box boxed
     → IsStep (called s old told r) old before (reported told tried) new after
 call_step s old new told (Ok d) (Ok x) box boxed before after some takes b h =
@@ -101,11 +108,58 @@ call_step s old new told (Ok d) (Ok x) box boxed before after some takes b h =
 call_step s old new told (Ok d) (Err fault) box boxed before after some takes b h =
     let nothing = h.1 in
     subst (λ f. IsStep (called s old told (Ok d)) old before (refused_as (number_of f)) new after) (sym h.0)
-    (nothing.state, nothing_posted s box boxed before after b nothing.sent, takes d.answer)
+    (nothing.state, nothing_posted s box boxed before after b nothing.sent, takes d refl)
 call_step {A} s old new told (Err refusal) tried box boxed before after some takes b h =
     let nothing = h.1 in
     rw (h.0, nothing.state, nothing_posted s box boxed before after b nothing.sent)
     (refused_step A old before (number_of refusal))
+
+-- ---- closing and ticking
+
+-- a step that is told as this one is
+told_so : (A : Type 0) (s answer : Step) → takes_memory {A = A} (told_by s) ≡ true → s ≡ answer
+    → takes_memory {A = A} (told_by answer) ≡ true
+told_so A s answer takes same = subst (λ x. takes_memory {A = A} (told_by x) ≡ true) same takes
+
+-- what closes or frees an end takes memory
+pub closing_takes : (A : Type 0) (t : EndTable) (o : Option EndState)
+    → ForOk (closed_at wire t o) (λ d. takes_memory {A = A} (told_by d.answer) ≡ true)
+closing_takes A t None d is = absurd (cc)
+closing_takes A t (Some e) d is = go (is_open e.phase) is
+  where
+    go : (b : Bool) → ◌≡◌ {A = Result (Done Step) StreamFault}
+        (cond b (Ok (moved t (step.Closed e.id) (closing wire e).after (closing wire e).sent))
+        (Ok (freed t (step.Freed e.id) e))) (Ok d)
+        → takes_memory {A = A} (told_by d.answer) ≡ true
+    go true is = told_so A (step.Closed e.id) d.answer refl (cc)
+    go false is = told_so A (step.Freed e.id) d.answer refl (cc)
+
+-- so does a tick of an end that stays
+staying_takes : (A : Type 0) (e : EndState) (tick : Tick)
+    → takes_memory {A = A} (told_by (ticked wire e tick).step) ≡ true
+staying_takes A e tick.Retransmit = go (is_idle e)
+  where
+    go : (b : Bool) → takes_memory {A = A} (told_by (cond b step.Idle step.Again)) ≡ true
+    go true = refl
+    go false = refl
+staying_takes A e tick.Probe = go (is_last e tick.Probe)
+  where
+    go : (b : Bool) → takes_memory {A = A} (told_by (probed wire e b).step) ≡ true
+    go true = refl
+    go false = refl
+
+pub ticking_takes : (A : Type 0) (t : EndTable) (tick : Tick) (o : Option EndState)
+    → ForOk (ticked_at wire t tick o) (λ d. takes_memory {A = A} (told_by d.answer) ≡ true)
+ticking_takes A t tick None d is = absurd (cc)
+ticking_takes A t tick (Some e) d is = go (is_closed e.phase) (frees e tick) is
+  where
+    go : (closed last : Bool) → ◌≡◌ {A = Result (Done Step) StreamFault}
+        (cond closed (Err NotOpen)
+        (cond last (Ok (freed t (step.Freed e.id) e)) (Ok (settled t (ticked wire e tick))))) (Ok d)
+        → takes_memory {A = A} (told_by d.answer) ≡ true
+    go true last is = absurd (cc)
+    go false true is = told_so A (step.Freed e.id) d.answer refl (cc)
+    go false false is = told_so A (ticked wire e tick).step d.answer (staying_takes A e tick) (cc)
 
 -- ---- reading
 

@@ -1,10 +1,13 @@
 -- What a segment does at the socket, and faults of datagrams without one.
-use Rattle.std.proofs.Common.{◌≡◌, ℕ, true, false, List, Some, Result, Ok, Err, inl, inr, refl, sym, ap}
-use Rattle.std.specs.Prelude.{◌==◌}
+use Rattle.std.proofs.Common.{◌≡◌, ℕ, true, false, List, Some, None, Result, Ok, Err, inl, inr, refl, sym, ap, subst}
+use Rattle.std.proofs.Common.{arith}
+use Rattle.std.specs.Prelude.{IsOk, ◌==◌}
+use Rattle.std.proofs.lemmas.Bool.{false≢true}
 use Rattle.std.proofs.lemmas.List.{append-nil}
 use Rattle.at_ddp.specs.Datagram.{Content as Datagram}
 use Rattle.at_ddp.specs.Datagrams.{Posted}
-use Rattle.at_ddp.specs.Outbox.{Outbox}
+use Rattle.at_ddp.specs.Outbox.{HasRoomToSend, Outbox}
+use Rattle.at_ddp.specs.declared.address.Address.{Address}
 use Rattle.at_adsp_frame.specs.Fault.{IsFirstFault, number_of}
 use Rattle.at_adsp_frame.specs.Segments.{Content, Spells}
 use Rattle.at_adsp_frame.specs.declared.fault.AdspFault.{AdspFault}
@@ -12,9 +15,11 @@ use Rattle.at_adsp_frame.specs.declared.fault.AdspFault.TheVariants as faults
 use Rattle.at_adsp_end.specs.Ends.{spelled_all}
 use Rattle.at_adsp_end.specs.Positions.{wire}
 use Rattle.at_adsp_end.specs.declared.step.Step.{Step}
+use Rattle.at_adsp_end.specs.declared.step.Step.TheVariants as step
 use Rattle.at_adsp_ends.specs.Moves.{IsTaken}
-use Rattle.at_adsp_ends.specs.Receiving.{received}
-use Rattle.at_adsp_ends.specs.Tables.{EndTable}
+use Rattle.at_adsp_ends.specs.Openings.{ignored}
+use Rattle.at_adsp_ends.specs.Receiving.{made_id, received}
+use Rattle.at_adsp_ends.specs.Tables.{Done, EndTable}
 use Rattle.at_event.specs.Outcomes.{Comes, idle, refused_as}
 use Rattle.at_event.specs.declared.event.Report.{Report}
 use Rattle.at_event.specs.declared.event.Report.TheVariants.{Ignored, NoMemory, Refused}
@@ -31,6 +36,19 @@ adsp_number faults.BadVersion input h = (42, refl)
 adsp_number faults.Attention input h = (43, refl)
 adsp_number faults.AdspTooLong input h = (44, refl)
 adsp_number faults.NoMemory input h = let stands = h.stands in let opening = stands.1 in absurd opening.1
+
+-- a segment that is ignored sends nothing, so it finds memory enough
+pub ignored_ok : {E : Type 0} (old : EndTable) (from : Address) (segment : Content) (box : Outbox)
+    (tried : Result Step E) →
+    ((received wire old from segment).answer ≡ step.Ignored → received wire old from segment ≡ ignored old) →
+    (made_id (received wire old from segment).answer ≡ None
+    → HasRoomToSend box (spelled_all (received wire old from segment).sent) → IsOk tried)
+    → (received wire old from segment).answer ≡ step.Ignored → IsOk tried
+ignored_ok old from segment box tried law memory is =
+    let same = law is in
+    memory (ap (λ (d : Done Step). made_id d.answer) same)
+    (subst (λ (d : Done Step). HasRoomToSend box (spelled_all d.sent)) (sym same)
+    (record { places = omega arith; bytes = omega arith }))
 
 -- the report of what came of a segment
 abbrev pub reported : {A E : Type 0} → Result Step E → Report A
@@ -58,9 +76,10 @@ module _ (A : Type 0) (s : Seat) (old : EndTable) (d : Datagram) (before : List 
         (after : List Posted) →
         Spells d.data_ segment → IsBox s box boxed before after
         → IsTaken (received wire old d.from segment) tried old new box boxed
-        → Comes (HearsStreams {A = A} s old d) old before (reported tried) new after
-    taken_comes new segment (Ok step) box boxed after spelled b h =
-        rw (told_some A step) (
+        → ((received wire old d.from segment).answer ≡ step.Ignored → IsOk tried) →
+        Comes (HearsStreams {A = A} s old d) old before (reported tried) new after
+    taken_comes new segment (Ok done) box boxed after spelled b h heeds =
+        rw (told_some A done) (
           segment_heard s old d.from segment,
           rw its
               (inl (record { segment = segment; spelled = spelled; outcome = refl })),
@@ -71,14 +90,14 @@ module _ (A : Type 0) (s : Seat) (old : EndTable) (d : Datagram) (before : List 
                 (spelled_all (received wire old d.from segment).sent) b h.sent,
           ),
         )
-    taken_comes new segment (Err e) box boxed after spelled b h = (
+    taken_comes new segment (Err e) box boxed after spelled b h heeds = (
       h.state,
       nothing_posted s box boxed before after b h.sent,
       (
         segment_heard s old d.from segment,
         rw its
             (inl (record { segment = segment; spelled = spelled; outcome = refl })),
-        told_takes A
-            (received wire old d.from segment).answer,
+        told_takes A (received wire old d.from segment).answer
+            (λ is. absurd (false≢true (heeds is))),
       ),
     )

@@ -8,6 +8,7 @@ ghost use Rattle.at_event.specs.Services.{is_asked};
 ghost use Rattle.at_stream_socket.specs.Hearing.{HearsStreams, Makes};
 
 use crate::socket::{STREAM_SOCKET, StreamSocket, outbox_over, told_by};
+use at_adsp_ends::laws::what_is_ignored_does_nothing;
 use at_adsp_frame::{AdspFault, decode};
 use at_ddp::{Datagram, Datagrams};
 use at_event::{Report, Seat};
@@ -32,6 +33,8 @@ impl<A: Allocator + Copy> StreamSocket<A> {
             Ok(segment) => segment,
             Err(fault) => return faulty(fault),
         };
+        // So what is ignored needs no memory.
+        what_is_ignored_does_nothing();
         let mut outbox = outbox_over(self.alloc, seat, out);
         let heard = self.ends.receive(datagram.from, &segment, &mut outbox);
         *out = outbox.into_list();

@@ -3,6 +3,7 @@ use Rattle.std.specs.Prelude.{find}
 use Rattle.std.proofs.lemmas.List.{append-nil}
 use Rattle.at_atp_frame.specs.Frames.{content, spelled_all}
 use Rattle.at_atp_responder.specs.Records.{Record, is_key, finds_no_place, record_fault, taken}
+use Rattle.at_atp_responder.specs.declared.reception.Reception.TheVariants.{Ignored, New}
 use Rattle.at_ddp.specs.Tables.{without_first}
 use Rattle.at_ddp.specs.Protocols.{atp_kind}
 use Rattle.at_event.specs.Outcomes.{posted, sent_by}
@@ -25,8 +26,9 @@ hand_up-requires g c =
 
 pub returns-in-Err-hand_up : goal.returns-in-Err-hand_up
 returns-in-Err-hand_up g c =
+    let taken_new = sym c.in-Ok-New.ensures.reception ∙ c.in-Ok-New.field-0-is in
     let new = is_new c.args.records.now c.args.packet.now.from (content c.args.packet.now.frame) c.in-Ok-New.key
-    (sym c.in-Ok-New.ensures.reception ∙ c.in-Ok-New.field-0-is) in
+    taken_new in
     let still : record_fault (find (is_key c.in-Ok-New.key) c.hand_up.new.records)
     ≡ None = ap (λ (rs : List Record). record_fault (find (is_key c.in-Ok-New.key) rs))
     (c.in-Err-hand_up.ensures.unchanged ∙ c.in-Ok-New.ensures.state)
@@ -52,7 +54,10 @@ returns-in-Err-hand_up g c =
                 (content c.args.packet.now.frame) c.args.user c.args.bytes.now
                 (λ full. absurd (cc (c.in-Ok-New.ensures.full.1
                 (ap (λ (rs : List Record). finds_no_place rs c.args.packet.now.from (content c.args.packet.now.frame))
-                (sym same) ∙ full)))),
+                (sym same) ∙ full))))
+                (λ is. let both : New c.in-Ok-New.key ≡ Ignored = sym taken_new
+                ∙ ap (λ (rs : List Record). (taken rs c.args.packet.now.from
+                (content c.args.packet.now.frame)).reception) (sym same) ∙ is in absurd (cc)),
           )),
       c.in-Err-hand_up.ensures.not_asked,
     )

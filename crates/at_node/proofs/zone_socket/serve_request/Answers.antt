@@ -4,6 +4,7 @@ use Rattle.at_event.specs.Outcomes.{posted, sent_by}
 use Rattle.std.specs.Prelude.{find}
 use Rattle.at_atp_frame.specs.Frames.{content, spelled_all}
 use Rattle.at_atp_responder.specs.Records.{finds_no_place, taken, is_key, record_fault, Record}
+use Rattle.at_atp_responder.specs.declared.reception.Reception.TheVariants.{Ignored, New}
 use Rattle.at_ddp.specs.Tables.{without_first}
 use Rattle.at_ddp.specs.Protocols.{atp_kind}
 use Rattle.at_node.proofs.ResponderLemmas.{zone_takes}
@@ -20,9 +21,9 @@ serve-requires-clause-waits g c =
 
 pub returns-in-Err-serve-clause-step : goal.returns-in-Err-serve-clause-step
 returns-in-Err-serve-clause-step g c = λ s a same at.
-    let t = taken c.args.records.now c.args.packet.now.from (content c.args.packet.now.frame) in
+    let taken_new = sym c.in-Ok-New.ensures.reception ∙ c.in-Ok-New.field-0-is in
     let new = is_new c.args.records.now c.args.packet.now.from (content c.args.packet.now.frame) c.in-Ok-New.key
-    (sym c.in-Ok-New.ensures.reception ∙ c.in-Ok-New.field-0-is) in
+    taken_new in
     let back : c.serve.new.records ≡ a.zone_responder =
     c.in-Err-serve.ensures.undone ∙ ap (without_first (is_key c.in-Ok-New.key)) c.in-Ok-New.ensures.state
     ∙ undone c.args.records.now (taken c.args.records.now c.args.packet.now.from (content c.args.packet.now.frame))
@@ -35,5 +36,8 @@ returns-in-Err-serve-clause-step g c = λ s a same at.
     c.args.start (λ full. absurd
     (cc (c.in-Ok-New.ensures.full.1
     (ap (λ (rs : List Record). finds_no_place rs c.args.packet.now.from (content c.args.packet.now.frame))
-    (sym same) ∙ full)))) in
+    (sym same) ∙ full))))
+    (λ is. let both : New c.in-Ok-New.key ≡ Ignored = sym taken_new
+    ∙ ap (λ (rs : List Record). (taken rs c.args.packet.now.from (content c.args.packet.now.frame)).reception)
+    (sym same) ∙ is in absurd (cc)) in
     ((λ i. record a { zone_responder = back i }), c.in-Err-serve.ensures.nothing_sent ∙ quiet, some)

@@ -1,8 +1,8 @@
-use Rattle.std.proofs.Common.{◌≡◌, [], refl, sym, subst, ◌∙◌}
+use Rattle.std.proofs.Common.{[], refl, sym, subst}
+use Rattle.std.proofs.lemmas.Bool.{false≢true}
 use Rattle.at_nbp.specs.Packets.{packet_content}
 use Rattle.at_name_socket.specs.NameSockets.{Takes}
-use Rattle.at_nbp.specs.declared.function.Function.TheVariants.{LookUp, Reply}
-use Rattle.at_name_socket.proofs.OwedLemmas.{SomeStep, one_step, owed}
+use Rattle.at_name_socket.proofs.OwedLemmas.{SomeStep, keeps_some, owed, relays_some}
 use Rattle.at_name_socket.proofs.SocketLemmas.{sends_nothing}
 use Rattle.at_name_socket.proofs.socket.NameSocket.receive.Goals as goal
 
@@ -25,19 +25,21 @@ returns-in_err-heard-in-LookUp-clause-owed g c =
     let some = c.in_err-heard-in-LookUp.ensures.owed in
     owed c.from_residual-in_err-heard-in-LookUp.result c.args.self.now c.args.bytes.now c.in_ok-packet.field-0-1.now p
     c.in_ok-packet.ensures.found
-    (subst (SomeStep c.args.self.now p) (sym c.in-LookUp.is) (some.0, c.args.self.now, some.1, (some.2, refl)))
+    (subst (SomeStep c.args.self.now p) (sym c.in-LookUp.is) (some.0, c.args.self.now, some.1, (some.2, refl), some.3))
 
 pub returns-in_err-heard-in-Reply-clause-owed : goal.returns-in_err-heard-in-Reply-clause-owed
 returns-in_err-heard-in-Reply-clause-owed g c =
     let p = packet_content c.in_ok-packet.packet in
     owed c.from_residual-in_err-heard-in-Reply.result c.args.self.now c.args.bytes.now c.in_ok-packet.field-0-1.now p
     c.in_ok-packet.ensures.found
-    (one_step c.args.self.now p p.function
-    (λ is_lookup. let both : Reply ≡ LookUp = sym c.in-Reply.is ∙ is_lookup in absurd (cc)))
+    (subst (SomeStep c.args.self.now p) (sym c.in-Reply.is)
+    (keeps_some c.args.self.now p (λ none. absurd (false≢true (c.in_err-heard-in-Reply.ensures.ignored none)))))
 
 pub returns-in_err-heard-in_default-clause-owed : goal.returns-in_err-heard-in_default-clause-owed
 returns-in_err-heard-in_default-clause-owed g c =
     let p = packet_content c.in_ok-packet.packet in
     owed c.from_residual-in_err-heard-in_default.result c.args.self.now c.args.bytes.now c.in_ok-packet.field-0-1.now p
     c.in_ok-packet.ensures.found
-    (one_step c.args.self.now p p.function (λ is_lookup. c.in_default.not-LookUp is_lookup))
+    (relays_some c.args.self.now p p.function (λ is_lookup. c.in_default.not-LookUp is_lookup)
+    (λ is_reply. c.in_default.not-Reply is_reply)
+    (λ none. absurd (false≢true (c.in_err-heard-in_default.ensures.ignored none))))

@@ -1,7 +1,8 @@
 use Rattle.std.proofs.Common.{ap, ◌∙◌, ◌≡◌, ◌++◌, map}
+use Rattle.std.proofs.lemmas.Bool.{false≢true}
 use Rattle.at_ddp.specs.Protocols.{atp_kind}
 use Rattle.at_atp_frame.specs.Frames.{content, spelled_all}
-use Rattle.at_atp_requester.specs.Requests.{heard}
+use Rattle.at_atp_requester.specs.Requests.{heard, is_ignored}
 use Rattle.at_node.specs.AtpParts.{AtpState, asking}
 use Rattle.at_event.specs.Outcomes.{posted, sent_by}
 use Rattle.at_node.proofs.RequesterLemmas.{comes_other, other_wanted}
@@ -42,9 +43,13 @@ pub returns-in_default-clause-comes : goal.returns-in_default-clause-comes
 returns-in_default-clause-comes g c = λ said.
     let requester = c.in_default.ensures.unchanged ∙ ap (λ (a : AtpState). a.requester) c.self.view_is in
     let same = ap (λ (a : AtpState). record a { requester = c.hear.new.requester }) c.self.view_is
-    ∙ (λ i. record c.args.self.now { requester = requester i }) in (
+    ∙ (λ i. record c.args.self.now { requester = requester i }) in
+    let step = ap
+    (λ (a : AtpState). is_ignored (heard {A = g.row.A.Denot} a.requester c.args.packet.now.from
+    (content c.args.packet.now.frame)).step) c.self.view_is in (
       same,
       c.in_default.ensures.nothing_sent,
-      other_wanted said c.args.packet.now.seat c.args.self.now
-          c.args.packet.now.from (content c.args.packet.now.frame) c.requires,
+      other_wanted said c.args.packet.now.seat c.args.self.now c.args.packet.now.from
+          (content c.args.packet.now.frame) c.requires
+          (λ is. absurd (false≢true (c.in_default.ensures.ignored (step ∙ is)))),
     )

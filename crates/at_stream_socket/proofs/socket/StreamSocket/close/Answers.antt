@@ -3,7 +3,7 @@ use Rattle.at_adsp_end.specs.Positions.{wire}
 use Rattle.at_adsp_ends.specs.Calls.{closed_at}
 use Rattle.at_adsp_ends.specs.Tables.{by_id}
 use Rattle.at_stream_socket.specs.Sockets.{told_by}
-use Rattle.at_stream_socket.proofs.CallLemmas.{IsBox, call_step, reported, told_some, told_takes}
+use Rattle.at_stream_socket.proofs.CallLemmas.{IsBox, call_step, closing_takes, reported, told_some}
 use Rattle.at_stream_socket.proofs.socket.StreamSocket.close.Goals as goal
 use Rattle.at_stream_socket.proofs.socket.StreamSocket.close.Goals.{in-Ok, in-Err}
 
@@ -26,4 +26,6 @@ returns g c =
     (call_step c.args.seat c.self.inside.ends c.close-closed.new.self told_by
     (closed_at wire c.self.inside.ends (by_id c.self.inside.ends c.args.id)) c.close-closed.result
     c.outbox_over-outbox.result c.close-closed.new.out c.args.out.now.items c.into_list.result.items
-    (told_some g.row.A.Denot) (told_takes g.row.A.Denot) box c.close-closed.ensures.call)
+    (told_some g.row.A.Denot)
+    (closing_takes g.row.A.Denot c.self.inside.ends (by_id c.self.inside.ends c.args.id)) box
+    c.close-closed.ensures.call)

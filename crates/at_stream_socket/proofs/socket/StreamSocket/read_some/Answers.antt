@@ -49,7 +49,7 @@ returns g c =
     rw (same, ← c.self.view_is)
     (call_step c.args.seat t c.read-read.new.self report.Read (read_at wire t c.args.count (by_id t c.args.id))
     (read_of c.read-read.result c.read-read.new.items) c.outbox_over-outbox.result c.read-read.new.out
-    c.args.out.now.items c.into_list.result.items (λ x. refl) (λ x. refl) box call)
+    c.args.out.now.items c.into_list.result.items (λ x. refl) (λ d is. refl) box call)
 
 pub returns-in_default : goal.returns-in_default
 returns-in_default g c =

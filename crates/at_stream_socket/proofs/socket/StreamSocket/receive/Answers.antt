@@ -3,7 +3,7 @@ use Rattle.std.proofs.lemmas.Bool.{eq-eqb, ne_eqb}
 use Rattle.at_ddp.specs.Datagram.{content}
 use Rattle.at_adsp_frame.specs.Segments.{content as segment_in}
 use Rattle.at_stream_socket.proofs.CallLemmas.{IsBox}
-use Rattle.at_stream_socket.proofs.HearLemmas.{fault_comes, other_ignored, reported, taken_comes}
+use Rattle.at_stream_socket.proofs.HearLemmas.{fault_comes, ignored_ok, other_ignored, reported, taken_comes}
 use Rattle.at_stream_socket.proofs.socket.StreamSocket.receive.Goals as goal
 use Rattle.at_stream_socket.proofs.socket.StreamSocket.receive.Goals.{in-Ok-heard, in-Err-heard}
 
@@ -36,9 +36,13 @@ returns-clause-comes g c =
           ∙ ap (reported {A = g.row.A.Denot}) (sym w.in-Ok-heard.is)
       | in-Err-heard w ↦ w.result-is ∙ ap (reported {A = g.row.A.Denot}) (sym w.in-Err-heard.is)
     ] in
+    let heeds = ignored_ok c.self.inside.ends d.from (segment_in c.in-Ok.segment) c.outbox_over-outbox.result
+    c.receive-heard.result
+    (c.what_is_ignored_does_nothing.ensures c.self.inside.ends d.from (segment_in c.in-Ok.segment))
+    c.receive-heard.ensures.memory in
     rw (same, ← c.self.view_is)
     (taken_comes g.row.A.Denot c.args.seat c.self.inside.ends d c.args.out.now.items
     (eq-eqb d.to.socket 130 c.if-datagram.false) c.receive-heard.new.self
     (segment_in c.in-Ok.segment) c.receive-heard.result c.outbox_over-outbox.result c.receive-heard.new.out
     c.into_list.result.items
-    c.in-Ok.ensures.found box c.receive-heard.ensures.taken)
+    c.in-Ok.ensures.found box c.receive-heard.ensures.taken heeds)

@@ -3,7 +3,7 @@ use Rattle.at_adsp_end.specs.Positions.{wire}
 use Rattle.at_adsp_ends.specs.Calls.{ticked_at}
 use Rattle.at_adsp_ends.specs.Tables.{by_id}
 use Rattle.at_stream_socket.specs.Sockets.{told_by}
-use Rattle.at_stream_socket.proofs.CallLemmas.{IsBox, call_step, reported, told_some, told_takes}
+use Rattle.at_stream_socket.proofs.CallLemmas.{IsBox, call_step, reported, ticking_takes, told_some}
 use Rattle.at_stream_socket.proofs.socket.StreamSocket.tick.Goals as goal
 use Rattle.at_stream_socket.proofs.socket.StreamSocket.tick.Goals.{in-Ok, in-Err}
 
@@ -26,4 +26,6 @@ returns g c =
     (call_step c.args.seat c.self.inside.ends c.tick-ticked.new.self told_by
     (ticked_at wire c.self.inside.ends c.args.tick (by_id c.self.inside.ends c.args.id)) c.tick-ticked.result
     c.outbox_over-outbox.result c.tick-ticked.new.out c.args.out.now.items c.into_list.result.items
-    (told_some g.row.A.Denot) (told_takes g.row.A.Denot) box c.tick-ticked.ensures.call)
+    (told_some g.row.A.Denot)
+    (ticking_takes g.row.A.Denot c.self.inside.ends c.args.tick (by_id c.self.inside.ends c.args.id)) box
+    c.tick-ticked.ensures.call)

@@ -26,4 +26,4 @@ returns g c =
     (call_step c.args.seat c.self.inside.ends c.write-wrote.new.self report.Wrote
     (wrote wire c.self.inside.ends c.args.items.now (by_id c.self.inside.ends c.args.id)) c.write-wrote.result
     c.outbox_over-outbox.result c.write-wrote.new.out c.args.out.now.items c.into_list.result.items (λ x. refl)
-    (λ x. refl) box c.write-wrote.ensures.call)
+    (λ d is. refl) box c.write-wrote.ensures.call)
