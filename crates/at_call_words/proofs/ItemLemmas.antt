@@ -1,14 +1,16 @@
 -- What the items of a stream are spelled by, one after the other.
 use Rattle.std.proofs.Common.{◌≡◌, ◌<◌, ◌≤◌, ℕ, ◌+◌, ◌%◌, Bool, true, false, cond, inl, inr, filter, codes, List, []}
 use Rattle.std.proofs.Common.{◌∷◌, ◌++◌, length, take, drop, map, Ok, refl, sym, ap, subst, ◌∙◌, append-nil}
-use Rattle.std.proofs.Common.{append_assoc, arith}
-use Rattle.std.specs.Prelude.{◌==◌}
-use Rattle.std.proofs.lemmas.Bool.{eqb-true}
-use Rattle.std.proofs.lemmas.List.{nil_from_length}
+use Rattle.std.proofs.Common.{append_assoc, arith, length-append, length-take-le, slice_index, take-append-drop}
+use Rattle.std.proofs.lemmas.List.{map-append, take_all, take_more}
+use Rattle.hex.proofs.Pairs.{cons_byte, decode_pairs-ok_pair}
 use Rattle.hex.specs.Hex.{decode_of, decode_pairs, pair_value, ◌>>=◌, digit_or_error, hex_digit_value}
 use Rattle.hex.specs.declared.error.FromHexError.{FromHexError}
 use Rattle.hex.proofs.HexLemmas.{decode_of-even, decode_of-ok}
-use Rattle.std.specs.Prelude.{Option, Some, None, Result, Err}
+use Rattle.std.specs.Prelude.{IfOk, Option, Some, None, Result, Err}
+use Rattle.at_faults.specs.declared.fault.LineFault.{LineFault}
+use Rattle.at_faults.specs.declared.fault.LineFault.TheVariants.{NoMemory, Unlawful}
+use Rattle.at_call_words.specs.Readings.{IfUnlawful}
 use Rattle.at_adsp_end.specs.declared.item.Item.{Item}
 use Rattle.at_adsp_end.specs.declared.item.Item.TheVariants.{Byte}
 use Rattle.at_call_words.specs.Items.{AreItems, IsRun}
@@ -106,44 +108,57 @@ pairs_anywhere i j (a ∷ b ∷ text) bytes h =
     let (more, are, whole) = then_ok (decode_pairs (i + 2) text) _ bytes rest in
     rw (pair_anywhere a b i j byte is_byte, pairs_anywhere (i + 2) (j + 2) text more are) whole
 
--- two digits more in front
-decode_next : (text pair after more : List ℕ) (byte : ℕ) → pair ≡ take 2 text → after ≡ drop 2 text → decode_of pair
-    ≡ Ok (byte ∷ []) → decode_of after ≡ Ok more → decode_of text ≡ Ok (byte ∷ more)
+pairs_more : (i j : ℕ) (block after bytes more : List ℕ) → decode_pairs i block ≡ Ok bytes
+    → decode_pairs j after ≡ Ok more → decode_pairs i (block ++ after) ≡ Ok (bytes ++ more)
 unfolding decode_pairs
-decode_next [] pair after more byte front back first rest = absurd (cc)
-decode_next (a ∷ []) pair after more byte front back first rest = absurd (cc)
-decode_next (a ∷ b ∷ text) pair after more byte front back first rest =
-    let both : decode_pairs 0 (a ∷ b ∷ []) ≡ Ok (byte ∷ []) = subst (λ p. decode_of p ≡ Ok (byte ∷ [])) front first in
-    let behind : decode_of text ≡ Ok more = subst (λ l. decode_of l ≡ Ok more) back rest in
-    let even : length text % 2 ≡ 0 = (decode_of-ok text more behind).0 in
-    let later = pairs_anywhere 0 2 text more (sym (decode_of-even text even) ∙ behind) in
-    let (value, is, left) = then_ok (pair_value a b 0) _ (byte ∷ []) both in
-    let same : value ≡ byte = cc in
-    decode_of-even (a ∷ b ∷ text) (omega (arith, even)) ∙ rw (is, later, same) refl
+pairs_more i j [] after bytes more first rest =
+    let none : bytes ≡ [] = cc in rw none (pairs_anywhere j i after more rest)
+pairs_more i j (a ∷ []) after bytes more first rest = absurd (cc)
+pairs_more i j (a ∷ b ∷ block) after bytes more first rest =
+    let (byte, is_byte, left) = then_ok (pair_value a b i) _ bytes first in
+    let (those, are, whole) = then_ok (decode_pairs (i + 2) block) _ bytes left in
+    let same : bytes ≡ byte ∷ those = cc in
+    decode_pairs-ok_pair i a b byte (block ++ after) is_byte
+    ∙ ap (cons_byte byte) (pairs_more (i + 2) j block after those more are rest)
+    ∙ ap (λ l. Ok (l ++ more)) (sym same)
 
-even_tail : (a b : ℕ) (text : List ℕ) → length (a ∷ b ∷ text) % 2 ≡ 0 → length text % 2 ≡ 0
-even_tail a b text even = omega (arith, even)
-
-one_pair : (a b byte : ℕ) → pair_value a b 0 ≡ Ok byte → decode_of (a ∷ b ∷ []) ≡ Ok (byte ∷ [])
+pairs_parts : (i : ℕ) (block after all : List ℕ) → length block % 2 ≡ 0 → decode_pairs i (block ++ after) ≡ Ok all
+    → (bytes more : List ℕ) × (decode_pairs i block ≡ Ok bytes) × (decode_pairs i after ≡ Ok more)
 unfolding decode_pairs
-one_pair a b byte is = rw is refl
+pairs_parts i [] after all even h = ([], all, refl, h)
+pairs_parts i (a ∷ []) after all even h = absurd (omega (arith, even))
+pairs_parts i (a ∷ b ∷ block) after all even h =
+    let (byte, is_byte, left) = then_ok (pair_value a b i) _ all h in
+    let (those, are, whole) = then_ok (decode_pairs (i + 2) (block ++ after)) _ all left in
+    let (bytes, more, front, back) = pairs_parts (i + 2) block after those (omega (arith, even)) are in
+    let first = decode_pairs-ok_pair i a b byte block is_byte ∙ ap (cons_byte byte) front in
+    (byte ∷ bytes, more, first, pairs_anywhere (i + 2) i after more back)
 
--- if pairs of digits are bytes, the first pair is one, and the pairs after it are bytes
-pub decode_split : (text pair after all : List ℕ) → pair ≡ take 2 text → after ≡ drop 2 text → 2 ≤ length text
-    → decode_of text ≡ Ok all → (byte : ℕ) × (more : List ℕ) × (decode_of pair ≡ Ok (byte ∷ []))
-    × (decode_of after ≡ Ok more)
-unfolding decode_pairs
-decode_split [] pair after all front back two h = absurd (omega (arith, two))
-decode_split (a ∷ []) pair after all front back two h = absurd (omega (arith, two))
-decode_split (a ∷ b ∷ text) pair after all front back two h =
-    let even = (decode_of-ok (a ∷ b ∷ text) all h).0 in
-    let pairs = sym (decode_of-even (a ∷ b ∷ text) even) ∙ h in
-    let (byte, is, rest) = then_ok (pair_value a b 0) _ all pairs in
-    let (more, are, whole) = then_ok (decode_pairs 2 text) _ all rest in (
-      byte,
+-- what digits spell by themselves, as pairs from a place on
+by_pairs : (text bytes : List ℕ) → decode_of text ≡ Ok bytes → decode_pairs 0 text ≡ Ok bytes
+by_pairs text bytes h = sym (decode_of-even text (decode_of-ok text bytes h).0) ∙ h
+
+of_pairs : (text bytes : List ℕ) → length text % 2 ≡ 0 → decode_pairs 0 text ≡ Ok bytes → decode_of text ≡ Ok bytes
+of_pairs text bytes even h = decode_of-even text even ∙ h
+
+-- what two texts of digits spell, one after the other
+decode_next : (block after bytes more : List ℕ) → decode_of block ≡ Ok bytes → decode_of after ≡ Ok more
+    → decode_of (block ++ after) ≡ Ok (bytes ++ more)
+decode_next block after bytes more first rest =
+    let even = (decode_of-ok block bytes first).0 in
+    let later = (decode_of-ok after more rest).0 in
+    of_pairs (block ++ after) (bytes ++ more) (omega (arith, even, later, length-append block after))
+    (pairs_more 0 0 block after bytes more (by_pairs block bytes first) (by_pairs after more rest))
+
+decode_split : (block after all : List ℕ) → length block % 2 ≡ 0 → decode_of (block ++ after) ≡ Ok all
+    → (bytes more : List ℕ) × (decode_of block ≡ Ok bytes) × (decode_of after ≡ Ok more)
+decode_split block after all even h =
+    let whole = (decode_of-ok (block ++ after) all h).0 in
+    let (bytes, more, front, back) = pairs_parts 0 block after all even (by_pairs (block ++ after) all h) in (
+      bytes,
       more,
-      ap decode_of front ∙ one_pair a b byte is,
-      ap decode_of back ∙ decode_of-even text (even_tail a b text even) ∙ pairs_anywhere 2 0 text more are,
+      of_pairs block bytes even front,
+      of_pairs after more (omega (arith, even, whole, length-append block after)) back,
     )
 
 -- the digits before the rest spell the bytes so far, which stand behind what was there before
@@ -156,48 +171,92 @@ BytesSoFar digits rest before items =
 pub no_bytes : (digits : List ℕ) (before : List Item) → BytesSoFar digits digits before before
 no_bytes digits before = (([], sym (append-nil before), λ more h. h), λ all h. (all, h))
 
-map_next : (bytes : List ℕ) (byte : ℕ) → map Byte bytes ++ Byte byte ∷ [] ≡ map Byte (bytes ++ byte ∷ [])
-map_next [] byte = refl
-map_next (b ∷ bytes) byte = ap (λ l. Byte b ∷ l) (map_next bytes byte)
+-- the items of some bytes, and of more
+pub items_more : (before items new : List Item) (bytes more : List ℕ) → items ≡ before ++ map Byte bytes
+    → new ≡ items ++ map Byte more → new ≡ before ++ map Byte (bytes ++ more)
+items_more before items new bytes more are more_are =
+    more_are ∙ ap (λ l. l ++ map Byte more) are ∙ append_assoc before (map Byte bytes) (map Byte more)
+    ∙ ap (λ l. before ++ l) (sym (map-append Byte bytes more))
 
-pub next_bytes : (digits rest pair after : List ℕ) (before items new : List Item) (byte : ℕ)
-    → BytesSoFar digits rest before items → pair ≡ take 2 rest → after ≡ drop 2 rest → 2 ≤ length rest → decode_of pair
-    ≡ Ok (byte ∷ [])
-    → new ≡ items ++ Byte byte ∷ [] → BytesSoFar digits after before new
-next_bytes digits rest pair after before items new byte ((bytes, are, follow), only) front back two is more_is = (
-  (
-    bytes ++ byte ∷ [],
-    more_is ∙ ap (λ l. l ++ Byte byte ∷ []) are ∙ append_assoc before (map Byte bytes) (Byte byte ∷ [])
-        ∙ ap (λ l. before ++ l) (map_next bytes byte),
-    λ more h. subst (λ l. decode_of digits ≡ Ok l) (sym (append_assoc bytes (byte ∷ []) more))
-        (follow (byte ∷ more) (decode_next rest pair after more byte front back is h)),
-  ),
-  λ all h. let (more, left) = only all h in let (b, later, first, behind) =
-      decode_split rest pair after more front back two left in (later, behind),
-)
+even_block : (rest block : List ℕ) → block ≡ take 128 rest → 128 ≤ length rest → length block % 2 ≡ 0
+even_block rest block front fits =
+    let long : length block ≡ 128 = ap length front ∙ length-take-le 128 rest fits in omega (arith, long)
 
-pub all_bytes : (digits rest : List ℕ) (before items : List Item) → BytesSoFar digits rest before items → rest ≡ []
-    → (bytes : List ℕ) × (decode_of digits ≡ Ok bytes) × (items ≡ before ++ map Byte bytes)
-unfolding decode_pairs
-all_bytes digits rest before items ((bytes, are, follow), only) none =
-    (bytes, subst (λ l. decode_of digits ≡ Ok l) (append-nil bytes) (follow [] (ap decode_of none)), are)
+-- a block is what is taken of the rest, and the rest what it leaves
+parts_of : (rest block after : List ℕ) (n : ℕ) → block ≡ take n rest → after ≡ drop n rest → rest ≡ block ++ after
+parts_of rest block after n front back = rw (front, back) (sym (take-append-drop n rest))
 
--- a pair that is no byte
-pub bad_pair : (digits rest pair after : List ℕ) (before items : List Item) → BytesSoFar digits rest before items
-    → pair ≡ take 2 rest → after ≡ drop 2 rest → 2 ≤ length rest → ((byte : ℕ) → ¬ (decode_of pair ≡ Ok (byte ∷ [])))
-    → (bytes : List ℕ) → ¬ (decode_of digits ≡ Ok bytes)
-bad_pair digits rest pair after before items (so_far, only) front back two never bytes h =
+pub next_bytes : (digits rest block after : List ℕ) (before items new : List Item) (run : List ℕ)
+    → BytesSoFar digits rest before items → block ≡ take 128 rest → after ≡ drop 128 rest → 128 ≤ length rest
+    → decode_of block ≡ Ok run → new ≡ items ++ map Byte run → BytesSoFar digits after before new
+next_bytes digits rest block after before items new run ((bytes, are, follow), only) front back fits is more_are =
+    let parts = parts_of rest block after 128 front back in (
+      (
+        bytes ++ run,
+        items_more before items new bytes run are more_are,
+        λ more h. subst (λ l. decode_of digits ≡ Ok l) (sym (append_assoc bytes run more))
+            (follow (run ++ more) (ap decode_of parts ∙ decode_next block after run more is h)),
+      ),
+      λ all h.
+          let (more, left) = only all h in
+          let (b, later, first, behind) =
+          decode_split block after more (even_block rest block front fits) (sym (ap decode_of parts) ∙ left) in
+          (later, behind),
+    )
+
+-- the last digits, which spell bytes
+pub all_bytes : (digits rest : List ℕ) (before items new : List Item) (run : List ℕ)
+    → BytesSoFar digits rest before items → decode_of rest ≡ Ok run → new ≡ items ++ map Byte run
+    → (bytes : List ℕ) × (decode_of digits ≡ Ok bytes) × (new ≡ before ++ map Byte bytes)
+all_bytes digits rest before items new run ((bytes, are, follow), only) is more_are =
+    (bytes ++ run, follow run is, items_more before items new bytes run are more_are)
+
+-- the last digits, which spell no bytes
+pub bad_rest : (digits rest : List ℕ) (before items : List Item) → BytesSoFar digits rest before items
+    → ((bytes : List ℕ) → ¬ (decode_of rest ≡ Ok bytes)) → (bytes : List ℕ) → ¬ (decode_of digits ≡ Ok bytes)
+bad_rest digits rest before items (so_far, only) never bytes h =
+    let (more, left) = only bytes h in never more left
+
+-- a block that spells no bytes
+pub bad_block : (digits rest block after : List ℕ) (before items : List Item) → BytesSoFar digits rest before items
+    → block ≡ take 128 rest → after ≡ drop 128 rest → 128 ≤ length rest
+    → ((bytes : List ℕ) → ¬ (decode_of block ≡ Ok bytes)) → (bytes : List ℕ) → ¬ (decode_of digits ≡ Ok bytes)
+bad_block digits rest block after before items (so_far, only) front back fits never bytes h =
     let (more, left) = only bytes h in
-    let (byte, later, first, behind) = decode_split rest pair after more front back two left in
-    never byte first
+    let parts = parts_of rest block after 128 front back in
+    let (run, later, first, behind) =
+    decode_split block after more (even_block rest block front fits) (sym (ap decode_of parts) ∙ left) in
+    never run first
 
--- a digit without another
-pub odd_digit : (digits rest : List ℕ) (before items : List Item) → BytesSoFar digits rest before items
-    → length rest < 2 → ¬ (length rest ≡ 0) → (bytes : List ℕ) → ¬ (decode_of digits ≡ Ok bytes)
-odd_digit digits rest before items (so_far, only) few some bytes h =
-    let (more, left) = only bytes h in
-    let (even, each, twice, are) = decode_of-ok rest more left in
-    some (omega (arith, few, even))
+-- the items of one byte more
+pub one_more : (before items new : List Item) (bytes : List ℕ) (at_ byte : ℕ) → at_ < length bytes
+    → byte ≡ slice_index bytes at_ → items ≡ before ++ map Byte (take at_ bytes) → new ≡ items ++ Byte byte ∷ []
+    → new ≡ before ++ map Byte (take (at_ + 1) bytes)
+one_more before items new bytes at_ byte fits is are more =
+    items_more before items new (take at_ bytes) (byte ∷ []) are more
+    ∙ ap (λ l. before ++ map Byte l) (ap (λ b. take at_ bytes ++ b ∷ []) is ∙ sym (take_more bytes at_ 0 fits))
 
-pub none_left : (rest : List ℕ) → (length rest == 0) ≡ true → rest ≡ []
-none_left rest h = nil_from_length rest (eqb-true (length rest) 0 h)
+-- the items of all bytes
+pub each_byte : (digits : List ℕ) (before items : List Item) (bytes : List ℕ) (at_ : ℕ) → decode_of digits ≡ Ok bytes
+    → length bytes ≤ at_ → items ≡ before ++ map Byte (take at_ bytes)
+    → (all : List ℕ) × (decode_of digits ≡ Ok all) × (items ≡ before ++ map Byte all)
+each_byte digits before items bytes at_ is end are =
+    (bytes, is, are ∙ ap (λ l. before ++ map Byte l) (take_all at_ bytes end))
+
+-- the last digits, which spell bytes, or break a rule
+pub last_bytes : {T : Type 0} (digits rest : List ℕ) (before items new : List Item)
+    → BytesSoFar digits rest before items → (r : Result T LineFault)
+    → IfOk r (λ x. (run : List ℕ) × (decode_of rest ≡ Ok run) × (new ≡ items ++ map Byte run))
+    → IfOk r (λ x. (bytes : List ℕ) × (decode_of digits ≡ Ok bytes) × (new ≡ before ++ map Byte bytes))
+last_bytes digits rest before items new so_far (Ok x) (run, is, more) =
+    all_bytes digits rest before items new run so_far is more
+last_bytes digits rest before items new so_far (Err e) said = said
+
+pub last_refused : {T : Type 0} (digits rest : List ℕ) (before items : List Item)
+    → BytesSoFar digits rest before items → (r : Result T LineFault)
+    → IfUnlawful r ((bytes : List ℕ) → ¬ (decode_of rest ≡ Ok bytes))
+    → IfUnlawful r ((bytes : List ℕ) → ¬ (decode_of digits ≡ Ok bytes))
+last_refused digits rest before items so_far (Ok x) only = tt
+last_refused digits rest before items so_far (Err (Unlawful rule)) only =
+    bad_rest digits rest before items so_far only
+last_refused digits rest before items so_far (Err NoMemory) only = tt

@@ -39,6 +39,12 @@ pub lacks_told : {S T : Type 0} (P : Type 0) (Q : T → Type 0) (q : Result S Li
 lacks_told P Q q r (Unlawful rule) was is lacks so = rw is (so (rw was at lacks))
 lacks_told P Q q r NoMemory was is lacks so = rw is tt
 
+-- a broken rule is told on, and what is so then
+pub lack_told : {S T : Type 0} (P Q : Type 0) (q : Result S LineFault) (r : Result T LineFault) (fault : LineFault)
+    → q ≡ Err fault → r ≡ Err fault → IfUnlawful q P → (P → Q) → IfUnlawful r Q
+lack_told P Q q r (Unlawful rule) was is lacks so = rw is (so (rw was at lacks))
+lack_told P Q q r NoMemory was is lacks so = rw is tt
+
 pub none_of : {T E : Type 0} (o : Option T) (e : E) (r : Result T E) (f : E) → r ≡ ok_or o e → r ≡ Err f → o ≡ None
 none_of None e r f is fault = refl
 none_of (Some y) e r f is fault = cc

@@ -1,5 +1,5 @@
 //! The items of a stream as words: bytes, and ends of messages.
-ghost use Rattle.std.specs.Prelude.{◌≡◌, ◌<◌, ◌++◌, List, ℕ, length, map, IfOk, Ok};
+ghost use Rattle.std.specs.Prelude.{◌≡◌, ◌<◌, ◌≤◌, ◌++◌, List, ℕ, length, map, IfOk, Ok};
 ghost use Rattle.hex.specs.Hex.{decode_of};
 ghost use Rattle.at_adsp_end.specs.declared.item.Item.{Item as Carried};
 ghost use Rattle.at_adsp_end.specs.declared.item.Item.TheVariants.{Byte};
@@ -10,8 +10,11 @@ ghost use Rattle.at_words.specs.Words.{words_of};
 use at_adsp_end::Item;
 use at_ddp::Listed;
 use at_faults::{LineFault, Rule};
-use at_words::{Words, any_byte};
+use at_words::{Words, put_bytes};
 use std::alloc::Allocator;
+
+// How many bytes are read at once.
+const BLOCK: usize = 64;
 
 /// `ITEM ..`: each word is pairs of hexadecimal digits, `-` for no bytes, or `end` for the end of a message. A word and
 /// the space before it have two bytes at least for each item, so the memory for all items is asked for at once.
@@ -52,14 +55,27 @@ fn push_bytes<A: Allocator>(items: &mut Vec<Item, A>, digits: &[u8]) -> Result<(
     ensures only { IfUnlawful result ((bytes : List ℕ) → ¬ (decode_of digits.now ≡ Ok bytes)) }
 {
     let mut rest = digits;
-    while let Some((pair, after)) = rest.split_at_checked(2) {
-        let byte = any_byte(pair).ok_or(LineFault::Unlawful(Rule::Write))?;
-        items.push(Item::Byte(byte))?;
+    while let Some((block, after)) = rest.split_at_checked(2 * BLOCK) {
+        push_block(items, block)?;
         rest = after;
     }
-    if rest.is_empty() {
-        Ok(())
-    } else {
-        Err(LineFault::Unlawful(Rule::Write))
+    push_block(items, rest)
+}
+
+// The bytes of one block.
+fn push_block<A: Allocator>(items: &mut Vec<Item, A>, digits: &[u8]) -> Result<(), LineFault>
+    requires { length digits.now ≤ 128 }
+    ensures said { IfOk result (λ _. (bytes : List ℕ)
+        × (decode_of digits.now ≡ Ok bytes) × (items.new.items ≡ items.old.items ++ map Byte bytes)) }
+    ensures only { IfUnlawful result ((bytes : List ℕ) → ¬ (decode_of digits.now ≡ Ok bytes)) }
+{
+    let mut room = [0u8; BLOCK];
+    let bytes = &mut room[..digits.len() / 2];
+    if !put_bytes(digits, bytes) {
+        return Err(LineFault::Unlawful(Rule::Write));
     }
+    for byte in bytes.iter() {
+        items.push(Item::Byte(*byte))?;
+    }
+    Ok(())
 }

@@ -1,5 +1,5 @@
 -- The first word of a line, and what it leaves.
-use Rattle.std.proofs.Common.{◌≡◌, ◌≢◌, ◌⊎◌, inl, inr, ℕ, ◌+◌, ◌-◌, ◌<◌, ◌==◌, suc, not, Bool, true, false, cond, List}
+use Rattle.std.proofs.Common.{◌≡◌, ◌≢◌, ◌⊎◌, inl, inr, ℕ, ◌+◌, ◌-◌, ◌<◌, ◌==◌, suc, not, Bool, true, false, cond, List, None, zero}
 use Rattle.std.proofs.Common.{[], ◌∷◌, length, filter, take, drop, Some, refl, sym, ap, subst, ◌∙◌, zero-add, arith}
 use Rattle.std.specs.Prelude.{Option}
 use Rattle.std.specs.Option.{unwrap_or}
@@ -8,6 +8,7 @@ use Rattle.std.proofs.lemmas.List.{length-drop, nil_from_length, take_all}
 use Rattle.std.proofs.lemmas.List.Splits.{slice_split-cons_no, slice_split-cons_yes}
 use Rattle.std.proofs.lemmas.Bool.{eq-eqb, eqb-true}
 use Rattle.std.proofs.lemmas.Bool.Decides.{eqb_tells}
+use Rattle.memchr.specs.Find.{IsFirstByte}
 use Rattle.at_words.specs.Words.{has_bytes, is_no_space, is_space, words_of}
 
 stops_at : (b : Bool) (k n m : ℕ) (r : Option ℕ) → unwrap_or r m ≡ k + 1 + n → unwrap_or (cond (not b) (Some k) r) m
@@ -30,6 +31,45 @@ pub first_at : (p q : ℕ → Bool) → ((c : ℕ) → q c ≡ not (p c)) → (x
     → unwrap_or (position_from q 0 xs) (length xs) ≡ prefix_len p xs
 first_at p q is xs = ap (unwrap_or (position_from q 0 xs)) (sym (zero-add (length xs))) ∙ fails_at p q is 0 xs
     ∙ zero-add (prefix_len p xs)
+
+abbrev moved : ℕ → Option ℕ → Option ℕ
+moved i None = None
+moved i (Some k) = Some (i + k)
+
+fails : (b : Bool) → ¬ (b ≡ true) → b ≡ false
+fails true h = absurd (h refl)
+fails false h = refl
+
+-- the first byte that passes a test, by its place in a text that begins at a place
+found_from : (test : ℕ → Bool) (i : ℕ) (xs : List ℕ) (r : Option ℕ) → IsFirstByte test xs r
+    → position_from test i xs ≡ moved i r
+found_from test i [] None h = refl
+found_from test i [] (Some k) h = let high = h.0.high in absurd (omega (arith, high))
+found_from test i (x ∷ xs) None h =
+    ap (λ b. cond b (Some i) (position_from test (i + 1) xs)) (fails (test x) (h 0 (omega arith) (omega arith)))
+    ∙ found_from test (i + 1) xs None (λ k low high. h (suc k) (omega arith) (omega (arith, high)))
+found_from test i (x ∷ xs) (Some zero) h =
+    ap (λ b. cond b (Some i) (position_from test (i + 1) xs)) h.1 ∙ ap Some (omega arith)
+found_from test i (x ∷ xs) (Some (suc k)) h =
+    let bound = h.0.high in
+    let later : IsFirstByte test xs (Some k) = (
+      record {
+        low = omega arith;
+        high = omega (arith, bound);
+        before = λ j low high. h.0.before (suc j) (omega arith) (omega (arith, high));
+      },
+      h.1,
+    ) in
+    ap (λ b. cond b (Some i) (position_from test (i + 1) xs))
+    (fails (test x) (h.0.before 0 (omega arith) (omega arith)))
+    ∙ found_from test (i + 1) xs (Some k) later ∙ ap Some (omega arith)
+
+same_place : (r : Option ℕ) → moved 0 r ≡ r
+same_place None = refl
+same_place (Some k) = ap Some (zero-add k)
+
+pub first_found : (test : ℕ → Bool) (xs : List ℕ) (r : Option ℕ) → IsFirstByte test xs r → r ≡ position_from test 0 xs
+first_found test xs r h = sym (found_from test 0 xs r h ∙ same_place r)
 
 pub not_not : (b : Bool) → b ≡ not (not b)
 not_not true = refl

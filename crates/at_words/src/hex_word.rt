@@ -3,6 +3,8 @@ ghost use Rattle.std.specs.Prelude.{◌<◌, ◌/◌, List, ℕ, length, vec_cap
 ghost use Rattle.at_words.specs.Hexes.{IsHex, IsUser};
 ghost use Rattle.at_words.specs.Readings.{IsFound};
 
+use crate::pairs::put_bytes;
+use crate::word::is_word;
 use hex::FromHex;
 use std::alloc::Allocator;
 
@@ -26,15 +28,16 @@ pub fn bytes_of<A: Allocator>(word: &[u8], room: &mut Vec<u8, A>) -> Result<(), 
         return Err(HexFault::NoHex);
     }
     room.clear();
-    if word == b"-".as_slice() {
+    if is_word(word, b"-") {
         return Ok(());
     }
     if room.resize(word.len() / 2, 0).is_err() {
         return Err(HexFault::NoMemory);
     }
-    match hex::decode_to_slice(word, room.as_mut_slice()) {
-        Ok(()) => Ok(()),
-        Err(_) => Err(HexFault::NoHex),
+    if put_bytes(word, room.as_mut_slice()) {
+        Ok(())
+    } else {
+        Err(HexFault::NoHex)
     }
 }
 

@@ -2,9 +2,11 @@
 #![tactic(auto)]
 
 mod hex_word;
+mod pairs;
 mod text_word;
 mod word;
 
 pub use hex_word::{HexFault, bytes_of, user_of};
-pub use text_word::{any_byte, text, zone_name};
+pub use pairs::put_bytes;
+pub use text_word::{text, zone_name};
 pub use word::{Words, byte, is_word, node_number, number, positive, two_bytes};

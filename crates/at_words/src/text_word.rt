@@ -62,8 +62,8 @@ fn text_byte(text: &[u8]) -> Option<(u8, &[u8])>
     }
 }
 
-/// The byte that two hexadecimal digits spell.
-pub fn any_byte(digits: &[u8]) -> Option<u8>
+// The byte that two hexadecimal digits spell.
+fn any_byte(digits: &[u8]) -> Option<u8>
     ensures { IsFound result (λ byte. decode_of digits.now ≡ Ok (byte ∷ [])) }
 {
     let bytes = <[u8; 1] as FromHex>::from_hex(digits).ok()?;

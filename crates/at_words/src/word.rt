@@ -5,6 +5,8 @@ ghost use Rattle.at_words.specs.Numbers.{IsByte, IsCount, IsNode, IsPositive, Is
 ghost use Rattle.at_words.specs.Readings.{IsFound};
 ghost use Rattle.at_words.specs.Words.{is_no_space, is_space, words_of};
 
+use memchr::memchr;
+
 /// The words of a line, parted by spaces.
 #[derive(Clone, Copy)]
 pub struct Words<'a> {
@@ -94,7 +96,7 @@ fn word_len(text: &[u8]) -> usize
 fn first_space(text: &[u8]) -> Option<usize>
     ensures { result ≡ position_from is_space 0 text.now }
 {
-    text.iter().position(|byte| *byte == b' ')
+    memchr(b' ', text)
 }
 
 /// The number that a word of digits writes, or the largest if it is larger.
