@@ -1,9 +1,11 @@
 #!/usr/bin/env python3
-"""Measures how many datagrams a second two nodes exchange over UDP: `python3 bench/udp.py PROGRAM`.
+"""Measures how many datagrams a second two nodes exchange over UDP: `python3 bench/udp.py ATNODE BENCH`.
 
-PROGRAM is the built `atnode`. A node asks its router for the zone list, over and over, and each of them polls once for
-what the other sent. Beside that a loop in C sends and receives payloads of the same sizes between two such sockets, in
-one process and with nothing around it. Both run five times in turn, and the fastest counts. `cc` has to be there.
+ATNODE and BENCH are the programs that the crates `atnode` and `bench` build. A node asks its router for the zone list,
+over and over, and each of them polls once for what the other sent. `bench udp` drives the nodes and no more. `atnode
+udp` reads each step as a line of text too, and prints what came of it. Beside them a loop in C sends and receives
+payloads of the same sizes between two such sockets, in one process and with nothing around it. All three run five times
+in turn, and the fastest of each counts. `cc` has to be there.
 """
 
 import pathlib
@@ -50,6 +52,11 @@ int main(int count, char **words) {
 """
 
 
+def printed_by(command):
+    """What a command prints, which has to succeed."""
+    return subprocess.run(command, check=True, stdin=subprocess.DEVNULL, capture_output=True, text=True).stdout
+
+
 def seconds_of(command):
     """How long a command takes, which has to succeed."""
     begun = time.perf_counter()
@@ -58,17 +65,21 @@ def seconds_of(command):
 
 
 with tempfile.TemporaryDirectory() as folder:
+    atnode, bench = sys.argv[1:]
     bare, source, schedule = (pathlib.Path(folder) / name for name in ("bare", "bare.c", "schedule.txt"))
     source.write_text(BARE)
     subprocess.run(["cc", "-O2", "-o", bare, source], check=True)
     schedule.write_text(SCHEDULE + ROUND * ROUNDS)
-    printed = subprocess.run([sys.argv[1], "udp", schedule], check=True, capture_output=True, text=True).stdout
-    lost = printed.count(" idle\n")
-    runs = [
-        (seconds_of([sys.argv[1], "udp", schedule]), seconds_of([bare, str(ROUNDS), str(FIRST)])) for _ in range(5)
-    ]
-    program, alone = (min(seconds) for seconds in zip(*runs))
-    print(f"{ROUNDS * 2} datagrams, of which {lost} were lost")
-    print(f"atnode udp: {ROUNDS * 2 / program:,.0f} a second")
-    print(f"bare sockets: {ROUNDS * 2 / alone:,.0f} a second")
-    print(f"atnode udp does {alone / program:.2f} of the bare sockets")
+    kinds = {
+        "bare sockets": [bare, str(ROUNDS), str(FIRST)],
+        "bench udp": [bench, "udp", str(FIRST), str(ROUNDS)],
+        "atnode udp": [atnode, "udp", schedule],
+    }
+    driven, played = printed_by(kinds["bench udp"]), printed_by(kinds["atnode udp"])
+    idle = played.count(" idle\n")
+    print(f"bench udp: {driven.strip()}")
+    print(f"atnode udp: idle {idle}")
+    runs = [[seconds_of(command) for command in kinds.values()] for _ in range(5)]
+    best = [min(seconds) for seconds in zip(*runs)]
+    for kind, seconds in zip(kinds, best):
+        print(f"{kind}: {ROUNDS * 2 / seconds:,.0f} datagrams a second, {best[0] / seconds:.2f} of the bare sockets")

@@ -11,6 +11,8 @@ mod hostile;
 #[cfg(test)]
 mod lines;
 #[cfg(test)]
+mod logs;
+#[cfg(test)]
 mod loopback;
 #[cfg(test)]
 mod schedules;

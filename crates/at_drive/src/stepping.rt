@@ -3,7 +3,8 @@ ghost use Rattle.std.specs.Prelude.{◌≡◌, ◌⊎◌, ◌∷◌, [], List, �
 ghost use Rattle.std.specs.Prelude.{IsErr};
 ghost use Rattle.at_cable.specs.declared.fault.CableFault.{CableFault as Fault};
 ghost use Rattle.at_world.specs.Worlds.{Receives, Takes};
-ghost use Rattle.at_drive.specs.Drives.{Drives, IsLeft, Plays, Polls, logged, most_bytes, number_of, opening_drive};
+ghost use Rattle.at_drive.specs.Drives.{Drives, IsLeft, Plays, Polls, logged, most_bytes, no_log, number_of};
+ghost use Rattle.at_drive.specs.Drives.{opening_drive};
 ghost use Rattle.at_drive.specs.Logs.{news_of};
 ghost use Rattle.at_drive.specs.Steps.{node_of, stands_in};
 
@@ -18,6 +19,7 @@ use at_setup::Setup;
 use at_world::{opening_nodes, take};
 use std::alloc::{AllocError, Allocator, Global};
 use std::marker::Model;
+use std::mem;
 
 /// The most bytes that a poll takes. No datagram is longer, so what is lost of a longer payload is padding.
 const MOST_BYTES: usize = 600;
@@ -65,6 +67,14 @@ impl<A: Allocator + Copy> Drive<A> {
         ensures { logged result.now ≡ self.now.log }
     {
         &self.log
+    }
+
+    /// Takes out what came of the steps so far, so that a drive that goes on for long need not keep it.
+    pub fn take_log(&mut self) -> Log<A>
+        ensures taken { logged result ≡ self.old.log }
+        ensures left { self.new ≡ record self.old { log = no_log } }
+    {
+        mem::replace(&mut self.log, Log::new(self.alloc))
     }
 
     /// What came of all steps.
