@@ -14,35 +14,45 @@ use at_words::{Words, byte, node_number, user_of};
 use std::alloc::Allocator;
 
 /// `NODE SOCKET USER DATA WANTED`, `alo` or `xo`, and `RETRIES`
-#[derive(Clone, Copy)]
+#[derive(Drop)]
 struct AskWords<'a> {
-    node: &'a [u8],
-    socket: &'a [u8],
-    user: &'a [u8],
+    node: u8,
+    socket: u8,
+    user: [u8; 4],
     data_: &'a [u8],
-    wanted: &'a [u8],
-    mode: &'a [u8],
-    retries: &'a [u8],
+    wanted: PacketCount,
+    exactly_once: bool,
+    retries: u8,
 }
 
 impl<'a> AskWords<'a> {
     fn of(mut words: Words<'a>) -> Option<AskWords<'a>>
-        ensures said { IfSome result (λ a. words_of words.entry.rest.now ≡ a.node.now ∷ a.socket.now ∷ a.user.now
-            ∷ a.data_.now ∷ a.wanted.now ∷ a.mode.now ∷ a.retries.now ∷ []) }
-        ensures only { IsNone result → (n s u d w m r : List ℕ)
-            → ¬ (words_of words.entry.rest.now ≡ n ∷ s ∷ u ∷ d ∷ w ∷ m ∷ r ∷ []) }
+        ensures said { IfSome result (λ a. (n s u w m r : List ℕ)
+            × (words_of words.entry.rest.now ≡ n ∷ s ∷ u ∷ a.data_.now ∷ w ∷ m ∷ r ∷ [])
+            × IsNode n a.node × IsNode s a.socket × IsUser u a.user
+            × IsWanted w a.wanted × IsMode m a.exactly_once × IsByte r a.retries) }
+        ensures only { IsNone result → (n s u d w m r : List ℕ) (node socket wanted retries : ℕ) (user : List ℕ)
+            (once : Bool) → words_of words.entry.rest.now ≡ n ∷ s ∷ u ∷ d ∷ w ∷ m ∷ r ∷ []
+            → IsNode n node → IsNode s socket → IsUser u user → IsWanted w wanted → IsMode m once
+            → ¬ IsByte r retries }
     {
-        let said = AskWords {
-            node: words.next()?,
-            socket: words.next()?,
-            user: words.next()?,
-            data_: words.next()?,
-            wanted: words.next()?,
-            mode: words.next()?,
-            retries: words.next()?,
-        };
+        let node = node_number(words.next()?)?;
+        let socket = node_number(words.next()?)?;
+        let user = user_of(words.next()?)?;
+        let data_ = words.next()?;
+        let wanted = wanted(words.next()?)?;
+        let exactly_once = is_exactly_once(words.next()?)?;
+        let retries = byte(words.next()?)?;
         words.end()?;
-        Some(said)
+        Some(AskWords {
+            node,
+            socket,
+            user,
+            data_,
+            wanted,
+            exactly_once,
+            retries,
+        })
     }
 }
 
@@ -64,54 +74,23 @@ fn wanted(word: &[u8]) -> Option<PacketCount>
     PacketCount::new(byte(word)?)
 }
 
-/// What an ask says, but for its data.
-#[derive(Drop)]
-struct AskNumbers {
-    node: u8,
-    socket: u8,
-    user: [u8; 4],
-    wanted: PacketCount,
-    exactly_once: bool,
-    retries: u8,
-}
-
-impl<'a> AskWords<'a> {
-    fn numbers(self) -> Option<AskNumbers>
-        ensures said { IfSome result (λ a. IsNode self.entry.node.now a.node × IsNode self.entry.socket.now a.socket
-            × IsUser self.entry.user.now a.user × IsWanted self.entry.wanted.now a.wanted
-            × IsMode self.entry.mode.now a.exactly_once × IsByte self.entry.retries.now a.retries) }
-        ensures only { IsNone result → (node socket wanted retries : ℕ) (user : List ℕ) (once : Bool)
-            → IsNode self.entry.node.now node → IsNode self.entry.socket.now socket → IsUser self.entry.user.now user
-            → IsWanted self.entry.wanted.now wanted → IsMode self.entry.mode.now once
-            → ¬ IsByte self.entry.retries.now retries }
-    {
-        let user = user_of(self.user)?;
-        Some(AskNumbers {
-            node: node_number(self.node)?,
-            socket: node_number(self.socket)?,
-            user,
-            wanted: wanted(self.wanted)?,
-            exactly_once: is_exactly_once(self.mode)?,
-            retries: byte(self.retries)?,
-        })
-    }
-}
-
 /// An ask, after its word.
 pub(crate) fn ask<A: Allocator>(alloc: A, words: Words<'_>) -> Result<Call<A>, LineFault>
     ensures { IsFoundInMemory result (SaysCall (codes "ask") (words_of words.entry.rest.now)) }
 {
-    let said = AskWords::of(words).ok_or(LineFault::Unlawful(Rule::Ask))?;
-    let numbers = said.numbers().ok_or(LineFault::Unlawful(Rule::Ask))?;
-    let user = numbers.user;
-    let data_ = data_of(alloc, said.data_)?;
-    Ok(Call::Ask {
-        node: numbers.node,
-        socket: numbers.socket,
-        user,
-        data_,
-        wanted: numbers.wanted,
-        exactly_once: numbers.exactly_once,
-        retries: numbers.retries,
-    })
+    let Some(said) = AskWords::of(words) else {
+        return Err(LineFault::Unlawful(Rule::Ask));
+    };
+    match data_of(alloc, said.data_) {
+        Ok(data_) => Ok(Call::Ask {
+            node: said.node,
+            socket: said.socket,
+            user: said.user,
+            data_,
+            wanted: said.wanted,
+            exactly_once: said.exactly_once,
+            retries: said.retries,
+        }),
+        Err(fault) => Err(fault),
+    }
 }

@@ -2,7 +2,6 @@
 ghost use Rattle.std.specs.Prelude.{codes};
 ghost use Rattle.at_call_words.specs.Calls.{AreCall, SaysCall};
 ghost use Rattle.at_call_words.specs.Readings.{IsFoundInMemory};
-ghost use Rattle.at_words.specs.Readings.{IsFound};
 ghost use Rattle.at_words.specs.Words.{words_of};
 
 use crate::answer_words::answer;
@@ -24,7 +23,8 @@ pub fn call_of<A: Allocator + Copy>(alloc: A, mut words: Words<'_>) -> Result<Ca
     said_by(alloc, word, words)
 }
 
-// The call of a word, with the words after it.
+// The call of a word, with the words after it. A function clears its locals as it begins, so what each kind of call
+// needs for itself stands in a function of its own.
 fn said_by<A: Allocator + Copy>(
     alloc: A,
     word: &[u8],
@@ -33,7 +33,7 @@ fn said_by<A: Allocator + Copy>(
     ensures { IsFoundInMemory result (SaysCall word.now (words_of words.entry.rest.now)) }
 {
     if is_word(word, b"zones") {
-        zones(words).ok_or(LineFault::Unlawful(Rule::CallZones))
+        zones(words)
     } else if is_word(word, b"setzones") {
         set_zones(alloc, words)
     } else if is_word(word, b"ask") {
@@ -41,39 +41,111 @@ fn said_by<A: Allocator + Copy>(
     } else if is_word(word, b"answer") {
         answer(alloc, words)
     } else if is_word(word, b"pick") {
-        pick(words).ok_or(LineFault::Unlawful(Rule::Pick))
+        pick_call(words)
     } else if is_word(word, b"find") {
-        find(words).ok_or(LineFault::Unlawful(Rule::Find))
+        find_call(words)
     } else if is_word(word, b"claim") {
-        claim(words).ok_or(LineFault::Unlawful(Rule::Claim))
+        claim_call(words)
     } else if is_word(word, b"finish") {
-        finish(words).ok_or(LineFault::Unlawful(Rule::Finish))
+        finish_call(words)
     } else if is_word(word, b"register") {
-        register(words).ok_or(LineFault::Unlawful(Rule::Register))
+        register_call(words)
     } else if is_word(word, b"unregister") {
-        unregister(words).ok_or(LineFault::Unlawful(Rule::Unregister))
+        unregister_call(words)
     } else if is_word(word, b"open") {
-        open(words).ok_or(LineFault::Unlawful(Rule::Open))
+        open_call(words)
     } else if is_word(word, b"listen") {
-        listen(words).ok_or(LineFault::Unlawful(Rule::Listen))
+        listen_call(words)
     } else if is_word(word, b"connect") {
-        connect(words).ok_or(LineFault::Unlawful(Rule::Connect))
+        connect_call(words)
     } else if is_word(word, b"write") {
         write(alloc, words)
     } else if is_word(word, b"read") {
-        read(words).ok_or(LineFault::Unlawful(Rule::Read))
+        read_call(words)
     } else if is_word(word, b"reset") {
-        reset(words).ok_or(LineFault::Unlawful(Rule::Reset))
+        reset_call(words)
     } else if is_word(word, b"close") {
-        close(words).ok_or(LineFault::Unlawful(Rule::Close))
+        close_call(words)
     } else {
         Err(LineFault::Unlawful(Rule::Call))
     }
 }
 
-fn zones<A: Allocator>(words: Words<'_>) -> Option<Call<A>>
-    ensures { IsFound result (SaysCall (codes "zones") (words_of words.entry.rest.now)) }
+fn zones<A: Allocator>(words: Words<'_>) -> Result<Call<A>, LineFault>
+    ensures { IsFoundInMemory result (SaysCall (codes "zones") (words_of words.entry.rest.now)) }
 {
-    words.end()?;
-    Some(Call::Zones)
+    words.end().ok_or(LineFault::Unlawful(Rule::CallZones))?;
+    Ok(Call::Zones)
+}
+
+fn pick_call<A: Allocator>(words: Words<'_>) -> Result<Call<A>, LineFault>
+    ensures { IsFoundInMemory result (SaysCall (codes "pick") (words_of words.entry.rest.now)) }
+{
+    pick(words).ok_or(LineFault::Unlawful(Rule::Pick))
+}
+
+fn find_call<A: Allocator>(words: Words<'_>) -> Result<Call<A>, LineFault>
+    ensures { IsFoundInMemory result (SaysCall (codes "find") (words_of words.entry.rest.now)) }
+{
+    find(words).ok_or(LineFault::Unlawful(Rule::Find))
+}
+
+fn claim_call<A: Allocator>(words: Words<'_>) -> Result<Call<A>, LineFault>
+    ensures { IsFoundInMemory result (SaysCall (codes "claim") (words_of words.entry.rest.now)) }
+{
+    claim(words).ok_or(LineFault::Unlawful(Rule::Claim))
+}
+
+fn finish_call<A: Allocator>(words: Words<'_>) -> Result<Call<A>, LineFault>
+    ensures { IsFoundInMemory result (SaysCall (codes "finish") (words_of words.entry.rest.now)) }
+{
+    finish(words).ok_or(LineFault::Unlawful(Rule::Finish))
+}
+
+fn register_call<A: Allocator>(words: Words<'_>) -> Result<Call<A>, LineFault>
+    ensures { IsFoundInMemory result (SaysCall (codes "register") (words_of words.entry.rest.now)) }
+{
+    register(words).ok_or(LineFault::Unlawful(Rule::Register))
+}
+
+fn unregister_call<A: Allocator>(words: Words<'_>) -> Result<Call<A>, LineFault>
+    ensures { IsFoundInMemory result (SaysCall (codes "unregister") (words_of words.entry.rest.now)) }
+{
+    unregister(words).ok_or(LineFault::Unlawful(Rule::Unregister))
+}
+
+fn open_call<A: Allocator>(words: Words<'_>) -> Result<Call<A>, LineFault>
+    ensures { IsFoundInMemory result (SaysCall (codes "open") (words_of words.entry.rest.now)) }
+{
+    open(words).ok_or(LineFault::Unlawful(Rule::Open))
+}
+
+fn listen_call<A: Allocator>(words: Words<'_>) -> Result<Call<A>, LineFault>
+    ensures { IsFoundInMemory result (SaysCall (codes "listen") (words_of words.entry.rest.now)) }
+{
+    listen(words).ok_or(LineFault::Unlawful(Rule::Listen))
+}
+
+fn connect_call<A: Allocator>(words: Words<'_>) -> Result<Call<A>, LineFault>
+    ensures { IsFoundInMemory result (SaysCall (codes "connect") (words_of words.entry.rest.now)) }
+{
+    connect(words).ok_or(LineFault::Unlawful(Rule::Connect))
+}
+
+fn read_call<A: Allocator>(words: Words<'_>) -> Result<Call<A>, LineFault>
+    ensures { IsFoundInMemory result (SaysCall (codes "read") (words_of words.entry.rest.now)) }
+{
+    read(words).ok_or(LineFault::Unlawful(Rule::Read))
+}
+
+fn reset_call<A: Allocator>(words: Words<'_>) -> Result<Call<A>, LineFault>
+    ensures { IsFoundInMemory result (SaysCall (codes "reset") (words_of words.entry.rest.now)) }
+{
+    reset(words).ok_or(LineFault::Unlawful(Rule::Reset))
+}
+
+fn close_call<A: Allocator>(words: Words<'_>) -> Result<Call<A>, LineFault>
+    ensures { IsFoundInMemory result (SaysCall (codes "close") (words_of words.entry.rest.now)) }
+{
+    close(words).ok_or(LineFault::Unlawful(Rule::Close))
 }

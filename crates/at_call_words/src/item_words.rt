@@ -1,5 +1,5 @@
 //! The items of a stream as words: bytes, and ends of messages.
-ghost use Rattle.std.specs.Prelude.{◌≡◌, ◌<◌, ◌≤◌, ◌++◌, List, ℕ, length, map, IfOk, Ok};
+ghost use Rattle.std.specs.Prelude.{◌≡◌, ◌<◌, ◌≤◌, ◌*◌, ◌++◌, List, ℕ, length, map, IfOk, Ok};
 ghost use Rattle.hex.specs.Hex.{decode_of};
 ghost use Rattle.at_adsp_end.specs.declared.item.Item.{Item as Carried};
 ghost use Rattle.at_adsp_end.specs.declared.item.Item.TheVariants.{Byte};
@@ -64,7 +64,7 @@ fn push_bytes<A: Allocator>(items: &mut Vec<Item, A>, digits: &[u8]) -> Result<(
 
 // The bytes of one block.
 fn push_block<A: Allocator>(items: &mut Vec<Item, A>, digits: &[u8]) -> Result<(), LineFault>
-    requires { length digits.now ≤ 128 }
+    requires { length digits.now ≤ 2 * BLOCK }
     ensures said { IfOk result (λ _. (bytes : List ℕ)
         × (decode_of digits.now ≡ Ok bytes) × (items.new.items ≡ items.old.items ++ map Byte bytes)) }
     ensures only { IfUnlawful result ((bytes : List ℕ) → ¬ (decode_of digits.now ≡ Ok bytes)) }

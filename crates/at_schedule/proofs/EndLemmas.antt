@@ -53,6 +53,6 @@ module _ (A : Type 0) (lines : List (List ℕ)) (d : Draft) (more : List (List �
       (subst (λ m. IsSetup (setup_words lines ++ map words_of m) s) router whole) read
 
 -- a schedule begins with the lines that were read
-pub begin_read : (A : Type 0) (lines : List (List ℕ)) (d : Draft) → CanEnd A 254 d (setup_words lines) → IsRead A lines d
-    → BeginSchedule A lines
+pub begin_read : (A : Type 0) (lines : List (List ℕ)) (d : Draft) → CanEnd A 254 d (setup_words lines)
+    → IsRead A lines d → BeginSchedule A lines
 begin_read A lines d end read = ended A lines d end.more end.setup end.ending end.over end.whole read

@@ -1,7 +1,6 @@
 -- A word says one kind of event.
-use Rattle.std.proofs.Common.{◌≡◌, ℕ, List, [], ◌∷◌, None, Err, ap, codes, subst}
+use Rattle.std.proofs.Common.{◌≡◌, ℕ, List, [], ◌∷◌, Err, ap, codes, subst}
 use Rattle.std.proofs.lemmas.Bool.{false≢true}
-use Rattle.std.specs.Prelude.{Option}
 use Rattle.std.specs.Str.{bytes_eq}
 use Rattle.at_call_words.specs.Readings.{IsFoundInMemory}
 use Rattle.at_faults.specs.declared.fault.LineFault.{LineFault}
@@ -10,19 +9,14 @@ use Rattle.at_setup.specs.declared.event.Event.{Event}
 use Rattle.at_setup.specs.declared.event.Event.TheVariants as event
 use Rattle.at_schedule.specs.Says.{DeliverSays, ForgeSays, SaysEvent}
 use Rattle.at_words.specs.Hexes.{IsHex}
-use Rattle.at_words.specs.Readings.{IsFound}
 
-no_delivery_of : {A : Type 0} (ws : List (List ℕ)) → ((which node : ℕ) → ¬ DeliverSays ws which node) → (e : Event A)
+-- words that say no delivery say no event after this word
+pub no_delivery : {A : Type 0} (ws : List (List ℕ)) → ((which node : ℕ) → ¬ DeliverSays ws which node) → (e : Event A)
     → ¬ SaysEvent (codes "deliver") ws e
-no_delivery_of ws never (event.Call node c) (is, said) = cc is
-no_delivery_of ws never (event.Deliver which node) (is, said) = never which node said
-no_delivery_of ws never (event.Timer node t) (is, said) = cc is
-no_delivery_of ws never (event.Forge node bytes) (is, said) = cc is
-
--- a reader gives nothing, and the words say no delivery
-pub no_delivery : {A : Type 0} (o : Option (Event A)) (ws : List (List ℕ)) → o ≡ None
-    → ((which node : ℕ) → ¬ DeliverSays ws which node) → IsFound o (SaysEvent (codes "deliver") ws)
-no_delivery o ws none never = rw none (no_delivery_of ws never)
+no_delivery ws never (event.Call node c) (is, said) = cc is
+no_delivery ws never (event.Deliver which node) (is, said) = never which node said
+no_delivery ws never (event.Timer node t) (is, said) = cc is
+no_delivery ws never (event.Forge node bytes) (is, said) = cc is
 
 no_forgery_of : {A : Type 0} (ws : List (List ℕ)) → ((node : ℕ) (bytes : List ℕ) → ¬ ForgeSays ws node bytes)
     → (e : Event A) → ¬ SaysEvent (codes "forge") ws e

@@ -2,7 +2,7 @@
 use Rattle.std.proofs.Common.{ℕ, List, [], ◌∷◌, ◌++◌, subst, append_assoc}
 use Rattle.at_setup_lines.specs.Drafts.{Draft, Refuses}
 use Rattle.at_setup_lines.specs.FirstWords.{HasHead, HaveHeads}
-use Rattle.at_setup_lines.specs.SetupLines.{BeginSetup, IsSetup}
+use Rattle.at_setup_lines.specs.SetupLines.{IsSetup}
 use Rattle.at_setup.specs.declared.setup.Setup.{Setup}
 
 head_at : (before after : List (List (List ℕ))) (line : List (List ℕ)) → HaveHeads (before ++ line ∷ after)

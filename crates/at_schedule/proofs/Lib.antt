@@ -1,6 +1,7 @@
 mod CutLemmas
 mod EndLemmas
 mod EventLemmas
+pub mod FaultLemmas
 mod HeadLemmas
 mod LineLemmas
 mod OrderLemmas

@@ -1,7 +1,7 @@
 -- The lines that are left to read.
 use Rattle.std.proofs.Common.{◌≡◌, ℕ, ◌-◌, ◌<◌, ◌==◌, ◌&&◌, nat_lt, Bool, true, false, if◌then◌else◌, List, [], ◌∷◌}
-use Rattle.std.proofs.Common.{◌++◌, length, take, get_or, Some, None, Ok, Err, Result, IfOk, IfSome, rules, refl, sym}
-use Rattle.std.proofs.Common.{ap, inl, inr, subst, ◌∙◌, append-nil, append_assoc, arith}
+use Rattle.std.proofs.Common.{◌++◌, length, take, get_or, Some, None, Ok, Err, Result, IfErr, IfOk, IfSome, rules, refl}
+use Rattle.std.proofs.Common.{sym, ap, inl, inr, subst, ◌∙◌, append-nil, append_assoc, arith}
 use Rattle.std.proofs.Common.{◌+◌, ◌^◌, min}
 use Rattle.std.proofs.lemmas.List.{length-append}
 use Rattle.std.specs.Prelude.{Option}
@@ -17,6 +17,7 @@ use Rattle.at_faults.specs.Reads.{IsOfRead}
 use Rattle.at_call_words.specs.Readings.{IfUnlawful}
 use Rattle.at_setup_lines.specs.Drafts.{Draft, IsDraft, IsNoSetup}
 use Rattle.at_setup_lines.specs.SetupLines.{IsSetup}
+use Rattle.at_setup.specs.Setups.{is_lawful}
 use Rattle.at_setup.specs.declared.setup.Setup.{Setup}
 use Rattle.at_schedule.specs.Drafts.{BeginSchedule, HoldsSetup, IsLineFault, IsRead, IsSchedule}
 use Rattle.at_schedule.specs.Drafts.{number_after}
@@ -89,14 +90,18 @@ left_more (Some all) (Some rest) new read piece h is drops =
     ∙ ap (λ l. l ∷ lines_in (drop_through 10 rest)) (sym is.1) in
     rw drops (h ∙ ap (λ l. read ++ l) next ∙ sym (append_assoc read (piece ∷ []) (lines_in (drop_through 10 rest))))
 
-pub next_left : {X E : Type 0} (bytes : X → List ℕ) (line : Result X E) (x : X) (byte : ℕ)
-    (first known new : Option (List ℕ)) (read : List (List ℕ)) → line ≡ Ok x → byte ≡ 10 → Left first known read
-    → IfOk line (λ y. IfSome known (λ xs. (0 < length xs) × (bytes y ≡ first_piece byte xs))
-    × DropsThrough known new byte) → Left first new (read ++ bytes x ∷ [])
-next_left bytes line x byte first known new read was is left piece =
-    let here = rw was at piece in
-    let piece' = rw is at here in
-    left_more first known new read (bytes x) left piece'.0 piece'.1
+some_through : (text : List ℕ) → 0 < length (take_through 10 text) → 0 < length text
+some_through [] some = some
+some_through (c ∷ text) some = omega arith
+
+-- what was read through the first line feed, without that, is the first line of a text that is known
+pub line_read : (known : Option (List ℕ)) (before read line : List ℕ) → before ≡ []
+    → IfSome known (λ text. read ≡ before ++ take_through 10 text) → 0 < length read → line ≡ strip_last 10 read
+    → IfSome known (λ text. (0 < length text) × (line ≡ first_piece 10 text))
+line_read None before read line none is some last = tt
+line_read (Some text) before read line none is some last =
+    let whole : read ≡ take_through 10 text = is ∙ ap (λ l. l ++ take_through 10 text) none in
+    (some_through text (subst (λ l. 0 < length l) whole some), last ∙ ap (strip_last 10) whole)
 
 -- one line more has the next number
 pub numbered_more : (read : List (List ℕ)) (line : List ℕ) (number : ℕ) → number ≡ number_after read
@@ -146,6 +151,28 @@ none_begins A (Some all) (Some rest) read line number rule is left begins never 
 no_memory : (A : Type 0) (first : Option (List ℕ)) → IsLineFault A first fault.NoMemory
 no_memory A None = tt
 no_memory A (Some text) = tt
+
+-- what there is of a text after whose last line the draft was ended
+pub setup_held : (A : Type 0) (first now : Option (List ℕ)) (read : List (List ℕ)) (d : Draft)
+    (r : Result (Setup A) Fault) → Left first now read → IsAtEnd now → IsRead A read d
+    → IfOk r (λ s. (ls : List (List (List ℕ))) → IsDraft ls d → IsSetup ls s) → IfOk r (HoldsSetup first)
+setup_held A first now read d (Ok s) left end so_far said = all_held A first now read d s left end so_far said
+setup_held A first now read d (Err fault) left end so_far said = tt
+
+pub setup_lawful : (A : Type 0) (read : List (List ℕ)) (d : Draft) (r : Result (Setup A) Fault) → IsRead A read d
+    → IfOk r (λ s. (ls : List (List (List ℕ))) → IsDraft ls d → IsSetup ls s) → IfOk r (λ s. is_lawful s ≡ true)
+setup_lawful A read d (Ok s) so_far said = (said (setup_words read) so_far.0).1
+setup_lawful A read d (Err fault) so_far said = tt
+
+pub setup_missed : (A : Type 0) (first now : Option (List ℕ)) (read : List (List ℕ)) (d : Draft) (number : ℕ)
+    (r : Result (Setup A) Fault) → number ≡ number_after read → Left first now read → IsAtEnd now → IsRead A read d
+    → BeginSchedule A read
+    → IfErr r (λ told. IsNoSetup A d × ((rule : Rule) × (told ≡ fault.Line number rule)))
+    → IfErr r (IsLineFault A first)
+setup_missed A first now read d number (Ok s) is left end so_far begins only = tt
+setup_missed A first now read d number (Err told) is left end so_far begins (never, (rule, line)) =
+    subst (IsLineFault A first) (sym line)
+    (none_held A first now read d number rule is left end so_far begins never)
 
 -- what is told of a line that was refused
 abbrev pub IsToldAs : LineFault → ℕ → Fault → Type 0

@@ -2,10 +2,8 @@
 use Rattle.std.proofs.Common.{◌≡◌, ◌⊎◌, ◌<◌, ℕ, Bool, true, false, List, [], ◌∷◌, ◌++◌, filter, length, Ok, Err, Result}
 use Rattle.std.proofs.Common.{IfErr, inl, inr, refl, sym, ap, subst, ◌∙◌, append-nil, append_assoc, arith}
 use Rattle.std.specs.Prelude.{◌≢◌}
-use Rattle.std.specs.Result.{IsErrAnd}
 use Rattle.std.proofs.lemmas.List.{length-append}
-use Rattle.std.proofs.lemmas.Result.{err_from_is_err_and}
-use Rattle.at_call_words.specs.Readings.{IfUnlawful, IsFoundInMemory}
+use Rattle.at_call_words.specs.Readings.{IfUnlawful}
 use Rattle.at_faults.specs.declared.fault.LineFault.{LineFault}
 use Rattle.at_faults.specs.declared.fault.LineFault.TheVariants.{NoMemory, Unlawful}
 use Rattle.at_setup_lines.specs.Drafts.{Draft, IsDraft, IsNoSetup, Refuses, Takes, has_events}
@@ -143,30 +141,6 @@ pub unlawful_of : {T : Type 0} (P : Type 0) (r : Result T LineFault) → IfErr r
 unlawful_of P (Ok x) h = tt
 unlawful_of P (Err (Unlawful rule)) h = h (λ same. cc same)
 unlawful_of P (Err NoMemory) h = tt
-
-unlawful_by : {S T : Type 0} (P Q : Type 0) (q : Result S LineFault) (r : Result T LineFault) (fault : LineFault) → q
-    ≡ Err fault → r ≡ Err fault → IfUnlawful q P → (P → Q) → IfUnlawful r Q
-unlawful_by P Q q r (Unlawful rule) was is h so = rw is (so (rw was at h))
-unlawful_by P Q q r NoMemory was is h so = rw is tt
-
-nothing_by : {S T : Type 0} (P : S → Type 0) (Q : Type 0) (q : Result S LineFault) (r : Result T LineFault)
-    (fault : LineFault) → q ≡ Err fault → r ≡ Err fault → IsFoundInMemory q P → (((x : S) → ¬ P x) → Q) → IfUnlawful r Q
-nothing_by P Q q r (Unlawful rule) was is h so = rw is (so (rw was at h))
-nothing_by P Q q r NoMemory was is h so = rw is tt
-
--- a fault of a reader is told on, unless a growth was refused
-pub unlawful_on : {S T : Type 0} (P Q : Type 0) (q : Result S LineFault) (r : Result T LineFault) (fault : LineFault)
-    → q ≡ Err fault → IsErrAnd r (λ f. f ≡ fault) → IfUnlawful q P → (P → Q) → IfUnlawful r Q
-unlawful_on P Q q r fault was exit h so =
-    let (f, is, same) = err_from_is_err_and r exit in
-    unlawful_by P Q q r fault was (is ∙ ap Err same) h so
-
-pub nothing_on : {S T : Type 0} (P : S → Type 0) (Q : Type 0) (q : Result S LineFault) (r : Result T LineFault)
-    (fault : LineFault) → q ≡ Err fault → IsErrAnd r (λ f. f ≡ fault) → IsFoundInMemory q P → (((x : S) → ¬ P x) → Q)
-    → IfUnlawful r Q
-nothing_on P Q q r fault was exit h so =
-    let (f, is, same) = err_from_is_err_and r exit in
-    nothing_by P Q q r fault was (is ∙ ap Err same) h so
 
 -- ---- why a line is refused, as its first word tells
 

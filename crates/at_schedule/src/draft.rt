@@ -1,5 +1,5 @@
 //! A schedule of which some lines are read.
-ghost use Rattle.std.specs.Prelude.{◌≡◌, ◌⊎◌, ◌↔◌, ◌++◌, ◌∷◌, [], List, ℕ, false, true, IfOk, OnErr, OnOk};
+ghost use Rattle.std.specs.Prelude.{◌≡◌, ◌⊎◌, ◌↔◌, ◌++◌, ◌∷◌, [], List, ℕ, false, true, Some, IfOk, OnErr, OnOk};
 ghost use Rattle.at_call_words.specs.Readings.{IfUnlawful, IsFoundInMemory};
 ghost use Rattle.at_setup_lines.specs.Drafts.{IsDraft, IsNoSetup, Refuses, Takes, has_events};
 ghost use Rattle.at_setup_lines.specs.SetupLines.{IsSetup};
@@ -62,25 +62,31 @@ impl<A: Allocator + Copy> Draft<A> {
             return Err(LineFault::Unlawful(Rule::SpacesAlone));
         };
         if is_event_word(word) {
-            let event = self.take_event(word, words)?;
-            Ok(Some(event))
+            self.take_event(word, words)
         } else {
-            self.take_head(word, words)?;
-            Ok(None)
+            match self.take_head(word, words) {
+                Ok(()) => Ok(None),
+                Err(fault) => Err(fault),
+            }
         }
     }
 
-    fn take_event(&mut self, word: &[u8], words: Words<'_>) -> Result<Event<A>, LineFault>
-        ensures said { IfOk result (SaysEvent word.now (words_of words.entry.rest.now)) }
+    fn take_event(&mut self, word: &[u8], words: Words<'_>) -> Result<Option<Event<A>>, LineFault>
+        ensures said { IfOk result (λ found. (e : Happening A) × (found ≡ Some e)
+            × SaysEvent word.now (words_of words.entry.rest.now) e) }
         ensures taken { OnOk result ((has_events self.new ≡ true)
             × ((lines : List (List (List ℕ))) → IsDraft lines self.old → IsDraft lines self.new)) }
         ensures kept { OnErr result (self.new ≡ self.old) }
         ensures only { IfUnlawful result
             (((e : Happening A) → ¬ SaysEvent word.now (words_of words.entry.rest.now) e) ⊎ IsNoSetup A self.old) }
     {
-        let event = event_of(self.alloc, word, words)?;
-        self.begin_event()?;
-        Ok(event)
+        match event_of(self.alloc, word, words) {
+            Ok(event) => match self.begin_event() {
+                Ok(()) => Ok(Some(event)),
+                Err(fault) => Err(fault),
+            },
+            Err(fault) => Err(fault),
+        }
     }
 
     fn begin_event(&mut self) -> Result<(), LineFault>
@@ -124,7 +130,7 @@ fn event_of<A: Allocator + Copy>(
 {
     match word {
         b"call" => call_event(alloc, words),
-        b"deliver" => delivery_event(words).ok_or(LineFault::Unlawful(Rule::Deliver)),
+        b"deliver" => delivery_event(words),
         b"timer" => timer_event(words),
         b"forge" => forged_event(alloc, words),
         _ => Err(LineFault::Unlawful(Rule::FirstWord)),

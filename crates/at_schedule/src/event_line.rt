@@ -1,8 +1,7 @@
 //! The line of an event, after its first word.
-ghost use Rattle.std.specs.Prelude.{codes};
+ghost use Rattle.std.specs.Prelude.{ℕ, codes, IfSome, IsNone};
 ghost use Rattle.at_call_words.specs.Readings.{IsFoundInMemory};
-ghost use Rattle.at_schedule.specs.Says.{SaysEvent};
-ghost use Rattle.at_words.specs.Readings.{IsFound};
+ghost use Rattle.at_schedule.specs.Says.{DeliverSays, SaysEvent};
 ghost use Rattle.at_words.specs.Words.{words_of};
 
 use at_call_words::{call_of, data_of, timer_of};
@@ -20,18 +19,32 @@ pub(crate) fn call_event<A: Allocator + Copy>(
 {
     let node = words.next().ok_or(LineFault::Unlawful(Rule::Call))?;
     let node = node_number(node).ok_or(LineFault::Unlawful(Rule::Call))?;
-    let call = call_of(alloc, words)?;
-    Ok(Event::Call { node, call })
+    match call_of(alloc, words) {
+        Ok(call) => Ok(Event::Call { node, call }),
+        Err(fault) => Err(fault),
+    }
 }
 
 /// `K N`
-pub(crate) fn delivery_event<A: Allocator>(mut words: Words<'_>) -> Option<Event<A>>
-    ensures { IsFound result (SaysEvent (codes "deliver") (words_of words.entry.rest.now)) }
+pub(crate) fn delivery_event<A: Allocator>(words: Words<'_>) -> Result<Event<A>, LineFault>
+    ensures { IsFoundInMemory result (SaysEvent (codes "deliver") (words_of words.entry.rest.now)) }
+{
+    match delivery(words) {
+        Some((which, node)) => Ok(Event::Deliver { which, node }),
+        None => Err(LineFault::Unlawful(Rule::Deliver)),
+    }
+}
+
+// A datagram's number and a node's.
+fn delivery(mut words: Words<'_>) -> Option<(u64, u8)>
+    ensures said { IfSome result (λ r. DeliverSays (words_of words.entry.rest.now) r.0 r.1) }
+    ensures only { IsNone result
+        → (which node : ℕ) → ¬ DeliverSays (words_of words.entry.rest.now) which node }
 {
     let which = number(words.next()?)?;
     let node = node_number(words.next()?)?;
     words.end()?;
-    Some(Event::Deliver { which, node })
+    Some((which, node))
 }
 
 /// `N` and a timer.

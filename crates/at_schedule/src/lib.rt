@@ -10,4 +10,4 @@ mod schedule;
 pub use at_faults::{Fault, LineFault, Rule, Unreadable};
 pub use cutting::cut_line;
 pub use draft::{Draft, is_passed_over};
-pub use schedule::{fault_at, lines_of, read_setup};
+pub use schedule::{fault_at, next_line, read_setup};

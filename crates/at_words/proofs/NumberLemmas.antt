@@ -27,7 +27,7 @@ split : (word : List ℕ) (i : ℕ) → i < length word → drop i word ≡ get_
 split word i lt = rw (add-one, drop-cons word i 0) refl
 
 pub Reads-next : (most n n' : ℕ) (word : List ℕ) (i : ℕ) → i < length word → IsInRange 48 57 (get_or word i 0) → n'
-    ≡ min (min (n * 10) most + (get_or word i 0 - 48)) most →
+    ≡ min (n * 10 + (get_or word i 0 - 48)) most →
     Reads most word i n → Reads most word (i + 1) n'
 Reads-next most n n' word i lt digit next reads =
     let c = get_or word i 0 in

@@ -1,5 +1,7 @@
 -- Pairs of digits that are read side by side, and what the first of them spell.
-use Rattle.std.proofs.Common.{◌≡◌, ◌<◌, ◌≤◌, ◌+◌, ◌*◌, ◌/◌, ◌%◌, ℕ, codes, if◌then◌else◌, List, length, take, drop, slice_index, slice_set, Some, None, Ok, Err, Result, true, false, ◌⊎◌, inl, inr, max, refl, ap, ◌∙◌, arith}
+use Rattle.std.proofs.Common.{◌≡◌, ◌<◌, ◌≤◌, ◌+◌, ◌*◌, ◌/◌, ◌%◌, ℕ, codes, if◌then◌else◌, List, length, take, drop}
+use Rattle.std.proofs.Common.{slice_index, slice_set, Some, None, Ok, Err, Result, true, false, ◌⊎◌, inl, inr, max}
+use Rattle.std.proofs.Common.{refl, ap, ◌∙◌, arith}
 use Rattle.std.proofs.lemmas.List.Elements.{All-get_or}
 use Rattle.std.specs.Result.{is_err, is_ok}
 use Rattle.hex.specs.Hex.{decode_of, decode_pairs, hex_digit_value, is_hex_digit, pair_value}
@@ -30,9 +32,6 @@ pair_of : (high low a b place : ℕ) → hex_digit_value high ≡ Some a → hex
     → pair_value high low place ≡ Ok (a * 16 + b)
 pair_of high low a b place first second = rw (first, second) refl
 
-small : (a : ℕ) → a < 16 → a % 16 ≡ a
-small a fits = omega (arith, fits)
-
 -- what the largest of three says of each
 highest : (a b c : ℕ) → (max (max a b) c < 16 → (a < 16) × (b < 16) × (c < 16))
     × (15 < max (max a b) c → (15 < a) ⊎ (15 < b) ⊎ (15 < c))
@@ -45,12 +44,14 @@ pub read_more : (digits room : List ℕ) (place largest a b : ℕ) → 2 * place
     → IsReadTo digits (slice_set room place (a % 16 * 16 + b % 16)) (place + 1) (max (max largest a) b)
 read_more digits room place largest a b fits room_fits before first second =
     let bounds = highest largest a b in (
-      λ low.
-          let (la, aa, bb) = bounds.0 low in
-          let pair = pair_of (slice_index digits (2 * place)) (slice_index digits (2 * place + 1)) a b (2 * place) (first.0 aa) (second.0 bb) in
+      λ under.
+          let (la, aa, bb) = bounds.0 under in
+          let high = slice_index digits (2 * place) in
+          let low = slice_index digits (2 * place + 1) in
+          let pair = pair_of high low a b (2 * place) (first.0 aa) (second.0 bb) in
           let value : a * 16 + b ≡ a % 16 * 16 + b % 16 = omega (arith, aa, bb) in
           decode_step digits room place (a % 16 * 16 + b % 16) fits room_fits (pair ∙ ap Ok value) (before.0 la),
-      λ high. elim (bounds.1 high) [
+      λ over. elim (bounds.1 over) [
         | inl there ↦ before.1 there
         | inr later ↦ elim later [
           | inl other ↦ (2 * place, omega (arith, fits), first.1 other)
@@ -70,7 +71,8 @@ read_whole digits room place largest half even end read low =
 pub other_spells_none : (digits bytes : List ℕ) → HasOther digits → ¬ (decode_of digits ≡ Ok bytes)
 other_spells_none digits bytes (place, fits, none) decoded =
     let (even, each, twice, bound) = decode_of-ok digits bytes decoded in
-    let digit : is_hex_digit (slice_index digits place) ≡ true = All-get_or (λ d. is_hex_digit d ≡ true) digits place 0 fits each in
+    let digit : is_hex_digit (slice_index digits place) ≡ true =
+    All-get_or (λ d. is_hex_digit d ≡ true) digits place 0 fits each in
     cc (none, digit)
 
 -- what is longer or shorter spells no such bytes

@@ -1,5 +1,6 @@
 -- The first word of a line, and what it leaves.
-use Rattle.std.proofs.Common.{◌≡◌, ◌≢◌, ◌⊎◌, inl, inr, ℕ, ◌+◌, ◌-◌, ◌<◌, ◌==◌, suc, not, Bool, true, false, cond, List, None, zero}
+use Rattle.std.proofs.Common.{◌≡◌, ◌≢◌, ◌⊎◌, inl, inr, ℕ, ◌+◌, ◌-◌, ◌<◌, ◌==◌, suc, not, Bool, true, false, cond}
+use Rattle.std.proofs.Common.{List, None, zero}
 use Rattle.std.proofs.Common.{[], ◌∷◌, length, filter, take, drop, Some, refl, sym, ap, subst, ◌∙◌, zero-add, arith}
 use Rattle.std.specs.Prelude.{Option}
 use Rattle.std.specs.Option.{unwrap_or}

@@ -1,5 +1,5 @@
 //! The words of a line, and the number that a word says.
-ghost use Rattle.std.specs.Prelude.{◌≡◌, ◌<◌, ◌≤◌, ◌↔◌, ◌∷◌, [], List, ℕ, true, false, length, IsSome};
+ghost use Rattle.std.specs.Prelude.{◌≡◌, ◌<◌, ◌≤◌, ◌↔◌, ◌+◌, ◌*◌, ◌∷◌, [], List, ℕ, true, false, length, min, IsSome};
 ghost use Rattle.std.specs.List.{position_from, prefix_len};
 ghost use Rattle.at_words.specs.Numbers.{IsByte, IsCount, IsNode, IsPositive, IsTwoBytes};
 ghost use Rattle.at_words.specs.Readings.{IsFound};
@@ -96,7 +96,12 @@ fn word_len(text: &[u8]) -> usize
 fn first_space(text: &[u8]) -> Option<usize>
     ensures { result ≡ position_from is_space 0 text.now }
 {
-    memchr(b' ', text)
+    // A word is mostly over before memchr would pay.
+    if text.len() < 64 {
+        text.iter().position(|byte| *byte == b' ')
+    } else {
+        memchr(b' ', text)
+    }
 }
 
 /// The number that a word of digits writes, or the largest if it is larger.
@@ -111,11 +116,20 @@ pub fn number(word: &[u8]) -> Option<u64>
         if !byte.is_ascii_digit() {
             return None;
         }
-        number = number
-            .saturating_mul(10)
-            .saturating_add(u64::from(*byte - b'0'));
+        number = with_digit(number, *byte - b'0');
     }
     Some(number)
+}
+
+// One digit more, or the largest number.
+fn with_digit(number: u64, digit: u8) -> u64
+    ensures { result ≡ min (number * 10 + digit) 18446744073709551615 }
+{
+    if number < 1_000_000_000_000_000_000 {
+        number * 10 + u64::from(digit)
+    } else {
+        number.saturating_mul(10).saturating_add(u64::from(digit))
+    }
 }
 
 /// The number of a node or of a socket, 1 to 254.

@@ -6,7 +6,8 @@ use Rattle.at_call_words.proofs.item_words.push_block.Goals as goal
 pub returns-then-not-put_bytes-clause-only : goal.returns-then-not-put_bytes-clause-only
 returns-then-not-put_bytes-clause-only g c bytes decoded =
     let (even, each, twice, are) = decode_of-ok c.args.digits.now bytes decoded in
-    c.put_bytes.ensures.only c.if-not-put_bytes.true bytes (omega (arith, twice, c.requires, length-take {A = ℕ})) decoded
+    c.put_bytes.ensures.only c.if-not-put_bytes.true bytes
+    (omega (arith, twice, c.requires, length-take {A = ℕ})) decoded
 
 pub loop-byte-init : goal.loop-byte-init
 loop-byte-init g c = sym (append-nil c.args.items.now.items)

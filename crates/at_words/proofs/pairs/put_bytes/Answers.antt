@@ -2,7 +2,8 @@ use Rattle.std.proofs.Common.{◌<◌, ◌*◌, ◌+◌, length, slice_index, ar
 use Rattle.std.proofs.lemmas.Bool.{ltb-false, ltb-true}
 use Rattle.at_words.proofs.PairLemmas.{IsRead, length_spells, none_read, other_spells_none, read_more, read_whole}
 use Rattle.at_words.proofs.pairs.put_bytes.Goals as goal
-use Rattle.at_words.proofs.pairs.put_bytes.Goals.{then-digits-room-via-then-digits-room, then-digits-room-via-else-digits-room+then-digits-ne0}
+use Rattle.at_words.proofs.pairs.put_bytes.Goals.{then-digits-room-via-then-digits-room}
+use Rattle.at_words.proofs.pairs.put_bytes.Goals.{then-digits-room-via-else-digits-room+then-digits-ne0}
 
 pub returns-then-digits-room-clause-only : goal.returns-then-digits-room-clause-only
 returns-then-digits-room-clause-only c none bytes fits decoded =
@@ -24,7 +25,8 @@ loop-place-preserved c =
     let low : IsRead (slice_index digits (2 * place + 1)) c.value_of-low.result =
     (c.value_of-low.ensures.digit, c.value_of-low.ensures.other) in
     let room = c.loop-place.auto.room in
-    let pair : 2 * place + 1 < length digits = omega (arith, c.if-digits-room.false, c.if-digits-ne0.false, room, c.loop-place-test.true) in
+    let pair : 2 * place + 1 < length digits =
+    omega (arith, c.if-digits-room.false, c.if-digits-ne0.false, room, c.loop-place-test.true) in
     rw (c.max-largest.ensures, c.max.ensures)
     (read_more digits c.loop-place.room place c.loop-place.largest c.value_of-high.result c.value_of-low.result pair
     (omega (arith, room, c.loop-place-test.true)) c.loop-place.invariant high low)

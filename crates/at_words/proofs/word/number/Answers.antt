@@ -6,7 +6,7 @@ use Rattle.at_words.proofs.word.number.Goals as goal
 pub loop-byte-preserved : goal.loop-byte-preserved
 loop-byte-preserved c =
     let digit = rw c.if-not-is_ascii_digit.false at c.is_ascii_digit.ensures.cases in
-    Reads-next 18446744073709551615 c.loop-byte.number c.saturating_add-number.result c.args.word.now
+    Reads-next 18446744073709551615 c.loop-byte.number c.with_digit-number.result c.args.word.now
     c.loop-byte.byte-index (omega arith) digit (omega arith) c.loop-byte.invariant
 
 pub returns : goal.returns
