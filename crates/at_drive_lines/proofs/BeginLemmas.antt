@@ -1,13 +1,13 @@
 -- A drive begins with the lines that were read.
-use Rattle.std.proofs.Common.{◌≡◌, ◌⊎◌, ℕ, ◌+◌, ◌-◌, ◌<◌, ◌≤◌, Bool, true, false, not, List, [], ◌∷◌, ◌++◌, length, inl}
-use Rattle.std.proofs.Common.{inr, refl, sym, ap, subst, ◌∙◌, append-nil, append_assoc, nat_le, nat_lt, arith, codes, filter}
-use Rattle.std.proofs.Common.{map, min}
-use Rattle.std.proofs.lemmas.Bool.{and_from, and_parts, cases_lt, false≢true, le-leb, leb-true, ltb-true, or_parts}
+use Rattle.std.proofs.Common.{◌≡◌, ℕ, ◌+◌, ◌-◌, ◌<◌, ◌≤◌, Bool, true, false, not, List, [], ◌∷◌, ◌++◌, length, inl}
+use Rattle.std.proofs.Common.{inr, refl, sym, ap, subst, ◌∙◌, append-nil, nat_le, nat_lt, arith, codes}
+use Rattle.std.proofs.Common.{filter, map, min}
+use Rattle.std.proofs.lemmas.Bool.{and_from, and_parts, cases_lt, false≢true, le-leb, leb-true, ltb-true}
 use Rattle.std.proofs.lemmas.List.{map-append}
 use Rattle.std.proofs.lemmas.List.Elements.{filter-append}
 use Rattle.std.proofs.lemmas.List.Folds.{list_all-append}
 use Rattle.std.specs.Prelude.{◌==◌, ◌&&◌, ◌||◌, count_by}
-use Rattle.std.specs.List.{AllZip, list_all, list_any}
+use Rattle.std.specs.List.{list_all, list_any}
 use Rattle.at_words.specs.Words.{words_of}
 use Rattle.at_setup.specs.Setups.{are_lawful_nodes, has_router, is_lawful, is_lawful_node, is_lawful_table, is_room}
 use Rattle.at_setup.specs.Setups.{are_in_zones, stands_once}
@@ -17,10 +17,9 @@ use Rattle.at_setup_lines.specs.Drafts.{Draft, IsDraft, has_events}
 use Rattle.at_setup_lines.specs.Endings.{CanEnd, HasPlace, IsEnding}
 use Rattle.at_setup_lines.specs.NodeLists.{lacks_router}
 use Rattle.at_setup_lines.specs.SetupLines.{IsSetup, SaysNet}
-use Rattle.at_drive.specs.Steps.{has_all, node_of, number_in, numbers_of, stands_in}
-use Rattle.at_drive.specs.declared.step.Step.{Step}
+use Rattle.at_drive.specs.Steps.{node_of}
 use Rattle.at_drive_lines.specs.Drafts.{BeginDrive, HasBody, HasRead, HasReadAt, is_heard, words_in}
-use Rattle.at_drive_lines.specs.Says.{AreDrive, AreStep, SaysPort, have_ports, leave_port}
+use Rattle.at_drive_lines.specs.Says.{AreDrive, SaysPort, have_ports, leave_port}
 use Rattle.at_drive_lines.specs.declared.draft.DriveDraft.{DriveDraft}
 use Rattle.at_drive_lines.specs.declared.draft.Stage.{Stage}
 use Rattle.at_drive_lines.specs.declared.draft.Stage.TheVariants.{Body, Net, Port}
@@ -60,9 +59,10 @@ each_lawful A s h =
     let b = and_parts net (are_lawful_nodes ns) a.0 in
     let few = nat_le (length ns) 16 in
     let one = nat_le (count_by (λ n. n.router) ns) 1 in
-    let c = and_parts (few && list_all is_lawful_node ns && list_all (stands_once ns) ns && one) (are_in_zones ns) b.1 in
-    let d = and_parts (few && list_all is_lawful_node ns && list_all (stands_once ns) ns) one c.0 in
-    let e = and_parts (few && list_all is_lawful_node ns) (list_all (stands_once ns) ns) d.0 in
+    let lawful = few && list_all is_lawful_node ns in
+    let c = and_parts (lawful && list_all (stands_once ns) ns && one) (are_in_zones ns) b.1 in
+    let d = and_parts (lawful && list_all (stands_once ns) ns) one c.0 in
+    let e = and_parts lawful (list_all (stands_once ns) ns) d.0 in
     (and_parts few (list_all is_lawful_node ns) e.0).1
 
 fits_above : (port most : ℕ) (ns : List NodeSetup) → port + most ≤ 65535 → list_all (λ n. nat_le n.node most) ns ≡ true
@@ -71,8 +71,8 @@ fits_above port most [] small h = refl
 fits_above port most (n ∷ ns) small h =
     let parts = and_parts (nat_le n.node most) (list_all (λ m. nat_le m.node most) ns) h in
     let fits = leb-true n.node most parts.0 in
-    and_from (nat_le (port + n.node) 65535) (have_ports port ns) (le-leb (port + n.node) 65535 (omega (arith, small, fits)))
-    (fits_above port most ns small parts.1)
+    and_from (nat_le (port + n.node) 65535) (have_ports port ns)
+    (le-leb (port + n.node) 65535 (omega (arith, small, fits))) (fits_above port most ns small parts.1)
 
 -- ---- a router that has to follow
 

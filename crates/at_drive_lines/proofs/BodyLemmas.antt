@@ -1,5 +1,5 @@
 -- What is read with a line more.
-use Rattle.std.proofs.Common.{◌≡◌, ◌⊎◌, ℕ, ◌<◌, Bool, true, false, List, [], ◌∷◌, ◌++◌, length, inl, inr, refl, sym, ap}
+use Rattle.std.proofs.Common.{◌≡◌, ℕ, Bool, true, false, List, [], ◌∷◌, ◌++◌, length, inl, inr, refl, sym, ap}
 use Rattle.std.proofs.Common.{subst, ◌∙◌, append-nil, append_assoc, arith}
 use Rattle.std.proofs.lemmas.Bool.{and_parts, false≢true}
 use Rattle.std.proofs.lemmas.List.{length-append}
@@ -8,7 +8,7 @@ use Rattle.std.specs.List.{AllZip, list_all, list_any}
 use Rattle.at_setup.specs.declared.setup.NodeSetup.{NodeSetup}
 use Rattle.at_setup.specs.declared.setup.Setup.{Setup}
 use Rattle.at_setup_lines.specs.Drafts.{Draft, IsDraft, IsDraftAt, Takes, has_events, is_event, setup_of}
-use Rattle.at_setup_lines.specs.SetupLines.{AreSetup, IsSetup, SayTable, SaysNode}
+use Rattle.at_setup_lines.specs.SetupLines.{IsSetup, SayTable, SaysNode}
 use Rattle.at_setup_lines.specs.declared.draft.Stage.{Stage}
 use Rattle.at_setup_lines.specs.declared.draft.Stage.TheVariants.{Event, Net, Node, Table}
 use Rattle.at_drive.specs.Steps.{node_of}

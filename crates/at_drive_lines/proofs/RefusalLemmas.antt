@@ -1,8 +1,8 @@
 -- With which lines no drive goes on.
-use Rattle.std.proofs.Common.{◌≡◌, ℕ, ◌+◌, ◌-◌, ◌<◌, ◌≤◌, Bool, true, false, not, List, [], ◌∷◌, ◌++◌, length, inl, inr}
-use Rattle.std.proofs.Common.{Ok, Err, Result, refl, sym, ap, subst, ◌∙◌, append_assoc, nat_le, nat_lt, arith, codes}
+use Rattle.std.proofs.Common.{◌≡◌, ℕ, ◌+◌, ◌-◌, ◌≤◌, Bool, true, false, not, List, [], ◌∷◌, ◌++◌, length}
+use Rattle.std.proofs.Common.{Ok, Err, refl, sym, ap, subst, ◌∙◌, append_assoc, nat_le, nat_lt, arith}
 use Rattle.std.proofs.lemmas.Bool.{and_from, false≢true, ltb-false, or_parts}
-use Rattle.std.specs.Prelude.{IsErr, ◌≢◌, ◌==◌, ◌&&◌, ◌||◌, map}
+use Rattle.std.specs.Prelude.{IsErr, ◌≢◌, ◌==◌, ◌&&◌}
 use Rattle.std.specs.List.{AllZip, list_all, list_any}
 use Rattle.std.specs.Str.Parse.{digits_value}
 use Rattle.at_call_words.specs.Readings.{IfUnlawful, IsFoundInMemory}
@@ -11,16 +11,17 @@ use Rattle.at_faults.specs.declared.fault.LineFault.TheVariants.{NoMemory, Unlaw
 use Rattle.at_setup.specs.declared.setup.NodeSetup.{NodeSetup}
 use Rattle.at_setup.specs.declared.setup.Setup.{Setup}
 use Rattle.at_setup_lines.specs.Drafts.{Draft, IsDraft, IsNoSetup, Refuses, has_events}
-use Rattle.at_setup_lines.specs.FirstWords.{HasHead, HaveHeads}
+use Rattle.at_setup_lines.specs.FirstWords.{HaveHeads}
 use Rattle.at_setup_lines.specs.NodeLists.{lacks_router}
 use Rattle.at_setup_lines.specs.SetupLines.{IsSetup}
-use Rattle.at_drive.specs.Steps.{node_of, number_in, numbers_of, stands_in}
+use Rattle.at_drive.specs.Steps.{node_of, numbers_of, stands_in}
 use Rattle.at_drive.specs.declared.step.Step.{Step}
 use Rattle.at_drive_lines.specs.Drafts.{HasBody}
 use Rattle.at_drive_lines.specs.Says.{AreDrive, AreStep, SaysPort, begins_step, have_ports, leave_port}
 use Rattle.at_drive_lines.specs.declared.draft.DriveDraft.{DriveDraft}
 use Rattle.at_drive_lines.proofs.StepLemmas.{AllSteps, all_at, all_first, all_one, heads_plain, same_step_node, split}
-use Rattle.at_drive_lines.proofs.StepLemmas.{split_head, stands_by, starts_all, starts_late, starts_step, zip_at, zip_steps}
+use Rattle.at_drive_lines.proofs.StepLemmas.{split_head, stands_by, starts_all, starts_late, starts_step, zip_at}
+use Rattle.at_drive_lines.proofs.StepLemmas.{zip_steps}
 
 -- ---- what a call told
 
@@ -33,11 +34,6 @@ pub nothing_if : (T : Type 0) {S : Type 0} (fault : LineFault) (P : S → Type 0
     → IsFoundInMemory (Err fault) P → (((x : S) → ¬ P x) → Q) → IfUnlawful {T = T} (Err fault) Q
 nothing_if T (Unlawful rule) P Q h so = so h
 nothing_if T NoMemory P Q h so = tt
-
-pub unlawful_map : {T : Type 0} (r : Result T LineFault) (P Q : Type 0) → IfUnlawful r P → (P → Q) → IfUnlawful r Q
-unlawful_map (Ok x) P Q h so = tt
-unlawful_map (Err (Unlawful rule)) P Q h so = so h
-unlawful_map (Err NoMemory) P Q h so = tt
 
 -- what is never so at an answer that is no error
 pub early_by : {T : Type 0} (x : T) (b : Bool) → (b ≡ true → IsErr {T = T} {E = LineFault} (Ok x)) → b ≡ false

@@ -1,5 +1,5 @@
 -- What each line does to a draft at its stage.
-use Rattle.std.proofs.Common.{◌≡◌, ℕ, ◌+◌, ◌≤◌, Bool, true, false, List, [], ◌∷◌, ◌++◌, length, refl, sym, ap, subst}
+use Rattle.std.proofs.Common.{◌≡◌, ℕ, ◌+◌, ◌≤◌, true, false, List, [], ◌∷◌, ◌++◌, length, sym, ap, subst}
 use Rattle.std.proofs.Common.{◌∙◌}
 use Rattle.std.specs.Prelude.{◌==◌, ◌&&◌}
 use Rattle.std.specs.List.{list_any}
@@ -12,7 +12,7 @@ use Rattle.at_setup_lines.specs.SetupLines.{IsSetup}
 use Rattle.at_drive.specs.Steps.{node_of}
 use Rattle.at_drive.specs.declared.step.Step.{Step}
 use Rattle.at_drive_lines.specs.Drafts.{Adds, Bars, HasBody, HasRead, HasReadAt}
-use Rattle.at_drive_lines.specs.Says.{AreDrive, AreStep, SaysPort, begins_step, have_ports, leave_port}
+use Rattle.at_drive_lines.specs.Says.{AreStep, SaysPort, begins_step, have_ports, leave_port}
 use Rattle.at_drive_lines.specs.declared.draft.DriveDraft.{DriveDraft}
 use Rattle.at_drive_lines.specs.declared.draft.Stage.TheVariants.{Body, Net, Port}
 use Rattle.at_drive_lines.proofs.BodyLemmas.{event_setup, head_taken, port_taken, step_taken}

@@ -1,7 +1,7 @@
 -- A line more of the text of a drive.
-use Rattle.std.proofs.Common.{◌≡◌, ◌⊎◌, ℕ, ◌+◌, ◌-◌, ◌^◌, ◌<◌, Bool, true, false, not, List, [], ◌∷◌, ◌++◌, length, inl}
+use Rattle.std.proofs.Common.{◌≡◌, ℕ, ◌+◌, ◌-◌, ◌^◌, true, false, not, List, [], ◌∷◌, ◌++◌, length, inl}
 use Rattle.std.proofs.Common.{inr, refl, sym, ap, subst, ◌∙◌, append-nil, append_assoc, arith, cond, map, min}
-use Rattle.std.proofs.Common.{Ok, Err, Result}
+use Rattle.std.proofs.Common.{Err, Result}
 use Rattle.std.proofs.lemmas.Bool.Decides.{nat_tests}
 use Rattle.std.proofs.lemmas.List.{length-append}
 use Rattle.std.specs.Prelude.{◌==◌}
@@ -105,8 +105,8 @@ no_blank A setups d lines read more s port steps t =
 
 -- ---- the lines that are left
 
--- These lines were read, of which the draft was read, the others are in what is left of the text, and the number is that
--- of the next line.
+-- These lines were read, of which the draft was read, the others are in what is left of the text, and the number is
+-- that of the next line.
 abbrev pub SoFar : (A : Type 0) → List ℕ → List ℕ → ℕ → DriveDraft A → Type 0
 SoFar A text rest number d =
     (read : List (List ℕ)) × (lines_in text ≡ read ++ lines_in rest) × HasRead A (words_in read) d

@@ -1,14 +1,15 @@
 //! Where the line of a node stands.
-ghost use Rattle.std.specs.Prelude.{◌≡◌, ◌↔◌, true, IfSome};
+ghost use Rattle.std.specs.Prelude.{◌↔◌, IfNone, IfSome, IsTrue};
 ghost use Rattle.at_schedule.specs.Schedules.{lines_in};
-ghost use Rattle.at_drive_lines.specs.NodeLines.{IsLineOf, Names};
+ghost use Rattle.at_drive_lines.specs.NodeLines.{IsFirstLineOf, Names, NoneNames};
 
 use at_schedule::cut_line;
 use at_words::{Words, node_number};
 
 /// The number of the first line, counted from 1, that begins with `node` and this node's number.
 pub fn line_of_node(text: &[u8], node: u8) -> Option<usize>
-    ensures { IfSome result (IsLineOf (lines_in text.now) node) }
+    ensures found { IfSome result (IsFirstLineOf (lines_in text.now) node) }
+    ensures none { IfNone result (NoneNames (lines_in text.now) node) }
 {
     let mut number = 1usize;
     let mut rest = text;
@@ -24,7 +25,7 @@ pub fn line_of_node(text: &[u8], node: u8) -> Option<usize>
 }
 
 fn names(line: &[u8], node: u8) -> bool
-    ensures { result ≡ true → Names node line.now }
+    ensures { IsTrue result ↔ Names node line.now }
 {
     let mut words = Words::of(line);
     if !words.take_if(b"node") {

@@ -2,7 +2,8 @@ use Rattle.std.proofs.Common.{[], ◌++◌, ◌∷◌, List, ℕ, refl, sym, ◌
 use Rattle.at_drive_lines.specs.Drafts.{BeginDrive, HasRead, words_in}
 use Rattle.at_drive_lines.specs.Says.{AreDrive}
 use Rattle.at_drive_lines.proofs.BeginLemmas.{begins}
-use Rattle.at_drive_lines.proofs.TextLemmas.{at_fault, broken_of, cut_short, nothing_left, read_next, told_as, whole_text}
+use Rattle.at_drive_lines.proofs.TextLemmas.{at_fault, broken_of, cut_short, nothing_left, read_next, told_as}
+use Rattle.at_drive_lines.proofs.TextLemmas.{whole_text}
 use Rattle.at_drive_lines.proofs.text.read_drive.Goals as goal
 
 pub loop-rest-init : goal.loop-rest-init

@@ -1,4 +1,4 @@
-use Rattle.std.proofs.Common.{◌≡◌, ◌∷◌, ◌∙◌, false, refl, sym, ap}
+use Rattle.std.proofs.Common.{◌∷◌, ◌∙◌, refl, sym, ap}
 use Rattle.std.specs.Prelude.{◌&&◌}
 use Rattle.at_words.specs.Words.{words_of}
 use Rattle.at_setup_lines.specs.Drafts.{Refuses, has_events}

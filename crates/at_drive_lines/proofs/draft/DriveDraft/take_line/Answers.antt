@@ -2,7 +2,7 @@ use Rattle.std.proofs.Common.{◌≡◌, ◌∷◌, ◌++◌, ◌∙◌, [], Lis
 use Rattle.at_words.specs.Words.{words_of}
 use Rattle.at_drive_lines.specs.Drafts.{Bars, BeginDrive, HasRead, words_in}
 use Rattle.at_drive_lines.specs.contracts.draft.DriveDraft.take_line.{A-type}
-use Rattle.at_drive_lines.proofs.RefusalLemmas.{unlawful_map}
+use Rattle.at_schedule.proofs.FaultLemmas.{unlawful_map}
 use Rattle.at_drive_lines.proofs.TextLemmas.{barred, no_blank}
 use Rattle.at_drive_lines.proofs.draft.DriveDraft.take_line.Goals as goal
 
