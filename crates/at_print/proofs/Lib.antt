@@ -1,4 +1,4 @@
 mod NameLineLemmas
-mod PrintLemmas
+pub mod PrintLemmas
 mod ReportLemmas
 mod StreamLemmas

@@ -11,7 +11,7 @@ use Rattle.std.specs.List.{concat}
 use Rattle.std.specs.Int.{from_bool}
 use Rattle.at_atp_frame.specs.Frames.{Request, Response}
 use Rattle.std.specs.Prelude.{codes}
-use Rattle.std.proofs.KnownBytes.{Appends-trans}
+use Rattle.std.proofs.KnownBytes.{Appends-nil, Appends-trans}
 use Rattle.at_print.specs.declared.printer.Printer.{Printer}
 use Rattle.at_print.specs.Papers.{Page, Writes}
 use Rattle.at_print.specs.Printers.{HasFailed, Prints}
@@ -24,6 +24,13 @@ written page a b c xs ys second p (inl failed) = inl failed
 written page a b c xs ys second (inl failed) (inr q) = inl (subst HasFailed (sym (second.stopped failed)) failed)
 written page a b c xs ys second (inr p) (inr q) = inr
     (Appends-trans (page a.writer).contents (page b.writer).contents (page c.writer).contents xs ys p q)
+
+pub Prints-nothing : {W : Type 0} (page : W → Page) (a : Printer W) → Prints page a a []
+Prints-nothing page a = record {
+  stopped = λ failed. refl;
+  written = inr (Appends-nil (page a.writer).contents);
+  tied = λ tied. tied;
+}
 
 pub Prints-trans : {W : Type 0} (page : W → Page) (a b c : Printer W) (xs ys : List ℕ)
     → Prints page a b xs → Prints page b c ys → Prints page a c (xs ++ ys)
@@ -41,9 +48,8 @@ pub record TextLeft {W : Type 0} (page : W → Page) (before now : Printer W) (t
   pub prints : Prints page before now printed
   pub whole : text ≡ printed ++ left
 
-pub text_begun : {W : Type 0} (page : W → Page) (a b : Printer W) (text piece left : List ℕ) → Prints page a b piece
-    → text ≡ piece ++ left → TextLeft page a b text left
-text_begun page a b text piece left first is = record { printed = piece; prints = first; whole = is }
+pub text_whole : {W : Type 0} (page : W → Page) (a : Printer W) (text : List ℕ) → TextLeft page a a text text
+text_whole page a text = record { printed = []; prints = Prints-nothing page a; whole = refl }
 
 pub text_more : {W : Type 0} (page : W → Page) (a b c : Printer W) (text left piece after : List ℕ)
     → TextLeft page a b text left → left ≡ piece ++ after → Prints page b c piece → TextLeft page a c text after
@@ -80,6 +86,9 @@ two_more xs i n a b is lt =
     take-set_at (set xs i a) (i + 1) n b is within
     ∙ ap (λ l. l ++ b ∷ []) (take-set_at xs i (i + 1) a refl (omega arith))
     ∙ append_assoc (take i xs) (a ∷ []) (b ∷ [])
+
+pub flat-asked : (a b c d e f : List ℕ) → (a ++ b) ++ (c ++ (d ++ (e ++ f))) ≡ a ++ ((b ++ (c ++ (d ++ e))) ++ f)
+flat-asked a b c d e f = simp append_assoc
 
 flat5 : (a b c d e r : List ℕ) → (a ++ (b ++ (c ++ (d ++ e)))) ++ r ≡ a ++ (b ++ (c ++ (d ++ (e ++ r))))
 flat5 a b c d e r = simp append_assoc

@@ -1,10 +1,9 @@
 -- What is printed of the elements of a list, one after the other.
-use Rattle.std.proofs.Common.{◌≡◌, ℕ, ◌+◌, ◌<◌, ◌≤◌, List, [], ◌∷◌, ◌++◌, length, take, drop, get_or, refl, sym, ap}
-use Rattle.std.proofs.Common.{subst, ◌∙◌, append-nil, append_assoc, arith, Some, inr, drop_of_length-le, length-drop}
+use Rattle.std.proofs.Common.{◌≡◌, ℕ, ◌+◌, ◌<◌, ◌≤◌, List, [], ◌∷◌, ◌++◌, length, take, drop, get_or, sym, ap}
+use Rattle.std.proofs.Common.{subst, ◌∙◌, append-nil, append_assoc, arith, Some, drop_of_length-le, length-drop}
 use Rattle.std.proofs.lemmas.Grind.{flat_map-append}
 use Rattle.std.proofs.lemmas.List.{take_more, drop-append-le, length-take, length-take-le}
 use Rattle.std.proofs.lemmas.List.Concat.{flat_map-cons}
-use Rattle.std.proofs.KnownBytes.{Appends-nil}
 use Rattle.std.specs.List.{flat_map}
 use Rattle.std.proofs.lemmas.Option.{slice_get-get_or}
 use Rattle.std.specs.Prelude.{codes, slice_get}
@@ -31,16 +30,6 @@ pub Prints-next : {T W : Type 0} (page : W → Page) (f : T → List ℕ) (xs : 
     → Prints page a c (flat_map f (take (i + 1) xs))
 Prints-next page f xs i d x a b c lt is p q =
     subst (Prints page a c) (sym (flat_map-next f xs i d x lt is)) (Prints-trans page a b c _ _ p q)
-
--- the same after something that was printed before the first
-pub Prints-after : {T W : Type 0} (page : W → Page) (before : List ℕ) (f : T → List ℕ) (xs : List T)
-    (i : ℕ) (d x : T) (a b c : Printer W) → i < length xs → x ≡ get_or xs i d
-    → Prints page a b (before ++ flat_map f (take i xs)) → Prints page b c (f x)
-    → Prints page a c (before ++ flat_map f (take (i + 1) xs))
-Prints-after page before f xs i d x a b c lt is p q =
-    subst (Prints page a c)
-    (append_assoc before (flat_map f (take i xs)) (f x)
-    ∙ ap (λ l. before ++ l) (sym (flat_map-next f xs i d x lt is))) (Prints-trans page a b c _ _ p q)
 
 -- the lines of the datagrams after the first ones
 pub sent_lines-append : (n : ℕ) (xs ys : List SentDatagram) → sent_lines n (xs ++ ys)
@@ -84,13 +73,6 @@ Prints-sent page first i sent d to bytes a b c lt le is goes spelled p q =
     (Prints-trans page a b c _ _ p (subst (Prints page b c) line q))
 
 module _ {W : Type 0} (page : W → Page) where
-  pub Prints-nothing : (a : Printer W) → Prints page a a []
-  Prints-nothing a = record {
-    stopped = λ failed. refl;
-    written = inr (Appends-nil (page a.writer).contents);
-    tied = λ tied. tied;
-  }
-
   -- a packet is printed in four parts
   pub Prints-packet : (p : Packet) (a b c d e : Printer W) → Prints page a b (codes " ")
       → Prints page b c (hex_text p.user) → Prints page c d (codes ":")

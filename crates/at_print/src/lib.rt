@@ -7,6 +7,7 @@ mod name_lines;
 mod name_reports;
 mod packet_lines;
 mod paper;
+mod piece;
 mod print;
 mod printer;
 mod segment_lines;

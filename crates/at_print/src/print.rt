@@ -1,5 +1,5 @@
 //! What is printed of a play.
-ghost use Rattle.std.specs.Prelude.{◌≡◌, ◌++◌, codes, drop};
+ghost use Rattle.std.specs.Prelude.{◌≡◌, ◌≤◌, ◌++◌, codes, drop, length};
 ghost use Rattle.std.specs.Fmt.{decimal};
 ghost use Rattle.std.specs.List.{flat_map};
 ghost use Rattle.at_print.specs.Lines.{hex_text};
@@ -11,6 +11,7 @@ ghost use Rattle.at_print.specs.Reports.{glyph, is_sign, stands_for_itself, text
 use crate::digits::{write_hex, write_pairs};
 use crate::name_reports::{write_found, write_taken};
 use crate::paper::Paper;
+use crate::piece::{Piece, end_with_number, end_with_word};
 use crate::printer::Printer;
 use crate::stream_reports::write_stream_report;
 use at_atp::{Key, Packet};
@@ -27,9 +28,10 @@ pub fn write_event<A: Allocator, W: Paper>(
 )
     ensures { Prints W.page printer.old printer.new (event_line event report.now) }
 {
-    write!(printer, "{event} ");
-    write_report(printer, report);
-    printer.write_all(b"\n");
+    let mut line = Piece::new();
+    line.put_number(event as u64);
+    line.put(b" ");
+    write_report(printer, line, report);
 }
 
 /// Prints the datagrams that a world sent, from a number on.
@@ -50,75 +52,136 @@ pub fn write_sent<A: Allocator + Copy, W: Paper>(
 pub fn write_datagram<W: Paper>(printer: &mut Printer<W>, number: usize, to: u8, bytes: &[u8])
     ensures { Prints W.page printer.old printer.new (datagram_line number to bytes.now) }
 {
-    write!(printer, "sent {number} {to} ");
+    let mut line = Piece::new();
+    line.put(b"sent ");
+    line.put_number(number as u64);
+    line.put(b" ");
+    line.put_number(u64::from(to));
+    line.put(b" ");
+    printer.write_all(line.text());
     write_hex(printer, bytes);
     printer.write_all(b"\n");
 }
 
-fn write_report<A: Allocator, W: Paper>(printer: &mut Printer<W>, report: &Report<A>)
-    ensures { Prints W.page printer.old printer.new (report_text report.now) }
+// The line that begins with this piece, and ends with a report.
+fn write_report<A: Allocator, W: Paper>(printer: &mut Printer<W>, line: Piece, report: &Report<A>)
+    requires { length line ≤ 21 }
+    ensures { Prints W.page printer.old printer.new (line ++ (report_text report.now ++ codes "\n")) }
 {
     match report {
-        Report::Begun(tid) => write!(printer, "begun {tid}"),
-        Report::Answered(count) => write!(printer, "answered {count}"),
-        Report::Expired => printer.write_all(b"done"),
-        Report::Served(count) => write!(printer, "served {count}"),
-        Report::Asked { key, user, data_ } => write_asked(printer, *key, *user, data_.as_slice()),
-        Report::Zones(zones) => write_zones(printer, zones.as_slice()),
-        Report::ZoneFault(number) => write!(printer, "zonefault {number}"),
-        Report::ZonesFailed => printer.write_all(b"zonesfailed"),
-        Report::Kept => printer.write_all(b"kept"),
-        Report::Response { tid, packets } => write_response(printer, *tid, packets.as_slice()),
-        Report::Failed(tid) => write!(printer, "failed {tid}"),
-        Report::Again => printer.write_all(b"again"),
-        Report::Released => printer.write_all(b"released"),
-        Report::Looking(id) => write!(printer, "looking {id}"),
-        Report::Found(finds) => write_found(printer, finds.as_slice()),
-        Report::Claimed => printer.write_all(b"claimed"),
-        Report::Registered => printer.write_all(b"done"),
-        Report::Unregistered => printer.write_all(b"done"),
-        Report::TableSet => printer.write_all(b"done"),
-        Report::Picked => printer.write_all(b"done"),
-        Report::Taken(find) => write_taken(printer, find),
-        Report::Relayed => printer.write_all(b"relayed"),
-        Report::Names(count) => write!(printer, "names {count}"),
-        Report::Finds(count) => write!(printer, "finds {count}"),
-        Report::Ignored => printer.write_all(b"ignored"),
-        Report::Refused(number) => write!(printer, "refused {number}"),
-        Report::NoMemory => printer.write_all(b"nomemory"),
-        _ => write_stream_report(printer, report),
+        Report::Begun(tid) => end_with_number(printer, line, b"begun ", u64::from(*tid)),
+        Report::Answered(count) => end_with_number(printer, line, b"answered ", u64::from(*count)),
+        Report::Expired => end_with_word(printer, line, b"done"),
+        Report::Served(count) => end_with_number(printer, line, b"served ", u64::from(*count)),
+        Report::ZoneFault(number) => {
+            end_with_number(printer, line, b"zonefault ", u64::from(*number))
+        }
+        Report::ZonesFailed => end_with_word(printer, line, b"zonesfailed"),
+        Report::Kept => end_with_word(printer, line, b"kept"),
+        Report::Failed(tid) => end_with_number(printer, line, b"failed ", u64::from(*tid)),
+        Report::Again => end_with_word(printer, line, b"again"),
+        Report::Released => end_with_word(printer, line, b"released"),
+        Report::Looking(id) => end_with_number(printer, line, b"looking ", u64::from(*id)),
+        Report::Claimed => end_with_word(printer, line, b"claimed"),
+        Report::Registered => end_with_word(printer, line, b"done"),
+        Report::Unregistered => end_with_word(printer, line, b"done"),
+        Report::TableSet => end_with_word(printer, line, b"done"),
+        Report::Picked => end_with_word(printer, line, b"done"),
+        Report::Relayed => end_with_word(printer, line, b"relayed"),
+        Report::Names(count) => end_with_number(printer, line, b"names ", *count as u64),
+        Report::Finds(count) => end_with_number(printer, line, b"finds ", *count as u64),
+        Report::Ignored => end_with_word(printer, line, b"ignored"),
+        Report::Refused(number) => end_with_number(printer, line, b"refused ", u64::from(*number)),
+        Report::NoMemory => end_with_word(printer, line, b"nomemory"),
+        Report::Asked { key, user, data_ } => {
+            write_asked(printer, line, *key, *user, data_.as_slice())
+        }
+        Report::Zones(zones) => write_zones(printer, line, zones.as_slice()),
+        Report::Response { tid, packets } => {
+            write_response(printer, line, *tid, packets.as_slice())
+        }
+        Report::Found(finds) => write_found(printer, line, finds.as_slice()),
+        Report::Taken(find) => write_taken(printer, line, find),
+        _ => write_stream_report(printer, line, report),
     }
 }
 
-fn write_asked<W: Paper>(printer: &mut Printer<W>, key: Key, user: [u8; 4], bytes: &[u8])
+fn write_asked<W: Paper>(
+    printer: &mut Printer<W>,
+    line: Piece,
+    key: Key,
+    user: [u8; 4],
+    bytes: &[u8],
+)
+    requires { length line ≤ 21 }
     ensures { Prints W.page printer.old printer.new
-        (asked_text key ++ (hex_text user ++ (codes " " ++ hex_text bytes.now))) }
+        (line ++ ((asked_text key ++ (hex_text user ++ (codes " " ++ hex_text bytes.now))) ++ codes "\n")) }
 {
-    write!(
-        printer,
-        "asked {} {} {} ",
-        key.from.node, key.from.socket, key.tid
-    );
+    let mut line = line;
+    put_asked(&mut line, key);
+    printer.write_all(line.text());
     write_hex(printer, &user);
     printer.write_all(b" ");
     write_hex(printer, bytes);
+    printer.write_all(b"\n");
 }
 
-fn write_zones<W: Paper>(printer: &mut Printer<W>, zones: &[Pascal])
-    ensures { Prints W.page printer.old printer.new (codes "zones" ++ flat_map zone_text zones.now) }
+// Who asked, and under which number.
+fn put_asked(line: &mut Piece, key: Key)
+    requires { length line.old ≤ 21 }
+    ensures { line.new ≡ line.old ++ asked_text key }
 {
-    printer.write_all(b"zones");
+    line.put(b"asked ");
+    line.put_number(u64::from(key.from.node));
+    line.put(b" ");
+    line.put_number(u64::from(key.from.socket));
+    line.put(b" ");
+    line.put_number(u64::from(key.tid));
+    line.put(b" ");
+}
+
+fn write_zones<W: Paper>(printer: &mut Printer<W>, line: Piece, zones: &[Pascal])
+    requires { length line ≤ 21 }
+    ensures { Prints W.page printer.old printer.new
+        (line ++ ((codes "zones" ++ flat_map zone_text zones.now) ++ codes "\n")) }
+{
+    let mut line = line;
+    line.put(b"zones");
+    printer.write_all(line.text());
+    write_each_zone(printer, zones);
+    printer.write_all(b"\n");
+}
+
+fn write_each_zone<W: Paper>(printer: &mut Printer<W>, zones: &[Pascal])
+    ensures { Prints W.page printer.old printer.new (flat_map zone_text zones.now) }
+{
     for zone in zones {
         printer.write_all(b" ");
         write_text(printer, zone.bytes());
     }
 }
 
-fn write_response<A: Allocator, W: Paper>(printer: &mut Printer<W>, tid: u16, packets: &[Packet<A>])
+fn write_response<A: Allocator, W: Paper>(
+    printer: &mut Printer<W>,
+    line: Piece,
+    tid: u16,
+    packets: &[Packet<A>],
+)
+    requires { length line ≤ 21 }
     ensures { Prints W.page printer.old printer.new
-        ((codes "response " ++ decimal tid) ++ flat_map packet_text packets.now) }
+        (line ++ (((codes "response " ++ decimal tid) ++ flat_map packet_text packets.now) ++ codes "\n")) }
 {
-    write!(printer, "response {tid}");
+    let mut line = line;
+    line.put(b"response ");
+    line.put_number(u64::from(tid));
+    printer.write_all(line.text());
+    write_packets(printer, packets);
+    printer.write_all(b"\n");
+}
+
+fn write_packets<A: Allocator, W: Paper>(printer: &mut Printer<W>, packets: &[Packet<A>])
+    ensures { Prints W.page printer.old printer.new (flat_map packet_text packets.now) }
+{
     for packet in packets {
         printer.write_all(b" ");
         write_hex(printer, &packet.user());

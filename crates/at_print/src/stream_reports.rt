@@ -1,6 +1,7 @@
 //! How the reports of streams print.
 ghost use Rattle.std.specs.Prelude.{◌≡◌, ◌<◌, ◌≤◌, ◌++◌, [], List, ℕ, codes, drop, false, length, map, take};
 ghost use Rattle.std.specs.Prelude.{if◌then◌else◌};
+ghost use Rattle.std.specs.Fmt.{decimal};
 ghost use Rattle.at_event.specs.Kinds.{Adsp, reporter_of};
 ghost use Rattle.at_print.specs.Items.{items_text, starts_with_byte};
 ghost use Rattle.at_print.specs.Printers.{Prints};
@@ -8,43 +9,68 @@ ghost use Rattle.at_print.specs.Reports.{report_text};
 
 use crate::digits::{BLOCK, write_pairs};
 use crate::paper::Paper;
+use crate::piece::{Piece, end_with_number, end_with_word};
 use crate::printer::Printer;
 use at_adsp_end::Item;
 use at_node::Report;
 use std::alloc::Allocator;
 
-/// A report that only streams give.
+/// The line that begins with this piece, and ends with a report that only streams give.
 pub(crate) fn write_stream_report<A: Allocator, W: Paper>(
     printer: &mut Printer<W>,
+    line: Piece,
     report: &Report<A>,
 )
-    requires { reporter_of report.now ≡ Adsp }
-    ensures { Prints W.page printer.old printer.new (report_text report.now) }
+    requires report { reporter_of report.now ≡ Adsp }
+    requires room { length line ≤ 21 }
+    ensures { Prints W.page printer.old printer.new (line ++ (report_text report.now ++ codes "\n")) }
 {
     match report {
-        Report::ListenSet => printer.write_all(b"done"),
-        Report::Opening(id) => write!(printer, "opening {id}"),
-        Report::Made(id) => write!(printer, "made {id}"),
-        Report::Opened(id) => write!(printer, "opened {id}"),
-        Report::Turned => printer.write_all(b"turned"),
-        Report::Denied(id) => write!(printer, "denied {id}"),
-        Report::Wrote(count) => write!(printer, "wrote {count}"),
-        Report::Read(items) => write_items(printer, items.as_slice()),
-        Report::StreamReset => printer.write_all(b"done"),
-        Report::Heard { id, items } => write!(printer, "heard {id} {items}"),
-        Report::Dropped(id) => write!(printer, "dropped {id}"),
-        Report::Closed(id) => write!(printer, "closed {id}"),
-        Report::Freed(id) => write!(printer, "freed {id}"),
-        Report::Idle => printer.write_all(b"idle"),
+        Report::ListenSet => end_with_word(printer, line, b"done"),
+        Report::Opening(id) => end_with_number(printer, line, b"opening ", u64::from(*id)),
+        Report::Made(id) => end_with_number(printer, line, b"made ", u64::from(*id)),
+        Report::Opened(id) => end_with_number(printer, line, b"opened ", u64::from(*id)),
+        Report::Turned => end_with_word(printer, line, b"turned"),
+        Report::Denied(id) => end_with_number(printer, line, b"denied ", u64::from(*id)),
+        Report::Wrote(count) => end_with_number(printer, line, b"wrote ", *count as u64),
+        Report::Read(items) => write_read(printer, line, items.as_slice()),
+        Report::StreamReset => end_with_word(printer, line, b"done"),
+        Report::Heard { id, items } => write_heard(printer, line, *id, *items),
+        Report::Dropped(id) => end_with_number(printer, line, b"dropped ", u64::from(*id)),
+        Report::Closed(id) => end_with_number(printer, line, b"closed ", u64::from(*id)),
+        Report::Freed(id) => end_with_number(printer, line, b"freed ", u64::from(*id)),
+        Report::Idle => end_with_word(printer, line, b"idle"),
         _ => unreachable!(),
     }
 }
 
+fn write_heard<W: Paper>(printer: &mut Printer<W>, line: Piece, id: u16, items: u16)
+    requires { length line ≤ 21 }
+    ensures { Prints W.page printer.old printer.new
+        (line ++ ((codes "heard " ++ (decimal id ++ (codes " " ++ decimal items))) ++ codes "\n")) }
+{
+    let mut line = line;
+    line.put(b"heard ");
+    line.put_number(u64::from(id));
+    end_with_number(printer, line, b" ", u64::from(items));
+}
+
+fn write_read<W: Paper>(printer: &mut Printer<W>, line: Piece, items: &[Item])
+    requires { length line ≤ 21 }
+    ensures { Prints W.page printer.old printer.new
+        (line ++ ((codes "read" ++ items_text false items.now) ++ codes "\n")) }
+{
+    let mut line = line;
+    line.put(b"read");
+    printer.write_all(line.text());
+    write_items(printer, items);
+    printer.write_all(b"\n");
+}
+
 // The items that were read: a word for each run of bytes, and one for each end of a message.
 fn write_items<W: Paper>(printer: &mut Printer<W>, items: &[Item])
-    ensures { Prints W.page printer.old printer.new (codes "read" ++ items_text false items.now) }
+    ensures { Prints W.page printer.old printer.new (items_text false items.now) }
 {
-    printer.write_all(b"read");
     let mut follows_byte = false;
     let mut rest = items;
     while !rest.is_empty() {

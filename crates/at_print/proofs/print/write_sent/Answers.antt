@@ -2,7 +2,8 @@ use Rattle.std.proofs.Common.{arith, ◌<◌, ◌≤◌, sym, subst, length, dro
 use Rattle.std.proofs.lemmas.List.{take_all}
 use Rattle.at_print.specs.Printers.{Prints}
 use Rattle.at_print.specs.Reports.{sent_lines}
-use Rattle.at_print.proofs.ReportLemmas.{Prints-sent, Prints-nothing, sent_lines-none}
+use Rattle.at_print.proofs.PrintLemmas.{Prints-nothing}
+use Rattle.at_print.proofs.ReportLemmas.{Prints-sent, sent_lines-none}
 use Rattle.at_print.proofs.print.write_sent.Goals as goal
 
 pub loop-number-init : goal.loop-number-init

@@ -1,8 +1,10 @@
 use Rattle.std.proofs.Common.{◌≡◌, ◌++◌, drop, false, sym, ◌∙◌}
-use Rattle.std.specs.Prelude.{codes}
 use Rattle.at_print.specs.Items.{items_text, starts_with_byte}
-use Rattle.at_print.proofs.PrintLemmas.{text_more}
+use Rattle.at_print.proofs.PrintLemmas.{text_more, text_whole}
 use Rattle.at_print.proofs.stream_reports.write_items.Goals as goal
+
+pub loop-rest-init : goal.loop-rest-init
+loop-rest-init g c = text_whole g.W.Paper.page c.args.printer.now (items_text false c.args.items.now)
 
 pub loop-rest-preserved : goal.loop-rest-preserved
 loop-rest-preserved g c =
@@ -15,4 +17,4 @@ loop-rest-preserved g c =
     let parts : left ≡ front.0 ++ after = front.2
     ∙ (λ i. front.0 ++ items_text (sym next i) (sym back i)) in
     text_more g.W.Paper.page c.args.printer.now c.loop-rest.printer c.write_front-count.new.printer
-    (codes "read" ++ items_text false c.args.items.now) left front.0 after c.loop-rest.invariant parts front.1
+    (items_text false c.args.items.now) left front.0 after c.loop-rest.invariant parts front.1

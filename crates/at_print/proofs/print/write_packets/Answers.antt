@@ -1,15 +1,12 @@
-use Rattle.std.proofs.Common.{◌++◌}
-use Rattle.std.specs.Fmt.{decimal}
-use Rattle.std.specs.Prelude.{codes}
 use Rattle.at_print.specs.Reports.{packet_text}
-use Rattle.at_print.proofs.ReportLemmas.{Prints-after, Prints-packet}
-use Rattle.at_print.proofs.print.write_response.Goals as goal
+use Rattle.at_print.proofs.ReportLemmas.{Prints-next, Prints-packet}
+use Rattle.at_print.proofs.print.write_packets.Goals as goal
 
 pub loop-packet-preserved : goal.loop-packet-preserved
 loop-packet-preserved g c =
     let user = rw c.user.ensures at c.write_hex.ensures in
     let bytes = rw c.data_.ensures at c.write_hex-in-loop-packet.ensures in
-    Prints-after g.W.Paper.page (codes "response " ++ decimal c.args.tid) packet_text c.args.packets.now
+    Prints-next g.W.Paper.page packet_text c.args.packets.now
     c.loop-packet.packet-index c.packet-item.result c.packet-item.result
     c.args.printer.now c.loop-packet.printer c.write_hex-in-loop-packet.new.printer c.loop-packet-test.true
     c.packet-item.is c.loop-packet.invariant
