@@ -2,8 +2,8 @@
 ghost use Rattle.std.specs.Prelude.{◌≡◌, IfOk};
 ghost use Rattle.at_print.specs.Reports.{event_line};
 
+use at_diagnostics::Reason;
 use at_node::Report;
-use at_play::Reason;
 use at_print::{Printer, write_event};
 use std::alloc::{AllocError, Global};
 

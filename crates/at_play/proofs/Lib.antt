@@ -1,10 +1,4 @@
-mod EventLemmas
 mod LineLemmas
-mod NewsLemmas
-mod NumberSetLemmas
-mod PrintedLemmas
 mod RefusalLemmas
-mod ShownLemmas
 mod TextLines
-mod TellsLemmas
 mod ToldLemmas

@@ -1,17 +1,32 @@
 -- Which numbers of refusals are told after one report more.
-use Rattle.std.proofs.Common.{◌⊎◌, inl, inr, ℕ, List, [], ◌∷◌, ◌++◌}
+use Rattle.std.proofs.Common.{Bool, ◌≡◌, ◌⊎◌, inl, inr, ℕ, List, [], ◌∷◌, ◌++◌}
+use Rattle.std.specs.Prelude.{◌↔◌}
 use Rattle.at_event.specs.declared.event.Report.{Report}
-use Rattle.at_play.specs.NumberSets.{HasNumber}
+use Rattle.at_event.specs.declared.event.Report.TheVariants.{Refused}
+use Rattle.at_diagnostics.specs.NumberSets.{HasNumber}
 use Rattle.at_play.specs.Refusals.{Refuse, TellsRefusals}
-use Rattle.at_play.specs.declared.number_set.NumberSet.{NumberSet}
 
 -- before any report none is told
-pub none_told : (A : Type 0) (old : NumberSet) → TellsRefusals {A = A} old old []
+pub none_told : (A : Type 0) (old : List Bool) → TellsRefusals {A = A} old old []
 none_told A old n = (λ told. inr told, either)
   where
     either : (⊥ ⊎ HasNumber old n) → HasNumber old n
     either (inl none) = absurd none
     either (inr told) = told
+
+-- of one report
+pub told_one : {A : Type 0} (r : Report A) (old new : List Bool)
+    → ((n : ℕ) → HasNumber new n ↔ ((r ≡ Refused n) ⊎ HasNumber old n)) → TellsRefusals old new (r ∷ [])
+told_one r old new h n = (λ has. here ((h n).0 has), back)
+  where
+    here : ((r ≡ Refused n) ⊎ HasNumber old n) → Refuse (r ∷ []) n ⊎ HasNumber old n
+    here (inl is) = inl (inl is)
+    here (inr was) = inr was
+
+    back : (Refuse (r ∷ []) n ⊎ HasNumber old n) → HasNumber new n
+    back (inl (inl is)) = (h n).1 (inl is)
+    back (inl (inr none)) = absurd none
+    back (inr was) = (h n).1 (inr was)
 
 module _ {A : Type 0} (r : Report A) (n : ℕ) where
   parted : (rs : List (Report A)) → Refuse (rs ++ r ∷ []) n → Refuse rs n ⊎ Refuse (r ∷ []) n
@@ -32,7 +47,7 @@ module _ {A : Type 0} (r : Report A) (n : ℕ) where
   at_end [] h = h
   at_end (a ∷ rs) h = inr (at_end rs h)
 
-module _ {A : Type 0} (old mid new : NumberSet) (rs : List (Report A)) (r : Report A) where
+module _ {A : Type 0} (old mid new : List Bool) (rs : List (Report A)) (r : Report A) where
   told_before : TellsRefusals old mid rs → (n : ℕ) → HasNumber mid n → Refuse (rs ++ r ∷ []) n ⊎ HasNumber old n
   told_before first n told = go ((first n).0 told)
     where

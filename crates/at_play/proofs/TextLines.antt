@@ -1,11 +1,9 @@
 -- The lines of a text in memory: the first of those that are left, the event that it says, and what a schedule has
 -- after it.
-use Rattle.std.proofs.Common.{◌≡◌, ℕ, suc, ◌+◌, ◌<◌, Bool, true, false, cond, List, [], ◌∷◌, ◌++◌, length, take, drop}
-use Rattle.std.proofs.Common.{Some, None, Ok, Err, Result, IfErr, refl, sym, ap, subst, ◌∙◌, append_assoc, arith}
-use Rattle.std.specs.Prelude.{◌-◌, ◌==◌, filter, if◌then◌else◌}
+use Rattle.std.proofs.Common.{◌≡◌, ℕ, Bool, true, List, [], ◌∷◌, ◌++◌, length}
+use Rattle.std.proofs.Common.{Some, refl, sym, ap, subst, ◌∙◌, append_assoc, arith}
+use Rattle.std.specs.Prelude.{◌==◌, filter, if◌then◌else◌}
 use Rattle.std.proofs.lemmas.Bool.Decides.{nat_tests}
-use Rattle.std.proofs.lemmas.List.{length-drop, take_all}
-use Rattle.std.specs.List.{position_from}
 use Rattle.at_setup.specs.declared.event.Event.{Event}
 use Rattle.at_setup.specs.declared.setup.Setup.{Setup}
 use Rattle.at_setup_lines.specs.Drafts.{Draft}
@@ -14,14 +12,12 @@ use Rattle.at_world.specs.declared.refusal.Fault.TheVariants as fault
 use Rattle.at_print.specs.Papers.{Page}
 use Rattle.at_print.specs.declared.printer.Printer.{Printer}
 use Rattle.at_schedule.specs.Drafts.{BeginSchedule, HoldsSetup, IsRead, IsSchedule}
-use Rattle.at_schedule.specs.Says.{Says}
-use Rattle.at_schedule.specs.Schedules.{add_first, event_lines, is_event_line, lines_in}
-use Rattle.at_play.specs.Told.{IsStopped, NextSays, StopsIn, StopsLine, TellsLine}
-use Rattle.at_play.specs.declared.number_set.NumberSet.{NumberSet}
-use Rattle.at_play.specs.declared.stop.Stop.{Stop}
-use Rattle.at_play.specs.declared.stop.Stop.TheVariants as stop
-use Rattle.at_play.proofs.LineLemmas.{Adds, SaidSoFar, adds_by, filter_by}
-use Rattle.at_play.proofs.ToldLemmas.{Sofar, sofar_line, stops_refused}
+use Rattle.at_schedule.specs.Schedules.{event_lines, is_event_line, lines_in}
+use Rattle.at_play.specs.Told.{StopsIn, StopsLine, TellsLine}
+use Rattle.at_diagnostics.specs.declared.stop.Stop.{Stop}
+use Rattle.at_diagnostics.specs.declared.stop.Stop.TheVariants as stop
+use Rattle.at_play.proofs.LineLemmas.{SaidSoFar, adds_by, filter_by}
+use Rattle.at_play.proofs.ToldLemmas.{Sofar, sofar_line}
 
 pub none_left : (text : List ℕ) → (length text == 0) ≡ true → text ≡ []
 none_left [] h = refl
@@ -36,7 +32,7 @@ left_by rest later line b cut is = ap (filter is_event_line) cut ∙ filter_by b
 -- where the play of a line stops, the play of the text stops
 pub stops_in : (A : Type 0) (all rest later line : List ℕ) (es : List (Event A)) (w : WorldState) (s : Stop)
     → SaidSoFar (Some all) (Some rest) es → lines_in rest ≡ line ∷ lines_in later
-    → StopsLine A (Some line) w s → StopsIn A (Some all) es w s
+    → StopsLine A line w s → StopsIn A (Some all) es w s
 stops_in A all rest later line es w (stop.Text f) said cut h = h
 stops_in A all rest later line es w (stop.Event fault.NoMemory n number which) said cut h = h
 stops_in A all rest later line es w (stop.Event (fault.Refused r) n number which) (said, same, so_far) cut h =
@@ -46,7 +42,7 @@ stops_in A all rest later line es w (stop.Event (fault.Refused r) n number which
 
 -- one line more of the text
 module _ (A : Type 0) {W : Type 0} (page : W → Page) (setup : Setup A) where
-  pub text_played : (all rest later line : List ℕ) (w w' : WorldState) (a b c : Printer W) (u v z : NumberSet)
+  pub text_played : (all rest later line : List ℕ) (w w' : WorldState) (a b c : Printer W) (u v z : List Bool)
       (before : Sofar A page setup w a b u v) → SaidSoFar (Some all) (Some rest) (before.0).events
       → lines_in rest ≡ line ∷ lines_in later → TellsLine A page (is_event_line line) line w w' b c v z
       → (after : Sofar A page setup w' a c u z) × SaidSoFar (Some all) (Some later) (after.0).events
@@ -56,13 +52,6 @@ module _ (A : Type 0) {W : Type 0} (page : W → Page) (setup : Setup A) where
         adds_by A (is_event_line line) line all rest (event_lines later) (before.0).events ((after.0).0).events said
             (left_by rest later line (is_event_line line) cut refl) after.1,
       )
-
--- an event that a line says was not played
-pub stops_said : (A : Type 0) (line : List ℕ) (w w' : WorldState) (e : Event A) (r : Result (Unit {0}) Stop)
-    (P Q : Type 0) → (is_event_line line ≡ true) × Says line e → IfErr r (λ s. P × Q × IsStopped w e w' s)
-    → IfErr r (λ s. P × Q × StopsLine A (Some line) w s)
-stops_said A line w w' e (Ok u) P Q has h = tt
-stops_said A line w w' e (Err s) P Q has h = (h.0, h.1, stops_refused A line w e w' s has.0 has.1 h.2)
 
 -- ---- what was read of the lines before
 

@@ -1,6 +1,6 @@
 -- What is told of a play goes on by one event, and is told of the play that it follows.
 use Rattle.std.proofs.Common.{◌≡◌, ℕ, List, [], ◌∷◌, ◌++◌, length, Err, Result, Bool, true, false, ◌<◌, ◌≤◌, None, Some}
-use Rattle.std.proofs.Common.{Ok, IfOk, IfSome, MatchResult, refl, sym, ap, subst, ◌∙◌, append-nil}
+use Rattle.std.proofs.Common.{Ok, IfErr, IfSome, refl, sym, ap, subst, ◌∙◌, append-nil}
 use Rattle.std.proofs.Common.{append_assoc}
 use Rattle.at_event.specs.declared.event.Report.{Report}
 use Rattle.at_setup.specs.declared.event.Event.{Event}
@@ -12,8 +12,9 @@ use Rattle.at_world.specs.Plays.{Follows}
 use Rattle.at_print.specs.Reports.{event_text}
 use Rattle.at_print.specs.Papers.{Page}
 use Rattle.at_print.specs.Printers.{Prints}
-use Rattle.at_play.specs.Told.{BeginsWith, IsStopped, IsUnread, IsWhole, Played, StopsIn}
-use Rattle.at_play.specs.Told.{StopsLine, Tells, TellsLine, Told, line_of, stop_of}
+use Rattle.at_diagnostics.specs.Stops.{IsUnread, stop_of}
+use Rattle.at_play.specs.Told.{BeginsWith, IsStopped, IsWhole, Played, StopsIn}
+use Rattle.at_play.specs.Told.{StopsLine, Tells, TellsLine, Told}
 use Rattle.at_play.specs.Ends.{IsNotRead}
 use Rattle.at_faults.specs.Reads.{IsOfBytes, IsOfRead}
 use Rattle.at_faults.specs.declared.fault.Unreadable.TheVariants as unreadable
@@ -21,8 +22,7 @@ use Rattle.at_faults.specs.declared.fault.Fault.{Fault as Why}
 use Rattle.at_faults.specs.declared.fault.Fault.TheVariants as why
 use Rattle.at_print.specs.declared.printer.Printer.{Printer}
 use Rattle.at_play.specs.Refusals.{TellsRefusals}
-use Rattle.at_play.specs.declared.number_set.NumberSet.{NumberSet}
-use Rattle.at_play.proofs.PrintedLemmas.{Prints-nothing, Prints-trans}
+use Rattle.at_print.proofs.PrintLemmas.{Prints-nothing, Prints-trans}
 use Rattle.at_play.proofs.RefusalLemmas.{none_told, tells_more}
 use Rattle.at_world.specs.Plays.{opening_world}
 use Rattle.at_setup.specs.declared.setup.Setup.{Setup}
@@ -30,12 +30,12 @@ use Rattle.std.specs.Io.BufRead.{DropsThrough, first_piece}
 use Rattle.at_schedule.specs.Drafts.{HoldsSetup, IsLineFault}
 use Rattle.at_schedule.specs.Says.{SayAll, Says}
 use Rattle.at_schedule.specs.Schedules.{event_lines, is_event_line}
-use Rattle.at_play.proofs.LineLemmas.{Adds, FirstLine, SaidSoFar, next_said, reads_more}
+use Rattle.at_play.proofs.LineLemmas.{Adds, FirstLine, SaidSoFar, next_said, none_said, reads_more}
 use Rattle.std.specs.Prelude.{◌↔◌, IsErr, IsOk, Option}
 use Rattle.at_print.specs.declared.status.Status.{Status}
 use Rattle.at_print.specs.declared.status.Status.TheVariants.{Done, Failed}
-use Rattle.at_play.specs.declared.stop.Stop.{Stop}
-use Rattle.at_play.specs.declared.stop.Stop.TheVariants as stop
+use Rattle.at_diagnostics.specs.declared.stop.Stop.{Stop}
+use Rattle.at_diagnostics.specs.declared.stop.Stop.TheVariants as stop
 
 pub told_more : (A : Type 0) (w : WorldState) (es : List (Event A)) (rs : List (Report A)) (mid : WorldState)
     (text : List ℕ) (e : Event A) (r : Report A) (w' : WorldState) → Told w es rs mid text → IsPlayable mid e
@@ -87,22 +87,22 @@ safely_told A w (e ∷ es) [] w' text few h = absurd h
 
 refused : (A : Type 0) (line : List ℕ) (w : WorldState) (e : Event A) (w' : WorldState) (f : Fault) (number : ℕ)
     (which : Option ℕ) → is_event_line line ≡ true → Says line e → IsFault w e f w'
-    → StopsLine A (Some line) w (stop.Event f w.events number which)
+    → StopsLine A line w (stop.Event f w.events number which)
 refused A line w e w' (fault.Refused r) number which event says h = (refl, event, (e, h.0, says))
 refused A line w e w' fault.NoMemory number which event says h = refl
 
 -- if the event of a line was not played, the play stops
 pub stops_refused : (A : Type 0) (line : List ℕ) (w : WorldState) (e : Event A) (w' : WorldState) (s : Stop)
-    → is_event_line line ≡ true → Says line e → IsStopped w e w' s → StopsLine A (Some line) w s
-stops_refused A line w e w' s event says h = subst (StopsLine A (Some line) w) (sym h.says)
+    → is_event_line line ≡ true → Says line e → IsStopped w e w' s → StopsLine A line w s
+stops_refused A line w e w' s event says h = subst (StopsLine A line w) (sym h.says)
     (refused A line w e w' h.fault h.line h.which event says h.faulty)
 
--- if a line could not be read, the play stops
-pub line_unread : (A : Type 0) (line : Option (List ℕ)) (w : WorldState) (at : ℕ) (s : Stop) → at ≡ w.events
-    → IsUnread at s → StopsLine A line w s
-line_unread A line w at (stop.Text f) is h = h
-line_unread A line w at (stop.Event fault.NoMemory n number which) is h = h ∙ is
-line_unread A line w at (stop.Event (fault.Refused r) n number which) is h = absurd h
+-- an event that a line says was not played
+pub stops_said : (A : Type 0) (line : List ℕ) (w w' : WorldState) (e : Event A) (r : Result (Unit {0}) Stop)
+    (P Q : Type 0) → (is_event_line line ≡ true) × Says line e → IfErr r (λ s. P × Q × IsStopped w e w' s)
+    → IfErr r (λ s. P × Q × StopsLine A line w s)
+stops_said A line w w' e (Ok u) P Q has h = tt
+stops_said A line w w' e (Err s) P Q has h = (h.0, h.1, stops_refused A line w e w' s has.0 has.1 h.2)
 
 -- a reading that fails before the first line is of no line
 pub stops_unread : (A : Type 0) (known : Option (List ℕ)) (es : List (Event A)) (w : WorldState) (at : ℕ) (s : Stop)
@@ -113,19 +113,13 @@ stops_unread A known es w at (stop.Event (fault.Refused r) n number which) is h 
 
 -- where the play of a line stops, the play stops
 pub stops_line : FirstLine
-    → (A : Type 0) {X E : Type 0} (bytes : X → List ℕ) (line : Result X E) (first known new : Option (List ℕ))
-    (byte : ℕ) (es : List (Event A)) (w : WorldState) (s : Stop) → byte ≡ 10 → SaidSoFar first known es
-    → IfOk line (λ x. IfSome known (λ xs. (0 < length xs) × (bytes x ≡ first_piece byte xs))
-    × DropsThrough known new byte)
-    → StopsLine A (line_of bytes line) w s → StopsIn A first es w s
-stops_line law A bytes line first known new byte es w (stop.Text f) is reads piece h = h
-stops_line law A bytes line first known new byte es w (stop.Event fault.NoMemory n number which) is reads piece h = h
-stops_line law A bytes (Err x) first known new byte es w (stop.Event (fault.Refused r) n number which) is said piece h =
-    absurd h
-stops_line law A bytes (Ok x) first known new byte es w (stop.Event (fault.Refused r) n number which) is reads piece h =
-    let piece' = rw is at piece in
-    let e = h.2.0 in
-    (h.0, (e, h.2.1, next_said law A first known es (bytes x) e reads piece'.0 h.1 h.2.2))
+    → (A : Type 0) (line : List ℕ) (first known : Option (List ℕ)) (es : List (Event A)) (w : WorldState) (s : Stop)
+    → SaidSoFar first known es → IfSome known (λ xs. (0 < length xs) × (line ≡ first_piece 10 xs))
+    → StopsLine A line w s → StopsIn A first es w s
+stops_line law A line first known es w (stop.Text f) said piece h = h
+stops_line law A line first known es w (stop.Event fault.NoMemory n number which) said piece h = h
+stops_line law A line first known es w (stop.Event (fault.Refused r) n number which) said piece h =
+    let e = h.2.0 in (h.0, (e, h.2.1, next_said law A first known es line e said piece h.1 h.2.2))
 
 -- a failed reading ends a play before its first event
 pub unread_of : (f : Why) (s : Stop) → IsOfRead f → s ≡ stop_of f → IsUnread 0 s
@@ -133,7 +127,7 @@ unread_of (why.Unreadable u) s h is = subst (IsUnread 0) (sym is) tt
 unread_of (why.Line number rule) s h is = absurd h
 unread_of why.NoMemory s h is = subst (IsUnread 0) (sym is) refl
 
-pub not_read : (P : Why → Type 0) (told : NumberSet) (r : Result (Unit {0}) Stop) (f : Why) (s : Stop) → r ≡ Err s
+pub not_read : (P : Why → Type 0) (told : List Bool) (r : Result (Unit {0}) Stop) (f : Why) (s : Stop) → r ≡ Err s
     → s ≡ stop_of f → P f → IsNotRead P told told r []
 not_read P told r f s was is h = rw was ((f, h, is), refl, refl)
 
@@ -147,22 +141,32 @@ bytes_of_read (why.Line number rule) h = h
 bytes_of_read why.NoMemory h = tt
 
 -- before the first event nothing is told
-abbrev pub opened : (A : Type 0) (setup : Setup A) → Played setup
+abbrev opened : (A : Type 0) (setup : Setup A) → Played setup
 opened A setup = record { events = []; reports = []; world = opening_world setup; text = []; told = (refl, refl) }
 
 -- a play so far, at a world and a printer, and the refusals that were told
 abbrev pub Sofar : (A : Type 0) {W : Type 0} → (W → Page) → Setup A → WorldState → Printer W → Printer W
-    → NumberSet → NumberSet → Type 0
+    → List Bool → List Bool → Type 0
 Sofar A page setup w old new before after =
     (p : Played setup) × (p.world ≡ w) × Prints page old new p.text × TellsRefusals before after p.reports
 
 module _ (A : Type 0) {W : Type 0} (page : W → Page) (setup : Setup A) where
-  abbrev pub sofar_opened : (w : WorldState) (a : Printer W) (x : NumberSet) → w ≡ opening_world setup
+  abbrev pub sofar_opened : (w : WorldState) (a : Printer W) (x : List Bool) → w ≡ opening_world setup
       → Sofar A page setup w a a x x
   sofar_opened w a x is = (opened A setup, sym is, Prints-nothing page a, none_told A x)
 
+  -- a play that stops before its first event
+  pub stops_first : (known : Option (List ℕ)) (a : Printer W) (x : List Bool) (s : Stop) → IsUnread 0 s
+      → (p : Played setup) × Prints page a a p.text × IsWhole A known (Err s) p × TellsRefusals x x p.reports
+  stops_first known a x s unread = (
+    opened A setup,
+    Prints-nothing page a,
+    (stops_unread A known [] (opening_world setup) 0 s refl unread, none_said A known),
+    none_told A x,
+  )
+
   -- one event more
-  told_on : (w w' : WorldState) (a b c : Printer W) (x y z : NumberSet) (e : Event A)
+  told_on : (w w' : WorldState) (a b c : Printer W) (x y z : List Bool) (e : Event A)
       (before : Sofar A page setup w a b x y) → Tells page w e w' b c y z
       → (after : Sofar A page setup w' a c x z) × ((after.0).events ≡ (before.0).events ++ e ∷ [])
   told_on w w' a b c x y z e before t =
@@ -187,7 +191,7 @@ module _ (A : Type 0) {W : Type 0} (page : W → Page) (setup : Setup A) where
       )
 
   -- one line more
-  pub sofar_line : (has_event : Bool) (line : List ℕ) (w w' : WorldState) (a b c : Printer W) (x y z : NumberSet)
+  pub sofar_line : (has_event : Bool) (line : List ℕ) (w w' : WorldState) (a b c : Printer W) (x y z : List Bool)
       (before : Sofar A page setup w a b x y) → TellsLine A page has_event line w w' b c y z
       → (after : Sofar A page setup w' a c x z) × Adds has_event line (before.0).events (after.0).events
   sofar_line true line w w' a b c x y z before (e, says, t) = let after = told_on w w' a b c x y z e before t in
@@ -203,7 +207,7 @@ module _ (A : Type 0) {W : Type 0} (page : W → Page) (setup : Setup A) where
   )
 
   -- where the play stops, and prints nothing more
-  pub sofar_stopped : (known : Option (List ℕ)) (w : WorldState) (a b c : Printer W) (x y z : NumberSet)
+  pub sofar_stopped : (known : Option (List ℕ)) (w : WorldState) (a b c : Printer W) (x y z : List Bool)
       (r : Result (Unit {0}) Stop) (s : Stop) → r ≡ Err s → c ≡ b → z ≡ y → (before : Sofar A page setup w a b x y)
       → StopsIn A known (before.0).events w s → IfSome known (λ text. BeginsWith text (before.0).events)
       → (p : Played setup) × Prints page a c p.text × IsWhole A known r p × TellsRefusals x z p.reports
@@ -216,20 +220,15 @@ module _ (A : Type 0) {W : Type 0} (page : W → Page) (setup : Setup A) where
 
   -- one line more of those that are known
   pub line_played : FirstLine
-      → {X E : Type 0} (bytes : X → List ℕ) (line : Result X E) (first known new : Option (List ℕ)) (byte : ℕ)
-      (w w' : WorldState) (a b c : Printer W) (u v z : NumberSet)
-      (before : Sofar A page setup w a b u v) → byte ≡ 10 → SaidSoFar first known (before.0).events
-      → IfOk line (λ x. IfSome known (λ xs. (0 < length xs) × (bytes x ≡ first_piece byte xs))
-      × DropsThrough known new byte)
-      → MatchResult line (λ x. TellsLine A page (is_event_line (bytes x)) (bytes x) w w' b c v z) (λ e. ⊥)
+      → (line : List ℕ) (first known new : Option (List ℕ)) (w w' : WorldState) (a b c : Printer W)
+      (u v z : List Bool) (before : Sofar A page setup w a b u v) → SaidSoFar first known (before.0).events
+      → IfSome known (λ xs. (0 < length xs) × (line ≡ first_piece 10 xs)) → DropsThrough known new 10
+      → TellsLine A page (is_event_line line) line w w' b c v z
       → (after : Sofar A page setup w' a c u z) × SaidSoFar first new (after.0).events
-  line_played law bytes (Err e) first known new byte w w' a b c u v z before is reads piece told = absurd told
-  line_played law bytes (Ok x) first known new byte w w' a b c u v z before is reads piece told =
-      let after = sofar_line (is_event_line (bytes x)) (bytes x) w w' a b c u v z before told in
-      let piece' = rw is at piece in (
+  line_played law line first known new w w' a b c u v z before said piece drops told =
+      let after = sofar_line (is_event_line line) line w w' a b c u v z before told in (
         after.0,
-        reads_more law A first known new (before.0).events ((after.0).0).events
-            (bytes x) reads piece'.0 piece'.1 after.1,
+        reads_more law A first known new (before.0).events ((after.0).0).events line said piece drops after.1,
       )
 
 -- what is known less says less

@@ -1,49 +1,39 @@
 -- How a play ends, and all that is printed of it.
-use Rattle.std.specs.Prelude.{◌≡◌, ◌↔◌, ◌⊎◌, ℕ, List, [], ◌++◌, Option, Some, Result, Ok, Err, IfErr, IfSome, IsOk}
-use Rattle.std.specs.Prelude.{true, codes}
-use Rattle.std.specs.Fmt.{decimal}
+use Rattle.std.specs.Prelude.{◌≡◌, ◌↔◌, ◌⊎◌, ℕ, Bool, List, [], ◌++◌, Option, Some, Result, Ok, Err, IfErr, IfSome}
+use Rattle.std.specs.Prelude.{IsOk, true}
 use Rattle.std.specs.Io.KnownBytes.{Keeps}
 use Rattle.at_world.specs.Events.{NoForge}
 use Rattle.at_world.specs.ExactlyOnce.{AllLive, RunsOnce, onto}
 use Rattle.at_world.specs.Machine.{Machine, Run, opening_machine}
 use Rattle.at_world.specs.Plays.{opening_world}
-use Rattle.at_world.specs.Refusals.{number_of}
 use Rattle.at_world.specs.Safety.{Safely}
 use Rattle.at_setup.specs.Setups.{is_lawful}
-use Rattle.at_world.specs.declared.refusal.Fault.TheVariants as fault
 use Rattle.at_setup.specs.declared.setup.Setup.{Setup}
-use Rattle.at_play.specs.Texts.{no_memory_line}
 use Rattle.at_schedule.specs.Drafts.{HoldsSetup, IsLineFault}
 use Rattle.at_faults.specs.Reads.{IsOfBytes}
 use Rattle.at_print.specs.Papers.{Page}
 use Rattle.at_print.specs.Printers.{HasFailed, Prints}
 use Rattle.at_play.specs.Refusals.{TellsRefusals}
-use Rattle.at_play.specs.Told.{IsWhole, Played, stop_of}
-use Rattle.at_play.specs.declared.number_set.NumberSet.{NumberSet}
+use Rattle.at_diagnostics.specs.Diagnostics.{TellsStop}
+use Rattle.at_diagnostics.specs.Stops.{stop_line, stop_of}
+use Rattle.at_diagnostics.specs.declared.diagnostics.Diagnostics.{Diagnostics}
+use Rattle.at_play.specs.Told.{IsWhole, Played}
 use Rattle.at_print.specs.declared.printer.Printer.{Printer}
 use Rattle.at_print.specs.declared.status.Status.{Status}
 use Rattle.at_print.specs.declared.status.Status.TheVariants.{Done}
 use Rattle.at_faults.specs.declared.fault.Fault.{Fault}
-use Rattle.at_faults.specs.declared.fault.Fault.TheVariants as text
-use Rattle.at_play.specs.declared.stop.Stop.{Stop}
-use Rattle.at_play.specs.declared.stop.Stop.TheVariants as stop
+use Rattle.at_diagnostics.specs.declared.stop.Stop.{Stop}
+use Rattle.at_diagnostics.specs.declared.stop.Stop.TheVariants as stop
 
--- there is no schedule
-abbrev pub text_fault_line : Fault → List ℕ
-text_fault_line (text.Unreadable why) = codes "fault 0\n"
-text_fault_line (text.Line number rule) = codes "fault " ++ (decimal number ++ codes "\n")
-text_fault_line text.NoMemory = no_memory_line
-
--- why a play ended before its last event
-abbrev pub stop_line : Stop → List ℕ
-stop_line (stop.Text f) = text_fault_line f
-stop_line (stop.Event (fault.Refused r) at line which) =
-    codes "stopped " ++ (decimal (number_of r) ++ (codes " at " ++ (decimal at ++ codes "\n")))
-stop_line (stop.Event fault.NoMemory at line which) = codes "stopped nomemory at " ++ (decimal at ++ codes "\n")
-
+-- why a play ended, if it did so before its last event
 abbrev pub end_text : Result (Unit {0}) Stop → List ℕ
 end_text (Ok u) = []
 end_text (Err s) = stop_line s
+
+-- what a person is told of that
+abbrev pub TellsEnd : {W : Type 0} → (W → Page) → Result (Unit {0}) Stop → Diagnostics W → Diagnostics W → Type 0
+TellsEnd page (Ok u) old new = new ≡ old
+TellsEnd page (Err s) old new = TellsStop page s old new
 
 -- The setup is lawful, and each event was safe. If nothing was forged, the reports are a run of the machine, and
 -- exactly-once requests run once.
@@ -56,14 +46,14 @@ pub record Obeys {A : Type 0} (setup : Setup A) (p : Played setup) : Type 0 wher
 
 -- What a schedule's play prints of its events: what is told of those that were played. These are all of them unless it
 -- stopped, which is said if the schedule's text is known. The numbers of their refusals are told.
-abbrev pub PlaysText : (A : Type 0) → Option (List ℕ) → (Setup A → Type 0) → NumberSet → NumberSet
+abbrev pub PlaysText : (A : Type 0) → Option (List ℕ) → (Setup A → Type 0) → List Bool → List Bool
     → Result (Unit {0}) Stop → List ℕ → Type 0
 PlaysText A known IsRead old new result text =
     (setup : Setup A) × IsRead setup × (p : Played setup) × Obeys setup p × (text ≡ p.text) × IsWhole A known result p
     × TellsRefusals old new p.reports
 
 -- no event was played, and nothing is told of any, since there is no schedule for such a reason
-abbrev pub IsNotRead : (Fault → Type 0) → NumberSet → NumberSet → Result (Unit {0}) Stop → List ℕ → Type 0
+abbrev pub IsNotRead : (Fault → Type 0) → List Bool → List Bool → Result (Unit {0}) Stop → List ℕ → Type 0
 IsNotRead IsReason old new (Ok u) text = ⊥
 IsNotRead IsReason old new (Err s) text = ((f : Fault) × IsReason f × (s ≡ stop_of f)) × (text ≡ []) × (new ≡ old)
 
@@ -78,7 +68,7 @@ IsOfPlaying (stop.Event f at line which) = Unit {0}
 
 -- Nothing if there is no schedule, and else this of the setup that the text says. The text is read to its end before
 -- the first event, so that no fault of it comes later.
-abbrev pub PlayText : Type 0 → Option (List ℕ) → NumberSet → NumberSet → Result (Unit {0}) Stop → List ℕ → Type 0
+abbrev pub PlayText : Type 0 → Option (List ℕ) → List Bool → List Bool → Result (Unit {0}) Stop → List ℕ → Type 0
 PlayText A known old new result text =
     IsNotRead (IsTextFault A known) old new result text
     ⊎ (PlaysText A known (HoldsSetup known) old new result text × IfErr result IsOfPlaying)
@@ -93,7 +83,7 @@ pub record Rewound {F : Type 0} (position : F → Option ℕ) (bytes : F → Opt
 -- The same of a file, which is read from its beginning on, and again. The setup is what the text said the first time,
 -- and the events are what it said the second time.
 abbrev pub FileText : Type 0 → {F : Type 0} → (F → Option (List ℕ)) → (F → Option ℕ) → (F → Option (List ℕ))
-    → NumberSet → NumberSet → Result (Unit {0}) Stop → List ℕ → Type 0
+    → List Bool → List Bool → Result (Unit {0}) Stop → List ℕ → Type 0
 FileText A remaining position bytes old new result text =
     IsNotRead IsOfBytes old new result text
     ⊎ ((first : Rewound position bytes) × (IsNotRead (IsTextFault A (remaining first.file)) old new result text

@@ -1,10 +1,3 @@
-pub mod Diagnostics
-pub mod Driven
 pub mod Ends
-pub mod HexFaults
-pub mod NumberSets
-pub mod Reasons
 pub mod Refusals
-pub mod Shown
-pub mod Texts
 pub mod Told

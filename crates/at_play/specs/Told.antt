@@ -1,10 +1,8 @@
 -- What is printed of a play: each event that was played, in its order.
 use Rattle.std.specs.Prelude.{◌≡◌, ℕ, Bool, true, false, List, [], ◌∷◌, ◌++◌, length, IfSome, Option}
-use Rattle.std.specs.Prelude.{Some, None, Result, Ok, Err}
+use Rattle.std.specs.Prelude.{Result, Ok, Err}
 use Rattle.at_event.specs.declared.event.Report.{Report}
 use Rattle.at_setup.specs.declared.event.Event.{Event}
-use Rattle.at_faults.specs.declared.fault.Fault.{Fault}
-use Rattle.at_faults.specs.declared.fault.Fault.TheVariants as text
 use Rattle.at_world.specs.declared.refusal.Fault.{Fault as WorldFault}
 use Rattle.at_world.specs.declared.refusal.Fault.TheVariants as world
 use Rattle.at_setup.specs.declared.setup.Setup.{Setup}
@@ -14,13 +12,13 @@ use Rattle.at_world.specs.Worlds.{WorldState, IsPlayable, IsFault, Plays, Refuse
 use Rattle.at_print.specs.Papers.{Page}
 use Rattle.at_print.specs.Printers.{Prints}
 use Rattle.at_print.specs.Reports.{event_text}
+use Rattle.at_diagnostics.specs.Stops.{IsOfReading}
 use Rattle.at_play.specs.Refusals.{TellsRefusals}
-use Rattle.at_play.specs.declared.number_set.NumberSet.{NumberSet}
 use Rattle.at_schedule.specs.Says.{SayAll, Says}
 use Rattle.at_schedule.specs.Schedules.{event_lines, is_event_line}
 use Rattle.at_print.specs.declared.printer.Printer.{Printer}
-use Rattle.at_play.specs.declared.stop.Stop.{Stop}
-use Rattle.at_play.specs.declared.stop.Stop.TheVariants as stop
+use Rattle.at_diagnostics.specs.declared.stop.Stop.{Stop}
+use Rattle.at_diagnostics.specs.declared.stop.Stop.TheVariants as stop
 
 -- From the first world these events, none of them refused, give these reports and the last world, and each is safe.
 -- This is printed of them.
@@ -34,7 +32,7 @@ Told w (e ∷ es) [] w' text = ⊥
 
 -- an event was played, its text is printed, and the number of its refusal is told if it is one
 pub record Tells {A W : Type 0} (page : W → Page) (w : WorldState) (e : Event A) (w' : WorldState)
-    (old new : Printer W) (before after : NumberSet) : Type 0 where
+    (old new : Printer W) (before after : List Bool) : Type 0 where
   pub report : Report A
   pub playable : IsPlayable w e
   pub plays : Plays w e report w'
@@ -44,7 +42,7 @@ pub record Tells {A W : Type 0} (page : W → Page) (w : WorldState) (e : Event 
 
 -- a line that is no event changes nothing, and the event that any other says is played and printed
 abbrev pub TellsLine : (A : Type 0) {W : Type 0} → (W → Page) → Bool → List ℕ → WorldState → WorldState
-    → Printer W → Printer W → NumberSet → NumberSet → Type 0
+    → Printer W → Printer W → List Bool → List Bool → Type 0
 TellsLine A page true line w w' old new before after =
     (e : Event A) × Says line e × Tells page w e w' old new before after
 TellsLine A page false line w w' old new before after = (w' ≡ w) × (new ≡ old) × (after ≡ before)
@@ -65,24 +63,6 @@ pub record Played {A : Type 0} (setup : Setup A) : Type 0 where
   pub text : List ℕ
   pub told : Told (opening_world setup) events reports world text
 
--- the reading failed, or what was read is no longer what it was; no line is at fault
-abbrev pub IsOfReading : Fault → Type 0
-IsOfReading (text.Unreadable why) = Unit {0}
-IsOfReading (text.Line number rule) = ⊥
-IsOfReading text.NoMemory = ⊥
-
--- the line of the event of this place could not be read
-abbrev pub IsUnread : ℕ → Stop → Type 0
-IsUnread at (stop.Text f) = IsOfReading f
-IsUnread at (stop.Event world.NoMemory n line which) = n ≡ at
-IsUnread at (stop.Event (world.Refused r) n line which) = ⊥
-
--- the stop that a fault of the text is, before the first event
-abbrev pub stop_of : Fault → Stop
-stop_of (text.Unreadable why) = stop.Text (text.Unreadable why)
-stop_of (text.Line number rule) = stop.Text (text.Line number rule)
-stop_of text.NoMemory = stop.Event world.NoMemory 0 0 None
-
 -- the first event lines of a schedule say these events
 abbrev pub BeginsWith : {A : Type 0} → List ℕ → List (Event A) → Type 0
 BeginsWith text es = (said later : List (List ℕ)) × (event_lines text ≡ said ++ later) × SayAll said es
@@ -101,17 +81,11 @@ StopsIn A known es w (stop.Event world.NoMemory at line which) = at ≡ w.events
 StopsIn A known es w (stop.Event (world.Refused r) at line which) =
     (at ≡ w.events) × ((e : Event A) × Refuses w e r × IfSome known (λ text. NextSays text es e))
 
--- a line that was read
-abbrev pub line_of : {X E : Type 0} → (X → List ℕ) → Result X E → Option (List ℕ)
-line_of bytes (Ok x) = Some (bytes x)
-line_of bytes (Err error) = None
-
 -- the same of one line: its event is refused so, or it could not be read, or memory ran out
-abbrev pub StopsLine : Type 0 → Option (List ℕ) → WorldState → Stop → Type 0
+abbrev pub StopsLine : Type 0 → List ℕ → WorldState → Stop → Type 0
 StopsLine A line w (stop.Text f) = IsOfReading f
 StopsLine A line w (stop.Event world.NoMemory at number which) = at ≡ w.events
-StopsLine A None w (stop.Event (world.Refused r) at number which) = ⊥
-StopsLine A (Some line) w (stop.Event (world.Refused r) at number which) =
+StopsLine A line w (stop.Event (world.Refused r) at number which) =
     (at ≡ w.events) × (is_event_line line ≡ true) × ((e : Event A) × Refuses w e r × Says line e)
 
 -- The events are what the event lines say, if the schedule's text is known: what all of them say, or the first ones if

@@ -1,25 +1,25 @@
 //! The play of a schedule's events: each is read, played and printed before the next.
-ghost use Rattle.std.specs.Prelude.{◌≡◌, ◌∷◌, [], true, IfErr, IfOk, MatchResult, OnOk, vec_items};
+ghost use Rattle.std.specs.Prelude.{◌≡◌, ◌<◌, false, true, length, IfErr, IfSome, OnOk, Ok};
+ghost use Rattle.std.specs.Io.BufRead.{DropsThrough, first_piece};
+ghost use Rattle.std.specs.Io.KnownBytes.{IsAtEnd};
+ghost use Rattle.at_diagnostics.specs.Diagnostics.{told_by};
+ghost use Rattle.at_diagnostics.specs.Stops.{IsUnread};
 ghost use Rattle.at_play.specs.Ends.{Obeys};
 ghost use Rattle.at_play.specs.Refusals.{TellsRefusals};
 ghost use Rattle.at_print.specs.Printers.{Prints};
-ghost use Rattle.at_schedule.specs.Says.{Reads};
 ghost use Rattle.at_schedule.specs.Schedules.{is_event_line};
-ghost use Rattle.at_play.specs.Told.{IsStopped, IsUnread, IsWhole, Played, StopsLine, Tells, TellsLine, line_of};
+ghost use Rattle.at_play.specs.Told.{IsStopped, IsWhole, Played, StopsLine, Tells, TellsLine};
 ghost use Rattle.at_setup.specs.Setups.{is_lawful};
 
-use crate::diagnostics::Diagnostics;
-use crate::stop::Stop;
-use at_event::Report;
+use at_diagnostics::{Diagnostics, Stop};
 use at_faults::{Fault, LineFault, Unreadable};
 use at_print::{Paper, Printer, write_event, write_sent};
 use at_schedule::laws::first_line;
-use at_schedule::{Draft, lines_of};
+use at_schedule::{Draft, next_line};
 use at_world::laws::{at_most_16_nodes_stand, exactly_once_requests_run_once, steps_are_a_run};
 use at_world::{Event, Setup, World};
-use std::alloc::{AllocError, Allocator};
-use std::io;
-use std::io::Read;
+use std::alloc::Allocator;
+use std::io::{BufRead, BufReader, Read};
 
 /// Plays the events of a schedule whose lines were read before, up to the first that is refused, and prints each.
 pub(crate) fn play_lines<A: Allocator + Copy, R: Read, W: Paper, E: Paper>(
@@ -32,7 +32,7 @@ pub(crate) fn play_lines<A: Allocator + Copy, R: Read, W: Paper, E: Paper>(
     requires { is_lawful setup.now ≡ true }
     ensures told { (p : Played setup.now) × Obeys setup.now p
         × Prints W.page printer.old printer.new p.text × IsWhole A (R.remaining reader.old) result p
-        × TellsRefusals diagnostics.old.refusals diagnostics.new.refusals p.reports }
+        × TellsRefusals (told_by diagnostics.old) (told_by diagnostics.new) p.reports }
 {
     at_most_16_nodes_stand::<A>();
     steps_are_a_run::<A>();
@@ -49,63 +49,69 @@ fn play_all<A: Allocator + Copy, R: Read, W: Paper, E: Paper>(
 ) -> Result<(), Stop>
     ensures told { (p : Played setup.now)
         × Prints W.page printer.old printer.new p.text × IsWhole A (R.remaining reader.old) result p
-        × TellsRefusals diagnostics.old.refusals diagnostics.new.refusals p.reports }
+        × TellsRefusals (told_by diagnostics.old) (told_by diagnostics.new) p.reports }
 {
     first_line();
     let Ok(mut world) = World::open(alloc, setup) else {
         return Err(Stop::no_memory(0, 0));
     };
+    let Ok(mut lines) = BufReader::new(alloc, reader) else {
+        return Err(Stop::no_memory(0, 0));
+    };
+    let mut line = Vec::new(alloc);
     let mut draft = Draft::new(alloc);
     let mut number = 0usize;
-    for line in lines_of(alloc, reader)? {
+    for _turn in 0..u64::MAX {
         number = number.saturating_add(1);
-        play_line(&mut world, &mut draft, number, line, printer, diagnostics)?;
+        let more = read_line(&mut lines, &mut line, world.played(), number)?;
+        if !more {
+            return Ok(());
+        }
+        play_line(&mut world, &mut draft, number, &line, printer, diagnostics)?;
     }
-    Ok(())
+    // No text has so many lines.
+    Err(Stop::Text(Fault::Unreadable(Unreadable::Failed)))
 }
 
-// Plays the event of the line of this number, if it has one.
+// Reads the line of this number into the room, before the event of this place. False if there is none.
+fn read_line<A: Allocator, R: BufRead>(
+    reader: &mut R,
+    room: &mut Vec<u8, A>,
+    at: u32,
+    number: usize,
+) -> Result<bool, Stop>
+    ensures line { result ≡ Ok true → IfSome (R.remaining reader.old)
+        (λ text. (0 < length text) × (room.new.items ≡ first_piece 10 text)) }
+    ensures rest { OnOk result (DropsThrough (R.remaining reader.old) (R.remaining reader.new) 10) }
+    ensures end { result ≡ Ok false → IsAtEnd (R.remaining reader.old) }
+    ensures unread { IfErr result (λ stop. IsUnread at stop) }
+{
+    match next_line(reader, room).map_err(Fault::from) {
+        Ok(more) => Ok(more),
+        Err(Fault::NoMemory) => Err(Stop::no_memory(at, number)),
+        Err(fault) => Err(Stop::Text(fault)),
+    }
+}
+
+// Plays the event of a line, if it has one. The line was lawful when the setup was read.
 fn play_line<A: Allocator + Copy, W: Paper, E: Paper>(
     world: &mut World<A>,
     draft: &mut Draft<A>,
     number: usize,
-    line: io::Result<Vec<u8, A>>,
+    line: &[u8],
     printer: &mut Printer<W>,
     diagnostics: &mut Diagnostics<'_, E>,
 ) -> Result<(), Stop>
-    ensures told { OnOk result (MatchResult line
-        (λ bytes. TellsLine A W.page (is_event_line bytes.items) bytes.items
-        world.old world.new printer.old printer.new diagnostics.old.refusals diagnostics.new.refusals)
-        (λ _. ⊥)) }
+    ensures told { OnOk result (TellsLine A W.page (is_event_line line.now) line.now world.old world.new
+        printer.old printer.new (told_by diagnostics.old) (told_by diagnostics.new)) }
     ensures stopped { IfErr result
-        (λ stop. (printer.new ≡ printer.old) × (diagnostics.new.refusals ≡ diagnostics.old.refusals)
-        × StopsLine A (line_of vec_items line) world.old stop) }
+        (λ stop. (printer.new ≡ printer.old) × (told_by diagnostics.new ≡ told_by diagnostics.old)
+        × StopsLine A line.now world.old stop) }
 {
-    match event_of(draft, line, world.played(), number) {
+    match draft.take_line(line) {
         Ok(Some(event)) => play_event(world, &event, number, printer, diagnostics),
         Ok(None) => Ok(()),
-        Err(stop) => Err(stop),
-    }
-}
-
-// The event of a line, if it has one. The line was lawful when the setup was read.
-fn event_of<A: Allocator + Copy>(
-    draft: &mut Draft<A>,
-    line: io::Result<Vec<u8, A>>,
-    at: u32,
-    number: usize,
-) -> Result<Option<Event<A>>, Stop>
-    ensures unread { IfErr result (λ stop. IsUnread at stop) }
-    ensures read { IfOk result (λ event. MatchResult line (λ bytes. Reads bytes.items event) (λ _. ⊥)) }
-{
-    let line = match line.map_err(Fault::from) {
-        Ok(line) => line,
-        Err(Fault::NoMemory) => return Err(Stop::no_memory(at, number)),
-        Err(fault) => return Err(Stop::Text(fault)),
-    };
-    match draft.take_line(&line) {
-        Ok(event) => Ok(event),
-        Err(LineFault::NoMemory) => Err(Stop::no_memory(at, number)),
+        Err(LineFault::NoMemory) => Err(Stop::no_memory(world.played(), number)),
         Err(LineFault::Unlawful(_)) => { Err(Stop::Text(Fault::Unreadable(Unreadable::Changed))) }
     }
 }
@@ -118,9 +124,9 @@ pub(crate) fn play_event<A: Allocator + Copy, W: Paper, E: Paper>(
     diagnostics: &mut Diagnostics<'_, E>,
 ) -> Result<(), Stop>
     ensures told { OnOk result (Tells W.page world.old event.now world.new printer.old printer.new
-        diagnostics.old.refusals diagnostics.new.refusals) }
+        (told_by diagnostics.old) (told_by diagnostics.new)) }
     ensures stopped { IfErr result
-        (λ stop. (printer.new ≡ printer.old) × (diagnostics.new.refusals ≡ diagnostics.old.refusals)
+        (λ stop. (printer.new ≡ printer.old) × ((told_by diagnostics.new) ≡ (told_by diagnostics.old))
         × IsStopped world.old event.now world.new stop) }
 {
     let at = world.played();
@@ -129,7 +135,7 @@ pub(crate) fn play_event<A: Allocator + Copy, W: Paper, E: Paper>(
         Ok(report) => {
             write_event(printer, at as usize, &report);
             write_sent(printer, world, first);
-            tell_report(diagnostics, &report, at, line);
+            diagnostics.tell_report(&report, at as usize, line);
             Ok(())
         }
         Err(fault) => Err(Stop::Event {
@@ -138,20 +144,6 @@ pub(crate) fn play_event<A: Allocator + Copy, W: Paper, E: Paper>(
             line,
             which: delivered(event),
         }),
-    }
-}
-
-// Tells why a node refused an event, if it did.
-fn tell_report<A: Allocator, E: Paper>(
-    diagnostics: &mut Diagnostics<'_, E>,
-    report: &Report<A>,
-    at: u32,
-    line: usize,
-)
-    ensures { TellsRefusals diagnostics.old.refusals diagnostics.new.refusals (report.now ∷ []) }
-{
-    if let Report::Refused(number) = report {
-        diagnostics.tell_refused(*number, at as usize, line);
     }
 }
 

@@ -1,5 +1,6 @@
 //! The play of a schedule that lies in memory: whatever its first reading took, its second takes too.
 ghost use Rattle.std.specs.Prelude.{◌≡◌, ◌∷◌, ◌++◌, [], true, IfErr, List, OnOk, Some, ℕ};
+ghost use Rattle.at_diagnostics.specs.Diagnostics.{told_by};
 ghost use Rattle.at_play.specs.Ends.{IsOfPlaying, Obeys};
 ghost use Rattle.at_play.specs.Refusals.{TellsRefusals};
 ghost use Rattle.at_play.specs.Told.{IsWhole, Played, StopsLine, TellsLine};
@@ -8,9 +9,8 @@ ghost use Rattle.at_schedule.specs.Drafts.{BeginSchedule, HoldsSetup, IsRead};
 ghost use Rattle.at_schedule.specs.Schedules.{is_event_line};
 ghost use Rattle.at_setup.specs.Setups.{is_lawful};
 
-use crate::diagnostics::Diagnostics;
 use crate::playing::play_event;
-use crate::stop::Stop;
+use at_diagnostics::{Diagnostics, Stop};
 use at_faults::LineFault;
 use at_print::{Paper, Printer};
 use at_schedule::{Draft, cut_line};
@@ -30,7 +30,7 @@ pub(crate) fn play_bytes<A: Allocator + Copy, W: Paper, E: Paper>(
     requires held { HoldsSetup (Some text.now) setup.now }
     ensures told { (p : Played setup.now) × Obeys setup.now p
         × Prints W.page printer.old printer.new p.text × IsWhole A (Some text.now) result p
-        × TellsRefusals diagnostics.old.refusals diagnostics.new.refusals p.reports }
+        × TellsRefusals (told_by diagnostics.old) (told_by diagnostics.new) p.reports }
     ensures playing { IfErr result IsOfPlaying }
 {
     at_most_16_nodes_stand::<A>();
@@ -49,7 +49,7 @@ fn play_each<A: Allocator + Copy, W: Paper, E: Paper>(
     requires { HoldsSetup (Some text.now) setup.now }
     ensures told { (p : Played setup.now)
         × Prints W.page printer.old printer.new p.text × IsWhole A (Some text.now) result p
-        × TellsRefusals diagnostics.old.refusals diagnostics.new.refusals p.reports }
+        × TellsRefusals (told_by diagnostics.old) (told_by diagnostics.new) p.reports }
     ensures playing { IfErr result IsOfPlaying }
 {
     let Ok(mut world) = World::open(alloc, setup) else {
@@ -78,12 +78,12 @@ fn take_line<A: Allocator + Copy, W: Paper, E: Paper>(
 ) -> Result<(), Stop>
     requires { (lines : List (List ℕ)) × IsRead A lines draft.old × BeginSchedule A (lines ++ line.now ∷ []) }
     ensures told { OnOk result (TellsLine A W.page (is_event_line line.now) line.now world.old world.new
-        printer.old printer.new diagnostics.old.refusals diagnostics.new.refusals) }
+        printer.old printer.new (told_by diagnostics.old) (told_by diagnostics.new)) }
     ensures taken { OnOk result ((lines : List (List ℕ)) → IsRead A lines draft.old
         → IsRead A (lines ++ line.now ∷ []) draft.new) }
     ensures stopped { IfErr result
-        (λ stop. (printer.new ≡ printer.old) × (diagnostics.new.refusals ≡ diagnostics.old.refusals)
-        × StopsLine A (Some line.now) world.old stop) }
+        (λ stop. (printer.new ≡ printer.old) × ((told_by diagnostics.new) ≡ (told_by diagnostics.old))
+        × StopsLine A line.now world.old stop) }
     ensures playing { IfErr result IsOfPlaying }
 {
     match draft.take_line(line) {

@@ -1,18 +1,17 @@
 //! The play of a schedule, from its text to what is printed.
-ghost use Rattle.std.specs.Prelude.{◌≡◌, ◌<◌, ◌↔◌, ◌++◌, List, ℕ, codes, length, IfSome, IsErr, IsOk};
-ghost use Rattle.std.specs.Fmt.{decimal};
-ghost use Rattle.at_play.specs.Ends.{Ended, FileText, PlayText, end_text, text_fault_line};
+ghost use Rattle.std.specs.Prelude.{◌≡◌, ◌<◌, ◌↔◌, List, ℕ, length, IfSome, IsErr, IsOk};
+ghost use Rattle.at_diagnostics.specs.Diagnostics.{TellsWrites, told_by};
+ghost use Rattle.at_diagnostics.specs.declared.diagnostics.Diagnostics.{Diagnostics as Told};
+ghost use Rattle.at_play.specs.Ends.{Ended, FileText, PlayText, TellsEnd, end_text};
 ghost use Rattle.at_print.specs.Printers.{HasFailed, Prints};
 
-use crate::diagnostics::Diagnostics;
 use crate::playing::play_lines;
 use crate::playing_text::play_bytes;
-use crate::stop::{Stop, write_fault, write_stop};
-use at_faults::{Fault, MAX_LEN, check_length, read_bytes};
+use at_diagnostics::{Diagnostics, Stop, write_stop};
+use at_faults::{MAX_LEN, check_length, read_bytes};
 use at_print::{Paper, Printer, Status};
 use at_schedule::read_setup;
 use std::alloc::Allocator;
-use std::fmt::Display;
 use std::io::{Read, Seek};
 
 /// Reads a schedule to its end, plays it, and prints what came of each event. Why a play ended before its last event is
@@ -27,7 +26,7 @@ pub fn play_text<A: Allocator + Copy, R: Read, W: Paper, E: Paper>(
     ensures too_long { IfSome (R.remaining reader.old) (λ all. MAX_LEN < length all → result ≡ Status.Failed) }
     ensures printed { result ≡ Status.Done → ¬ HasFailed printer.new }
     ensures ended { Ended
-        (PlayText A (R.remaining reader.old) diagnostics.old.refusals diagnostics.new.refusals) W.page result
+        (PlayText A (R.remaining reader.old) (told_by diagnostics.old) (told_by diagnostics.new)) W.page result
         printer.old printer.new }
 {
     let played = play_stream(alloc, reader, printer, diagnostics);
@@ -46,7 +45,7 @@ pub fn play_file<A: Allocator + Copy, F: Read + Seek, W: Paper, E: Paper>(
     ensures too_long { IfSome (F.remaining file.old) (λ all. MAX_LEN < length all → result ≡ Status.Failed) }
     ensures printed { result ≡ Status.Done → ¬ HasFailed printer.new }
     ensures ended { Ended (FileText A F.remaining F.stream_position F.stream_bytes
-        diagnostics.old.refusals diagnostics.new.refusals) W.page result printer.old printer.new }
+        (told_by diagnostics.old) (told_by diagnostics.new)) W.page result printer.old printer.new }
 {
     let played = play_again(alloc, file, printer, diagnostics);
     end(played, printer, diagnostics)
@@ -60,7 +59,7 @@ fn play_stream<A: Allocator + Copy, R: Read, W: Paper, E: Paper>(
 ) -> Result<(), Stop>
     ensures too_long { IfSome (R.remaining reader.old) (λ all. MAX_LEN < length all → IsErr result) }
     ensures told { (text : List ℕ)
-        × PlayText A (R.remaining reader.old) diagnostics.old.refusals diagnostics.new.refusals result text
+        × PlayText A (R.remaining reader.old) (told_by diagnostics.old) (told_by diagnostics.new) result text
         × Prints W.page printer.old printer.new text }
 {
     let bytes = read_bytes(alloc, reader)?;
@@ -76,7 +75,7 @@ fn play_again<A: Allocator + Copy, F: Read + Seek, W: Paper, E: Paper>(
 ) -> Result<(), Stop>
     ensures too_long { IfSome (F.remaining file.old) (λ all. MAX_LEN < length all → IsErr result) }
     ensures told { (text : List ℕ)
-        × FileText A F.remaining F.stream_position F.stream_bytes diagnostics.old.refusals diagnostics.new.refusals
+        × FileText A F.remaining F.stream_position F.stream_bytes (told_by diagnostics.old) (told_by diagnostics.new)
         result text × Prints W.page printer.old printer.new text }
 {
     check_length(file)?;
@@ -94,7 +93,9 @@ fn end<W: Paper, E: Paper>(
 ) -> Status
     ensures done { (result ≡ Status.Done) ↔ (IsOk played × ¬ HasFailed printer.new) }
     ensures printed { Prints W.page printer.old printer.new (end_text played) }
-    ensures told { diagnostics.new.refusals ≡ diagnostics.old.refusals }
+    ensures told { told_by diagnostics.new ≡ told_by diagnostics.old }
+    ensures said { (mid : Told E) × TellsEnd E.page played diagnostics.old mid
+        × TellsWrites E.page printer.new mid diagnostics.new }
 {
     let status = finish(played, printer, diagnostics);
     diagnostics.tell_writes(printer);
@@ -108,7 +109,8 @@ fn finish<W: Paper, E: Paper>(
 ) -> Status
     ensures done { (result ≡ Status.Done) ↔ (IsOk played × ¬ HasFailed printer.new) }
     ensures printed { Prints W.page printer.old printer.new (end_text played) }
-    ensures told { diagnostics.new.refusals ≡ diagnostics.old.refusals }
+    ensures told { told_by diagnostics.new ≡ told_by diagnostics.old }
+    ensures said { TellsEnd E.page played diagnostics.old diagnostics.new }
 {
     match played {
         Ok(()) => printer.finish(Status::Done),
@@ -118,38 +120,4 @@ fn finish<W: Paper, E: Paper>(
             printer.finish(Status::Failed)
         }
     }
-}
-
-/// Prints that there is no schedule, and tells why.
-pub fn end_at_fault<W: Paper, E: Paper>(
-    fault: Fault,
-    printer: &mut Printer<W>,
-    diagnostics: &mut Diagnostics<'_, E>,
-) -> Status
-    ensures failed { result ≡ Status.Failed }
-    ensures printed { Prints W.page printer.old printer.new (text_fault_line fault) }
-{
-    write_fault(printer, fault);
-    diagnostics.tell_stop(Stop::from(fault));
-    let _status = printer.finish(Status::Failed);
-    diagnostics.tell_writes(printer);
-    Status::Failed
-}
-
-/// Prints that the line of this number, counted from 1, is at fault, and tells this reason.
-pub fn end_at_line<D: Display + Drop, W: Paper, E: Paper>(
-    number: usize,
-    reason: D,
-    printer: &mut Printer<W>,
-    diagnostics: &mut Diagnostics<'_, E>,
-) -> Status
-    ensures failed { result ≡ Status.Failed }
-    ensures printed { Prints W.page printer.old printer.new
-        (codes "fault " ++ (decimal number ++ codes "\n")) }
-{
-    writeln!(printer, "fault {number}");
-    diagnostics.tell_line(number, reason);
-    let _status = printer.finish(Status::Failed);
-    diagnostics.tell_writes(printer);
-    Status::Failed
 }

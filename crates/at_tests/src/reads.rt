@@ -1,6 +1,8 @@
 //! What is printed and told of schedules that can't be read, or that change while they are read.
 use crate::failing::Changing;
-use at_play::{Diagnostics, Printer, play_file, play_text};
+use at_diagnostics::Diagnostics;
+use at_play::{play_file, play_text};
+use at_print::Printer;
 
 // Whether a file or a stream is played, what is read of it each time from the beginning, and what is printed and told.
 // A file is read first for its length, then for its faults and last to be played, and a stream is read once.

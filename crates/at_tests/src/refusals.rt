@@ -1,15 +1,18 @@
 //! What is printed and told if one request for memory is refused.
 use crate::zone_list::{ZONE_LIST, ZONE_LIST_PLAYED};
-use at_play::{Diagnostics, Printer, Status, play_file, play_text, show_text};
+use at_diagnostics::Diagnostics;
+use at_play::{play_file, play_text};
+use at_print::{Printer, Status};
+use at_show::show_text;
 use refusing::Refusing;
 use std::io::Cursor;
 
 // What is printed and told of the zone list, in the order of the requests that are refused. The play stops before an
 // event, or a node reports that it ran out of memory. In the latter case the datagram is missing, or the list comes
 // with the second answer. In the last row no request is refused.
-static ENDS: [(&str, &str); 13] = [
+static ENDS: [(&str, &str); 10] = [
     ("stopped nomemory at 0\n", "atnode: a.txt: out of memory\n"),
-    // The lines before the first event are read a second time.
+    // The lines before the first event are read a second time. Room is asked for where one is the longest so far.
     (
         "stopped nomemory at 0\n",
         "atnode: a.txt:1: event 0 was not played: out of memory\n",
@@ -17,10 +20,6 @@ static ENDS: [(&str, &str); 13] = [
     (
         "stopped nomemory at 0\n",
         "atnode: a.txt:2: event 0 was not played: out of memory\n",
-    ),
-    (
-        "stopped nomemory at 0\n",
-        "atnode: a.txt:3: event 0 was not played: out of memory\n",
     ),
     (
         "stopped nomemory at 0\n",
@@ -56,29 +55,10 @@ stopped 70 at 2
 sent 0 1 00156711000A000A01050680034001000008000001
 1 served 1
 sent 1 5 0020CA71000A000A05018006039000000001000002034C6162064F6666696365
-stopped nomemory at 2
-",
-        "atnode: a.txt:7: event 2 was not played: out of memory\n",
-    ),
-    (
-        "0 begun 0
-sent 0 1 00156711000A000A01050680034001000008000001
-1 served 1
-sent 1 5 0020CA71000A000A05018006039000000001000002034C6162064F6666696365
 2 nomemory
 3 zones Lab Office
 ",
         "",
-    ),
-    (
-        "0 begun 0
-sent 0 1 00156711000A000A01050680034001000008000001
-1 served 1
-sent 1 5 0020CA71000A000A05018006039000000001000002034C6162064F6666696365
-2 zones Lab Office
-stopped nomemory at 3
-",
-        "atnode: a.txt:8: event 3 was not played: out of memory\n",
     ),
     (ZONE_LIST_PLAYED, ""),
 ];
@@ -97,7 +77,7 @@ fn place_of(printed: &[u8], told: &[u8]) -> usize {
 
 #[test]
 fn each_request_for_memory_that_is_refused_is_told_in_its_place(rt: HostRuntime) {
-    let mut places = [false; 14];
+    let mut places = [false; 11];
     for granted in 0..200u64 {
         // Each number of granted requests is tried on a stream and on a file.
         let heap = Refusing::new(rt.alloc(), granted / 2);
@@ -112,13 +92,13 @@ fn each_request_for_memory_that_is_refused_is_told_in_its_place(rt: HostRuntime)
             play_file(&heap, &mut text, &mut printer, &mut diagnostics)
         };
         let place = place_of(&printed, &told);
-        assert!(rt; (place < 12) == heap.has_refused());
+        assert!(rt; (place < 9) == heap.has_refused());
         assert!(rt; (status == Status::Done) == told.is_empty());
         assert!(rt; heap.held() == 0);
-        places[place.min(13)] = true;
+        places[place.min(10)] = true;
     }
     let (last, others) = places.split_last().expect(&rt, "no place");
-    assert!(rt; (others, *last) == ([true; 13].as_slice(), false));
+    assert!(rt; (others, *last) == ([true; 10].as_slice(), false));
 }
 
 #[test]

@@ -1,6 +1,8 @@
 //! What is told of the refusals of a play: each of its numbers once, where it came first.
 use crate::failing::Scarce;
-use at_play::{Diagnostics, Printer, play_text};
+use at_diagnostics::Diagnostics;
+use at_play::play_text;
+use at_print::Printer;
 
 const REFUSED: &str = "\
 net 10

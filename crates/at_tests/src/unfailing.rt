@@ -1,7 +1,7 @@
 //! A paper to which no write fails.
 ghost use Rattle.std.specs.Prelude.{false, None};
 
-use at_play::Paper;
+use at_print::Paper;
 use std::fmt::Display;
 use std::io;
 

@@ -2,7 +2,10 @@
 use crate::failing::Scarce;
 use crate::unfailing::Unfailing;
 use crate::zone_list::{ZONE_LIST, ZONE_LIST_PLAYED};
-use at_play::{Diagnostics, Printer, play_text, show_text};
+use at_diagnostics::Diagnostics;
+use at_play::play_text;
+use at_print::Printer;
+use at_show::show_text;
 
 const UNWRITTEN: &str = "atnode: a.txt: standard output could not be written to its end\n";
 

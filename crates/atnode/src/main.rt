@@ -8,7 +8,10 @@ mod telling;
 mod tests;
 mod udp;
 
-use at_play::{Diagnostics, Printer, Status, play_file, play_text, show_text};
+use at_diagnostics::Diagnostics;
+use at_play::{play_file, play_text};
+use at_print::{Printer, Status};
+use at_show::show_text;
 use command_line::{Request, request_of};
 use std::env::Env;
 use std::io::{BufWriter, ErrorKind, Read, Seek, Write};

@@ -4,9 +4,11 @@ ghost use Rattle.at_drive.specs.Steps.{has_all};
 
 use crate::telling::tell;
 use crate::{STANDARD_INPUT, stop, unopened};
+use at_diagnostics::Diagnostics;
 use at_drive_lines::{DriveText, line_of_node, read_drive};
+use at_drive_text::{drive_text, end_at_fault, end_at_line};
 use at_faults::{Fault, read_bytes};
-use at_play::{Diagnostics, Paper, Printer, Status, drive_text, end_at_fault, end_at_line};
+use at_print::{Paper, Printer, Status};
 use at_setup::Setup;
 use at_udp::{BindFault, UdpCable};
 use std::alloc::{AllocError, Global};

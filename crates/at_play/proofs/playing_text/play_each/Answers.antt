@@ -1,29 +1,19 @@
-use Rattle.std.proofs.Common.{[], Some, refl, sym, ◌∙◌}
+use Rattle.std.proofs.Common.{Some, refl, sym, ◌∙◌}
 use Rattle.std.proofs.lemmas.Result.{err_from_is_err_and}
-use Rattle.at_play.proofs.LineLemmas.{none_said, reads_all, reads_none, reads_so_far}
-use Rattle.at_play.proofs.PrintedLemmas.{Prints-nothing}
-use Rattle.at_play.proofs.RefusalLemmas.{none_told}
+use Rattle.at_diagnostics.specs.Diagnostics.{told_by}
+use Rattle.at_play.proofs.LineLemmas.{reads_all, reads_none, reads_so_far}
 use Rattle.at_play.proofs.TextLines.{begins, none_left, none_read, read_more, stops_in, text_played}
-use Rattle.at_play.proofs.ToldLemmas.{opened, sofar_opened, sofar_stopped, stops_unread}
-use Rattle.at_world.specs.Plays.{opening_world}
+use Rattle.at_play.proofs.ToldLemmas.{sofar_opened, sofar_stopped, stops_first}
 use Rattle.at_play.proofs.playing_text.play_each.Goals as goal
 
 pub returns-in_default-clause-told : goal.returns-in_default-clause-told
-returns-in_default-clause-told g c = (
-  opened g.row.A.Denot c.args.setup.now,
-  Prints-nothing g.W.Paper.page c.args.printer.now,
-  (
-    stops_unread g.row.A.Denot (Some c.args.text.now) [] (opening_world c.args.setup.now) 0 c.no_memory.result refl
-        c.no_memory.ensures.unread,
-    none_said g.row.A.Denot (Some c.args.text.now),
-  ),
-  none_told g.row.A.Denot c.args.diagnostics.now.refusals,
-)
+returns-in_default-clause-told g c = stops_first g.row.A.Denot g.W.Paper.page c.args.setup.now (Some c.args.text.now)
+    c.args.printer.now (told_by c.args.diagnostics.now) c.no_memory.result c.no_memory.ensures.unread
 
 pub loop-rest-init : goal.loop-rest-init
 loop-rest-init g c = (
   sofar_opened g.row.A.Denot g.W.Paper.page c.args.setup.now c.in-Ok.world c.args.printer.now
-      c.args.diagnostics.now.refusals c.in-Ok.ensures,
+      (told_by c.args.diagnostics.now) c.in-Ok.ensures,
   reads_none g.row.A.Denot (Some c.args.text.now) (Some c.args.text.now) refl,
   none_read g.row.A.Denot c.args.text.now c.new-draft.result c.new-draft.ensures,
 )
@@ -38,8 +28,8 @@ loop-rest-preserved g c =
     let before = c.loop-rest.invariant in
     let after = text_played g.row.A.Denot g.W.Paper.page c.args.setup.now c.args.text.now c.loop-rest.rest.now
     c.cut_line.result.1.now c.cut_line.result.0.now c.loop-rest.world c.take_line.new.world c.args.printer.now
-    c.loop-rest.printer c.take_line.new.printer c.args.diagnostics.now.refusals c.loop-rest.diagnostics.refusals
-    c.take_line.new.diagnostics.refusals before.0 before.1 c.cut_line.ensures.cut c.in_ok-take_line.ensures.told in (
+    c.loop-rest.printer c.take_line.new.printer (told_by c.args.diagnostics.now) (told_by c.loop-rest.diagnostics)
+    (told_by c.take_line.new.diagnostics) before.0 before.1 c.cut_line.ensures.cut c.in_ok-take_line.ensures.told in (
       after.0,
       after.1,
       read_more g.row.A.Denot c.args.text.now c.loop-rest.rest.now c.cut_line.result.1.now c.cut_line.result.0.now
@@ -62,8 +52,8 @@ returns-in_err-take_line-clause-told g c =
     let before = c.loop-rest.invariant in
     let stopped = c.in_err-take_line.ensures.stopped in
     sofar_stopped g.row.A.Denot g.W.Paper.page c.args.setup.now (Some c.args.text.now) c.loop-rest.world
-    c.args.printer.now c.loop-rest.printer c.take_line.new.printer c.args.diagnostics.now.refusals
-    c.loop-rest.diagnostics.refusals c.take_line.new.diagnostics.refusals c.from_residual.result p.0 p.1 stopped.0
+    c.args.printer.now c.loop-rest.printer c.take_line.new.printer (told_by c.args.diagnostics.now)
+    (told_by c.loop-rest.diagnostics) (told_by c.take_line.new.diagnostics) c.from_residual.result p.0 p.1 stopped.0
     stopped.1 before.0
     (stops_in g.row.A.Denot c.args.text.now c.loop-rest.rest.now c.cut_line.result.1.now c.cut_line.result.0.now
     ((before.0).0).events c.loop-rest.world p.0 before.1 c.cut_line.ensures.cut (rw p.2 stopped.2))

@@ -1,4 +1,5 @@
 use Rattle.std.proofs.Common.{length, Some}
+use Rattle.at_diagnostics.specs.Diagnostics.{told_by}
 use Rattle.at_play.proofs.LineLemmas.{SaidSoFar}
 use Rattle.at_play.proofs.TextLines.{IsLeft}
 use Rattle.at_play.proofs.ToldLemmas.{Sofar}
@@ -8,8 +9,8 @@ use Rattle.at_play.proofs.playing_text.play_each.Given as goal
 -- read
 abbrev pub invariant-loop-rest : goal.invariant-loop-rest
 invariant-loop-rest g l =
-    (so_far : Sofar g.row.A.Denot g.W.Paper.page l.fn.setup l.world l.fn.printer l.printer l.fn.diagnostics.refusals
-    l.diagnostics.refusals)
+    (so_far : Sofar g.row.A.Denot g.W.Paper.page l.fn.setup l.world l.fn.printer l.printer (told_by l.fn.diagnostics)
+    (told_by l.diagnostics))
     × SaidSoFar (Some l.fn.text) (Some l.rest) (so_far.0).events × IsLeft g.row.A.Denot l.fn.text l.rest l.draft
 
 abbrev pub decreases-loop-rest : goal.decreases-loop-rest

@@ -1,4 +1,4 @@
-use Rattle.at_play.proofs.TextLines.{stops_said}
+use Rattle.at_play.proofs.ToldLemmas.{stops_said}
 use Rattle.at_play.proofs.playing_text.take_line.Goals as goal
 
 pub returns-in-Ok-Some-clause-stopped : goal.returns-in-Ok-Some-clause-stopped

@@ -1,7 +1,8 @@
 use Rattle.std.proofs.Common.{inl, inr, refl, [], rules}
+use Rattle.at_diagnostics.specs.Diagnostics.{told_by}
 use Rattle.at_play.specs.Ends.{Rewound}
 use Rattle.std.proofs.lemmas.Result.{err_from_is_err_and}
-use Rattle.at_play.proofs.PrintedLemmas.{Prints-nothing}
+use Rattle.at_print.proofs.PrintLemmas.{Prints-nothing}
 use Rattle.at_play.proofs.ToldLemmas.{bytes_of_read, not_read}
 use Rattle.at_play.proofs.program.play_again.Goals as goal
 
@@ -9,7 +10,7 @@ pub returns-in_err-check_length-clause-told : goal.returns-in_err-check_length-c
 returns-in_err-check_length-clause-told g c =
     let p = err_from_is_err_and c.from_residual.result c.from_residual.ensures.1 in (
       [],
-      inl (not_read _ c.args.diagnostics.now.refusals
+      inl (not_read _ (told_by c.args.diagnostics.now)
           c.from_residual.result _ p.0 p.1 p.2 c.in_err-check_length.ensures.fault),
       Prints-nothing g.W.Paper.page c.args.printer.now,
     )
@@ -18,7 +19,7 @@ pub returns-in_err-rewind-clause-told : goal.returns-in_err-rewind-clause-told
 returns-in_err-rewind-clause-told g c =
     let p = err_from_is_err_and c.from_residual-in_err-rewind.result c.from_residual-in_err-rewind.ensures.1 in (
       [],
-      inl (not_read _ c.args.diagnostics.now.refusals
+      inl (not_read _ (told_by c.args.diagnostics.now)
           c.from_residual-in_err-rewind.result p.2.0 p.0 p.1 p.2.2 (bytes_of_read p.2.0 p.2.1)),
       Prints-nothing g.W.Paper.page c.args.printer.now,
     )
@@ -27,7 +28,7 @@ pub returns-in_err-rewind-2-clause-told : goal.returns-in_err-rewind-2-clause-to
 returns-in_err-rewind-2-clause-told g c =
     let p = err_from_is_err_and c.from_residual-in_err-rewind-2.result c.from_residual-in_err-rewind-2.ensures.1 in (
       [],
-      inl (not_read _ c.args.diagnostics.now.refusals
+      inl (not_read _ (told_by c.args.diagnostics.now)
           c.from_residual-in_err-rewind-2.result p.2.0 p.0 p.1 p.2.2 (bytes_of_read p.2.0 p.2.1)),
       Prints-nothing g.W.Paper.page c.args.printer.now,
     )
@@ -42,7 +43,7 @@ returns-in_err-setup-clause-told g c =
       moved = c.in_ok-rewind.ensures.moves;
       kept = c.rewind.ensures.bytes;
     } in
-    let none = not_read _ c.args.diagnostics.now.refusals
+    let none = not_read _ (told_by c.args.diagnostics.now)
     c.from_residual-in_err-setup.result _ p.0 p.1 p.2 (inr c.in_err-setup.ensures.fault) in
     ([], inr (first, inl none), Prints-nothing g.W.Paper.page c.args.printer.now)
 

@@ -1,6 +1,7 @@
 use Rattle.std.proofs.Common.{subst, sym}
+use Rattle.at_diagnostics.specs.Diagnostics.{told_by}
 use Rattle.at_play.specs.Ends.{FileText}
-use Rattle.at_play.proofs.PrintedLemmas.{Prints-trans}
+use Rattle.at_print.proofs.PrintLemmas.{Prints-trans}
 use Rattle.at_play.proofs.ToldLemmas.{too_long_fails}
 use Rattle.at_play.proofs.program.play_file.Goals as goal
 
@@ -11,7 +12,7 @@ returns-clause-ended g c =
       result = c.play_again-played.result;
       text = told.0;
       plays = subst (λ refusals. FileText g.row.A.Denot g.F.Read.remaining g.F.Seek.stream_position
-          g.F.Seek.stream_bytes c.args.diagnostics.now.refusals refusals c.play_again-played.result told.0)
+          g.F.Seek.stream_bytes (told_by c.args.diagnostics.now) refusals c.play_again-played.result told.0)
           (sym c.end.ensures.told) told.1;
       done = c.end.ensures.done;
       printed = Prints-trans g.W.Paper.page c.args.printer.now c.play_again-played.new.printer c.end.new.printer

@@ -1,0 +1,2 @@
+mod NewsLemmas
+mod TellsLemmas

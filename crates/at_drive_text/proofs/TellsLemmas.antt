@@ -1,0 +1,112 @@
+-- A drive is told one step further.
+use Rattle.std.proofs.Common.{◌≡◌, ℕ, suc, ◌+◌, ◌<◌, List, [], ◌∷◌, ◌++◌, length, take, get_or, Some, None, inl}
+use Rattle.std.proofs.Common.{Bool, true, false, Ok, Err, refl, sym, ap, subst, ◌∙◌, append-nil, append_assoc, arith}
+use Rattle.std.proofs.Common.{map}
+use Rattle.std.specs.Prelude.{Result, Option, OnErr, OnOk, slice_get}
+use Rattle.std.specs.List.{list_all}
+use Rattle.std.specs.Result.{is_err}
+use Rattle.std.proofs.lemmas.Bool.{true≢false}
+use Rattle.std.proofs.lemmas.List.Folds.{list_all_at}
+use Rattle.std.proofs.lemmas.List.{take_more, length-take}
+use Rattle.std.proofs.lemmas.Option.{slice_get-get_or}
+use Rattle.at_cable.specs.declared.fault.CableFault.{CableFault}
+use Rattle.at_drive.specs.Drives.{Driving, Drives, IsLeft, number_of as node_number, opening_drive}
+use Rattle.at_drive.specs.Steps.{number_in, numbers_of}
+use Rattle.at_drive.specs.declared.step.Step.{Step}
+use Rattle.at_drive.specs.declared.step.Step.TheVariants.{Call, Timer, Poll}
+use Rattle.at_setup.specs.declared.setup.NodeSetup.{NodeSetup}
+use Rattle.at_setup.specs.declared.setup.Setup.{Setup}
+use Rattle.at_world.specs.Plays.{opening_node}
+use Rattle.at_drive_text.specs.Driven.{Tells, marks_of, news_text, sent_count}
+
+module _ {A C : Type 0} (S : C → ℕ → ℕ → List ℕ → Result (Unit {0}) CableFault → C → Type 0)
+    (R : C → ℕ → ℕ → Result (Option (List ℕ)) CableFault → C → Type 0) where
+  and_one : (at n : ℕ) (ss : List (Step A)) (s : Step A) (d : Driving A) (c : C) (mid : Driving A) (between : C)
+      (d' : Driving A) (c' : C) (m : ℕ) (text : List ℕ) → Tells S R at n ss d c mid between m text
+      → Drives S R (at + length ss) s mid between d' c'
+      → Tells S R at n (ss ++ s ∷ []) d c d' c' (m + sent_count (slice_get (d'.log).sent (length (mid.log).sent)))
+      (text ++ news_text (at + length ss) m (marks_of mid.log) d'.log)
+  and_one at n [] s d c mid between d' c' m text (same, alike, count, none) last =
+      let here : at + 0 ≡ at = omega arith in
+      let from_d : Drives S R (at + 0) s d c d' c' =
+      subst (λ b. Drives S R (at + 0) s d b d' c') alike
+      (subst (λ x. Drives S R (at + 0) s x between d' c') same last) in
+      let printed : text ++ news_text (at + 0) m (marks_of mid.log) d'.log
+      ≡ news_text at n (marks_of d.log) d'.log ++ [] =
+      ap (λ l. l ++ news_text (at + 0) m (marks_of mid.log) d'.log) none
+      ∙ (λ i. news_text (here i) (count i) (marks_of (same i).log) d'.log)
+      ∙ sym (append-nil (news_text at n (marks_of d.log) d'.log)) in
+      let counted : m + sent_count (slice_get (d'.log).sent (length (mid.log).sent))
+      ≡ n + sent_count (slice_get (d'.log).sent (length (d.log).sent)) =
+      (λ i. count i + sent_count (slice_get (d'.log).sent (length ((same i).log).sent))) in
+      (d', c', [], subst (λ i. Drives S R i s d c d' c') here from_d, (refl, refl, counted, refl), printed)
+  and_one at n (x ∷ ss) s d c mid between d' c' m text (next, after, rest, drives, tells, is) last =
+      let there : at + suc (length ss) ≡ at + 1 + length ss = omega arith in
+      let later = subst (λ i. Drives S R i s mid between d' c') there last in
+      let more = and_one (at + 1) (n + sent_count (slice_get (next.log).sent (length (d.log).sent))) ss s next after mid
+      between d' c' m rest tells later in
+      let first = news_text at n (marks_of d.log) next.log in
+      let news = λ (i : ℕ). news_text i m (marks_of mid.log) d'.log in
+      let printed : text ++ news (at + suc (length ss)) ≡ first ++ (rest ++ news (at + 1 + length ss)) =
+      ap (λ l. l ++ news (at + suc (length ss))) is ∙ append_assoc first rest (news (at + suc (length ss)))
+      ∙ ap (λ i. first ++ (rest ++ news i)) there in
+      (next, after, rest ++ news (at + 1 + length ss), drives, more, printed)
+
+  -- the step at a place follows those before it
+  pub next_told : (steps : List (Step A)) (at n : ℕ) (s : Step A) (d : Driving A) (c : C) (mid : Driving A)
+      (between : C) (d' : Driving A) (c' : C) (text : List ℕ) → at < length steps → s ≡ get_or steps at s
+      → Tells S R 0 0 (take at steps) d c mid between n text → Drives S R at s mid between d' c'
+      → Tells S R 0 0 (take (at + 1) steps) d c d' c'
+      (n + sent_count (slice_get (d'.log).sent (length (mid.log).sent)))
+      (text ++ news_text at n (marks_of mid.log) d'.log)
+  next_told steps at n s d c mid between d' c' text within is tells last =
+      let place : at ≡ 0 + length (take at steps) = omega (arith, length-take at steps) in
+      let more : take (at + 1) steps ≡ take at steps ++ s ∷ [] =
+      take_more steps at s within ∙ ap (λ x. take at steps ++ x ∷ []) (sym is) in
+      let after = n + sent_count (slice_get (d'.log).sent (length (mid.log).sent)) in
+      subst (λ i. Tells S R 0 0 (take (at + 1) steps) d c d' c' after (text ++ news_text i n (marks_of mid.log) d'.log))
+      (sym place)
+      (subst (λ l. Tells S R 0 0 l d c d' c' after
+      (text ++ news_text (0 + length (take at steps)) n (marks_of mid.log) d'.log)) (sym more)
+      (and_one 0 0 (take at steps) s d c mid between d' c' n text tells
+      (subst (λ i. Drives S R i s mid between d' c') place last)))
+
+  -- a cable that was not asked is left as it was
+  pub left_alone : (o : Option (Step A)) (c : C) → IsLeft R o c c
+  left_alone None c = refl
+  left_alone (Some (Call k call)) c = refl
+  left_alone (Some (Timer k timer)) c = refl
+  left_alone (Some (Poll k)) c = inl refl
+
+  pub left_at : (steps : List (Step A)) (at : ℕ) (s : Step A) (c c' : C) → at < length steps → s ≡ get_or steps at s
+      → IsLeft R (Some s) c c' → IsLeft R (slice_get steps at) c c'
+  left_at steps at s c c' within is left =
+      subst (λ o. IsLeft R o c c') (sym (slice_get-get_or steps at s within ∙ ap (λ x. Some x) (sym is))) left
+
+-- a test that all entries of a list pass is passed by the one at an index
+pub all_pass : {X : Type 0} (p : X → Bool) (xs : List X) (i : ℕ) (x : X) → i < length xs → x ≡ get_or xs i x
+    → list_all p xs ≡ true → p x ≡ true
+all_pass p xs i x within is all = go (p (get_or xs i x)) refl
+  where
+    go : (b : Bool) → p (get_or xs i x) ≡ b → p x ≡ true
+    go true h = ap p is ∙ h
+    go false h = absurd (true≢false (sym all ∙ list_all_at p xs i x within h))
+
+-- what holds of an answer that is, or is not, an error
+pub if_err : {T E : Type 0} (r : Result T E) (P : Type 0) → is_err r ≡ true → OnErr r P → P
+if_err (Ok x) P is p = absurd (true≢false (sym is))
+if_err (Err e) P is p = p
+
+pub if_ok : {T E : Type 0} (r : Result T E) (P : Type 0) → is_err r ≡ false → OnOk r P → P
+if_ok (Ok x) P is p = p
+if_ok (Err e) P is p = absurd (true≢false is)
+
+-- ---- the nodes of a setup before the first step
+
+numbers_from : {A : Type 0} (s : Setup A) (ns : List NodeSetup) → map node_number (map (opening_node s) ns)
+    ≡ map number_in ns
+numbers_from s [] = refl
+numbers_from s (n ∷ ns) = ap (λ l. n.node ∷ l) (numbers_from s ns)
+
+pub begin_numbers : {A : Type 0} (s : Setup A) → map node_number (opening_drive s).nodes ≡ numbers_of s
+begin_numbers s = numbers_from s s.nodes

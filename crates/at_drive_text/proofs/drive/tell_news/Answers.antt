@@ -1,0 +1,12 @@
+use Rattle.std.proofs.Common.{subst}
+use Rattle.std.specs.Prelude.{slice_get}
+use Rattle.at_drive_text.specs.Told.{TellsRefusal}
+use Rattle.at_drive_text.proofs.drive.tell_news.Goals as goal
+
+pub returns : goal.returns
+returns g c = (
+  c.tell_refusal.new.diagnostics,
+  subst (λ xs. TellsRefusal g.E.Paper.page c.args.at (slice_get xs c.args.marks.reports) c.args.diagnostics.now
+      c.tell_refusal.new.diagnostics) c.deref.ensures.value c.tell_refusal.ensures,
+  rw c.is_first_failure.ensures at c.tell_cable.ensures,
+)

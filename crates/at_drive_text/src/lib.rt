@@ -1,0 +1,9 @@
+//! A drive of nodes over a cable, printed step by step.
+#![tactic(auto)]
+
+mod drive;
+mod fault;
+mod news;
+
+pub use drive::drive_text;
+pub use fault::{end_at_fault, end_at_line};

@@ -1,0 +1,4 @@
+pub mod HexFaults
+pub mod Shown
+pub mod Texts
+pub mod Told

@@ -1,0 +1,9 @@
+//! The showing of one datagram, which is given in hexadecimal digits.
+#![tactic(auto)]
+
+mod hex_reason;
+mod show;
+mod show_names;
+mod show_segment;
+
+pub use show::show_text;

@@ -1,0 +1,165 @@
+//! What `show` prints of a datagram that a word spells in hexadecimal digits.
+ghost use Rattle.std.specs.Prelude.{◌≡◌, ◌↔◌, ◌⊎◌, ◌≤◌, ◌/◌, ◌++◌, List, ℕ, Option, None, length, vec_capacity};
+ghost use Rattle.at_print.specs.Printers.{HasFailed, Prints};
+ghost use Rattle.at_ddp.specs.Datagram.{content};
+ghost use Rattle.at_diagnostics.specs.Diagnostics.{TellsLine};
+ghost use Rattle.at_diagnostics.specs.Lines.{reason_told};
+ghost use Rattle.at_show.specs.HexFaults.{fault_line};
+ghost use Rattle.at_show.specs.Texts.{BytesText, DataText, PacketText, WordText, refusal_line};
+ghost use Rattle.at_print.specs.Lines.{header_line};
+ghost use Rattle.at_show.specs.Shown.{IsPacket, IsReadable, IsSound, Shows};
+ghost use Rattle.at_show.specs.Told.{TellsWhy};
+
+use crate::hex_reason::HexReason;
+use crate::show_names::show_names;
+use crate::show_segment::show_segment;
+use at_ddp::{ADSP, ATP, Datagram, NBP};
+use at_diagnostics::Diagnostics;
+use at_print::{Paper, Printer, Status, write_frame, write_header, write_raw};
+use at_words::{HexFault, bytes_of};
+use std::alloc::Allocator;
+use std::fmt::Display;
+
+/// Prints the datagram that a word spells in hexadecimal digits, its header and its packet, or the number of the first
+/// refusal. What follows the datagram is counted only. The bytes are put into the room. Why a word or a datagram is
+/// refused is told to a person as well.
+pub fn show_text<A: Allocator, W: Paper, E: Paper>(
+    word: &[u8],
+    room: &mut Vec<u8, A>,
+    printer: &mut Printer<W>,
+    diagnostics: &mut Diagnostics<'_, E>,
+) -> Status
+    ensures done { result ≡ Status.Done → Shows word.now × ¬ HasFailed printer.new }
+    ensures printed { (text : List ℕ) × WordText word.now (vec_capacity room.old) text
+        × Prints W.page printer.old printer.new text }
+    // It fails only if the word is not to be shown, room was missing, or a write failed.
+    ensures only { Shows word.now → length word.now / 2 ≤ vec_capacity room.old → ¬ HasFailed printer.new
+        → result ≡ Status.Done }
+    ensures told { (Shows word.now × (diagnostics.new ≡ diagnostics.old))
+        ⊎ ((reason : List ℕ) × (number : Option ℕ)
+        × TellsLine E.page (reason_told reason number) diagnostics.old diagnostics.new) }
+    ensures silent { Shows word.now → length word.now / 2 ≤ vec_capacity room.old
+        → diagnostics.new ≡ diagnostics.old }
+{
+    let status = match bytes_of(word, room) {
+        Ok(()) => show_bytes(room.as_slice(), printer, diagnostics),
+        Err(fault) => show_fault(fault, word, printer, diagnostics),
+    };
+    printer.finish(status)
+}
+
+fn show_fault<W: Paper, E: Paper>(
+    fault: HexFault,
+    word: &[u8],
+    printer: &mut Printer<W>,
+    diagnostics: &mut Diagnostics<'_, E>,
+) -> Status
+    ensures failed { result ≡ Status.Failed }
+    ensures printed { Prints W.page printer.old printer.new (fault_line fault) }
+    ensures told { (reason : List ℕ)
+        × TellsLine E.page (reason_told reason None) diagnostics.old diagnostics.new }
+{
+    match fault {
+        HexFault::NoHex => {
+            printer.write_all(b"fault 1\n");
+            diagnostics.tell_refusal(HexReason::of(word), None);
+        }
+        HexFault::NoMemory => {
+            printer.write_all(b"stopped nomemory at 0\n");
+            diagnostics.tell_refusal("out of memory", None);
+        }
+    }
+    Status::Failed
+}
+
+fn show_bytes<W: Paper, E: Paper>(
+    bytes: &[u8],
+    printer: &mut Printer<W>,
+    diagnostics: &mut Diagnostics<'_, E>,
+) -> Status
+    ensures done { (result ≡ Status.Done) ↔ IsSound bytes.now }
+    ensures printed { (text : List ℕ) × BytesText bytes.now text × Prints W.page printer.old printer.new text }
+    ensures told { TellsWhy E.page result diagnostics.old diagnostics.new }
+{
+    match at_ddp::decode(bytes) {
+        Ok((datagram, rest)) => show_datagram(&datagram, rest.len(), printer, diagnostics),
+        Err(refusal) => show_refusal(refusal, refusal.number(), printer, diagnostics),
+    }
+}
+
+// The header's line, and the lines of what the datagram carries.
+fn show_datagram<W: Paper, E: Paper>(
+    datagram: &Datagram<'_>,
+    rest: usize,
+    printer: &mut Printer<W>,
+    diagnostics: &mut Diagnostics<'_, E>,
+) -> Status
+    ensures done { (result ≡ Status.Done) ↔ IsReadable datagram.now.kind datagram.now.data_.now }
+    ensures printed { (text : List ℕ) × DataText datagram.now.kind datagram.now.data_.now text
+        × Prints W.page printer.old printer.new (header_line (content datagram.now) rest ++ text) }
+    ensures told { TellsWhy E.page result diagnostics.old diagnostics.new }
+{
+    write_header(printer, datagram, rest);
+    show_data(datagram.kind, datagram.data_, printer, diagnostics)
+}
+
+fn show_data<W: Paper, E: Paper>(
+    kind: u8,
+    bytes: &[u8],
+    printer: &mut Printer<W>,
+    diagnostics: &mut Diagnostics<'_, E>,
+) -> Status
+    ensures done { (result ≡ Status.Done) ↔ IsReadable kind bytes.now }
+    ensures printed { (text : List ℕ) × DataText kind bytes.now text
+        × Prints W.page printer.old printer.new text }
+    ensures told { TellsWhy E.page result diagnostics.old diagnostics.new }
+{
+    if kind == NBP {
+        show_names(bytes, printer, diagnostics)
+    } else if kind == ATP {
+        show_packet(bytes, printer, diagnostics)
+    } else if kind == ADSP {
+        show_segment(bytes, printer, diagnostics)
+    } else {
+        write_raw(printer, bytes);
+        Status::Done
+    }
+}
+
+fn show_packet<W: Paper, E: Paper>(
+    bytes: &[u8],
+    printer: &mut Printer<W>,
+    diagnostics: &mut Diagnostics<'_, E>,
+) -> Status
+    ensures done { (result ≡ Status.Done) ↔ IsPacket bytes.now }
+    ensures printed { (text : List ℕ) × PacketText bytes.now text × Prints W.page printer.old printer.new text }
+    ensures told { TellsWhy E.page result diagnostics.old diagnostics.new }
+{
+    match at_atp::decode(bytes) {
+        Ok(frame) => {
+            write_frame(printer, &frame);
+            Status::Done
+        }
+        Err(fault) => show_refusal(fault, fault.number(), printer, diagnostics),
+    }
+}
+
+// The refusal's number, in the place of the line of what was refused.
+pub(crate) fn show_refusal<F: Display + Drop, W: Paper, E: Paper>(
+    fault: F,
+    number: Option<u8>,
+    printer: &mut Printer<W>,
+    diagnostics: &mut Diagnostics<'_, E>,
+) -> Status
+    ensures failed { result ≡ Status.Failed }
+    ensures printed { Prints W.page printer.old printer.new (refusal_line number) }
+    ensures told { (reason : List ℕ)
+        × TellsLine E.page (reason_told reason number) diagnostics.old diagnostics.new }
+{
+    match number {
+        Some(number) => writeln!(printer, "refused {number}"),
+        None => printer.write_all(b"stopped nomemory at 0\n"),
+    }
+    diagnostics.tell_refusal(fault, number);
+    Status::Failed
+}
