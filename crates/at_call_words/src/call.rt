@@ -23,8 +23,8 @@ pub fn call_of<A: Allocator + Copy>(alloc: A, mut words: Words<'_>) -> Result<Ca
     said_by(alloc, word, words)
 }
 
-// The call of a word, with the words after it. A function clears its locals as it begins, so what each kind of call
-// needs for itself stands in a function of its own.
+// The call of a word, with the words after it. A function clears its locals as it begins. So each kind of call is
+// returned where it is read, and what it needs for itself stands in a function of its own.
 fn said_by<A: Allocator + Copy>(
     alloc: A,
     word: &[u8],
@@ -33,42 +33,57 @@ fn said_by<A: Allocator + Copy>(
     ensures { IsFoundInMemory result (SaysCall word.now (words_of words.entry.rest.now)) }
 {
     if is_word(word, b"zones") {
-        zones(words)
-    } else if is_word(word, b"setzones") {
-        set_zones(alloc, words)
-    } else if is_word(word, b"ask") {
-        ask(alloc, words)
-    } else if is_word(word, b"answer") {
-        answer(alloc, words)
-    } else if is_word(word, b"pick") {
-        pick_call(words)
-    } else if is_word(word, b"find") {
-        find_call(words)
-    } else if is_word(word, b"claim") {
-        claim_call(words)
-    } else if is_word(word, b"finish") {
-        finish_call(words)
-    } else if is_word(word, b"register") {
-        register_call(words)
-    } else if is_word(word, b"unregister") {
-        unregister_call(words)
-    } else if is_word(word, b"open") {
-        open_call(words)
-    } else if is_word(word, b"listen") {
-        listen_call(words)
-    } else if is_word(word, b"connect") {
-        connect_call(words)
-    } else if is_word(word, b"write") {
-        write(alloc, words)
-    } else if is_word(word, b"read") {
-        read_call(words)
-    } else if is_word(word, b"reset") {
-        reset_call(words)
-    } else if is_word(word, b"close") {
-        close_call(words)
-    } else {
-        Err(LineFault::Unlawful(Rule::Call))
+        return zones(words);
     }
+    if is_word(word, b"setzones") {
+        return set_zones(alloc, words);
+    }
+    if is_word(word, b"ask") {
+        return ask(alloc, words);
+    }
+    if is_word(word, b"answer") {
+        return answer(alloc, words);
+    }
+    if is_word(word, b"pick") {
+        return pick_call(words);
+    }
+    if is_word(word, b"find") {
+        return find_call(words);
+    }
+    if is_word(word, b"claim") {
+        return claim_call(words);
+    }
+    if is_word(word, b"finish") {
+        return finish_call(words);
+    }
+    if is_word(word, b"register") {
+        return register_call(words);
+    }
+    if is_word(word, b"unregister") {
+        return unregister_call(words);
+    }
+    if is_word(word, b"open") {
+        return open_call(words);
+    }
+    if is_word(word, b"listen") {
+        return listen_call(words);
+    }
+    if is_word(word, b"connect") {
+        return connect_call(words);
+    }
+    if is_word(word, b"write") {
+        return write(alloc, words);
+    }
+    if is_word(word, b"read") {
+        return read_call(words);
+    }
+    if is_word(word, b"reset") {
+        return reset_call(words);
+    }
+    if is_word(word, b"close") {
+        return close_call(words);
+    }
+    Err(LineFault::Unlawful(Rule::Call))
 }
 
 fn zones<A: Allocator>(words: Words<'_>) -> Result<Call<A>, LineFault>
