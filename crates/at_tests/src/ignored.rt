@@ -87,7 +87,8 @@ static PACKETS: [(&[u8], &str); 19] = [
     ),
     // A lookup with two tuples.
     (
-        b"\x001\0\0\0\x0A\0\x0A\x01\x05\x02\x02\x02\x22\x01\0\x0A\x05\x02\0\x01=\x07Printer\x01*\0\x0A\x05\x02\0\x01=\x07Printer\x01*",
+        b"\x001\0\0\0\x0A\0\x0A\x01\x05\x02\x02\x02\x22\x01\
+            \0\x0A\x05\x02\0\x01=\x07Printer\x01*\0\x0A\x05\x02\0\x01=\x07Printer\x01*",
         "0 refused 22\n",
     ),
     // A request for no zone list.
