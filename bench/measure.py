@@ -1,6 +1,6 @@
 #!/usr/bin/env python3
-"""Plays ten kinds of schedules at two sizes, and one schedule of many datagrams, and prints how fast they were played
-and the memory that it took.
+"""Plays eleven kinds of schedules at two sizes, and one schedule of many datagrams, and prints how fast they were
+played and the memory that it took.
 
     python3 bench/measure.py [PROGRAM [OTHER]]
 

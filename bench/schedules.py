@@ -199,6 +199,15 @@ def ends_of_messages():
         yield "timer 5 resend 1"
 
 
+def local_zone_lists(events):
+    """A node reads the zones of its router's cable, and then all zones."""
+    yield from ("net 10", "node 1 router zone Lab", "node 5 zone Lab", "zones Lab Office", "local Lab")
+    for reading in range(2 * (events // 6)):
+        yield f"call 5 {'zones' if reading % 2 else 'localzones'}"
+        yield f"deliver {2 * reading} 1"
+        yield f"deliver {2 * reading + 1} 5"
+
+
 KINDS = (
     ("zone requests", zone_requests),
     ("zone lists of 1,024 names", zone_lists),
@@ -210,4 +219,5 @@ KINDS = (
     ("sessions", sessions),
     ("stream of 500-byte writes", stream_writes),
     ("stream in tiny rooms", tiny_rooms),
+    ("local zone lists", local_zone_lists),
 )

@@ -85,6 +85,7 @@ REPORTS = {
     "asked": f"{BYTE} {BYTE} {SHORT} [0-9A-F]{{8}} {DATA}",
     "served": "[01]",
     "zones": f"(?: {NAME}){{0,1024}}",
+    "localzones": f"(?: {NAME}){{0,1024}}",
     "zonefault": "3[1-4]",
     "names": number(1, 64),
     "finds": number(1, 15),
@@ -96,16 +97,18 @@ REPORTS = {
 }
 
 # What a packet may come to, beside its refusals.
-HEARD = "begun kept response zones zonefault again asked served released relayed names finds made opened turned denied"
-HEARD += " heard dropped closed ignored"
+HEARD = "begun kept response zones localzones zonefault again asked served released relayed names finds made opened"
+HEARD += " turned denied heard dropped closed ignored"
 
 # The reports of each kind of event, and its refusals.
 COMES = {
     "call ask": ("begun", (13, 14)),
     "call answer": ("answered", (13, 15, 16, 18)),
     "call zones": ("begun", (14, 60, 63)),
+    "call localzones": ("begun", (14, 60, 63)),
     "call pick": ("done", (61,)),
     "call setzones": ("done", (32, 34, 60)),
+    "call setlocal": ("done", (32, 34, 60)),
     "call find": ("looking", (28,)),
     "call claim": ("looking", (26, 28)),
     "call finish": ("found claimed taken", (27, 29)),

@@ -16,15 +16,15 @@ SOCKETS = (2, 6, 128, 129, 130)
 
 # How often each call and timer comes, in parts.
 CALLS = dict(
-    ask=6, answer=8, zones=4, pick=2, setzones=1, find=4, claim=2, finish=4, open=3, register=4, unregister=1, listen=4
+    ask=6, answer=8, zones=4, localzones=3, pick=2, setzones=1, setlocal=1, find=4, claim=2, finish=4, open=3
 )
-CALLS.update(connect=4, write=6, read=4, reset=1, close=1)
+CALLS.update(register=4, unregister=1, listen=4, connect=4, write=6, read=4, reset=1, close=1)
 TIMERS = dict(retry=3, release=3, lookup=1, resend=3, probe=2)
 KINDS = {("call", kind): weight for kind, weight in CALLS.items()}
 KINDS.update({("timer", kind): weight for kind, weight in TIMERS.items()})
 
-# The report that a node has to have made before it, to be sensible.
-NEEDS = dict(answer="asked", pick="zones", finish="looking", open="found", unregister="done")
+# The reports of which a node has to have made one before it, to be sensible.
+NEEDS = dict(answer="asked", pick="zones localzones", finish="looking", open="found", unregister="done")
 NEEDS.update(retry="begun", lookup="looking", release="asked")
 NEEDS.update(dict.fromkeys(("write", "read", "reset", "close", "resend", "probe"), "opened"))
 
@@ -37,9 +37,10 @@ class Setup:
         self.nodes = sorted(random.sample((1, 2, 5, 7, 9, 100, 253, 254), random.randint(1, 5)))
         self.router = random.choice(self.nodes) if random.random() < 0.8 else None
         self.lines = [f"net {self.net}", *(self.node_line(random, node) for node in self.nodes)]
-        if self.router and random.random() < 0.9:
-            count = random.choice((0, 1, 2, 5, 40, 150))
-            self.lines.append(" ".join(["zones", *random.choices(ZONES, k=count)]))
+        for word, share in (("zones", 0.9), ("local", 0.7)):
+            if self.router and random.random() < share:
+                count = random.choice((0, 1, 2, 5, 40, 150))
+                self.lines.append(" ".join([word, *random.choices(ZONES, k=count)]))
 
     def node_line(self, random, node):
         line = f"node {node}"
@@ -96,11 +97,12 @@ class Chance:
         if self.is_so(0.55):
             return self.delivery() if self.sent and self.is_so(0.5) else self.forgery()
         first, kind = self.random.choices(list(KINDS), KINDS.values())[0]
-        ready = [node for node in self.setup.nodes if self.drawn[NEEDS.get(kind), node]]
+        needs = NEEDS.get(kind, "").split()
+        ready = [node for node in self.setup.nodes if any(self.drawn[need, node] for need in needs)]
         if kind in NEEDS and not ready and self.is_so(0.8):
             return self.event()
         node = self.one(*ready) if ready and self.is_so(0.9) else self.node()
-        if kind == "setzones" and self.setup.router:
+        if kind in ("setzones", "setlocal") and self.setup.router:
             node = self.setup.router
         return f"{first} {node} {kind} {getattr(self, kind)(node)}".rstrip()
 
@@ -119,7 +121,7 @@ class Chance:
         return f"{address} {self.user()} {data} {self.one(1, 2, 8)} {self.one('alo', 'xo')} {self.one(0, 1, 255)}"
 
     def user(self):
-        return self.one("00000000", "08000001", "DEADBEEF")
+        return self.one("00000000", "08000001", "09000001", "DEADBEEF")
 
     def answer(self, node):
         packets = [f"{self.user()}:{cable.word_of(self.data())}" for _ in range(self.one(1, 1, 2, 8, 0, 9))]
@@ -136,11 +138,15 @@ class Chance:
     def zones(self, _):
         return ""
 
+    localzones = zones
+
     def pick(self, _):
         return self.one(*ZONES)
 
     def setzones(self, _):
         return " ".join(self.random.choices((*ZONES, "%"), k=self.one(0, 1, 3, 30)))
+
+    setlocal = setzones
 
     def find(self, _):
         return " ".join(self.text() for _ in range(self.one(2, 3)))

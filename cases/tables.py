@@ -16,12 +16,12 @@ LIMITS = {"transactions": (32, 14), "lookups": (8, 28), "names": (64, 27), "ends
 ADDS = {"begun": "transactions", "looking": "lookups", "opening": "ends", "made": "ends"}
 DROPS = {"response": "transactions", "failed": "transactions", "freed": "ends", "denied": "ends"}
 
-# The reports that end a node's reading of the zone list, which they don't name, and those that end a named lookup.
-READ, FINISHED = ("zones", "zonesfailed", "zonefault"), ("found", "claimed", "taken")
+# The reports that end a node's reading of a zone table, which they don't name, and those that end a named lookup.
+READ, FINISHED = ("zones", "localzones", "zonesfailed", "zonefault"), ("found", "claimed", "taken")
 
 
 class Tables:
-    """The tables of one node, and the number under which its reading of the zone list asks."""
+    """The tables of one node, and the number under which its reading of a zone table asks."""
 
     def __init__(self):
         self.held = {table: [] for table in LIMITS}

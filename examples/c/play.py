@@ -10,7 +10,7 @@ import sys
 LIBRARY = ctypes.CDLL(sys.argv[1])
 OK, MISSING = 0, 6
 LINES = [line.split() for line in open(sys.argv[2]) if line.strip() and line[0] != "#"]
-SETUP = "".join(" ".join(words) + "\n" for words in LINES if words[0] in ("net", "node", "zones")).encode()
+SETUP = "".join(" ".join(words) + "\n" for words in LINES if words[0] in ("net", "node", "zones", "local")).encode()
 EVENTS = [words for words in LINES if words[0] in ("call", "timer", "deliver", "forge")]
 nodes = {int(words[1]): ctypes.c_void_p() for words in LINES if words[0] == "node"}
 room, length, to = ctypes.create_string_buffer(1 << 20), ctypes.c_size_t(), ctypes.c_uint8()

@@ -3,6 +3,7 @@ use crate::schedules::{ZONE_LIST, setup_of};
 use at_cable::MemoryCable;
 use at_drive::{Drive, Step};
 use at_event::{Call, Report};
+use at_zip::Which;
 use std::test::Fail;
 
 #[test]
@@ -13,7 +14,7 @@ fn a_log_that_is_taken_out_is_begun_anew(rt: HostRuntime) -> Result<(), Fail> {
     assert!(rt; drive.has(5));
     let ask = Step::Call {
         node: 5,
-        call: Call::Zones,
+        call: Call::Zones { which: Which::All },
     };
     drive.step(&mut cable, 0, &ask)?;
     let log = drive.take_log();

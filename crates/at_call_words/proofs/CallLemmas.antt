@@ -7,6 +7,7 @@ use Rattle.at_adsp_end.specs.declared.item.Item.{Item}
 use Rattle.at_atp_frame.specs.Packets.{Packet}
 use Rattle.at_event.specs.declared.event.Call.{Call}
 use Rattle.at_event.specs.declared.event.Call.TheVariants as call
+use Rattle.at_zip.specs.declared.request.Which.TheVariants as which
 use Rattle.at_faults.specs.declared.fault.LineFault.{LineFault}
 use Rattle.at_faults.specs.declared.fault.LineFault.TheVariants.{NoMemory, Unlawful}
 use Rattle.at_call_words.specs.Calls.{AnswerSays, AskSays, FindSays, IsMode, IsSwitch, IsWanted, SaysCall, SocketSays}
@@ -28,6 +29,8 @@ abbrev pub SaidBy : List ℕ → List (List ℕ) → Type 0
 SaidBy word ws =
     Either (bytes_eq word (codes "zones")) (ws ≡ []) (
     Either (bytes_eq word (codes "setzones")) ((names : List (List ℕ)) × AllZip IsText ws names) (
+    Either (bytes_eq word (codes "localzones")) (ws ≡ []) (
+    Either (bytes_eq word (codes "setlocal")) ((names : List (List ℕ)) × AllZip IsText ws names) (
     Either (bytes_eq word (codes "ask"))
     ((node socket : ℕ) × (user bytes : List ℕ) × (wanted : ℕ) × (once : Bool) × (retries : ℕ)
     × AskSays ws node socket user bytes wanted once retries) (
@@ -47,14 +50,16 @@ SaidBy word ws =
     Either (bytes_eq word (codes "write")) ((id : ℕ) × (items : List Item) × WriteSays ws id items) (
     Either (bytes_eq word (codes "read")) ((id count : ℕ) × Two IsTwoBytes IsTwoBytes ws id count) (
     Either (bytes_eq word (codes "reset")) ((id : ℕ) × One IsTwoBytes ws id) (
-    Either (bytes_eq word (codes "close")) ((id : ℕ) × One IsTwoBytes ws id) ⊥))))))))))))))))
+    Either (bytes_eq word (codes "close")) ((id : ℕ) × One IsTwoBytes ws id) ⊥))))))))))))))))))
 
 of_kind : (word known : List ℕ) (ws : List (List ℕ)) → word ≡ known → SaidBy known ws → SaidBy word ws
 of_kind word known ws is said = subst (λ w. SaidBy w ws) (sym is) said
 
 pub kinds : {A : Type 0} (word : List ℕ) (ws : List (List ℕ)) (c : Call A) → SaysCall word ws c → SaidBy word ws
-kinds word ws call.Zones (is, said) = of_kind word (codes "zones") ws is said
-kinds word ws (call.SetZones names) (is, said) = of_kind word (codes "setzones") ws is (names, said)
+kinds word ws (call.Zones which.All) (is, said) = of_kind word (codes "zones") ws is said
+kinds word ws (call.Zones which.Local) (is, said) = of_kind word (codes "localzones") ws is said
+kinds word ws (call.SetZones which.All names) (is, said) = of_kind word (codes "setzones") ws is (names, said)
+kinds word ws (call.SetZones which.Local names) (is, said) = of_kind word (codes "setlocal") ws is (names, said)
 kinds word ws (call.Ask node socket user bytes wanted once retries) (is, said) =
     of_kind word (codes "ask") ws is (node, socket, user, bytes, wanted, once, retries, said)
 kinds word ws (call.Answer node socket tid packets) (is, said) =

@@ -5,6 +5,8 @@ use Rattle.at_atp_frame.specs.Packets.{Packet}
 use Rattle.at_adsp_end.specs.declared.item.Item.{Item}
 use Rattle.at_event.specs.declared.event.Call.{Call}
 use Rattle.at_event.specs.declared.event.Call.TheVariants as call
+use Rattle.at_zip.specs.declared.request.Which.{Which}
+use Rattle.at_zip.specs.declared.request.Which.TheVariants as which
 use Rattle.at_call_words.specs.Items.{AreItems}
 use Rattle.at_call_words.specs.Words.{One, Two}
 use Rattle.at_words.specs.Hexes.{IsHex, IsUser}
@@ -57,10 +59,20 @@ abbrev pub WriteSays : List (List ℕ) → ℕ → List Item → Type 0
 WriteSays ws id items =
     (i : List ℕ) × (is : List (List ℕ)) × (ws ≡ i ∷ is) × IsTwoBytes i id × AreItems is items
 
+-- the word of a call that reads a zone table
+abbrev pub list_word : Which → List ℕ
+list_word which.All = codes "zones"
+list_word which.Local = codes "localzones"
+
+-- the word of a call that gives the router a zone table
+abbrev pub table_word : Which → List ℕ
+table_word which.All = codes "setzones"
+table_word which.Local = codes "setlocal"
+
 -- the word of a call, and what the words after it say
 abbrev pub SaysCall : {A : Type 0} → List ℕ → List (List ℕ) → Call A → Type 0
-SaysCall word ws call.Zones = (word ≡ codes "zones") × (ws ≡ [])
-SaysCall word ws (call.SetZones names) = (word ≡ codes "setzones") × AllZip IsText ws names
+SaysCall word ws (call.Zones which) = (word ≡ list_word which) × (ws ≡ [])
+SaysCall word ws (call.SetZones which names) = (word ≡ table_word which) × AllZip IsText ws names
 SaysCall word ws (call.Ask node socket user bytes wanted exactly_once retries) =
     (word ≡ codes "ask") × AskSays ws node socket user bytes wanted exactly_once retries
 SaysCall word ws (call.Answer node socket tid packets) =

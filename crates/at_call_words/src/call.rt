@@ -1,6 +1,6 @@
 //! A call, as words.
 ghost use Rattle.std.specs.Prelude.{codes};
-ghost use Rattle.at_call_words.specs.Calls.{AreCall, SaysCall};
+ghost use Rattle.at_call_words.specs.Calls.{AreCall, SaysCall, list_word};
 ghost use Rattle.at_call_words.specs.Readings.{IsFoundInMemory};
 ghost use Rattle.at_words.specs.Words.{words_of};
 
@@ -13,6 +13,7 @@ use crate::table_words::set_zones;
 use at_event::Call;
 use at_faults::{LineFault, Rule};
 use at_words::{Words, is_word};
+use at_zip::Which;
 use std::alloc::Allocator;
 
 /// Reads a call: its word, and what the words after it say. Unlawful if the words say no call.
@@ -33,10 +34,16 @@ fn said_by<A: Allocator + Copy>(
     ensures { IsFoundInMemory result (SaysCall word.now (words_of words.entry.rest.now)) }
 {
     if is_word(word, b"zones") {
-        return zones(words);
+        return zones(Which::All, Rule::CallZones, words);
     }
     if is_word(word, b"setzones") {
-        return set_zones(alloc, words);
+        return set_zones(alloc, Which::All, Rule::SetZones, words);
+    }
+    if is_word(word, b"localzones") {
+        return zones(Which::Local, Rule::CallLocalZones, words);
+    }
+    if is_word(word, b"setlocal") {
+        return set_zones(alloc, Which::Local, Rule::SetLocal, words);
     }
     if is_word(word, b"ask") {
         return ask(alloc, words);
@@ -86,11 +93,11 @@ fn said_by<A: Allocator + Copy>(
     Err(LineFault::Unlawful(Rule::Call))
 }
 
-fn zones<A: Allocator>(words: Words<'_>) -> Result<Call<A>, LineFault>
-    ensures { IsFoundInMemory result (SaysCall (codes "zones") (words_of words.entry.rest.now)) }
+fn zones<A: Allocator>(which: Which, rule: Rule, words: Words<'_>) -> Result<Call<A>, LineFault>
+    ensures { IsFoundInMemory result (SaysCall (list_word which) (words_of words.entry.rest.now)) }
 {
-    words.end().ok_or(LineFault::Unlawful(Rule::CallZones))?;
-    Ok(Call::Zones)
+    words.end().ok_or(LineFault::Unlawful(rule))?;
+    Ok(Call::Zones { which })
 }
 
 fn pick_call<A: Allocator>(words: Words<'_>) -> Result<Call<A>, LineFault>

@@ -26,3 +26,5 @@ mod tables;
 mod texts;
 #[cfg(test)]
 mod tuples;
+#[cfg(test)]
+mod zone_tables;

@@ -55,7 +55,10 @@ each_lawful : (A : Type 0) (s : Setup A) → is_lawful s ≡ true → list_all i
 each_lawful A s h =
     let ns = s.nodes in
     let net = nat_lt 0 s.net && nat_lt s.net 65536 in
-    let a = and_parts (net && are_lawful_nodes ns) (is_lawful_table (has_router ns) s.zones) h in
+    let nodes = net && are_lawful_nodes ns in
+    let zones = is_lawful_table (has_router ns) s.zones in
+    let whole = and_parts (nodes && zones) (is_lawful_table (has_router ns) s.local) h in
+    let a = and_parts nodes zones whole.0 in
     let b = and_parts net (are_lawful_nodes ns) a.0 in
     let few = nat_le (length ns) 16 in
     let one = nat_le (count_by (λ n. n.router) ns) 1 in
@@ -131,7 +134,7 @@ module _ (A : Type 0) (can_end : (most : ℕ) (d : Draft) (lines : List (List (L
 
   from_nothing : words_in lines ≡ [] → BeginDrive A lines
   from_nothing none =
-      let s : Setup A = record { net = 1; nodes = []; zones = [] } in (
+      let s : Setup A = record { net = 1; nodes = []; zones = []; local = [] } in (
         codes "net 1" ∷ codes "port 0" ∷ [],
         s,
         0,
@@ -143,7 +146,7 @@ module _ (A : Type 0) (can_end : (most : ℕ) (d : Draft) (lines : List (List (L
           last = [];
           parts = words_append lines (codes "net 1" ∷ codes "port 0" ∷ [])
               ∙ ap (λ l. l ++ words_in (codes "net 1" ∷ codes "port 0" ∷ [])) none;
-          setup = (inl ((net_line, tt), refl), refl);
+          setup = (inl (inl ((net_line, tt), refl), refl), refl);
           placed = port_line;
           ports = refl;
           said = tt;

@@ -25,7 +25,8 @@ head_plain : (line : List (List ℕ)) → HasHead line → begins_step line ≡ 
 head_plain [] h = absurd h
 head_plain (word ∷ ws) (inl is) = ap is_step_word is
 head_plain (word ∷ ws) (inr (inl is)) = ap is_step_word is
-head_plain (word ∷ ws) (inr (inr is)) = ap is_step_word is
+head_plain (word ∷ ws) (inr (inr (inl is))) = ap is_step_word is
+head_plain (word ∷ ws) (inr (inr (inr is))) = ap is_step_word is
 
 abbrev pub NoSteps : List (List (List ℕ)) → Type 0
 NoSteps [] = Unit {0}

@@ -50,7 +50,7 @@ have_ports port ns = list_all (λ n. nat_le (port + n.node) 65535) ns
 abbrev pub leave_port : ℕ → List NodeSetup → Bool
 leave_port port ns = not (lacks_router ns) || nat_lt (length ns) (65535 - port)
 
--- The first line is the network's, and the second one says the port. Those of the nodes and the zones follow, and they
+-- The first line is the network's, and the second one says the port. Those of the nodes and the zone tables follow, and
 -- are a setup with the first. The others say these steps. Each node has a port, and the node of each step stands.
 pub record AreDrive {A : Type 0} (lines : List (List (List ℕ))) (s : Setup A) (first : ℕ) (steps : List (Step A))
     : Type 0 where

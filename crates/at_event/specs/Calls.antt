@@ -21,7 +21,7 @@ IsCall (Ask node socket user bytes wanted xo retries) =
     (node < 256) × (socket < 256) × (length user ≡ 4) × AreBytes user × AreBytes bytes × (1 ≤ wanted) × (wanted ≤ 8)
 IsCall (Answer node socket tid packets) =
     (node < 256) × (socket < 256) × (tid < 65536) × AllByRecursion AreWords packets
-IsCall (SetZones names) = AllByRecursion IsString names
+IsCall (SetZones which names) = AllByRecursion IsString names
 IsCall (Pick zone) = IsString zone
 IsCall (Find object kind zone) = IsString object × IsString kind × IsZone zone
 IsCall (Claim object kind socket) = IsString object × IsString kind × (socket < 256)

@@ -17,8 +17,8 @@ pub data Kind : Type 0 where
   Adsp : Kind
 
 abbrev pub kind_of_call : {A : Type 0} → Call A → Kind
-kind_of_call Zones = Atp
-kind_of_call (SetZones names) = Atp
+kind_of_call (Zones which) = Atp
+kind_of_call (SetZones which names) = Atp
 kind_of_call (Ask node socket user bytes wanted xo retries) = Atp
 kind_of_call (Answer node socket tid packets) = Atp
 kind_of_call (Pick zone) = Session
@@ -49,7 +49,7 @@ reporter_of (report.Begun tid) = Atp
 reporter_of (report.Answered count) = Atp
 reporter_of (report.Served count) = Atp
 reporter_of (report.Asked key user bytes) = Atp
-reporter_of (report.Zones names) = Atp
+reporter_of (report.Zones which names) = Atp
 reporter_of report.TableSet = Atp
 reporter_of report.Expired = Atp
 reporter_of (report.ZoneFault number) = Atp

@@ -11,15 +11,19 @@ use at_atp_frame::{Packet, ranges_of, ranges_of_bytes};
 use at_atp_responder::Key;
 use at_ddp::{Bytes, Listed, Pascal};
 use at_nbp::Find;
+use at_zip::Which;
 use std::alloc::{Allocator, Global};
 
 /// A call by the node's user.
 #[derive(Drop)]
 pub enum Call<A: Allocator = Global> {
-    /// Reads the router's zone list.
-    Zones,
-    /// Gives the router another zone table: at most 1,024 names of 1 to 32 bytes.
+    /// Reads one of the router's zone tables.
+    Zones {
+        which: Which,
+    },
+    /// Gives the router another zone table in the place of one: at most 1,024 names of 1 to 32 bytes.
     SetZones {
+        which: Which,
         names: Listed<Pascal, A>,
     },
     /// Asks a socket of the cable for packets.
@@ -42,7 +46,7 @@ pub enum Call<A: Allocator = Global> {
         tid: u16,
         packets: Listed<Packet<A>, A>,
     },
-    /// Picks a zone of the zone list that was read last. Lookups that name no zone ask for it from now on.
+    /// Picks a zone of a zone list that was read last. Lookups that name no zone ask for it from now on.
     Pick {
         zone: Pascal,
     },
@@ -156,7 +160,7 @@ impl<A: Allocator> Call<A> {
             Call::Finish { id } => {
                 let _id = *id;
             }
-            Call::SetZones { names } => ranges_of_texts(names.as_slice()),
+            Call::SetZones { which: _, names } => ranges_of_texts(names.as_slice()),
             Call::Connect { node, socket } => {
                 let _who = (*node, *socket);
             }
@@ -167,7 +171,7 @@ impl<A: Allocator> Call<A> {
             Call::Reset { id } | Call::Close { id } => {
                 let _id = *id;
             }
-            Call::Open { index: _ } | Call::Listen { on: _ } | Call::Zones => {}
+            Call::Open { index: _ } | Call::Listen { on: _ } | Call::Zones { which: _ } => {}
         }
     }
 }
@@ -222,11 +226,14 @@ pub enum Report<A: Allocator = Global> {
     TableSet,
     /// A zone was picked.
     Picked,
-    /// A reading of the zone list ended with these names.
-    Zones(Listed<Pascal, A>),
-    /// A reading of the zone list ended, since its page was refused. This is the number of the refusal.
+    /// A reading of a zone table ended with these names.
+    Zones {
+        which: Which,
+        names: Listed<Pascal, A>,
+    },
+    /// A reading of a zone table ended, since its page was refused. This is the number of the refusal.
     ZoneFault(u8),
-    /// A reading of the zone list ended, since no retry was left.
+    /// A reading of a zone table ended, since no retry was left.
     ZonesFailed,
     /// A packet of an answer was kept. Others are still wanted.
     Kept,

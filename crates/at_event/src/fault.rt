@@ -10,14 +10,14 @@ pub enum NodeFault {
     /// The cable has no router, so there is no zone list.
     #[error("the cable has no router, so there is no zone list to read")]
     NoRouter,
-    /// The zone does not stand in the zone list that the node read last.
-    #[error("the zone does not stand in the zone list that the node read last")]
+    /// The zone stands in no zone list that the node read last.
+    #[error("the zone stands in no zone list that the node read last")]
     ZoneNotListed,
     /// The last lookup that ended found no such entry.
     #[error("the last lookup that ended found no such entry")]
     NotFound,
-    /// The node reads the zone list already.
-    #[error("the node reads the zone list already")]
+    /// The node reads a zone list already.
+    #[error("the node reads a zone list already")]
     StillReading,
 }
 

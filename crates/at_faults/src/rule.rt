@@ -14,10 +14,10 @@ pub enum Rule {
     #[error("the line has spaces alone; an empty line has no bytes at all")]
     SpacesAlone,
     /// The first word says what a line is.
-    #[error("a line begins with `net`, `node`, `zones`, `call`, `deliver`, `timer`, `forge` or `#`")]
+    #[error("a line begins with `net`, `node`, `zones`, `local`, `call`, `deliver`, `timer`, `forge` or `#`")]
     FirstWord,
     /// The first word says what a line is, where nodes talk over sockets.
-    #[error("a line begins with `net`, `port`, `node`, `zones`, `call`, `timer`, `poll` or `#`")]
+    #[error("a line begins with `net`, `port`, `node`, `zones`, `local`, `call`, `timer`, `poll` or `#`")]
     DriveFirstWord,
     /// `net N`
     #[error("`net` wants a network's number, 1 to 65535, as in \"net 10\"")]
@@ -32,9 +32,12 @@ pub enum Rule {
     /// `zones TEXT ..`
     #[error("`zones` wants names of 1 to 32 bytes, as in \"zones Lab Office\"")]
     Zones,
+    /// `local TEXT ..`
+    #[error("`local` wants names of 1 to 32 bytes, as in \"local Lab\"")]
+    Local,
     /// `call N CALL ..`
-    #[error("`call` wants a node and `zones`, `setzones`, `ask`, `answer`, `pick`, `find`, `claim`, `finish`, \
-        `register`, `unregister`, `open`, `listen`, `connect`, `write`, `read`, `reset` or `close`, \
+    #[error("`call` wants a node and `zones`, `setzones`, `localzones`, `setlocal`, `ask`, `answer`, `pick`, `find`, \
+        `claim`, `finish`, `register`, `unregister`, `open`, `listen`, `connect`, `write`, `read`, `reset` or `close`, \
         as in \"call 5 zones\"")]
     Call,
     /// `call N zones`
@@ -43,6 +46,12 @@ pub enum Rule {
     /// `call N setzones TEXT ..`
     #[error("`setzones` wants texts of at most 32 bytes, as in \"call 1 setzones Lab Office\"")]
     SetZones,
+    /// `call N localzones`
+    #[error("`localzones` wants nothing after it in a call, as in \"call 5 localzones\"")]
+    CallLocalZones,
+    /// `call N setlocal TEXT ..`
+    #[error("`setlocal` wants texts of at most 32 bytes, as in \"call 1 setlocal Lab\"")]
+    SetLocal,
     /// `call N ask NODE SOCKET USER DATA WANTED alo|xo RETRIES`
     #[error("`ask` wants a node, a socket, user bytes, data, 1 to 8 packets, `alo` or `xo`, and retries, \
         as in \"call 5 ask 7 129 00000000 AA 1 alo 3\"")]
@@ -144,8 +153,8 @@ pub enum Rule {
     /// The router that has to follow has a port too.
     #[error("the nodes have zones, so a router has to follow, and no port up to 65535 is left for it")]
     PortOfRouter,
-    /// Nodes come before the zones and the events.
-    #[error("a `node` line comes before `zones` and before the events")]
+    /// Nodes come before the zone tables and the events.
+    #[error("a `node` line comes before `zones`, `local` and the events")]
     NodesFirst,
     /// Numbers of nodes differ.
     #[error("a node of this number stands already")]
@@ -174,6 +183,18 @@ pub enum Rule {
     /// A zone table has at most 1,024 names.
     #[error("`zones` has at most 1,024 names")]
     ZonesFitTable,
+    /// The table of all zones comes before the one of this cable's zones.
+    #[error("`zones` comes before `local`")]
+    ZonesFirst,
+    /// `local` stands once, after the nodes and before the events.
+    #[error("`local` stands once, after the nodes and before the events")]
+    LocalOnce,
+    /// `local` wants a router.
+    #[error("`local` wants a router among the nodes, as in \"node 1 router zone Lab\"")]
+    LocalOfRouter,
+    /// A zone table has at most 1,024 names.
+    #[error("`local` has at most 1,024 names")]
+    LocalFitsTable,
     /// The node of an event stands in the setup, where nodes talk over sockets.
     #[error("no node of this number stands in the setup")]
     NodeStands,

@@ -9,6 +9,7 @@ use Rattle.at_atp_responder.specs.Records.{Taken, finds_no_place, taken}
 use Rattle.at_atp_responder.specs.declared.reception.Key.{Key}
 use Rattle.at_atp_responder.specs.declared.reception.Reception.{Reception}
 use Rattle.at_atp_responder.specs.declared.reception.Reception.TheVariants as reception
+use Rattle.at_zip.specs.Tables.{Tables, table_of}
 use Rattle.at_event.specs.Outcomes.{Outcome, idle}
 use Rattle.at_event.specs.declared.event.Report.{Report}
 use Rattle.at_event.specs.declared.event.Report.TheVariants as report
@@ -78,31 +79,31 @@ module _ (A X : Type 0) (q : Report A → Option X) (none : TellsNothing A X q) 
   at_service_none said s a from (Release tid) o h = as_told o _ h
       (released_none (taken a.service_responder from (Release tid)).reception)
 
-  at_zones_none : (s : Seat) (a : AtpState) (from : Address) (table : List (List ℕ)) (f : Content)
-      (o : Outcome A AtpState) → AtZones s a from table f o → Nothing o
-  at_zones_none s a from table (Request mask xo timer tid user bytes) o (inl h) =
+  at_zones_none : (s : Seat) (a : AtpState) (from : Address) (tables : Tables) (f : Content)
+      (o : Outcome A AtpState) → AtZones s a from tables f o → Nothing o
+  at_zones_none s a from tables (Request mask xo timer tid user bytes) o (inl h) =
       let f = Request mask xo timer tid user bytes in
       as_told o _ h.outcome (either_none (finds_no_place a.zone_responder from f) (idle a (report.Refused 14)) _
-      (none.refused 14) (zones_none s a (taken a.zone_responder from f) (page_packet table h.start)
+      (none.refused 14) (zones_none s a (taken a.zone_responder from f) (page_packet (table_of h.which tables) h.start)
       (taken a.zone_responder from f).reception))
-  at_zones_none s a from table (Request mask xo timer tid user bytes) o (inr h) = as_told o _ h.1 none.ignored
-  at_zones_none s a from table (Response place eom sts tid user bytes) o h = as_told o _ h none.ignored
-  at_zones_none s a from table (Release tid) o h = as_told o _ h
+  at_zones_none s a from tables (Request mask xo timer tid user bytes) o (inr h) = as_told o _ h.1 none.ignored
+  at_zones_none s a from tables (Response place eom sts tid user bytes) o h = as_told o _ h none.ignored
+  at_zones_none s a from tables (Release tid) o h = as_told o _ h
       (released_none (taken a.zone_responder from (Release tid)).reception)
 
   -- so it is told by a packet for the socket that asks
   module _ (said : Reply A) (s : Seat) (a : AtpState) (d : Datagram) (o : Outcome A AtpState) where
-    zone_socket : (t : Option (List (List ℕ))) → HearsAt said s a d (option_map Zones t) o → Nothing o
+    zone_socket : (t : Option Tables) → HearsAt said s a d (option_map Zones t) o → Nothing o
     zone_socket None h = as_told o _ h none.ignored
     zone_socket (Some table) (inl h) = at_zones_none s a d.from table h.packet o h.outcome
     zone_socket (Some table) (inr h) = as_told o _ h.outcome (none.refused h.number)
 
-    serving : (b : Bool) → HearsAt said s a d (cond b (option_map Zones a.table) None) o → Nothing o
-    serving true h = zone_socket a.table h
+    serving : (b : Bool) → HearsAt said s a d (cond b (option_map Zones a.tables) None) o → Nothing o
+    serving true h = zone_socket a.tables h
     serving false h = as_told o _ h none.ignored
 
     answering : (b : Bool) → HearsAt said s a d
-        (cond b (Some Service) (cond (d.to.socket == 6) (option_map Zones a.table) None)) o → Nothing o
+        (cond b (Some Service) (cond (d.to.socket == 6) (option_map Zones a.tables) None)) o → Nothing o
     answering true (inl h) = at_service_none said s a d.from h.packet o h.outcome
     answering true (inr h) = as_told o _ h.outcome (none.refused h.number)
     answering false h = serving (d.to.socket == 6) h
@@ -115,7 +116,7 @@ module _ (A X : Type 0) (q : Report A → Option X) (none : TellsNothing A X q) 
 
         go : (b : Bool) → (d.to.socket == 128) ≡ b
             → HearsAt said s a d (cond b (Some Requester)
-            (cond (d.to.socket == 129) (Some Service) (cond (d.to.socket == 6) (option_map Zones a.table) None))) o
+            (cond (d.to.socket == 129) (Some Service) (cond (d.to.socket == 6) (option_map Zones a.tables) None))) o
             → ByAsker A s a d o
         go true e (inl g) = record { socket = e; packet = g.packet; spelled = g.spelled; at = g.outcome }
         go true e (inr g) = other (as_told o _ g.outcome (none.refused g.number))

@@ -12,6 +12,8 @@ use Rattle.at_atp_requester.specs.declared.step.Retry.TheVariants as retry
 use Rattle.at_atp_responder.specs.Records.{answer_fault, expiry_fault, is_key}
 use Rattle.at_atp_responder.specs.declared.reception.Key.{Key}
 use Rattle.at_zip.specs.Fault as zip
+use Rattle.at_zip.specs.Tables.{Tables}
+use Rattle.at_zip.specs.declared.request.Which.{Which}
 use Rattle.at_zip.specs.Zones.{table_fault}
 use Rattle.at_zip.specs.declared.fault.ZipFault.{ZipFault}
 use Rattle.at_nbp.specs.Fault as nbp
@@ -78,15 +80,16 @@ module _ (A : Type 0) where
   -- ---- transactions
 
   module _ (s : Seat) (a : AtpState) where
-    begins : (router : ℕ) (o : Option ℕ) → By (reading_begins s a router o) (option_map (λ tid. Tid tid) o)
-    begins router None = refl
-    begins router (Some tid) = refl
+    begins : (which : Which) (router : ℕ) (o : Option ℕ) → By (reading_begins s a which router o) (option_map
+        (λ tid. Tid tid) o)
+    begins which router None = refl
+    begins which router (Some tid) = refl
 
-    reads : (router : Option ℕ) (now : Option Reading) → By (zones_called s a router now)
+    reads : (which : Which) (router : Option ℕ) (now : Option Reading) → By (zones_called s a which router now)
         (cond (is_none router || is_some now) None (option_map (λ tid. Tid tid) (next_number a.requester)))
-    reads None now = refl
-    reads (Some router) (Some r) = refl
-    reads (Some router) None = begins router (next_number a.requester)
+    reads which None now = refl
+    reads which (Some router) (Some r) = refl
+    reads which (Some router) None = begins which router (next_number a.requester)
 
     asked : (to : Address) (user bytes : List ℕ) (wanted : ℕ) (xo : Bool) (retries : ℕ) (o : Option ℕ)
         → By (asked_as s a to user bytes wanted xo retries o) (option_map (λ tid. Tid tid) o)
@@ -104,13 +107,15 @@ module _ (A : Type 0) where
     answers key packets None = refl
     answers key packets (Some fault) = refused a (atp.number_of fault)
 
-    sets : (names : List (List ℕ)) (o : Option ZipFault) → By (table_set a names o) None
-    sets names None = refl
-    sets names (Some fault) = refused a (zip.number_of fault)
+    sets : (tables : Tables) (which : Which) (names : List (List ℕ)) (o : Option ZipFault)
+        → By (table_set a tables which names o) None
+    sets tables which names None = refl
+    sets tables which names (Some fault) = refused a (zip.number_of fault)
 
-    sets_zones : (table : Option (List (List ℕ))) (names : List (List ℕ)) → By (set_zones_called a table names) None
-    sets_zones None names = refl
-    sets_zones (Some table) names = sets names (table_fault names)
+    sets_zones : (tables : Option Tables) (which : Which) (names : List (List ℕ))
+        → By (set_zones_called a tables which names) None
+    sets_zones None which names = refl
+    sets_zones (Some tables) which names = sets tables which names (table_fault names)
 
     failing : (tid : ℕ) (r : Retried) (b : Bool) → By (after_failing a tid r.after b) None
     failing tid r true = refl
@@ -230,8 +235,8 @@ module _ (A : Type 0) where
   picks s zone false = refl
 
   pub call_draws : (n : NodeState) (call : Call A) → By (called n call) (draw_of n call)
-  call_draws n Zones = reads n.seat n.atp n.seat.router n.atp.reading
-  call_draws n (SetZones names) = sets_zones n.seat n.atp n.atp.table names
+  call_draws n (Zones which) = reads n.seat n.atp which n.seat.router n.atp.reading
+  call_draws n (SetZones which names) = sets_zones n.seat n.atp n.atp.tables which names
   call_draws n (Ask node socket user bytes wanted xo retries) =
       asks n.seat n.atp (at_socket n.seat node socket) user bytes wanted xo retries (nat_lt 578 (length bytes))
   call_draws n (Answer node socket tid packets) =

@@ -9,6 +9,7 @@ use Rattle.at_atp_requester.specs.Requests.{Heard, heard}
 use Rattle.at_atp_requester.specs.declared.step.Step.{Step}
 use Rattle.at_atp_requester.specs.declared.step.Step.TheVariants as step
 use Rattle.at_zip.specs.Page as pages
+use Rattle.at_zip.specs.declared.request.Which.{Which}
 use Rattle.at_event.specs.Outcomes.{Outcome, takes_memory}
 use Rattle.at_event.specs.declared.event.Report.{Report}
 use Rattle.at_event.specs.declared.event.Report.TheVariants as report
@@ -16,12 +17,13 @@ use Rattle.at_event.specs.declared.seat.Seat.{Seat}
 use Rattle.at_node.specs.AtpParts.{AtpState, Reading, after_heard, packet_in, tid_of}
 use Rattle.at_node.specs.RequesterSocket.{AtRequester, reported_other}
 use Rattle.at_node.specs.ZoneReading.{AsksOn, ReadsPage, TakesPage, is_page, is_reading, list_after, names_read}
+use Rattle.at_node.specs.ZoneReading.{table_read}
 use Rattle.at_node.proofs.AnsweringLemmas.{TellsNothing}
 use Rattle.at_node.proofs.ReadingLemmas.{last_at}
 
 -- the list that a report tells of
 abbrev pub listed_by : {A : Type 0} → Report A → Option (List (List ℕ))
-listed_by (report.Zones names) = Some names
+listed_by (report.Zones which names) = Some names
 listed_by other = None
 
 pub lists_nothing : (A : Type 0) → TellsNothing A (List (List ℕ)) listed_by
@@ -88,9 +90,9 @@ module _ (A : Type 0) (s : Seat) (a : AtpState) (from : Address) (f : Content) w
     pub spelled : pages.Spells (packet_in f).user (packet_in f).data_ page
     pub list : list_after (names_read a.reading) page ≡ Some names
 
-  pub ends_reading : (o : Outcome A AtpState) → AtRequester s a from f o → (names : List (List ℕ)) → o.report
-      ≡ report.Zones names → EndsReading names
-  ends_reading o at names tells = go (is_page A a from f) refl
+  pub ends_reading : (o : Outcome A AtpState) → AtRequester s a from f o → (which : Which)
+      (names : List (List ℕ)) → o.report ≡ report.Zones which names → EndsReading names
+  ends_reading o at which names tells = go (is_page A a from f) refl
     where
       nothing : listed_by o.report ≡ None → EndsReading names
       nothing none = let both : None ≡ Some names = sym none ∙ ap listed_by tells in absurd (cc)
@@ -127,7 +129,7 @@ module _ (A : Type 0) (s : Seat) (a : AtpState) (from : Address) (f : Content) w
   may_end mine p spelled some =
       let so = ended_so (names_read a.reading) p some in
       let h : Heard A = heard a.requester from f in (
-        after_heard s a h (report.Zones (names_read a.reading ++ p.names)) None,
+        after_heard s a h (report.Zones (table_read a.reading) (names_read a.reading ++ p.names)) None,
         rw mine
             (inl (record {
               page = p;

@@ -21,6 +21,7 @@ use Rattle.at_node.specs.Numbers.{drawn_by}
 use Rattle.at_event.specs.Outcomes.{Comes, IsStep, Outcome, posted, sent_by, takes_memory}
 use Rattle.at_node.specs.RequesterSocket.{AtRequester, reported_other}
 use Rattle.at_node.specs.ZoneReading.{AsksOn, ReadsPage, TakesPage, is_page, is_reading, names_read, page_transaction}
+use Rattle.at_node.specs.ZoneReading.{table_read}
 use Rattle.at_node.proofs.OutcomeLemmas.{comes_wider, comes_with, step_comes}
 
 -- ---- the next page
@@ -28,23 +29,31 @@ use Rattle.at_node.proofs.OutcomeLemmas.{comes_wider, comes_with, step_comes}
 module _ {A : Type 0} (s : Seat) (a : AtpState) (h : Heard A) (from : Address) (names : List (List ℕ)) where
   asks_as : (tid : ℕ) → next_number h.after ≡ Some tid
       → AsksOn s a h from names
-      (asks s (record a { requester = h.after }) (Some (record { tid = tid; names = names }))
-      (page_transaction from names tid))
+      (asks s (record a { requester = h.after }) (Some (record {
+        which = table_read a.reading;
+        tid = tid;
+        names = names;
+      }))
+      (page_transaction from (table_read a.reading) names tid))
   asks_as tid drawn = record { tid = tid; drawn = drawn; outcome = refl }
 
   pub asks_next : (tid : ℕ) (items after : List Posted) (new : AtpState) → next_number h.after ≡ Some tid →
       new ≡ record a {
-        reading = Some (record { tid = tid; names = names });
-        requester = begun h.after (page_transaction from names tid);
+        reading = Some (record { which = table_read a.reading; tid = tid; names = names });
+        requester = begun h.after (page_transaction from (table_read a.reading) names tid);
       } →
       after ≡ items ++ map posted
       (sent_by (asking s.net s.number) atp_kind
-      ((from, spelled (request_by (page_transaction from names tid))) ∷ [])) →
+      ((from, spelled (request_by (page_transaction from (table_read a.reading) names tid))) ∷ [])) →
       Comes (AsksOn s a h from names) a items (Begun tid) new after
   asks_next tid items after new drawn same sent =
       comes_with (AsksOn s a h from names) a items
-      (asks s (record a { requester = h.after }) (Some (record { tid = tid; names = names }))
-      (page_transaction from names tid)) (Begun tid) new after
+      (asks s (record a { requester = h.after }) (Some (record {
+        which = table_read a.reading;
+        tid = tid;
+        names = names;
+      }))
+      (page_transaction from (table_read a.reading) names tid)) (Begun tid) new after
       (asks_as tid drawn) (refl, same, sent) refl
 
   -- if a number is free, some outcome may take memory
@@ -56,8 +65,12 @@ module _ {A : Type 0} (s : Seat) (a : AtpState) (h : Heard A) (from : Address) (
           × (takes_memory o.report ≡ true)
       go None e some = absurd (false≢true some)
       go (Some tid) e some = (
-        asks s (record a { requester = h.after }) (Some (record { tid = tid; names = names }))
-            (page_transaction from names tid),
+        asks s (record a { requester = h.after }) (Some (record {
+          which = table_read a.reading;
+          tid = tid;
+          names = names;
+        }))
+            (page_transaction from (table_read a.reading) names tid),
         asks_as tid e,
         refl,
       )
@@ -71,7 +84,7 @@ module _ {A : Type 0} (s : Seat) (a : AtpState) (h : Heard A) (from : Address) (
   too_long_at long = rw long refl
 
   pub last_at : nat_lt 1024 (length names + length p.names) ≡ false → p.last ≡ true
-      → TakesPage s a h from names p (after_heard s a h (Zones (names ++ p.names)) None)
+      → TakesPage s a h from names p (after_heard s a h (Zones (table_read a.reading) (names ++ p.names)) None)
   last_at few last = rw (few, last) refl
 
   on_at : nat_lt 1024 (length names + length p.names) ≡ false → p.last ≡ false → (o : Outcome A AtpState)
@@ -85,7 +98,7 @@ module _ {A : Type 0} (s : Seat) (a : AtpState) (h : Heard A) (from : Address) (
       go : (long last : Bool) → nat_lt 1024 (length names + length p.names) ≡ long → p.last ≡ last
           → (o : Outcome A AtpState) × TakesPage s a h from names p o × (takes_memory o.report ≡ true)
       go true last e f = (after_heard s a h (ZoneFault 34) None, too_long_at e, refl)
-      go false true e f = (after_heard s a h (Zones (names ++ p.names)) None, last_at e f, refl)
+      go false true e f = (after_heard s a h (Zones (table_read a.reading) (names ++ p.names)) None, last_at e f, refl)
       go false false e f = let next = next_wanted s a h from (names ++ p.names) some in
           (next.0, on_at e f next.0 next.1, next.2)
 
@@ -100,12 +113,12 @@ module _ {A : Type 0} (s : Seat) (from : Address) (f : Content) (p : pages.Page)
 
   pub ends_with_all : length (names_read before.reading) + length p.names ≤ 1024 → p.last ≡ true →
       IsStep (after_heard s before (heard {A = A} before.requester from f)
-      (Zones (names_read before.reading ++ p.names)) None) before items r new after
+      (Zones (table_read before.reading) (names_read before.reading ++ p.names)) None) before items r new after
       → Comes (May now) now items r new after
   ends_with_all few last step =
       moved (step_comes (May before) before items
       (after_heard s before (heard {A = A} before.requester from f)
-      (Zones (names_read before.reading ++ p.names)) None) r new after
+      (Zones (table_read before.reading) (names_read before.reading ++ p.names)) None) r new after
       (last_at s before (heard {A = A} before.requester from f) from (names_read before.reading) p
       (le-ltb 1024 (length (names_read before.reading) + length p.names) few) last) step)
 
@@ -140,7 +153,11 @@ module _ (A : Type 0) (s : Seat) (a : AtpState) (from : Address) (f : Content) w
       let h : Heard A = heard a.requester from f in
       let names = names_read a.reading ++ p.names in
       let o : Outcome A AtpState = asks s (record a { requester = h.after })
-      (Some (record { tid = tid; names = names })) (page_transaction from names tid) in (
+      (Some (record {
+        which = table_read a.reading;
+        tid = tid;
+        names = names;
+      })) (page_transaction from (table_read a.reading) names tid) in (
         o,
         rw mine (inl (record {
           page = p;

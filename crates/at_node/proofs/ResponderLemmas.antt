@@ -17,6 +17,8 @@ use Rattle.at_atp_responder.specs.declared.reception.Key.{Key}
 use Rattle.at_atp_responder.specs.declared.reception.Reception.{Reception}
 use Rattle.at_atp_responder.specs.declared.reception.Reception.TheVariants as reception
 use Rattle.at_zip.specs.Request.{RequestSpells}
+use Rattle.at_zip.specs.Tables.{Tables, table_of}
+use Rattle.at_zip.specs.declared.request.Which.{Which}
 use Rattle.at_event.specs.declared.event.Report.{Report}
 use Rattle.at_event.specs.declared.event.Report.TheVariants.{Asked, Ignored}
 use Rattle.at_event.specs.declared.seat.Seat.{Seat}
@@ -116,29 +118,29 @@ none_of None h = refl
 none_of (Some x) h = absurd (false≢true h)
 
 module _ (A : Type 0) (said : Reply A) (s : Seat) (a : AtpState) where
-  pub for_no_router : (d : Datagram) (before : List Posted) (table : Option (List (List ℕ))) → table ≡ None
-      → Comes {A = A} (HearsAt said s a d (option_map Zones table)) a before Ignored a before
+  pub for_no_router : (d : Datagram) (before : List Posted) (tables : Option Tables) → tables ≡ None
+      → Comes {A = A} (HearsAt said s a d (option_map Zones tables)) a before Ignored a before
   for_no_router d before table is = rw is (idle a Ignored, refl, (refl, refl, sym (append-nil before)))
 
-  pub router_fault : (d : Datagram) (table : Option (List (List ℕ))) (o : Outcome A AtpState) → is_none table ≡ false
-      → HearsAtpFault a d o → HearsAt said s a d (option_map Zones table) o
+  pub router_fault : (d : Datagram) (tables : Option Tables) (o : Outcome A AtpState) → is_none tables ≡ false
+      → HearsAtpFault a d o → HearsAt said s a d (option_map Zones tables) o
   router_fault d None o h f = absurd (true≢false h)
-  router_fault d (Some table) o h f = inr f
+  router_fault d (Some t) o h f = inr f
 
-  pub router_packet : (d : Datagram) (table : Option (List (List ℕ))) (f : Content) → is_none table ≡ false
-      → Frames.Spells d.data_ f → (o : Outcome A AtpState) → AtSocket said s a d.from (option_map Zones table) f o
-      → HearsAt said s a d (option_map Zones table) o
+  pub router_packet : (d : Datagram) (tables : Option Tables) (f : Content) → is_none tables ≡ false
+      → Frames.Spells d.data_ f → (o : Outcome A AtpState) → AtSocket said s a d.from (option_map Zones tables) f o
+      → HearsAt said s a d (option_map Zones tables) o
   router_packet d None f h spelled o at = absurd (true≢false h)
-  router_packet d (Some table) f h spelled o at = inl (record { packet = f; spelled = spelled; outcome = at })
+  router_packet d (Some t) f h spelled o at = inl (record { packet = f; spelled = spelled; outcome = at })
 
-  module _ (from : Address) (table : Option (List (List ℕ))) where
+  module _ (from : Address) (tables : Option Tables) where
     pub no_request : (f : Content) → is_release f ≡ false
         → ((mask : ℕ) (xo : Bool) (timer tid : ℕ) (user bytes : List ℕ) → f
         ≡ Frames.Request mask xo timer tid user bytes → ⊥) →
-        AtSocket {A = A} said s a from (option_map Zones table) f (idle a Ignored)
-    no_request f other apart = go table f other apart
+        AtSocket {A = A} said s a from (option_map Zones tables) f (idle a Ignored)
+    no_request f other apart = go tables f other apart
       where
-        go : (t : Option (List (List ℕ))) (f : Content) → is_release f ≡ false
+        go : (t : Option Tables) (f : Content) → is_release f ≡ false
             → ((mask : ℕ) (xo : Bool) (timer tid : ℕ) (user bytes : List ℕ) → f
             ≡ Frames.Request mask xo timer tid user bytes → ⊥) →
             AtSocket {A = A} said s a from (option_map Zones t) f (idle a Ignored)
@@ -148,12 +150,12 @@ module _ (A : Type 0) (said : Reply A) (s : Seat) (a : AtpState) where
         go (Some t) (Frames.Response place eom sts tid user bytes) other apart = refl
         go (Some t) (Frames.Release tid) other apart = absurd (true≢false other)
 
-    pub zone_release : (f : Content) (t : List (List ℕ)) (before after : List Posted) (old new : List Record)
+    pub zone_release : (f : Content) (t : Tables) (before after : List Posted) (old new : List Record)
         (own : Address) (r : Report A) →
-        is_release f ≡ true → table ≡ Some t → old ≡ a.zone_responder → own ≡ zones_at s.net s.number → r
+        is_release f ≡ true → tables ≡ Some t → old ≡ a.zone_responder → own ≡ zones_at s.net s.number → r
         ≡ released_report (taken old from f).reception → new ≡ (taken old from f).after →
         after ≡ before ++ map posted (sent_by own atp_kind (spelled_all (taken old from f).sent))
-        → Comes (AtSocket said s a from (option_map Zones table) f) a before r
+        → Comes (AtSocket said s a from (option_map Zones tables) f) a before r
         (record a { zone_responder = new }) after
     zone_release (Frames.Request mask xo timer tid user bytes) t before after old new own r this some is at reports
         becomes sends = absurd (false≢true this)
@@ -161,7 +163,7 @@ module _ (A : Type 0) (said : Reply A) (s : Seat) (a : AtpState) where
         becomes sends = absurd (false≢true this)
     zone_release (Frames.Release tid) t before after old new own r this some is at reports becomes sends =
         let f = Frames.Release tid in
-        comes_with (AtSocket said s a from (option_map Zones table) f) a before
+        comes_with (AtSocket said s a from (option_map Zones tables) f) a before
         (zone_released s a (taken a.zone_responder from f)) r (record a { zone_responder = new }) after
         (rw some refl) (
           reports ∙ ap (λ (rs : List Record). released_report (taken rs from f).reception) is,
@@ -171,21 +173,26 @@ module _ (A : Type 0) (said : Reply A) (s : Seat) (a : AtpState) where
         (ap wants_memory reports ∙ release_some _ (taken old from f).reception)
 
     module _ (mask : ℕ) (xo : Bool) (timer tid : ℕ) (user bytes : List ℕ) where
-      pub bad_request : ((start : ℕ) → ¬ RequestSpells user start)
-          → AtSocket {A = A} said s a from (option_map Zones table) (Frames.Request mask xo timer tid user bytes)
+      pub bad_request : ((which : Which) (start : ℕ) → ¬ RequestSpells user which start)
+          → AtSocket {A = A} said s a from (option_map Zones tables) (Frames.Request mask xo timer tid user bytes)
           (idle a Ignored)
-      bad_request none = go table
+      bad_request none = go tables
         where
-          go : (t : Option (List (List ℕ)))
+          go : (t : Option Tables)
               → AtSocket {A = A} said s a from (option_map Zones t) (Frames.Request mask xo timer tid user bytes)
               (idle a Ignored)
           go None = refl
           go (Some t) = inr (none, refl)
 
-      pub good_request : (t : List (List ℕ)) (start : ℕ) → table ≡ Some t → RequestSpells user start →
-          AtSocket {A = A} said s a from (option_map Zones table) (Frames.Request mask xo timer tid user bytes)
-          (zone_asked s a from (Frames.Request mask xo timer tid user bytes) t start)
-      good_request t start is asks = rw is (inl (record { start = start; asks = asks; outcome = refl }))
+      pub good_request : (t : Tables) (which : Which) (start : ℕ) → tables ≡ Some t → RequestSpells user which start →
+          AtSocket {A = A} said s a from (option_map Zones tables) (Frames.Request mask xo timer tid user bytes)
+          (zone_asked s a from (Frames.Request mask xo timer tid user bytes) (table_of which t) start)
+      good_request t which start is asks = rw is (inl (record {
+        which = which;
+        start = start;
+        asks = asks;
+        outcome = refl;
+      }))
 
 -- a request that finds a place, and has an effect
 pub zone_takes : (A : Type 0) (s : Seat) (a : AtpState) (from : Address) (f : Content) (table : List (List ℕ))

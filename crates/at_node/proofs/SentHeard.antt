@@ -1,6 +1,6 @@
 -- What is sent is heard, from the laws of the spellings.
 use Rattle.std.proofs.Common.{lit<, ◌≡◌, inl, inr, ℕ, ◌^◌, ◌<◌, ◌≤◌, Bool, true, false, List, [], ◌++◌, length, Option}
-use Rattle.std.proofs.Common.{Some, None, refl, ap, subst, ◌∙◌}
+use Rattle.std.proofs.Common.{Some, None, refl, subst, ◌∙◌}
 use Rattle.std.specs.Prelude.{MatchBool}
 use Rattle.std.proofs.lemmas.List.{append-nil}
 use Rattle.at_ddp.specs.Datagram.{Content as Datagram, IsAddress, AreBytes, BeginsWith, canonical, written}
@@ -18,6 +18,8 @@ use Rattle.at_atp_frame.specs.declared.fault.AtpFault.{AtpFault}
 use Rattle.at_zip.specs.Page as page
 use Rattle.at_zip.specs.Fault as zip
 use Rattle.at_zip.specs.Request.{RequestSpells, request_user}
+use Rattle.at_zip.specs.Tables.{Tables, table_of}
+use Rattle.at_zip.specs.declared.request.Which.{Which}
 use Rattle.at_zip.specs.declared.fault.ZipFault.{ZipFault}
 use Rattle.at_event.specs.declared.service.Reply.{Reply}
 use Rattle.at_event.specs.declared.event.Report.TheVariants.{Ignored}
@@ -113,18 +115,20 @@ heard_as_sent A said n to from f o laws packets to_fits from_fits ok (inr h) =
 
 -- ---- zone requests and pages
 
-pub asked_is_served : (A : Type 0) (s : Seat) (a : AtpState) (from : Address) (table : List (List ℕ)) (mask : ℕ)
-    (xo : Bool) (timer tid start : ℕ) (bytes : List ℕ) (o : Outcome A AtpState) →
-    ((k : ℕ) → 1 ≤ k → k < 2 ^ 16 → RequestSpells (request_user k) k)
-    → ((user : List ℕ) (m k : ℕ) → RequestSpells user m → RequestSpells user k → m ≡ k) → 1 ≤ start
-    → start < 2 ^ 16 →
-    AtZones s a from table (Request mask xo timer tid (request_user start) bytes) o → o
-    ≡ zone_asked s a from (Request mask xo timer tid (request_user start) bytes) table start
-asked_is_served A s a from table mask xo timer tid start bytes o reads alone some fits (inl h) =
-    h.outcome ∙ ap (λ k. zone_asked {A = A} s a from (Request mask xo timer tid (request_user start) bytes) table k)
-    (alone (request_user start) h.start start h.asks (reads start some fits))
-asked_is_served A s a from table mask xo timer tid start bytes o reads alone some fits (inr h) =
-    absurd (h.0 start (reads start some fits))
+pub asked_is_served : (A : Type 0) (s : Seat) (a : AtpState) (from : Address) (tables : Tables) (which : Which)
+    (mask : ℕ) (xo : Bool) (timer tid start : ℕ) (bytes : List ℕ) (o : Outcome A AtpState) →
+    ((v : Which) (k : ℕ) → 1 ≤ k → k < 2 ^ 16 → RequestSpells (request_user v k) v k)
+    → ((user : List ℕ) (v w : Which) (m k : ℕ) → RequestSpells user v m → RequestSpells user w k → (v ≡ w) × (m ≡ k))
+    → 1 ≤ start → start < 2 ^ 16 →
+    AtZones s a from tables (Request mask xo timer tid (request_user which start) bytes) o → o
+    ≡ zone_asked s a from (Request mask xo timer tid (request_user which start) bytes) (table_of which tables) start
+asked_is_served A s a from tables which mask xo timer tid start bytes o reads alone some fits (inl h) =
+    let one = alone (request_user which start) h.which which h.start start h.asks (reads which start some fits) in
+    h.outcome
+    ∙ (λ i. zone_asked {A = A} s a from (Request mask xo timer tid (request_user which start) bytes)
+    (table_of (one.0 i) tables) (one.1 i))
+asked_is_served A s a from tables which mask xo timer tid start bytes o reads alone some fits (inr h) =
+    absurd (h.0 which start (reads which start some fits))
 
 pub taken_as_written : (A : Type 0) (s : Seat) (a : AtpState) (h : Heard A) (from : Address) (names : List (List ℕ))
     (p : page.Page) (o : Outcome A AtpState) →

@@ -1,10 +1,11 @@
 -- What an ATP datagram does to its part of a node, by the socket that it is for.
-use Rattle.std.specs.Prelude.{◌≡◌, ℕ, ◌==◌, if◌then◌else◌, List, option_map, Option, Some, None, ◌⊎◌}
+use Rattle.std.specs.Prelude.{◌≡◌, ℕ, ◌==◌, if◌then◌else◌, option_map, Option, Some, None, ◌⊎◌}
 use Rattle.at_ddp.specs.Datagram.{Content as Datagram}
 use Rattle.at_ddp.specs.declared.address.Address.{Address}
 use Rattle.at_atp_frame.specs.Fault as atp
 use Rattle.at_atp_frame.specs.Frames.{Content, Spells}
 use Rattle.at_atp_frame.specs.declared.fault.AtpFault.{AtpFault}
+use Rattle.at_zip.specs.Tables.{Tables}
 use Rattle.at_event.specs.declared.event.Report.TheVariants as report
 use Rattle.at_event.specs.declared.seat.Seat.{Seat}
 use Rattle.at_event.specs.declared.service.Reply.{Reply}
@@ -18,13 +19,13 @@ use Rattle.at_node.specs.ZoneSocket.{AtZones}
 pub data AtpSocket : Type 0 where
   Requester : AtpSocket
   Service : AtpSocket
-  Zones : (table : List (List ℕ)) → AtpSocket
+  Zones : (tables : Tables) → AtpSocket
 
 -- only a router has a zone socket
 abbrev pub atp_socket : AtpState → ℕ → Option AtpSocket
 atp_socket a socket =
     if socket == 128 then Some Requester
-    else (if socket == 129 then Some Service else (if socket == 6 then option_map Zones a.table else None))
+    else (if socket == 129 then Some Service else (if socket == 6 then option_map Zones a.tables else None))
 
 -- what a packet does at a socket; at a socket of nobody it is ignored
 abbrev pub AtSocket : {A : Type 0} → Reply A → Seat → AtpState → Address → Option AtpSocket → Content
@@ -32,7 +33,7 @@ abbrev pub AtSocket : {A : Type 0} → Reply A → Seat → AtpState → Address
 AtSocket said s a from None f o = o ≡ idle a report.Ignored
 AtSocket said s a from (Some Requester) f o = AtRequester s a from f o
 AtSocket said s a from (Some Service) f o = AtService said s a from f o
-AtSocket said s a from (Some (Zones table)) f o = AtZones s a from table f o
+AtSocket said s a from (Some (Zones tables)) f o = AtZones s a from tables f o
 
 pub record HearsPacket {A : Type 0} (said : Reply A) (s : Seat) (a : AtpState) (d : Datagram) (socket : AtpSocket)
     (o : Outcome A AtpState) : Type 0 where

@@ -1,5 +1,5 @@
 -- The part of a node that speaks ATP and ZIP, which share the requester (Inside AppleTalk, ATP, and ZIP, "GetZoneList",
--- over ATP).
+-- "GetLocalZones", over ATP).
 use Rattle.std.specs.Prelude.{ℕ, List, [], ◌∷◌, Option, None}
 use Rattle.at_ddp.specs.declared.address.Address.{Address}
 use Rattle.at_ddp.specs.Protocols.{atp_kind}
@@ -7,26 +7,29 @@ use Rattle.at_atp_frame.specs.Frames.{Content, Request, Response, Release, spell
 use Rattle.at_atp_frame.specs.Packets.{Packet}
 use Rattle.at_atp_responder.specs.Records.{Record}
 use Rattle.at_atp_requester.specs.Requests.{Transaction, Requests, Heard, no_requests, begun, request_by}
+use Rattle.at_zip.specs.Tables.{Tables}
+use Rattle.at_zip.specs.declared.request.Which.{Which}
 use Rattle.at_event.specs.declared.event.Report.{Report}
 use Rattle.at_event.specs.declared.event.Report.TheVariants as report
 use Rattle.at_event.specs.declared.seat.Seat.{Seat}
 use Rattle.at_event.specs.Outcomes.{Outcome, sent_by}
 
--- a reading of the zone list: the transaction that asks for the next page, and the names of the pages so far
+-- a reading of a zone table: which one, the transaction that asks for the next page, and the names of the pages so far
 pub record Reading : Type 0 where
+  pub which : Which
   pub tid : ℕ
   pub names : List (List ℕ)
 
 pub record AtpState : Type 0 where
-  pub table : Option (List (List ℕ))  -- the zone table, if the node is the router
-  pub reading : Option Reading  -- the open reading of the zone list
+  pub tables : Option Tables  -- the zone tables, if the node is the router
+  pub reading : Option Reading  -- the open reading of a zone table
   pub requester : Requests
   pub zone_responder : List Record  -- the records of zone requests
   pub service_responder : List Record  -- the records of requests for the service
 
-abbrev pub opening : Option (List (List ℕ)) → AtpState
-opening table =
-    record { table = table; reading = None; requester = no_requests; zone_responder = []; service_responder = [] }
+abbrev pub opening : Option Tables → AtpState
+opening tables =
+    record { tables = tables; reading = None; requester = no_requests; zone_responder = []; service_responder = [] }
 
 -- the sockets of a node: it asks from 128, its service has 129, and a router serves zones at 6
 abbrev pub asking : ℕ → ℕ → Address

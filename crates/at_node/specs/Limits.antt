@@ -6,17 +6,17 @@ use Rattle.at_adsp_ends.specs.Tables.{AreEnds}
 use Rattle.at_atp_requester.specs.Requests.{IsRequester}
 use Rattle.at_nbp.specs.Lookups.{AreLookups}
 use Rattle.at_nbp.specs.NameTables.{AreNames}
-use Rattle.at_zip.specs.Zones.{IsTable}
+use Rattle.at_zip.specs.Tables.{AreTables}
 use Rattle.at_node.specs.Nodes.{NodeState}
 
 -- At most 32 transactions are open, and 64 records stand at each socket that answers. At most 64 names stand, 8 lookups
--- are open with 256 finds each, and 16 ends stand with queues that fit their rooms. A router's table has at most 1,024
--- names.
+-- are open with 256 finds each, and 16 ends stand with queues that fit their rooms. Each of a router's
+-- tables has at most 1,024 names.
 pub record IsWithin (n : NodeState) : Type 0 where
   pub requester : IsRequester n.atp.requester
   pub zone_records : length n.atp.zone_responder ≤ 64
   pub service_records : length n.atp.service_responder ≤ 64
-  pub table : IfSome n.atp.table IsTable
+  pub tables : IfSome n.atp.tables AreTables
   pub names : AreNames n.names.table.names
   pub lookups : AreLookups n.names.lookups
   pub ends : AreEnds n.streams

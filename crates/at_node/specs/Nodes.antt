@@ -7,6 +7,7 @@ use Rattle.at_adsp_ends.specs.Tables.{EndTable, no_ends}
 use Rattle.at_name_socket.specs.NameSockets as names
 use Rattle.at_name_socket.specs.NameSockets.{SocketState}
 use Rattle.at_name_socket.specs.declared.neighbour.Neighbour.{Neighbour}
+use Rattle.at_zip.specs.Tables.{Tables}
 use Rattle.at_event.specs.declared.event.Call.{Call}
 use Rattle.at_event.specs.declared.event.Call.TheVariants.{Zones, SetZones, Ask, Answer, Pick}
 use Rattle.at_event.specs.declared.event.Call.TheVariants.{Find, Claim, Finish, Register, Unregister}
@@ -37,11 +38,11 @@ pub record NodeState : Type 0 where
   pub streams : EndTable
   pub session : SessionState
 
--- the zone table and the nodes of the cable are the router's alone
-abbrev pub opening : Seat → Option (List ℕ) → Option (List (List ℕ)) → Option (List Neighbour) → Rooms → NodeState
-opening seat zone table neighbours rooms = record {
+-- the zone tables and the nodes of the cable are the router's alone
+abbrev pub opening : Seat → Option (List ℕ) → Option Tables → Option (List Neighbour) → Rooms → NodeState
+opening seat zone tables neighbours rooms = record {
   seat = seat;
-  atp = atp.opening table;
+  atp = atp.opening tables;
   names = names.opening seat.net seat.number seat.router zone neighbours;
   streams = no_ends rooms;
   session = new_session;
@@ -60,7 +61,7 @@ with_streams n part = record n { streams = part }
 abbrev pub with_session : NodeState → SessionState → NodeState
 with_session n part = record n { session = part }
 
--- what comes of a packet of ATP, of which the session keeps the zone list
+-- what comes of a packet of ATP, of which the session keeps the zone list that it ends with
 abbrev pub over_atp : {A : Type 0} → NodeState → Outcome A AtpState → Outcome A NodeState
 over_atp n o = record {
   report = o.report;
@@ -77,8 +78,8 @@ over_finish n o = record {
 }
 
 abbrev pub called : {A : Type 0} → NodeState → Call A → Outcome A NodeState
-called n Zones = over (with_atp n) (zones_called n.seat n.atp n.seat.router n.atp.reading)
-called n (SetZones names) = over (with_atp n) (set_zones_called n.atp n.atp.table names)
+called n (Zones which) = over (with_atp n) (zones_called n.seat n.atp which n.seat.router n.atp.reading)
+called n (SetZones which names) = over (with_atp n) (set_zones_called n.atp n.atp.tables which names)
 called n (Ask node socket user bytes wanted xo retries) =
     over (with_atp n) (ask_called n.seat n.atp (at_socket n.seat node socket) user bytes wanted xo retries)
 called n (Answer node socket tid packets) =

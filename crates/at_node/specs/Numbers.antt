@@ -55,10 +55,10 @@ abbrev pub next_conn : NodeState → Option Draw
 next_conn n = option_map (λ id. Conn id) (next_end n.streams)
 
 -- The number that a call will draw, if memory does not run out: the next one, if the call begins a transaction, a
--- lookup or an end. Refused are a zone list without a router or while one is read, a request of more than 578 bytes, a
+-- lookup or an end. Refused are a zone table without a router or while one is read, a request of more than 578 bytes, a
 -- claim that names nothing, and a place where nothing was found.
 abbrev pub draw_of : {A : Type 0} → NodeState → Call A → Option Draw
-draw_of n Zones = if is_none n.seat.router || is_some n.atp.reading then None else next_tid n
+draw_of n (Zones which) = if is_none n.seat.router || is_some n.atp.reading then None else next_tid n
 draw_of n (Ask node socket user bytes wanted xo retries) = if nat_lt 578 (length bytes) then None else next_tid n
 draw_of n (Find object kind _) = next_lookup n
 draw_of n (Claim object kind socket) = if is_no_text object || is_no_text kind then None else next_lookup n
@@ -74,7 +74,7 @@ pub record Completes (r : Requests) (from : Address) (tid place : ℕ) (part : A
   pub wanted : is_wanted transaction.parts place ≡ true
   pub all : is_some (whole (with_part transaction.parts place part)) ≡ true
 
--- A packet from an address ends the transaction that reads the zone list, by a page after which the next one is asked
+-- A packet from an address ends the transaction that reads a zone table, by a page after which the next one is asked
 -- for under this number: it is not the last page, and with it there are not too many names.
 pub record TurnsPage (a : AtpState) (from : Address) (f : Content) (tid : ℕ) : Type 0 where
   pub reading : Reading
@@ -101,7 +101,7 @@ pub record HasTurn (a : AtpState) (d : Datagram) (tid : ℕ) : Type 0 where
   pub spelled : Spells d.data_ packet
   pub turns : TurnsPage a d.from packet tid
 
--- a datagram for the node makes it draw this number: a page of the zone list, or a request that makes an end
+-- a datagram for the node makes it draw this number: a page of a zone table, or a request that makes an end
 abbrev pub DrawsBy : NodeState → Datagram → Draw → Type 0
 DrawsBy n d (Tid tid) = HasTurn n.atp d tid
 DrawsBy n d (Lookup id) = ⊥

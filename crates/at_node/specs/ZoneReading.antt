@@ -1,4 +1,4 @@
--- How a node reads the zone list, page by page (Inside AppleTalk, ZIP, "GetZoneList").
+-- How a node reads a zone table, page by page (Inside AppleTalk, ZIP, "GetZoneList", "GetLocalZones").
 use Rattle.std.specs.Prelude.{MatchBool, ◌≡◌, ℕ, ◌+◌, ◌==◌, ◌&&◌, not, nat_lt, if◌then◌else◌, Bool, true, false, List}
 use Rattle.std.specs.Prelude.{[]}
 use Rattle.std.specs.Prelude.{◌++◌, length}
@@ -13,6 +13,8 @@ use Rattle.at_zip.specs.Fault as zip
 use Rattle.at_zip.specs.Page as pages
 use Rattle.at_zip.specs.Reading.{place_after}
 use Rattle.at_zip.specs.Request.{request_user}
+use Rattle.at_zip.specs.declared.request.Which.{Which}
+use Rattle.at_zip.specs.declared.request.Which.TheVariants.{All}
 use Rattle.at_zip.specs.declared.fault.ZipFault.{ZipFault}
 use Rattle.at_zip.specs.declared.fault.ZipFault.TheVariants.{TooManyZones}
 use Rattle.at_event.specs.declared.event.Report.{Report}
@@ -23,30 +25,36 @@ use Rattle.at_node.specs.AtpParts.{AtpState, Reading, asks, after_heard, tid_of,
 use Rattle.at_event.specs.Faults.{number_of}
 use Rattle.at_event.specs.Outcomes.{Outcome, idle, refused_as}
 
--- the transaction by which a reading asks for the page after the names that it has: one packet, at least once, with
--- three retries
-abbrev pub page_transaction : Address → List (List ℕ) → ℕ → Transaction
-page_transaction to names tid = beginning tid to (request_user (place_after names)) [] 1 false 3
+-- the transaction by which a reading of this table asks for the page after the names that it has: one packet, at least
+-- once, with three retries
+abbrev pub page_transaction : Address → Which → List (List ℕ) → ℕ → Transaction
+page_transaction to which names tid = beginning tid to (request_user which (place_after names)) [] 1 false 3
 
 -- ---- the call
 
-abbrev pub reading_begins : {A : Type 0} → Seat → AtpState → ℕ → Option ℕ → Outcome A AtpState
-reading_begins s a router None = idle a (refused_as (atp.number_of Full))
-reading_begins s a router (Some tid) =
-    asks s a (Some (record { tid = tid; names = [] })) (page_transaction (zones_at s.net router) [] tid)
+abbrev pub reading_begins : {A : Type 0} → Seat → AtpState → Which → ℕ → Option ℕ → Outcome A AtpState
+reading_begins s a which router None = idle a (refused_as (atp.number_of Full))
+reading_begins s a which router (Some tid) =
+    asks s a (Some (record { which = which; tid = tid; names = [] }))
+    (page_transaction (zones_at s.net router) which [] tid)
 
--- without a router nothing can be read, and a node reads one list at a time
-abbrev pub zones_called : {A : Type 0} → Seat → AtpState → Option ℕ → Option Reading → Outcome A AtpState
-zones_called s a None reading = idle a (report.Refused (number_of NoRouter))
-zones_called s a (Some router) (Some r) = idle a (report.Refused (number_of StillReading))
-zones_called s a (Some router) None = reading_begins s a router (next_number a.requester)
+-- without a router nothing can be read, and a node reads one table at a time
+abbrev pub zones_called : {A : Type 0} → Seat → AtpState → Which → Option ℕ → Option Reading → Outcome A AtpState
+zones_called s a which None reading = idle a (report.Refused (number_of NoRouter))
+zones_called s a which (Some router) (Some r) = idle a (report.Refused (number_of StillReading))
+zones_called s a which (Some router) None = reading_begins s a which router (next_number a.requester)
 
 -- ---- the transaction that reads
 
--- is this the transaction that reads the zone list?
+-- is this the transaction that reads a zone table?
 abbrev pub is_reading : Option Reading → ℕ → Bool
 is_reading None tid = false
 is_reading (Some r) tid = r.tid == tid
+
+-- which table is read
+abbrev pub table_read : Option Reading → Which
+table_read None = All
+table_read (Some r) = r.which
 
 -- the names of the pages so far
 abbrev pub names_read : Option Reading → List (List ℕ)
@@ -57,7 +65,7 @@ names_read (Some r) = r.names
 abbrev pub is_page : (A : Type 0) → AtpState → Address → Content → Bool
 is_page A a from f = is_reading a.reading (tid_of f) && finishes A a.requester from f
 
--- a transaction ended without an answer; if it read the zone list, the reading ends
+-- a transaction ended without an answer; if it read a zone table, the reading ends
 abbrev pub after_failing : {A : Type 0} → AtpState → ℕ → Requests → Bool → Outcome A AtpState
 after_failing a tid after true =
     record { report = report.ZonesFailed; state = record a { reading = None; requester = after }; out = [] }
@@ -77,17 +85,18 @@ pub record AsksOn {A : Type 0} (s : Seat) (a : AtpState) (h : Heard A) (from : A
   pub tid : ℕ
   pub drawn : next_number h.after ≡ Some tid
   pub outcome : o
-      ≡ asks s (record a { requester = h.after }) (Some (record { tid = tid; names = names }))
-      (page_transaction from names tid)
+      ≡ asks s (record a { requester = h.after })
+      (Some (record { which = table_read a.reading; tid = tid; names = names }))
+      (page_transaction from (table_read a.reading) names tid)
 
 -- What a page does to a reading with these names. With too many names the reading ends, with the last page it has the
--- whole list, and else it goes on.
+-- whole table, and else it goes on.
 abbrev pub TakesPage : {A : Type 0} → Seat → AtpState → Heard A → Address → List (List ℕ) → pages.Page
     → Outcome A AtpState → Type 0
 TakesPage s a h from names p o =
     MatchBool (nat_lt 1024 (length names + length p.names))
     (o ≡ after_heard s a h (faulted_as (zip.number_of TooManyZones)) None)
-    (MatchBool p.last (o ≡ after_heard s a h (report.Zones (names ++ p.names)) None)
+    (MatchBool p.last (o ≡ after_heard s a h (report.Zones (table_read a.reading) (names ++ p.names)) None)
     (AsksOn s a h from (names ++ p.names) o))
 
 pub record HasPage {A : Type 0} (s : Seat) (a : AtpState) (h : Heard A) (from : Address) (names : List (List ℕ))

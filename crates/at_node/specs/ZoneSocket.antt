@@ -1,4 +1,4 @@
--- The router's zone socket: what its packets do (Inside AppleTalk, ZIP, "GetZoneList").
+-- The router's zone socket: what its packets do (Inside AppleTalk, ZIP, "GetZoneList", "GetLocalZones").
 use Rattle.std.specs.Prelude.{◌≡◌, ℕ, if◌then◌else◌, List, [], ◌∷◌, length, find, Option, Some, None, ◌⊎◌}
 use Rattle.at_ddp.specs.declared.address.Address.{Address}
 use Rattle.at_ddp.specs.Protocols.{atp_kind}
@@ -14,6 +14,8 @@ use Rattle.at_zip.specs.Fault as zip
 use Rattle.at_zip.specs.Page.{page_of, page_user, page_data}
 use Rattle.at_zip.specs.Request.{RequestSpells}
 use Rattle.at_zip.specs.Zones.{table_fault}
+use Rattle.at_zip.specs.Tables.{Tables, table_of, with_table}
+use Rattle.at_zip.specs.declared.request.Which.{Which}
 use Rattle.at_zip.specs.declared.fault.ZipFault.{ZipFault}
 use Rattle.at_event.specs.declared.event.Report.{Report}
 use Rattle.at_event.specs.declared.event.Report.TheVariants as report
@@ -26,14 +28,15 @@ use Rattle.at_node.specs.Responders.{released_report}
 
 -- ---- the call
 
-abbrev pub table_set : {A : Type 0} → AtpState → List (List ℕ) → Option ZipFault → Outcome A AtpState
-table_set a names (Some fault) = idle a (refused_as (zip.number_of fault))
-table_set a names None = record { report = report.TableSet; state = record a { table = Some names }; out = [] }
+abbrev pub table_set : {A : Type 0} → AtpState → Tables → Which → List (List ℕ) → Option ZipFault → Outcome A AtpState
+table_set a tables which names (Some fault) = idle a (refused_as (zip.number_of fault))
+table_set a tables which names None =
+    record { report = report.TableSet; state = record a { tables = Some (with_table which names tables) }; out = [] }
 
--- the router gets another zone table; no other node has one
-abbrev pub set_zones_called : {A : Type 0} → AtpState → Option (List (List ℕ)) → List (List ℕ) → Outcome A AtpState
-set_zones_called a None names = idle a (report.Refused (node.number_of NoRouter))
-set_zones_called a (Some table) names = table_set a names (table_fault names)
+-- the router gets another zone table in the place of one; no other node has any
+abbrev pub set_zones_called : {A : Type 0} → AtpState → Option Tables → Which → List (List ℕ) → Outcome A AtpState
+set_zones_called a None which names = idle a (report.Refused (node.number_of NoRouter))
+set_zones_called a (Some tables) which names = table_set a tables which names (table_fault names)
 
 -- ---- packets
 
@@ -63,7 +66,7 @@ at_zones s a t packet (reception.Again count) = zone_taken s a t report.Again
 at_zones s a t packet reception.Released = zone_taken s a t report.Released
 at_zones s a t packet (reception.New key) = zone_served s a t key packet
 
--- a request for the page from a place on came
+-- a request for the page of a table from a place on came
 abbrev pub zone_asked : {A : Type 0} → Seat → AtpState → Address → Content → List (List ℕ) → ℕ → Outcome A AtpState
 zone_asked s a from frame table start =
     if finds_no_place a.zone_responder from frame then idle a (refused_as (number_of Full))
@@ -75,15 +78,16 @@ abbrev pub zone_released : {A : Type 0} → Seat → AtpState → Taken → Outc
 zone_released s a t = zone_taken s a t (released_report t.reception)
 
 pub record AsksForPage {A : Type 0} (s : Seat) (a : AtpState) (from : Address) (f : Content) (user : List ℕ)
-    (table : List (List ℕ)) (o : Outcome A AtpState) : Type 0 where
+    (tables : Tables) (o : Outcome A AtpState) : Type 0 where
+  pub which : Which
   pub start : ℕ
-  pub asks : RequestSpells user start
-  pub outcome : o ≡ zone_asked s a from f table start
+  pub asks : RequestSpells user which start
+  pub outcome : o ≡ zone_asked s a from f (table_of which tables) start
 
 -- a packet came for the router's zone socket: only a request for a page and a release have an effect
-abbrev pub AtZones : {A : Type 0} → Seat → AtpState → Address → List (List ℕ) → Content → Outcome A AtpState → Type 0
-AtZones s a from table (Request mask xo timer tid user bytes) o =
-    AsksForPage s a from (Request mask xo timer tid user bytes) user table o
-    ⊎ (((start : ℕ) → ¬ RequestSpells user start) × (o ≡ idle a report.Ignored))
-AtZones s a from table (Response place eom sts tid user bytes) o = o ≡ idle a report.Ignored
-AtZones s a from table (Release tid) o = o ≡ zone_released s a (taken a.zone_responder from (Release tid))
+abbrev pub AtZones : {A : Type 0} → Seat → AtpState → Address → Tables → Content → Outcome A AtpState → Type 0
+AtZones s a from tables (Request mask xo timer tid user bytes) o =
+    AsksForPage s a from (Request mask xo timer tid user bytes) user tables o
+    ⊎ (((which : Which) (start : ℕ) → ¬ RequestSpells user which start) × (o ≡ idle a report.Ignored))
+AtZones s a from tables (Response place eom sts tid user bytes) o = o ≡ idle a report.Ignored
+AtZones s a from tables (Release tid) o = o ≡ zone_released s a (taken a.zone_responder from (Release tid))

@@ -15,7 +15,7 @@ use crate::zone_socket::ZONE_SOCKET;
 use at_atp::{Requester, Responder};
 use at_ddp::{ATP, Address, Datagram, Datagrams, Outbox};
 use at_event::{Report, Seat, Service};
-use at_zip::Zones;
+use at_zip::Tables;
 use std::alloc::Allocator;
 use std::marker::Model;
 
@@ -23,9 +23,9 @@ use std::marker::Model;
 #[derive(Drop)]
 pub(crate) struct AtpPart<A: Allocator> {
     pub(crate) alloc: A,
-    // The zone table, if the node is the router.
-    pub(crate) zones: Option<Zones<A>>,
-    // The reading of the zone list, if one is open.
+    // The zone tables, if the node is the router.
+    pub(crate) tables: Option<Tables<A>>,
+    // The reading of a zone table, if one is open.
     pub(crate) reading: Option<ZoneReading<A>>,
     pub(crate) requester: Requester<A>,
     // The requests that came to the zone socket.
@@ -42,7 +42,7 @@ impl<A: Allocator> Model for AtpPart<A> {
     ghost Value = { AtpState };
 
     ghost view = { λ a. record {
-      table = a.zones;
+      tables = a.tables;
       reading = option_map reading_of a.reading;
       requester = a.requester;
       zone_responder = a.zone_responder;
@@ -51,12 +51,12 @@ impl<A: Allocator> Model for AtpPart<A> {
 }
 
 impl<A: Allocator + Copy> AtpPart<A> {
-    pub(crate) fn new(alloc: A, zones: Option<Zones<A>>) -> AtpPart<A>
-        ensures { result ≡ opening zones }
+    pub(crate) fn new(alloc: A, tables: Option<Tables<A>>) -> AtpPart<A>
+        ensures { result ≡ opening tables }
     {
         AtpPart {
             alloc,
-            zones,
+            tables,
             reading: None,
             requester: Requester::new(alloc),
             zone_responder: Responder::new(alloc),

@@ -72,7 +72,7 @@ impl<A: Allocator + Copy> Node<A> {
         Report::Ignored
     }
 
-    // Takes a datagram of ATP that is for this node. If it ends a reading with the zone list, that is kept.
+    // Takes a datagram of ATP that is for this node. If it ends a reading with a zone list, that is kept.
     pub(crate) fn hear_atp<S: Service<A>>(
         &mut self,
         service: &mut S,

@@ -50,18 +50,18 @@ impl<A: Allocator + Copy> Node<A> {
     /// A node that stands at this seat, before anything happened.
     pub fn new(alloc: A, settings: Settings<A>) -> Node<A>
         requires { AreRooms settings.rooms }
-        ensures { result ≡ opening settings.seat settings.zone settings.zones settings.neighbours settings.rooms }
+        ensures { result ≡ opening settings.seat settings.zone settings.tables settings.neighbours settings.rooms }
     {
         let Settings {
             seat,
             zone,
-            zones,
+            tables,
             neighbours,
             rooms,
         } = settings;
         Node {
             seat,
-            atp: AtpPart::new(alloc, zones),
+            atp: AtpPart::new(alloc, tables),
             names: NamePart::new(alloc, seat, zone, neighbours),
             streams: StreamSocket::new(alloc, rooms),
             session: Session::new(alloc),
@@ -75,8 +75,8 @@ impl<A: Allocator + Copy> Node<A> {
         self.atp.requester.limits();
         at_most_64_records_stand(&self.atp.zone_responder);
         at_most_64_records_stand(&self.atp.service_responder);
-        if let Some(zones) = &self.atp.zones {
-            zones.names();
+        if let Some(tables) = &self.atp.tables {
+            tables.limits();
         }
         self.names.socket.limits();
         self.streams.limits();
@@ -94,7 +94,7 @@ impl<A: Allocator + Copy> Node<A> {
         ensures { IsStep (called self.old call.now) self.old out.old.items result self.new out.new.items }
     {
         match call {
-            Call::Zones | Call::SetZones { .. } | Call::Ask { .. } | Call::Answer { .. } => {
+            Call::Zones { .. } | Call::SetZones { .. } | Call::Ask { .. } | Call::Answer { .. } => {
                 self.call_atp(call, out)
             }
             Call::Pick { zone } => self.pick(zone),
@@ -116,8 +116,8 @@ impl<A: Allocator + Copy> Node<A> {
         ensures { IsStep (called self.old call.now) self.old out.old.items result self.new out.new.items }
     {
         match call {
-            Call::Zones => self.atp.read_zones(self.seat, out),
-            Call::SetZones { names } => self.atp.set_zones(names.as_slice()),
+            Call::Zones { which } => self.atp.read_zones(self.seat, *which, out),
+            Call::SetZones { which, names } => self.atp.set_zones(*which, names.as_slice()),
             Call::Ask {
                 node,
                 socket,

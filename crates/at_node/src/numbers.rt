@@ -84,7 +84,7 @@ impl<A: Allocator + Copy> Node<A> {
         ensures { result ≡ draw_of self.now call.now }
     {
         match call {
-            Call::Zones => {
+            Call::Zones { .. } => {
                 if self.seat.router.is_none() || self.atp.reading.is_some() {
                     return None;
                 }

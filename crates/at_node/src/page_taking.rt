@@ -1,4 +1,4 @@
-//! What becomes of the page that a reading of the zone list asked for.
+//! What becomes of the page that a reading of a zone table asked for.
 ghost use Rattle.std.specs.Prelude.{◌≡◌, ◌+◌, ◌++◌, ◌∷◌, [], map, None, Some, IfOk};
 ghost use Rattle.std.specs.Prelude.{IfSome, IsSome, OnErr, true, false};
 ghost use Rattle.at_ddp.specs.Protocols.{atp_kind};
@@ -93,8 +93,8 @@ impl<A: Allocator + Copy> AtpPart<A> {
         ensures step { let before = record self.old { reading = Some (reading_of reading) } in
             IsStep (after_heard packet.now.seat before
             (heard self.old.requester packet.now.from (content packet.now.frame))
-            (Report.Zones (reading.reader.names ++ page.now.names)) None) before out.old.items result self.new
-            out.new.items }
+            (Report.Zones reading.which (reading.reader.names ++ page.now.names)) None) before out.old.items result
+            self.new out.new.items }
         ensures not_asked { is_asked result ≡ false }
     {
         let own = packet.seat.at(REQUESTER_SOCKET);
@@ -103,8 +103,9 @@ impl<A: Allocator + Copy> AtpPart<A> {
             return Report::NoMemory;
         }
         self.reading = None;
+        let which = reading.which;
         match reading.reader.take(page) {
-            Taken::Done(names) => Report::Zones(names),
+            Taken::Done(names) => Report::Zones { which, names },
             Taken::Ask(_) => unreachable!(),
         }
     }
@@ -129,7 +130,7 @@ impl<A: Allocator + Copy> AtpPart<A> {
         ensures not_asked { is_asked result ≡ false }
     {
         let own = packet.seat.at(REQUESTER_SOCKET);
-        let user = request_user(reading.reader.after(page));
+        let user = request_user(reading.which, reading.reader.after(page));
         match turn(self.alloc, &mut self.requester, own, packet, user, out) {
             Ok(tid) => {
                 reading.reader.take(page);

@@ -1,4 +1,4 @@
-//! The socket that asks: the transactions of the node itself, also those that read the zone list.
+//! The socket that asks: the transactions of the node itself, also those that read a zone table.
 ghost use Rattle.std.specs.Prelude.{◌≡◌, ◌≢◌, ◌↔◌, ℕ, ◌<◌, ◌≤◌, Bool, length, List, ◌++◌, ◌∷◌, [], map, None, Some};
 ghost use Rattle.std.specs.Prelude.{IfOk, IfErr, IfSome, IsOk, OnErr, IsErrOf, true, false};
 ghost use Rattle.at_ddp.specs.Datagram.{content as written};

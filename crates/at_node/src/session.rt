@@ -11,7 +11,7 @@ use at_event::{Call, NodeFault, Report};
 use std::alloc::Allocator;
 
 impl<A: Allocator + Copy> Node<A> {
-    // Picks a zone of the zone list that was read last.
+    // Picks a zone of a zone list that was read last.
     pub(crate) fn pick(&mut self, zone: &Pascal) -> Report<A>
         ensures { (sent : List Posted)
             → IsStep (called {A = A} self.old (Call.Pick zone.now)) self.old sent result self.new sent }

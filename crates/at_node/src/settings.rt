@@ -4,7 +4,7 @@ use at_adsp_ends::Rooms;
 use at_ddp::{Listed, Pascal};
 use at_event::Seat;
 use at_name_socket::Neighbour;
-use at_zip::Zones;
+use at_zip::Tables;
 use std::alloc::{Allocator, Global};
 
 /// What a node is made with: where it stands, and what it has from the beginning.
@@ -14,8 +14,8 @@ pub struct Settings<A: Allocator = Global> {
     pub seat: Seat,
     /// Its zone.
     pub zone: Option<Pascal>,
-    /// The zone table, if the node is the router.
-    pub zones: Option<Zones<A>>,
+    /// The zone tables, if the node is the router.
+    pub tables: Option<Tables<A>>,
     /// The nodes of the cable, if the node is the router.
     pub neighbours: Option<Listed<Neighbour, A>>,
     /// The rooms of the ends of the node's streams, 1 to 65,535 items each.

@@ -8,6 +8,7 @@ ghost use Rattle.at_node.specs.AtpHearing.{HearsAtp};
 ghost use Rattle.at_node.specs.AtpParts.{AtpState};
 ghost use Rattle.at_node.specs.RequesterSocket.{AtRequester};
 ghost use Rattle.at_node.specs.ZoneReading.{list_after};
+ghost use Rattle.at_zip.specs.declared.request.Which.{Which};
 
 use crate::atp_part::AtpPart;
 use crate::incoming::Incoming;
@@ -26,8 +27,8 @@ impl<A: Allocator + Copy> AtpPart<A> {
         datagram: &Datagram<'_>,
     ) -> Result<Option<Listed<Pascal, A>>, AllocError>
         ensures ended { IfOk result (λ list. (said : Said A) (o : Outcome A AtpState)
-            → HearsAtp said seat self.now (written datagram.now) o → (names : List (List ℕ))
-            → o.report ≡ Report.Zones names → list ≡ Some names) }
+            → HearsAtp said seat self.now (written datagram.now) o → (which : Which) (names : List (List ℕ))
+            → o.report ≡ Report.Zones which names → list ≡ Some names) }
         ensures wanted { OnErr result ((said : Said A) → (o : Outcome A AtpState)
             × HearsAtp said seat self.now (written datagram.now) o × (takes_memory o.report ≡ true)) }
     {
@@ -44,7 +45,7 @@ impl<A: Allocator + Copy> AtpPart<A> {
     fn list_in(&self, packet: &Incoming<'_>) -> Result<Option<Listed<Pascal, A>>, AllocError>
         ensures ended { IfOk result (λ list. (o : Outcome A AtpState)
             → AtRequester packet.now.seat self.now packet.now.from (content packet.now.frame) o
-            → (names : List (List ℕ)) → o.report ≡ Report.Zones names → list ≡ Some names) }
+            → (which : Which) (names : List (List ℕ)) → o.report ≡ Report.Zones which names → list ≡ Some names) }
         ensures wanted { OnErr result ((o : Outcome A AtpState)
             × AtRequester packet.now.seat self.now packet.now.from (content packet.now.frame) o
             × (takes_memory o.report ≡ true)) }

@@ -1,4 +1,4 @@
-//! A reading of the zone list that is open. What a page does to it stands in `page_taking.rt`.
+//! A reading of a zone table that is open. What a page does to it stands in `page_taking.rt`.
 ghost use Rattle.std.specs.Prelude.{◌≡◌, ◌+◌, ◌&&◌, ℕ, [], length, nat_lt, not, None, Some};
 ghost use Rattle.std.specs.Prelude.{IfSome, IsSome, true, false};
 ghost use Rattle.at_atp_frame.specs.Frames.{content};
@@ -18,15 +18,17 @@ use crate::zone_socket::ZONE_SOCKET;
 use at_atp::Frame;
 use at_ddp::{Address, Datagrams};
 use at_event::{NodeFault, Report, Seat};
-use at_zip::{PageView, ZoneReader, read_page, request_user};
+use at_zip::{PageView, Which, ZoneReader, read_page, request_user};
 use std::alloc::Allocator;
 
 // How often a page is asked for again.
 pub(crate) const RETRIES: u8 = 3;
 
-// A reading of the zone list that is open.
+// A reading of a zone table that is open.
 #[derive(Drop)]
 pub(crate) struct ZoneReading<A: Allocator> {
+    // The table that is read.
+    pub(crate) which: Which,
     // The transaction that asks for the next page.
     pub(crate) tid: u16,
     // The names of the pages so far.
@@ -34,9 +36,14 @@ pub(crate) struct ZoneReading<A: Allocator> {
 }
 
 impl<A: Allocator + Copy> AtpPart<A> {
-    // Asks the router for the zone list.
-    pub(crate) fn read_zones(&mut self, seat: Seat, out: &mut Datagrams<A>) -> Report<A>
-        ensures { IsStep (zones_called seat self.old seat.router self.old.reading) self.old out.old.items result
+    // Asks the router for a zone table.
+    pub(crate) fn read_zones(
+        &mut self,
+        seat: Seat,
+        which: Which,
+        out: &mut Datagrams<A>,
+    ) -> Report<A>
+        ensures { IsStep (zones_called seat self.old which seat.router self.old.reading) self.old out.old.items result
             self.new out.new.items }
     {
         let Some(router) = seat.router else {
@@ -45,12 +52,12 @@ impl<A: Allocator + Copy> AtpPart<A> {
         if self.reading.is_some() {
             return Report::Refused(NodeFault::StillReading.number());
         }
-        let question = first_page(seat.there(router, ZONE_SOCKET));
+        let question = first_page(seat.there(router, ZONE_SOCKET), which);
         let own = seat.at(REQUESTER_SOCKET);
         match begin(self.alloc, &mut self.requester, own, &question, out) {
             Ok(tid) => {
                 let reader = ZoneReader::new(self.alloc);
-                self.reading = Some(ZoneReading { tid, reader });
+                self.reading = Some(ZoneReading { which, tid, reader });
                 Report::Begun(tid)
             }
             Err(fault) => refused(fault.number()),
@@ -129,10 +136,10 @@ impl<A: Allocator + Copy> AtpPart<A> {
     }
 }
 
-// The request for the first page of the zone list: one packet.
-fn first_page(router: Address) -> Question<'static>
+// The request for the first page of a zone table: one packet.
+fn first_page(router: Address, which: Which) -> Question<'static>
     ensures to { result.to ≡ router }
-    ensures user { result.user ≡ request_user 1 }
+    ensures user { result.user ≡ request_user which 1 }
     ensures bytes { result.bytes.now ≡ [] }
     ensures wanted { result.wanted ≡ 1 }
     ensures at_least_once { result.exactly_once ≡ false }
@@ -140,7 +147,7 @@ fn first_page(router: Address) -> Question<'static>
 {
     Question {
         to: router,
-        user: request_user(1),
+        user: request_user(which, 1),
         bytes: &[],
         wanted: 1,
         exactly_once: false,

@@ -1,4 +1,4 @@
-//! The zone socket, which only a router serves: it answers requests with pages of its table.
+//! The zone socket, which only a router serves: it answers requests with pages of its tables.
 ghost use Rattle.std.specs.Prelude.{◌≡◌, ◌≤◌, ◌++◌, ◌∷◌, List, [], map, length, find, option_map, None, Some, false};
 ghost use Rattle.std.specs.Prelude.{IfOk, OnOk, OnErr};
 ghost use Rattle.at_ddp.specs.Datagram.{content as written};
@@ -22,24 +22,24 @@ use crate::responders::{answer, hear, release};
 use at_atp::{AtpFault, Frame, Key, Packet, Reception, Responder};
 use at_ddp::{Address, Datagram, Datagrams, Pascal};
 use at_event::{NodeFault, Report, Seat};
-use at_zip::{Zones, page, read_request};
+use at_zip::{Which, Zones, page, read_request};
 use std::alloc::{AllocError, Allocator};
 
 /// The router's zone socket.
 pub(crate) const ZONE_SOCKET: u8 = 6;
 
 impl<A: Allocator + Copy> AtpPart<A> {
-    // Gives the router another zone table.
-    pub(crate) fn set_zones(&mut self, names: &[Pascal]) -> Report<A>
-        ensures { (items : List Posted) → IsStep (set_zones_called self.old self.old.table names.now) self.old items
-            result self.new items }
+    // Gives the router another zone table in the place of one.
+    pub(crate) fn set_zones(&mut self, which: Which, names: &[Pascal]) -> Report<A>
+        ensures { (items : List Posted) → IsStep (set_zones_called self.old self.old.tables which names.now) self.old
+            items result self.new items }
     {
-        if self.zones.is_none() {
+        let Some(tables) = &mut self.tables else {
             return Report::Refused(NodeFault::NoRouter.number());
-        }
+        };
         match Zones::copy_of(self.alloc, names) {
             Ok(zones) => {
-                self.zones = Some(zones);
+                tables.set(which, zones);
                 Report::TableSet
             }
             Err(fault) => refused(fault.number()),
@@ -54,11 +54,11 @@ impl<A: Allocator + Copy> AtpPart<A> {
         out: &mut Datagrams<A>,
     ) -> Report<A>
         ensures comes { (said : Said A)
-            → Comes (HearsAt said seat self.old (written datagram.now) (option_map ZoneSocket self.old.table)) self.old
+            → Comes (HearsAt said seat self.old (written datagram.now) (option_map ZoneSocket self.old.tables)) self.old
             out.old.items result self.new out.new.items }
         ensures not_asked { is_asked result ≡ false }
     {
-        if self.zones.is_none() {
+        if self.tables.is_none() {
             return Report::Ignored;
         }
         match Incoming::in_datagram(seat, datagram) {
@@ -69,12 +69,12 @@ impl<A: Allocator + Copy> AtpPart<A> {
 
     fn serve_packet(&mut self, packet: &Incoming<'_>, out: &mut Datagrams<A>) -> Report<A>
         ensures comes { (said : Said A)
-            → Comes (AtSocket said packet.now.seat self.old packet.now.from (option_map ZoneSocket self.old.table)
+            → Comes (AtSocket said packet.now.seat self.old packet.now.from (option_map ZoneSocket self.old.tables)
             (content packet.now.frame)) self.old out.old.items result self.new out.new.items }
         ensures not_asked { is_asked result ≡ false }
     {
         let own = packet.seat.at(ZONE_SOCKET);
-        let Some(zones) = &self.zones else {
+        let Some(tables) = &self.tables else {
             return Report::Ignored;
         };
         if let Frame::Release { .. } = packet.frame {
@@ -84,12 +84,12 @@ impl<A: Allocator + Copy> AtpPart<A> {
             return Report::Ignored;
         };
         match read_request(user) {
-            Ok(start) => serve_request(
+            Ok((which, start)) => serve_request(
                 self.alloc,
                 &mut self.zone_responder,
                 own,
                 packet,
-                zones,
+                tables.get(which),
                 start,
                 out,
             ),

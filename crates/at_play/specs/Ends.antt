@@ -7,7 +7,7 @@ use Rattle.at_world.specs.ExactlyOnce.{AllLive, RunsOnce, onto}
 use Rattle.at_world.specs.Machine.{Machine, Run, opening_machine}
 use Rattle.at_world.specs.Plays.{opening_world}
 use Rattle.at_world.specs.Safety.{Safely}
-use Rattle.at_setup.specs.Setups.{is_lawful}
+use Rattle.at_setup.specs.Setups.{is_lawful, tables_of}
 use Rattle.at_setup.specs.declared.setup.Setup.{Setup}
 use Rattle.at_schedule.specs.Drafts.{HoldsSetup, IsLineFault}
 use Rattle.at_faults.specs.Reads.{IsOfBytes}
@@ -42,7 +42,7 @@ pub record Obeys {A : Type 0} (setup : Setup A) (p : Played setup) : Type 0 wher
   pub safe : Safely (opening_world setup) p.events p.reports p.world
   pub run : NoForge p.events → (m : Machine) × Run (opening_machine setup) p.events p.reports m
   pub once : NoForge p.events → AllLive setup.net (p.world).sent (onto [] p.events p.reports)
-      → RunsOnce setup.net setup.zones (p.world).sent (onto [] p.events p.reports)
+      → RunsOnce setup.net (tables_of setup) (p.world).sent (onto [] p.events p.reports)
 
 -- What a schedule's play prints of its events: what is told of those that were played. These are all of them unless it
 -- stopped, which is said if the schedule's text is known. The numbers of their refusals are told.

@@ -6,6 +6,8 @@ use Rattle.std.specs.Fmt.{decimal}
 use Rattle.at_atp_frame.specs.Packets.{Packet}
 use Rattle.at_atp_responder.specs.declared.reception.Key.{Key}
 use Rattle.at_nbp.specs.declared.find.Find.{Find}
+use Rattle.at_zip.specs.declared.request.Which.{Which}
+use Rattle.at_zip.specs.declared.request.Which.TheVariants.{All, Local}
 use Rattle.at_event.specs.declared.event.Report.{Report}
 use Rattle.at_event.specs.declared.event.Report.TheVariants as report
 use Rattle.at_world.specs.Sents.{SentDatagram}
@@ -56,6 +58,11 @@ asked_text key =
     codes "asked " ++ (decimal (key.from).node ++ (codes " " ++ (decimal (key.from).socket
     ++ (codes " " ++ (decimal key.tid ++ codes " ")))))
 
+-- the word for a list of the zones of this table
+abbrev pub table_word : Which → List ℕ
+table_word All = codes "zones"
+table_word Local = codes "localzones"
+
 -- a report in words
 abbrev pub report_text : {A : Type 0} → Report A → List ℕ
 report_text (report.Begun tid) = codes "begun " ++ decimal tid
@@ -63,7 +70,7 @@ report_text (report.Answered count) = codes "answered " ++ decimal count
 report_text report.Expired = codes "done"
 report_text (report.Served count) = codes "served " ++ decimal count
 report_text (report.Asked key user bytes) = asked_text key ++ (hex_text user ++ (codes " " ++ hex_text bytes))
-report_text (report.Zones zones) = codes "zones" ++ flat_map zone_text zones
+report_text (report.Zones which zones) = table_word which ++ flat_map zone_text zones
 report_text (report.ZoneFault number) = codes "zonefault " ++ decimal number
 report_text report.ZonesFailed = codes "zonesfailed"
 report_text report.Kept = codes "kept"

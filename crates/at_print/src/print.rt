@@ -5,7 +5,7 @@ ghost use Rattle.std.specs.List.{flat_map};
 ghost use Rattle.at_print.specs.Lines.{hex_text};
 ghost use Rattle.at_print.specs.Printers.{Prints};
 ghost use Rattle.at_print.specs.Reports.{asked_text, datagram_line, event_line, packet_text, report_text, sent_lines};
-ghost use Rattle.at_print.specs.Reports.{zone_text};
+ghost use Rattle.at_print.specs.Reports.{table_word, zone_text};
 ghost use Rattle.at_print.specs.Reports.{glyph, is_sign, stands_for_itself, text_word};
 
 use crate::digits::{write_hex, write_pairs};
@@ -18,6 +18,7 @@ use at_atp::{Key, Packet};
 use at_ddp::Pascal;
 use at_node::Report;
 use at_world::World;
+use at_zip::Which;
 use std::alloc::Allocator;
 
 /// Prints the report of an event.
@@ -96,7 +97,7 @@ fn write_report<A: Allocator, W: Paper>(printer: &mut Printer<W>, line: Piece, r
         Report::Asked { key, user, data_ } => {
             write_asked(printer, line, *key, *user, data_.as_slice())
         }
-        Report::Zones(zones) => write_zones(printer, line, zones.as_slice()),
+        Report::Zones { which, names } => write_zones(printer, line, *which, names.as_slice()),
         Report::Response { tid, packets } => {
             write_response(printer, line, *tid, packets.as_slice())
         }
@@ -140,16 +141,27 @@ fn put_asked(line: &mut Piece, key: Key)
     line.put(b" ");
 }
 
-fn write_zones<W: Paper>(printer: &mut Printer<W>, line: Piece, zones: &[Pascal])
+fn write_zones<W: Paper>(printer: &mut Printer<W>, line: Piece, which: Which, zones: &[Pascal])
     requires { length line ≤ 21 }
     ensures { Prints W.page printer.old printer.new
-        (line ++ ((codes "zones" ++ flat_map zone_text zones.now) ++ codes "\n")) }
+        (line ++ ((table_word which ++ flat_map zone_text zones.now) ++ codes "\n")) }
 {
     let mut line = line;
-    line.put(b"zones");
+    line.put(table_word(which));
     printer.write_all(line.text());
     write_each_zone(printer, zones);
     printer.write_all(b"\n");
+}
+
+// The word for a list of the zones of this table.
+fn table_word(which: Which) -> &'static [u8]
+    ensures word { result.now ≡ table_word which }
+    ensures short { length result.now ≤ 10 }
+{
+    match which {
+        Which::All => b"zones",
+        Which::Local => b"localzones",
+    }
 }
 
 fn write_each_zone<W: Paper>(printer: &mut Printer<W>, zones: &[Pascal])

@@ -1,28 +1,29 @@
--- What a node keeps of what its user was told (Inside AppleTalk, ZIP, "GetZoneList"; NBP, "Name lookup"). A user reads
--- the zone list, picks a zone of it, looks names up there, and connects to one that was found.
-use Rattle.std.specs.Prelude.{ℕ, Bool, List, [], ◌∷◌, slice_get, option_map, Option, Some, None}
+-- What a node keeps of what its user was told (Inside AppleTalk, ZIP, "GetZoneList", "GetLocalZones"; NBP, "Name
+-- lookup"). A user reads a zone list, picks a zone of it, looks names up there, and connects to one that was found.
+use Rattle.std.specs.Prelude.{ℕ, ◌||◌, Bool, List, [], ◌∷◌, slice_get, option_map, Option, Some, None}
 use Rattle.std.specs.List.{list_any}
 use Rattle.at_ddp.specs.declared.address.Address.{Address}
 use Rattle.at_nbp.specs.Names.{same_text}
 use Rattle.at_nbp.specs.declared.find.Find.{Find}
 use Rattle.at_nbp.specs.declared.name.Name.{Name}
+use Rattle.at_zip.specs.Tables.{Tables, with_table}
 use Rattle.at_event.specs.declared.event.Report.{Report}
 use Rattle.at_event.specs.declared.event.Report.TheVariants as report
 
 pub record SessionState : Type 0 where
-  pub zones : List (List ℕ)  -- the zone list of the last reading that ended with one
+  pub lists : Tables  -- the zone list of the last reading of each kind that ended with one
   pub picked : Option (List ℕ)  -- the zone that was picked last
   pub finds : List Find  -- what the last lookup found that ended, and was no claim
 
 -- nothing was told yet
 abbrev pub new_session : SessionState
-new_session = record { zones = []; picked = None; finds = [] }
+new_session = record { lists = record { all = []; local = [] }; picked = None; finds = [] }
 
 -- ---- zones
 
--- does the zone stand in the list that was read, but for the case of letters?
+-- does the zone stand in one of the lists that were read, but for the case of letters?
 abbrev pub is_listed : SessionState → List ℕ → Bool
-is_listed s zone = list_any (same_text zone) s.zones
+is_listed s zone = list_any (same_text zone) (s.lists).all || list_any (same_text zone) (s.lists).local
 
 -- the zone is kept as it was given
 abbrev pub picking : SessionState → List ℕ → SessionState
@@ -49,9 +50,9 @@ address_at s index = option_map (λ f. f.address) (slice_get s.finds index)
 
 -- ---- what is kept of a report
 
--- a reading that ends with a zone list leaves this list; any other report leaves the list before it
+-- a reading that ends with a zone list leaves this list of its kind; any other report leaves the lists before it
 abbrev pub list_kept : {A : Type 0} → SessionState → Report A → SessionState
-list_kept s (report.Zones names) = record s { zones = names }
+list_kept s (report.Zones which names) = record s { lists = with_table which names s.lists }
 list_kept s other = s
 
 -- a lookup that ends leaves what it found; a claim leaves what was found before it

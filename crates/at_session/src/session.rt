@@ -5,18 +5,21 @@ ghost use Rattle.at_nbp.specs.Names.{same_text as is_same_text};
 ghost use Rattle.at_session.specs.Sessions.{address_at, finds_kept, is_listed, list_kept, new_session};
 ghost use Rattle.at_session.specs.Sessions.{pattern_asked, picking, zone_asked};
 ghost use Rattle.std.specs.List.{list_any};
+ghost use Rattle.at_zip.specs.declared.request.Which.{Which};
 
 use at_ddp::{Address, Listed, Pascal, same_text};
 use at_event::{NodeFault, Report};
 use at_nbp::{Find, Name, copy_of};
+use at_zip::Which;
 use std::alloc::{Allocator, Global};
 use std::marker::Model;
 
-/// What a node keeps of what its user was told: the zone list that was read last, the zone that was picked last, and
-/// what the last lookup found.
+/// What a node keeps of what its user was told: the zone list of each kind that was read last, the zone that was picked
+/// last, and what the last lookup found.
 #[derive(Drop)]
 pub struct Session<A: Allocator = Global> {
-    zones: Listed<Pascal, A>,
+    all: Listed<Pascal, A>,
+    local: Listed<Pascal, A>,
     picked: Option<Pascal>,
     finds: Listed<Find, A>,
 }
@@ -26,7 +29,11 @@ impl<A: Allocator> Model for Session<A> {
 
     ghost Value = { SessionState };
 
-    ghost view = { λ s. record { zones = s.zones; picked = s.picked; finds = s.finds } };
+    ghost view = { λ s. record {
+      lists = record { all = s.all; local = s.local };
+      picked = s.picked;
+      finds = s.finds;
+    } };
 }
 
 impl<A: Allocator + Copy> Session<A> {
@@ -35,14 +42,15 @@ impl<A: Allocator + Copy> Session<A> {
         ensures { result ≡ new_session }
     {
         Session {
-            zones: Listed::from_vec(Vec::new(alloc)),
+            all: Listed::from_vec(Vec::new(alloc)),
+            local: Listed::from_vec(Vec::new(alloc)),
             picked: None,
             finds: Listed::from_vec(Vec::new(alloc)),
         }
     }
 
-    /// Picks a zone that stands in the zone list, whatever the case of its letters a to z. Refuses any other. This
-    /// needs no memory.
+    /// Picks a zone that stands in one of the zone lists, whatever the case of its letters a to z. Refuses any other.
+    /// This needs no memory.
     pub fn pick(&mut self, zone: &Pascal) -> Result<(), NodeFault>
         ensures ok { OnOk result (self.new ≡ picking self.old zone.now) }
         ensures listed { OnOk result (is_listed self.old zone.now ≡ true) }
@@ -50,7 +58,7 @@ impl<A: Allocator + Copy> Session<A> {
         ensures unlisted { OnErr result (is_listed self.old zone.now ≡ false) }
         ensures unchanged { OnErr result (self.new ≡ self.old) }
     {
-        if !stands_in(self.zones.as_slice(), zone) {
+        if !stands_in(self.all.as_slice(), zone) && !stands_in(self.local.as_slice(), zone) {
             return Err(NodeFault::ZoneNotListed);
         }
         self.picked = Some(copy_of(zone));
@@ -89,11 +97,15 @@ impl<A: Allocator + Copy> Session<A> {
 
     /// Keeps the zone list that a report tells of; `list` is that list, if it tells of one. This needs no memory.
     pub fn keep_list(&mut self, report: &Report<A>, list: Option<Listed<Pascal, A>>)
-        requires { (names : List (List ℕ)) → report.now ≡ Report.Zones names → list ≡ Some names }
+        requires { (which : Which) (names : List (List ℕ)) → report.now ≡ Report.Zones which names
+            → list ≡ Some names }
         ensures { self.new ≡ list_kept self.old report.now }
     {
-        if let (Report::Zones(_), Some(list)) = (report, list) {
-            self.zones = list;
+        if let (Report::Zones { which, .. }, Some(list)) = (report, list) {
+            match which {
+                Which::All => self.all = list,
+                Which::Local => self.local = list,
+            }
         }
     }
 

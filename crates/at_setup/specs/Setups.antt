@@ -2,6 +2,7 @@
 use Rattle.std.specs.Prelude.{ℕ, ◌==◌, ◌&&◌, ◌||◌, nat_le, nat_lt, if◌then◌else◌, Bool, false, List, length}
 use Rattle.std.specs.Prelude.{count_by, is_none, Option, Some, None}
 use Rattle.std.specs.List.{list_all, list_any}
+use Rattle.at_zip.specs.Tables.{Tables}
 use Rattle.at_zip.specs.Zones.{is_name, table_fault}
 use Rattle.at_setup.specs.declared.setup.NodeSetup.{NodeSetup}
 use Rattle.at_setup.specs.declared.setup.Setup.{Setup}
@@ -39,6 +40,11 @@ are_lawful_nodes ns =
 abbrev pub is_lawful_table : Bool → List (List ℕ) → Bool
 is_lawful_table router names = is_none (table_fault names) && (router || (length names == 0))
 
+-- the two tables of its router
+abbrev pub tables_of : {A : Type 0} → Setup A → Tables
+tables_of s = record { all = s.zones; local = s.local }
+
 abbrev pub is_lawful : {A : Type 0} → Setup A → Bool
 is_lawful s =
     nat_lt 0 s.net && nat_lt s.net 65536 && are_lawful_nodes s.nodes && is_lawful_table (has_router s.nodes) s.zones
+    && is_lawful_table (has_router s.nodes) s.local

@@ -22,14 +22,16 @@ pub struct NodeSetup {
 }
 
 /// A cable and its nodes. There are at most 16 nodes with different numbers, and at most one of them is the router.
-/// With a router each node has a zone of 1 to 32 bytes. Without one no node has a zone, and there is no zone table.
+/// With a router each node has a zone of 1 to 32 bytes. Without one no node has a zone, and both zone tables are empty.
 #[derive(Drop)]
 pub struct Setup<A: Allocator = Global> {
     /// The number of the network, 1 to 65,535.
     pub net: u16,
     pub nodes: Listed<NodeSetup, A>,
-    /// The router's zone table: at most 1,024 names of 1 to 32 bytes.
+    /// The router's table of all zones: at most 1,024 names of 1 to 32 bytes.
     pub zones: Listed<Pascal, A>,
+    /// The router's table of the zones of this cable, with the same limits. It need not be part of the other.
+    pub local: Listed<Pascal, A>,
 }
 
 impl<A: Allocator> Setup<A> {
@@ -44,6 +46,7 @@ impl<A: Allocator> Setup<A> {
         self.net > 0
             && are_lawful_nodes(nodes)
             && is_lawful_table(has_router(nodes), self.zones.as_slice())
+            && is_lawful_table(has_router(nodes), self.local.as_slice())
     }
 }
 

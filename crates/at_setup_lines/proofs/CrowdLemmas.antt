@@ -5,13 +5,13 @@ use Rattle.std.specs.Prelude.{count_by}
 use Rattle.std.specs.List.{list_all}
 use Rattle.std.proofs.lemmas.Bool.{and_parts, eq-eqb, false≢true, leb-true, ltb-true}
 use Rattle.std.proofs.lemmas.List.{length-append}
-use Rattle.at_setup.specs.Setups.{are_lawful_nodes, is_lawful, is_lawful_node, is_room}
+use Rattle.at_setup.specs.Setups.{are_lawful_nodes, is_lawful_node, is_room}
 use Rattle.at_setup.specs.declared.setup.NodeSetup.{NodeSetup}
 use Rattle.at_setup.specs.declared.setup.Setup.{Setup}
 use Rattle.at_setup_lines.specs.Drafts.{Draft, IsDraft, has_events}
 use Rattle.at_setup_lines.specs.NodeLists.{has_number, lacks_router}
 use Rattle.at_setup_lines.specs.SetupLines.{IsSetup}
-use Rattle.at_setup_lines.proofs.DraftLemmas.{lawful_nodes}
+use Rattle.at_setup_lines.proofs.LawfulLemmas.{lawful_nodes}
 use Rattle.at_setup_lines.proofs.FitLemmas.{fit_from}
 use Rattle.at_setup_lines.proofs.OneSetupLemmas.{first_nodes}
 use Rattle.at_setup_lines.proofs.RouterLemmas.{others, others_count, others_fewer}

@@ -1,12 +1,12 @@
 -- Which line makes a setup whole.
-use Rattle.std.proofs.Common.{arith, ◌≡◌, ℕ, ◌<◌, ◌≤◌, nat_le, List, [], ◌∷◌, ◌++◌, length, cond, Bool, true, false, not, ◌&&◌}
-use Rattle.std.proofs.Common.{Some, inl, inr, refl, sym, ap, subst, ◌∙◌, filter, map, append-nil}
+use Rattle.std.proofs.Common.{arith, ◌≡◌, ℕ, ◌<◌, ◌≤◌, nat_le, List, [], ◌∷◌, ◌++◌, length, cond, Bool, true, false}
+use Rattle.std.proofs.Common.{not, Some, inr, refl, sym, subst, ◌∙◌, filter, map, append-nil, ap, inl}
 use Rattle.std.specs.Fmt.{decimal}
 use Rattle.std.specs.Prelude.{codes}
-use Rattle.std.specs.List.{All, list_all}
+use Rattle.std.specs.List.{All}
 use Rattle.std.specs.Char.{digit_value}
 use Rattle.std.specs.Str.Parse.{AllDigits}
-use Rattle.std.proofs.lemmas.Bool.{and_from, cond-false, cond-true, false≢true, le-leb, ne_eqb, or_right}
+use Rattle.std.proofs.lemmas.Bool.{and_from, cond-false, cond-true, false≢true, le-leb, ne_eqb}
 use Rattle.std.proofs.lemmas.Fmt.{decimal_is_IsNumeral}
 use Rattle.std.proofs.lemmas.List.Elements.{All-cons, All-nil}
 use Rattle.std.proofs.lemmas.List.Splits.{slice_split_at}
@@ -17,11 +17,12 @@ use Rattle.at_setup.specs.Setups.{are_lawful_nodes, has_router}
 use Rattle.at_setup.specs.declared.setup.Setup.{Setup}
 use Rattle.at_setup_lines.specs.Drafts.{Draft, IsDraft, IsDraftAt, is_event, setup_of}
 use Rattle.at_setup_lines.specs.Endings.{CanEnd, HasPlace, router_line}
-use Rattle.at_setup_lines.specs.NodeLists.{have_zones, lacks_router}
+use Rattle.at_setup_lines.specs.NodeLists.{lacks_router}
 use Rattle.at_setup_lines.specs.SetupLines.{IsSetup, SaysNet, SaysNode, SaysPlace}
 use Rattle.at_setup_lines.specs.declared.draft.Stage.{Stage}
-use Rattle.at_setup_lines.specs.declared.draft.Stage.TheVariants.{Event, Net, Node, Table}
-use Rattle.at_setup_lines.proofs.DraftLemmas.{event_at_node, event_later, lawful_with, net_fits}
+use Rattle.at_setup_lines.specs.declared.draft.Stage.TheVariants.{Event, Local, Net, Node, Zones}
+use Rattle.at_setup_lines.proofs.EventLemmas.{event_at_node, event_later}
+use Rattle.at_setup_lines.proofs.LawfulLemmas.{net_fits, lawful_without}
 use Rattle.at_setup_lines.proofs.FitLemmas.{Fit, Placed, all_zoned, fit_from, lawful_if, none_zoned}
 use Rattle.at_setup_lines.proofs.HeadLemmas.{head_more}
 use Rattle.at_setup_lines.proofs.RouterLemmas.{router_at, router_follows}
@@ -84,7 +85,7 @@ place_of most d (byte, inr place) lacks few = place lacks
 module _ (A : Type 0) (most : ℕ) (d : Draft) (lines : List (List (List ℕ))) where
   as_it_is : IsSetup lines (setup_of d) → CanEnd A most d lines
   as_it_is h =
-      let s : Setup A = record { net = d.net; nodes = d.nodes; zones = d.zones } in
+      let s : Setup A = record { net = d.net; nodes = d.nodes; zones = d.zones; local = d.local } in
       record {
         more = [];
         setup = s;
@@ -98,14 +99,14 @@ module _ (A : Type 0) (most : ℕ) (d : Draft) (lines : List (List (List ℕ))) 
 
   with_net : d.stage ≡ Net → lines ≡ [] → d.nodes ≡ [] → CanEnd A most d lines
   with_net stage none no_nodes =
-      let s : Setup A = record { net = 1; nodes = []; zones = [] } in
+      let s : Setup A = record { net = 1; nodes = []; zones = []; local = [] } in
       record {
         more = codes "net 1" ∷ [];
         setup = s;
         ending = inr (inl refl);
         over = λ over. absurd (false≢true (sym (ap is_event stage) ∙ over));
         whole = subst (λ l. IsSetup (l ++ map words_of (codes "net 1" ∷ [])) s) (sym none)
-            (inl ((net_said, tt), refl), refl);
+            (inl (inl ((net_said, tt), refl), refl), refl);
         added = [];
         follows = sym (append-nil d.nodes ∙ no_nodes);
         small = refl;
@@ -113,21 +114,24 @@ module _ (A : Type 0) (most : ℕ) (d : Draft) (lines : List (List (List ℕ))) 
 
   with_router : d.stage ≡ Node → IsDraftAt Node lines d → most < 255 → (k : ℕ) → 0 < k → k ≤ most
       → are_lawful_nodes (d.nodes ++ router_at k ∷ []) ≡ true → CanEnd A most d lines
-  with_router stage (say, none, begin) byte k some few lawful =
+  with_router stage (say, none, no_local, begin) byte k some few lawful =
       let nodes = d.nodes ++ router_at k ∷ [] in
       let small : k < 255 = omega (arith, byte, few) in
       record {
         more = router_line k ∷ [];
-        setup = record { net = d.net; nodes = nodes; zones = [] };
+        setup = record { net = d.net; nodes = nodes; zones = []; local = [] };
         ending = inr (inr (k, few, refl));
         over = λ over. absurd (false≢true (sym (ap is_event stage) ∙ over));
         whole = (
           inl (
-            head_more lines d.net d.nodes (words_of (router_line k)) (router_at k) say (router_said k some small),
+            inl (
+              head_more lines d.net d.nodes (words_of (router_line k)) (router_at k) say (router_said k some small),
+              refl,
+            ),
             refl,
           ),
-          lawful_with (record { stage = Node; net = d.net; nodes = nodes; zones = [] })
-              (net_fits lines d.net d.nodes say) lawful (or_right (has_router nodes) true refl),
+          lawful_without (record { stage = Node; net = d.net; nodes = nodes; zones = []; local = [] })
+              (net_fits lines d.net d.nodes say) lawful refl refl,
         );
         added = router_at k ∷ [];
         follows = refl;
@@ -149,17 +153,18 @@ module _ (A : Type 0) (most : ℕ) (d : Draft) (lines : List (List (List ℕ))) 
       → CanEnd A most d lines
   node_by place false fits stage h = as_it_is (event_at_node d stage fits lines h)
   node_by place true lacks stage h =
-      let (say, none, (more, lawful)) = subst (λ st. IsDraftAt st lines d) stage h in
+      let (say, none, no_local, (more, lawful)) = subst (λ st. IsDraftAt st lines d) stage h in
       let f = fit_from d.nodes more lawful in
-      lacking_by place stage (say, none, (more, lawful)) lacks f f.placed
+      lacking_by place stage (say, none, no_local, (more, lawful)) lacks f f.placed
 
   stage_by : HasPlace most d → (st : Stage) → d.stage ≡ st → IsDraft lines d → CanEnd A most d lines
   stage_by place Net stage h =
       let drafted = subst (λ st. IsDraftAt st lines d) stage h in
       with_net stage drafted.0 drafted.2
   stage_by place Node stage h = node_by place (lacks_router d.nodes) refl stage h
-  stage_by place Table stage h = as_it_is (event_later d (inl stage) lines h)
-  stage_by place Event stage h = as_it_is (event_later d (inr stage) lines h)
+  stage_by place Zones stage h = as_it_is (event_later d (inl stage) lines h)
+  stage_by place Local stage h = as_it_is (event_later d (inr (inl stage)) lines h)
+  stage_by place Event stage h = as_it_is (event_later d (inr (inr stage)) lines h)
 
 pub can_end : (A : Type 0) (most : ℕ) (d : Draft) (lines : List (List (List ℕ))) → HasPlace most d → IsDraft lines d
     → CanEnd A most d lines

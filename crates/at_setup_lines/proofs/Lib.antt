@@ -1,9 +1,11 @@
 mod CrowdLemmas
 mod DraftLemmas
 mod EndingLemmas
+mod EventLemmas
 mod FirstWordLemmas
 mod FitLemmas
 mod HeadLemmas
+mod LawfulLemmas
 mod LineLemmas
 mod NameLemmas
 mod OneSetupLemmas
@@ -11,3 +13,4 @@ mod RouterLemmas
 mod RuleLemmas
 mod SaidLemmas
 mod TableLemmas
+mod TableLineLemmas

@@ -1,12 +1,12 @@
 -- What the words of a line say, and that they say one thing.
 use Rattle.std.proofs.Common.{◌≡◌, ◌≢◌, inl, inr, ℕ, Bool, true, false, List, [], ◌∷◌, ◌++◌, Option, Some, None, refl}
-use Rattle.std.proofs.Common.{sym, ap, subst, ◌∙◌, arith}
+use Rattle.std.proofs.Common.{sym, subst, ◌∙◌, arith, ap}
 use Rattle.std.specs.Prelude.{codes}
-use Rattle.std.specs.List.{AllZip, slice_index}
+use Rattle.std.specs.List.{slice_index}
 use Rattle.at_words.specs.Numbers.{IsNode, IsPositive}
 use Rattle.at_words.specs.Texts.{IsZoneName}
 use Rattle.at_setup.specs.declared.setup.NodeSetup.{NodeSetup}
-use Rattle.at_setup_lines.specs.SetupLines.{SaysNet, SaysNode, SaysPlace, SaysRooms, SaysRouter, SaysZones}
+use Rattle.at_setup_lines.specs.SetupLines.{SaysNet, SaysNode, SaysPlace, SaysRooms, SaysRouter}
 use Rattle.at_setup_lines.proofs.NameLemmas.{same_name}
 
 first_of : List (List ℕ) → List ℕ
@@ -208,25 +208,6 @@ same_node ws n m (w, rs, ps, is, number, router, place) h =
     same_rest (rs ++ ps) n.router n.zone n.receive_room n.send_room m.router m.zone m.receive_room m.send_room
     (rs, ps, refl, router, place) rest in
     λ i. record { node = node i; router = routers i; zone = zones i; receive_room = receive i; send_room = send i }
-
--- ---- the zones
-
-same_names : (words : List (List ℕ)) (xs ys : List (List ℕ)) → AllZip IsZoneName words xs → AllZip IsZoneName words ys
-    → xs ≡ ys
-same_names [] [] [] h g = refl
-same_names [] [] (y ∷ ys) h g = absurd g
-same_names [] (x ∷ xs) ys h g = absurd h
-same_names (w ∷ words) [] ys h g = absurd h
-same_names (w ∷ words) (x ∷ xs) [] h g = absurd g
-same_names (w ∷ words) (x ∷ xs) (y ∷ ys) h g =
-    let one = same_name w x y h.0 g.0 in
-    let rest = same_names words xs ys h.1 g.1 in
-    λ i. one i ∷ rest i
-
-pub same_zones : (ws : List (List ℕ)) (xs ys : List (List ℕ)) → SaysZones ws xs → SaysZones ws ys → xs ≡ ys
-same_zones ws xs ys (words, is, are) (others, same, all) =
-    let e = rest_same (codes "zones") (codes "zones") words others (sym is ∙ same) in
-    same_names words xs ys are (subst (λ l. AllZip IsZoneName l ys) (sym e) all)
 
 -- ---- after `router` is taken or not
 

@@ -1,5 +1,5 @@
 -- A word spells one name, whose bytes are bytes.
-use Rattle.std.proofs.Common.{arith, length, ◌≡◌, ◌<◌, ℕ, List, [], ◌∷◌, ◌++◌, Result, Ok, inl, inr, refl, sym, ap}
+use Rattle.std.proofs.Common.{arith, length, ◌≡◌, ◌<◌, ℕ, List, [], ◌∷◌, ◌++◌, inl, inr, refl, sym, ap}
 use Rattle.std.proofs.Common.{subst, ◌∙◌}
 use Rattle.std.specs.Prelude.{codes}
 use Rattle.at_words.proofs.Digits.{same_byte, two_digits}

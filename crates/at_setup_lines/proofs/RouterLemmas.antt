@@ -78,7 +78,8 @@ router_follows most ns byte place f lone zoned few =
     let lawful : is_lawful_node r ≡ true =
     and_from (nat_lt 0 k && nat_lt k 255 && is_room 64) (is_room 64)
     (and_from (nat_lt 0 k && nat_lt k 255) (is_room 64)
-    (and_from (nat_lt 0 k) (nat_lt k 255) (lt-ltb 0 k positive) (lt-ltb k 255 (omega (arith, small, byte)))) refl) refl in
+    (and_from (nat_lt 0 k) (nat_lt k 255) (lt-ltb 0 k positive)
+    (lt-ltb k 255 (omega (arith, small, byte)))) refl) refl in
     let has : has_router (ns ++ r ∷ []) ≡ true = list_any-append (λ n. n.router) ns (r ∷ [])
     ∙ or_right (has_router ns) true refl in
     let all : all_zoned (ns ++ r ∷ []) ≡ true = list_all-append (λ n. is_zone n.zone) ns (r ∷ [])

@@ -1,11 +1,11 @@
 -- What was read of the lines of a setup.
-use Rattle.std.specs.Prelude.{◌≡◌, ◌==◌, if◌then◌else◌, ℕ, Bool, true, false, List, [], ◌∷◌, ◌++◌}
+use Rattle.std.specs.Prelude.{◌≡◌, ◌==◌, if◌then◌else◌, ℕ, Bool, true, false, List, [], ◌∷◌, ◌++◌, codes}
 use Rattle.at_faults.specs.declared.rule.Rule.{Rule}
 use Rattle.at_faults.specs.declared.rule.Rule.TheVariants.{NetFirst, NoNet, NoRouter, RouterMissing}
 use Rattle.at_setup_lines.specs.NodeLists.{BeginNodes}
-use Rattle.at_setup_lines.specs.SetupLines.{BeginSetup, IsSetup, SayHead, SayTable}
+use Rattle.at_setup_lines.specs.SetupLines.{BeginSetup, EndInTable, IsSetup, SayHead, SayZones}
 use Rattle.at_setup_lines.specs.declared.draft.Stage.{Stage}
-use Rattle.at_setup_lines.specs.declared.draft.Stage.TheVariants.{Event, Net, Node, Table}
+use Rattle.at_setup_lines.specs.declared.draft.Stage.TheVariants.{Event, Local, Net, Node, Zones}
 use Rattle.at_setup.specs.Setups.{is_lawful}
 use Rattle.at_setup.specs.declared.setup.NodeSetup.{NodeSetup}
 use Rattle.at_setup.specs.declared.setup.Setup.{Setup}
@@ -16,15 +16,17 @@ pub record Draft : Type 0 where
   pub net : ℕ
   pub nodes : List NodeSetup
   pub zones : List (List ℕ)
+  pub local : List (List ℕ)
 
 -- the setup so far, wherever it lies in memory
 abbrev pub setup_of : Draft → Setup (Unit {0})
-setup_of d = record { net = d.net; nodes = d.nodes; zones = d.zones }
+setup_of d = record { net = d.net; nodes = d.nodes; zones = d.zones; local = d.local }
 
 abbrev pub is_event : Stage → Bool
 is_event Net = false
 is_event Node = false
-is_event Table = false
+is_event Zones = false
+is_event Local = false
 is_event Event = true
 
 -- an event came, so the lines of the setup are over
@@ -33,9 +35,14 @@ has_events d = is_event d.stage
 
 -- at each stage, what the lines so far say
 abbrev pub IsDraftAt : Stage → List (List (List ℕ)) → Draft → Type 0
-IsDraftAt Net lines d = (lines ≡ []) × (d.net ≡ 0) × (d.nodes ≡ []) × (d.zones ≡ [])
-IsDraftAt Node lines d = SayHead lines d.net d.nodes × (d.zones ≡ []) × BeginNodes d.nodes
-IsDraftAt Table lines d = SayTable lines d.net d.nodes d.zones × (is_lawful (setup_of d) ≡ true)
+IsDraftAt Net lines d = (lines ≡ []) × (d.net ≡ 0) × (d.nodes ≡ []) × (d.zones ≡ []) × (d.local ≡ [])
+IsDraftAt Node lines d = SayHead lines d.net d.nodes × (d.zones ≡ []) × (d.local ≡ []) × BeginNodes d.nodes
+IsDraftAt Zones lines d =
+    EndInTable (codes "zones") (λ head. SayHead head d.net d.nodes) d.nodes lines d.zones × (d.local ≡ [])
+    × (is_lawful (setup_of d) ≡ true)
+IsDraftAt Local lines d =
+    EndInTable (codes "local") (λ front. SayZones front d.net d.nodes d.zones) d.nodes lines d.local
+    × (is_lawful (setup_of d) ≡ true)
 IsDraftAt Event lines d = IsSetup lines (setup_of d)
 
 -- this was read of these lines, and more lines may follow until an event comes
@@ -46,7 +53,8 @@ IsDraft lines d = IsDraftAt d.stage lines d
 abbrev pub event_rule : Stage → Rule
 event_rule Net = NetFirst
 event_rule Node = RouterMissing
-event_rule Table = RouterMissing
+event_rule Zones = RouterMissing
+event_rule Local = RouterMissing
 event_rule Event = RouterMissing
 
 -- the rule that the end of the lines breaks: there is no network, or no router

@@ -38,24 +38,36 @@ SaysNode ws node =
     (number : List ℕ) × (rs ps : List (List ℕ)) × (ws ≡ codes "node" ∷ number ∷ rs ++ ps)
     × IsNode number node.node × SaysRouter rs node.router × SaysPlace ps node.zone node.receive_room node.send_room
 
--- `zones` and a word for each name
-abbrev pub SaysZones : List (List ℕ) → List (List ℕ) → Type 0
-SaysZones ws names = (words : List (List ℕ)) × (ws ≡ codes "zones" ∷ words) × AllZip IsZoneName words names
+-- the word of a zone table, `zones` or `local`, and a word for each name
+abbrev pub SaysTable : List ℕ → List (List ℕ) → List (List ℕ) → Type 0
+SaysTable word ws names = (words : List (List ℕ)) × (ws ≡ word ∷ words) × AllZip IsZoneName words names
 
 -- the first line says the network, and each line after it says a node
 abbrev pub SayHead : List (List (List ℕ)) → ℕ → List NodeSetup → Type 0
 SayHead [] net nodes = ⊥
 SayHead (line ∷ lines) net nodes = SaysNet line net × AllZip SaysNode lines nodes
 
--- the same with a last line that says the zones, which only a router has
-abbrev pub SayTable : List (List (List ℕ)) → ℕ → List NodeSetup → List (List ℕ) → Type 0
-SayTable lines net nodes zones =
-    (head : List (List (List ℕ))) × (line : List (List ℕ)) × (lines ≡ head ++ line ∷ [])
-    × SayHead head net nodes × SaysZones line zones × (has_router nodes ≡ true)
+-- lines with `Before`, and then a line that says a zone table, which only a router has
+abbrev pub EndInTable : List ℕ → (List (List (List ℕ)) → Type 0) → List NodeSetup → List (List (List ℕ))
+    → List (List ℕ) → Type 0
+EndInTable word Before nodes lines names =
+    (front : List (List (List ℕ))) × (line : List (List ℕ)) × (lines ≡ front ++ line ∷ [])
+    × Before front × SaysTable word line names × (has_router nodes ≡ true)
 
--- the lines say a setup: its network, its nodes, and its zones if it has any
+-- the same, or the lines with `Before` alone, and then the table is empty
+abbrev pub MayEndInTable : List ℕ → (List (List (List ℕ)) → Type 0) → List NodeSetup → List (List (List ℕ))
+    → List (List ℕ) → Type 0
+MayEndInTable word Before nodes lines names =
+    (Before lines × (names ≡ [])) ⊎ EndInTable word Before nodes lines names
+
+-- the lines say a network and nodes, and then perhaps all zones
+abbrev pub SayZones : List (List (List ℕ)) → ℕ → List NodeSetup → List (List ℕ) → Type 0
+SayZones lines net nodes zones = MayEndInTable (codes "zones") (λ head. SayHead head net nodes) nodes lines zones
+
+-- the lines say a setup: its network and nodes, then perhaps all zones, and then perhaps the local zones
 abbrev pub AreSetup : {A : Type 0} → List (List (List ℕ)) → Setup A → Type 0
-AreSetup lines s = (SayHead lines s.net s.nodes × (s.zones ≡ [])) ⊎ SayTable lines s.net s.nodes s.zones
+AreSetup lines s =
+    MayEndInTable (codes "local") (λ front. SayZones front s.net s.nodes s.zones) s.nodes lines s.local
 
 -- the lines say this setup, and it is lawful
 abbrev pub IsSetup : {A : Type 0} → List (List (List ℕ)) → Setup A → Type 0

@@ -20,10 +20,12 @@ use std::marker::Model;
 enum Stage {
     /// The network.
     Net,
-    /// A node, the zone table or an event.
+    /// A node, a zone table or an event.
     Node,
-    /// An event, after the zone table.
-    Table,
+    /// The table of local zones or an event, after the table of all zones.
+    Zones,
+    /// An event, after the table of local zones.
+    Local,
     /// An event, after another one.
     Event,
 }
@@ -36,6 +38,7 @@ pub struct SetupDraft<A: Allocator = Global> {
     net: u16,
     nodes: Vec<NodeSetup, A>,
     zones: Vec<Pascal, A>,
+    local: Vec<Pascal, A>,
 }
 
 impl<A: Allocator> Model for SetupDraft<A> {
@@ -43,7 +46,13 @@ impl<A: Allocator> Model for SetupDraft<A> {
 
     ghost Value = { Draft };
 
-    ghost view = { λ d. record { stage = d.stage; net = d.net; nodes = d.nodes.items; zones = d.zones.items } };
+    ghost view = { λ d. record {
+      stage = d.stage;
+      net = d.net;
+      nodes = d.nodes.items;
+      zones = d.zones.items;
+      local = d.local.items;
+    } };
 }
 
 impl<A: Allocator + Copy> SetupDraft<A> {
@@ -58,6 +67,7 @@ impl<A: Allocator + Copy> SetupDraft<A> {
             net: 0,
             nodes: Vec::new(alloc),
             zones: Vec::new(alloc),
+            local: Vec::new(alloc),
         }
     }
 
@@ -83,6 +93,8 @@ impl<A: Allocator + Copy> SetupDraft<A> {
             self.take_node(words)
         } else if is_word(word, b"zones") {
             self.take_zones(words)
+        } else if is_word(word, b"local") {
+            self.take_local(words)
         } else {
             Err(LineFault::Unlawful(Rule::FirstWord))
         }
@@ -120,7 +132,9 @@ impl<A: Allocator + Copy> SetupDraft<A> {
         let node = node_of(words).ok_or(LineFault::Unlawful(Rule::Node))?;
         match self.stage {
             Stage::Net => return Err(LineFault::Unlawful(Rule::NetFirst)),
-            Stage::Table | Stage::Event => return Err(LineFault::Unlawful(Rule::NodesFirst)),
+            Stage::Zones | Stage::Local | Stage::Event => return Err(LineFault::Unlawful(
+                Rule::NodesFirst,
+            )),
             Stage::Node => {}
         }
         if let Some(rule) = rule_broken_by(&self.nodes, &node) {
@@ -130,7 +144,7 @@ impl<A: Allocator + Copy> SetupDraft<A> {
         Ok(())
     }
 
-    // Takes the line of the zone table, after its first word.
+    // Takes the line of the table of all zones, after its first word.
     fn take_zones(&mut self, words: Words<'_>) -> Result<(), LineFault>
         ensures taken { OnOk result (Takes self.old (codes "zones" ∷ words_of words.entry.rest.now) self.new) }
         ensures kept { OnErr result (self.new ≡ self.old) }
@@ -141,14 +155,37 @@ impl<A: Allocator + Copy> SetupDraft<A> {
     {
         match self.stage {
             Stage::Net => return Err(LineFault::Unlawful(Rule::NetFirst)),
-            Stage::Table | Stage::Event => return Err(LineFault::Unlawful(Rule::ZonesOnce)),
+            Stage::Local => return Err(LineFault::Unlawful(Rule::ZonesFirst)),
+            Stage::Zones | Stage::Event => return Err(LineFault::Unlawful(Rule::ZonesOnce)),
             Stage::Node => {}
         }
         if !has_router(&self.nodes) {
             return Err(LineFault::Unlawful(Rule::ZonesOfRouter));
         }
-        self.zones = table_of(self.alloc, words)?;
-        self.stage = Stage::Table;
+        self.zones = table_of(self.alloc, words, Rule::Zones, Rule::ZonesFitTable)?;
+        self.stage = Stage::Zones;
+        Ok(())
+    }
+
+    // Takes the line of the table of local zones, after its first word.
+    fn take_local(&mut self, words: Words<'_>) -> Result<(), LineFault>
+        ensures taken { OnOk result (Takes self.old (codes "local" ∷ words_of words.entry.rest.now) self.new) }
+        ensures kept { OnErr result (self.new ≡ self.old) }
+        ensures only { IfErr result (λ fault. fault ≢ LineFault.NoMemory
+            → Refuses A self.old (codes "local" ∷ words_of words.entry.rest.now)) }
+        ensures early { OnOk result (has_events self.new ≡ false) }
+        ensures late { has_events self.old ≡ true → IsErr result }
+    {
+        match self.stage {
+            Stage::Net => return Err(LineFault::Unlawful(Rule::NetFirst)),
+            Stage::Local | Stage::Event => return Err(LineFault::Unlawful(Rule::LocalOnce)),
+            Stage::Node | Stage::Zones => {}
+        }
+        if !has_router(&self.nodes) {
+            return Err(LineFault::Unlawful(Rule::LocalOfRouter));
+        }
+        self.local = table_of(self.alloc, words, Rule::Local, Rule::LocalFitsTable)?;
+        self.stage = Stage::Local;
         Ok(())
     }
 
@@ -167,7 +204,7 @@ impl<A: Allocator + Copy> SetupDraft<A> {
                     return Err(Rule::RouterMissing);
                 }
             }
-            Stage::Table | Stage::Event => {}
+            Stage::Zones | Stage::Local | Stage::Event => {}
         }
         self.stage = Stage::Event;
         Ok(())
@@ -183,19 +220,29 @@ impl<A: Allocator + Copy> SetupDraft<A> {
             net,
             nodes,
             zones,
+            local,
             ..
         } = self;
         let setup = Setup {
             net,
             nodes: Listed::from_vec(nodes),
             zones: Listed::from_vec(zones),
+            local: Listed::from_vec(local),
         };
         if setup.is_lawful() {
             Ok(setup)
-        } else if net == 0 {
-            Err(Rule::NoNet)
         } else {
-            Err(Rule::NoRouter)
+            Err(missing_after(net))
         }
+    }
+}
+
+fn missing_after(net: u16) -> Rule
+    ensures { result ≡ end_rule net }
+{
+    if net == 0 {
+        Rule::NoNet
+    } else {
+        Rule::NoRouter
     }
 }

@@ -17,7 +17,7 @@ pub fn each_draft_can_end<A: Allocator>()
         → CanEnd A most d lines }
 {}
 
-/// Each line of a setup begins with one of three words.
+/// Each line of a setup begins with one of four words.
 pub fn lines_begin_with_known_words<A: Allocator>()
     ensures setups { (lines : List (List (List ℕ))) (s : Said A) → IsSetup lines s → HaveHeads lines }
     ensures drafts { (lines : List (List (List ℕ))) (d : Draft) → IsDraft lines d → HaveHeads lines }

@@ -1,5 +1,5 @@
-//! The lines of a setup: `net`, then a `node` for each node, and `zones` for the router's table. A draft takes one line
-//! after another, and refuses a line with which no setup begins.
+//! The lines of a setup: `net`, then a `node` for each node, and `zones` and `local` for the router's two tables. A
+//! draft takes one line after another, and refuses a line with which no setup begins.
 #![tactic(auto)]
 
 mod draft;

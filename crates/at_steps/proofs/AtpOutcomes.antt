@@ -24,7 +24,9 @@ use Rattle.at_atp_responder.specs.declared.reception.Reception.{Reception}
 use Rattle.at_atp_responder.specs.declared.reception.Reception.TheVariants as reception
 use Rattle.at_zip.specs.Fault as zip
 use Rattle.at_zip.specs.Page.{Page}
+use Rattle.at_zip.specs.Tables.{Tables, table_of}
 use Rattle.at_zip.specs.Zones.{table_fault}
+use Rattle.at_zip.specs.declared.request.Which.{Which}
 use Rattle.at_zip.specs.declared.fault.ZipFault.{ZipFault}
 use Rattle.at_node.specs.AtpHearing.{AtSocket, AtpSocket, HearsAt, Requester, Service, Zones as ZoneSocket}
 use Rattle.at_node.specs.AtpParts.{AtpState, Reading, after_heard, asking as asker, asks, packet_in, serving, tid_of}
@@ -39,7 +41,7 @@ use Rattle.at_event.specs.Seats.{at_socket}
 use Rattle.at_node.specs.ServiceSocket.{AtService, answer_called, answered_with, at_service, sent_by_reply}
 use Rattle.at_node.specs.ServiceSocket.{service_taken}
 use Rattle.at_node.specs.ZoneReading.{AsksOn, ReadsPage, TakesPage, after_failing, is_page, is_reading, names_read}
-use Rattle.at_node.specs.ZoneReading.{page_transaction, reading_begins, zones_called}
+use Rattle.at_node.specs.ZoneReading.{page_transaction, reading_begins, table_read, zones_called}
 use Rattle.at_node.specs.ZoneSocket.{AtZones, at_zones, page_packet, set_zones_called, table_set, zone_taken}
 use Rattle.at_event.specs.declared.event.Call.{Call}
 use Rattle.at_event.specs.declared.event.Call.TheVariants.{Zones, SetZones, Ask, Answer, Pick, Find, Claim, Finish}
@@ -101,24 +103,26 @@ module _ (A : Type 0) (call : Call A) (a : AtpState) where
   asking_bytes s to user bytes wanted xo retries false = asking s to user bytes wanted xo retries
       (next_number a.requester)
 
-  reading : (s : Seat) (router : ℕ) (o : Option ℕ) → IsOfTransactions A (Calls call) (reading_begins s a router o)
-  reading s router None = call_refused (atp.number_of Full)
-  reading s router (Some tid) = ((refl, tt), tt)
+  reading : (s : Seat) (kind : Which) (router : ℕ) (o : Option ℕ)
+      → IsOfTransactions A (Calls call) (reading_begins s a kind router o)
+  reading s kind router None = call_refused (atp.number_of Full)
+  reading s kind router (Some tid) = ((refl, tt), tt)
 
-  reading_zones : (s : Seat) (router : Option ℕ) (now : Option Reading)
-      → IsOfTransactions A (Calls call) (zones_called s a router now)
-  reading_zones s None now = (tt, tt)
-  reading_zones s (Some router) (Some r) = (tt, tt)
-  reading_zones s (Some router) None = reading s router (next_number a.requester)
+  reading_zones : (s : Seat) (kind : Which) (router : Option ℕ) (now : Option Reading)
+      → IsOfTransactions A (Calls call) (zones_called s a kind router now)
+  reading_zones s kind None now = (tt, tt)
+  reading_zones s kind (Some router) (Some r) = (tt, tt)
+  reading_zones s kind (Some router) None = reading s kind router (next_number a.requester)
 
-  setting : (names : List (List ℕ)) (o : Option ZipFault) → IsOfTransactions A (Calls call) (table_set a names o)
-  setting names None = (tt, tt)
-  setting names (Some fault) = call_refused (zip.number_of fault)
+  setting : (tables : Tables) (kind : Which) (names : List (List ℕ)) (o : Option ZipFault)
+      → IsOfTransactions A (Calls call) (table_set a tables kind names o)
+  setting tables kind names None = (tt, tt)
+  setting tables kind names (Some fault) = call_refused (zip.number_of fault)
 
-  setting_zones : (names : List (List ℕ)) (now : Option (List (List ℕ)))
-      → IsOfTransactions A (Calls call) (set_zones_called a now names)
-  setting_zones names None = (tt, tt)
-  setting_zones names (Some table) = setting names (table_fault names)
+  setting_zones : (kind : Which) (names : List (List ℕ)) (now : Option Tables)
+      → IsOfTransactions A (Calls call) (set_zones_called a now kind names)
+  setting_zones kind names None = (tt, tt)
+  setting_zones kind names (Some tables) = setting tables kind names (table_fault names)
 
   answering : (s : Seat) (key : Key) (packets : List Packet) (o : Option AtpFault)
       → IsOfTransactions A (Calls call) (answered_with s a key packets o)
@@ -130,19 +134,19 @@ module _ (A : Type 0) (call : Call A) (a : AtpState) where
 
 pub call_of_atp : (A : Type 0) (n : NodeState) (call : Call A) → is_atp (kind_of_call call) ≡ true
     → ComesOfAtp A n (Calls call) (called n call)
-call_of_atp A n Zones h = record {
-  part = zones_called n.seat n.atp n.seat.router n.atp.reading;
+call_of_atp A n (Zones kind) h = record {
+  part = zones_called n.seat n.atp kind n.seat.router n.atp.reading;
   kept = n.session;
   is = refl;
   keeps = refl;
-  its = reading_zones A Zones n.atp n.seat n.seat.router n.atp.reading;
+  its = reading_zones A (Zones kind) n.atp n.seat kind n.seat.router n.atp.reading;
 }
-call_of_atp A n (SetZones names) h = record {
-  part = set_zones_called n.atp n.atp.table names;
+call_of_atp A n (SetZones kind names) h = record {
+  part = set_zones_called n.atp n.atp.tables kind names;
   kept = n.session;
   is = refl;
   keeps = refl;
-  its = setting_zones A (SetZones names) n.atp names n.atp.table;
+  its = setting_zones A (SetZones kind names) n.atp kind names n.atp.tables;
 }
 call_of_atp A n (Ask node socket user bytes wanted xo retries) h = record {
   part = ask_called n.seat n.atp (at_socket n.seat node socket) user bytes wanted xo retries;
@@ -246,12 +250,13 @@ module _ (A : Type 0) (s : Seat) (a : AtpState) (which : ℕ) where
   paging h from names q o = go (nat_lt 1024 (length names + length q.names)) q.last
     where
       go : (long last : Bool) → MatchBool long (o ≡ after_heard s a h (report.ZoneFault 34) None)
-          (MatchBool last (o ≡ after_heard s a h (report.Zones (names ++ q.names)) None)
+          (MatchBool last (o ≡ after_heard s a h (report.Zones (table_read a.reading) (names ++ q.names)) None)
           (AsksOn s a h from (names ++ q.names) o)) → IsOfTransactions A (Gets which) o
       go true last t = hearing o h (report.ZoneFault 34) None tt t
-      go false true t = hearing o h (report.Zones (names ++ q.names)) None tt t
+      go false true t = hearing o h (report.Zones (table_read a.reading) (names ++ q.names)) None tt t
       go false false t = by o (asks s (record a { requester = h.after })
-          (Some (record { tid = t.tid; names = names ++ q.names })) (page_transaction from (names ++ q.names) t.tid))
+          (Some (record { which = table_read a.reading; tid = t.tid; names = names ++ q.names }))
+          (page_transaction from (table_read a.reading) (names ++ q.names) t.tid))
           t.outcome ((refl, tt), tt)
 
   reading_page : (h : Heard A) (from : Address) (names : List (List ℕ)) (p : Packet) (o : Outcome A AtpState)
@@ -310,17 +315,17 @@ module _ (A : Type 0) (s : Seat) (a : AtpState) (which : ℕ) where
   zones t packet (reception.New key) =
       (all_atp (zones_at s.net s.number) (spelled_all (asked_for (find (is_key key) t.after) key (packet ∷ []))), tt)
 
-  serves_zones : (from : Address) (table : List (List ℕ)) (f : Content) (o : Outcome A AtpState)
-      → AtZones s a from table f o → IsOfTransactions A (Gets which) o
-  serves_zones from table (Request mask xo timer tid user bytes) o (inr at) = ignored o at.1
-  serves_zones from table (Request mask xo timer tid user bytes) o (inl at) =
+  serves_zones : (from : Address) (tables : Tables) (f : Content) (o : Outcome A AtpState)
+      → AtZones s a from tables f o → IsOfTransactions A (Gets which) o
+  serves_zones from tables (Request mask xo timer tid user bytes) o (inr at) = ignored o at.1
+  serves_zones from tables (Request mask xo timer tid user bytes) o (inl at) =
       let f : Content = Request mask xo timer tid user bytes in
       let t = taken a.zone_responder from f in
       full (finds_no_place a.zone_responder from f) o
-      (at_zones s a t (page_packet table at.start) t.reception) at.outcome
-      (zones t (page_packet table at.start) t.reception)
-  serves_zones from table (Response place eom sts tid user bytes) o at = ignored o at
-  serves_zones from table (Release tid) o at =
+      (at_zones s a t (page_packet (table_of at.which tables) at.start) t.reception) at.outcome
+      (zones t (page_packet (table_of at.which tables) at.start) t.reception)
+  serves_zones from tables (Response place eom sts tid user bytes) o at = ignored o at
+  serves_zones from tables (Release tid) o at =
       let t = taken a.zone_responder from (Release tid) in
       by o (zone_taken s a t (released_report t.reception)) at
       (all_atp (zones_at s.net s.number) (spelled_all t.sent), released t.reception)
@@ -329,7 +334,7 @@ module _ (A : Type 0) (s : Seat) (a : AtpState) (which : ℕ) where
       → AtSocket said s a from (Some x) f o → IsOfTransactions A (Gets which) o
   at_a_socket said from Requester f o at = at_requester from f o at
   at_a_socket said from Service f o at = serves said from f o at
-  at_a_socket said from (ZoneSocket table) f o at = serves_zones from table f o at
+  at_a_socket said from (ZoneSocket tables) f o at = serves_zones from tables f o at
 
   pub datagram_of_atp : (said : Reply A) (d : Datagram) (x : Option AtpSocket) (o : Outcome A AtpState)
       → HearsAt said s a d x o → IsOfTransactions A (Gets which) o

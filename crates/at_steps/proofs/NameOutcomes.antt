@@ -115,8 +115,8 @@ unregistering A n object kind (Some name) = (tt, (tt, tt))
 
 pub call_of_names : (A : Type 0) (n : NodeState) (call : Call A) → is_nbp (kind_of_call call) ≡ true
     → ComesOfNames A n (Calls call) (called n call)
-call_of_names A n Zones h = absurd (true≢false (sym h))
-call_of_names A n (SetZones names) h = absurd (true≢false (sym h))
+call_of_names A n (Zones kind) h = absurd (true≢false (sym h))
+call_of_names A n (SetZones kind names) h = absurd (true≢false (sym h))
 call_of_names A n (Ask node socket user bytes wanted xo retries) h = absurd (true≢false (sym h))
 call_of_names A n (Answer node socket tid packets) h = absurd (true≢false (sym h))
 call_of_names A n (Pick zone) h = absurd (true≢false (sym h))

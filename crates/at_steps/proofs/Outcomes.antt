@@ -67,12 +67,12 @@ pub record ComesByType (A : Type 0) (n : NodeState) (which : ℕ) (o : Outcome A
 -- another protocol tells of no zone list
 no_list_of_names : (A : Type 0) (s : SessionState) (which : ℕ) (r : Report A) → IsOfNbp (reporter_of r) → s
     ≡ list_kept s r
-no_list_of_names A s which (report.Zones names) h = absurd h
+no_list_of_names A s which (report.Zones kind names) h = absurd h
 no_list_of_names A s which r h = refl
 
 no_list_of_streams : (A : Type 0) (s : SessionState) (which : ℕ) (r : Report A) → IsOfAdsp (reporter_of r)
     → s ≡ list_kept s r
-no_list_of_streams A s which (report.Zones names) h = absurd h
+no_list_of_streams A s which (report.Zones kind names) h = absurd h
 no_list_of_streams A s which r h = refl
 
 -- what is sent by one type is not of another
@@ -85,8 +85,8 @@ others_sent kind other apart (o ∷ out) h = (ap (λ k. k == other) h.0 ∙ apar
 
 module _ (A : Type 0) (n : NodeState) where
   pub call_comes : (call : Call A) → Comes A n (Calls call) (called n call) (kind_of_call call)
-  call_comes Zones = call_of_atp A n Zones refl
-  call_comes (SetZones names) = call_of_atp A n (SetZones names) refl
+  call_comes (Zones kind) = call_of_atp A n (Zones kind) refl
+  call_comes (SetZones kind names) = call_of_atp A n (SetZones kind names) refl
   call_comes (Ask node socket user bytes wanted xo retries) =
       call_of_atp A n (Ask node socket user bytes wanted xo retries) refl
   call_comes (Answer node socket tid packets) = call_of_atp A n (Answer node socket tid packets) refl

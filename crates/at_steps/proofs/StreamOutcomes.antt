@@ -169,8 +169,8 @@ opening A index s t (Some to) = connecting A (Open index) s t to
 
 pub call_of_streams : (A : Type 0) (n : NodeState) (call : Call A) → is_adsp (kind_of_call call) ≡ true
     → ComesOfStreams A n (Calls call) (called n call)
-call_of_streams A n Zones h = absurd (true≢false (sym h))
-call_of_streams A n (SetZones names) h = absurd (true≢false (sym h))
+call_of_streams A n (Zones kind) h = absurd (true≢false (sym h))
+call_of_streams A n (SetZones kind names) h = absurd (true≢false (sym h))
 call_of_streams A n (Ask node socket user bytes wanted xo retries) h = absurd (true≢false (sym h))
 call_of_streams A n (Answer node socket tid packets) h = absurd (true≢false (sym h))
 call_of_streams A n (Pick zone) h = absurd (true≢false (sym h))

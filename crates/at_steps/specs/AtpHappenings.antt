@@ -12,7 +12,7 @@ use Rattle.at_ddp.specs.Protocols.{atp_kind}
 use Rattle.at_steps.specs.Entries.{Coding, AreEntries}
 use Rattle.at_atp.specs.Network.{Sent, Drawn, Happening, AllTimely, IsTimely, after, done}
 use Rattle.at_atp.specs.Transactions.{Transaction, transaction_of}
-use Rattle.at_zip.specs.Zones.{IsTable}
+use Rattle.at_zip.specs.Tables.{Tables, AreTables}
 use Rattle.at_node.specs.AtpParts.{AtpState, Reading, asking, serving, zones_at}
 use Rattle.at_node.specs.Numbers.{drawn_by}
 use Rattle.at_node.specs.Nodes.{NodeState}
@@ -32,7 +32,7 @@ use Rattle.at_steps.specs.AtpSteps.{Change, IsStep}
 abbrev pub IsOn : ℕ → Transaction → Type 0
 IsOn net t = (t.requester.net ≡ net) × (t.responder.net ≡ net)
 
--- the transaction that reads the zone list is open
+-- the transaction that reads a zone table is open
 abbrev pub IsOpen : AtpState → Type 0
 IsOpen a = (r : Reading) → a.reading ≡ Some r → has_number a.requester.standing r.tid ≡ true
 
@@ -55,7 +55,7 @@ pub record Stands (A : Type 0) (history : List Happening) (net number : ℕ) (n 
   pub service : (after A history).responders (serving net number) ≡ n.atp.service_responder
   pub is_open : IsOpen n.atp
   pub at_least_once : ReadsAtLeastOnce (after A history).asked (asking net number) n.atp
-  pub has_table : (table : List (List ℕ)) → n.atp.table ≡ Some table → IsTable table
+  pub has_tables : (tables : Tables) → n.atp.tables ≡ Some tables → AreTables tables
 
 -- no record of these is of this requester and number
 abbrev pub HoldsNo : Address → ℕ → List Record → Type 0
@@ -72,7 +72,7 @@ abbrev pub numbers_drawn : ℕ → Address → Option Draw → List Drawn
 numbers_drawn event who (Some (Tid tid)) = record { event = event; who = who; tid = tid } ∷ []
 numbers_drawn event who other = []
 
--- the router's table is another after this report
+-- one of the router's tables is another after this report
 abbrev pub sets_table : {A : Type 0} → Report A → Bool
 sets_table report.TableSet = true
 sets_table r = false
@@ -99,9 +99,9 @@ pub record Happens (A : Type 0) (history : List Happening) (net number : ℕ) (n
       ++ numbers_drawn (after A history).event (asking net number) (drawn_by o.report)
   pub on_net : AllByRecursion (IsOn net) (done A (after A history) happening).asked
   pub is_open : IsOpen o.state.atp
-  pub same_table : sets_table o.report ≡ false → o.state.atp.table ≡ n.atp.table
-  pub has_table : (table : List (List ℕ)) → o.state.atp.table ≡ Some table → IsTable table
-  pub matches : Matches net number n.atp.table (after A history) happening act o.report
+  pub same_tables : sets_table o.report ≡ false → o.state.atp.tables ≡ n.atp.tables
+  pub has_tables : (tables : Tables) → o.state.atp.tables ≡ Some tables → AreTables tables
+  pub matches : Matches net number n.atp.tables (after A history) happening act o.report
 
 abbrev pub change : {A : Type 0} {history : List Happening} {net number : ℕ} {n : NodeState} {act : Act A}
     {o : Outcome A NodeState} → Happens A history net number n act o → Change A

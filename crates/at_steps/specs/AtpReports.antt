@@ -15,6 +15,8 @@ use Rattle.at_atp.specs.Network.{Network, Sent, Happening, Begins, Answers, Turn
 use Rattle.at_atp.specs.Network.{done}
 use Rattle.at_atp.specs.Transactions.{answered}
 use Rattle.at_zip.specs.Request.{RequestSpells}
+use Rattle.at_zip.specs.Tables.{Tables, table_of}
+use Rattle.at_zip.specs.declared.request.Which.{Which}
 use Rattle.at_node.specs.AtpParts.{asking}
 use Rattle.at_event.specs.declared.event.Call.TheVariants.{Zones, Ask, Answer}
 use Rattle.at_event.specs.declared.event.Report.{Report}
@@ -53,10 +55,10 @@ abbrev pub asks_once : {A : Type 0} → Act A → Bool
 asks_once (Calls (Ask k socket user bytes wanted xo retries)) = xo
 asks_once act = false
 
--- how many packets does it ask for? one, if it reads the zone list
+-- how many packets does it ask for? one, if it reads a zone table
 abbrev pub asks_for : {A : Type 0} → Act A → ℕ
 asks_for (Calls (Ask k socket user bytes wanted xo retries)) = wanted
-asks_for (Calls Zones) = 1
+asks_for (Calls (Zones which)) = 1
 asks_for (Gets which) = 1
 asks_for act = 0
 
@@ -74,31 +76,32 @@ BeginsAs (Begins who to user bytes wanted xo retries) act = (asks_once act ≡ x
 BeginsAs (Turns which user retries) act = (asks_once act ≡ false) × (asks_for act ≡ 1)
 BeginsAs h act = Unit {0}
 
--- a packet asks for the page of the zone list from this place on
-abbrev pub AsksFrom : Content → ℕ → Type 0
-AsksFrom (Request mask xo timer tid user bytes) start = RequestSpells user start
-AsksFrom f start = ⊥
+-- a packet asks for the page of this table from this place on
+abbrev pub AsksFrom : Content → Which → ℕ → Type 0
+AsksFrom (Request mask xo timer tid user bytes) table start = RequestSpells user table start
+AsksFrom f table start = ⊥
 
--- these packets are the page of the router's table from the place that the datagram which came asks for
-pub record IsPageAsked (table : Option (List (List ℕ))) (n : Network) (which : ℕ) (packets : List Packet)
-    : Type 0 where
-  pub zones : List (List ℕ)
-  pub is_table : table ≡ Some zones
+-- these packets are the page that the datagram which came asks for: of which of the router's tables, and from which
+-- place
+pub record IsPageAsked (tables : Option Tables) (n : Network) (which : ℕ) (packets : List Packet) : Type 0 where
+  pub has : Tables
+  pub are_tables : tables ≡ Some has
   pub request : Sent
   pub was_sent : packet_at n.sent which ≡ Some request
+  pub table : Which
   pub start : ℕ
-  pub asks_from : AsksFrom request.packet start
-  pub page : packets ≡ page_answer zones start
+  pub asks_from : AsksFrom request.packet table start
+  pub page : packets ≡ page_answer (table_of table has) start
 
--- a call gives an answer, or the router, which has this table, answers what came by a page of it
-abbrev pub AnswersAs : {A : Type 0} → ℕ → Option (List (List ℕ)) → Network → Happening → Act A → Report A → Type 0
-AnswersAs net table n (Answers at key packets) act r =
+-- a call gives an answer, or the router, which has these tables, answers what came by a page of one
+abbrev pub AnswersAs : {A : Type 0} → ℕ → Option Tables → Network → Happening → Act A → Report A → Type 0
+AnswersAs net tables n (Answers at key packets) act r =
     (k : ℕ) × (socket : ℕ) × (tid : ℕ) × (count : ℕ) × (act ≡ Calls (Answer k socket tid packets))
     × (r ≡ report.Answered count)
     × (key ≡ record { from = record { net = net; node = k; socket = socket }; tid = tid })
-AnswersAs net table n (Serves which packets) act r =
-    (count : ℕ) × (act ≡ Gets which) × (r ≡ report.Served count) × IsPageAsked table n which packets
-AnswersAs net table n h act r = Unit {0}
+AnswersAs net tables n (Serves which packets) act r =
+    (count : ℕ) × (act ≡ Gets which) × (r ≡ report.Served count) × IsPageAsked tables n which packets
+AnswersAs net tables n h act r = Unit {0}
 
 -- an answer that is reported joins its transaction: that of a call, or the router's to what came
 abbrev pub Joins : {A : Type 0} → ℕ → Network → Happening → Report A → Act A → Type 0
@@ -124,14 +127,14 @@ Finishes {A} net number n (Gets which) (report.Response tid packets) = Ends A ne
 Finishes net number n (Gets which) (report.Served count) = (s : Sent) × (packet_at n.sent which ≡ Some s)
 Finishes net number n act r = Unit {0}
 
--- the happening is what the event at the node and its report say; the node has this zone table, if it is the router
-pub record Matches {A : Type 0} (net number : ℕ) (table : Option (List (List ℕ))) (n : Network) (h : Happening)
+-- the happening is what the event at the node and its report say; the node has these zone tables, if it is the router
+pub record Matches {A : Type 0} (net number : ℕ) (tables : Option Tables) (n : Network) (h : Happening)
     (act : Act A) (r : Report A) : Type 0 where
   pub draws_it : (key : Key) → draws A n h key ≡ began_under net number act r key
   pub expires_it : (at : Address) (key : Key) → expires_there n h at key ≡ expired_at net number act r at key
   pub hands_up : (key : Key) → is_handed_up n h key ≡ handed_up_by n.sent act r key
   pub takes_in : TakesIn h act
   pub begins_as : BeginsAs h act
-  pub answers_as : AnswersAs net table n h act r
+  pub answers_as : AnswersAs net tables n h act r
   pub joins : Joins net n h r act
   pub finishes : Finishes net number n act r

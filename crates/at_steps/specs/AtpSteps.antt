@@ -1,5 +1,5 @@
--- What a step of a node is in words of transactions (Inside AppleTalk, ATP, "Transactions", and ZIP, "GetZoneList").
--- Packets, records, bitmaps and retries play no part.
+-- What a step of a node is in words of transactions (Inside AppleTalk, ATP, "Transactions", and ZIP, "GetZoneList",
+-- "GetLocalZones"). Packets, records, bitmaps and retries play no part.
 use Rattle.std.specs.Prelude.{◌≡◌, ℕ, ◌+◌, ◌<◌, ◌≤◌, ◌==◌, Bool, true, false, List, [], ◌∷◌, ◌++◌, length, Option, Some}
 use Rattle.std.specs.Prelude.{None}
 use Rattle.at_ddp.specs.declared.address.Address.{Address}
@@ -11,6 +11,8 @@ use Rattle.at_zip.specs.Page.{Page, Spells}
 use Rattle.at_zip.specs.Reading.{place_after}
 use Rattle.at_zip.specs.Request.{RequestSpells, request_user}
 use Rattle.at_zip.specs.Zones.{IsTable}
+use Rattle.at_zip.specs.Tables.{Tables, table_of, with_table}
+use Rattle.at_zip.specs.declared.request.Which.{Which}
 use Rattle.at_zip.specs.declared.fault.ZipFault.{ZipFault}
 use Rattle.at_node.specs.AtpParts.{AtpState, Reading, asking, serving, zones_at}
 use Rattle.at_node.specs.ZoneSocket.{page_packet}
@@ -34,16 +36,16 @@ new_transaction net node responder user bytes wanted xo tid = record {
   answers = [];
 }
 
--- a node asks for the page after these names: one packet, at least once
-abbrev pub page_asked : ℕ → ℕ → Address → List (List ℕ) → ℕ → Transaction
-page_asked net node server names tid =
-    new_transaction net node server (request_user (place_after names)) [] 1 false tid
+-- a node asks for the page of a table after these names: one packet, at least once
+abbrev pub page_asked : ℕ → ℕ → Address → Which → List (List ℕ) → ℕ → Transaction
+page_asked net node server which names tid =
+    new_transaction net node server (request_user which (place_after names)) [] 1 false tid
 
 -- the page of a table from a place on, as the one packet of an answer
 abbrev pub page_answer : List (List ℕ) → ℕ → List Packet
 page_answer table start = page_packet table start ∷ []
 
--- a report that says nothing of transactions and of the zone list
+-- a report that says nothing of transactions and of the zone tables
 abbrev pub is_plain : {A : Type 0} → Act A → Report A → Bool
 is_plain act (report.Refused number) = true
 is_plain act report.NoMemory = true
@@ -71,7 +73,7 @@ pub record IsPlain {A : Type 0} (c : Change A) : Type 0 where
   pub asked : c.now_asked ≡ c.asked
   pub reading : c.now.reading ≡ c.part.reading
 
--- the node's user begins a transaction, which is not the one that reads the zone list
+-- the node's user begins a transaction, which is not the one that reads a zone table
 pub record BeginsAsking {A : Type 0} (net number : ℕ) (c : Change A) : Type 0 where
   pub tid : ℕ
   pub node : ℕ
@@ -89,24 +91,26 @@ pub record BeginsAsking {A : Type 0} (net number : ℕ) (c : Change A) : Type 0 
   pub reading : c.now.reading ≡ c.part.reading
   pub apart : (r : Reading) → c.part.reading ≡ Some r → (tid == r.tid) ≡ false
 
--- a reading of the zone list begins: the node asks its router for the first page, one packet, at least once
+-- a reading of a zone table begins: the node asks its router for the first page, one packet, at least once
 pub record BeginsReading {A : Type 0} (net number : ℕ) (router : Option ℕ) (c : Change A) : Type 0 where
+  pub which : Which
   pub tid : ℕ
   pub server : ℕ
   pub is_router : router ≡ Some server
-  pub act : c.act ≡ Calls Zones
+  pub act : c.act ≡ Calls (Zones which)
   pub report : c.report ≡ report.Begun tid
-  pub asked : c.now_asked ≡ page_asked net number (zones_at net server) [] tid ∷ c.asked
-  pub reading : c.now.reading ≡ Some (record { tid = tid; names = [] })
+  pub asked : c.now_asked ≡ page_asked net number (zones_at net server) which [] tid ∷ c.asked
+  pub reading : c.now.reading ≡ Some (record { which = which; tid = tid; names = [] })
 
--- the router gets another zone table
+-- the router gets another zone table in the place of one
 pub record SetsTable {A : Type 0} (c : Change A) : Type 0 where
+  pub which : Which
   pub names : List (List ℕ)
-  pub table : List (List ℕ)
-  pub act : c.act ≡ Calls (SetZones names)
+  pub tables : Tables
+  pub act : c.act ≡ Calls (SetZones which names)
   pub report : c.report ≡ report.TableSet
-  pub was : c.part.table ≡ Some table
-  pub becomes : c.now.table ≡ Some names
+  pub was : c.part.tables ≡ Some tables
+  pub becomes : c.now.tables ≡ Some (with_table which names tables)
   pub is_table : IsTable names
   pub asked : c.now_asked ≡ c.asked
   pub reading : c.now.reading ≡ c.part.reading
@@ -125,21 +129,23 @@ pub record GivesAnswer {A : Type 0} (net number : ℕ) (c : Change A) : Type 0 w
   pub asked : c.now_asked ≡ answered c.asked (record { net = net; node = node; socket = socket }) tid packets
   pub reading : c.now.reading ≡ c.part.reading
 
--- the router answers the newest transaction of a requester under a number, which asked it for the page from a place on
+-- the router answers the newest transaction of a requester under a number, which asked it for the page
+-- of one of its tables from a place on
 pub record ServesPage {A : Type 0} (net number : ℕ) (c : Change A) : Type 0 where
   pub which : ℕ
   pub count : ℕ
   pub act : c.act ≡ Gets which
   pub report : c.report ≡ report.Served count
-  pub table : List (List ℕ)
-  pub is_table : c.part.table ≡ Some table
+  pub tables : Tables
+  pub are_tables : c.part.tables ≡ Some tables
   pub requester : Address
   pub tid : ℕ
   pub newest : Asked c.asked requester tid (zones_at net number)
+  pub table : Which
   pub start : ℕ
-  pub asks_from : RequestSpells (newest.transaction).user start
+  pub asks_from : RequestSpells (newest.transaction).user table start
   pub one : count ≤ 1
-  pub asked : c.now_asked ≡ answered c.asked requester tid (page_answer table start)
+  pub asked : c.now_asked ≡ answered c.asked requester tid (page_answer (table_of table tables) start)
   pub reading : c.now.reading ≡ c.part.reading
 
 -- the service receives what the newest transaction of a requester under a number asks of it
@@ -183,11 +189,11 @@ pub record ComesToReading {A : Type 0} (net number : ℕ) (c : Change A) : Type 
   pub part : IsPart newest.transaction place ends packet
 
 -- the packet has the last page: with it the list is whole
-pub record TellsAll {A : Type 0} (names : List (List ℕ)) (p : Packet) (r : Report A) : Type 0 where
+pub record TellsAll {A : Type 0} (which : Which) (names : List (List ℕ)) (p : Packet) (r : Report A) : Type 0 where
   pub page : Page
   pub spelled : Spells p.user p.data_ page
   pub last : page.last ≡ true
-  pub tells : r ≡ report.Zones (names ++ page.names)
+  pub tells : r ≡ report.Zones which (names ++ page.names)
 
 -- with its page there would be too many names
 pub record TellsTooMany {A : Type 0} (names : List (List ℕ)) (p : Packet) (r : Report A) : Type 0 where
@@ -203,16 +209,16 @@ pub record TellsFault {A : Type 0} (p : Packet) (r : Report A) : Type 0 where
   pub first : IsFirstFault fault p.user p.data_
   pub tells : r ≡ report.ZoneFault number
 
--- how a reading with these names ends by a packet
-pub data Tells {A : Type 0} (names : List (List ℕ)) (p : Packet) (r : Report A) : Type 0 where
-  All : TellsAll names p r → Tells names p r
-  TooMany : TellsTooMany names p r → Tells names p r
-  Faulty : TellsFault p r → Tells names p r
+-- how a reading of this table with these names ends by a packet
+pub data Tells {A : Type 0} (which : Which) (names : List (List ℕ)) (p : Packet) (r : Report A) : Type 0 where
+  All : TellsAll which names p r → Tells which names p r
+  TooMany : TellsTooMany names p r → Tells which names p r
+  Faulty : TellsFault p r → Tells which names p r
 
 -- the reading ends by its packet
 pub record EndsReading {A : Type 0} (net number : ℕ) (c : Change A) : Type 0 where
   pub came : ComesToReading net number c
-  pub tells : Tells (came.read).names came.packet c.report
+  pub tells : Tells (came.read).which (came.read).names came.packet c.report
   pub asked : c.now_asked ≡ c.asked
   pub reading : c.now.reading ≡ None
 
@@ -225,8 +231,10 @@ pub record TurnsPage {A : Type 0} (net number : ℕ) (c : Change A) : Type 0 whe
   pub few : length (came.read).names + length page.names ≤ 1024
   pub tid : ℕ
   pub report : c.report ≡ report.Begun tid
-  pub asked : c.now_asked ≡ page_asked net number came.from ((came.read).names ++ page.names) tid ∷ c.asked
-  pub reading : c.now.reading ≡ Some (record { tid = tid; names = (came.read).names ++ page.names })
+  pub asked : c.now_asked
+      ≡ page_asked net number came.from (came.read).which ((came.read).names ++ page.names) tid ∷ c.asked
+  pub reading : c.now.reading
+      ≡ Some (record { which = (came.read).which; tid = tid; names = (came.read).names ++ page.names })
 
 -- the reading ends without an answer
 pub record FailsReading {A : Type 0} (c : Change A) : Type 0 where

@@ -1,5 +1,5 @@
 -- What a step of a node is in words of its user's session: which reports the session keeps, and which zone may be
--- picked (Inside AppleTalk, ZIP, "GetZoneList"; NBP, "Name lookup").
+-- picked (Inside AppleTalk, ZIP, "GetZoneList", "GetLocalZones"; NBP, "Name lookup").
 use Rattle.std.specs.Prelude.{◌≡◌, ℕ, List, true}
 use Rattle.at_event.specs.Kinds.{Kind, Session, reporter_of}
 use Rattle.at_event.specs.declared.event.Call.TheVariants.{Finish, Pick}
@@ -21,7 +21,7 @@ after s (Calls (Finish id)) r = finds_kept s r
 after s (Gets which) r = list_kept s r
 after s act r = s
 
--- a zone is picked by this call alone, and stands in the zone list that was read last
+-- a zone is picked by this call alone, and stands in a zone list that was read last
 abbrev pub Picks : {A : Type 0} → SessionState → Act A → Report A → Type 0
 Picks s (Calls (Pick zone)) report.Picked = is_listed s zone ≡ true
 Picks s act r = ⊥

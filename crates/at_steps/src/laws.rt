@@ -43,6 +43,7 @@ pub fn a_call_is_a_happening_of_atp<A: Allocator>()
     at_atp::laws::numbers_stay_open::<A>();
     at_atp::laws::no_more_is_sent_than_answered();
     at_zip::laws::names_without_a_fault_are_a_table();
+    at_zip::laws::tables_stay_tables();
 }
 
 /// A timer of ATP or ZIP that fires is one happening among requesters and responders.

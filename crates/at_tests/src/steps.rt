@@ -3,7 +3,7 @@ use at_adsp_end::Rooms;
 use at_ddp::{Bytes, Datagrams, Listed, Pascal};
 use at_node::{Call, Deferring, Node, PacketCount, Report, Seat, Settings};
 use at_print::{Printer, write_event};
-use at_zip::Zones;
+use at_zip::{Tables, Which, Zones};
 use refusing::Refusing;
 use std::alloc::{Allocator, Global};
 use std::process::Abort;
@@ -43,7 +43,7 @@ fn text(rt: &impl Abort, bytes: &[u8]) -> Pascal {
 
 fn call_of<A: Allocator>(rt: &impl Abort, alloc: A, step: Step) -> Option<Call<A>> {
     match step {
-        Step::Zones => Some(Call::Zones),
+        Step::Zones => Some(Call::Zones { which: Which::All }),
         Step::Pick(zone) => Some(Call::Pick {
             zone: text(rt, zone),
         }),
@@ -129,7 +129,12 @@ fn sent_in<'a, A: Allocator>(rt: &impl Abort, list: &'a Datagrams<A>) -> &'a [u8
     list.get(0)
 }
 
-/// A node of network 10. Node 1 is the router, of one request for memory: its table.
+fn table<A: Allocator>(rt: &impl Abort, names: Vec<Pascal, A>) -> Zones<A> {
+    let zones = Zones::new(Listed::from_vec(names)).ok();
+    zones.expect(rt, "no table")
+}
+
+/// A node of network 10. Node 1 is the router, of one request for memory: its table of all zones.
 pub(crate) fn node_of<A: Allocator + Copy>(rt: &impl Abort, alloc: A, number: u8) -> Node<A> {
     let seat = Seat {
         net: 10,
@@ -139,7 +144,7 @@ pub(crate) fn node_of<A: Allocator + Copy>(rt: &impl Abort, alloc: A, number: u8
     let mut settings = Settings {
         seat,
         zone: None,
-        zones: None,
+        tables: None,
         neighbours: None,
         rooms: ROOMS,
     };
@@ -147,9 +152,10 @@ pub(crate) fn node_of<A: Allocator + Copy>(rt: &impl Abort, alloc: A, number: u8
         return Node::new(alloc, settings);
     }
     let names = Vec::from_array(alloc, [text(rt, b"Lab"), text(rt, b"Office")]);
-    let zones = Zones::new(Listed::from_vec(names.expect(rt, "out of memory")));
+    let all = table(rt, names.expect(rt, "out of memory"));
+    let local = table(rt, Vec::new(alloc));
     settings.zone = Some(text(rt, b"Lab"));
-    settings.zones = zones.ok();
+    settings.tables = Some(Tables::new(all, local));
     settings.neighbours = Some(Listed::from_vec(Vec::new(alloc)));
     Node::new(alloc, settings)
 }

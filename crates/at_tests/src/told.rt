@@ -27,7 +27,7 @@ const PRINTED: &str = "\
 
 const TOLD: &str = "\
 atnode: a.txt:3: event 0 was refused: the cable has no router, so there is no zone list to read (refusal 60)
-atnode: a.txt:6: event 2 was refused: the zone does not stand in the zone list that the node read last (refusal 61)
+atnode: a.txt:6: event 2 was refused: the zone stands in no zone list that the node read last (refusal 61)
 atnode: a.txt:7: event 3 was refused: the last lookup that ended found no such entry (refusal 62)
 ";
 

@@ -3,6 +3,7 @@ use at_node::Call;
 use at_print::{Printer, write_event};
 use at_schedule::read_setup;
 use at_world::{Event, Fault, Refusal, Transcript, play};
+use at_zip::Which;
 use std::alloc::Global;
 use std::process::Abort;
 
@@ -31,7 +32,7 @@ fn a_play_of_events_goes_up_to_the_first_that_is_refused(rt: HostRuntime) {
     let text = b"net 10\nnode 1 router zone Lab\nnode 5 zone Lab\nzones Lab Office\n";
     let setup = read_setup(rt.alloc(), &mut text.as_slice()).expect(&rt, "a fault");
     assert!(rt; setup.is_lawful());
-    let call = Call::Zones;
+    let call = Call::Zones { which: Which::All };
     let events = [
         Event::Call { node: 5, call },
         Event::Deliver { which: 0, node: 1 },

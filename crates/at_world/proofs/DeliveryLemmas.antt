@@ -1,5 +1,5 @@
 -- A delivery: which datagram comes, why it is refused, and what it does.
-use Rattle.std.proofs.Common.{◌≡◌, ℕ, ◌≤◌, Bool, true, false, not, Bor, List, [], length, Option, Some, None, refl, sym}
+use Rattle.std.proofs.Common.{◌≡◌, ℕ, ◌≤◌, Bool, true, false, not, List, [], length, Option, Some, None, refl, sym}
 use Rattle.std.proofs.Common.{ap, subst, ◌∙◌}
 use Rattle.std.proofs.lemmas.Option.{slice_get_past}
 use Rattle.std.specs.List.{position_from}
@@ -9,19 +9,18 @@ use Rattle.std.specs.Prelude.{slice_get, ◌==◌, ◌||◌, if◌then◌else◌
 use Rattle.at_node.specs.Numbers.{Carries, DrawsHearing}
 use Rattle.at_node.specs.Nodes.{NodeState}
 use Rattle.at_node.specs.declared.numbers.Draw.{Draw}
-use Rattle.at_node.specs.declared.numbers.Input.TheVariants as input
 use Rattle.at_event.specs.declared.event.Report.{Report}
 use Rattle.at_world.specs.Draws.{Draws, last_of, is_no_later}
 use Rattle.at_world.specs.Sents.{SentDatagram}
 use Rattle.at_setup.specs.declared.event.Event.{Event}
 use Rattle.at_setup.specs.declared.event.Event.TheVariants as event
 use Rattle.at_world.specs.declared.refusal.Refusal.{Refusal}
-use Rattle.at_world.specs.declared.refusal.Refusal.TheVariants.{Limit, NoDatagram, NotForNode, Untimely}
+use Rattle.at_world.specs.declared.refusal.Refusal.TheVariants.{NoDatagram, NotForNode}
 use Rattle.at_world.specs.declared.refusal.Fault.{Fault}
 use Rattle.at_world.specs.declared.refusal.Fault.TheVariants as fault
 use Rattle.at_world.specs.Worlds.{WorldState, is_over, node_at, node_refusal, refusal, refusal_at, delivery_refusal}
 use Rattle.at_world.specs.Worlds.{is_for, ComesInTime, DrawsFree, IsFresh, IsTimely, IsPlayable, is_numbered, PlaysAt}
-use Rattle.at_world.specs.Worlds.{Receives, Takes, PlaysDelivery, IsNotTaken, IsFault}
+use Rattle.at_world.specs.Worlds.{Receives, PlaysDelivery, IsFault}
 use Rattle.at_world.proofs.WorldLemmas.{node_stands, none_stands, one_stands}
 
 pub refused_at : (A : Type 0) (w : WorldState) (e : Event A) (r : Option Refusal) → is_over w ≡ false → refusal_at w e

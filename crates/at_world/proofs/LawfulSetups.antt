@@ -23,6 +23,7 @@ pub record Lawful {A : Type 0} (s : Setup A) : Type 0 where
   pub each : list_all is_lawful_node s.nodes ≡ true
   pub one : count_by (λ (n : NodeSetup). n.router) s.nodes ≤ 1
   pub table : table_fault s.zones ≡ None
+  pub local : table_fault s.local ≡ None
   pub placed : are_in_zones s.nodes ≡ true
 
 none_is : {X : Type 0} (x : Option X) → is_none x ≡ true → x ≡ None
@@ -33,8 +34,10 @@ pub lawful_has : (A : Type 0) (s : Setup A) → is_lawful s ≡ true → Lawful 
 lawful_has A s ok =
     let ns = s.nodes in
     let router = has_router ns in
+    let last = and_parts (nat_lt 0 s.net && nat_lt s.net 65536 && are_lawful_nodes ns && is_lawful_table router s.zones)
+    (is_lawful_table router s.local) ok in
     let a = and_parts (nat_lt 0 s.net && nat_lt s.net 65536 && are_lawful_nodes ns)
-    (is_lawful_table router s.zones) ok in
+    (is_lawful_table router s.zones) last.0 in
     let b = and_parts (nat_lt 0 s.net && nat_lt s.net 65536) (are_lawful_nodes ns) a.0 in
     let c = and_parts (nat_lt 0 s.net) (nat_lt s.net 65536) b.0 in
     let d = and_parts (nat_le (length ns) 16 && list_all is_lawful_node ns && list_all (stands_once ns) ns
@@ -44,12 +47,14 @@ lawful_has A s ok =
     let f = and_parts (nat_le (length ns) 16 && list_all is_lawful_node ns) (list_all (stands_once ns) ns) e.0 in
     let g = and_parts (nat_le (length ns) 16) (list_all is_lawful_node ns) f.0 in
     let h = and_parts (is_none (table_fault s.zones)) (router || (length s.zones == 0)) a.1 in
+    let i = and_parts (is_none (table_fault s.local)) (router || (length s.local == 0)) last.1 in
     record {
       net = ltb-true s.net 65536 c.1;
       few = leb-true (length ns) 16 g.0;
       each = g.1;
       one = leb-true (count_by (λ n. n.router) ns) 1 e.1;
       table = none_is (table_fault s.zones) h.0;
+      local = none_is (table_fault s.local) i.0;
       placed = d.1;
     }
 

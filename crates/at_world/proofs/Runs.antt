@@ -23,11 +23,11 @@ use Rattle.at_world.specs.Cables.{Cable}
 use Rattle.at_world.specs.Events.{NoForge, act_of, is_forged, node_of}
 use Rattle.at_world.specs.Machine.{Machine, opening_machine, Step, Run, IsRun}
 use Rattle.at_world.specs.Plays.{opening_world, Follows, IsPlay}
-use Rattle.at_world.specs.Stories.{Tells, table_by}
+use Rattle.at_world.specs.Stories.{Tells, tables_by}
 use Rattle.at_world.specs.Worlds.{WorldState, DrawsFree, IsPlayable, Plays, is_over, node_at, recorded, refusal}
 use Rattle.at_world.specs.Worlds.{refusal_at}
 use Rattle.at_world.proofs.Atp.Happenings.{Follows as FollowsAtp, call_follows, datagram_follows, passed, timer_follows}
-use Rattle.at_world.proofs.Atp.Tables.{table_follows}
+use Rattle.at_world.proofs.Atp.Tables.{tables_follow}
 use Rattle.at_world.proofs.Atp.Tie.{Laws, AtpTie, Grown}
 use Rattle.at_world.proofs.CableTie.{cable_next}
 use Rattle.at_world.proofs.Seats.{KeepsSeat, call_keeps_seat, timer_keeps_seat, hearing_keeps_seat}
@@ -48,7 +48,7 @@ use Rattle.at_world.specs.declared.refusal.Refusal.TheVariants.{Limit}
 -- the machine may answer an event so, and is tied to the world after it
 abbrev pub Follow : (A : Type 0) (w : WorldState) (m : Machine) → Tied A w m → Event A → Report A → WorldState → Type 0
 Follow A w m t e r w' = (m' : Machine) × Step m e r m' × (now : Tied A w' m')
-    × Grown A m.cable (m.atp).table (t.atp).history (now.atp).history e r × (m'.cable ≡ m.cable)
+    × Grown A m.cable (m.atp).tables (t.atp).history (now.atp).history e r × (m'.cable ≡ m.cable)
 
 -- what the layers below promise of each part
 pub record PartLaws (A : Type 0) : Type 0 where
@@ -94,7 +94,7 @@ module _ (A : Type 0) (w : WorldState) (m : Machine) (t : Tied A w m) (e : Event
   together o seat ((said, good), names, streams, sessions) =
       let cable = cable_next A w m.cable (node_of e) n o t.cable stands seat in
       let both = subst (λ l. (x : AtpTie A (recorded w (node_of e) o.report o.state (map posted o.out)) m.cable l
-      good.0) × Grown A m.cable (m.atp).table (t.atp).history x.history e o.report) (sym cable.1)
+      good.0) × Grown A m.cable (m.atp).tables (t.atp).history x.history e o.report) (sym cable.1)
       (good.2, good.3) in
       let tied_names = subst (λ l. NameTie (recorded w (node_of e) o.report o.state (map posted o.out)) m.cable l
       names.0) (sym cable.1) names.2 in
@@ -226,7 +226,7 @@ followed A laws w m (event.Forge k bytes) r w' t forged playable p = absurd (tru
 abbrev pub Ran : (A : Type 0) (w : WorldState) (m : Machine) → Tied A w m → List (Event A) → List (Report A)
     → WorldState → Type 0
 Ran A w m t es rs w' = (m' : Machine) × Run m es rs m' × (now : Tied A w' m')
-    × Tells (m.cable).net (m.atp).table (t.atp).history es rs (now.atp).history
+    × Tells (m.cable).net (m.atp).tables (t.atp).history es rs (now.atp).history
 
 pub runs : (A : Type 0) → PartLaws A
     → (w : WorldState) (m : Machine) (es : List (Event A)) (rs : List (Report A)) (w' : WorldState) (t : Tied A w m)
@@ -239,10 +239,10 @@ runs A laws w m (e ∷ es) (r ∷ rs) w' t sent h =
     let rest = runs A laws h.0 one.0 es rs w' one.2 sent.1 h.3 in
     let grown = one.3 in
     let step = one.1 in
-    let table = table_follows m.cable m.atp e r (one.0).atp (reporter_of r) refl step.atp in
-    let told = subst (λ l. Tells (m.cable).net (table_by e r (m.atp).table) l es rs ((rest.2).atp).history) grown.1
-    (subst (λ zones. Tells (m.cable).net zones ((one.2).atp).history es rs ((rest.2).atp).history) table
-    (subst (λ (c : Cable). Tells c.net ((one.0).atp).table ((one.2).atp).history es rs ((rest.2).atp).history)
+    let table = tables_follow m.cable m.atp e r (one.0).atp (reporter_of r) refl step.atp in
+    let told = subst (λ l. Tells (m.cable).net (tables_by e r (m.atp).tables) l es rs ((rest.2).atp).history) grown.1
+    (subst (λ tables. Tells (m.cable).net tables ((one.2).atp).history es rs ((rest.2).atp).history) table
+    (subst (λ (c : Cable). Tells c.net ((one.0).atp).tables ((one.2).atp).history es rs ((rest.2).atp).history)
     one.4 rest.3)) in
     (rest.0, (one.0, one.1, rest.1), rest.2, (grown.0, grown.2, grown.3, told))
 runs A laws w m [] (r ∷ rs) w' t sent h = absurd h

@@ -25,8 +25,8 @@ abbrev pub KeepsSeat : {A : Type 0} → NodeState → Outcome A NodeState → Ty
 KeepsSeat n o = o.state.seat ≡ n.seat
 
 pub call_keeps_seat : (A : Type 0) (n : NodeState) (call : Call A) → KeepsSeat n (called n call)
-call_keeps_seat A n Zones = refl
-call_keeps_seat A n (SetZones names) = refl
+call_keeps_seat A n (Zones which) = refl
+call_keeps_seat A n (SetZones which names) = refl
 call_keeps_seat A n (Ask node socket user bytes wanted xo retries) = refl
 call_keeps_seat A n (Answer node socket tid packets) = refl
 call_keeps_seat A n (Pick zone) = picking (is_listed n.session zone)

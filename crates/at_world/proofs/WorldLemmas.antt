@@ -1,9 +1,8 @@
 -- A world's step: what a node sends is stamped, and the rest stays as it was.
-use Rattle.std.proofs.Common.{◌≡◌, ℕ, zero, suc, ◌+◌, ◌-◌, ◌≤◌, Bool, true, false, List, [], ◌∷◌, ◌++◌, length, map}
-use Rattle.std.proofs.Common.{replicate, set, Option, Some, None, refl, sym, ap, subst, ◌∙◌, arith, Fits, w32}
+use Rattle.std.proofs.Common.{◌≡◌, ℕ, ◌+◌, Bool, true, false, List, length}
+use Rattle.std.proofs.Common.{set, Option, Some, None, sym, ap, subst, ◌∙◌, arith, Fits, w32}
 use Rattle.std.proofs.lemmas.Bool.{true≢false}
 use Rattle.std.proofs.lemmas.Bool.Decides.{nat_tests}
-use Rattle.std.proofs.lemmas.List.{append-nil, length-append}
 use Rattle.std.specs.Prelude.{nat_le, nat_lt, ◌||◌, find, IfSome, Result, Ok, Err, IfOk, IfErr, IsOk, IsErr, OnOk}
 use Rattle.std.specs.Prelude.{OnErr}
 use Rattle.std.specs.Result.{is_err}
@@ -12,15 +11,11 @@ use Rattle.at_ddp.specs.Datagrams.{Posted}
 use Rattle.at_ddp.proofs.TableLemmas.{Found}
 use Rattle.at_node.specs.declared.numbers.Draw.{Draw}
 use Rattle.at_node.specs.declared.numbers.Input.{Input}
-use Rattle.at_node.specs.declared.numbers.Input.TheVariants as input
 use Rattle.at_event.specs.declared.event.Report.{Report}
-use Rattle.at_event.specs.declared.event.Report.TheVariants.{NoMemory}
 use Rattle.at_node.specs.Numbers.{drawn_by, Draws as DrawsFor}
-use Rattle.at_node.specs.Hearing.{Hears}
-use Rattle.at_node.specs.Nodes.{NodeState, called, timed}
-use Rattle.at_event.specs.Outcomes.{Outcome, posted, IsStep, Comes}
-use Rattle.at_world.specs.Draws.{Draws, noted}
-use Rattle.at_world.specs.Sents.{SentDatagram, stamp, stamped}
+use Rattle.at_node.specs.Nodes.{NodeState}
+use Rattle.at_world.specs.Draws.{Draws}
+use Rattle.at_world.specs.Sents.{SentDatagram}
 use Rattle.at_world.specs.declared.refusal.Refusal.TheVariants.{NotForNode}
 use Rattle.at_world.specs.declared.refusal.Fault.{Fault}
 use Rattle.at_world.specs.declared.refusal.Fault.TheVariants as fault

@@ -1,14 +1,16 @@
--- What the machine knows of transactions and of the zone list, and which reports of them it allows (Inside AppleTalk,
--- ATP, "Transactions", and ZIP, "GetZoneList").
+-- What the machine knows of transactions and of the zone tables, and which reports of them it allows (Inside AppleTalk,
+-- ATP, "Transactions", and ZIP, "GetZoneList", "GetLocalZones").
 use Rattle.std.specs.Prelude.{◌≡◌, ℕ, ◌<◌, ◌≤◌, ◌==◌, not, Bool, List, [], ◌∷◌, ◌++◌, length, filter, find}
-use Rattle.std.specs.Prelude.{slice_index_or, option_map, Option, Some}
+use Rattle.std.specs.Prelude.{slice_index_or, Option, Some}
 use Rattle.at_ddp.specs.declared.address.Address.{Address}
 use Rattle.at_atp_frame.specs.Packets.{Packet}
 use Rattle.at_atp.specs.Transactions.{Transaction, Asked, transaction_of, answered, IsResponse}
 use Rattle.at_atp_responder.specs.declared.reception.Key.{Key}
 use Rattle.at_zip.specs.Reading.{BeginsTable}
 use Rattle.at_zip.specs.Request.{RequestSpells}
+use Rattle.at_zip.specs.Tables.{Tables, table_of, with_table}
 use Rattle.at_zip.specs.Zones.{IsTable}
+use Rattle.at_zip.specs.declared.request.Which.{Which}
 use Rattle.at_node.specs.AtpParts.{asking, serving, zones_at}
 use Rattle.at_event.specs.Kinds.{Kind, Atp}
 use Rattle.at_event.specs.declared.event.Call.{Call}
@@ -20,69 +22,84 @@ use Rattle.at_world.specs.Cables.{Cable, at_net}
 use Rattle.at_setup.specs.declared.event.Event.{Event}
 use Rattle.at_setup.specs.declared.event.Event.TheVariants as event
 use Rattle.at_setup.specs.declared.setup.Setup.{Setup}
+use Rattle.at_setup.specs.Setups.{tables_of}
 
--- a node reads the zone list since this moment
+-- a node reads a zone table since this moment
 pub record Reading : Type 0 where
   pub node : ℕ
+  pub which : Which
   pub since : ℕ
 
 -- A moment is the state after an event. The first moment is the opening state.
 pub record AtpMachine : Type 0 where
-  pub table : List (List ℕ)  -- the router's zone table
-  pub past : List (List (List ℕ))  -- the table at each moment so far, this one included
+  pub tables : Tables  -- the router's zone tables
+  pub past : List Tables  -- the tables at each moment so far, this one included
   pub asked : List Transaction  -- newest first
   pub readings : List Reading
 
 abbrev pub opening : {A : Type 0} → Setup A → AtpMachine
-opening s = record { table = s.zones; past = s.zones ∷ []; asked = []; readings = [] }
+opening s = record { tables = tables_of s; past = tables_of s ∷ []; asked = []; readings = [] }
 
 -- the same one moment later
 abbrev pub next : AtpMachine → AtpMachine
-next m = record m { past = m.past ++ m.table ∷ [] }
+next m = record m { past = m.past ++ m.tables ∷ [] }
 
--- ---- readings of the zone list
+-- ---- readings of a zone table
 
--- the moment since which a node reads the list
-abbrev pub since_of : List Reading → ℕ → Option ℕ
-since_of rs node = option_map (λ r. r.since) (find (λ r. r.node == node) rs)
+-- the reading of a node
+abbrev pub reading_of : List Reading → ℕ → Option Reading
+reading_of rs node = find (λ r. r.node == node) rs
+
+-- a node reads this table since this moment
+abbrev pub ReadsSince : List Reading → ℕ → Which → ℕ → Type 0
+ReadsSince rs node which since = reading_of rs node ≡ Some (record { node = node; which = which; since = since })
 
 -- the readings of the other nodes
 abbrev pub without_reading : List Reading → ℕ → List Reading
 without_reading rs node = filter (λ r. not (r.node == node)) rs
 
--- the table was this one at every moment from that one on
-abbrev pub StoodSince : List (List (List ℕ)) → ℕ → List (List ℕ) → Type 0
-StoodSince past since table =
-    (moment : ℕ) → since ≤ moment → moment < length past → slice_index_or past moment [] ≡ table
+-- the tables at a moment
+abbrev pub tables_at : List Tables → ℕ → Tables
+tables_at past moment = slice_index_or past moment (record { all = []; local = [] })
+
+-- the table of this kind was this one at every moment from that one on
+abbrev pub StoodSince : List Tables → ℕ → Which → List (List ℕ) → Type 0
+StoodSince past since which table =
+    (moment : ℕ) → since ≤ moment → moment < length past → table_of which (tables_at past moment) ≡ table
 
 -- ---- the steps, one for each report
 
--- a reading of the zone list begins: the node asks the router for the first page
-pub record BeginsReading (c : Cable) (m : AtpMachine) (node tid : ℕ) (m' : AtpMachine) : Type 0 where
+-- a reading of a zone table begins: the node asks the router for the first page
+pub record BeginsReading (c : Cable) (m : AtpMachine) (node : ℕ) (which : Which) (tid : ℕ) (m' : AtpMachine)
+    : Type 0 where
   pub router : ℕ
   pub is_router : c.router ≡ Some router
   pub becomes : m' ≡ next (record m {
-    asked = page_asked c.net node (zones_at c.net router) [] tid ∷ m.asked;
-    readings = record { node = node; since = length m.past } ∷ m.readings;
+    asked = page_asked c.net node (zones_at c.net router) which [] tid ∷ m.asked;
+    readings = record { node = node; which = which; since = length m.past } ∷ m.readings;
   })
 
--- a reading goes on: with these names so far, the node asks the router for the page after them. They begin the table,
--- if it was the same at every moment since the reading began.
+-- a reading goes on: with these names so far, the node asks the router for the page after them. They begin the table
+-- that it reads, if that was the same at every moment since the reading began.
 pub record GoesOn (c : Cable) (m : AtpMachine) (node tid : ℕ) (m' : AtpMachine) : Type 0 where
   pub router : ℕ
   pub is_router : c.router ≡ Some router
+  pub which : Which
   pub since : ℕ
-  pub began : since_of m.readings node ≡ Some since
+  pub began : ReadsSince m.readings node which since
   pub names : List (List ℕ)
   pub few : length names ≤ 1024
-  pub tells : StoodSince m.past since m.table → BeginsTable m.table names
-  pub becomes : m' ≡ next (record m { asked = page_asked c.net node (zones_at c.net router) names tid ∷ m.asked })
+  pub tells : StoodSince m.past since which (table_of which m.tables) → BeginsTable (table_of which m.tables) names
+  pub becomes : m' ≡ next (record m {
+    asked = page_asked c.net node (zones_at c.net router) which names tid ∷ m.asked;
+  })
 
--- the router gets another zone table
-pub record SetsTable (c : Cable) (m : AtpMachine) (node : ℕ) (names : List (List ℕ)) (m' : AtpMachine) : Type 0 where
+-- the router gets another zone table in the place of one
+pub record SetsTable (c : Cable) (m : AtpMachine) (node : ℕ) (which : Which) (names : List (List ℕ)) (m' : AtpMachine)
+    : Type 0 where
   pub is_router : c.router ≡ Some node
   pub is_table : IsTable names
-  pub becomes : m' ≡ next (record m { table = names })
+  pub becomes : m' ≡ next (record m { tables = with_table which names m.tables })
 
 -- a transaction begins
 pub record BeginsAsking (c : Cable) (m : AtpMachine) (node : ℕ) (responder : Address) (user bytes : List ℕ)
@@ -108,40 +125,47 @@ pub record IsAnswered (c : Cable) (m : AtpMachine) (node tid : ℕ) (packets : L
   pub newest : transaction_of m.asked (asking c.net node) tid ≡ Some transaction
   pub response : IsResponse transaction packets
 
--- the router answers a transaction that asked it for the page from a place on, with that page of the present table
+-- the router answers a transaction that asked it for the page of a table from a place on, with that page of the table
+-- as it is now
 pub record Serves (c : Cable) (m : AtpMachine) (node count : ℕ) (m' : AtpMachine) : Type 0 where
   pub is_router : c.router ≡ Some node
   pub requester : Address
   pub tid : ℕ
   pub asked : Asked m.asked requester tid (zones_at c.net node)
+  pub which : Which
   pub start : ℕ
-  pub asks_from : RequestSpells (asked.transaction).user start
+  pub asks_from : RequestSpells (asked.transaction).user which start
   pub one : count ≤ 1
-  pub becomes : m' ≡ next (record m { asked = answered m.asked requester tid (page_answer m.table start) })
+  pub becomes : m' ≡ next (record m {
+    asked = answered m.asked requester tid (page_answer (table_of which m.tables) start);
+  })
 
--- a reading ends: the zones that are reported are the table, if it was the same at every moment since the reading began
-pub record EndsReading (m : AtpMachine) (node : ℕ) (names : List (List ℕ)) (m' : AtpMachine) : Type 0 where
+-- a reading ends: the zones that are reported are the table that it asked for, if that was the same at every moment
+-- since the reading began
+pub record EndsReading (m : AtpMachine) (node : ℕ) (which : Which) (names : List (List ℕ)) (m' : AtpMachine)
+    : Type 0 where
   pub since : ℕ
-  pub began : since_of m.readings node ≡ Some since
-  pub tells : StoodSince m.past since m.table → names ≡ m.table
+  pub began : ReadsSince m.readings node which since
+  pub tells : StoodSince m.past since which (table_of which m.tables) → names ≡ table_of which m.tables
   pub becomes : m' ≡ next (record m { readings = without_reading m.readings node })
 
 -- a reading ends without a list
 pub record FailsReading (m : AtpMachine) (node : ℕ) (m' : AtpMachine) : Type 0 where
+  pub which : Which
   pub since : ℕ
-  pub began : since_of m.readings node ≡ Some since
+  pub began : ReadsSince m.readings node which since
   pub becomes : m' ≡ next (record m { readings = without_reading m.readings node })
 
 -- a call begins this transaction, under this number
 abbrev pub Begins : {A : Type 0} → Cable → AtpMachine → ℕ → Call A → ℕ → AtpMachine → Type 0
-Begins c m node Zones tid m' = BeginsReading c m node tid m'
+Begins c m node (Zones which) tid m' = BeginsReading c m node which tid m'
 Begins c m node (Ask k socket user bytes wanted xo retries) tid m' =
     BeginsAsking c m node (at_net c k socket) user bytes wanted xo tid m'
 Begins c m node call tid m' = ⊥
 
--- a call gives the router this table
+-- a call gives the router a table
 abbrev pub Sets : {A : Type 0} → Cable → AtpMachine → ℕ → Call A → AtpMachine → Type 0
-Sets c m node (SetZones names) m' = SetsTable c m node names m'
+Sets c m node (SetZones which names) m' = SetsTable c m node which names m'
 Sets c m node call m' = ⊥
 
 -- a call gives this answer, and so many of its packets are sent
@@ -158,7 +182,7 @@ Says c m (event.Deliver which node) (report.Begun tid) m' = GoesOn c m node tid 
 Says c m (event.Deliver which node) (report.Served count) m' = Serves c m node count m'
 Says c m (event.Deliver which node) (report.Asked key user bytes) m' = IsAsked c m node key user bytes × (m' ≡ next m)
 Says c m (event.Deliver which node) (report.Response tid packets) m' = IsAnswered c m node tid packets × (m' ≡ next m)
-Says c m (event.Deliver which node) (report.Zones names) m' = EndsReading m node names m'
+Says c m (event.Deliver which node) (report.Zones table names) m' = EndsReading m node table names m'
 Says c m (event.Deliver which node) report.Kept m' = m' ≡ next m
 Says c m (event.Deliver which node) report.Released m' = m' ≡ next m
 Says c m (event.Timer node timer) report.Expired m' = m' ≡ next m

@@ -10,6 +10,8 @@ use Rattle.at_atp_responder.specs.Once.{same_key}
 use Rattle.at_atp_frame.specs.Packets.{Packet}
 use Rattle.at_atp_responder.specs.declared.reception.Key.{Key}
 use Rattle.at_node.specs.AtpParts.{asking}
+use Rattle.at_zip.specs.Tables.{Tables, table_of}
+use Rattle.at_zip.specs.declared.request.Which.{Which}
 use Rattle.at_event.specs.declared.event.Call.TheVariants.{Answer}
 use Rattle.at_event.specs.declared.event.Report.{Report}
 use Rattle.at_event.specs.declared.event.Report.TheVariants as report
@@ -17,10 +19,11 @@ use Rattle.at_steps.specs.AtpReports.{AsksFrom}
 use Rattle.at_steps.specs.AtpSteps.{page_answer}
 use Rattle.at_world.specs.Events.{NoForge}
 use Rattle.at_world.specs.Sents.{SentDatagram}
-use Rattle.at_world.specs.Stories.{asks_once, asks_for, began_under, expired_at, table_by}
+use Rattle.at_world.specs.Stories.{asks_once, asks_for, began_under, expired_at, tables_by}
 use Rattle.at_setup.specs.declared.event.Event.{Event}
 use Rattle.at_setup.specs.declared.event.Event.TheVariants as event
 use Rattle.at_setup.specs.declared.setup.Setup.{Setup}
+use Rattle.at_setup.specs.Setups.{tables_of}
 use Rattle.at_world.specs.declared.transcript.Transcript.{Transcript}
 use Rattle.at_world.specs.declared.transcript.PlayFault.{PlayFault}
 
@@ -95,35 +98,37 @@ IsGivenBy net sent e r key = ⊥
 abbrev pub Gives : {A : Type 0} → ℕ → List SentDatagram → Key → Played A → Type 0
 Gives net sent key x = IsGivenBy net sent x.event x.report key
 
--- the router's zone table after these steps, if it was this one before the first
-abbrev pub table_after : {A : Type 0} → List (List ℕ) → List (Played A) → List (List ℕ)
-table_after zones [] = zones
-table_after zones (x ∷ xs) = table_by x.event x.report (table_after zones xs)
+-- the router's zone tables after these steps, if they were these before the first
+abbrev pub tables_after : {A : Type 0} → Tables → List (Played A) → Tables
+tables_after tables [] = tables
+tables_after tables (x ∷ xs) = tables_by x.event x.report (tables_after tables xs)
 
--- a datagram that was sent has a request of this key, and this is the page of a table from the place that it asks for
-pub record IsPageFor (sent : List SentDatagram) (table : List (List ℕ)) (which : ℕ) (key : Key) (answer : List Packet)
+-- a datagram that was sent has a request of this key, and this is the page that it asks for: of which of these tables,
+-- and from which place
+pub record IsPageFor (sent : List SentDatagram) (tables : Tables) (which : ℕ) (key : Key) (answer : List Packet)
     : Type 0 where
   pub came : CameFrom sent which key
+  pub table : Which
   pub start : ℕ
-  pub asks_from : AsksFrom came.packet start
-  pub page : answer ≡ page_answer table start
+  pub asks_from : AsksFrom came.packet table start
+  pub page : answer ≡ page_answer (table_of table tables) start
 
--- this answer was given to it: that of a node's user, or the page of the table that the router has
-abbrev pub GivesBy : {A : Type 0} → ℕ → List SentDatagram → List (List ℕ) → Event A → Report A → Key → List Packet
+-- this answer was given to it: that of a node's user, or the page of a table that the router has
+abbrev pub GivesBy : {A : Type 0} → ℕ → List SentDatagram → Tables → Event A → Report A → Key → List Packet
     → Type 0
-GivesBy net sent table (event.Call node (Answer k socket tid given)) (report.Answered count) key answer =
+GivesBy net sent tables (event.Call node (Answer k socket tid given)) (report.Answered count) key answer =
     (same_key (record { from = record { net = net; node = k; socket = socket }; tid = tid }) key ≡ true)
     × (given ≡ answer)
-GivesBy net sent table (event.Deliver which node) (report.Served count) key answer =
-    IsPageFor sent table which key answer
-GivesBy net sent table e r key answer = ⊥
+GivesBy net sent tables (event.Deliver which node) (report.Served count) key answer =
+    IsPageFor sent tables which key answer
+GivesBy net sent tables e r key answer = ⊥
 
 -- this answer was given to it since its transaction began
-abbrev pub SomeGives : {A : Type 0} → ℕ → List (List ℕ) → List SentDatagram → Key → List Packet → List (Played A)
+abbrev pub SomeGives : {A : Type 0} → ℕ → Tables → List SentDatagram → Key → List Packet → List (Played A)
     → Type 0
-SomeGives net zones sent key answer [] = ⊥
-SomeGives net zones sent key answer (x ∷ xs) = MatchBool (began_under net x.event x.report key) ⊥
-    (GivesBy net sent (table_after zones xs) x.event x.report key answer ⊎ SomeGives net zones sent key answer xs)
+SomeGives net tables sent key answer [] = ⊥
+SomeGives net tables sent key answer (x ∷ xs) = MatchBool (began_under net x.event x.report key) ⊥
+    (GivesBy net sent (tables_after tables xs) x.event x.report key answer ⊎ SomeGives net tables sent key answer xs)
 
 abbrev pub NoneGives : {A : Type 0} → ℕ → List SentDatagram → Key → List (Played A) → Type 0
 NoneGives net sent key [] = Unit {0}
@@ -160,21 +165,21 @@ AllLive net sent (x ∷ xs) = LivesBy net sent x.event xs × AllLive net sent xs
 
 -- A transaction under this key ended with these packets. If it was exactly once, its request was delivered. The packets
 -- are the answer that was given to it, or as many of its first packets as were asked for.
-abbrev pub EndsWith : {A : Type 0} → ℕ → List (List ℕ) → List SentDatagram → Key → List Packet → List (Played A)
+abbrev pub EndsWith : {A : Type 0} → ℕ → Tables → List SentDatagram → Key → List Packet → List (Played A)
     → Type 0
-EndsWith net zones sent key packets past =
+EndsWith net tables sent key packets past =
     is_once net past key ≡ true
     → SomeHandsUp sent key (since net past key)
     × ((answer : List Packet)
-    × SomeGives net zones sent key answer past
+    × SomeGives net tables sent key answer past
     × (packets ≡ take (wanted_by net past key) answer))
 
 -- so it is with a response that is reported
-abbrev pub EndsBy : {A : Type 0} → ℕ → List (List ℕ) → List SentDatagram → Event A → Report A → List (Played A)
+abbrev pub EndsBy : {A : Type 0} → ℕ → Tables → List SentDatagram → Event A → Report A → List (Played A)
     → Type 0
-EndsBy net zones sent (event.Deliver which node) (report.Response tid packets) past =
-    EndsWith net zones sent (record { from = asking net node; tid = tid }) packets past
-EndsBy net zones sent e r past = Unit {0}
+EndsBy net tables sent (event.Deliver which node) (report.Response tid packets) past =
+    EndsWith net tables sent (record { from = asking net node; tid = tid }) packets past
+EndsBy net tables sent e r past = Unit {0}
 
 -- it was delivered at most once since its transaction began, and answered at most once
 abbrev pub RanOnce : {A : Type 0} → ℕ → List SentDatagram → List (Played A) → Key → Type 0
@@ -183,17 +188,17 @@ RanOnce net sent past key =
 
 -- At each moment, each exactly-once request was delivered and answered at most once since its transaction began. If the
 -- transaction ended with a response, it was delivered once, and the response is of the one answer that was given to it.
--- In the beginning the router has this zone table.
-abbrev pub RunsOnce : {A : Type 0} → ℕ → List (List ℕ) → List SentDatagram → List (Played A) → Type 0
-RunsOnce net zones sent [] = Unit {0}
-RunsOnce net zones sent (x ∷ xs) =
+-- In the beginning the router has these zone tables.
+abbrev pub RunsOnce : {A : Type 0} → ℕ → Tables → List SentDatagram → List (Played A) → Type 0
+RunsOnce net tables sent [] = Unit {0}
+RunsOnce net tables sent (x ∷ xs) =
     ((key : Key) → is_once net (x ∷ xs) key ≡ true → RanOnce net sent (x ∷ xs) key)
-    × EndsBy net zones sent x.event x.report xs × RunsOnce net zones sent xs
+    × EndsBy net tables sent x.event x.report xs × RunsOnce net tables sent xs
 
 -- the same for a play, whole or up to where it stopped, if nothing was forged and no request outlives its record
 abbrev pub IsOnce : {A : Type 0} → Setup A → List (Event A) → Result (Transcript A) (PlayFault A) → Type 0
 IsOnce s events (Ok t) = NoForge events
-    → AllLive s.net t.sent (onto [] events t.reports) → RunsOnce s.net s.zones t.sent (onto [] events t.reports)
+    → AllLive s.net t.sent (onto [] events t.reports) → RunsOnce s.net (tables_of s) t.sent (onto [] events t.reports)
 IsOnce s events (Err f) = NoForge (take f.at events)
     → AllLive s.net f.transcript.sent (onto [] (take f.at events) f.transcript.reports)
-    → RunsOnce s.net s.zones f.transcript.sent (onto [] (take f.at events) f.transcript.reports)
+    → RunsOnce s.net (tables_of s) f.transcript.sent (onto [] (take f.at events) f.transcript.reports)

@@ -5,6 +5,7 @@ use Rattle.at_adsp_end.specs.declared.rooms.Rooms.{Rooms}
 use Rattle.at_name_socket.specs.declared.neighbour.Neighbour.{Neighbour}
 use Rattle.at_event.specs.declared.event.Report.{Report}
 use Rattle.at_node.specs.Nodes.{NodeState, opening}
+use Rattle.at_setup.specs.Setups.{tables_of}
 use Rattle.at_setup.specs.declared.event.Event.{Event}
 use Rattle.at_world.specs.declared.refusal.Refusal.{Refusal}
 use Rattle.at_world.specs.declared.refusal.Fault.{Fault}
@@ -34,11 +35,12 @@ neighbours_of (n ∷ ns) = joined n.node n.zone (neighbours_of ns)
 abbrev pub rooms_of : NodeSetup → Rooms
 rooms_of n = record { receive = max n.receive_room 1; send = max n.send_room 1 }
 
--- only the router has the table, and knows the zones of the other nodes
+-- only the router has the tables, and knows the zones of the other nodes
 abbrev pub opening_node : {A : Type 0} → Setup A → NodeSetup → NodeState
 opening_node s n =
     opening (record { net = s.net; number = n.node; router = router_of s.nodes }) n.zone
-    (if n.router then Some s.zones else None) (if n.router then Some (neighbours_of s.nodes) else None) (rooms_of n)
+    (if n.router then Some (tables_of s) else None) (if n.router then Some (neighbours_of s.nodes) else None)
+    (rooms_of n)
 
 -- the world before anything happened
 abbrev pub opening_world : {A : Type 0} → Setup A → WorldState

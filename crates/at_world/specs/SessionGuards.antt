@@ -1,5 +1,5 @@
--- What the machine knows of the sessions of the nodes' users (Inside AppleTalk, ZIP, "GetZoneList"; NBP, "Name
--- lookup").
+-- What the machine knows of the sessions of the nodes' users (Inside AppleTalk, ZIP, "GetZoneList", "GetLocalZones";
+-- NBP, "Name lookup").
 use Rattle.std.specs.Prelude.{◌≡◌, ℕ, ◌==◌, if◌then◌else◌}
 use Rattle.at_event.specs.declared.event.Report.{Report}
 use Rattle.at_session.specs.Sessions.{SessionState, new_session}
@@ -7,7 +7,8 @@ use Rattle.at_steps.specs.SessionSteps.{IsStep}
 use Rattle.at_world.specs.Events.{act_of, node_of}
 use Rattle.at_setup.specs.declared.event.Event.{Event}
 
--- the session of each node's user: its last zone list, the zone that it picked, and what its last lookup found
+-- the session of each node's user: its last zone list of each kind, the zone that it picked, and what its last lookup
+-- found
 abbrev pub Sessions : Type 0
 Sessions = ℕ → SessionState
 

@@ -10,6 +10,7 @@ use Rattle.at_atp.specs.Lawfully.{IsInRange}
 use Rattle.at_ddp.specs.Posts.{packet_at}
 use Rattle.at_ddp.specs.Protocols.{atp_kind}
 use Rattle.at_atp.specs.Network.{Network, Sent, Happening, AllTimely, after, done}
+use Rattle.at_zip.specs.Tables.{Tables, with_table}
 use Rattle.at_event.specs.declared.event.Call.TheVariants.{SetZones}
 use Rattle.at_event.specs.declared.event.Report.{Report}
 use Rattle.at_steps.specs.AtpHappenings.{sets_table}
@@ -39,32 +40,32 @@ asks_for e = reports.asks_for (act_of e)
 
 -- ---- one happening for each event
 
--- the zone table that a call names; or this one, if it names none
-abbrev pub named_table : {A : Type 0} → Event A → List (List ℕ) → List (List ℕ)
-named_table (event.Call node (SetZones names)) table = names
-named_table e table = table
+-- these zone tables with the one that a call names; or as they are, if it names none
+abbrev pub with_named : {A : Type 0} → Event A → Tables → Tables
+with_named (event.Call node (SetZones which names)) tables = with_table which names tables
+with_named e tables = tables
 
--- the router's zone table after an event with this report, if it was this one before
-abbrev pub table_by : {A : Type 0} → Event A → Report A → List (List ℕ) → List (List ℕ)
-table_by e r table = if sets_table r then named_table e table else table
+-- the router's zone tables after an event with this report, if they were these before
+abbrev pub tables_by : {A : Type 0} → Event A → Report A → Tables → Tables
+tables_by e r tables = if sets_table r then with_named e tables else tables
 
--- the happening is what the event and its report say, while the router has this zone table
-abbrev pub Matches : {A : Type 0} → ℕ → List (List ℕ) → Network → Happening → Event A → Report A → Type 0
-Matches net table n h e r = reports.Matches net (node_of e) (Some table) n h (act_of e) r
+-- the happening is what the event and its report say, while the router has these zone tables
+abbrev pub Matches : {A : Type 0} → ℕ → Tables → Network → Happening → Event A → Report A → Type 0
+Matches net tables n h e r = reports.Matches net (node_of e) (Some tables) n h (act_of e) r
 
 -- what is sent is added to what was sent
 abbrev pub Grows : (A : Type 0) → Network → Happening → Type 0
 Grows A n h = (more : List (Option Sent)) × ((done A n h).sent ≡ n.sent ++ more)
 
 -- These events and reports, after what happened before, make this history, whose newest happening comes first. Before
--- them the router has this zone table.
-abbrev pub Tells : {A : Type 0} → ℕ → List (List ℕ) → List Happening → List (Event A) → List (Report A)
+-- them the router has these zone tables.
+abbrev pub Tells : {A : Type 0} → ℕ → Tables → List Happening → List (Event A) → List (Report A)
     → List Happening → Type 0
-Tells net table before [] [] history = history ≡ before
-Tells {A} net table before (e ∷ es) (r ∷ rs) history = (h : Happening) × Matches net table (after A before) h e r
-    × Grows A (after A before) h × Tells net (table_by e r table) (h ∷ before) es rs history
-Tells net table before [] (r ∷ rs) history = ⊥
-Tells net table before (e ∷ es) [] history = ⊥
+Tells net tables before [] [] history = history ≡ before
+Tells {A} net tables before (e ∷ es) (r ∷ rs) history = (h : Happening) × Matches net tables (after A before) h e r
+    × Grows A (after A before) h × Tells net (tables_by e r tables) (h ∷ before) es rs history
+Tells net tables before [] (r ∷ rs) history = ⊥
+Tells net tables before (e ∷ es) [] history = ⊥
 
 -- a packet as the world's list has it
 abbrev pub posted_packet : Sent → SentDatagram
@@ -76,10 +77,10 @@ abbrev pub Within : List SentDatagram → Network → Type 0
 Within sent n = (which : ℕ) (s : Sent) → packet_at n.sent which ≡ Some s → slice_get sent which ≡ Some (posted_packet s)
 
 -- A history in which no packet outlives its number, that these events and reports make, and that sent this. In the
--- beginning the router has this zone table.
-pub record IsHistory {A : Type 0} (net : ℕ) (zones : List (List ℕ)) (es : List (Event A)) (rs : List (Report A))
+-- beginning the router has these zone tables.
+pub record IsHistory {A : Type 0} (net : ℕ) (tables : Tables) (es : List (Event A)) (rs : List (Report A))
     (sent : List SentDatagram) (history : List Happening) : Type 0 where
   pub timely : AllTimely A history
   pub in_range : AllByRecursion IsInRange history
-  pub tells : Tells net zones [] es rs history
+  pub tells : Tells net tables [] es rs history
   pub is_sent : Within sent (after A history)

@@ -5,6 +5,7 @@ ghost use Rattle.at_atp.specs.Network.{Happening};
 ghost use Rattle.at_world.specs.Events.{NoForge};
 ghost use Rattle.at_world.specs.Machine.{Machine, Run, opening_machine};
 ghost use Rattle.at_world.specs.Plays.{Follows, opening_world};
+ghost use Rattle.at_setup.specs.Setups.{tables_of};
 ghost use Rattle.at_setup.specs.Setups.{is_lawful};
 ghost use Rattle.at_world.specs.Stories.{IsHistory};
 ghost use Rattle.at_world.specs.Worlds.{WorldState};
@@ -19,7 +20,7 @@ pub(crate) fn steps_make_a_history<A: Allocator>()
     ensures { (s : Setup A) (events : List (Event A)) (reports : List (Report A)) (w : WorldState) → is_lawful s ≡ true
         → NoForge events → Follows (opening_world s) events reports w
         → ((m : Machine) × Run (opening_machine s) events reports m)
-        × ((history : List Happening) × IsHistory s.net s.zones events reports w.sent history) }
+        × ((history : List Happening) × IsHistory s.net (tables_of s) events reports w.sent history) }
 {
     at_steps::laws::a_call_is_a_happening_of_atp::<A>();
     at_steps::laws::a_timer_is_a_happening_of_atp::<A>();
@@ -50,6 +51,7 @@ pub(crate) fn steps_make_a_history<A: Allocator>()
     at_zip::laws::a_page_is_the_longest_run();
     at_zip::laws::a_page_goes_on_with_its_table();
     at_zip::laws::names_without_a_fault_are_a_table();
+    at_zip::laws::tables_stay_tables();
     at_nbp::laws::finds_stood_since_their_lookup_began();
     at_nbp::laws::what_is_sent_is_lawful();
     at_name_socket::laws::a_new_socket_is_lawful();

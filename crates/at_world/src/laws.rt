@@ -6,6 +6,7 @@ ghost use Rattle.at_world.specs.Events.{NoForge};
 ghost use Rattle.at_world.specs.Machine.{Machine, Run, opening_machine};
 ghost use Rattle.at_world.specs.Plays.{Follows, opening_world};
 ghost use Rattle.at_world.specs.Sents.{AreCanonical};
+ghost use Rattle.at_setup.specs.Setups.{tables_of};
 ghost use Rattle.at_setup.specs.Setups.{is_lawful};
 ghost use Rattle.at_world.specs.Worlds.{WorldState};
 ghost use Rattle.at_setup.specs.declared.event.Event.{Event};
@@ -38,7 +39,7 @@ pub fn exactly_once_requests_run_once<A: Allocator>()
     ensures { (s : Setup A) (events : List (Event A)) (reports : List (Report A)) (w : WorldState) → is_lawful s ≡ true
         → NoForge events → Follows (opening_world s) events reports w
         → AllLive s.net w.sent (onto [] events reports)
-        → RunsOnce s.net s.zones w.sent (onto [] events reports) }
+        → RunsOnce s.net (tables_of s) w.sent (onto [] events reports) }
 {
     steps_make_a_history::<A>();
     at_atp::laws::responses_are_answers::<A>();

@@ -1,6 +1,7 @@
 //! The nodes of a setup before anything happened, each with what it knows of the others.
 ghost use Rattle.std.specs.Prelude.{◌≡◌, IfOk, Some, None, map, if◌then◌else◌};
 ghost use Rattle.at_adsp_ends.specs.Tables.{AreRooms};
+ghost use Rattle.at_setup.specs.Setups.{tables_of};
 ghost use Rattle.at_world.specs.Safety.{AreWithin};
 ghost use Rattle.at_world.specs.Plays.{neighbours_of, opening_node, rooms_of, router_of};
 
@@ -10,7 +11,7 @@ use at_name_socket::Neighbour;
 use at_nbp::copy_of;
 use at_node::{Node, Seat, Settings};
 use at_setup::{NodeSetup, Setup};
-use at_zip::Zones;
+use at_zip::{Tables, Zones};
 use std::alloc::{AllocError, Allocator};
 
 /// The nodes of a setup before anything happened. The error is out of memory.
@@ -31,13 +32,13 @@ pub fn opening_nodes<A: Allocator + Copy>(
             router,
         };
         let zone = zone_of(n);
-        let zones = table_of(alloc, n.router, setup.zones.as_slice())?;
+        let tables = tables_for(alloc, n.router, setup)?;
         let neighbours = neighbours_for(alloc, n.router, setups)?;
         let rooms = rooms_of(n);
         let settings = Settings {
             seat,
             zone,
-            zones,
+            tables,
             neighbours,
             rooms,
         };
@@ -108,19 +109,28 @@ fn router_of(nodes: &[NodeSetup]) -> Option<u8>
     Some(router.node)
 }
 
-// The zone table of a node, with copies of the names; none if the node is not the router.
-fn table_of<A: Allocator + Copy>(
+// The zone tables of a node, with copies of the names; none if the node is not the router.
+fn tables_for<A: Allocator + Copy>(
     alloc: A,
     router: bool,
-    names: &[Pascal],
-) -> Result<Option<Zones<A>>, AllocError>
-    ensures { IfOk result (λ table. table ≡ (if router then Some names.now else None)) }
+    setup: &Setup<A>,
+) -> Result<Option<Tables<A>>, AllocError>
+    ensures { IfOk result (λ tables. tables ≡ (if router then Some (tables_of setup.now) else None)) }
 {
     if !router {
         return Ok(None);
     }
+    let all = table_of(alloc, setup.zones.as_slice())?;
+    let local = table_of(alloc, setup.local.as_slice())?;
+    Ok(Some(Tables::new(all, local)))
+}
+
+// A zone table with copies of these names.
+fn table_of<A: Allocator + Copy>(alloc: A, names: &[Pascal]) -> Result<Zones<A>, AllocError>
+    ensures { IfOk result (λ table. table ≡ names.now) }
+{
     match Zones::copy_of(alloc, names) {
-        Ok(table) => Ok(Some(table)),
+        Ok(table) => Ok(table),
         Err(_) => Err(AllocError),
     }
 }

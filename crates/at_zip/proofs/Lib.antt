@@ -5,4 +5,5 @@ mod ReadingLemmas
 mod RequestLemmas
 mod RunLemmas
 mod SpelledLemmas
+mod TableLemmas
 mod ZoneLemmas

@@ -2,11 +2,13 @@
 use Rattle.std.proofs.Common.{◌≡◌, ℕ, ◌+◌, ◌*◌, ◌≤◌, List, [], ◌∷◌, length, get_or, refl, arith}
 use Rattle.at_ddp.specs.Fault.{number_at}
 use Rattle.at_ddp.proofs.Octets.{InBytes, high_byte, low_byte}
-use Rattle.at_zip.specs.Request.{RequestSpells}
+use Rattle.at_zip.specs.Request.{RequestSpells, code_of}
+use Rattle.at_zip.specs.declared.request.Which.{Which}
 
-pub is_request : (user : List ℕ) (start : ℕ) → length user ≡ 4 → get_or user 0 0 ≡ 8 → InBytes user → start
-    ≡ number_at 2 user → 1 ≤ start → RequestSpells user start
-is_request (a ∷ b ∷ c ∷ d ∷ []) start len code fits is some =
+pub is_request : (user : List ℕ) (which : Which) (start : ℕ) → length user ≡ 4 → get_or user 0 0 ≡ code_of which
+    → InBytes user
+    → start ≡ number_at 2 user → 1 ≤ start → RequestSpells user which start
+is_request (a ∷ b ∷ c ∷ d ∷ []) which start len code fits is some =
     let number : start ≡ 256 * c + d = omega arith in
     record {
       from_first = some;
@@ -15,4 +17,4 @@ is_request (a ∷ b ∷ c ∷ d ∷ []) start len code fits is some =
       in_one_byte = fits 1;
       fields = rw (number, high_byte c d (fits 2) (fits 3), low_byte c d (fits 3), code) refl;
     }
-is_request _ start len code fits is some = absurd (omega arith)
+is_request _ which start len code fits is some = absurd (omega arith)

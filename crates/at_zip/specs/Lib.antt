@@ -4,4 +4,5 @@ pub mod Page
 pub mod PageView
 pub mod Reading
 pub mod Request
+pub mod Tables
 pub mod Zones

@@ -8,8 +8,8 @@ use thiserror::Error;
 /// Why a request, a page or a table is refused.
 #[derive(Clone, Copy, Debug, PartialEq, Eq, Error)]
 pub enum ZipFault {
-    /// A request has another code than 8, or asks from place 0.
-    #[error("the ZIP request has a code other than 8, or starts at name 0")]
+    /// A request has a code other than 8 and 9, or asks from place 0.
+    #[error("the ZIP request has a code other than 8 and 9, or starts at name 0")]
     NotZip,
     /// A page has fewer names than it counts.
     #[error("the page has fewer names than it counts")]

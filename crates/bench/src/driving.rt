@@ -9,6 +9,7 @@ use at_cable::Cable;
 use at_drive::{Drive, Log, Step};
 use at_event::Call;
 use at_udp::UdpCable;
+use at_zip::Which;
 use std::alloc::{AllocError, Global};
 use std::io;
 use std::net::Net;
@@ -87,7 +88,7 @@ fn drive_round(drive: &mut Drive, cable: &mut UdpCable, at: usize) -> Result<(),
 {
     let ask = Step::Call {
         node: ASKER,
-        call: Call::Zones,
+        call: Call::Zones { which: Which::All },
     };
     drive.step(cable, at, &ask)?;
     drive.step(cable, at + 1, &Step::Poll { node: ROUTER })?;

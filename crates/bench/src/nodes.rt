@@ -24,6 +24,7 @@ pub(crate) fn two_nodes(alloc: Global) -> Result<Setup, AllocError> {
         net: 10,
         nodes: Listed::from_vec(nodes),
         zones: Listed::from_vec(zones),
+        local: Listed::from_vec(Vec::new(alloc)),
     })
 }
 

@@ -54,7 +54,7 @@ fn node(alloc: Global, number: u8) -> Node {
     let settings = Settings {
         seat,
         zone: None,
-        zones: None,
+        tables: None,
         neighbours: None,
         rooms: ROOMS,
     };

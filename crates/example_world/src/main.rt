@@ -46,6 +46,7 @@ fn two_nodes(alloc: Global) -> Result<Setup, AllocError> {
         net: 10,
         nodes: Listed::from_vec(nodes),
         zones: Listed::from_vec(Vec::new(alloc)),
+        local: Listed::from_vec(Vec::new(alloc)),
     })
 }
 

@@ -22,6 +22,7 @@ use Rattle.at_event.specs.Outcomes.{Through, over, Outcome, idle}
 use Rattle.at_node.specs.RequesterSocket.{AtRequester}
 use Rattle.at_event.specs.Services.{is_asked}
 use Rattle.at_node.specs.ServiceSocket.{AtService}
+use Rattle.at_zip.specs.Tables.{Tables}
 use Rattle.at_node.specs.ZoneSocket.{AtZones}
 use Rattle.at_node.specs.ZoneReading.{is_reading}
 use Rattle.at_node.specs.declared.numbers.Draw.TheVariants.{Tid}
@@ -86,43 +87,43 @@ module _ (A : Type 0) (laws : HearingLaws A) (history : List Happening) (n : Nod
         tid
         user bytes is said o later at
 
-    at_zone_socket : (f : Content) (o : Outcome A AtpState) (table : List (List ℕ)) → n.atp.table ≡ Some table
+    at_zone_socket : (f : Content) (o : Outcome A AtpState) (tables : Tables) → n.atp.tables ≡ Some tables
         → s.packet
-        ≡ f → s.to.node ≡ n.seat.number → s.to.socket ≡ 6 → AtZones n.seat n.atp s.from table f o
+        ≡ f → s.to.node ≡ n.seat.number → s.to.socket ≡ 6 → AtZones n.seat n.atp s.from tables f o
         → IsIts A history n (Gets which) (over (with_atp n) o)
-    at_zone_socket (Response place eom sts tid user bytes) o table has is here socket at = ignoring o at
-    at_zone_socket (Release tid) o table has is here socket at =
+    at_zone_socket (Response place eom sts tid user bytes) o tables has is here socket at = ignoring o at
+    at_zone_socket (Release tid) o tables has is here socket at =
         let a = released_where A laws history n st which s was_sent fresh tid is in
         let on_net = responder_on_net n.seat.net (after A history).asked s.from tid s.to st.on_net a in
         subst (λ p. IsIts A history n (Gets which) (over (with_atp n) p)) (sym at)
         (zone_release A laws history n st which s was_sent fresh (its_address 6 on_net here socket) tid is)
-    at_zone_socket (Request mask xo timer tid user bytes) o table has is here socket (inr at) = ignoring o at.1
-    at_zone_socket (Request mask xo timer tid user bytes) o table has is here socket (inl at) =
+    at_zone_socket (Request mask xo timer tid user bytes) o tables has is here socket (inr at) = ignoring o at.1
+    at_zone_socket (Request mask xo timer tid user bytes) o tables has is here socket (inl at) =
         let a = asks A laws history n st which s was_sent fresh mask xo timer tid user bytes is in
         let on_net = responder_on_net n.seat.net (after A history).asked s.from tid s.to st.on_net a.0 in
         zone_request A laws history n st which s was_sent fresh (its_address 6 on_net here socket) mask xo timer tid
         user
-        bytes is table has at.start at.asks o at.outcome
+        bytes is tables has at.which at.start at.asks o at.outcome
 
     -- which socket it comes to
-    at_router : (o : Outcome A AtpState) (table : Option (List (List ℕ))) (said : Reply A) → n.atp.table ≡ table
+    at_router : (o : Outcome A AtpState) (tables : Option Tables) (said : Reply A) → n.atp.tables ≡ tables
         → s.to.node ≡ n.seat.number → s.to.socket ≡ 6 →
-        AtSocket said n.seat n.atp s.from (option_map Zones table) s.packet o
+        AtSocket said n.seat n.atp s.from (option_map Zones tables) s.packet o
         → IsIts A history n (Gets which) (over (with_atp n) o)
     at_router o None said has here socket at = ignoring o at
-    at_router o (Some table) said has here socket at = at_zone_socket s.packet o table has refl here socket at
+    at_router o (Some tables) said has here socket at = at_zone_socket s.packet o tables has refl here socket at
 
     at_mine : (said : Reply A) (o : Outcome A AtpState) → Free o → (is_asked o.report ≡ true → said ≡ reply.Later)
         → s.to.node ≡ n.seat.number → (x y z : Bool) → (s.to.socket == 128) ≡ x → (s.to.socket == 129) ≡ y
         → (s.to.socket == 6) ≡ z →
         AtSocket said n.seat n.atp s.from
-        (cond x (Some Requester) (cond y (Some Service) (cond z (option_map Zones n.atp.table) None))) s.packet o
+        (cond x (Some Requester) (cond y (Some Service) (cond z (option_map Zones n.atp.tables) None))) s.packet o
         → IsIts A history n (Gets which) (over (with_atp n) o)
     at_mine said o free later here true y z e f g at = at_asker s.packet o free refl here
         (eqb-true s.to.socket 128 e) at
     at_mine said o free later here false true z e f g at = at_service said s.packet o later refl here
         (eqb-true s.to.socket 129 f) at
-    at_mine said o free later here false false true e f g at = at_router o n.atp.table said refl here
+    at_mine said o free later here false false true e f g at = at_router o n.atp.tables said refl here
         (eqb-true s.to.socket 6 g) at
     at_mine said o free later here false false false e f g at = ignoring o at
 

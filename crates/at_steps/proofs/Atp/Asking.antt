@@ -14,8 +14,11 @@ use Rattle.at_atp_requester.specs.Requests.{has_number, next_number, beginning}
 use Rattle.at_atp.specs.Network.{Happening, NoneHolds, after}
 use Rattle.at_zip.specs.Fault as zip
 use Rattle.at_zip.specs.Reading.{place_after}
-use Rattle.at_zip.specs.Request.{request_user}
+use Rattle.at_zip.specs.Request.{code_of, request_user}
+use Rattle.at_zip.specs.Tables.{Tables, with_table}
 use Rattle.at_zip.specs.Zones.{table_fault}
+use Rattle.at_zip.specs.declared.request.Which.{Which}
+use Rattle.at_zip.specs.declared.request.Which.TheVariants.{All, Local}
 use Rattle.at_zip.specs.declared.fault.ZipFault.{ZipFault}
 use Rattle.at_event.specs.Calls.{IsCall}
 use Rattle.at_node.specs.Numbers.{drawn_by}
@@ -65,15 +68,20 @@ begun_is_open q t mine r numbered is =
     (open_last q.standing t)
 
 -- the request for a page is in range
-pub asks_fit : (names : List (List ℕ)) → IsPacket (record { user = request_user (place_after names); data_ = [] })
-asks_fit names = record {
+pub asks_fit : (which : Which) (names : List (List ℕ))
+    → IsPacket (record { user = request_user which (place_after names); data_ = [] })
+asks_fit which names = record {
   four = refl;
-  user = All-from_recursion (λ b. b < 256) (request_user (place_after names))
-      (lit< tt, (lit< tt, (high (place_after names), (low (place_after names), tt))));
+  user = All-from_recursion (λ b. b < 256) (request_user which (place_after names))
+      (code which, (lit< tt, (high (place_after names), (low (place_after names), tt))));
   bytes = All-nil (λ b. b < 256);
   fits = lit≤ tt;
 }
   where
+    code : (v : Which) → code_of v < 256
+    code All = lit< tt
+    code Local = lit< tt
+
     high : (k : ℕ) → k / 256 % 256 < 256
     high k = omega arith
 
@@ -93,36 +101,39 @@ module _ (A : Type 0) (laws : CallLaws A) (history : List Happening) (n : NodeSt
   there_fits : (node socket : ℕ) → node < 256 → socket < 256 → IsAddress (at_socket n.seat node socket)
   there_fits node socket a b = record { net = st.small_net; node = a; socket = b }
 
-  -- ---- the zone list
+  -- ---- a zone table
 
-  reading_is_open : (router tid : ℕ)
+  reading_is_open : (kind : Which) (router tid : ℕ)
       → IsOpen (record n.atp {
         requester = requests.begun n.atp.requester
-            (page_transaction (zones_at n.seat.net router) [] tid);
-        reading = Some (record { tid = tid; names = [] });
+            (page_transaction (zones_at n.seat.net router) kind [] tid);
+        reading = Some (record { which = kind; tid = tid; names = [] });
       })
-  reading_is_open router tid r is =
-      begun_is_open n.atp.requester (page_transaction (zones_at n.seat.net router) [] tid)
-      (record { tid = tid; names = [] }) r refl is
+  reading_is_open kind router tid r is =
+      begun_is_open n.atp.requester (page_transaction (zones_at n.seat.net router) kind [] tid)
+      (record { which = kind; tid = tid; names = [] }) r refl is
 
-  reading_begun : (router : ℕ) → n.seat.router ≡ Some router → (drawn : Option ℕ) → next_number n.atp.requester ≡ drawn
-      → DrawsFree A history n (over (with_atp n) (reading_begins {A = A} n.seat n.atp router drawn)).report
-      → IsIts A history n (Calls Zones) (over (with_atp n) (reading_begins n.seat n.atp router drawn))
-  reading_begun router is None is_drawn free =
-      idle_happens A history n (Calls Zones) st (report.Refused 14) refl refl refl
-  reading_begun router is (Some tid) is_drawn free =
-      begun_happens A history n (Calls Zones) st (zones_at n.seat.net router) (request_user 1) [] 1 false 3 tid
-      (Some (record { tid = tid; names = [] })) is_drawn (free tid refl)
+  reading_begun : (kind : Which) (router : ℕ) → n.seat.router ≡ Some router → (drawn : Option ℕ)
+      → next_number n.atp.requester ≡ drawn
+      → DrawsFree A history n (over (with_atp n) (reading_begins {A = A} n.seat n.atp kind router drawn)).report
+      → IsIts A history n (Calls (Zones kind)) (over (with_atp n) (reading_begins n.seat n.atp kind router drawn))
+  reading_begun kind router is None is_drawn free =
+      idle_happens A history n (Calls (Zones kind)) st (report.Refused 14) refl refl refl
+  reading_begun kind router is (Some tid) is_drawn free =
+      begun_happens A history n (Calls (Zones kind)) st (zones_at n.seat.net router)
+      (request_user kind 1) [] 1 false 3 tid
+      (Some (record { which = kind; tid = tid; names = [] })) is_drawn (free tid refl)
       (record {
         who_fits = asking_fits;
         to_fits = there_fits router 6 (st.small_router router is) (lit< tt);
-        asks = asks_fit [];
+        asks = asks_fit kind [];
         few = lit≤ tt;
       })
-      refl (reading_is_open router tid)
-      (begins_match A n.seat.net n.seat.number n.atp.table (after A history) tid (zones_at n.seat.net router)
-      (request_user 1) [] 1 false 3 Zones refl refl (ap next_number st.requester ∙ is_drawn))
+      refl (reading_is_open kind router tid)
+      (begins_match A n.seat.net n.seat.number n.atp.tables (after A history) tid (zones_at n.seat.net router)
+      (request_user kind 1) [] 1 false 3 (Zones kind) refl refl (ap next_number st.requester ∙ is_drawn))
       (Reads (record {
+        which = kind;
         tid = tid;
         server = router;
         is_router = is;
@@ -132,23 +143,27 @@ module _ (A : Type 0) (laws : CallLaws A) (history : List Happening) (n : NodeSt
         reading = refl;
       }))
 
-  pub zones_call : (router : Option ℕ) (reading : Option Reading) → n.seat.router ≡ router
-      → DrawsFree A history n (over (with_atp n) (zones_called {A = A} n.seat n.atp router reading)).report
-      → IsIts A history n (Calls Zones) (over (with_atp n) (zones_called n.seat n.atp router reading))
-  zones_call None reading is free = idle_happens A history n (Calls Zones) st (report.Refused 60) refl refl refl
-  zones_call (Some router) (Some r) is free =
-      idle_happens A history n (Calls Zones) st (report.Refused 63) refl refl refl
-  zones_call (Some router) None is free = reading_begun router is (next_number n.atp.requester) refl free
+  pub zones_call : (kind : Which) (router : Option ℕ) (reading : Option Reading) → n.seat.router ≡ router
+      → DrawsFree A history n (over (with_atp n) (zones_called {A = A} n.seat n.atp kind router reading)).report
+      → IsIts A history n (Calls (Zones kind)) (over (with_atp n) (zones_called n.seat n.atp kind router reading))
+  zones_call kind None reading is free = idle_happens A history n (Calls (Zones kind)) st
+      (report.Refused 60) refl refl refl
+  zones_call kind (Some router) (Some r) is free =
+      idle_happens A history n (Calls (Zones kind)) st (report.Refused 63) refl refl refl
+  zones_call kind (Some router) None is free = reading_begun kind router is (next_number n.atp.requester) refl free
 
-  -- ---- the router's table
+  -- ---- the router's tables
 
-  table_call : (names table : List (List ℕ)) → n.atp.table ≡ Some table → (fault : Option ZipFault) → table_fault names
-      ≡ fault → IsIts A history n (Calls (SetZones names)) (over (with_atp n) (table_set n.atp names fault))
-  table_call names table has None none =
-      table_happens A history n (Calls (SetZones names)) st names (laws.tables names none) refl
+  table_call : (kind : Which) (names : List (List ℕ)) (tables : Tables) → n.atp.tables ≡ Some tables
+      → (fault : Option ZipFault) → table_fault names ≡ fault
+      → IsIts A history n (Calls (SetZones kind names)) (over (with_atp n) (table_set n.atp tables kind names fault))
+  table_call kind names tables has None none =
+      table_happens A history n (Calls (SetZones kind names)) st (with_table kind names tables)
+      (laws.sets kind names tables (laws.tables names none) (st.has_tables tables has)) refl
       (Sets (record {
+        which = kind;
         names = names;
-        table = table;
+        tables = tables;
         act = refl;
         report = refl;
         was = has;
@@ -157,18 +172,18 @@ module _ (A : Type 0) (laws : CallLaws A) (history : List Happening) (n : NodeSt
         asked = refl;
         reading = refl;
       }))
-  table_call names table has (Some fault) is = refused (zip.number_of fault)
+  table_call kind names tables has (Some fault) is = refused (zip.number_of fault)
     where
       refused : (number : Option ℕ)
-          → IsIts A history n (Calls (SetZones names)) (over (with_atp n) (idle n.atp (refused_as number)))
-      refused None = idle_happens A history n (Calls (SetZones names)) st report.NoMemory refl refl refl
-      refused (Some k) = idle_happens A history n (Calls (SetZones names)) st (report.Refused k) refl refl refl
+          → IsIts A history n (Calls (SetZones kind names)) (over (with_atp n) (idle n.atp (refused_as number)))
+      refused None = idle_happens A history n (Calls (SetZones kind names)) st report.NoMemory refl refl refl
+      refused (Some k) = idle_happens A history n (Calls (SetZones kind names)) st (report.Refused k) refl refl refl
 
-  pub set_zones_call : (names : List (List ℕ)) (table : Option (List (List ℕ))) → n.atp.table ≡ table
-      → IsIts A history n (Calls (SetZones names)) (over (with_atp n) (set_zones_called n.atp table names))
-  set_zones_call names None has = idle_happens A history n (Calls (SetZones names)) st
+  pub set_zones_call : (kind : Which) (names : List (List ℕ)) (tables : Option Tables) → n.atp.tables ≡ tables
+      → IsIts A history n (Calls (SetZones kind names)) (over (with_atp n) (set_zones_called n.atp tables kind names))
+  set_zones_call kind names None has = idle_happens A history n (Calls (SetZones kind names)) st
       (report.Refused 60) refl refl refl
-  set_zones_call names (Some table) has = table_call names table has (table_fault names) refl
+  set_zones_call kind names (Some tables) has = table_call kind names tables has (table_fault names) refl
 
   -- ---- asking
 
@@ -205,7 +220,7 @@ module _ (A : Type 0) (laws : CallLaws A) (history : List Happening) (n : NodeSt
         })
         refl (λ r is. open_more n.atp.requester.standing
         (beginning tid (at_socket n.seat node socket) user bytes wanted xo retries ∷ []) r.tid (st.is_open r is))
-        (begins_match A n.seat.net n.seat.number n.atp.table (after A history) tid
+        (begins_match A n.seat.net n.seat.number n.atp.tables (after A history) tid
         (at_socket n.seat node socket) user bytes wanted xo retries
         (Ask node socket user bytes wanted xo retries) refl refl (ap next_number st.requester ∙ is_drawn))
         (Begins (record {

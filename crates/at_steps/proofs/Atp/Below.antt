@@ -17,7 +17,9 @@ use Rattle.at_ddp.specs.Posts.{AllSent}
 use Rattle.at_ddp.specs.Protocols.{atp_kind}
 use Rattle.at_atp.specs.Network.{Happening, AllTimely, GivesAnswers, after}
 use Rattle.at_zip.specs.Page.{page_of, page_user, page_data}
+use Rattle.at_zip.specs.Tables.{Tables, AreTables, with_table}
 use Rattle.at_zip.specs.Zones.{IsTable, table_fault}
+use Rattle.at_zip.specs.declared.request.Which.{Which}
 use Rattle.at_node.specs.Hearing.{Hears, HearsSent}
 use Rattle.at_node.specs.Nodes.{NodeState}
 use Rattle.at_event.specs.Outcomes.{Outcome}
@@ -29,6 +31,8 @@ pub record CallLaws (A : Type 0) : Type 0 where
   pub drawn : (r : Requests) (tid : ℕ) → next_number r ≡ Some tid → has_number r.standing tid ≡ false
   pub few : (o : Option Record) (key : Key) (packets : List Packet) → length (asked_for o key packets) ≤ length packets
   pub tables : (names : List (List ℕ)) → table_fault names ≡ None → IsTable names
+  pub sets : (which : Which) (names : List (List ℕ)) (tables : Tables) → IsTable names → AreTables tables
+      → AreTables (with_table which names tables)
 
 -- a number stays open until its transaction fails
 abbrev pub StaysOpen : Type 0

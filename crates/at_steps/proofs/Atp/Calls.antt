@@ -128,7 +128,7 @@ module _ (A : Type 0) (laws : CallLaws A) (history : List Happening) (n : NodeSt
         (record { from = at_socket n.seat node socket; tid = tid }) packets)) st.service)
         (ap (λ (x : Network). x.drawn) done_is)
         (ap (λ (x : Network). x.asked) done_is) refl
-        (answers_match A n.seat.net n.seat.number n.atp.table (after A history) (serving n.seat.net n.seat.number)
+        (answers_match A n.seat.net n.seat.number n.atp.tables (after A history) (serving n.seat.net n.seat.number)
         (record { from = at_socket n.seat node socket; tid = tid }) packets node socket tid
         (length (asked_for (find (is_key (record { from = at_socket n.seat node socket; tid = tid }))
         n.atp.service_responder) (record { from = at_socket n.seat node socket; tid = tid }) packets)) refl
@@ -152,8 +152,8 @@ module _ (A : Type 0) (laws : CallLaws A) (history : List Happening) (n : NodeSt
 
   pub call_happens : (call : Call A) → IsCall call → is_atp (kind_of_call call) ≡ true
       → DrawsFree A history n (called n call).report → IsIts A history n (Calls call) (called n call)
-  call_happens Zones range own free = zones_call A laws history n st n.seat.router n.atp.reading refl free
-  call_happens (SetZones names) range own free = set_zones_call A laws history n st names n.atp.table refl
+  call_happens (Zones kind) range own free = zones_call A laws history n st kind n.seat.router n.atp.reading refl free
+  call_happens (SetZones kind names) range own free = set_zones_call A laws history n st kind names n.atp.tables refl
   call_happens (Ask node socket user bytes wanted xo retries) range own free = ask_call A laws history n st node socket
       user bytes wanted xo retries range (nat_lt 578 (length bytes)) refl free
   call_happens (Answer node socket tid packets) range own free =

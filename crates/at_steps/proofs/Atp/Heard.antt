@@ -27,6 +27,7 @@ use Rattle.at_node.specs.Nodes.{with_atp, NodeState}
 use Rattle.at_event.specs.Outcomes.{over, Outcome}
 use Rattle.at_node.specs.RequesterSocket.{AtRequester, reported_other}
 use Rattle.at_node.specs.ZoneReading.{AsksOn, ReadsPage, is_page, is_reading, names_read, page_transaction}
+use Rattle.at_node.specs.ZoneReading.{table_read}
 use Rattle.at_node.specs.declared.numbers.Draw.TheVariants.{Tid}
 use Rattle.at_event.specs.declared.event.Report.{Report}
 use Rattle.at_event.specs.declared.event.Report.TheVariants as report
@@ -153,7 +154,7 @@ module _ (A : Type 0) (laws : HearingLaws A) (history : List Happening) (n : Nod
 
   -- a step of a transaction that goes on, or of another than the reading's
   steps_so : (r : Report A) (o : Outcome A AtpState) → drawn_by r ≡ None
-      → Matches n.seat.net n.seat.number n.atp.table (after A history) (Hears which) (Gets which) r
+      → Matches n.seat.net n.seat.number n.atp.tables (after A history) (Hears which) (Gets which) r
       → (is_finished (heard {A = A} n.atp.requester s.from (Response place eom sts tid user bytes)).step ≡ true
       → is_reading n.atp.reading tid ≡ false) →
       StepTo A history n (Gets which) (after A history).asked
@@ -182,7 +183,7 @@ module _ (A : Type 0) (laws : HearingLaws A) (history : List Happening) (n : Nod
       o ≡ after_heard n.seat n.atp (heard {A = A} n.atp.requester s.from (Response place eom sts tid user bytes)) r
       n.atp.reading → IsIts A history n (Gets which) (over (with_atp n) o)
   plainly r o none quiet x is goes step at =
-      steps_so r o none (hears_matches A n.seat.net n.seat.number n.atp.table (after A history) which
+      steps_so r o none (hears_matches A n.seat.net n.seat.number n.atp.tables (after A history) which
       (Gets which) r quiet) (λ finished. absurd (false≢true (sym goes ∙ ap is_finished (sym is) ∙ finished))) step at
 
   -- ---- the page that a reading asked for
@@ -222,7 +223,7 @@ module _ (A : Type 0) (laws : HearingLaws A) (history : List Happening) (n : Nod
         }
 
     reading_ends : (told : Report A) (o : Outcome A AtpState) → drawn_by told ≡ None → is_quiet told (Gets which)
-        ≡ true → Tells r.names (record { user = user; data_ = bytes }) told →
+        ≡ true → Tells r.which r.names (record { user = user; data_ = bytes }) told →
         o ≡ after_heard n.seat n.atp (heard {A = A} n.atp.requester s.from (Response place eom sts tid user bytes))
         told None → IsIts A history n (Gets which) (over (with_atp n) o)
     reading_ends told o none quiet tells is =
@@ -232,7 +233,7 @@ module _ (A : Type 0) (laws : HearingLaws A) (history : List Happening) (n : Nod
         (heard {A = A} n.atp.requester s.from (Response place eom sts tid user bytes)).sent told
         (in_time (after A history) which s was_sent fresh) tt is_done none
         (nothing_open (heard {A = A} n.atp.requester s.from (Response place eom sts tid user bytes)).after)
-        (hears_matches A n.seat.net n.seat.number n.atp.table (after A history) which (Gets which) told quiet)
+        (hears_matches A n.seat.net n.seat.number n.atp.tables (after A history) which (Gets which) told quiet)
         (HasRead (record {
           came = came (after A history).asked
               (record n.atp {
@@ -258,6 +259,7 @@ module _ (A : Type 0) (laws : HearingLaws A) (history : List Happening) (n : Nod
         (r.names ++ p.names) o → IsIts A history n (Gets which) (over (with_atp n) o)
     reading_turns p o spelled last few free asks =
         let names = r.names ++ p.names in
+        let kind = table_read n.atp.reading in
         let k = asks.tid in
         let as_packet : finishes A n.atp.requester s.from s.packet
         ≡ true = ap (finishes A n.atp.requester s.from) packet_is ∙ ended in
@@ -271,26 +273,28 @@ module _ (A : Type 0) (laws : HearingLaws A) (history : List Happening) (n : Nod
         subst (λ x. IsIts A history n (Gets which) (over (with_atp n) x)) (sym asks.outcome)
         (subst (λ (q : Requests). IsIts A history n (Gets which)
         (over (with_atp n) (asks_page n.seat (record n.atp { requester = q })
-        (Some (record { tid = k; names = names })) (page_transaction s.from names k))))
+        (Some (record { which = kind; tid = k; names = names })) (page_transaction s.from kind names k))))
         (ap (λ f. (heard {A = A} n.atp.requester s.from f).after) packet_is)
         (turned_happens A history n (Gets which) st which s
-        (request_user (place_after names)) 3 k was_sent to_is as_packet drawn nothing
-        (Some (record { tid = k; names = names })) (in_time (after A history) which s was_sent fresh) free_now
-        (asks_fit names) on_net
-        (λ q is. begun_is_open (heard {A = A} n.atp.requester s.from s.packet).after (page_transaction s.from names k)
-        (record { tid = k; names = names }) q refl is)
-        (turns_match A n.seat.net n.seat.number n.atp.table (after A history) which s
-        (request_user (place_after names)) 3 k
+        (request_user kind (place_after names)) 3 k was_sent to_is as_packet drawn nothing
+        (Some (record { which = kind; tid = k; names = names })) (in_time
+        (after A history) which s was_sent fresh) free_now
+        (asks_fit kind names) on_net
+        (λ q is. begun_is_open (heard {A = A} n.atp.requester s.from s.packet).after
+        (page_transaction s.from kind names k)
+        (record { which = kind; tid = k; names = names }) q refl is)
+        (turns_match A n.seat.net n.seat.number n.atp.tables (after A history) which s
+        (request_user kind (place_after names)) 3 k
         (it_ends A history n (Gets which) st which s
-        (request_user (place_after names)) 3 k was_sent to_is as_packet drawn nothing)
+        (request_user kind (place_after names)) 3 k was_sent to_is as_packet drawn nothing)
         (it_draws A history n (Gets which) st which s
-        (request_user (place_after names)) 3 k was_sent to_is as_packet drawn nothing) to_is)
+        (request_user kind (place_after names)) 3 k was_sent to_is as_packet drawn nothing) to_is)
         (steps.Turns (record {
-          came = came (page_asked n.seat.net n.seat.number s.from names k ∷ (after A history).asked)
+          came = came (page_asked n.seat.net n.seat.number s.from kind names k ∷ (after A history).asked)
               (record n.atp {
                 requester = begun (heard {A = A} n.atp.requester s.from s.packet).after
-                    (page_transaction s.from names k);
-                reading = Some (record { tid = k; names = names });
+                    (page_transaction s.from kind names k);
+                reading = Some (record { which = kind; tid = k; names = names });
               }) (report.Begun k);
           page = p;
           spelled = spelled;
@@ -298,8 +302,9 @@ module _ (A : Type 0) (laws : HearingLaws A) (history : List Happening) (n : Nod
           few = few;
           tid = k;
           report = refl;
-          asked = refl;
-          reading = refl;
+          asked = ap (λ v. page_asked n.seat.net n.seat.number s.from v names k ∷ (after A history).asked)
+              (ap table_read reads);
+          reading = ap (λ v. Some (record { which = v; tid = k; names = names })) (ap table_read reads);
         }))))
 
     page_happens : (o : Outcome A AtpState)
@@ -318,7 +323,7 @@ module _ (A : Type 0) (laws : HearingLaws A) (history : List Happening) (n : Nod
             (report.ZoneFault 34) None)
             (MatchBool last (o ≡ after_heard n.seat n.atp
             (heard {A = A} n.atp.requester s.from (Response place eom sts tid user bytes))
-            (report.Zones (r.names ++ (h.page).names)) None)
+            (report.Zones (table_read n.atp.reading) (r.names ++ (h.page).names)) None)
             (AsksOn n.seat n.atp (heard {A = A} n.atp.requester s.from (Response place eom sts tid user bytes))
             s.from (r.names ++ (h.page).names) o)) →
             IsIts A history n (Gets which) (over (with_atp n) o)
@@ -329,8 +334,13 @@ module _ (A : Type 0) (laws : HearingLaws A) (history : List Happening) (n : Nod
               many = ltb-true 1024 (length r.names + length (h.page).names) e;
               tells = refl;
             })) g
-        go false true e f g = reading_ends (report.Zones (r.names ++ (h.page).names)) o refl refl
-            (All (record { page = h.page; spelled = h.spelled; last = f; tells = refl })) g
+        go false true e f g = reading_ends (report.Zones (table_read n.atp.reading) (r.names ++ (h.page).names)) o
+            refl refl (All (record {
+              page = h.page;
+              spelled = h.spelled;
+              last = f;
+              tells = ap (λ v. report.Zones v (r.names ++ (h.page).names)) (ap table_read reads);
+            })) g
         go false false e f g = reading_turns h.page o h.spelled f
             (ltb-false 1024 (length r.names + length (h.page).names) e) free g
 
@@ -367,7 +377,7 @@ module _ (A : Type 0) (laws : HearingLaws A) (history : List Happening) (n : Nod
   other_happens other (step.Finished packets) o is at =
       let r = response packets is in
       steps_so (report.Response tid packets) o refl
-      (ends_match A n.seat.net n.seat.number n.atp.table (after A history) which tid packets
+      (ends_match A n.seat.net n.seat.number n.atp.tables (after A history) which tid packets
       (record {
         packet = s;
         was_sent = was_sent;

@@ -24,8 +24,8 @@ keeping A history n act o kept (h, step, sends) = (
     drawn = h.drawn;
     on_net = h.on_net;
     is_open = h.is_open;
-    same_table = h.same_table;
-    has_table = h.has_table;
+    same_tables = h.same_tables;
+    has_tables = h.has_tables;
     matches = h.matches;
   },
   step,

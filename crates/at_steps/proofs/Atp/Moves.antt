@@ -22,7 +22,7 @@ use Rattle.at_steps.proofs.Entries.{entries_of, entries_foreign}
 use Rattle.at_atp.specs.Network.{Network, Sent, Happening, Begins, Turns, Other, ComesInTime, NoneHolds, ending}
 use Rattle.at_atp.specs.Network.{number_after, after, done, with_requester, with_responder, new_transaction, IsTimely}
 use Rattle.at_atp.specs.Transactions.{Transaction, is_transaction, answered}
-use Rattle.at_zip.specs.Zones.{IsTable}
+use Rattle.at_zip.specs.Tables.{Tables, AreTables}
 use Rattle.at_node.specs.AtpParts.{AtpState, Reading, asking, serving, zones_at}
 use Rattle.at_node.specs.Numbers.{drawn_by}
 use Rattle.at_node.specs.Nodes.{NodeState, with_atp}
@@ -151,9 +151,9 @@ module _ (A : Type 0) (history : List Happening) (n : NodeState) (act : Act A)
       drawn = no_draw r none;
       on_net = st.on_net;
       is_open = st.is_open;
-      same_table = λ no. refl;
-      has_table = st.has_table;
-      matches = other_matches A n.seat.net n.seat.number n.atp.table (after A history) 0 act r quiet;
+      same_tables = λ no. refl;
+      has_tables = st.has_tables;
+      matches = other_matches A n.seat.net n.seat.number n.atp.tables (after A history) 0 act r quiet;
     },
     Plain (record { plain = plain; asked = refl; reading = refl }),
     tt,
@@ -183,9 +183,9 @@ module _ (A : Type 0) (history : List Happening) (n : NodeState) (act : Act A)
       drawn = sym (append-nil (after A history).drawn) ∙ ap (λ l. (after A history).drawn ++ l) (sym none);
       on_net = st.on_net;
       is_open = subst IsOpen (sym foreign.same) st.is_open;
-      same_table = λ no. ap (λ (a : AtpState). a.table) foreign.same;
-      has_table = λ table is. st.has_table table (sym (ap (λ (a : AtpState). a.table) foreign.same) ∙ is);
-      matches = other_matches A n.seat.net n.seat.number n.atp.table (after A history)
+      same_tables = λ no. ap (λ (a : AtpState). a.tables) foreign.same;
+      has_tables = λ tables is. st.has_tables tables (sym (ap (λ (a : AtpState). a.tables) foreign.same) ∙ is);
+      matches = other_matches A n.seat.net n.seat.number n.atp.tables (after A history)
           (length o.out) act o.report quiet;
     },
     refl,
@@ -201,7 +201,7 @@ module _ (A : Type 0) (history : List Happening) (n : NodeState) (act : Act A)
       (r : Report A) → IsTimely A (after A history) h → IsInRange h →
       done A (after A history) h ≡ with_requester (after A history) (asking n.seat.net n.seat.number) x sent
       → drawn_by r ≡ None → IsOpen (record n.atp { requester = x; reading = reading })
-      → Matches n.seat.net n.seat.number n.atp.table (after A history) h act r →
+      → Matches n.seat.net n.seat.number n.atp.tables (after A history) h act r →
       StepTo A history n act (after A history).asked (record n.atp { requester = x; reading = reading }) r →
       IsIts A history n act (record {
         report = r;
@@ -222,8 +222,8 @@ module _ (A : Type 0) (history : List Happening) (n : NodeState) (act : Act A)
       drawn = ap (λ (y : Network). y.drawn) is ∙ no_draw r none;
       on_net = subst (AllByRecursion (IsOn n.seat.net)) (ap (λ (y : Network). y.asked) (sym is)) st.on_net;
       is_open = opened;
-      same_table = λ no. refl;
-      has_table = st.has_table;
+      same_tables = λ no. refl;
+      has_tables = st.has_tables;
       matches = matches;
     },
     subst (λ ts. StepTo A history n act ts (record n.atp { requester = x; reading = reading }) r)
@@ -239,7 +239,7 @@ module _ (A : Type 0) (history : List Happening) (n : NodeState) (act : Act A)
       (zones_at n.seat.net n.seat.number) served at) →
       IsTimely A (after A history) h → IsInRange h → done A (after A history) h
       ≡ with_responder (after A history) own rs sent → drawn_by r ≡ None
-      → Matches n.seat.net n.seat.number n.atp.table (after A history) h act r →
+      → Matches n.seat.net n.seat.number n.atp.tables (after A history) h act r →
       StepTo A history n act (after A history).asked
       (record n.atp { zone_responder = served; service_responder = service }) r →
       IsIts A history n act (record {
@@ -261,8 +261,8 @@ module _ (A : Type 0) (history : List Happening) (n : NodeState) (act : Act A)
       drawn = ap (λ (y : Network). y.drawn) is ∙ no_draw r none;
       on_net = subst (AllByRecursion (IsOn n.seat.net)) (ap (λ (y : Network). y.asked) (sym is)) st.on_net;
       is_open = st.is_open;
-      same_table = λ no. refl;
-      has_table = st.has_table;
+      same_tables = λ no. refl;
+      has_tables = st.has_tables;
       matches = matches;
     },
     subst (λ ts. StepTo A history n act ts (record n.atp { zone_responder = served; service_responder = service }) r)
@@ -273,7 +273,7 @@ module _ (A : Type 0) (history : List Happening) (n : NodeState) (act : Act A)
   pub service_happens : (h : Happening) (rs : List Record) (sent : List (Address × Content)) (r : Report A)
       → IsTimely A (after A history) h → IsInRange h → done A (after A history) h
       ≡ with_responder (after A history) (serving n.seat.net n.seat.number) rs sent →
-      drawn_by r ≡ None → Matches n.seat.net n.seat.number n.atp.table (after A history) h act r
+      drawn_by r ≡ None → Matches n.seat.net n.seat.number n.atp.tables (after A history) h act r
       → StepTo A history n act (after A history).asked (record n.atp { service_responder = rs }) r →
       IsIts A history n act (record {
         report = r;
@@ -287,7 +287,7 @@ module _ (A : Type 0) (history : List Happening) (n : NodeState) (act : Act A)
   pub zones_happen : (h : Happening) (rs : List Record) (sent : List (Address × Content)) (r : Report A)
       → IsTimely A (after A history) h → IsInRange h → done A (after A history) h
       ≡ with_responder (after A history) (zones_at n.seat.net n.seat.number) rs sent →
-      drawn_by r ≡ None → Matches n.seat.net n.seat.number n.atp.table (after A history) h act r
+      drawn_by r ≡ None → Matches n.seat.net n.seat.number n.atp.tables (after A history) h act r
       → StepTo A history n act (after A history).asked (record n.atp { zone_responder = rs }) r →
       IsIts A history n act (record {
         report = r;
@@ -310,7 +310,7 @@ module _ (A : Type 0) (history : List Happening) (n : NodeState) (act : Act A)
       (done A (after A history) h).sent ≡ (after A history).sent ++ stamped (after A history).event own sent
       → (done A (after A history) h).drawn ≡ (after A history).drawn →
       (done A (after A history) h).asked ≡ answered (after A history).asked from tid packets → drawn_by r ≡ None
-      → Matches n.seat.net n.seat.number n.atp.table (after A history) h act r →
+      → Matches n.seat.net n.seat.number n.atp.tables (after A history) h act r →
       StepTo A history n act (answered (after A history).asked from tid packets)
       (record n.atp { zone_responder = served; service_responder = service }) r →
       IsIts A history n act (record {
@@ -334,8 +334,8 @@ module _ (A : Type 0) (history : List Happening) (n : NodeState) (act : Act A)
           on_net = subst (AllByRecursion (IsOn n.seat.net)) (sym is_asked)
               (answered_all (IsOn n.seat.net) (after A history).asked from tid packets st.on_net (λ a on. on));
           is_open = st.is_open;
-          same_table = λ no. refl;
-          has_table = st.has_table;
+          same_tables = λ no. refl;
+          has_tables = st.has_tables;
           matches = matches;
         },
         subst (λ ts. StepTo A history n act ts (record n.atp { zone_responder = served; service_responder = service })
@@ -355,7 +355,7 @@ module _ (A : Type 0) (history : List Happening) (n : NodeState) (act : Act A)
             (beginning tid to user bytes wanted xo retries);
         reading = reading;
       }) →
-      Matches n.seat.net n.seat.number n.atp.table (after A history)
+      Matches n.seat.net n.seat.number n.atp.tables (after A history)
       (Begins (asking n.seat.net n.seat.number) to user bytes wanted xo retries) act (report.Begun tid) →
       StepTo A history n act (new_transaction (asking n.seat.net n.seat.number)
       (beginning tid to user bytes wanted xo retries) ∷ (after A history).asked)
@@ -394,8 +394,8 @@ module _ (A : Type 0) (history : List Happening) (n : NodeState) (act : Act A)
       on_net = subst (AllByRecursion (IsOn n.seat.net)) (ap (λ (y : Network). y.asked) (sym is))
           ((refl, on_net), st.on_net);
       is_open = opened;
-      same_table = λ no. refl;
-      has_table = st.has_table;
+      same_tables = λ no. refl;
+      has_tables = st.has_tables;
       matches = matches;
     },
     subst (λ ts. StepTo A history n act ts
@@ -415,16 +415,16 @@ module _ (A : Type 0) (history : List Happening) (n : NodeState) (act : Act A)
       is = ap (λ o. network.begins (after A history) (asking n.seat.net n.seat.number) to user bytes wanted xo retries
           o) (ap next_number st.requester ∙ drawn)
 
-  -- ---- the router gets another table
+  -- ---- the router gets other tables
 
-  pub table_happens : (names : List (List ℕ)) → IsTable names → is_quiet {A = A} report.TableSet act ≡ true
-      → StepTo A history n act (after A history).asked (record n.atp { table = Some names }) report.TableSet →
+  pub table_happens : (tables : Tables) → AreTables tables → is_quiet {A = A} report.TableSet act ≡ true
+      → StepTo A history n act (after A history).asked (record n.atp { tables = Some tables }) report.TableSet →
       IsIts A history n act (record {
         report = report.TableSet;
-        state = with_atp n (record n.atp { table = Some names });
+        state = with_atp n (record n.atp { tables = Some tables });
         out = [];
       })
-  table_happens names is_table quiet step = (
+  table_happens tables are quiet step = (
     record {
       happening = Other 0;
       timely = tt;
@@ -438,9 +438,9 @@ module _ (A : Type 0) (history : List Happening) (n : NodeState) (act : Act A)
       drawn = no_draw report.TableSet refl;
       on_net = st.on_net;
       is_open = st.is_open;
-      same_table = λ no. absurd (true≢false no);
-      has_table = λ table is. let same : names ≡ table = cc in subst IsTable same is_table;
-      matches = other_matches A n.seat.net n.seat.number n.atp.table (after A history) 0 act report.TableSet quiet;
+      same_tables = λ no. absurd (true≢false no);
+      has_tables = λ now is. let same : tables ≡ now = cc in subst AreTables same are;
+      matches = other_matches A n.seat.net n.seat.number n.atp.tables (after A history) 0 act report.TableSet quiet;
     },
     step,
     tt,
@@ -488,7 +488,8 @@ module _ (A : Type 0) (history : List Happening) (n : NodeState) (act : Act A)
               (beginning tid s.from user [] 1 false times);
           reading = reading;
         }) →
-        Matches n.seat.net n.seat.number n.atp.table (after A history) (Turns which user times) act (report.Begun tid) →
+        Matches n.seat.net n.seat.number n.atp.tables (after A history) (Turns which user times) act
+        (report.Begun tid) →
         StepTo A history n act (new_transaction (asking n.seat.net n.seat.number)
         (beginning tid s.from user [] 1 false times) ∷ (after A history).asked)
         (record n.atp {
@@ -543,8 +544,8 @@ module _ (A : Type 0) (history : List Happening) (n : NodeState) (act : Act A)
         on_net = subst (AllByRecursion (IsOn n.seat.net)) (ap (λ (y : Network). y.asked) (sym turned))
             ((refl, on_net), st.on_net);
         is_open = opened;
-        same_table = λ no. refl;
-        has_table = st.has_table;
+        same_tables = λ no. refl;
+        has_tables = st.has_tables;
         matches = matches;
       },
       subst (λ ts. StepTo A history n act ts

@@ -78,7 +78,7 @@ module _ (A : Type 0) (laws : HearingLaws A) (history : List Happening) (n : Nod
           service_happens A history n (Gets which) st (Takes which) (taken n.atp.service_responder s.from f).after
           (taken n.atp.service_responder s.from f).sent r (in_time (after A history) which s was_sent fresh) tt
           is_taken none
-          (takes_quietly A n.seat.net n.seat.number n.atp.table (after A history) which s was_sent r x
+          (takes_quietly A n.seat.net n.seat.number n.atp.tables (after A history) which s was_sent r x
           ((λ i. (taken (its_records i) s.from (packet_is i)).reception) ∙ is) old quiet)
           (Plain (record { plain = plain; asked = refl; reading = refl }))
 
@@ -113,7 +113,7 @@ module _ (A : Type 0) (laws : HearingLaws A) (history : List Happening) (n : Nod
           (is_taken to_is (Request mask xo timer tid user bytes) packet_is
           ∙ ap (with_responder (after A history) (serving n.seat.net n.seat.number)
           (taken n.atp.service_responder s.from (Request mask xo timer tid user bytes)).after) waits.1) refl
-          (takes_new A n.seat.net n.seat.number n.atp.table (after A history) which s was_sent key user bytes
+          (takes_new A n.seat.net n.seat.number n.atp.tables (after A history) which s was_sent key user bytes
           ((λ i. (taken (its_records to_is (Request mask xo timer tid user bytes) packet_is i) s.from
           (packet_is i)).reception) ∙ is))
           (steps.Delivers (record {

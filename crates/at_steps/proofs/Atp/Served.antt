@@ -20,6 +20,8 @@ use Rattle.at_atp.specs.Network.{Network, Sent, Happening, Takes, after, done, w
 use Rattle.at_atp.specs.Transactions.{Asked, answered}
 use Rattle.at_zip.specs.Page.{page_of, page_data}
 use Rattle.at_zip.specs.Request.{RequestSpells}
+use Rattle.at_zip.specs.Tables.{Tables, table_of}
+use Rattle.at_zip.specs.declared.request.Which.{Which}
 use Rattle.at_node.specs.AtpParts.{AtpState, zones_at}
 use Rattle.at_node.specs.Numbers.{drawn_by}
 use Rattle.at_node.specs.Nodes.{with_atp, NodeState}
@@ -65,7 +67,7 @@ module _ (A : Type 0) (laws : HearingLaws A) (history : List Happening) (n : Nod
         zones_happen A history n (Gets which) st (Takes which) (taken n.atp.zone_responder s.from f).after
         (taken n.atp.zone_responder s.from f).sent r (in_time (after A history) which s was_sent fresh) tt is_taken
         none
-        (takes_quietly A n.seat.net n.seat.number n.atp.table (after A history) which s was_sent r x
+        (takes_quietly A n.seat.net n.seat.number n.atp.tables (after A history) which s was_sent r x
         ((λ i. (taken (its_records i) s.from (packet_is i)).reception) ∙ is) old quiet)
         (Plain (record { plain = plain; asked = refl; reading = refl }))
 
@@ -85,13 +87,17 @@ module _ (A : Type 0) (laws : HearingLaws A) (history : List Happening) (n : Nod
   -- ---- a request
 
   module _ (mask : ℕ) (xo : Bool) (timer tid : ℕ) (user bytes : List ℕ)
-      (packet_is : s.packet ≡ Request mask xo timer tid user bytes) (table : List (List ℕ))
-      (is_table : n.atp.table ≡ Some table) (start : ℕ) (asks_from : RequestSpells user start) where
+      (packet_is : s.packet ≡ Request mask xo timer tid user bytes) (tables : Tables)
+      (are_tables : n.atp.tables ≡ Some tables) (kind : Which) (start : ℕ)
+      (asks_from : RequestSpells user kind start) where
+    abbrev table : List (List ℕ)
+    table = table_of kind tables
+
     page_fits : IsPacket (page_packet table start)
     page_fits = record {
       four = refl;
       user = laws.user table start;
-      bytes = laws.bytes table start (st.has_table table is_table);
+      bytes = laws.bytes table start (st.has_tables tables are_tables kind);
       fits = laws.fits table start;
     }
 
@@ -177,7 +183,7 @@ module _ (A : Type 0) (laws : HearingLaws A) (history : List Happening) (n : Nod
         (page_packet table start ∷ []))) (append-nil (after A history).sent))
         (ap (λ (x : Network). x.drawn) d)
         joined refl
-        (serves_new A n.seat.net n.seat.number n.atp.table (after A history) which s was_sent key
+        (serves_new A n.seat.net n.seat.number n.atp.tables (after A history) which s was_sent key
         (page_packet table start ∷ [])
         (length (asked_for (find (is_key key)
         (taken n.atp.zone_responder s.from (Request mask xo timer tid user bytes)).after) key
@@ -186,12 +192,13 @@ module _ (A : Type 0) (laws : HearingLaws A) (history : List Happening) (n : Nod
         (joined ∙ (λ i. answered (after A history).asked s.from (number_of (sym packet_is i))
         (page_packet table start ∷ [])))
         (record {
-          zones = table;
-          is_table = is_table;
+          has = tables;
+          are_tables = are_tables;
           request = s;
           was_sent = was_sent;
+          table = kind;
           start = start;
-          asks_from = subst (λ f. AsksFrom f start) (sym packet_is) asks_from;
+          asks_from = subst (λ f. AsksFrom f kind start) (sym packet_is) asks_from;
           page = refl;
         }))
         (steps.Serves (record {
@@ -201,13 +208,14 @@ module _ (A : Type 0) (laws : HearingLaws A) (history : List Happening) (n : Nod
               (page_packet table start ∷ []));
           act = refl;
           report = refl;
-          table = table;
-          is_table = is_table;
+          tables = tables;
+          are_tables = are_tables;
           requester = s.from;
           tid = tid;
           newest = newest;
+          table = kind;
           start = start;
-          asks_from = subst (λ u. RequestSpells u start) (sym a.1) asks_from;
+          asks_from = subst (λ u. RequestSpells u kind start) (sym a.1) asks_from;
           one = laws.few (find (is_key key)
               (taken n.atp.zone_responder s.from (Request mask xo timer tid user bytes)).after) key
               (page_packet table start ∷ []);

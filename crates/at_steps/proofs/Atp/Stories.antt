@@ -18,6 +18,7 @@ use Rattle.at_atp_requester.specs.Requests.{next_number}
 use Rattle.at_atp_responder.specs.declared.reception.Key.{Key}
 use Rattle.at_atp_responder.specs.declared.reception.Reception.{Reception}
 use Rattle.at_atp_responder.specs.declared.reception.Reception.TheVariants as reception
+use Rattle.at_zip.specs.Tables.{Tables}
 use Rattle.at_node.specs.AtpParts.{asking}
 use Rattle.at_node.specs.Responders.{released_report}
 use Rattle.at_event.specs.declared.event.Call.{Call}
@@ -83,9 +84,9 @@ no_answer A net n h Forges (report.Answered count) q = tt
 no_answer A net n h Forges (report.Served count) q = tt
 no_answer A net n h act r q = tt
 
-module _ (A : Type 0) (net number : ℕ) (table : Option (List (List ℕ))) (n : Network) where
+module _ (A : Type 0) (net number : ℕ) (tables : Option Tables) (n : Network) where
   pub other_matches : (count : ℕ) (act : Act A) (r : Report A) → is_quiet r act ≡ true
-      → Matches net number table n (Other count) act r
+      → Matches net number tables n (Other count) act r
   other_matches count act r q =
       record {
         draws_it = λ key. sym (no_begin A net number act r key q);
@@ -102,7 +103,7 @@ module _ (A : Type 0) (net number : ℕ) (table : Option (List (List ℕ))) (n :
       ≡ record { from = record { net = net; node = k; socket = socket }; tid = tid } →
       (done A n (Answers at key packets)).asked
       ≡ answered n.asked (record { net = net; node = k; socket = socket }) tid packets
-      → Matches {A = A} net number table n (Answers at key packets) (Calls (Answer k socket tid packets))
+      → Matches {A = A} net number tables n (Answers at key packets) (Calls (Answer k socket tid packets))
       (report.Answered count)
   answers_match at key packets k socket tid count its joins =
       record {
@@ -117,7 +118,7 @@ module _ (A : Type 0) (net number : ℕ) (table : Option (List (List ℕ))) (n :
       }
 
   pub hears_matches : (which : ℕ) (act : Act A) (r : Report A) → is_quiet r act ≡ true
-      → Matches net number table n (Hears which) act r
+      → Matches net number tables n (Hears which) act r
   hears_matches which act r q =
       record {
         draws_it = λ key. sym (no_begin A net number act r key q);
@@ -132,7 +133,7 @@ module _ (A : Type 0) (net number : ℕ) (table : Option (List (List ℕ))) (n :
 
   -- a packet that ends a transaction
   pub ends_match : (which tid : ℕ) (packets : List Packet) → Ends A net number n which tid packets
-      → Matches {A = A} net number table n (Hears which) (Gets which) (report.Response tid packets)
+      → Matches {A = A} net number tables n (Hears which) (Gets which) (report.Response tid packets)
   ends_match which tid packets ends =
       record {
         draws_it = λ key. refl;
@@ -146,7 +147,7 @@ module _ (A : Type 0) (net number : ℕ) (table : Option (List (List ℕ))) (n :
       }
 
   pub retries_match : (who : Address) (tid : ℕ) (act : Act A) (r : Report A) → is_quiet r act ≡ true
-      → Matches net number table n (Retries who tid) act r
+      → Matches net number tables n (Retries who tid) act r
   retries_match who tid act r q =
       record {
         draws_it = λ key. sym (no_begin A net number act r key q);
@@ -163,7 +164,7 @@ module _ (A : Type 0) (net number : ℕ) (table : Option (List (List ℕ))) (n :
   pub begins_match : (tid : ℕ) (to : Address) (user bytes : List ℕ) (wanted : ℕ) (xo : Bool) (retries : ℕ)
       (call : Call A) → asks_once (Calls call) ≡ xo → asks_for (Calls call) ≡ wanted
       → next_number (n.requesters (asking net number)) ≡ Some tid →
-      Matches net number table n (Begins (asking net number) to user bytes wanted xo retries) (Calls call)
+      Matches net number tables n (Begins (asking net number) to user bytes wanted xo retries) (Calls call)
       (report.Begun tid)
   begins_match tid to user bytes wanted xo retries call once many drawn =
       record {
@@ -180,7 +181,7 @@ module _ (A : Type 0) (net number : ℕ) (table : Option (List (List ℕ))) (n :
   -- a packet ends a transaction, and the next one begins
   pub turns_match : (which : ℕ) (s : Sent) (user : List ℕ) (times tid : ℕ) → ending A n (packet_at n.sent which)
       ≡ Some s → number_after A n s ≡ Some tid → s.to ≡ asking net number →
-      Matches {A = A} net number table n (Turns which user times) (Gets which) (report.Begun tid)
+      Matches {A = A} net number tables n (Turns which user times) (Gets which) (report.Begun tid)
   turns_match which s user times tid ends drawn to_is = record {
     draws_it = λ key. ap (λ o. is_drawn_after A n o key) ends ∙ ap (λ o. is_drawn s.to o key) drawn
         ∙ ap (λ who. same_key (record { from = who; tid = tid }) key) to_is;
@@ -197,7 +198,7 @@ module _ (A : Type 0) (net number : ℕ) (table : Option (List (List ℕ))) (n :
     -- a packet that hands nothing up
     pub takes_quietly : (r : Report A) (x : Reception) → (taken (n.responders s.to) s.from s.packet).reception ≡ x
         → ((key : Key) → is_new_of key x ≡ false) → is_quiet r (Gets which) ≡ true
-        → Matches net number table n (Takes which) (Gets which) r
+        → Matches net number tables n (Takes which) (Gets which) r
     takes_quietly r x is old q = record {
       draws_it = λ key. sym (no_begin A net number (Gets which) r key q);
       expires_it = λ at key. sym (no_expiry A net number (Gets which) r at key q);
@@ -212,7 +213,7 @@ module _ (A : Type 0) (net number : ℕ) (table : Option (List (List ℕ))) (n :
 
     -- a request that is delivered
     pub takes_new : (key : Key) (user bytes : List ℕ) → (taken (n.responders s.to) s.from s.packet).reception
-        ≡ reception.New key → Matches {A = A} net number table n (Takes which) (Gets which)
+        ≡ reception.New key → Matches {A = A} net number tables n (Takes which) (Gets which)
         (report.Asked key user bytes)
     takes_new new user bytes is =
         record {
@@ -231,8 +232,8 @@ module _ (A : Type 0) (net number : ℕ) (table : Option (List (List ℕ))) (n :
         → (taken (n.responders s.to) s.from s.packet).reception ≡ reception.New key → key
         ≡ record { from = s.from; tid = number_of s.packet } →
         (done A n (Serves which packets)).asked ≡ answered n.asked s.from (number_of s.packet) packets
-        → IsPageAsked table n which packets
-        → Matches {A = A} net number table n (Serves which packets) (Gets which) (report.Served count)
+        → IsPageAsked tables n which packets
+        → Matches {A = A} net number tables n (Serves which packets) (Gets which) (report.Served count)
     serves_new new packets count is its joins page = record {
       draws_it = λ key. refl;
       expires_it = λ at key. refl;
@@ -250,7 +251,7 @@ module _ (A : Type 0) (net number : ℕ) (table : Option (List (List ℕ))) (n :
       ≡ record { net = net; node = number; socket = own } → key
       ≡ record { from = record { net = net; node = node; socket = socket }; tid = tid } →
       expiry_fault (find (is_key key) (n.responders place)) ≡ None
-      → Matches {A = A} net number table n (Expires place key)
+      → Matches {A = A} net number tables n (Expires place key)
       (Fires (timer.Release own node socket tid)) report.Expired
   expires_match own node socket tid place key here its free = record {
     draws_it = λ x. refl;

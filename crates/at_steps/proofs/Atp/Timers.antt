@@ -106,7 +106,7 @@ module _ (A : Type 0) (stays : StaysOpen) (history : List Happening) (n : NodeSt
       (is_done r is ∙ ap (with_requester (after A history) (asking n.seat.net n.seat.number) r.after)
       (failed_sends n.atp.requester tid r is failed)) refl
       (nothing_open r.after)
-      (retries_match A n.seat.net n.seat.number n.atp.table (after A history) (asking n.seat.net n.seat.number) tid
+      (retries_match A n.seat.net n.seat.number n.atp.tables (after A history) (asking n.seat.net n.seat.number) tid
       (Fires (timer.Retry tid)) report.ZonesFailed refl)
       (let it = reads_it n.atp.reading tid e in
       Fails (record {
@@ -124,7 +124,7 @@ module _ (A : Type 0) (stays : StaysOpen) (history : List Happening) (n : NodeSt
       (is_done r is ∙ ap (with_requester (after A history) (asking n.seat.net n.seat.number) r.after)
       (failed_sends n.atp.requester tid r is failed)) refl
       (goes_on r is (λ f. e))
-      (retries_match A n.seat.net n.seat.number n.atp.table (after A history) (asking n.seat.net n.seat.number) tid
+      (retries_match A n.seat.net n.seat.number n.atp.tables (after A history) (asking n.seat.net n.seat.number) tid
       (Fires (timer.Retry tid)) (report.Failed tid) refl)
       (Plain (record { plain = refl; asked = refl; reading = refl }))
 
@@ -135,7 +135,7 @@ module _ (A : Type 0) (stays : StaysOpen) (history : List Happening) (n : NodeSt
       (Retries (asking n.seat.net n.seat.number) tid) r.after n.atp.reading r.sent report.Again tt asking_fits
       (is_done r is) refl
       (goes_on r is (λ failed. absurd (never r.step step failed)))
-      (retries_match A n.seat.net n.seat.number n.atp.table (after A history) (asking n.seat.net n.seat.number) tid
+      (retries_match A n.seat.net n.seat.number n.atp.tables (after A history) (asking n.seat.net n.seat.number) tid
       (Fires (timer.Retry tid)) report.Again refl)
       (Plain (record { plain = refl; asked = refl; reading = refl }))
     where
@@ -170,11 +170,11 @@ module _ (A : Type 0) (history : List Happening) (n : NodeState) (st : Stands A 
   expiry_matches : (at : Address) (rs : List Record) → at ≡ at_socket n.seat n.seat.number own
       → (after A history).responders at ≡ rs
       → expiry_fault (find (is_key (record { from = at_socket n.seat node socket; tid = tid })) rs) ≡ None →
-      Matches {A = A} n.seat.net n.seat.number n.atp.table (after A history)
+      Matches {A = A} n.seat.net n.seat.number n.atp.tables (after A history)
       (Expires at (record { from = at_socket n.seat node socket; tid = tid }))
       (Fires (timer.Release own node socket tid)) report.Expired
   expiry_matches at rs here is free =
-      expires_match A n.seat.net n.seat.number n.atp.table (after A history) own node socket tid at
+      expires_match A n.seat.net n.seat.number n.atp.tables (after A history) own node socket tid at
       (record { from = at_socket n.seat node socket; tid = tid }) here refl
       (ap (λ l. expiry_fault (find (is_key (record { from = at_socket n.seat node socket; tid = tid })) l)) is ∙ free)
 

@@ -273,8 +273,8 @@ module _ (A : Type 0) (laws : CallLaws A) (setting : Setting) (history : List Ha
 
   pub call_happens : (call : Call A) → IsCall call → is_nbp (kind_of_call call) ≡ true
       → IsIts A setting history n (Calls call) (called n call)
-  call_happens Zones range its = absurd (cc)
-  call_happens (SetZones names) range its = absurd (cc)
+  call_happens (Zones kind) range its = absurd (cc)
+  call_happens (SetZones kind names) range its = absurd (cc)
   call_happens (Ask node socket user bytes wanted xo retries) range its = absurd (cc)
   call_happens (Answer node socket tid packets) range its = absurd (cc)
   call_happens (Pick zone) range its = absurd (cc)

@@ -85,11 +85,12 @@ module _ (A : Type 0) (laws : Laws) (n : NodeState) (within : IsWithin n) where
   }
 
   pub call_safe : (c : Call A) → Calling n (called n c)
-  call_safe call.Zones =
-      of_atp (zones_called n.seat n.atp n.seat.router n.atp.reading)
-      (requests.zones_safe A n laws.numbers n.seat.router n.atp.reading)
-  call_safe (call.SetZones table) =
-      of_atp (set_zones_called n.atp n.atp.table table) (records.set_zones_safe A n IsPlaceOfCall table n.atp.table)
+  call_safe (call.Zones kind) =
+      of_atp (zones_called n.seat n.atp kind n.seat.router n.atp.reading)
+      (requests.zones_safe A n laws.numbers kind n.seat.router n.atp.reading)
+  call_safe (call.SetZones kind names) =
+      of_atp (set_zones_called n.atp n.atp.tables kind names)
+      (records.set_zones_safe A n IsPlaceOfCall kind names n.atp.tables)
   call_safe (call.Ask node socket user bytes wanted xo retries) =
       let to = at_socket n.seat node socket in
       of_atp (ask_called n.seat n.atp to user bytes wanted xo retries)

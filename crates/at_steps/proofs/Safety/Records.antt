@@ -22,6 +22,8 @@ use Rattle.at_node.specs.AtpParts.{AtpState, serving}
 use Rattle.at_node.specs.Nodes.{NodeState}
 use Rattle.at_node.specs.Responders.{expired, records_at, release_fired}
 use Rattle.at_node.specs.ServiceSocket.{answered_with}
+use Rattle.at_zip.specs.Tables.{Tables}
+use Rattle.at_zip.specs.declared.request.Which.{Which}
 use Rattle.at_node.specs.ZoneSocket.{set_zones_called, table_set}
 use Rattle.at_steps.specs.Safety.{IsSafe, IsTrueOf, OfNodes, OfTransactions, OfZones, Place}
 use Rattle.at_steps.proofs.Safety.By.{packets_few, quiet, refused}
@@ -59,14 +61,15 @@ module _ (A : Type 0) (n : NodeState) (Wants : Place → Type 0) where
 
   -- ---- calls and timers
 
-  table_safe : (names : List (List ℕ)) (fault : Option ZipFault) → Safe (table_set n.atp names fault)
-  table_safe names None = quiet A Wants n n.atp (table_set n.atp names None) refl (omega arith)
-  table_safe names (Some fault) = refused A Wants n n.atp (OfZones fault) tt
+  table_safe : (tables : Tables) (kind : Which) (names : List (List ℕ)) (fault : Option ZipFault)
+      → Safe (table_set n.atp tables kind names fault)
+  table_safe tables kind names None = quiet A Wants n n.atp (table_set n.atp tables kind names None) refl (omega arith)
+  table_safe tables kind names (Some fault) = refused A Wants n n.atp (OfZones fault) tt
 
-  pub set_zones_safe : (names : List (List ℕ)) (table : Option (List (List ℕ)))
-      → Safe (set_zones_called n.atp table names)
-  set_zones_safe names None = refused A Wants n n.atp (OfNodes nodes.NoRouter) tt
-  set_zones_safe names (Some table) = table_safe names (table_fault names)
+  pub set_zones_safe : (kind : Which) (names : List (List ℕ)) (tables : Option Tables)
+      → Safe (set_zones_called n.atp tables kind names)
+  set_zones_safe kind names None = refused A Wants n n.atp (OfNodes nodes.NoRouter) tt
+  set_zones_safe kind names (Some tables) = table_safe tables kind names (table_fault names)
 
   record_true : (o : Option Record) (fault : AtpFault) → record_fault o ≡ Some fault → True fault
   record_true None fault is = told atps.NoSuch fault is tt

@@ -28,7 +28,8 @@ use Rattle.at_node.specs.AtpParts.{tid_of}
 use Rattle.at_node.specs.Nodes.{NodeState}
 use Rattle.at_node.specs.RequesterSocket.{AtRequester, after_retry, asked_as, hears_other, reported_other, retry_fired}
 use Rattle.at_node.specs.ZoneReading.{AsksOn, ReadsPage, TakesPage, after_failing, is_page, is_reading, names_read}
-use Rattle.at_node.specs.ZoneReading.{page_transaction, reading_begins, zones_called}
+use Rattle.at_zip.specs.declared.request.Which.{Which}
+use Rattle.at_node.specs.ZoneReading.{page_transaction, reading_begins, table_read, zones_called}
 use Rattle.at_steps.specs.Safety.{Asking, IsPlaceOfCall, IsSafe, OfNodes, OfTransactions, Place, number_told}
 use Rattle.at_steps.proofs.Safety.By.{by, packets_few, page_faulted, quiet, refused}
 
@@ -102,16 +103,17 @@ module _ (A : Type 0) (n : NodeState) where
     ask_safe to user bytes wanted xo retries false =
         asking_safe to user bytes wanted xo retries (next_number n.atp.requester) refl
 
-    begins_safe : (router : ℕ) (tid : Option ℕ) → next_number n.atp.requester ≡ tid
-        → Calling (reading_begins n.seat n.atp router tid)
-    begins_safe router None is = refused_full is
-    begins_safe router (Some tid) is =
-        quiet A IsPlaceOfCall n n.atp (reading_begins n.seat n.atp router (Some tid)) refl (omega arith)
+    begins_safe : (kind : Which) (router : ℕ) (tid : Option ℕ) → next_number n.atp.requester ≡ tid
+        → Calling (reading_begins n.seat n.atp kind router tid)
+    begins_safe kind router None is = refused_full is
+    begins_safe kind router (Some tid) is =
+        quiet A IsPlaceOfCall n n.atp (reading_begins n.seat n.atp kind router (Some tid)) refl (omega arith)
 
-    pub zones_safe : (router : Option ℕ) (reading : Option Reading) → Calling (zones_called n.seat n.atp router reading)
-    zones_safe None reading = refused A IsPlaceOfCall n n.atp (OfNodes nodes.NoRouter) tt
-    zones_safe (Some router) (Some r) = refused A IsPlaceOfCall n n.atp (OfNodes nodes.StillReading) tt
-    zones_safe (Some router) None = begins_safe router (next_number n.atp.requester) refl
+    pub zones_safe : (kind : Which) (router : Option ℕ) (reading : Option Reading)
+        → Calling (zones_called n.seat n.atp kind router reading)
+    zones_safe kind None reading = refused A IsPlaceOfCall n n.atp (OfNodes nodes.NoRouter) tt
+    zones_safe kind (Some router) (Some r) = refused A IsPlaceOfCall n n.atp (OfNodes nodes.StillReading) tt
+    zones_safe kind (Some router) None = begins_safe kind router (next_number n.atp.requester) refl
 
   -- ---- the timer
 
@@ -166,14 +168,15 @@ module _ (A : Type 0) (n : NodeState) where
       where
         go : (long last : Bool)
             → MatchBool long (o ≡ after_heard n.seat n.atp h (report.ZoneFault 34) None)
-            (MatchBool last (o ≡ after_heard n.seat n.atp h (report.Zones (names ++ q.names)) None)
+            (MatchBool last (o ≡ after_heard n.seat n.atp h (report.Zones (table_read n.atp.reading)
+            (names ++ q.names)) None)
             (AsksOn n.seat n.atp h from (names ++ q.names) o)) → Safe o
         go true last is = faults_safe h TooManyZones 34 o one refl is
-        go false true is = heard_safe h (report.Zones (names ++ q.names)) None o one refl is
+        go false true is = heard_safe h (report.Zones (table_read n.atp.reading) (names ++ q.names)) None o one refl is
         go false false on =
             let asked = asks n.seat (record n.atp { requester = h.after })
-            (Some (record { tid = on.tid; names = names ++ q.names }))
-            (page_transaction from (names ++ q.names) on.tid) in
+            (Some (record { which = table_read n.atp.reading; tid = on.tid; names = names ++ q.names }))
+            (page_transaction from (table_read n.atp.reading) (names ++ q.names) on.tid) in
             by A Wants n n.atp o asked on.outcome (quiet A Wants n n.atp asked refl (omega arith))
 
     reads_safe : (h : Heard A) (from : Address) (names : List (List ℕ)) (p : Packet) (o : Outcome A AtpState)

@@ -27,6 +27,7 @@ use Rattle.at_node.specs.AtpParts.{AtpState, serving, zones_at}
 use Rattle.at_node.specs.Nodes.{NodeState}
 use Rattle.at_node.specs.Responders.{records_at, released_report}
 use Rattle.at_node.specs.ServiceSocket.{AtService, at_service, handed_up, sent_by_reply, service_taken}
+use Rattle.at_zip.specs.Tables.{Tables, table_of}
 use Rattle.at_node.specs.ZoneSocket.{AtZones, at_zones, page_packet, zone_served}
 use Rattle.at_node.specs.ZoneSocket.{zone_taken}
 use Rattle.at_steps.specs.Safety.{IsSafe, IsTrueOf, OfTransactions, Place, Records, number_told}
@@ -59,7 +60,7 @@ full_records rs from (Release tid) h = absurd (cc)
 abbrev IsAt : AtpState → ℕ → AtpSocket → Type 0
 IsAt a socket Requester = Unit {0}
 IsAt a socket Service = records_at a socket ≡ a.service_responder
-IsAt a socket (ZoneSocket table) = records_at a socket ≡ a.zone_responder
+IsAt a socket (ZoneSocket tables) = records_at a socket ≡ a.zone_responder
 
 socket_at : (a : AtpState) (socket : ℕ) (x : AtpSocket) → atp_socket a socket ≡ Some x → IsAt a socket x
 socket_at a socket x = go (socket == 128) (socket == 129) (socket == 6) refl refl
@@ -67,26 +68,26 @@ socket_at a socket x = go (socket == 128) (socket == 129) (socket == 6) refl ref
     at : (b c : Bool) → AtpSocket → Type 0
     at b c Requester = Unit {0}
     at b c Service = cond b a.service_responder (cond c a.zone_responder []) ≡ a.service_responder
-    at b c (ZoneSocket table) = cond b a.service_responder (cond c a.zone_responder []) ≡ a.zone_responder
+    at b c (ZoneSocket tables) = cond b a.service_responder (cond c a.zone_responder []) ≡ a.zone_responder
 
     of : (b c : Bool) (y : AtpSocket) → Some y ≡ Some x → at b c y → at b c x
     of b c y is h = let same : y ≡ x = cc in subst (at b c) same h
 
-    zones : (o : Option (List (List ℕ))) → option_map ZoneSocket o ≡ Some x → at false true x
+    zones : (o : Option Tables) → option_map ZoneSocket o ≡ Some x → at false true x
     zones None is = absurd (cc)
-    zones (Some table) is = of false true (ZoneSocket table) is refl
+    zones (Some tables) is = of false true (ZoneSocket tables) is refl
 
     whole : (b c : Bool) (y : AtpSocket) → (socket == 129) ≡ b → (socket == 6) ≡ c → at b c y → IsAt a socket y
     whole b c Requester is was h = tt
     whole b c Service is was h = rw (is, was) h
-    whole b c (ZoneSocket table) is was h = rw (is, was) h
+    whole b c (ZoneSocket tables) is was h = rw (is, was) h
 
     go : (r b c : Bool) → (socket == 129) ≡ b → (socket == 6) ≡ c
-        → cond r (Some Requester) (cond b (Some Service) (cond c (option_map ZoneSocket a.table) None)) ≡ Some x
+        → cond r (Some Requester) (cond b (Some Service) (cond c (option_map ZoneSocket a.tables) None)) ≡ Some x
         → IsAt a socket x
     go true b c is was h = whole b c x is was (of b c Requester h tt)
     go false true c is was h = whole true c x is was (of true c Service h refl)
-    go false false true is was h = whole false true x is was (zones a.table h)
+    go false false true is was h = whole false true x is was (zones a.tables h)
     go false false false is was h = absurd (cc)
 
 module _ (A : Type 0) (n : NodeState) (Wants : Place → Type 0) where
@@ -192,18 +193,18 @@ module _ (A : Type 0) (n : NodeState) (Wants : Place → Type 0) where
         by A Wants n n.atp o q at
         (quiet A Wants n n.atp q (released_quiet t.reception) (service_few t (service_eight from (Release tid) asks)))
 
-    serves_zones : (from : Address) (table : List (List ℕ)) (f : Content) (o : Outcome A AtpState) → AsksForEight f
-        → records_at n.atp socket ≡ n.atp.zone_responder → AtZones n.seat n.atp from table f o → Safe o
-    serves_zones from table (Request mask xo timer tid user bytes) o asks there (inr at) = ignored o at.1
-    serves_zones from table (Request mask xo timer tid user bytes) o asks there (inl at) =
+    serves_zones : (from : Address) (tables : Tables) (f : Content) (o : Outcome A AtpState) → AsksForEight f
+        → records_at n.atp socket ≡ n.atp.zone_responder → AtZones n.seat n.atp from tables f o → Safe o
+    serves_zones from tables (Request mask xo timer tid user bytes) o asks there (inr at) = ignored o at.1
+    serves_zones from tables (Request mask xo timer tid user bytes) o asks there (inl at) =
         let f : Content = Request mask xo timer tid user bytes in
         let rs = n.atp.zone_responder in
         let t = taken rs from f in
-        let page = page_packet table at.start in
+        let page = page_packet (table_of at.which tables) at.start in
         or_full (finds_no_place rs from f) o (at_zones n.seat n.atp t page t.reception)
         (zones_safe from f asks page t.reception) (λ no. full_true rs there (full_records rs from f no)) at.outcome
-    serves_zones from table (Response place eom sts tid user bytes) o asks there at = ignored o at
-    serves_zones from table (Release tid) o asks there at =
+    serves_zones from tables (Response place eom sts tid user bytes) o asks there at = ignored o at
+    serves_zones from tables (Release tid) o asks there at =
         let t = taken n.atp.zone_responder from (Release tid) in
         let q = zone_taken n.seat n.atp t (released_report t.reception) in
         by A Wants n n.atp o q at
@@ -213,7 +214,7 @@ module _ (A : Type 0) (n : NodeState) (Wants : Place → Type 0) where
         → AsksForEight f → IsAt n.atp socket x → AtSocket said n.seat n.atp from (Some x) f o → Safe o
     at_a_socket said from Requester f o asks there at = heard_at_requester A n Wants from f o at
     at_a_socket said from Service f o asks there at = serves said from f o asks there at
-    at_a_socket said from (ZoneSocket table) f o asks there at = serves_zones from table f o asks there at
+    at_a_socket said from (ZoneSocket tables) f o asks there at = serves_zones from tables f o asks there at
 
   decoded : (fault : AtpFault) (bytes : List ℕ) → atp.IsFirstFault fault bytes → True fault
   decoded atps.Full bytes h = absurd h.stands

@@ -252,8 +252,8 @@ module _ (A : Type 0) (changes : AllChange) (paired : AllPaired) (setting : Sett
   pub call_happens : (call : Call A) → IsCall call → is_adsp (kind_of_call call) ≡ true
       → ((id : ℕ) → drawn_by (called n call).report ≡ Some (Conn id) → NoneNames old at id)
       → IsIts A setting history n (Calls call) (called n call)
-  call_happens Zones range its free = absurd (true≢false (sym its))
-  call_happens (SetZones names) range its free = absurd (true≢false (sym its))
+  call_happens (Zones kind) range its free = absurd (true≢false (sym its))
+  call_happens (SetZones kind names) range its free = absurd (true≢false (sym its))
   call_happens (Ask node socket user bytes wanted xo retries) range its free = absurd (true≢false (sym its))
   call_happens (Answer node socket tid packets) range its free = absurd (true≢false (sym its))
   call_happens (Pick zone) range its free = absurd (true≢false (sym its))

@@ -3,7 +3,7 @@ use Rattle.std.proofs.Common.{◌≡◌, inl, inr, ℕ, Bool, true, false, Some,
 use Rattle.std.specs.List.{AllByRecursion}
 use Rattle.at_atp.specs.Network.{NoneHolds, after, done}
 use Rattle.at_atp.specs.Transactions.{Transaction, transaction_of}
-use Rattle.at_zip.specs.Zones.{IsTable}
+use Rattle.at_zip.specs.Tables.{AreTables}
 use Rattle.at_node.specs.AtpParts.{asking, serving, zones_at}
 use Rattle.at_event.specs.Calls.{IsCall}
 use Rattle.at_node.specs.Numbers.{IsTold, drawn_by}
@@ -80,7 +80,7 @@ module _ (A : Type 0) (laws : Laws A) (w : WorldState) (c : Cable) (m : AtpMachi
     service = t.responders (serving c.net (node_of e)) ∙ service_here c.net w.nodes (node_of e) n stands;
     is_open = t.opened (node_of e) n stands;
     at_least_once = once_at_least (node_of e) n stands;
-    has_table = λ table is. subst IsTable (sym (t.tables (node_of e) n stands table is).0) t.table;
+    has_tables = λ tables is. subst AreTables (sym (t.tables (node_of e) n stands tables is).0) t.are_tables;
   })
 
   module _ (o : Outcome A NodeState) (seat : o.state.seat ≡ n.seat) where
@@ -92,7 +92,7 @@ module _ (A : Type 0) (laws : Laws A) (w : WorldState) (c : Cable) (m : AtpMachi
       where
         go : IsHappening A t.history c.net (node_of e) n (act_of e) o → Follows A w c m ct t e o
         go (x, step, sends) =
-            let b = step_becomes A laws w c m ct.wires e n o.state o.report t stands x.same_table its.router
+            let b = step_becomes A laws w c m ct.wires e n o.state o.report t stands x.same_tables its.router
             (done A (after A t.history) x.happening).asked
             (subst (λ ts. IsStep c.net (node_of e) n.seat.router
             (record {
@@ -120,7 +120,7 @@ module _ (A : Type 0) (laws : Laws A) (w : WorldState) (c : Cable) (m : AtpMachi
         go : Passes A t.history c.net (node_of e) n (act_of e) o → Good A w c m ct.wires t e o
         go (x, same) = good_next A laws w c ct.wires m e n o t stands x mine
             (done A (after A t.history) x.happening).asked refl
-            (pass_becomes A laws w c m ct.wires e n o.state o.report t stands x.same_table
+            (pass_becomes A laws w c m ct.wires e n o.state o.report t stands x.same_tables
             (done A (after A t.history) x.happening).asked (same ∙ t.asked) foreign.same
             (moment_passes A c m e o.report (reporter_of o.report) foreign.reports))
 

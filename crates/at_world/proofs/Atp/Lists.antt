@@ -9,7 +9,7 @@ use Rattle.at_ddp.specs.declared.address.Address.{Address}
 use Rattle.at_ddp.proofs.Octets.{same_address-true}
 use Rattle.at_atp_frame.specs.Packets.{Packet}
 use Rattle.at_atp.specs.Transactions.{Transaction, is_transaction, transaction_of, answered}
-use Rattle.at_world.specs.AtpGuards.{Reading, since_of, without_reading}
+use Rattle.at_world.specs.AtpGuards.{Reading, reading_of, without_reading}
 
 pub some_transaction : (a b : Transaction) → Some a ≡ Some b → a ≡ b
 some_transaction a b h = cc
@@ -64,13 +64,14 @@ answer_joins (t ∷ ts) from tid packets who k u is = go (λ g. answer_joins ts 
         (rest.0, ap (λ x. cond x (Some t) (transaction_of (answered ts from tid packets) who k)) e ∙ rest.1, rest.2)
 
 -- the end of a reading leaves the others
-pub others_left : (rs : List Reading) (k j : ℕ) → (k == j) ≡ false → since_of (without_reading rs k) j ≡ since_of rs j
+pub others_left : (rs : List Reading) (k j : ℕ) → (k == j) ≡ false
+    → reading_of (without_reading rs k) j ≡ reading_of rs j
 others_left [] k j apart = refl
 others_left (r ∷ rs) k j apart = go (others_left rs k j apart) (r.node == k) refl (r.node == j) refl
   where
-    go : since_of (without_reading rs k) j ≡ since_of rs j → (b : Bool) → (r.node == k) ≡ b → (c : Bool)
-        → (r.node == j) ≡ c → since_of (cond (not b) (r ∷ without_reading rs k) (without_reading rs k)) j
-        ≡ since_of (r ∷ rs) j
+    go : reading_of (without_reading rs k) j ≡ reading_of rs j → (b : Bool) → (r.node == k) ≡ b → (c : Bool)
+        → (r.node == j) ≡ c → reading_of (cond (not b) (r ∷ without_reading rs k) (without_reading rs k)) j
+        ≡ reading_of (r ∷ rs) j
     go ih true e true f = absurd
         (true≢false (sym (eq-eqb k j (sym (eqb-true r.node k e) ∙ eqb-true r.node j f)) ∙ apart))
     go ih true e false f = rw f ih

@@ -19,8 +19,9 @@ use Rattle.at_atp.specs.Network.{Network, Happening, Begins, Turns, after, done}
 use Rattle.at_atp.specs.Transactions.{Transaction, is_transaction, transaction_of, answered}
 use Rattle.at_event.specs.declared.event.Report.{Report}
 use Rattle.at_steps.specs.AtpReports.{BeginsAs}
+use Rattle.at_zip.specs.Tables.{Tables}
 use Rattle.at_world.specs.Events.{act_of}
-use Rattle.at_world.specs.ExactlyOnce.{Played, is_once, table_after, wanted_by}
+use Rattle.at_world.specs.ExactlyOnce.{Played, is_once, tables_after, wanted_by}
 use Rattle.at_world.specs.Stories.{asks_once, asks_for, began_under, Matches}
 use Rattle.at_setup.specs.declared.event.Event.{Event}
 use Rattle.at_world.proofs.Atp.Told.{Told}
@@ -131,10 +132,10 @@ kept_newest A changes P stays n h key apart newest = go (changes n h)
         (answered_newest P stays n.asked (j.key).from (j.key).tid j.packets key newest)
 
 -- what begins is as its event asks
-as_asked : (A : Type 0) (net : ℕ) (table : List (List ℕ)) (n : Network) (h : Happening) (e : Event A) (r : Report A)
-    (key : Key) → Matches net table n h e r → draws A n h key ≡ true → (b : BeginsOne A n h)
+as_asked : (A : Type 0) (net : ℕ) (tables : Tables) (n : Network) (h : Happening) (e : Event A) (r : Report A)
+    (key : Key) → Matches net tables n h e r → draws A n h key ≡ true → (b : BeginsOne A n h)
     → Asks (asks_once e, asks_for e) b.transaction
-as_asked A net table n h e r key m drawn b = go b.begins
+as_asked A net tables n h e r key m drawn b = go b.begins
   where
     go : BeginsIt A n h b.transaction b.retries → Asks (asks_once e, asks_for e) b.transaction
     go (ByItself is) =
@@ -148,10 +149,10 @@ as_asked A net table n h e r key m drawn b = go b.begins
         (f.not_xo ∙ sym turned.0, f.one_wanted ∙ sym turned.1)
 
 -- what draws its number begins one
-drawn_newest : (A : Type 0) (changes : Changes A) (net : ℕ) (table : List (List ℕ)) (n : Network) (h : Happening)
-    (e : Event A) (r : Report A) (key : Key) → Matches net table n h e r → draws A n h key ≡ true
+drawn_newest : (A : Type 0) (changes : Changes A) (net : ℕ) (tables : Tables) (n : Network) (h : Happening)
+    (e : Event A) (r : Report A) (key : Key) → Matches net tables n h e r → draws A n h key ≡ true
     → NewestIs (Asks (asks_once e, asks_for e)) (done A n h).asked key
-drawn_newest A changes net table n h e r key m drawn = go (changes n h)
+drawn_newest A changes net tables n h e r key m drawn = go (changes n h)
   where
     go : ChangesAsked A n h → NewestIs (Asks (asks_once e, asks_for e)) (done A n h).asked key
     go (Leaves l) = absurd (false≢true (sym (l.draws_none key) ∙ drawn))
@@ -161,25 +162,25 @@ drawn_newest A changes net table n h e r key m drawn = go (changes n h)
           b.transaction,
           ap (λ x. cond x (Some b.transaction) (transaction_of n.asked key.from key.tid))
               (sym (b.draws_its key) ∙ drawn),
-          as_asked A net table n h e r key m drawn b,
+          as_asked A net tables n h e r key m drawn b,
         )
 
-pub once_newest : (A : Type 0) (changes : Changes A) (net : ℕ) (zones : List (List ℕ)) (past : List (Played A))
-    (hs : List Happening) (key : Key) → Told A net zones past hs → is_once net past key ≡ true
+pub once_newest : (A : Type 0) (changes : Changes A) (net : ℕ) (tables : Tables) (past : List (Played A))
+    (hs : List Happening) (key : Key) → Told A net tables past hs → is_once net past key ≡ true
     → NewestIs (Asks (true, wanted_by net past key)) (after A hs).asked key
-once_newest A changes net zones [] hs key told once = absurd (false≢true once)
-once_newest A changes net zones (x ∷ xs) [] key told once = absurd told
-once_newest A changes net zones (x ∷ xs) (h ∷ hs) key told once =
-    go (λ is. once_newest A changes net zones xs hs key told.2 is) (began_under net x.event x.report key) refl once
+once_newest A changes net tables [] hs key told once = absurd (false≢true once)
+once_newest A changes net tables (x ∷ xs) [] key told once = absurd told
+once_newest A changes net tables (x ∷ xs) (h ∷ hs) key told once =
+    go (λ is. once_newest A changes net tables xs hs key told.2 is) (began_under net x.event x.report key) refl once
   where
-    m : Matches net (table_after zones xs) (after A hs) h x.event x.report
+    m : Matches net (tables_after tables xs) (after A hs) h x.event x.report
     m = told.0
 
     go : (is_once net xs key ≡ true → NewestIs (Asks (true, wanted_by net xs key)) (after A hs).asked key) → (b : Bool)
         → began_under net x.event x.report key ≡ b → cond b (asks_once x.event) (is_once net xs key) ≡ true
         → NewestIs (Asks (true, cond b (asks_for x.event) (wanted_by net xs key))) (done A (after A hs) h).asked key
     go before true e is = subst (λ xo. NewestIs (Asks (xo, asks_for x.event)) (done A (after A hs) h).asked key) is
-        (drawn_newest A changes net (table_after zones xs) (after A hs) h x.event x.report key m (m.draws_it key ∙ e))
+        (drawn_newest A changes net (tables_after tables xs) (after A hs) h x.event x.report key m (m.draws_it key ∙ e))
     go before false e is = kept_newest A changes (Asks (true, wanted_by net xs key))
         (asks_kept (true, wanted_by net xs key)) (after A hs) h key (m.draws_it key ∙ e) (before is)
 

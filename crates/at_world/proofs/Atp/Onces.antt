@@ -21,10 +21,12 @@ use Rattle.at_event.specs.declared.event.Call.TheVariants.{Answer}
 use Rattle.at_event.specs.declared.event.Report.{Report}
 use Rattle.at_event.specs.declared.event.Report.TheVariants as report
 use Rattle.at_world.specs.ExactlyOnce.{Played, onto, since, is_once, CameFrom, HandsUpBy, IsGivenBy, IsPageFor, GivesBy}
-use Rattle.at_world.specs.ExactlyOnce.{SomeGives, table_after, Gives, NoneGives, AtMostOneGives, RanOnce, wanted_by}
+use Rattle.at_world.specs.ExactlyOnce.{SomeGives, tables_after, Gives, NoneGives, AtMostOneGives, RanOnce, wanted_by}
 use Rattle.at_world.specs.ExactlyOnce.{SomeHandsUp, AllLive, EndsBy, RunsOnce, IsOnce}
 use Rattle.at_world.specs.Plays.{opening_world, Follows, IsPlay}
 use Rattle.at_world.specs.Sents.{SentDatagram}
+use Rattle.at_zip.specs.Tables.{Tables, table_of}
+use Rattle.at_setup.specs.Setups.{tables_of}
 use Rattle.at_steps.specs.AtpReports as reports
 use Rattle.at_steps.specs.AtpReports.{AsksFrom, IsPageAsked}
 use Rattle.at_steps.specs.AtpSteps.{page_answer}
@@ -44,52 +46,54 @@ use Rattle.at_world.proofs.Atp.Told.{lawful, most_of, some_of, within_before}
 
 -- ---- the promise
 
-module _ (A : Type 0) (laws : OnceLaws A) (net : ℕ) (zones : List (List ℕ)) (sent : List SentDatagram) where
+module _ (A : Type 0) (laws : OnceLaws A) (net : ℕ) (tables : Tables) (sent : List SentDatagram) where
   some_one : (a b : Transaction) → Some a ≡ Some b → a ≡ b
   some_one a b h = cc
 
   -- the page that the router gives to what came is that of the packet which the list of datagrams has
-  page_for : (which : ℕ) (table : List (List ℕ)) (n : Network) (packets : List Packet) (key : Key)
-      (answer : List Packet) → Within sent n → AllSent IsLawfullySent n.sent → IsPageAsked (Some table) n which packets
-      → CameFrom sent which key → packets ≡ answer → IsPageFor sent table which key answer
-  page_for which table n packets key answer within ok p came gave =
+  page_for : (which : ℕ) (now : Tables) (n : Network) (packets : List Packet) (key : Key)
+      (answer : List Packet) → Within sent n → AllSent IsLawfullySent n.sent → IsPageAsked (Some now) n which packets
+      → CameFrom sent which key → packets ≡ answer → IsPageFor sent now which key answer
+  page_for which now n packets key answer within ok p came gave =
       let s = p.request in
-      let packet = came_as A laws net zones sent which key s (within which s p.was_sent)
+      let packet = came_as A laws net tables sent which key s (within which s p.was_sent)
       (sent_at IsLawfullySent n.sent which s ok p.was_sent) came in
       record {
         came = came;
+        table = p.table;
         start = p.start;
-        asks_from = subst (λ f. AsksFrom f p.start) packet.0 p.asks_from;
-        page = sym gave ∙ p.page ∙ ap (λ zs. page_answer zs p.start) (some_table p.zones table (sym p.is_table));
+        asks_from = subst (λ f. AsksFrom f p.table p.start) packet.0 p.asks_from;
+        page = sym gave ∙ p.page
+            ∙ ap (λ t. page_answer (table_of p.table t) p.start) (some_tables p.has now (sym p.are_tables));
       }
     where
-      some_table : (a b : List (List ℕ)) → Some a ≡ Some b → a ≡ b
-      some_table a b h = cc
+      some_tables : (a b : Tables) → Some a ≡ Some b → a ≡ b
+      some_tables a b h = cc
 
   -- what gives an answer in the network is a step that gives it
-  step_gives : (e : Event A) (r : Report A) (table : List (List ℕ)) (n : Network) (h : Happening) (key : Key)
-      (answer : List Packet) → Within sent n → AllSent IsLawfullySent n.sent → Matches net table n h e r
-      → asking.Gives n h key answer → GivesBy net sent table e r key answer
-  step_gives e r table n (Answers at k packets) key answer within ok m g =
+  step_gives : (e : Event A) (r : Report A) (now : Tables) (n : Network) (h : Happening) (key : Key)
+      (answer : List Packet) → Within sent n → AllSent IsLawfullySent n.sent → Matches net now n h e r
+      → asking.Gives n h key answer → GivesBy net sent now e r key answer
+  step_gives e r now n (Answers at k packets) key answer within ok m g =
       let gives = m.answers_as in
-      subst (λ x. GivesBy net sent table x r key answer)
+      subst (λ x. GivesBy net sent now x r key answer)
       (sym (called_at e (Answer gives.0 gives.1 gives.2 packets) gives.4))
-      (subst (λ x. GivesBy net sent table (event.Call (node_of e) (Answer gives.0 gives.1 gives.2 packets)) x key
+      (subst (λ x. GivesBy net sent now (event.Call (node_of e) (Answer gives.0 gives.1 gives.2 packets)) x key
       answer) (sym gives.5) (ap (λ x. same_key x key) (sym gives.6) ∙ g.0, g.1))
-  step_gives e r table n (Serves which packets) key answer within ok m g =
+  step_gives e r now n (Serves which packets) key answer within ok m g =
       let gives = m.answers_as in
       let is = delivered_at e which gives.1 in
-      let up = hands_complete A laws net zones sent e r n key within ok m.finishes (sym (m.hands_up key) ∙ g.0) in
+      let up = hands_complete A laws net tables sent e r n key within ok m.finishes (sym (m.hands_up key) ∙ g.0) in
       let came = subst (λ x. HandsUpBy sent (event.Deliver which (node_of e)) x key) gives.2
       (subst (λ x. HandsUpBy sent x r key) is up) in
-      subst (λ x. GivesBy net sent table x r key answer) (sym is)
-      (subst (λ x. GivesBy net sent table (event.Deliver which (node_of e)) x key answer) (sym gives.2)
-      (page_for which table n packets key answer within ok gives.3 came g.1))
-  step_gives e r table n h key answer within ok m g = absurd g
+      subst (λ x. GivesBy net sent now x r key answer) (sym is)
+      (subst (λ x. GivesBy net sent now (event.Deliver which (node_of e)) x key answer) (sym gives.2)
+      (page_for which now n packets key answer within ok gives.3 came g.1))
+  step_gives e r now n h key answer within ok m g = absurd g
 
   gives_of : (past : List (Played A)) (hs : List Happening) (key : Key) (answer : List Packet)
-      → Told A net zones past hs → Within sent (after A hs) → AllByRecursion IsInRange hs
-      → Has (after A hs).asked key answer → SomeGives net zones sent key answer past
+      → Told A net tables past hs → Within sent (after A hs) → AllByRecursion IsInRange hs
+      → Has (after A hs).asked key answer → SomeGives net tables sent key answer past
   gives_of [] [] key answer told within range has = let none = has.1 in absurd (cc)
   gives_of [] (h ∷ hs) key answer told within range has = absurd told
   gives_of (x ∷ xs) [] key answer told within range has = absurd told
@@ -97,21 +101,22 @@ module _ (A : Type 0) (laws : OnceLaws A) (net : ℕ) (zones : List (List ℕ)) 
       go (λ g. gives_of xs hs key answer told.2 (within_before A sent h hs told.1 within) range.1 g)
       (began_under net x.event x.report key) refl
     where
-      m : Matches net (table_after zones xs) (after A hs) h x.event x.report
+      m : Matches net (tables_after tables xs) (after A hs) h x.event x.report
       m = told.0
 
-      either : (Has (after A hs).asked key answer → SomeGives net zones sent key answer xs)
+      either : (Has (after A hs).asked key answer → SomeGives net tables sent key answer xs)
           → Has (after A hs).asked key answer ⊎ asking.Gives (after A hs) h key answer
-          → GivesBy net sent (table_after zones xs) x.event x.report key answer ⊎ SomeGives net zones sent key answer xs
+          → GivesBy net sent (tables_after tables xs) x.event x.report key answer
+          ⊎ SomeGives net tables sent key answer xs
       either before (inl old) = inr (before old)
       either before (inr gave) = inl
-          (step_gives x.event x.report (table_after zones xs) (after A hs) h key answer
-          (within_before A sent h hs told.1 within) (lawful A laws net zones sent hs range.1) m gave)
+          (step_gives x.event x.report (tables_after tables xs) (after A hs) h key answer
+          (within_before A sent h hs told.1 within) (lawful A laws net tables sent hs range.1) m gave)
 
-      go : (Has (after A hs).asked key answer → SomeGives net zones sent key answer xs) → (b : Bool)
+      go : (Has (after A hs).asked key answer → SomeGives net tables sent key answer xs) → (b : Bool)
           → began_under net x.event x.report key ≡ b
-          → MatchBool b ⊥ (GivesBy net sent (table_after zones xs) x.event x.report key answer
-          ⊎ SomeGives net zones sent key answer xs)
+          → MatchBool b ⊥ (GivesBy net sent (tables_after tables xs) x.event x.report key answer
+          ⊎ SomeGives net tables sent key answer xs)
       go before true e = none_yet A laws.changes (after A hs) h key answer (m.draws_it key ∙ e) has
       go before false e = either before (had_or_gave A laws.changes (after A hs) h key answer (m.draws_it key ∙ e) has)
 
@@ -129,26 +134,26 @@ module _ (A : Type 0) (laws : OnceLaws A) (net : ℕ) (zones : List (List ℕ)) 
   joins_it (event.Call node call) r n h key within ok j g = absurd g
   joins_it (event.Deliver which node) (report.Served count) n h key within ok j g =
       let s = j.0 in
-      let same = came_so A laws net zones sent which key s (within which s j.1)
+      let same = came_so A laws net tables sent which key s (within which s j.1)
       (sent_at IsLawfullySent n.sent which s ok j.1) g in
-      let parts = key_parts A laws net zones sent s key same in
+      let parts = key_parts A laws net tables sent s key same in
       (j.2.0, j.2.1 ∙ (λ i. answered n.asked (parts.0 i) (parts.1 i) j.2.0))
   joins_it (event.Deliver which node) r n h key within ok j g = absurd g
   joins_it (event.Timer node time) r n h key within ok j g = absurd g
   joins_it (event.Forge node bytes) r n h key within ok j g = absurd g
 
   -- the newest transaction of a key after a step that answers it, one that had so many answers
-  more_answers : (x : Played A) (table : List (List ℕ)) (n : Network) (h : Happening) (key : Key) (count : ℕ)
-      → Within sent n → AllSent IsLawfullySent n.sent → Matches net table n h x.event x.report
+  more_answers : (x : Played A) (now : Tables) (n : Network) (h : Happening) (key : Key) (count : ℕ)
+      → Within sent n → AllSent IsLawfullySent n.sent → Matches net now n h x.event x.report
       → NewestIs (HasAnswers count) n.asked key → Gives net sent key x
       → NewestIs (HasAnswers (count + 1)) (done A n h).asked key
-  more_answers x table n h key count within ok m newest gives =
+  more_answers x now n h key count within ok m newest gives =
       let joined = joins_it x.event x.report n h key within ok m.joins gives in
       subst (λ ts. NewestIs (HasAnswers (count + 1)) ts key) (sym joined.1)
       (one_answer_more n.asked key joined.0 count newest)
 
   -- a transaction without answers was given none since it began
-  none_given : (past : List (Played A)) (hs : List Happening) (key : Key) → Told A net zones past hs
+  none_given : (past : List (Played A)) (hs : List Happening) (key : Key) → Told A net tables past hs
       → Within sent (after A hs) → AllByRecursion IsInRange hs → is_once net past key ≡ true
       → NewestIs (λ t. length t.answers ≡ 0) (after A hs).asked key → NoneGives net sent key (since net past key)
   none_given [] hs key told within range once none = tt
@@ -156,7 +161,7 @@ module _ (A : Type 0) (laws : OnceLaws A) (net : ℕ) (zones : List (List ℕ)) 
   none_given (x ∷ xs) (h ∷ hs) key told within range once none =
       go (λ o z. none_given xs hs key told.2 earlier range.1 o z) (began_under net x.event x.report key) refl once
     where
-      m : Matches net (table_after zones xs) (after A hs) h x.event x.report
+      m : Matches net (tables_after tables xs) (after A hs) h x.event x.report
       m = told.0
 
       earlier : Within sent (after A hs)
@@ -178,18 +183,18 @@ module _ (A : Type 0) (laws : OnceLaws A) (net : ℕ) (zones : List (List ℕ)) 
           → NoneGives net sent key (cond b [] (x ∷ since net xs key))
       go before true e is = tt
       go before false e is =
-          let t = once_newest A laws.changes net zones xs hs key told.2 is in
+          let t = once_newest A laws.changes net tables xs hs key told.2 is in
           let k = length (t.0).answers in
           let kept = kept_newest A laws.changes (HasAnswers (length (t.0).answers)) (has_kept (length (t.0).answers))
           (after A hs) h key (m.draws_it key ∙ e) (t.0, t.1, omega arith) in (
             (λ gives. one 0 (few (0 + 1)
-                (more_answers x (table_after zones xs) (after A hs) h key 0 earlier
-                (lawful A laws net zones sent hs range.1) m (t.0, t.1, omega arith) gives))),
+                (more_answers x (tables_after tables xs) (after A hs) h key 0 earlier
+                (lawful A laws net tables sent hs range.1) m (t.0, t.1, omega arith) gives))),
             before is (t.0, t.1, few (length (t.0).answers) kept),
           )
 
   -- a transaction that must not run twice was given one answer at most
-  one_given : (past : List (Played A)) (hs : List Happening) (key : Key) → Told A net zones past hs
+  one_given : (past : List (Played A)) (hs : List Happening) (key : Key) → Told A net tables past hs
       → Within sent (after A hs) → AllTimely A hs → AllByRecursion IsInRange hs → AllLive net sent past
       → is_once net past key ≡ true → AtMostOneGives net sent key (since net past key)
   one_given [] hs key told within timely range live once = tt
@@ -198,19 +203,19 @@ module _ (A : Type 0) (laws : OnceLaws A) (net : ℕ) (zones : List (List ℕ)) 
       go (λ o. one_given xs hs key told.2 earlier timely.1 range.1 live.1 o)
       (began_under net x.event x.report key) refl once
     where
-      m : Matches net (table_after zones xs) (after A hs) h x.event x.report
+      m : Matches net (tables_after tables xs) (after A hs) h x.event x.report
       m = told.0
 
       earlier : Within sent (after A hs)
       earlier = within_before A sent h hs told.1 within
 
       law : AnswersOnce A (h ∷ hs)
-      law = laws.once (h ∷ hs) timely (all_lived A laws net zones sent (x ∷ xs) (h ∷ hs) told within range live)
+      law = laws.once (h ∷ hs) timely (all_lived A laws net tables sent (x ∷ xs) (h ∷ hs) told within range live)
 
       -- so many answers are one at most
       few : (count : ℕ) → NewestIs (HasAnswers count) (done A (after A hs) h).asked key → count ≤ 1
       few count has =
-          let t = once_newest A laws.changes net zones (x ∷ xs) (h ∷ hs) key told once in
+          let t = once_newest A laws.changes net tables (x ∷ xs) (h ∷ hs) key told once in
           let same : has.0 ≡ t.0 = some_one has.0 t.0 (sym has.1 ∙ t.1) in
           let least : count ≤ length (t.0).answers = subst (HasAnswers count) same has.2 in
           let most = law.once key.from key.tid t.0 t.1 t.2.0 in
@@ -224,41 +229,41 @@ module _ (A : Type 0) (laws : OnceLaws A) (net : ℕ) (zones : List (List ℕ)) 
           → AtMostOneGives net sent key (cond b [] (x ∷ since net xs key))
       go before true e is = tt
       go before false e is =
-          let t = once_newest A laws.changes net zones xs hs key told.2 is in (
+          let t = once_newest A laws.changes net tables xs hs key told.2 is in (
             (λ gives. none_given xs hs key told.2 earlier range.1 is (
               t.0,
               t.1,
               none (length (t.0).answers)
                   (few (length (t.0).answers + 1)
-                  (more_answers x (table_after zones xs) (after A hs) h key (length (t.0).answers) earlier
-                  (lawful A laws net zones sent hs range.1) m (t.0, t.1, omega arith) gives)),
+                  (more_answers x (tables_after tables xs) (after A hs) h key (length (t.0).answers) earlier
+                  (lawful A laws net tables sent hs range.1) m (t.0, t.1, omega arith) gives)),
             )),
             before is,
           )
 
-  one_moment : (past : List (Played A)) (hs : List Happening) → Told A net zones past hs → Within sent (after A hs)
+  one_moment : (past : List (Played A)) (hs : List Happening) → Told A net tables past hs → Within sent (after A hs)
       → AllTimely A hs → AllByRecursion IsInRange hs → AllLive net sent past → (key : Key) → is_once net past key
       ≡ true → RanOnce net sent past key
   one_moment past hs told within timely range live key once =
-      let t = once_newest A laws.changes net zones past hs key told once in
-      let law = laws.once hs timely (all_lived A laws net zones sent past hs told within range live) in (
-        most_of A laws net zones sent past hs key told within range
+      let t = once_newest A laws.changes net tables past hs key told once in
+      let law = laws.once hs timely (all_lived A laws net tables sent past hs told within range live) in (
+        most_of A laws net tables sent past hs key told within range
             (law.once key.from key.tid t.0 t.1 t.2.0).0,
         one_given past hs key told within timely range live once,
       )
 
   ended : (past : List (Played A)) (hs : List Happening) (which node tid : ℕ) (packets : List Packet)
-      → Told A net zones past hs → Within sent (after A hs) → AllTimely A hs → AllByRecursion IsInRange hs
+      → Told A net tables past hs → Within sent (after A hs) → AllTimely A hs → AllByRecursion IsInRange hs
       → AllLive net sent past → reports.Ends A net node (after A hs) which tid packets →
       is_once net past (record { from = asking net node; tid = tid }) ≡ true
       → SomeHandsUp sent (record { from = asking net node; tid = tid })
       (since net past (record { from = asking net node; tid = tid }))
-      × ((answer : List Packet) × SomeGives net zones sent (record { from = asking net node; tid = tid }) answer past
+      × ((answer : List Packet) × SomeGives net tables sent (record { from = asking net node; tid = tid }) answer past
       × (packets ≡ take (wanted_by net past (record { from = asking net node; tid = tid })) answer))
   ended past hs which node tid packets told within timely range live ends once =
       let s = ends.packet in
-      let t = once_newest A laws.changes net zones past hs (record { from = asking net node; tid = tid }) told once in
-      let law = laws.once hs timely (all_lived A laws net zones sent past hs told within range live) in
+      let t = once_newest A laws.changes net tables past hs (record { from = asking net node; tid = tid }) told once in
+      let law = laws.once hs timely (all_lived A laws net tables sent past hs told within range live) in
       let a = ((laws.answers hs timely).finished which s packets ends.was_sent ends.fresh ends.ends).0 in
       let same : a.transaction
       ≡ t.0 = some_one a.transaction t.0
@@ -271,7 +276,7 @@ module _ (A : Type 0) (laws : OnceLaws A) (net : ℕ) (zones : List (List ℕ)) 
       let answers : (t.0).answers ≡ done_once.1 ∷ [] = ap (λ (x : Transaction). x.answers) (sym same) ∙ done_once.2 in
       let among : Contains (t.0).answers done_once.1 = subst (λ (l : List (List Packet)). Contains l done_once.1)
       (sym answers) (0, lit< tt, refl) in (
-        some_of A laws net zones sent past hs (record { from = asking net node; tid = tid }) told within range
+        some_of A laws net tables sent past hs (record { from = asking net node; tid = tid }) told within range
             (omega (arith, here)),
         (
           done_once.1,
@@ -281,9 +286,9 @@ module _ (A : Type 0) (laws : OnceLaws A) (net : ℕ) (zones : List (List ℕ)) 
         ),
       )
 
-  ends_by : (e : Event A) (r : Report A) (past : List (Played A)) (hs : List Happening) → Told A net zones past hs
+  ends_by : (e : Event A) (r : Report A) (past : List (Played A)) (hs : List Happening) → Told A net tables past hs
       → Within sent (after A hs) → AllTimely A hs → AllByRecursion IsInRange hs → AllLive net sent past
-      → reports.Finishes net (node_of e) (after A hs) (act_of e) r → EndsBy net zones sent e r past
+      → reports.Finishes net (node_of e) (after A hs) (act_of e) r → EndsBy net tables sent e r past
   ends_by (event.Call node call) r past hs told within timely range live f = tt
   ends_by (event.Deliver which node) (report.Response tid packets) past hs told within timely range live f =
       ended past hs which node tid packets told within timely range live f
@@ -291,8 +296,8 @@ module _ (A : Type 0) (laws : OnceLaws A) (net : ℕ) (zones : List (List ℕ)) 
   ends_by (event.Timer node time) r past hs told within timely range live f = tt
   ends_by (event.Forge node bytes) r past hs told within timely range live f = tt
 
-  pub runs_once : (past : List (Played A)) (hs : List Happening) → Told A net zones past hs → Within sent (after A hs)
-      → AllTimely A hs → AllByRecursion IsInRange hs → AllLive net sent past → RunsOnce net zones sent past
+  pub runs_once : (past : List (Played A)) (hs : List Happening) → Told A net tables past hs → Within sent (after A hs)
+      → AllTimely A hs → AllByRecursion IsInRange hs → AllLive net sent past → RunsOnce net tables sent past
   runs_once [] [] told within timely range live = tt
   runs_once [] (h ∷ hs) told within timely range live = tt
   runs_once (x ∷ xs) [] told within timely range live = absurd told
@@ -308,15 +313,15 @@ module _ (A : Type 0) (laws : OnceLaws A) (net : ℕ) (zones : List (List ℕ)) 
 abbrev pub StepsOnce : (A : Type 0) → Setup A → Type 0
 StepsOnce A s = (events : List (Event A)) (reports : List (Report A)) (w : WorldState) → NoForge events
     → Follows (opening_world s) events reports w → AllLive s.net w.sent (onto [] events reports)
-    → RunsOnce s.net s.zones w.sent (onto [] events reports)
+    → RunsOnce s.net (tables_of s) w.sent (onto [] events reports)
 
 pub play_is_once : (A : Type 0) (s : Setup A) (events : List (Event A)) (answer : Result (Transcript A) (PlayFault A))
     → StepsOnce A s → IsPlay s events answer → IsOnce s events answer
 play_is_once A s events (Ok t) law h = λ forged_none. let played = h.1 in
     subst (λ sent. AllLive s.net sent (onto [] events t.reports)
-    → RunsOnce s.net s.zones sent (onto [] events t.reports)) (sym played.1)
+    → RunsOnce s.net (tables_of s) sent (onto [] events t.reports)) (sym played.1)
     (law events t.reports h.0 forged_none played.0)
 play_is_once A s events (Err f) law h = λ forged_none. let played = h.1 in
     subst (λ sent. AllLive s.net sent (onto [] (take f.at events) f.transcript.reports)
-    → RunsOnce s.net s.zones sent (onto [] (take f.at events) f.transcript.reports)) (sym played.1)
+    → RunsOnce s.net (tables_of s) sent (onto [] (take f.at events) f.transcript.reports)) (sym played.1)
     (law (take f.at events) f.transcript.reports h.0 forged_none played.0)

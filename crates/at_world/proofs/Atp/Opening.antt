@@ -6,6 +6,8 @@ use Rattle.std.proofs.lemmas.Bool.{eqb-true}
 use Rattle.std.proofs.lemmas.List.Sums.{sum_by-cons}
 use Rattle.at_ddp.specs.declared.address.Address.{Address}
 use Rattle.at_atp_requester.specs.Requests.{no_requests}
+use Rattle.at_zip.specs.Tables.{Tables, AreTables}
+use Rattle.at_zip.specs.declared.request.Which.TheVariants.{All, Local}
 use Rattle.at_node.specs.AtpParts.{Reading}
 use Rattle.at_node.specs.Nodes.{NodeState, opening}
 use Rattle.at_setup.specs.declared.setup.NodeSetup.{NodeSetup}
@@ -13,11 +15,11 @@ use Rattle.at_setup.specs.declared.setup.Setup.{Setup}
 use Rattle.at_world.specs.AtpGuards as atp
 use Rattle.at_world.specs.Cables as cables
 use Rattle.at_world.specs.Plays.{neighbours_of, router_of, opening_node, opening_world, rooms_of}
-use Rattle.at_setup.specs.Setups.{is_lawful}
+use Rattle.at_setup.specs.Setups.{is_lawful, tables_of}
 use Rattle.at_world.specs.Worlds.{is_numbered}
 use Rattle.at_world.proofs.Atp.Places.{requester_of, requester_at, service_of, served_of, records_at}
 use Rattle.at_world.proofs.Atp.Tie.{IsReading, AtpTie}
-use Rattle.at_world.proofs.LawfulSetups.{SetupLaws, lawful_has}
+use Rattle.at_world.proofs.LawfulSetups.{Lawful, SetupLaws, lawful_has}
 
 routers-cons : (x : NodeSetup) (ns : List NodeSetup) → count_by (λ n. n.router) (x ∷ ns)
     ≡ cond x.router 1 0 + count_by (λ n. n.router) ns
@@ -39,7 +41,7 @@ router_counts (x ∷ ns) k is = rw (routers-cons x ns) (go (router_counts ns k) 
 module _ (A : Type 0) (s : Setup A) where
   -- of at most one router, a node that has a table is the first
   router_is : (ns : List NodeSetup) → count_by (λ n. n.router) ns ≤ 1 → (k : ℕ) (n : NodeState)
-      → find (is_numbered k) (map (opening_node s) ns) ≡ Some n → (t : List (List ℕ)) → n.atp.table ≡ Some t
+      → find (is_numbered k) (map (opening_node s) ns) ≡ Some n → (t : Tables) → n.atp.tables ≡ Some t
       → router_of ns ≡ Some k
   router_is [] few k n h t has = absurd (cc)
   router_is (x ∷ ns) few k n h t has = go (λ less g. router_is ns less k n g t has) x.router (x.node == k) refl
@@ -47,7 +49,7 @@ module _ (A : Type 0) (s : Setup A) where
     where
       opened : Bool → NodeState
       opened b = opening (record { net = s.net; number = x.node; router = router_of s.nodes }) x.zone
-          (cond b (Some s.zones) None) (cond b (Some (neighbours_of s.nodes)) None) (rooms_of x)
+          (cond b (Some (tables_of s)) None) (cond b (Some (neighbours_of s.nodes)) None) (rooms_of x)
 
       go : (count_by (λ n. n.router) ns ≤ 1 → find (is_numbered k) (map (opening_node s) ns) ≡ Some n → router_of ns
           ≡ Some k) → (b c : Bool) → (x.node == k) ≡ c → cond b 1 0 + count_by (λ n. n.router) ns ≤ 1
@@ -57,25 +59,25 @@ module _ (A : Type 0) (s : Setup A) where
       go ih true false e less g = let one = router_counts ns k (ih (omega (arith, less)) g) in
           absurd (omega (arith, one, less))
       go ih false true e less g = let same : opened false ≡ n = cc in let none : None
-          ≡ Some t = ap (λ (y : NodeState). y.atp.table) same ∙ has in absurd (cc)
+          ≡ Some t = ap (λ (y : NodeState). y.atp.tables) same ∙ has in absurd (cc)
       go ih false false e less g = ih (omega (arith, less)) g
 
-  -- the table of a node that has one is that of the setup
-  table_is : (ns : List NodeSetup) (k : ℕ) (n : NodeState) → find (is_numbered k) (map (opening_node s) ns) ≡ Some n
-      → (t : List (List ℕ)) → n.atp.table ≡ Some t → t ≡ s.zones
-  table_is [] k n h t has = absurd (cc)
-  table_is (x ∷ ns) k n h t has = go (λ g. table_is ns k n g t has) x.router (x.node == k) h
+  -- the tables of a node that has them are those of the setup
+  tables_are : (ns : List NodeSetup) (k : ℕ) (n : NodeState) → find (is_numbered k) (map (opening_node s) ns) ≡ Some n
+      → (t : Tables) → n.atp.tables ≡ Some t → t ≡ tables_of s
+  tables_are [] k n h t has = absurd (cc)
+  tables_are (x ∷ ns) k n h t has = go (λ g. tables_are ns k n g t has) x.router (x.node == k) h
     where
       opened : Bool → NodeState
       opened b = opening (record { net = s.net; number = x.node; router = router_of s.nodes }) x.zone
-          (cond b (Some s.zones) None) (cond b (Some (neighbours_of s.nodes)) None) (rooms_of x)
+          (cond b (Some (tables_of s)) None) (cond b (Some (neighbours_of s.nodes)) None) (rooms_of x)
 
-      of_one : (b : Bool) → opened b ≡ n → t ≡ s.zones
-      of_one true same = let some : Some s.zones ≡ Some t = ap (λ (y : NodeState). y.atp.table) same ∙ has in cc
-      of_one false same = let none : None ≡ Some t = ap (λ (y : NodeState). y.atp.table) same ∙ has in absurd (cc)
+      of_one : (b : Bool) → opened b ≡ n → t ≡ tables_of s
+      of_one true same = let some : Some (tables_of s) ≡ Some t = ap (λ (y : NodeState). y.atp.tables) same ∙ has in cc
+      of_one false same = let none : None ≡ Some t = ap (λ (y : NodeState). y.atp.tables) same ∙ has in absurd (cc)
 
-      go : (find (is_numbered k) (map (opening_node s) ns) ≡ Some n → t ≡ s.zones) → (b c : Bool)
-          → cond c (Some (opened b)) (find (is_numbered k) (map (opening_node s) ns)) ≡ Some n → t ≡ s.zones
+      go : (find (is_numbered k) (map (opening_node s) ns) ≡ Some n → t ≡ tables_of s) → (b c : Bool)
+          → cond c (Some (opened b)) (find (is_numbered k) (map (opening_node s) ns)) ≡ Some n → t ≡ tables_of s
       go ih b true g = let same : opened b ≡ n = cc in of_one b same
       go ih b false g = ih g
 
@@ -138,6 +140,10 @@ module _ (A : Type 0) (s : Setup A) where
       go true false true = sym (nothing_served s.nodes at.node)
       go true false false = refl
 
+  opening_tables : SetupLaws → Lawful s → AreTables (tables_of s)
+  opening_tables laws law All = laws.is_a_table s.zones law.table
+  opening_tables laws law Local = laws.is_a_table s.local law.local
+
   none_read : {P : Type 0} (read : Reading) → None ≡ Some read → P
   none_read read h = absurd (cc)
 
@@ -146,7 +152,7 @@ module _ (A : Type 0) (s : Setup A) where
   atp_at_opening laws ok =
       let law = lawful_has A s ok in (
         record {
-          table = laws.is_a_table s.zones law.table;
+          are_tables = opening_tables laws law;
           history = [];
           timely = tt;
           in_range = tt;
@@ -156,7 +162,7 @@ module _ (A : Type 0) (s : Setup A) where
           sent = tt;
           drawn = tt;
           asked = refl;
-          tables = λ k n is t has. (table_is s.nodes k n is t has, router_is s.nodes law.one k n is t has);
+          tables = λ k n is t has. (tables_are s.nodes k n is t has, router_is s.nodes law.one k n is t has);
           opened = λ k n is read reads. none_read read (sym (nothing_read s.nodes k n is) ∙ reads);
           readings = λ k n is. subst (IsReading (cables.opening s) (atp.opening s) k)
               (sym (nothing_read s.nodes k n is)) tt;

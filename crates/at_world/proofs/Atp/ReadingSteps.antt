@@ -1,12 +1,14 @@
--- What the steps of a reading of the zone list are in the machine.
+-- What the steps of a reading of a zone table are in the machine.
 use Rattle.std.proofs.Common.{◌≤◌, ◌≡◌, ℕ, false, cond, List, [], ◌∷◌, ◌++◌, length, Some, None, refl, sym, ap, subst}
 use Rattle.std.proofs.Common.{◌∙◌, arith}
-use Rattle.std.specs.Prelude.{find, option_map, ◌==◌, ◌&&◌}
+use Rattle.std.specs.Prelude.{find, ◌==◌, ◌&&◌}
 use Rattle.std.proofs.lemmas.Bool.{eq-eqb}
 use Rattle.at_ddp.proofs.Octets.{same_address_itself}
 use Rattle.at_atp.specs.Transactions.{Transaction, transaction_of}
 use Rattle.std.proofs.lemmas.List.{length-append}
 use Rattle.at_zip.specs.Reading.{BeginsTable}
+use Rattle.at_zip.specs.Tables.{table_of}
+use Rattle.at_zip.specs.declared.request.Which.{Which}
 use Rattle.at_node.specs.AtpParts.{Reading as ZoneReading, asking, zones_at}
 use Rattle.at_node.specs.Nodes.{NodeState}
 use Rattle.at_event.specs.declared.event.Call.TheVariants.{Zones}
@@ -15,7 +17,7 @@ use Rattle.at_event.specs.declared.event.Report.TheVariants as report
 use Rattle.at_steps.specs.AtpHappenings.{sets_table}
 use Rattle.at_steps.specs.AtpSteps.{Change, ComesToReading, BeginsReading, TurnsPage, EndsReading, FailsReading, Tells}
 use Rattle.at_steps.specs.AtpSteps.{All, TooMany, Faulty, page_asked}
-use Rattle.at_world.specs.AtpGuards.{AtpMachine, Reading, StoodSince, since_of, without_reading}
+use Rattle.at_world.specs.AtpGuards.{AtpMachine, Reading, ReadsSince, StoodSince, without_reading}
 use Rattle.at_world.specs.Cables.{Cable, IsSaid}
 use Rattle.at_world.specs.Events.{act_of, node_of}
 use Rattle.at_world.specs.Worlds.{WorldState, node_at}
@@ -27,12 +29,12 @@ use Rattle.at_world.proofs.Atp.Lists.{no_answers, others_left}
 use Rattle.at_world.proofs.Atp.Readings.{Reads, all_stays, comes_from_router, fits, goes_on, has_all, longer, no_fault}
 use Rattle.at_world.proofs.Atp.Readings.{stood_before}
 use Rattle.at_world.proofs.Atp.Tie.{Laws, Becomes, IsReading, AtpTie, moved}
-use Rattle.at_world.proofs.Atp.Staying.{Allows, so_at, table_kept, still_theirs}
+use Rattle.at_world.proofs.Atp.Staying.{Allows, so_at, tables_kept, still_theirs}
 
 module _ (A : Type 0) (laws : Laws A) (w : WorldState) (cable : Cable) (m : AtpMachine) (wires : List Wire)
     (e : Event A) (n x : NodeState) (r : Report A) (t : AtpTie A w cable wires m)
     (stands : node_at w (node_of e) ≡ Some n)
-    (keeps : sets_table r ≡ false → x.atp.table ≡ n.atp.table) where
+    (keeps : sets_table r ≡ false → x.atp.tables ≡ n.atp.tables) where
   -- what a step is in words of transactions
   abbrev Changed : List Transaction → Change A
   Changed ts = record { asked = m.asked; now_asked = ts; part = n.atp; now = x.atp; act = act_of e; report = r }
@@ -40,21 +42,21 @@ module _ (A : Type 0) (laws : Laws A) (w : WorldState) (cable : Cable) (m : AtpM
   -- ---- readings that end
 
   no_longer : (ts : List Transaction) → ts ≡ m.asked → x.atp.reading ≡ None → sets_table r ≡ false
-      → Allows cable m e r (moved m m.table m.asked (without_reading m.readings (node_of e))) → IsSaid e r
+      → Allows cable m e r (moved m m.tables m.asked (without_reading m.readings (node_of e))) → IsSaid e r
       × Becomes A cable m e x r ts
   no_longer ts same none sets allows = (
     allows.0,
     subst (Becomes A cable m e x r) (sym same) (record {
-      table = m.table;
-      is_table = t.table;
+      tables = m.tables;
+      are_tables = t.are_tables;
       readings = without_reading m.readings (node_of e);
       allows = allows.1;
-      here = table_kept A laws w cable m wires e n x r t stands keeps sets;
+      here = tables_kept A laws w cable m wires e n x r t stands keeps sets;
       elsewhere = λ j y apart h. h;
-      reading = subst (IsReading cable (moved m m.table m.asked (without_reading m.readings (node_of e))) (node_of e))
+      reading = subst (IsReading cable (moved m m.tables m.asked (without_reading m.readings (node_of e))) (node_of e))
           (sym none) tt;
       others = λ j apart. others_left m.readings (node_of e) j apart;
-      still = λ j tid server apart. all_stays m.table m.asked (asking cable.net j) tid (zones_at cable.net server);
+      still = λ j tid server apart. all_stays m.tables m.asked (asking cable.net j) tid (zones_at cable.net server);
     }),
   )
 
@@ -66,9 +68,9 @@ module _ (A : Type 0) (laws : Laws A) (w : WorldState) (cable : Cable) (m : AtpM
   fails_step ts s =
       let its = reads s.read s.reads in
       no_longer ts s.asked s.reading (ap sets_table s.report)
-      (so_at A cable m (moved m m.table m.asked (without_reading m.readings (node_of e))) e
+      (so_at A cable m (moved m m.tables m.asked (without_reading m.readings (node_of e))) e
       (event.Timer (node_of e) s.time) r report.ZonesFailed (fired_at e s.time s.act) s.report
-      (tt, record { since = its.since; began = its.began; becomes = refl }))
+      (tt, record { which = s.read.which; since = its.since; began = its.began; becomes = refl }))
 
   pub reading_ends_step : (ts : List Transaction) → EndsReading cable.net (node_of e) (Changed ts) → IsSaid e r
       × Becomes A cable m e x r ts
@@ -80,11 +82,12 @@ module _ (A : Type 0) (laws : Laws A) (w : WorldState) (cable : Cable) (m : AtpM
       its : Reads cable.net cable.router m.past m.asked m.readings (node_of e) came.read
       its = reads came.read came.reads
 
-      go : Tells (came.read).names came.packet r → IsSaid e r × Becomes A cable m e x r ts
+      go : Tells (came.read).which (came.read).names came.packet r → IsSaid e r × Becomes A cable m e x r ts
       go (All h) =
           no_longer ts s.asked s.reading (ap sets_table h.tells)
-          (so_at A cable m (moved m m.table m.asked (without_reading m.readings (node_of e))) e
-          (event.Deliver came.which (node_of e)) r (report.Zones ((came.read).names ++ (h.page).names))
+          (so_at A cable m (moved m m.tables m.asked (without_reading m.readings (node_of e))) e
+          (event.Deliver came.which (node_of e)) r (report.Zones (came.read).which ((came.read).names
+          ++ (h.page).names))
           (delivered_at e came.which came.act) h.tells (
             tt,
             record {
@@ -92,7 +95,7 @@ module _ (A : Type 0) (laws : Laws A) (w : WorldState) (cable : Cable) (m : AtpM
               began = its.began;
               tells = λ stood. has_all laws.reading cable.net cable.router m.past m.asked m.readings
                   (node_of e) came.read its came.from came.newest came.place came.ends came.packet came.part h.page
-                  h.spelled h.last m.table stood;
+                  h.spelled h.last (table_of (came.read).which m.tables) stood;
               becomes = refl;
             },
           ))
@@ -108,19 +111,20 @@ module _ (A : Type 0) (laws : Laws A) (w : WorldState) (cable : Cable) (m : AtpM
   -- ---- readings that begin and go on
 
   -- the node asks the router for the page after these names
-  asks_page : (server tid : ℕ) (names : List (List ℕ)) (readings : List Reading) (since : ℕ) → cable.router
-      ≡ Some server → length names ≤ 1024 → since_of readings (node_of e) ≡ Some since → since ≤ length m.past →
-      ((table : List (List ℕ)) → StoodSince (m.past ++ m.table ∷ []) since table → BeginsTable table names)
-      → IsReading cable (moved m m.table
-      (page_asked cable.net (node_of e) (zones_at cable.net server) names tid ∷ m.asked) readings) (node_of e)
-      (Some (record { tid = tid; names = names }))
-  asks_page server tid names readings since is_router few began begun begins = record {
+  asks_page : (server : ℕ) (kind : Which) (tid : ℕ) (names : List (List ℕ)) (readings : List Reading) (since : ℕ)
+      → cable.router ≡ Some server → length names ≤ 1024 → ReadsSince readings (node_of e) kind since
+      → since ≤ length m.past →
+      ((table : List (List ℕ)) → StoodSince (m.past ++ m.tables ∷ []) since kind table → BeginsTable table names)
+      → IsReading cable (moved m m.tables
+      (page_asked cable.net (node_of e) (zones_at cable.net server) kind names tid ∷ m.asked) readings) (node_of e)
+      (Some (record { which = kind; tid = tid; names = names }))
+  asks_page server kind tid names readings since is_router few began begun begins = record {
     server = server;
     is_router = is_router;
     first = record {
-      transaction = page_asked cable.net (node_of e) (zones_at cable.net server) names tid;
+      transaction = page_asked cable.net (node_of e) (zones_at cable.net server) kind names tid;
       newest = λ i. cond (same_address_itself (asking cable.net (node_of e)) i && eq-eqb tid tid refl i)
-          (Some (page_asked cable.net (node_of e) (zones_at cable.net server) names tid))
+          (Some (page_asked cable.net (node_of e) (zones_at cable.net server) kind names tid))
           (transaction_of m.asked (asking cable.net (node_of e)) tid);
       asked_it = refl;
     };
@@ -129,7 +133,7 @@ module _ (A : Type 0) (laws : Laws A) (w : WorldState) (cable : Cable) (m : AtpM
     few = few;
     since = since;
     began = began;
-    begun = omega (arith, begun, longer m.past m.table);
+    begun = omega (arith, begun, longer m.past m.tables);
     begins = begins;
     pages = λ answer among. no_answers answer among;
   }
@@ -139,21 +143,19 @@ module _ (A : Type 0) (laws : Laws A) (w : WorldState) (cable : Cable) (m : AtpM
   reads_step routed ts s = (
     allows.0,
     subst (Becomes A cable m e x r) (sym s.asked) (record {
-      table = m.table;
-      is_table = t.table;
+      tables = m.tables;
+      are_tables = t.are_tables;
       readings = readings;
       allows = allows.1;
-      here = table_kept A laws w cable m wires e n x r t stands keeps (ap sets_table s.report);
+      here = tables_kept A laws w cable m wires e n x r t stands keeps (ap sets_table s.report);
       elsewhere = λ j y apart h. h;
-      reading = subst (IsReading cable (moved m m.table (new ∷ m.asked) readings) (node_of e)) (sym s.reading)
-          (asks_page s.server s.tid [] readings (length m.past) is_router (omega arith)
-          (ap (λ b. option_map (λ (y : Reading). y.since)
-          (cond b (Some (record { node = node_of e; since = length m.past }))
-          (find (λ (y : Reading). y.node == node_of e) m.readings))) (eq-eqb (node_of e) (node_of e) refl))
+      reading = subst (IsReading cable (moved m m.tables (new ∷ m.asked) readings) (node_of e)) (sym s.reading)
+          (asks_page s.server s.which s.tid [] readings (length m.past) is_router (omega arith)
+          (ap (λ b. cond b (Some (record { node = node_of e; which = s.which; since = length m.past }))
+          (find (λ (y : Reading). y.node == node_of e) m.readings)) (eq-eqb (node_of e) (node_of e) refl))
           (omega arith) (λ table stood. record { rest = table; begins = refl }));
-      others = λ j apart. ap (λ b. option_map (λ (y : Reading). y.since)
-          (cond b (Some (record { node = node_of e; since = length m.past }))
-          (find (λ (y : Reading). y.node == j) m.readings))) apart;
+      others = λ j apart. ap (λ b. cond b (Some (record { node = node_of e; which = s.which; since = length m.past }))
+          (find (λ (y : Reading). y.node == j) m.readings)) apart;
       still = still_theirs A laws w cable m wires e n x r t stands keeps new refl;
     }),
   )
@@ -162,14 +164,14 @@ module _ (A : Type 0) (laws : Laws A) (w : WorldState) (cable : Cable) (m : AtpM
       is_router = sym routed ∙ s.is_router
 
       new : Transaction
-      new = page_asked cable.net (node_of e) (zones_at cable.net s.server) [] s.tid
+      new = page_asked cable.net (node_of e) (zones_at cable.net s.server) s.which [] s.tid
 
       readings : List Reading
-      readings = record { node = node_of e; since = length m.past } ∷ m.readings
+      readings = record { node = node_of e; which = s.which; since = length m.past } ∷ m.readings
 
-      allows : Allows cable m e r (moved m m.table (new ∷ m.asked) readings)
-      allows = so_at A cable m (moved m m.table (new ∷ m.asked) readings) e (event.Call (node_of e) Zones) r
-          (report.Begun s.tid) (called_at e Zones s.act) s.report
+      allows : Allows cable m e r (moved m m.tables (new ∷ m.asked) readings)
+      allows = so_at A cable m (moved m m.tables (new ∷ m.asked) readings) e (event.Call (node_of e) (Zones s.which)) r
+          (report.Begun s.tid) (called_at e (Zones s.which) s.act) s.report
           (tt, record { router = s.server; is_router = is_router; becomes = refl })
 
   -- a page came that is not the last
@@ -178,17 +180,17 @@ module _ (A : Type 0) (laws : Laws A) (w : WorldState) (cable : Cable) (m : AtpM
   turns_step ts s = (
     allows.0,
     subst (Becomes A cable m e x r)
-        (sym (s.asked ∙ ap (λ a. page_asked cable.net (node_of e) a names s.tid ∷ m.asked) from_router)) (record {
-          table = m.table;
-          is_table = t.table;
+        (sym (s.asked ∙ ap (λ a. page_asked cable.net (node_of e) a kind names s.tid ∷ m.asked) from_router)) (record {
+          tables = m.tables;
+          are_tables = t.are_tables;
           readings = m.readings;
           allows = allows.1;
-          here = table_kept A laws w cable m wires e n x r t stands keeps (ap sets_table s.report);
+          here = tables_kept A laws w cable m wires e n x r t stands keeps (ap sets_table s.report);
           elsewhere = λ j y apart h. h;
-          reading = subst (IsReading cable (moved m m.table (new ∷ m.asked) m.readings) (node_of e)) (sym s.reading)
-              (asks_page its.server s.tid names m.readings its.since its.is_router few its.began
+          reading = subst (IsReading cable (moved m m.tables (new ∷ m.asked) m.readings) (node_of e)) (sym s.reading)
+              (asks_page its.server kind s.tid names m.readings its.since its.is_router few its.began
               (let lt = its.begun in omega (arith, lt))
-              (λ table stood. begin table (stood_before m.past m.table its.since table stood)));
+              (λ table stood. begin table (stood_before m.past m.tables its.since kind table stood)));
           others = λ j apart. refl;
           still = still_theirs A laws w cable m wires e n x r t stands keeps new refl;
         }),
@@ -200,6 +202,9 @@ module _ (A : Type 0) (laws : Laws A) (w : WorldState) (cable : Cable) (m : AtpM
       its : Reads cable.net cable.router m.past m.asked m.readings (node_of e) came.read
       its = reads came.read came.reads
 
+      kind : Which
+      kind = (came.read).which
+
       names : List (List ℕ)
       names = (came.read).names ++ (s.page).names
 
@@ -207,7 +212,7 @@ module _ (A : Type 0) (laws : Laws A) (w : WorldState) (cable : Cable) (m : AtpM
       from_router = comes_from_router laws.reading cable.net cable.router m.past m.asked m.readings
           (node_of e) came.read its came.from came.newest came.place came.ends came.packet came.part
 
-      begin : (table : List (List ℕ)) → StoodSince m.past its.since table → BeginsTable table names
+      begin : (table : List (List ℕ)) → StoodSince m.past its.since kind table → BeginsTable table names
       begin table stood = goes_on laws.reading cable.net cable.router m.past m.asked m.readings
           (node_of e) came.read its came.from came.newest came.place came.ends came.packet came.part s.page s.spelled
           table stood
@@ -216,20 +221,21 @@ module _ (A : Type 0) (laws : Laws A) (w : WorldState) (cable : Cable) (m : AtpM
       few = let most = s.few in omega (arith, most, length-append (came.read).names (s.page).names)
 
       new : Transaction
-      new = page_asked cable.net (node_of e) (zones_at cable.net its.server) names s.tid
+      new = page_asked cable.net (node_of e) (zones_at cable.net its.server) kind names s.tid
 
-      allows : Allows cable m e r (moved m m.table (new ∷ m.asked) m.readings)
-      allows = so_at A cable m (moved m m.table (new ∷ m.asked) m.readings) e (event.Deliver came.which (node_of e)) r
+      allows : Allows cable m e r (moved m m.tables (new ∷ m.asked) m.readings)
+      allows = so_at A cable m (moved m m.tables (new ∷ m.asked) m.readings) e (event.Deliver came.which (node_of e)) r
           (report.Begun s.tid) (delivered_at e came.which came.act) s.report (
             tt,
             record {
               router = its.server;
               is_router = its.is_router;
+              which = kind;
               since = its.since;
               began = its.began;
               names = names;
               few = few;
-              tells = λ stood. begin m.table stood;
+              tells = λ stood. begin (table_of kind m.tables) stood;
               becomes = refl;
             },
           )

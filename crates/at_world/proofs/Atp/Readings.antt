@@ -1,7 +1,7 @@
--- A node that reads the zone list, page by page: what is known of its names, and of the answers to its transaction.
+-- A node that reads a zone table, page by page: what is known of its names, and of the answers to its transaction.
 use Rattle.std.proofs.Common.{◌≡◌, ◌⊎◌, inl, inr, ℕ, zero, suc, ◌+◌, ◌-◌, ◌^◌, ◌<◌, ◌≤◌, Bool, true, false, cond, List}
 use Rattle.std.proofs.Common.{[], ◌∷◌, ◌++◌, length, Option, Some, refl, sym, ap, subst, ◌∙◌, append-nil, arith, lit<}
-use Rattle.std.specs.Prelude.{slice_get, slice_index_or}
+use Rattle.std.specs.Prelude.{slice_get}
 use Rattle.std.specs.List.{Contains}
 use Rattle.std.proofs.lemmas.List.{length-append, length-drop}
 use Rattle.std.proofs.lemmas.List.Elements.{Contains-append_cases}
@@ -12,20 +12,26 @@ use Rattle.at_zip.specs.Fault.{IsFirstFault}
 use Rattle.at_zip.specs.Page.{Page, IsLawful as IsLawfulPage, IsPageFrom, Spells, page_of, page_user, page_data}
 use Rattle.at_zip.specs.Reading.{BeginsTable, place_after}
 use Rattle.at_zip.specs.Request.{RequestSpells, request_user}
+use Rattle.at_zip.specs.Tables.{Tables, AreTables, table_of, with_table}
 use Rattle.at_zip.specs.Zones.{IsTable}
+use Rattle.at_zip.specs.declared.request.Which.{Which}
 use Rattle.at_zip.specs.declared.fault.ZipFault.{ZipFault}
 use Rattle.at_node.specs.AtpParts.{Reading as ZoneReading, asking, zones_at}
 use Rattle.at_node.specs.ZoneSocket.{page_packet}
 use Rattle.at_steps.specs.AtpSteps.{page_answer}
-use Rattle.at_world.specs.AtpGuards.{Reading, StoodSince, since_of}
+use Rattle.at_world.specs.AtpGuards.{Reading, ReadsSince, StoodSince, reading_of, tables_at}
 use Rattle.at_world.proofs.Atp.Lists.{Becomes, answer_joins, one_answer, only_packet, some_transaction}
 
 -- what the layers below promise of pages
 pub record ReadingLaws : Type 0 where
-  pub asks : (start : ℕ) → 1 ≤ start → start < 2 ^ 16 → RequestSpells (request_user start) start
+  pub asks : (which : Which) (start : ℕ) → 1 ≤ start → start < 2 ^ 16
+      → RequestSpells (request_user which start) which start
   pub written : (p : Page) (rest : List ℕ) → IsLawfulPage p → Spells (page_user p) (page_data p ++ rest) p
   pub lawful : (table : List (List ℕ)) (start : ℕ) → IsTable table → IsLawfulPage (page_of table start)
-  pub one_start : (user : List ℕ) (m k : ℕ) → RequestSpells user m → RequestSpells user k → m ≡ k
+  pub one_request : (user : List ℕ) (v w : Which) (m k : ℕ) → RequestSpells user v m → RequestSpells user w k
+      → (v ≡ w) × (m ≡ k)
+  pub sets : (which : Which) (names : List (List ℕ)) (tables : Tables) → IsTable names → AreTables tables
+      → AreTables (with_table which names tables)
   pub one_page : (user bytes : List ℕ) (p q : Page) → Spells user bytes p → Spells user bytes q → p ≡ q
   pub faultless : (user bytes : List ℕ) (p : Page) → Spells user bytes p → (fault : ZipFault)
       → IsFirstFault fault user bytes → ⊥
@@ -37,56 +43,58 @@ pub record ReadingLaws : Type 0 where
 
 -- ---- what is known of a reading
 
--- an answer is the page after these names of the table at some moment since then
-pub record PageAt (past : List (List (List ℕ))) (since : ℕ) (names : List (List ℕ))
-    (answer : List Packet) : Type 0 where
+-- an answer is the page after these names of this table at some moment since then
+pub record PageAt (past : List Tables) (since : ℕ) (which : Which) (names : List (List ℕ)) (answer : List Packet)
+    : Type 0 where
   pub moment : ℕ
   pub late : since ≤ moment
   pub within : moment < length past
-  pub is_table : IsTable (slice_index_or past moment [])
-  pub is : answer ≡ page_answer (slice_index_or past moment []) (place_after names)
+  pub is_table : IsTable (table_of which (tables_at past moment))
+  pub is : answer ≡ page_answer (table_of which (tables_at past moment)) (place_after names)
 
--- A node that reads the list has a transaction that asked the router for the page after the names that it has. These
+-- A node that reads a table has a transaction that asked the router for the page after the names that it has. These
 -- begin the table that stood since the reading began, and each answer is the page of a table since then.
-pub record Reads (net : ℕ) (router : Option ℕ) (past : List (List (List ℕ))) (asked : List Transaction)
+pub record Reads (net : ℕ) (router : Option ℕ) (past : List Tables) (asked : List Transaction)
     (readings : List Reading) (k : ℕ) (r : ZoneReading) : Type 0 where
   pub server : ℕ
   pub is_router : router ≡ Some server
   pub first : Asked asked (asking net k) r.tid (zones_at net server)
-  pub user : (first.transaction).user ≡ request_user (place_after r.names)
+  pub user : (first.transaction).user ≡ request_user r.which (place_after r.names)
   pub xo : (first.transaction).xo ≡ false
   pub few : length r.names ≤ 1024
   pub since : ℕ
-  pub began : since_of readings k ≡ Some since
+  pub began : ReadsSince readings k r.which since
   pub begun : since < length past
-  pub begins : (table : List (List ℕ)) → StoodSince past since table → BeginsTable table r.names
-  pub pages : (answer : List Packet) → Contains (first.transaction).answers answer → PageAt past since r.names answer
+  pub begins : (table : List (List ℕ)) → StoodSince past since r.which table → BeginsTable table r.names
+  pub pages : (answer : List Packet) → Contains (first.transaction).answers answer
+      → PageAt past since r.which r.names answer
 
--- a transaction that stays what it was, but for answers that are pages of this table
-pub record Stays (table : List (List ℕ)) (before after : Transaction) : Type 0 where
+-- a transaction that stays what it was, but for answers that are pages of one of these tables
+pub record Stays (tables : Tables) (before after : Transaction) : Type 0 where
   pub user : after.user ≡ before.user
   pub xo : after.xo ≡ before.xo
   pub answers : (answer : List Packet) → Contains after.answers answer → Contains before.answers answer
-      ⊎ ((start : ℕ) × RequestSpells before.user start × (answer ≡ page_answer table start))
+      ⊎ ((which : Which) × (start : ℕ) × RequestSpells before.user which start
+      × (answer ≡ page_answer (table_of which tables) start))
 
 -- the newest transaction of a number that asked a router stays so
-abbrev pub StaysAsked : List (List ℕ) → (before after : List Transaction) → (who : Address) (tid : ℕ) (at : Address)
+abbrev pub StaysAsked : Tables → (before after : List Transaction) → (who : Address) (tid : ℕ) (at : Address)
     → Type 0
-StaysAsked table before after who tid at = (a : Asked before who tid at) → (b : Asked after who tid at)
-    × Stays table a.transaction b.transaction
+StaysAsked tables before after who tid at = (a : Asked before who tid at) → (b : Asked after who tid at)
+    × Stays tables a.transaction b.transaction
 
--- an answer joins its transaction: it is a page of the table, if that transaction asked this address
-pub joined_stays : (table : List (List ℕ)) (ts : List Transaction) (from : Address) (tid : ℕ) (packets : List Packet)
+-- an answer joins its transaction: it is a page of one of the tables, if that transaction asked this address
+pub joined_stays : (tables : Tables) (ts : List Transaction) (from : Address) (tid : ℕ) (packets : List Packet)
     (who : Address) (k : ℕ) (at : Address) →
-    ((u : Transaction) → transaction_of ts from tid ≡ Some u → u.responder ≡ at → (start : ℕ)
-    × RequestSpells u.user start × (packets ≡ page_answer table start))
-    → StaysAsked table ts (answered ts from tid packets) who k at
-joined_stays table ts from tid packets who k at page a = let more =
+    ((u : Transaction) → transaction_of ts from tid ≡ Some u → u.responder ≡ at → (which : Which)
+    × (start : ℕ) × RequestSpells u.user which start × (packets ≡ page_answer (table_of which tables) start))
+    → StaysAsked tables ts (answered ts from tid packets) who k at
+joined_stays tables ts from tid packets who k at page a = let more =
     answer_joins ts from tid packets who k a.transaction a.newest in go more.0 more.1 more.2
   where
     go : (v : Transaction) → transaction_of (answered ts from tid packets) who k ≡ Some v
         → Becomes from tid packets who k a.transaction v → (b : Asked (answered ts from tid packets) who k at)
-        × Stays table a.transaction b.transaction
+        × Stays tables a.transaction b.transaction
     go v is (inl same) = (
       record { transaction = v; newest = is; asked_it = ap (λ (t : Transaction). t.responder) same ∙ a.asked_it },
       record {
@@ -108,16 +116,17 @@ joined_stays table ts from tid packets who k at page a = let more =
       where
         new : (answer : List Packet) → Contains (a.transaction).answers answer ⊎ Contains (packets ∷ []) answer
             → Contains (a.transaction).answers answer
-            ⊎ ((start : ℕ) × RequestSpells (a.transaction).user start × (answer ≡ page_answer table start))
+            ⊎ ((which : Which) × (start : ℕ) × RequestSpells (a.transaction).user which start
+            × (answer ≡ page_answer (table_of which tables) start))
         new answer (inl old) = inl old
         new answer (inr one) =
             let its = page a.transaction ((λ i. transaction_of ts (from_is i) (tid_is i)) ∙ a.newest) a.asked_it in
-            inr (its.0, its.1, sym (one_answer packets answer one) ∙ its.2)
+            inr (its.0, its.1, its.2, sym (one_answer packets answer one) ∙ its.3)
 
 -- what was asked stays if another number is drawn
-pub drawn_stays : (table : List (List ℕ)) (ts : List Transaction) (new : Transaction) (who : Address) (k : ℕ)
-    (at : Address) → is_transaction who k new ≡ false → StaysAsked table ts (new ∷ ts) who k at
-drawn_stays table ts new who k at apart a = (
+pub drawn_stays : (tables : Tables) (ts : List Transaction) (new : Transaction) (who : Address) (k : ℕ)
+    (at : Address) → is_transaction who k new ≡ false → StaysAsked tables ts (new ∷ ts) who k at
+drawn_stays tables ts new who k at apart a = (
   record {
     transaction = a.transaction;
     newest = ap (λ b. cond b (Some new) (transaction_of ts who k)) apart ∙ a.newest;
@@ -126,62 +135,64 @@ drawn_stays table ts new who k at apart a = (
   record { user = refl; xo = refl; answers = λ answer among. inl among },
 )
 
-pub all_stays : (table : List (List ℕ)) (ts : List Transaction) (who : Address) (k : ℕ) (at : Address)
-    → StaysAsked table ts ts who k at
-all_stays table ts who k at a = (a, record { user = refl; xo = refl; answers = λ answer among. inl among })
+pub all_stays : (tables : Tables) (ts : List Transaction) (who : Address) (k : ℕ) (at : Address)
+    → StaysAsked tables ts ts who k at
+all_stays tables ts who k at a = (a, record { user = refl; xo = refl; answers = λ answer among. inl among })
 
 -- ---- readings that go on
 
-at_later : (past : List (List (List ℕ))) (x : List (List ℕ)) (i : ℕ) → i < length past
-    → slice_index_or (past ++ x ∷ []) i [] ≡ slice_index_or past i []
+at_later : (past : List Tables) (x : Tables) (i : ℕ) → i < length past
+    → tables_at (past ++ x ∷ []) i ≡ tables_at past i
 at_later [] x i lt = absurd (omega (arith, lt))
 at_later (y ∷ past) x zero lt = refl
 at_later (y ∷ past) x (suc i) lt = at_later past x i (omega (arith, lt))
 
-pub at_now : (past : List (List (List ℕ))) (x : List (List ℕ)) → slice_index_or (past ++ x ∷ []) (length past) [] ≡ x
+pub at_now : (past : List Tables) (x : Tables) → tables_at (past ++ x ∷ []) (length past) ≡ x
 at_now [] x = refl
 at_now (y ∷ past) x = at_now past x
 
-pub longer : (past : List (List (List ℕ))) (x : List (List ℕ)) → length (past ++ x ∷ []) ≡ length past + 1
+pub longer : (past : List Tables) (x : Tables) → length (past ++ x ∷ []) ≡ length past + 1
 longer past x = length-append past (x ∷ [])
 
 -- a table that stood until now stood until the moment before
-pub stood_before : (past : List (List (List ℕ))) (x : List (List ℕ)) (since : ℕ) (table : List (List ℕ))
-    → StoodSince (past ++ x ∷ []) since table → StoodSince past since table
-stood_before past x since table stood moment late within = sym (at_later past x moment within)
+pub stood_before : (past : List Tables) (x : Tables) (since : ℕ) (which : Which) (table : List (List ℕ))
+    → StoodSince (past ++ x ∷ []) since which table → StoodSince past since which table
+stood_before past x since which table stood moment late within =
+    ap (table_of which) (sym (at_later past x moment within))
     ∙ stood moment late (omega (arith, within, longer past x))
 
-later_page : (past : List (List (List ℕ))) (x : List (List ℕ)) (since : ℕ) (names : List (List ℕ))
-    (answer : List Packet) → PageAt past since names answer → PageAt (past ++ x ∷ []) since names answer
-later_page past x since names answer p = record {
+later_page : (past : List Tables) (x : Tables) (since : ℕ) (which : Which) (names : List (List ℕ))
+    (answer : List Packet) → PageAt past since which names answer → PageAt (past ++ x ∷ []) since which names answer
+later_page past x since which names answer p = record {
   moment = p.moment;
   late = p.late;
   within = let lt = p.within in omega (arith, lt, longer past x);
-  is_table = subst IsTable (sym (at_later past x p.moment p.within)) p.is_table;
-  is = p.is ∙ ap (λ t. page_answer t (place_after names)) (sym (at_later past x p.moment p.within));
+  is_table = subst (λ t. IsTable (table_of which t)) (sym (at_later past x p.moment p.within)) p.is_table;
+  is = p.is
+      ∙ ap (λ t. page_answer (table_of which t) (place_after names)) (sym (at_later past x p.moment p.within));
 }
 
--- the page of the table of this moment
-page_now : (past : List (List (List ℕ))) (x : List (List ℕ)) (since : ℕ) (names : List (List ℕ)) (answer : List Packet)
-    → since < length past → IsTable x → answer ≡ page_answer x (place_after names)
-    → PageAt (past ++ x ∷ []) since names answer
-page_now past x since names answer lt table is = record {
+-- the page of a table of this moment
+page_now : (past : List Tables) (x : Tables) (since : ℕ) (which : Which) (names : List (List ℕ))
+    (answer : List Packet) → since < length past → IsTable (table_of which x)
+    → answer ≡ page_answer (table_of which x) (place_after names) → PageAt (past ++ x ∷ []) since which names answer
+page_now past x since which names answer lt table is = record {
   moment = length past;
   late = omega (arith, lt);
   within = omega (arith, longer past x);
-  is_table = subst IsTable (sym (at_now past x)) table;
-  is = is ∙ ap (λ t. page_answer t (place_after names)) (sym (at_now past x));
+  is_table = subst (λ t. IsTable (table_of which t)) (sym (at_now past x)) table;
+  is = is ∙ ap (λ t. page_answer (table_of which t) (place_after names)) (sym (at_now past x));
 }
 
 -- a reading whose transaction stays what it was
-pub still_reads : (laws : ReadingLaws) (net : ℕ) (router : Option ℕ) (past : List (List (List ℕ)))
-    (table : List (List ℕ)) (asked asked' : List Transaction) (readings readings' : List Reading) (k : ℕ)
-    (read : ZoneReading) → IsTable table →
+pub still_reads : (laws : ReadingLaws) (net : ℕ) (router : Option ℕ) (past : List Tables)
+    (tables : Tables) (asked asked' : List Transaction) (readings readings' : List Reading) (k : ℕ)
+    (read : ZoneReading) → AreTables tables →
     (r : Reads net router past asked readings k read)
     (b : Asked asked' (asking net k) read.tid (zones_at net r.server))
-    → Stays table (r.first).transaction b.transaction → since_of readings' k ≡ since_of readings k
-    → Reads net router (past ++ table ∷ []) asked' readings' k read
-still_reads laws net router past table asked asked' readings readings' k read is_table r b s since = record {
+    → Stays tables (r.first).transaction b.transaction → reading_of readings' k ≡ reading_of readings k
+    → Reads net router (past ++ tables ∷ []) asked' readings' k read
+still_reads laws net router past tables asked asked' readings readings' k read are r b s since = record {
   server = r.server;
   is_router = r.is_router;
   first = b;
@@ -190,28 +201,30 @@ still_reads laws net router past table asked asked' readings readings' k read is
   few = r.few;
   since = r.since;
   began = since ∙ r.began;
-  begun = let lt = r.begun in omega (arith, lt, longer past table);
-  begins = λ t stood. r.begins t (stood_before past table r.since t stood);
+  begun = let lt = r.begun in omega (arith, lt, longer past tables);
+  begins = λ t stood. r.begins t (stood_before past tables r.since read.which t stood);
   pages = λ answer among. page answer (s.answers answer among);
 }
   where
     page : (answer : List Packet) → Contains ((r.first).transaction).answers answer
-        ⊎ ((start : ℕ) × RequestSpells ((r.first).transaction).user start × (answer ≡ page_answer table start))
-        → PageAt (past ++ table ∷ []) r.since read.names answer
-    page answer (inl old) = later_page past table r.since read.names answer (r.pages answer old)
+        ⊎ ((which : Which) × (start : ℕ) × RequestSpells ((r.first).transaction).user which start
+        × (answer ≡ page_answer (table_of which tables) start))
+        → PageAt (past ++ tables ∷ []) r.since read.which read.names answer
+    page answer (inl old) = later_page past tables r.since read.which read.names answer (r.pages answer old)
     page answer (inr now) =
         let few = r.few in
-        let asks = laws.asks (place_after read.names) (omega arith) (small (length read.names) few) in
-        let start : now.0 ≡ place_after read.names = laws.one_start (request_user (place_after read.names)) now.0
-        (place_after read.names) (subst (λ l. RequestSpells l now.0) r.user now.1) asks in
-        page_now past table r.since read.names answer r.begun is_table (now.2 ∙ ap (page_answer table) start)
+        let asks = laws.asks read.which (place_after read.names) (omega arith) (small (length read.names) few) in
+        let one = laws.one_request (request_user read.which (place_after read.names)) now.0 read.which now.1
+        (place_after read.names) (subst (λ l. RequestSpells l now.0 now.1) r.user now.2) asks in
+        page_now past tables r.since read.which read.names answer r.begun (are read.which)
+        (now.3 ∙ (λ i. page_answer (table_of (one.0 i) tables) (one.1 i)))
       where
         small : (n : ℕ) → n ≤ 1024 → 1 + n < 2 ^ 16
         small n le = let lt : 1025 < 2 ^ 16 = lit< tt in omega (arith, le, lt)
 
 -- ---- the page that comes to a reading
 
-module _ (laws : ReadingLaws) (net : ℕ) (router : Option ℕ) (past : List (List (List ℕ))) (asked : List Transaction)
+module _ (laws : ReadingLaws) (net : ℕ) (router : Option ℕ) (past : List Tables) (asked : List Transaction)
     (readings : List Reading) (k : ℕ) (read : ZoneReading) (r : Reads net router past asked readings k read)
     (from : Address) (newest : Asked asked (asking net k) read.tid from) (place : ℕ) (ends : Bool) (packet : Packet)
     (part : IsPart newest.transaction place ends packet) where
@@ -221,11 +234,11 @@ module _ (laws : ReadingLaws) (net : ℕ) (router : Option ℕ) (past : List (Li
   pub comes_from_router : from ≡ zones_at net r.server
   comes_from_router = sym newest.asked_it ∙ ap (λ (t : Transaction). t.responder) one ∙ (r.first).asked_it
 
-  abbrev its : PageAt past r.since read.names part.answer
+  abbrev its : PageAt past r.since read.which read.names part.answer
   its = r.pages part.answer (subst (λ (t : Transaction). Contains t.answers part.answer) one part.given)
 
   abbrev table_then : List (List ℕ)
-  table_then = slice_index_or past its.moment []
+  table_then = table_of read.which (tables_at past its.moment)
 
   is_packet : page_packet table_then (place_after read.names) ≡ packet
   is_packet = only_packet (page_packet table_then (place_after read.names)) packet place
@@ -244,17 +257,17 @@ module _ (laws : ReadingLaws) (net : ℕ) (router : Option ℕ) (past : List (Li
 
   -- it is the page of a table that stood
   page_of_stood : (page : Page) → Spells packet.user packet.data_ page → (table : List (List ℕ))
-      → StoodSince past r.since table → page ≡ page_of table (place_after read.names)
+      → StoodSince past r.since read.which table → page ≡ page_of table (place_after read.names)
   page_of_stood page spells table stood = is_page page spells
       ∙ ap (λ t. page_of t (place_after read.names)) (stood its.moment its.late its.within)
 
   pub goes_on : (page : Page) → Spells packet.user packet.data_ page → (table : List (List ℕ))
-      → StoodSince past r.since table → BeginsTable table (read.names ++ page.names)
+      → StoodSince past r.since read.which table → BeginsTable table (read.names ++ page.names)
   goes_on page spells table stood = subst (λ (p : Page). BeginsTable table (read.names ++ p.names))
       (sym (page_of_stood page spells table stood)) (laws.begins table read.names (r.begins table stood))
 
   pub has_all : (page : Page) → Spells packet.user packet.data_ page → page.last ≡ true → (table : List (List ℕ))
-      → StoodSince past r.since table → read.names ++ page.names ≡ table
+      → StoodSince past r.since read.which table → read.names ++ page.names ≡ table
   has_all page spells last table stood =
       let same = page_of_stood page spells table stood in
       ap (λ (p : Page). read.names ++ p.names) same

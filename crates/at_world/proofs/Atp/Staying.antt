@@ -1,11 +1,11 @@
--- What a step leaves as it was in the machine: the table, and the readings of all nodes.
+-- What a step leaves as it was in the machine: the tables, and the readings of all nodes.
 use Rattle.std.proofs.Common.{◌≡◌, ℕ, true, false, List, ◌∷◌, Option, Some, None, refl, sym, ap, subst, ◌∙◌}
 use Rattle.std.specs.Prelude.{◌==◌, ◌&&◌}
 use Rattle.std.proofs.lemmas.Bool.{false≢true, eq-eqb}
 use Rattle.at_ddp.specs.Address.{same_address}
 use Rattle.at_ddp.specs.declared.address.Address.{Address}
 use Rattle.at_atp.specs.Transactions.{Transaction, is_transaction}
-use Rattle.at_zip.specs.Zones.{IsTable}
+use Rattle.at_zip.specs.Tables.{Tables, AreTables}
 use Rattle.at_node.specs.AtpParts.{Reading as ZoneReading, asking, zones_at}
 use Rattle.at_node.specs.Nodes.{NodeState}
 use Rattle.at_event.specs.Kinds.{reporter_of}
@@ -23,7 +23,7 @@ use Rattle.at_setup.specs.declared.event.Event.{Event}
 use Rattle.at_setup.specs.declared.event.Event.TheVariants as event
 use Rattle.at_world.proofs.CableTie.{Wire}
 use Rattle.at_world.proofs.Atp.Readings.{StaysAsked, all_stays, drawn_stays, still_reads}
-use Rattle.at_world.proofs.Atp.Tie.{Laws, Becomes, HasTable, IsReading, AtpTie, moved}
+use Rattle.at_world.proofs.Atp.Tie.{Laws, Becomes, HasTables, IsReading, AtpTie, moved}
 
 -- the machine says this of an event, as a report that there is
 abbrev pub Allows : {A : Type 0} → Cable → AtpMachine → Event A → Report A → AtpMachine → Type 0
@@ -65,50 +65,51 @@ plain_sets_none act r h = refl
 module _ (A : Type 0) (laws : Laws A) (w : WorldState) (cable : Cable) (m : AtpMachine) (wires : List Wire)
     (e : Event A) (n x : NodeState) (r : Report A) (t : AtpTie A w cable wires m)
     (stands : node_at w (node_of e) ≡ Some n)
-    (keeps : sets_table r ≡ false → x.atp.table ≡ n.atp.table) where
+    (keeps : sets_table r ≡ false → x.atp.tables ≡ n.atp.tables) where
   -- ---- readings and tables that stay
 
   -- the newest transaction by which the node reads stays what it was
-  abbrev pub StaysMine : List (List ℕ) → List Transaction → Type 0
-  StaysMine table ts = (read : ZoneReading) (server : ℕ) → n.atp.reading ≡ Some read
-      → StaysAsked table m.asked ts (asking cable.net (node_of e)) read.tid (zones_at cable.net server)
+  abbrev pub StaysMine : Tables → List Transaction → Type 0
+  StaysMine tables ts = (read : ZoneReading) (server : ℕ) → n.atp.reading ≡ Some read
+      → StaysAsked tables m.asked ts (asking cable.net (node_of e)) read.tid (zones_at cable.net server)
 
   -- and so do those of the other nodes
-  abbrev pub StaysTheirs : List (List ℕ) → List Transaction → Type 0
-  StaysTheirs table ts = (j tid server : ℕ) → (node_of e == j) ≡ false
-      → StaysAsked table m.asked ts (asking cable.net j) tid (zones_at cable.net server)
+  abbrev pub StaysTheirs : Tables → List Transaction → Type 0
+  StaysTheirs tables ts = (j tid server : ℕ) → (node_of e == j) ≡ false
+      → StaysAsked tables m.asked ts (asking cable.net j) tid (zones_at cable.net server)
 
-  pub still_mine : (table : List (List ℕ)) (ts : List Transaction) → IsTable table → StaysMine table ts
-      → IsReading cable (moved m table ts m.readings) (node_of e) n.atp.reading
-  still_mine table ts is_table stays = go n.atp.reading (t.readings (node_of e) n stands) stays
+  pub still_mine : (tables : Tables) (ts : List Transaction) → AreTables tables → StaysMine tables ts
+      → IsReading cable (moved m tables ts m.readings) (node_of e) n.atp.reading
+  still_mine tables ts are stays = go n.atp.reading (t.readings (node_of e) n stands) stays
     where
       go : (reading : Option ZoneReading) → IsReading cable m (node_of e) reading
           → ((read : ZoneReading) (server : ℕ) → reading ≡ Some read
-          → StaysAsked table m.asked ts (asking cable.net (node_of e)) read.tid (zones_at cable.net server))
-          → IsReading cable (moved m table ts m.readings) (node_of e) reading
+          → StaysAsked tables m.asked ts (asking cable.net (node_of e)) read.tid (zones_at cable.net server))
+          → IsReading cable (moved m tables ts m.readings) (node_of e) reading
       go None h same = tt
       go (Some read) h same = let more = same read h.server refl h.first in
-          still_reads laws.reading cable.net cable.router m.past table m.asked ts m.readings m.readings
-          (node_of e) read is_table h more.0 more.1 refl
+          still_reads laws.reading cable.net cable.router m.past tables m.asked ts m.readings m.readings
+          (node_of e) read are h more.0 more.1 refl
 
-  pub table_kept : sets_table r ≡ false → HasTable cable m.table (node_of e) x
-  table_kept none table is = t.tables (node_of e) n stands table (sym (keeps none) ∙ is)
+  pub tables_kept : sets_table r ≡ false → HasTables cable m.tables (node_of e) x
+  tables_kept none tables is = t.tables (node_of e) n stands tables (sym (keeps none) ∙ is)
 
-  -- the table stays, and so does the reading of the node
+  -- the tables stay, and so does the reading of the node
   pub goes_by : (ts now : List Transaction) → now ≡ ts → x.atp.reading ≡ n.atp.reading → sets_table r ≡ false
-      → StaysMine m.table ts → StaysTheirs m.table ts → Allows cable m e r (moved m m.table ts m.readings) → IsSaid e r
+      → StaysMine m.tables ts → StaysTheirs m.tables ts → Allows cable m e r (moved m m.tables ts m.readings)
+      → IsSaid e r
       × Becomes A cable m e x r now
   goes_by ts now same reading none mine theirs allows = (
     allows.0,
     subst (Becomes A cable m e x r) (sym same) (record {
-      table = m.table;
-      is_table = t.table;
+      tables = m.tables;
+      are_tables = t.are_tables;
       readings = m.readings;
       allows = allows.1;
-      here = table_kept none;
+      here = tables_kept none;
       elsewhere = λ j y apart h. h;
-      reading = subst (IsReading cable (moved m m.table ts m.readings) (node_of e)) (sym reading)
-          (still_mine m.table ts t.table mine);
+      reading = subst (IsReading cable (moved m m.tables ts m.readings) (node_of e)) (sym reading)
+          (still_mine m.tables ts t.are_tables mine);
       others = λ j apart. refl;
       still = theirs;
     }),
@@ -118,8 +119,8 @@ module _ (A : Type 0) (laws : Laws A) (w : WorldState) (cable : Cable) (m : AtpM
       → Allows cable m e r (next m) → IsSaid e r × Becomes A cable m e x r now
   nothing_asked now same reading none allows =
       goes_by m.asked now same reading none
-      (λ read server is. all_stays m.table m.asked (asking cable.net (node_of e)) read.tid (zones_at cable.net server))
-      (λ j tid server apart. all_stays m.table m.asked (asking cable.net j) tid (zones_at cable.net server))
+      (λ read server is. all_stays m.tables m.asked (asking cable.net (node_of e)) read.tid (zones_at cable.net server))
+      (λ j tid server apart. all_stays m.tables m.asked (asking cable.net j) tid (zones_at cable.net server))
       allows
 
   -- ---- beginnings
@@ -131,6 +132,6 @@ module _ (A : Type 0) (laws : Laws A) (w : WorldState) (cable : Cable) (m : AtpM
       ∙ (λ i. eq-eqb cable.net cable.net refl i && apart i && true && (new.tid == tid))
 
   pub still_theirs : (new : Transaction) → new.requester ≡ asking cable.net (node_of e)
-      → StaysTheirs m.table (new ∷ m.asked)
-  still_theirs new is j tid server apart = drawn_stays m.table m.asked new (asking cable.net j) tid
+      → StaysTheirs m.tables (new ∷ m.asked)
+  still_theirs new is j tid server apart = drawn_stays m.tables m.asked new (asking cable.net j) tid
       (zones_at cable.net server) (apart_from j tid new is apart)

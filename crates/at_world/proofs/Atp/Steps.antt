@@ -6,6 +6,8 @@ use Rattle.at_ddp.specs.declared.address.Address.{Address}
 use Rattle.at_ddp.proofs.Octets.{same_address_itself}
 use Rattle.at_atp.specs.Transactions.{Transaction, transaction_of, answered}
 use Rattle.at_zip.specs.Request.{RequestSpells}
+use Rattle.at_zip.specs.Tables.{Tables, AreTables, table_of, with_table}
+use Rattle.at_zip.specs.declared.request.Which.{Which}
 use Rattle.at_node.specs.AtpParts.{AtpState, asking, zones_at}
 use Rattle.at_node.specs.Nodes.{NodeState}
 use Rattle.at_event.specs.Kinds.{reporter_of}
@@ -35,7 +37,7 @@ use Rattle.at_world.proofs.Atp.ReadingSteps.{fails_step, reading_ends_step, read
 module _ (A : Type 0) (laws : Laws A) (w : WorldState) (cable : Cable) (m : AtpMachine) (wires : List Wire)
     (e : Event A) (n x : NodeState) (r : Report A) (t : AtpTie A w cable wires m)
     (stands : node_at w (node_of e) ≡ Some n)
-    (keeps : sets_table r ≡ false → x.atp.table ≡ n.atp.table) where
+    (keeps : sets_table r ≡ false → x.atp.tables ≡ n.atp.tables) where
   -- what a step is in words of transactions
   abbrev Changed : List Transaction → Change A
   Changed ts = record { asked = m.asked; now_asked = ts; part = n.atp; now = x.atp; act = act_of e; report = r }
@@ -66,34 +68,45 @@ module _ (A : Type 0) (laws : Laws A) (w : WorldState) (cable : Cable) (m : AtpM
   sets_step ts s = (
     allows.0,
     subst (Becomes A cable m e x r) (sym s.asked) (record {
-      table = s.names;
-      is_table = s.is_table;
+      tables = tables;
+      are_tables = are;
       readings = m.readings;
       allows = allows.1;
-      here = λ table is. (some_table table s.names (sym is ∙ s.becomes), whole.1);
-      elsewhere = λ j y apart has table is. absurd
-          (false≢true (sym apart ∙ eq-eqb (node_of e) j (some_number (node_of e) j (sym whole.1 ∙ (has table is).1))));
-      reading = subst (IsReading cable (moved m s.names m.asked m.readings) (node_of e)) (sym s.reading)
-          (still_mine A laws w cable m wires e n x r t stands keeps s.names m.asked s.is_table
-          (λ read server is. all_stays s.names m.asked (asking cable.net (node_of e)) read.tid
+      here = λ now is. (
+        some_tables now tables
+            (sym is ∙ s.becomes ∙ ap (λ t. Some (with_table s.which s.names t)) whole.0),
+        whole.1,
+      );
+      elsewhere = λ j y apart has now is. absurd
+          (false≢true (sym apart ∙ eq-eqb (node_of e) j (some_number (node_of e) j (sym whole.1 ∙ (has now is).1))));
+      reading = subst (IsReading cable (moved m tables m.asked m.readings) (node_of e)) (sym s.reading)
+          (still_mine A laws w cable m wires e n x r t stands keeps tables m.asked are
+          (λ read server is. all_stays tables m.asked (asking cable.net (node_of e)) read.tid
           (zones_at cable.net server)));
       others = λ j apart. refl;
-      still = λ j tid server apart. all_stays s.names m.asked (asking cable.net j) tid (zones_at cable.net server);
+      still = λ j tid server apart. all_stays tables m.asked (asking cable.net j) tid (zones_at cable.net server);
     }),
   )
     where
-      whole : (s.table ≡ m.table) × (cable.router ≡ Some (node_of e))
-      whole = t.tables (node_of e) n stands s.table s.was
+      whole : (s.tables ≡ m.tables) × (cable.router ≡ Some (node_of e))
+      whole = t.tables (node_of e) n stands s.tables s.was
 
-      some_table : (a b : List (List ℕ)) → Some a ≡ Some b → a ≡ b
-      some_table a b h = cc
+      tables : Tables
+      tables = with_table s.which s.names m.tables
+
+      are : AreTables tables
+      are = laws.reading.sets s.which s.names m.tables s.is_table t.are_tables
+
+      some_tables : (a b : Tables) → Some a ≡ Some b → a ≡ b
+      some_tables a b h = cc
 
       some_number : (a b : ℕ) → Some a ≡ Some b → a ≡ b
       some_number a b h = cc
 
-      allows : Allows cable m e r (moved m s.names m.asked m.readings)
-      allows = so_at A cable m (moved m s.names m.asked m.readings) e
-          (event.Call (node_of e) (SetZones s.names)) r report.TableSet (called_at e (SetZones s.names) s.act) s.report
+      allows : Allows cable m e r (moved m tables m.asked m.readings)
+      allows = so_at A cable m (moved m tables m.asked m.readings) e
+          (event.Call (node_of e) (SetZones s.which s.names)) r report.TableSet
+          (called_at e (SetZones s.which s.names) s.act) s.report
           (tt, record { is_router = whole.1; is_table = s.is_table; becomes = refl })
 
   -- ---- answers
@@ -103,11 +116,11 @@ module _ (A : Type 0) (laws : Laws A) (w : WorldState) (cable : Cable) (m : AtpM
   answers_step ts s =
       goes_by A laws w cable m wires e n x r t stands keeps (answered m.asked from s.tid s.packets) ts s.asked
       s.reading (ap sets_table s.report)
-      (λ read server is. joined_stays m.table m.asked from s.tid s.packets (asking cable.net (node_of e)) read.tid
+      (λ read server is. joined_stays m.tables m.asked from s.tid s.packets (asking cable.net (node_of e)) read.tid
       (zones_at cable.net server) (elsewhere server))
-      (λ j tid server apart. joined_stays m.table m.asked from s.tid s.packets (asking cable.net j) tid
+      (λ j tid server apart. joined_stays m.tables m.asked from s.tid s.packets (asking cable.net j) tid
       (zones_at cable.net server) (elsewhere server))
-      (so_at A cable m (moved m m.table (answered m.asked from s.tid s.packets) m.readings) e
+      (so_at A cable m (moved m m.tables (answered m.asked from s.tid s.packets) m.readings) e
       (event.Call (node_of e) (Answer s.node s.socket s.tid s.packets)) r (report.Answered s.count)
       (called_at e (Answer s.node s.socket s.tid s.packets) s.act) s.report
       (tt, record { asked = s.newest; few = s.few; becomes = refl }))
@@ -117,8 +130,8 @@ module _ (A : Type 0) (laws : Laws A) (w : WorldState) (cable : Cable) (m : AtpM
 
       -- what asked the service did not ask a router for its zones
       elsewhere : (server : ℕ) (u : Transaction) → transaction_of m.asked from s.tid ≡ Some u → u.responder
-          ≡ zones_at cable.net server → (start : ℕ) × RequestSpells u.user start
-          × (s.packets ≡ page_answer m.table start)
+          ≡ zones_at cable.net server → (which : Which) × (start : ℕ) × RequestSpells u.user which start
+          × (s.packets ≡ page_answer (table_of which m.tables) start)
       elsewhere server u is here =
           let one = some_transaction (s.newest).transaction u (sym (s.newest).newest ∙ is) in
           let wrong : 129 ≡ 6 = ap (λ (y : Address). y.socket)
@@ -129,14 +142,15 @@ module _ (A : Type 0) (laws : Laws A) (w : WorldState) (cable : Cable) (m : AtpM
       × Becomes A cable m e x r ts
   serves_step ts s =
       goes_by A laws w cable m wires e n x r t stands keeps
-      (answered m.asked s.requester s.tid (page_answer m.table s.start)) ts
-      (s.asked ∙ ap (λ l. answered m.asked s.requester s.tid (page_answer l s.start)) whole.0) s.reading
+      (answered m.asked s.requester s.tid (page_answer table s.start)) ts
+      (s.asked ∙ ap (λ l. answered m.asked s.requester s.tid (page_answer
+      (table_of s.table l) s.start)) whole.0) s.reading
       (ap sets_table s.report)
-      (λ read server is. joined_stays m.table m.asked s.requester s.tid (page_answer m.table s.start)
+      (λ read server is. joined_stays m.tables m.asked s.requester s.tid (page_answer table s.start)
       (asking cable.net (node_of e)) read.tid (zones_at cable.net server) (page server))
-      (λ j tid server apart. joined_stays m.table m.asked s.requester s.tid (page_answer m.table s.start)
+      (λ j tid server apart. joined_stays m.tables m.asked s.requester s.tid (page_answer table s.start)
       (asking cable.net j) tid (zones_at cable.net server) (page server))
-      (so_at A cable m (moved m m.table (answered m.asked s.requester s.tid (page_answer m.table s.start)) m.readings)
+      (so_at A cable m (moved m m.tables (answered m.asked s.requester s.tid (page_answer table s.start)) m.readings)
       e (event.Deliver s.which (node_of e)) r (report.Served s.count) (delivered_at e s.which s.act) s.report (
         tt,
         record {
@@ -144,6 +158,7 @@ module _ (A : Type 0) (laws : Laws A) (w : WorldState) (cable : Cable) (m : AtpM
           requester = s.requester;
           tid = s.tid;
           asked = s.newest;
+          which = s.table;
           start = s.start;
           asks_from = s.asks_from;
           one = s.one;
@@ -151,15 +166,18 @@ module _ (A : Type 0) (laws : Laws A) (w : WorldState) (cable : Cable) (m : AtpM
         },
       ))
     where
-      whole : (s.table ≡ m.table) × (cable.router ≡ Some (node_of e))
-      whole = t.tables (node_of e) n stands s.table s.is_table
+      table : List (List ℕ)
+      table = table_of s.table m.tables
+
+      whole : (s.tables ≡ m.tables) × (cable.router ≡ Some (node_of e))
+      whole = t.tables (node_of e) n stands s.tables s.are_tables
 
       page : (server : ℕ) (u : Transaction) → transaction_of m.asked s.requester s.tid ≡ Some u → u.responder
-          ≡ zones_at cable.net server → (start : ℕ) × RequestSpells u.user start
-          × (page_answer m.table s.start ≡ page_answer m.table start)
+          ≡ zones_at cable.net server → (which : Which) × (start : ℕ) × RequestSpells u.user which start
+          × (page_answer table s.start ≡ page_answer (table_of which m.tables) start)
       page server u is here =
           let one = some_transaction (s.newest).transaction u (sym (s.newest).newest ∙ is) in
-          (s.start, subst (λ (y : Transaction). RequestSpells y.user s.start) one s.asks_from, refl)
+          (s.table, s.start, subst (λ (y : Transaction). RequestSpells y.user s.table s.start) one s.asks_from, refl)
 
   -- ---- beginnings
 
@@ -168,7 +186,7 @@ module _ (A : Type 0) (laws : Laws A) (w : WorldState) (cable : Cable) (m : AtpM
   begins_step ts s =
       goes_by A laws w cable m wires e n x r t stands keeps (new ∷ m.asked) ts s.asked s.reading
       (ap sets_table s.report) mine (still_theirs A laws w cable m wires e n x r t stands keeps new refl)
-      (so_at A cable m (moved m m.table (new ∷ m.asked) m.readings) e
+      (so_at A cable m (moved m m.tables (new ∷ m.asked) m.readings) e
       (event.Call (node_of e) (Ask s.node s.socket s.user s.bytes s.wanted s.xo s.retries)) r (report.Begun s.tid)
       (called_at e (Ask s.node s.socket s.user s.bytes s.wanted s.xo s.retries) s.act) s.report
       (tt, record { becomes = refl }))
@@ -177,8 +195,8 @@ module _ (A : Type 0) (laws : Laws A) (w : WorldState) (cable : Cable) (m : AtpM
       new = steps.new_transaction cable.net (node_of e) (record { net = cable.net; node = s.node; socket = s.socket })
           s.user s.bytes s.wanted s.xo s.tid
 
-      mine : StaysMine A laws w cable m wires e n x r t stands keeps m.table (new ∷ m.asked)
-      mine read server is = drawn_stays m.table m.asked new (asking cable.net (node_of e)) read.tid
+      mine : StaysMine A laws w cable m wires e n x r t stands keeps m.tables (new ∷ m.asked)
+      mine read server is = drawn_stays m.tables m.asked new (asking cable.net (node_of e)) read.tid
           (zones_at cable.net server) (λ i. same_address_itself (asking cable.net (node_of e)) i && s.apart read is i)
 
   -- ---- each of them
@@ -201,17 +219,17 @@ module _ (A : Type 0) (laws : Laws A) (w : WorldState) (cable : Cable) (m : AtpM
   pub pass_becomes : (ts : List Transaction) → ts ≡ m.asked → x.atp ≡ n.atp
       → StepBy cable m e r (next m) (reporter_of r) → Becomes A cable m e x r ts
   pass_becomes ts same part allows = subst (Becomes A cable m e x r) (sym same) (record {
-    table = m.table;
-    is_table = t.table;
+    tables = m.tables;
+    are_tables = t.are_tables;
     readings = m.readings;
     allows = allows;
-    here = λ table is. t.tables (node_of e) n stands table (ap (λ (a : AtpState). a.table) (sym part) ∙ is);
+    here = λ tables is. t.tables (node_of e) n stands tables (ap (λ (a : AtpState). a.tables) (sym part) ∙ is);
     elsewhere = λ j y apart h. h;
-    reading = subst (IsReading cable (moved m m.table m.asked m.readings) (node_of e))
+    reading = subst (IsReading cable (moved m m.tables m.asked m.readings) (node_of e))
         (ap (λ (a : AtpState). a.reading) (sym part))
-        (still_mine A laws w cable m wires e n x r t stands keeps m.table m.asked t.table
-        (λ read server is. all_stays m.table m.asked (asking cable.net (node_of e)) read.tid
+        (still_mine A laws w cable m wires e n x r t stands keeps m.tables m.asked t.are_tables
+        (λ read server is. all_stays m.tables m.asked (asking cable.net (node_of e)) read.tid
         (zones_at cable.net server)));
     others = λ j apart. refl;
-    still = λ j tid server apart. all_stays m.table m.asked (asking cable.net j) tid (zones_at cable.net server);
+    still = λ j tid server apart. all_stays m.tables m.asked (asking cable.net j) tid (zones_at cable.net server);
   })

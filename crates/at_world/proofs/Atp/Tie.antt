@@ -14,7 +14,7 @@ use Rattle.at_ddp.specs.Protocols.{atp_kind}
 use Rattle.at_world.proofs.Entries.{Entries, entries_both, entries_of}
 use Rattle.at_atp.specs.Network.{Network, Sent, Happening, Answers, Serves, NoneHolds, after, done, is_fresh, AllTimely}
 use Rattle.at_atp.specs.Transactions.{Transaction}
-use Rattle.at_zip.specs.Zones.{IsTable}
+use Rattle.at_zip.specs.Tables.{Tables, AreTables, table_of}
 use Rattle.at_event.specs.Calls.{IsCall}
 use Rattle.at_node.specs.Numbers.{Carries, drawn_by, holds}
 use Rattle.at_node.specs.AtpParts.{Reading as ZoneReading, asking, serving, zones_at}
@@ -37,7 +37,7 @@ use Rattle.at_steps.specs.AtpSteps.{page_answer}
 use Rattle.at_steps.specs.AtpHappenings.{Happens, HoldsNo, IsForeign, IsHappening, IsOn, IsOpen, Passes, Stands}
 use Rattle.at_steps.specs.AtpHappenings.{numbers_drawn, atp_coding}
 use Rattle.at_world.specs.Draws.{noted as noted_in}
-use Rattle.at_world.specs.AtpGuards.{AtpMachine, Reading, StepBy, since_of, next}
+use Rattle.at_world.specs.AtpGuards.{AtpMachine, Reading, StepBy, reading_of, next}
 use Rattle.at_world.specs.Cables.{Cable}
 use Rattle.at_world.specs.Events.{act_of, node_of}
 use Rattle.at_world.specs.Stories.{Grows, Matches}
@@ -86,16 +86,16 @@ pub record Laws (A : Type 0) : Type 0 where
 
 -- ---- what is known of a world
 
--- a node that has a zone table is the router, and the table is the machine's
-abbrev pub HasTable : Cable → List (List ℕ) → ℕ → NodeState → Type 0
-HasTable c table k n = (t : List (List ℕ)) → n.atp.table ≡ Some t → (t ≡ table) × (c.router ≡ Some k)
+-- a node that has zone tables is the router, and they are the machine's
+abbrev pub HasTables : Cable → Tables → ℕ → NodeState → Type 0
+HasTables c tables k n = (t : Tables) → n.atp.tables ≡ Some t → (t ≡ tables) × (c.router ≡ Some k)
 
 abbrev pub IsReading : Cable → AtpMachine → ℕ → Option ZoneReading → Type 0
 IsReading c m k None = Unit {0}
 IsReading c m k (Some r) = Reads c.net c.router m.past m.asked m.readings k r
 
 pub record AtpTie (A : Type 0) (w : WorldState) (c : Cable) (wires : List Wire) (m : AtpMachine) : Type 0 where
-  pub table : IsTable m.table
+  pub are_tables : AreTables m.tables
   pub history : List Happening
   pub timely : AllTimely A history
   pub in_range : AllByRecursion IsInRange history
@@ -105,14 +105,14 @@ pub record AtpTie (A : Type 0) (w : WorldState) (c : Cable) (wires : List Wire) 
   pub sent : Entries atp_coding wires (after A history).sent
   pub drawn : AllByRecursion (IsNoted w.last w.events) (after A history).drawn
   pub asked : (after A history).asked ≡ m.asked
-  pub tables : (k : ℕ) (n : NodeState) → node_at w k ≡ Some n → HasTable c m.table k n
+  pub tables : (k : ℕ) (n : NodeState) → node_at w k ≡ Some n → HasTables c m.tables k n
   pub opened : (k : ℕ) (n : NodeState) → node_at w k ≡ Some n → IsOpen n.atp
   pub readings : (k : ℕ) (n : NodeState) → node_at w k ≡ Some n → IsReading c m k n.atp.reading
   pub on_net : AllByRecursion (IsOn c.net) m.asked
 
--- the machine a moment later, with this table, and these transactions and readings
-abbrev pub moved : AtpMachine → List (List ℕ) → List Transaction → List Reading → AtpMachine
-moved m table asked readings = next (record m { table = table; asked = asked; readings = readings })
+-- the machine a moment later, with these tables, transactions and readings
+abbrev pub moved : AtpMachine → Tables → List Transaction → List Reading → AtpMachine
+moved m tables asked readings = next (record m { tables = tables; asked = asked; readings = readings })
 
 -- ---- what a node sends
 
@@ -122,28 +122,28 @@ moved m table asked readings = next (record m { table = table; asked = asked; re
 -- the nodes needs it. The step is of node k, which becomes x.
 pub record Becomes (A : Type 0) (c : Cable) (m : AtpMachine) (e : Event A) (x : NodeState) (r : Report A)
     (asked : List Transaction) : Type 0 where
-  pub table : List (List ℕ)
-  pub is_table : IsTable table
+  pub tables : Tables
+  pub are_tables : AreTables tables
   pub readings : List Reading
-  pub allows : StepBy c m e r (moved m table asked readings) (reporter_of r)
-  pub here : HasTable c table (node_of e) x
-  pub elsewhere : (j : ℕ) (y : NodeState) → (node_of e == j) ≡ false → HasTable c m.table j y → HasTable c table j y
-  pub reading : IsReading c (moved m table asked readings) (node_of e) x.atp.reading
-  pub others : (j : ℕ) → (node_of e == j) ≡ false → since_of readings j ≡ since_of m.readings j
+  pub allows : StepBy c m e r (moved m tables asked readings) (reporter_of r)
+  pub here : HasTables c tables (node_of e) x
+  pub elsewhere : (j : ℕ) (y : NodeState) → (node_of e == j) ≡ false → HasTables c m.tables j y → HasTables c tables j y
+  pub reading : IsReading c (moved m tables asked readings) (node_of e) x.atp.reading
+  pub others : (j : ℕ) → (node_of e == j) ≡ false → reading_of readings j ≡ reading_of m.readings j
   pub still : (j tid server : ℕ) → (node_of e == j) ≡ false
-      → StaysAsked table m.asked asked (asking c.net j) tid (zones_at c.net server)
+      → StaysAsked tables m.asked asked (asking c.net j) tid (zones_at c.net server)
 
 -- the history grew by one happening, which is what the event and its report say
-abbrev pub Grown : (A : Type 0) (cable : Cable) (table : List (List ℕ)) (before now : List Happening) → Event A
+abbrev pub Grown : (A : Type 0) (cable : Cable) (tables : Tables) (before now : List Happening) → Event A
     → Report A → Type 0
-Grown A cable table before now e r = (h : Happening) × (now ≡ h ∷ before)
-    × Matches cable.net table (after A before) h e r × Grows A (after A before) h
+Grown A cable tables before now e r = (h : Happening) × (now ≡ h ∷ before)
+    × Matches cable.net tables (after A before) h e r × Grows A (after A before) h
 
--- what matches with the table of a node matches with the machine's table, if that is the node's
-with_table : (A : Type 0) (net number : ℕ) (its : Option (List (List ℕ))) (table : List (List ℕ)) (n : Network)
-    (h : Happening) (act : Act A) (r : Report A) → ((t : List (List ℕ)) → its ≡ Some t → t ≡ table)
-    → reports.Matches net number its n h act r → reports.Matches net number (Some table) n h act r
-with_table A net number its table n h act r same m =
+-- what matches with the tables of a node matches with the machine's tables, if those are the node's
+with_tables : (A : Type 0) (net number : ℕ) (its : Option Tables) (tables : Tables) (n : Network)
+    (h : Happening) (act : Act A) (r : Report A) → ((t : Tables) → its ≡ Some t → t ≡ tables)
+    → reports.Matches net number its n h act r → reports.Matches net number (Some tables) n h act r
+with_tables A net number its tables n h act r same m =
     record {
       draws_it = m.draws_it;
       expires_it = m.expires_it;
@@ -155,20 +155,21 @@ with_table A net number its table n h act r same m =
       finishes = m.finishes;
     }
   where
-    as_it_is : (h : Happening) → AnswersAs net its n h act r → AnswersAs net (Some table) n h act r
+    as_it_is : (h : Happening) → AnswersAs net its n h act r → AnswersAs net (Some tables) n h act r
     as_it_is (Answers at key packets) g = g
     as_it_is (Serves which packets) g = let p = g.3 in (
       g.0,
       g.1,
       g.2,
       record {
-        zones = table;
-        is_table = refl;
+        has = tables;
+        are_tables = refl;
         request = p.request;
         was_sent = p.was_sent;
+        table = p.table;
         start = p.start;
         asks_from = p.asks_from;
-        page = p.page ∙ ap (λ zones. page_answer zones p.start) (same p.zones p.is_table);
+        page = p.page ∙ ap (λ t. page_answer (table_of p.table t) p.start) (same p.has p.are_tables);
       },
     )
     as_it_is h g = tt
@@ -179,7 +180,7 @@ abbrev pub Good : (A : Type 0) (w : WorldState) (c : Cable) (m : AtpMachine) (wi
 Good A w c m wires t e o =
     (m' : AtpMachine) × StepBy c m e o.report m' (reporter_of o.report)
     × (now : AtpTie A (recorded w (node_of e) o.report o.state (map posted o.out)) c
-    (wires ++ map (wire w.events) o.out) m') × Grown A c m.table t.history now.history e o.report
+    (wires ++ map (wire w.events) o.out) m') × Grown A c m.tables t.history now.history e o.report
 
 module _ (A : Type 0) (laws : Laws A) (w : WorldState) (c : Cable) (wires : List Wire) (m : AtpMachine) (e : Event A)
     (n : NodeState) (o : Outcome A NodeState) (t : AtpTie A w c wires m) (stands : node_at w (node_of e) ≡ Some n)
@@ -188,10 +189,10 @@ module _ (A : Type 0) (laws : Laws A) (w : WorldState) (c : Cable) (wires : List
     (is_asked : (done A (after A t.history) h.happening).asked ≡ asked)
     (b : Becomes A c m e o.state o.report asked) where
   reading_kept : (j : ℕ) (y : NodeState) (reading : Option ZoneReading) → (node_of e == j) ≡ false
-      → IsReading c m j reading → IsReading c (moved m b.table asked b.readings) j reading
+      → IsReading c m j reading → IsReading c (moved m b.tables asked b.readings) j reading
   reading_kept j y None apart r = tt
   reading_kept j y (Some read) apart r = let more = b.still j read.tid r.server apart r.first in
-      still_reads laws.reading c.net c.router m.past b.table m.asked asked m.readings b.readings j read b.is_table r
+      still_reads laws.reading c.net c.router m.past b.tables m.asked asked m.readings b.readings j read b.are_tables r
       more.0 more.1 (b.others j apart)
 
   noted : (d : Option Draw) → (done A (after A t.history) h.happening).drawn
@@ -203,10 +204,11 @@ module _ (A : Type 0) (laws : Laws A) (w : WorldState) (c : Cable) (wires : List
       (all_noted w.last w.events (node_of e) d (after A t.history).drawn t.drawn))
 
   tied_next : (now : AtpTie A (recorded w (node_of e) o.report o.state (map posted o.out)) c
-      (wires ++ map (wire w.events) o.out) (moved m b.table asked b.readings)) × (now.history ≡ h.happening ∷ t.history)
+      (wires ++ map (wire w.events) o.out) (moved m b.tables asked b.readings))
+      × (now.history ≡ h.happening ∷ t.history)
   tied_next = (
     record {
-      table = b.is_table;
+      are_tables = b.are_tables;
       history = h.happening ∷ t.history;
       timely = (h.timely, t.timely);
       in_range = (h.in_range, t.in_range);
@@ -227,14 +229,14 @@ module _ (A : Type 0) (laws : Laws A) (w : WorldState) (c : Cable) (wires : List
           (entries_of atp_coding w.events (after A t.history).event o.out h.more t.events h.posts));
       drawn = noted (drawn_by o.report) h.drawn;
       asked = is_asked;
-      tables = λ j y is. found_after (node_of e) j o.state n y w.nodes (HasTable c b.table j) mine.number stands is
-          (λ same. subst (λ i. HasTable c b.table i o.state) same b.here)
+      tables = λ j y is. found_after (node_of e) j o.state n y w.nodes (HasTables c b.tables j) mine.number stands is
+          (λ same. subst (λ i. HasTables c b.tables i o.state) same b.here)
           (λ apart g. b.elsewhere j y apart (t.tables j y g));
       opened = λ j y is. found_after (node_of e) j o.state n y w.nodes (λ z. IsOpen z.atp) mine.number stands is
           (λ same. h.is_open) (λ apart g. t.opened j y g);
       readings = λ j y is. found_after (node_of e) j o.state n y w.nodes
-          (λ z. IsReading c (moved m b.table asked b.readings) j z.atp.reading) mine.number stands is
-          (λ same. subst (λ i. IsReading c (moved m b.table asked b.readings) i o.state.atp.reading) same b.reading)
+          (λ z. IsReading c (moved m b.tables asked b.readings) j z.atp.reading) mine.number stands is
+          (λ same. subst (λ i. IsReading c (moved m b.tables asked b.readings) i o.state.atp.reading) same b.reading)
           (λ apart g. reading_kept j y y.atp.reading apart (t.readings j y g));
       on_net = subst (AllByRecursion (IsOn c.net)) is_asked h.on_net;
     },
@@ -243,14 +245,14 @@ module _ (A : Type 0) (laws : Laws A) (w : WorldState) (c : Cable) (wires : List
 
   pub good_next : Good A w c m wires t e o
   good_next = let now = tied_next in (
-    moved m b.table asked b.readings,
+    moved m b.tables asked b.readings,
     b.allows,
     now.0,
     (
       h.happening,
       now.1,
-      with_table A c.net (node_of e) n.atp.table m.table (after A t.history) h.happening
-          (act_of e) o.report (λ table is. (t.tables (node_of e) n stands table is).0) h.matches,
+      with_tables A c.net (node_of e) n.atp.tables m.tables (after A t.history) h.happening
+          (act_of e) o.report (λ tables is. (t.tables (node_of e) n stands tables is).0) h.matches,
       (h.more, h.sent),
     ),
   )

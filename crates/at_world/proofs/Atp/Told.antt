@@ -24,7 +24,8 @@ use Rattle.at_atp_responder.specs.Once.{same_key}
 use Rattle.at_atp_responder.specs.declared.reception.Key.{Key}
 use Rattle.at_event.specs.declared.event.Report.{Report}
 use Rattle.at_event.specs.declared.event.Report.TheVariants as report
-use Rattle.at_world.specs.ExactlyOnce.{Played, onto, since, table_after, CameFrom, HandsUpBy, HandsUp, NoneHandsUp}
+use Rattle.at_zip.specs.Tables.{Tables}
+use Rattle.at_world.specs.ExactlyOnce.{Played, onto, since, tables_after, CameFrom, HandsUpBy, HandsUp, NoneHandsUp}
 use Rattle.at_world.specs.ExactlyOnce.{AtMostOneHandsUp, SomeHandsUp, has_expired, LivesBy, AllLive}
 use Rattle.at_world.specs.Sents.{SentDatagram}
 use Rattle.at_steps.specs.AtpReports.{came_under}
@@ -53,21 +54,21 @@ pub record OnceLaws (A : Type 0) : Type 0 where
 
 -- ---- the steps and the happenings, side by side
 
-abbrev pub Told : (A : Type 0) → ℕ → List (List ℕ) → List (Played A) → List Happening → Type 0
-Told A net zones [] [] = Unit {0}
-Told A net zones (x ∷ xs) (h ∷ hs) = Matches net (table_after zones xs) (after A hs) h x.event x.report
-    × Grows A (after A hs) h × Told A net zones xs hs
-Told A net zones [] (h ∷ hs) = ⊥
-Told A net zones (x ∷ xs) [] = ⊥
+abbrev pub Told : (A : Type 0) → ℕ → Tables → List (Played A) → List Happening → Type 0
+Told A net tables [] [] = Unit {0}
+Told A net tables (x ∷ xs) (h ∷ hs) = Matches net (tables_after tables xs) (after A hs) h x.event x.report
+    × Grows A (after A hs) h × Told A net tables xs hs
+Told A net tables [] (h ∷ hs) = ⊥
+Told A net tables (x ∷ xs) [] = ⊥
 
-pub told_of : (A : Type 0) (net : ℕ) (zones : List (List ℕ)) (past : List (Played A)) (before : List Happening)
-    (es : List (Event A)) (rs : List (Report A)) (history : List Happening) → Told A net zones past before
-    → Tells net (table_after zones past) before es rs history → Told A net zones (onto past es rs) history
-told_of A net zones past before [] [] history told h = subst (Told A net zones past) (sym h) told
-told_of A net zones past before (e ∷ es) (r ∷ rs) history told h =
-    told_of A net zones (record { event = e; report = r } ∷ past) (h.0 ∷ before) es rs history (h.1, h.2, told) h.3
-told_of A net zones past before [] (r ∷ rs) history told h = absurd h
-told_of A net zones past before (e ∷ es) [] history told h = absurd h
+pub told_of : (A : Type 0) (net : ℕ) (tables : Tables) (past : List (Played A)) (before : List Happening)
+    (es : List (Event A)) (rs : List (Report A)) (history : List Happening) → Told A net tables past before
+    → Tells net (tables_after tables past) before es rs history → Told A net tables (onto past es rs) history
+told_of A net tables past before [] [] history told h = subst (Told A net tables past) (sym h) told
+told_of A net tables past before (e ∷ es) (r ∷ rs) history told h =
+    told_of A net tables (record { event = e; report = r } ∷ past) (h.0 ∷ before) es rs history (h.1, h.2, told) h.3
+told_of A net tables past before [] (r ∷ rs) history told h = absurd h
+told_of A net tables past before (e ∷ es) [] history told h = absurd h
 
 pub get_more : (xs ys : List (Option Sent)) (i : ℕ) (x : Sent) → packet_at xs i ≡ Some x → packet_at (xs ++ ys) i
     ≡ Some x
@@ -82,7 +83,7 @@ within_before A sent h hs g within i s is =
 
 -- ---- what is delivered
 
-module _ (A : Type 0) (laws : OnceLaws A) (net : ℕ) (zones : List (List ℕ)) (sent : List SentDatagram) where
+module _ (A : Type 0) (laws : OnceLaws A) (net : ℕ) (tables : Tables) (sent : List SentDatagram) where
   pub begins : (s : Sent) → IsLawfullySent s
       → BeginsWith (posted_packet s).bytes (written s.to s.from atp_kind (spelled s.packet)) []
   begins s ok =
@@ -176,7 +177,7 @@ module _ (A : Type 0) (laws : OnceLaws A) (net : ℕ) (zones : List (List ℕ)) 
   none_go x xs key k false true sound is before = absurd (omega (arith, is))
   none_go x xs key k false false sound is before = ((λ hands. false≢true (sound hands)), before is)
 
-  pub none_of : (past : List (Played A)) (hs : List Happening) (key : Key) → Told A net zones past hs
+  pub none_of : (past : List (Played A)) (hs : List Happening) (key : Key) → Told A net tables past hs
       → Within sent (after A hs) → AllByRecursion IsInRange hs → hand_ups_since A hs key ≡ 0
       → NoneHandsUp sent key (since net past key)
   none_of [] [] key told within range is = tt
@@ -201,7 +202,7 @@ module _ (A : Type 0) (laws : OnceLaws A) (net : ℕ) (zones : List (List ℕ)) 
   most_go x xs key k false true sound few none most = ((λ hands. none (omega (arith, few))), most (omega (arith, few)))
   most_go x xs key k false false sound few none most = ((λ hands. absurd (false≢true (sound hands))), most few)
 
-  pub most_of : (past : List (Played A)) (hs : List Happening) (key : Key) → Told A net zones past hs
+  pub most_of : (past : List (Played A)) (hs : List Happening) (key : Key) → Told A net tables past hs
       → Within sent (after A hs) → AllByRecursion IsInRange hs → hand_ups_since A hs key ≤ 1
       → AtMostOneHandsUp sent key (since net past key)
   most_of [] [] key told within range few = tt
@@ -225,7 +226,7 @@ module _ (A : Type 0) (laws : OnceLaws A) (net : ℕ) (zones : List (List ℕ)) 
   some_go x xs key k false true complete some before = inl (complete refl)
   some_go x xs key k false false complete some before = inr (before some)
 
-  pub some_of : (past : List (Played A)) (hs : List Happening) (key : Key) → Told A net zones past hs
+  pub some_of : (past : List (Played A)) (hs : List Happening) (key : Key) → Told A net tables past hs
       → Within sent (after A hs) → AllByRecursion IsInRange hs → 1 ≤ hand_ups_since A hs key
       → SomeHandsUp sent key (since net past key)
   some_of [] [] key told within range some = absurd (omega (arith, some))
@@ -246,7 +247,7 @@ module _ (A : Type 0) (laws : OnceLaws A) (net : ℕ) (zones : List (List ℕ)) 
   -- ---- records that live
 
   pub same_expiry : (past : List (Played A)) (hs : List Happening) (at : Address) (key : Key)
-      → Told A net zones past hs → record_expired A hs at key ≡ has_expired net past at key
+      → Told A net tables past hs → record_expired A hs at key ≡ has_expired net past at key
   same_expiry [] [] at key told = refl
   same_expiry [] (h ∷ hs) at key told = absurd told
   same_expiry (x ∷ xs) [] at key told = absurd told
@@ -256,7 +257,7 @@ module _ (A : Type 0) (laws : OnceLaws A) (net : ℕ) (zones : List (List ℕ)) 
       λ i. cond (m.draws_it key i) false (m.expires_it at key i || before i)
 
   pub lives_in : (e : Event A) (past : List (Played A)) (hs : List Happening) (which node : ℕ)
-      → e ≡ event.Deliver which node → Told A net zones past hs → Within sent (after A hs)
+      → e ≡ event.Deliver which node → Told A net tables past hs → Within sent (after A hs)
       → AllByRecursion IsInRange hs → LivesBy net sent e past → (s : Sent) (mask : ℕ) (xo : Bool) (timer tid : ℕ)
       (user bytes : List ℕ) → packet_at (after A hs).sent which ≡ Some s
       → s.packet ≡ Request mask xo timer tid user bytes
@@ -269,7 +270,7 @@ module _ (A : Type 0) (laws : OnceLaws A) (net : ℕ) (zones : List (List ℕ)) 
       parts.1
       (within which s was_sent) (ap (λ f. canonical s.to s.from atp_kind (spelled f)) packet_is)
 
-  pub all_lived : (past : List (Played A)) (hs : List Happening) → Told A net zones past hs → Within sent (after A hs)
+  pub all_lived : (past : List (Played A)) (hs : List Happening) → Told A net tables past hs → Within sent (after A hs)
       → AllByRecursion IsInRange hs → AllLive net sent past → AllLived A hs
   all_lived [] [] told within range live = tt
   all_lived [] (h ∷ hs) told within range live = absurd told
@@ -280,7 +281,7 @@ module _ (A : Type 0) (laws : OnceLaws A) (net : ℕ) (zones : List (List ℕ)) 
       earlier : Within sent (after A hs)
       earlier = within_before A sent h hs told.1 within
 
-      lived : (g : Happening) → Matches net (table_after zones xs) (after A hs) g x.event x.report
+      lived : (g : Happening) → Matches net (tables_after tables xs) (after A hs) g x.event x.report
           → HandUps.Lives A hs g
       lived (Takes which) m = lives_in x.event xs hs which (node_of x.event)
           (delivered_at x.event which m.takes_in) told.2 earlier range.1 live.0

@@ -53,7 +53,7 @@ nothing_steps A s act = record { becomes = refl; picks = tt }
 
 module _ (A : Type 0) (net : ℕ) (s : SessionState) (f : Fits net s) where
   list_fits : (r : Report A) → Fits net (list_kept s r)
-  list_fits (report.Zones names) = record { picked = f.picked; finds = f.finds }
+  list_fits (report.Zones which names) = record { picked = f.picked; finds = f.finds }
   list_fits r = f
 
   pick_fits : (zone : List ℕ) (r : Report A) → IsCall {A = A} (Pick zone) → Fits net (pick_kept s zone r)

@@ -2,8 +2,8 @@ use Rattle.at_node.proofs.SentHeard.{asked_is_served, taken_as_written}
 use Rattle.at_node.proofs.laws.pages_are_served_and_taken.Goals as goal
 
 pub returns-clause-served : goal.returns-clause-served
-returns-clause-served g c s a from table mask xo timer tid start bytes o some fits h =
-    asked_is_served g.row.A.Denot s a from table mask xo timer tid start bytes o
+returns-clause-served g c s a from tables which mask xo timer tid start bytes o some fits h =
+    asked_is_served g.row.A.Denot s a from tables which mask xo timer tid start bytes o
     c.what_is_written_is_read.ensures.request c.one_page_a_spelling.ensures.request some fits h
 
 pub returns-clause-taken : goal.returns-clause-taken

@@ -1,9 +1,14 @@
-use Rattle.std.proofs.Common.{[], inl, inr, refl}
+use Rattle.std.proofs.Common.{[], ◌∙◌, Some, inl, inr, refl, subst, sym}
 use Rattle.std.proofs.lemmas.Result.{err_from_is_err_and}
+use Rattle.at_schedule.specs.Drafts.{HoldsSetup}
 use Rattle.at_print.proofs.PrintLemmas.{Prints-nothing}
 use Rattle.at_diagnostics.specs.Diagnostics.{told_by}
 use Rattle.at_play.proofs.ToldLemmas.{fault_of, held_of, not_read, whole_read}
 use Rattle.at_play.proofs.program.play_stream.Goals as goal
+
+pub play_bytes-requires-clause-held : goal.play_bytes-requires-clause-held
+play_bytes-requires-clause-held g c = subst (λ bytes. HoldsSetup {A = g.row.A.Denot} (Some bytes) c.in_ok-setup.setup)
+    (c.as_slice.ensures.value ∙ sym c.as_slice-2.ensures.value) c.in_ok-setup.ensures.said
 
 pub returns-clause-told : goal.returns-clause-told
 returns-clause-told g c =

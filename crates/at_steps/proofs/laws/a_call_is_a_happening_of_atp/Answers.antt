@@ -11,5 +11,6 @@ returns g c =
       drawn = open_numbers.drawn;
       few = c.no_more_is_sent_than_answered.ensures;
       tables = c.names_without_a_fault_are_a_table.ensures.table;
+      sets = c.tables_stay_tables.ensures;
     } in
     λ history n call st range own free. call_happens A laws history n st call range own free

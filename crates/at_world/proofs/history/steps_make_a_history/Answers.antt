@@ -2,6 +2,7 @@ use Rattle.std.proofs.Common.{◌≡◌, ℕ, zero, suc, List, [], ◌∷◌, ma
 use Rattle.std.specs.Prelude.{slice_get}
 use Rattle.at_ddp.specs.Posts.{packet_at}
 use Rattle.at_steps.specs.AtpHappenings.{atp_coding}
+use Rattle.at_setup.specs.Setups.{tables_of}
 use Rattle.at_world.proofs.Entries.{Entries}
 use Rattle.at_atp.specs.Network.{Sent, after}
 use Rattle.at_world.specs.Machine.{opening_machine}
@@ -50,7 +51,8 @@ returns g c s events reports w lawful =
         asks = read.request;
         written = read.page;
         lawful = read.lawful;
-        one_start = once.request;
+        one_request = once.request;
+        sets = c.tables_stay_tables.ensures;
         one_page = once.page;
         faultless = once.faultless;
         longest = c.a_page_is_the_longest_run.ensures.longest;
@@ -119,7 +121,7 @@ returns g c s events reports w lawful =
         record {
           timely = atp.timely;
           in_range = atp.in_range;
-          tells = subst (λ before. Tells s.net s.zones before events reports atp.history) opened.1 ran.3;
+          tells = subst (λ before. Tells s.net (tables_of s) before events reports atp.history) opened.1 ran.3;
           is_sent = λ which s there. ap (λ l. slice_get l which) cable.sent
               ∙ stands_at cable.wires (after A atp.history).sent which s atp.sent there;
         },

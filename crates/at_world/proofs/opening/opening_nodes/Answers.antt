@@ -1,4 +1,4 @@
-use Rattle.std.proofs.Common.{◌≡◌, ℕ, ◌∷◌, ◌++◌, [], List, Some, None, cond, get_or, map, take, sym, ap, subst, ◌∙◌}
+use Rattle.std.proofs.Common.{◌≡◌, ◌∷◌, ◌++◌, [], List, Some, None, cond, get_or, map, take, sym, ap, subst, ◌∙◌}
 use Rattle.std.proofs.Common.{arith}
 use Rattle.std.proofs.lemmas.List.{map-append, take_all, take_more}
 use Rattle.at_ddp.proofs.Alls.{all_both}
@@ -17,12 +17,11 @@ loop-n-preserved g c =
     let i = c.loop-n.n-index in
     let same : setups ≡ s.nodes = c.as_slice-setups.ensures in
     let router = c.router_of-router.ensures ∙ ap router_of same in
-    let zones = c.in_ok-zones.ensures ∙ ap (λ (z : List (List ℕ)). cond n.router (Some z) None) c.as_slice.ensures in
     let known = c.in_ok-neighbours.ensures
     ∙ ap (λ (l : List NodeSetup). cond n.router (Some (neighbours_of l)) None) same in
     let node : c.new-node.result ≡ opening_node s n = c.new-node.ensures
     ∙ (λ k. opening (record { net = s.net; number = n.node; router = router k }) (c.zone_of-zone.ensures k)
-    (zones k) (known k) (c.rooms_of-rooms.ensures.value k)) in
+    (c.in_ok-tables.ensures k) (known k) (c.rooms_of-rooms.ensures.value k)) in
     let name : get_or setups i n ≡ n = sym c.n-item.is in (
       c.in_ok-push.ensures.items ∙ (λ k. c.loop-n.invariant.0 k ++ node k ∷ [])
           ∙ sym (ap (map (opening_node s)) (take_more setups i n c.loop-n-test.true)

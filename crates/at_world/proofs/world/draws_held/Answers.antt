@@ -1,5 +1,5 @@
 use Rattle.std.proofs.Common.{◌≡◌, ◌∙◌, Some, sym, ap, arith}
-use Rattle.at_ddp.proofs.TableLemmas.{Found, found}
+use Rattle.at_ddp.proofs.TableLemmas.{found}
 use Rattle.at_node.specs.Nodes.{NodeState}
 use Rattle.at_world.specs.Worlds.{is_numbered}
 use Rattle.at_world.proofs.WorldLemmas.{free_at, held_at}

@@ -19,7 +19,7 @@ for_service a socket e =
     ≡ false = ne_eqb socket 128 (λ f. let wrong : ◌≡◌ {A = ℕ} 129 128 = sym e ∙ f in omega arith) in
     rw (apart, eq-eqb socket 129 e) refl
 
-for_router : (a : AtpState) (socket : ℕ) → socket ≡ 6 → atp_socket a socket ≡ option_map Zones a.table
+for_router : (a : AtpState) (socket : ℕ) → socket ≡ 6 → atp_socket a socket ≡ option_map Zones a.tables
 for_router a socket e =
     let apart : (socket == 128)
     ≡ false = ne_eqb socket 128 (λ f. let wrong : ◌≡◌ {A = ℕ} 6 128 = sym e ∙ f in omega arith) in

@@ -18,14 +18,18 @@ returns-in-Ok-clause-comes g c =
     let a = c.self.inside in
     let was : a.reading ≡ Some c.in-Some.reading = sym c.take.ensures.value ∙ c.in-Some.is in
     let same = (λ i. record {
-      table = a.zones;
-      reading = Some (record { tid = c.in-Some.reading.tid; names = c.room.ensures.same i });
+      tables = a.tables;
+      reading = Some (record {
+        which = c.in-Some.reading.which;
+        tid = c.in-Some.reading.tid;
+        names = c.room.ensures.same i;
+      });
       requester = a.requester;
       zone_responder = a.zone_responder;
       service_responder = a.service_responder;
     })
     ∙ (λ i. record {
-      table = a.zones;
+      tables = a.tables;
       reading = option_map reading_of (sym was i);
       requester = a.requester;
       zone_responder = a.zone_responder;
@@ -41,14 +45,18 @@ returns-in-NoMemory-clause-comes g c =
     let a = c.self.inside in
     let was : a.reading ≡ Some c.in-Some.reading = sym c.take.ensures.value ∙ c.in-Some.is in
     let same = (λ i. record {
-      table = a.zones;
-      reading = Some (record { tid = c.in-Some.reading.tid; names = c.room.ensures.same i });
+      tables = a.tables;
+      reading = Some (record {
+        which = c.in-Some.reading.which;
+        tid = c.in-Some.reading.tid;
+        names = c.room.ensures.same i;
+      });
       requester = a.requester;
       zone_responder = a.zone_responder;
       service_responder = a.service_responder;
     })
     ∙ (λ i. record {
-      table = a.zones;
+      tables = a.tables;
       reading = option_map reading_of (sym was i);
       requester = a.requester;
       zone_responder = a.zone_responder;
@@ -68,22 +76,30 @@ returns-in_default-fault-clause-comes g c =
     let f = content c.args.packet.now.frame in
     let was : a.reading ≡ Some c.in-Some.reading = sym c.take.ensures.value ∙ c.in-Some.is in
     let before : AtpState = record {
-      table = a.zones;
-      reading = Some (record { tid = c.in-Some.reading.tid; names = c.room.new.self.names });
+      tables = a.tables;
+      reading = Some (record {
+        which = c.in-Some.reading.which;
+        tid = c.in-Some.reading.tid;
+        names = c.room.new.self.names;
+      });
       requester = a.requester;
       zone_responder = a.zone_responder;
       service_responder = a.service_responder;
     } in
     let same : before ≡ c.args.self.now =
     (λ i. record {
-      table = a.zones;
-      reading = Some (record { tid = c.in-Some.reading.tid; names = c.room.ensures.same i });
+      tables = a.tables;
+      reading = Some (record {
+        which = c.in-Some.reading.which;
+        tid = c.in-Some.reading.tid;
+        names = c.room.ensures.same i;
+      });
       requester = a.requester;
       zone_responder = a.zone_responder;
       service_responder = a.service_responder;
     })
     ∙ (λ i. record {
-      table = a.zones;
+      tables = a.tables;
       reading = option_map reading_of (sym was i);
       requester = a.requester;
       zone_responder = a.zone_responder;

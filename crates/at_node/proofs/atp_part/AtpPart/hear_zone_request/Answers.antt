@@ -10,20 +10,20 @@ use Rattle.at_node.proofs.atp_part.AtpPart.hear_zone_request.Goals as goal
 
 pub returns-then-is_none-clause-comes : goal.returns-then-is_none-clause-comes
 returns-then-is_none-clause-comes g c = λ said.
-    let there : is_none c.self.inside.zones ≡ true = search rules in
-    let none = ap (λ (a : AtpState). a.table) (sym c.self.view_is) ∙ none_of c.self.inside.zones there in
+    let there : is_none c.self.inside.tables ≡ true = search rules in
+    let none = ap (λ (a : AtpState). a.tables) (sym c.self.view_is) ∙ none_of c.self.inside.tables there in
     for_no_router g.row.A.Denot said c.args.seat c.args.self.now (written c.args.datagram.now) c.args.out.now.items
-    c.args.self.now.table none
+    c.args.self.now.tables none
 
 pub returns-in-Err-clause-comes : goal.returns-in-Err-clause-comes
 returns-in-Err-clause-comes g c = λ said.
     let number = atp_number c.in-Err.fault _ c.in-Err.ensures.fault in
-    let there : is_none c.self.inside.zones ≡ false = search rules in
-    let some = ap (λ (a : AtpState). is_none a.table) (sym c.self.view_is) ∙ there in
+    let there : is_none c.self.inside.tables ≡ false = search rules in
+    let some = ap (λ (a : AtpState). is_none a.tables) (sym c.self.view_is) ∙ there in
     comes_refused (HearsAt said c.args.seat c.args.self.now (written c.args.datagram.now)
-    (option_map Zones c.args.self.now.table)) c.args.self.now c.args.out.now.items c.refused.result c.number.result
+    (option_map Zones c.args.self.now.tables)) c.args.self.now c.args.out.now.items c.refused.result c.number.result
     number.0 (c.number.ensures ∙ number.1) c.refused.ensures.report
-    (router_fault g.row.A.Denot said c.args.seat c.args.self.now (written c.args.datagram.now) c.args.self.now.table _
+    (router_fault g.row.A.Denot said c.args.seat c.args.self.now (written c.args.datagram.now) c.args.self.now.tables _
     some (record {
       fault = c.in-Err.fault;
       number = number.0;
@@ -34,13 +34,13 @@ returns-in-Err-clause-comes g c = λ said.
 
 pub returns-in-Ok-clause-comes : goal.returns-in-Ok-clause-comes
 returns-in-Ok-clause-comes g c = λ said.
-    let there : is_none c.self.inside.zones ≡ false = search rules in
-    let some = ap (λ (a : AtpState). is_none a.table) (sym c.self.view_is) ∙ there in
+    let there : is_none c.self.inside.tables ≡ false = search rules in
+    let some = ap (λ (a : AtpState). is_none a.tables) (sym c.self.view_is) ∙ there in
     comes_wider (AtSocket said c.args.seat c.args.self.now (c.args.datagram.now).from
-    (option_map Zones c.args.self.now.table) (content c.in-Ok.packet.frame))
+    (option_map Zones c.args.self.now.tables) (content c.in-Ok.packet.frame))
     (HearsAt said c.args.seat c.args.self.now (written c.args.datagram.now)
-    (option_map Zones c.args.self.now.table)) c.args.self.now c.args.out.now.items c.serve_packet.result
+    (option_map Zones c.args.self.now.tables)) c.args.self.now c.args.out.now.items c.serve_packet.result
     c.serve_packet.new.self c.serve_packet.new.out.items
     (λ o p. router_packet g.row.A.Denot said c.args.seat c.args.self.now
-    (written c.args.datagram.now) c.args.self.now.table (content c.in-Ok.packet.frame) some c.in-Ok.ensures.found o
+    (written c.args.datagram.now) c.args.self.now.tables (content c.in-Ok.packet.frame) some c.in-Ok.ensures.found o
     p) (rw (c.in-Ok.ensures.seat, c.in-Ok.ensures.from) at (c.serve_packet.ensures.comes said))

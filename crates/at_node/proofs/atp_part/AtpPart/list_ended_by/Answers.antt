@@ -2,6 +2,7 @@ use Rattle.std.proofs.Common.{◌≡◌, List, ℕ, Some, sym, ap, subst}
 use Rattle.at_ddp.specs.Datagram.{Content as Datagram, content as written}
 use Rattle.at_ddp.specs.declared.address.Address.{Address}
 use Rattle.at_atp_frame.specs.Frames.{Content, content}
+use Rattle.at_zip.specs.declared.request.Which.{Which}
 use Rattle.at_event.specs.Outcomes.{Outcome}
 use Rattle.at_event.specs.declared.event.Report.TheVariants.{Zones}
 use Rattle.at_event.specs.declared.seat.Seat.{Seat}
@@ -20,16 +21,18 @@ returns-in-Ok-clause-ended g c =
     let d : Datagram = written c.args.datagram.now in
     let p = c.in-Ok.packet in
     ok_implied c.list_in.result
-    (λ list. (o : Outcome A AtpState) → AtRequester p.seat now p.from (content p.frame) o → (names : List (List ℕ))
-    → o.report ≡ Zones names → list ≡ Some names)
-    (λ list. (said : Reply A) (o : Outcome A AtpState) → HearsAtp said c.args.seat now d o → (names : List (List ℕ))
-    → o.report ≡ Zones names → list ≡ Some names)
-    (λ list ends said o h names tells.
+    (λ list. (o : Outcome A AtpState) → AtRequester p.seat now p.from (content p.frame) o
+    → (which : Which) (names : List (List ℕ))
+    → o.report ≡ Zones which names → list ≡ Some names)
+    (λ list. (said : Reply A) (o : Outcome A AtpState) → HearsAtp said c.args.seat now d o
+    → (which : Which) (names : List (List ℕ))
+    → o.report ≡ Zones which names → list ≡ Some names)
+    (λ list ends said o h which names tells.
     let b = by_asker A (List (List ℕ)) listed_by (lists_nothing A) said c.args.seat now d o h names
     (ap listed_by tells) in
     let packet : content p.frame ≡ b.packet = c.in-Ok.ensures.only b.packet b.spelled in
     ends o
     (subst (λ (x : Seat). AtRequester x now p.from (content p.frame) o) (sym c.in-Ok.ensures.seat)
     (subst (λ (x : Address). AtRequester c.args.seat now x (content p.frame) o) (sym c.in-Ok.ensures.from)
-    (subst (λ (x : Content). AtRequester c.args.seat now d.from x o) (sym packet) b.at))) names tells)
+    (subst (λ (x : Content). AtRequester c.args.seat now d.from x o) (sym packet) b.at))) which names tells)
     c.list_in.ensures.ended

@@ -5,6 +5,7 @@ use Rattle.at_atp_frame.specs.Frames.{Content, content}
 use Rattle.at_atp_frame.specs.Packets.{Packet}
 use Rattle.at_atp_requester.specs.Requests.{finishes}
 use Rattle.at_zip.specs.Page as pages
+use Rattle.at_zip.specs.declared.request.Which.{Which}
 use Rattle.at_zip.specs.declared.fault.ZipFault.{ZipFault}
 use Rattle.at_event.specs.Outcomes.{Outcome, takes_memory}
 use Rattle.at_event.specs.declared.event.Report.TheVariants.{Zones}
@@ -29,10 +30,11 @@ returns-in-Ok-clause-ended g c =
     let reads = and_parts (is_reading now.reading (tid_of f)) (finishes A now.requester from f) mine in
     let same = ap (λ x. packet_in (content x)) c.in-Response.is in
     ok_implied c.list_after.result (λ list. IfSome now.reading (λ r. list ≡ list_after r.names page))
-    (λ list. (o : Outcome A AtpState) → AtRequester seat now from f o → (names : List (List ℕ)) → o.report
-    ≡ Zones names → list ≡ Some names)
-    (λ list is o at names tells.
-    let e = ends_reading A seat now from f o at names tells in
+    (λ list. (o : Outcome A AtpState) → AtRequester seat now from f o → (which : Which) (names : List (List ℕ))
+    → o.report
+    ≡ Zones which names → list ≡ Some names)
+    (λ list is o at which names tells.
+    let e = ends_reading A seat now from f o at which names tells in
     let its : page ≡ e.page =
     same_page page e.page (c.in-Ok.ensures.only e.page
     (subst (λ (x : Packet). pages.Spells x.user x.data_ e.page) same e.spelled)) in
@@ -58,11 +60,11 @@ returns-in-Ok-clause-wanted g c =
     c.list_after.ensures.memory
 
 pub returns-in-Err-clause-ended : goal.returns-in-Err-clause-ended
-returns-in-Err-clause-ended g c = λ o at names tells.
+returns-in-Err-clause-ended g c = λ o at which names tells.
     let f : Content = content c.args.packet.now.frame in
     let same = ap (λ x. packet_in (content x)) c.in-Response.is in
-    let e = ends_reading g.row.A.Denot c.args.packet.now.seat c.args.self.now c.args.packet.now.from f o at names
-    tells in
+    let e = ends_reading g.row.A.Denot c.args.packet.now.seat c.args.self.now c.args.packet.now.from f o at which
+    names tells in
     let both = sym c.in-Err.is
     ∙ c.read_page.ensures.only e.page (subst (λ (x : Packet). pages.Spells x.user x.data_ e.page) same e.spelled) in
     absurd (cc)

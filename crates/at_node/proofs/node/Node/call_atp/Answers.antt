@@ -29,9 +29,9 @@ returns-in-SetZones g c =
       session = c.self.inside.session;
     } in
     let items = c.args.out.now.items in
-    let call : Call g.row.A.Denot = SetZones c.in-SetZones.names in
+    let call : Call g.row.A.Denot = SetZones c.in-SetZones.which c.in-SetZones.names in
     rw c.in-SetZones.is
     (subst (λ (n : NodeState). IsStep (called n call) n items c.set_zones.result new items) self.view_is
     (step_over (with_atp inside) inside inside.atp refl items c.set_zones.result c.set_zones.new.self items
-    (set_zones_called inside.atp inside.atp.table c.in-SetZones.names)
+    (set_zones_called inside.atp inside.atp.tables c.in-SetZones.which c.in-SetZones.names)
     (rw c.as_slice.ensures at (c.set_zones.ensures items))))

@@ -1,15 +1,14 @@
-use Rattle.std.proofs.Common.{rules, ◌≡◌, ◌∙◌, ◌≤◌, [], List, ℕ, None, Some, false, length, sym, ap, refl, subst, arith, true}
+use Rattle.std.proofs.Common.{rules, ◌≡◌, ◌∙◌, [], List, None, Some, length, sym, ap, refl, subst, arith, true}
 use Rattle.std.specs.Prelude.{nat_le, nat_lt, ◌||◌, slice_get, IfErr}
 use Rattle.std.specs.List.{position_from}
 use Rattle.at_ddp.specs.Datagrams.{Posted}
 use Rattle.at_ddp.proofs.Alls.{all_replaced}
 use Rattle.at_ddp.proofs.TableLemmas.{Found, found_by, none_by}
 use Rattle.at_node.specs.Limits.{IsWithin}
-use Rattle.at_node.specs.Nodes.{NodeState}
 use Rattle.at_node.specs.Numbers.{DrawsHearing}
 use Rattle.at_world.specs.Safety.{AreWithin}
 use Rattle.at_world.specs.Sents.{SentDatagram}
-use Rattle.at_world.specs.Worlds.{AreFree, IsFresh, Receives, WorldState, is_for, is_numbered, node_at, node_refusal}
+use Rattle.at_world.specs.Worlds.{AreFree, Receives, WorldState, is_for, is_numbered, node_at, node_refusal}
 use Rattle.at_world.specs.declared.refusal.Fault.TheVariants as fault
 use Rattle.at_world.proofs.DeliveryLemmas.{HeardFree, delivered, for_it, for_same, fresh_there, held_there, not_delivered}
 use Rattle.at_world.proofs.DeliveryLemmas.{not_sent, stale_there}

@@ -1,4 +1,4 @@
-use Rattle.std.proofs.Common.{◌≡◌, ◌∙◌, true, ap, subst, sym}
+use Rattle.std.proofs.Common.{◌≡◌, true, subst, sym}
 use Rattle.std.specs.Prelude.{IfErr, IfOk}
 use Rattle.at_world.specs.declared.refusal.Fault.TheVariants as fault
 use Rattle.at_world.specs.Worlds.{WorldState, with_event}

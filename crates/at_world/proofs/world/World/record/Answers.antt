@@ -1,4 +1,4 @@
-use Rattle.std.proofs.Common.{◌≡◌, ◌∙◌, false, ◌+◌, ap}
+use Rattle.std.proofs.Common.{◌∙◌, false, ◌+◌, ap}
 use Rattle.at_world.specs.Worlds.{WorldState, with_event}
 use Rattle.at_world.proofs.WorldLemmas.{few_events}
 use Rattle.at_world.proofs.world.World.record.Goals as goal

@@ -1,0 +1,48 @@
+//! The two zone tables of a router, and the requests that name one of them.
+use at_ddp::{Listed, Pascal};
+use at_zip::{Tables, Which, ZipFault, Zones, read_request, request_user};
+use std::alloc::Global;
+use std::process::Abort;
+
+// The table of one name.
+fn table(rt: &impl Abort, alloc: Global, name: &[u8]) -> Zones {
+    let name = Pascal::new(name).expect(rt, "a string is too long");
+    let names = Vec::from_array(alloc, [name]).expect(rt, "out of memory");
+    let zones = Zones::new(Listed::from_vec(names)).ok();
+    zones.expect(rt, "no table")
+}
+
+// Whether a table has this one name.
+fn has(zones: &Zones, name: &[u8]) -> bool {
+    match zones.names() {
+        [only] => only.bytes() == name,
+        _ => false,
+    }
+}
+
+#[test]
+fn a_table_is_set_in_its_own_place(rt: HostRuntime) {
+    let all = table(&rt, rt.alloc(), b"Lab");
+    let mut tables = Tables::new(all, table(&rt, rt.alloc(), b"Hall"));
+    assert!(rt; has(tables.get(Which::All), b"Lab") && has(tables.get(Which::Local), b"Hall"));
+    tables.set(Which::Local, table(&rt, rt.alloc(), b"Attic"));
+    tables.limits();
+    assert!(rt; has(tables.get(Which::All), b"Lab") && has(tables.get(Which::Local), b"Attic"));
+    tables.set(Which::All, table(&rt, rt.alloc(), b"Office"));
+    assert!(rt; has(tables.get(Which::All), b"Office") && has(tables.get(Which::Local), b"Attic"));
+}
+
+#[test]
+fn a_request_names_its_table_by_its_code(rt: HostRuntime) {
+    assert!(rt; request_user(Which::All, 258) == [8, 0, 1, 2]);
+    assert!(rt; request_user(Which::Local, 258) == [9, 0, 1, 2]);
+    assert!(rt; matches!(read_request([8, 0, 1, 2]), Ok((Which::All, 258))));
+    assert!(rt; matches!(read_request([9, 7, 1, 2]), Ok((Which::Local, 258))));
+}
+
+#[test]
+fn a_request_of_another_code_or_from_place_0_is_none(rt: HostRuntime) {
+    for user in [[7, 0, 0, 1], [10, 0, 0, 1], [8, 0, 0, 0], [9, 0, 0, 0]] {
+        assert!(rt; matches!(read_request(user), Err(ZipFault::NotZip)));
+    }
+}
