@@ -98,10 +98,17 @@ fn first_space(text: &[u8]) -> Option<usize>
 {
     // A word is mostly over before memchr would pay.
     if text.len() < 64 {
-        text.iter().position(|byte| *byte == b' ')
-    } else {
-        memchr(b' ', text)
+        return text.iter().position(|byte| *byte == b' ');
     }
+    first_space_of_many(text)
+}
+
+// The same by memchr. It stays out of line, since a short word would clear the locals of memchr too.
+#[inline(never)]
+fn first_space_of_many(text: &[u8]) -> Option<usize>
+    ensures { result ≡ position_from is_space 0 text.now }
+{
+    memchr(b' ', text)
 }
 
 /// The number that a word of digits writes, or the largest if it is larger.
