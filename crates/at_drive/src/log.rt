@@ -50,6 +50,16 @@ impl<A: Allocator + Copy> Log<A> {
 }
 
 impl<A: Allocator> Log<A> {
+    // Drops all of it, and keeps its room.
+    pub(crate) fn clear(&mut self)
+        ensures { logged self.new ≡ no_log }
+    {
+        self.reports.clear();
+        self.sent.clear();
+        self.arrived.clear();
+        self.faults.clear();
+    }
+
     // Makes room for one report with what belongs to it.
     pub(crate) fn reserve(&mut self) -> Result<(), AllocError>
         ensures log { logged self.new ≡ logged self.old }

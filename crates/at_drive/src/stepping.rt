@@ -77,6 +77,13 @@ impl<A: Allocator + Copy> Drive<A> {
         mem::replace(&mut self.log, Log::new(self.alloc))
     }
 
+    /// Drops what came of the steps so far, and keeps its room for what comes of the next ones.
+    pub fn clear_log(&mut self)
+        ensures { self.new ≡ record self.old { log = no_log } }
+    {
+        self.log.clear();
+    }
+
     /// What came of all steps.
     pub fn into_log(self) -> Log<A>
         ensures { logged result ≡ self.log }

@@ -95,11 +95,12 @@ fn drive_round(drive: &mut Drive, cable: &mut UdpCable, at: usize) -> Result<(),
     drive.step(cable, at + 2, &Step::Poll { node: ASKER })
 }
 
-// Takes out the log of a round and counts it, so that more rounds need no more memory.
+// Counts the log of a round and clears it, so that more rounds need no more memory.
 fn count_log(drive: &mut Drive, count: &mut Count)
     ensures { map number_of drive.new.nodes ≡ map number_of drive.old.nodes }
 {
-    *count = counted(*count, &drive.take_log());
+    *count = counted(*count, drive.log());
+    drive.clear_log();
 }
 
 // The count with that of one log more.
