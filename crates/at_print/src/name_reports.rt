@@ -6,13 +6,13 @@ ghost use Rattle.at_print.specs.Reports.{find_text, found_text};
 
 use crate::name_lines::write_name;
 use crate::paper::Paper;
-use crate::piece::Piece;
+use crate::piece::{HEAD, Piece};
 use crate::printer::Printer;
 use at_nbp::Find;
 
 /// The line that begins with this piece, and ends with the finds of a lookup that was finished.
 pub(crate) fn write_found<W: Paper>(printer: &mut Printer<W>, line: Piece, finds: &[Find])
-    requires { length line ≤ 21 }
+    requires { length line ≤ HEAD }
     ensures { Prints W.page printer.old printer.new
         (line ++ ((codes "found" ++ flat_map found_text finds.now) ++ codes "\n")) }
 {
@@ -34,7 +34,7 @@ fn write_finds<W: Paper>(printer: &mut Printer<W>, finds: &[Find])
 
 /// The line that begins with this piece, and ends with the name of a claim that is taken.
 pub(crate) fn write_taken<W: Paper>(printer: &mut Printer<W>, line: Piece, find: &Find)
-    requires { length line ≤ 21 }
+    requires { length line ≤ HEAD }
     ensures { Prints W.page printer.old printer.new
         (line ++ ((codes "taken " ++ find_text find.now) ++ codes "\n")) }
 {

@@ -12,6 +12,9 @@ use std::marker::Model;
 /// Room for four numbers and a word.
 const ROOM: usize = 96;
 
+/// The number of an event and a space, with which its line begins.
+pub(crate) const HEAD: usize = 21;
+
 /// A text that is not printed yet, of at most 96 bytes.
 #[derive(Drop)]
 pub(crate) struct Piece {

@@ -11,7 +11,7 @@ ghost use Rattle.at_print.specs.Reports.{glyph, is_sign, stands_for_itself, text
 use crate::digits::{write_hex, write_pairs};
 use crate::name_reports::{write_found, write_taken};
 use crate::paper::Paper;
-use crate::piece::{Piece, end_with_number, end_with_word};
+use crate::piece::{HEAD, Piece, end_with_number, end_with_word};
 use crate::printer::Printer;
 use crate::stream_reports::write_stream_report;
 use at_atp::{Key, Packet};
@@ -66,7 +66,7 @@ pub fn write_datagram<W: Paper>(printer: &mut Printer<W>, number: usize, to: u8,
 
 // The line that begins with this piece, and ends with a report.
 fn write_report<A: Allocator, W: Paper>(printer: &mut Printer<W>, line: Piece, report: &Report<A>)
-    requires { length line ≤ 21 }
+    requires { length line ≤ HEAD }
     ensures { Prints W.page printer.old printer.new (line ++ (report_text report.now ++ codes "\n")) }
 {
     match report {
@@ -114,7 +114,7 @@ fn write_asked<W: Paper>(
     user: [u8; 4],
     bytes: &[u8],
 )
-    requires { length line ≤ 21 }
+    requires { length line ≤ HEAD }
     ensures { Prints W.page printer.old printer.new
         (line ++ ((asked_text key ++ (hex_text user ++ (codes " " ++ hex_text bytes.now))) ++ codes "\n")) }
 {
@@ -129,7 +129,7 @@ fn write_asked<W: Paper>(
 
 // Who asked, and under which number.
 fn put_asked(line: &mut Piece, key: Key)
-    requires { length line.old ≤ 21 }
+    requires { length line.old ≤ HEAD }
     ensures { line.new ≡ line.old ++ asked_text key }
 {
     line.put(b"asked ");
@@ -142,7 +142,7 @@ fn put_asked(line: &mut Piece, key: Key)
 }
 
 fn write_zones<W: Paper>(printer: &mut Printer<W>, line: Piece, which: Which, zones: &[Pascal])
-    requires { length line ≤ 21 }
+    requires { length line ≤ HEAD }
     ensures { Prints W.page printer.old printer.new
         (line ++ ((table_word which ++ flat_map zone_text zones.now) ++ codes "\n")) }
 {
@@ -179,7 +179,7 @@ fn write_response<A: Allocator, W: Paper>(
     tid: u16,
     packets: &[Packet<A>],
 )
-    requires { length line ≤ 21 }
+    requires { length line ≤ HEAD }
     ensures { Prints W.page printer.old printer.new
         (line ++ (((codes "response " ++ decimal tid) ++ flat_map packet_text packets.now) ++ codes "\n")) }
 {

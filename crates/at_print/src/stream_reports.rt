@@ -9,7 +9,7 @@ ghost use Rattle.at_print.specs.Reports.{report_text};
 
 use crate::digits::{BLOCK, write_pairs};
 use crate::paper::Paper;
-use crate::piece::{Piece, end_with_number, end_with_word};
+use crate::piece::{HEAD, Piece, end_with_number, end_with_word};
 use crate::printer::Printer;
 use at_adsp_end::Item;
 use at_node::Report;
@@ -22,7 +22,7 @@ pub(crate) fn write_stream_report<A: Allocator, W: Paper>(
     report: &Report<A>,
 )
     requires report { reporter_of report.now ≡ Adsp }
-    requires room { length line ≤ 21 }
+    requires room { length line ≤ HEAD }
     ensures { Prints W.page printer.old printer.new (line ++ (report_text report.now ++ codes "\n")) }
 {
     match report {
@@ -45,7 +45,7 @@ pub(crate) fn write_stream_report<A: Allocator, W: Paper>(
 }
 
 fn write_heard<W: Paper>(printer: &mut Printer<W>, line: Piece, id: u16, items: u16)
-    requires { length line ≤ 21 }
+    requires { length line ≤ HEAD }
     ensures { Prints W.page printer.old printer.new
         (line ++ ((codes "heard " ++ (decimal id ++ (codes " " ++ decimal items))) ++ codes "\n")) }
 {
@@ -56,7 +56,7 @@ fn write_heard<W: Paper>(printer: &mut Printer<W>, line: Piece, id: u16, items: 
 }
 
 fn write_read<W: Paper>(printer: &mut Printer<W>, line: Piece, items: &[Item])
-    requires { length line ≤ 21 }
+    requires { length line ≤ HEAD }
     ensures { Prints W.page printer.old printer.new
         (line ++ ((codes "read" ++ items_text false items.now) ++ codes "\n")) }
 {
