@@ -7,7 +7,8 @@ played and the memory that it took.
 PROGRAM is the built `atnode`; without it, the one that `rt ci` or the script `atnode` leaves in crates/atnode/out. With
 OTHER, another build of it, only the large schedules are played, by both in turn, and their seconds are compared. Each
 schedule is played some times, of which the fastest counts. Beside each play stands a plain sum over the same bytes,
-those of the schedule and of what was printed; of these too the fastest counts.
+those of the schedule and of what was printed; of these too the fastest counts. A schedule that an older PROGRAM does not
+know is passed over.
 """
 
 import pathlib
@@ -109,9 +110,18 @@ def measure(program, folder, name, schedules):
     return [one.show(name) for one in measured]
 
 
+def knows(program, schedule):
+    """Whether a program plays a schedule. An older one may not know its words."""
+    command = [program, "play", str(schedule)]
+    return subprocess.run(command, stdout=subprocess.DEVNULL, stderr=subprocess.DEVNULL).returncode == 0
+
+
 def compare(program, other, folder, name, lines):
     """Plays a schedule by both programs in turn, and prints their seconds and the ratio."""
     one, two = (Measured(folder / f"{number}.txt", lines) for number in range(2))
+    if not knows(program, one.schedule):
+        print(f"| {name} | not known | | |", flush=True)
+        return
     for _ in range(PLAYS):
         one.play(program)
         two.play(other)

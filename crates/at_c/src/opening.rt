@@ -1,5 +1,5 @@
 //! The opening of a node on the heap.
-ghost use Rattle.std.specs.Prelude.{IfErr, IfOk};
+ghost use Rattle.std.specs.Prelude.{◌≡◌, IfErr, IfOk};
 ghost use Rattle.at_held.specs.Held.{IsOpened};
 ghost use Rattle.at_held.specs.Openings.{IsFault};
 
@@ -12,8 +12,16 @@ pub(crate) fn opened(alloc: Global, setup: &[u8], number: u8) -> Result<Box<Held
     ensures fault { IfErr result (IsFault setup.now number) }
 {
     let node = HeldNode::open(alloc, setup, number)?;
+    boxed(alloc, node)
+}
+
+// The node in memory of its own.
+fn boxed(alloc: Global, node: HeldNode) -> Result<Box<HeldNode>, OpenFault>
+    ensures boxed { IfOk result (λ place. place.value ≡ node) }
+    ensures fault { IfErr result (λ fault. fault ≡ OpenFault.NoMemory) }
+{
     match Box::new(alloc, node) {
-        Ok(node) => Ok(node),
+        Ok(place) => Ok(place),
         Err(_) => Err(OpenFault::NoMemory),
     }
 }

@@ -1,7 +1,7 @@
 -- What is known of a writer of reasons.
 use Rattle.std.specs.Prelude.{◌≡◌, ◌≢◌, ◌↔◌, ◌⊎◌, ℕ, Bool, List, Some}
-use Rattle.at_event.specs.declared.event.Report.{Report}
-use Rattle.at_event.specs.declared.event.Report.TheVariants.{Refused}
+use Rattle.at_event.specs.declared.report.Report.{Report}
+use Rattle.at_event.specs.declared.report.Report.TheVariants.{Refused}
 use Rattle.at_print.specs.Papers.{Page}
 use Rattle.at_print.specs.Printers.{HasFailed, Prints}
 use Rattle.at_print.specs.declared.printer.Printer.{Printer}

@@ -6,7 +6,7 @@ use Rattle.std.specs.Fmt.{decimal}
 use Rattle.std.specs.List.{flat_map}
 use Rattle.at_cable.specs.declared.fault.CableFault.{CableFault}
 use Rattle.at_ddp.specs.Datagrams.{Datagrams, Posted}
-use Rattle.at_event.specs.declared.event.Report.{Report}
+use Rattle.at_event.specs.declared.report.Report.{Report}
 use Rattle.at_setup.specs.declared.setup.Setup.{Setup}
 use Rattle.at_drive.specs.Drives.{Drives, Driving, IsLeft, Logged, opening_drive}
 use Rattle.at_drive.specs.declared.step.Step.{Step}

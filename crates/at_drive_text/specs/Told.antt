@@ -6,7 +6,7 @@ use Rattle.at_diagnostics.specs.Lines.{cable_told, undriven_told}
 use Rattle.at_diagnostics.specs.declared.diagnostics.Diagnostics.{Diagnostics}
 use Rattle.at_drive.specs.Drives.{Logged}
 use Rattle.at_drive_text.specs.declared.news.Marks.{Marks}
-use Rattle.at_event.specs.declared.event.Report.{Report}
+use Rattle.at_event.specs.declared.report.Report.{Report}
 use Rattle.at_print.specs.Papers.{Page}
 
 -- of the report of the step at this place, if it has one, whether it is a refusal that was not told before

@@ -3,8 +3,8 @@ use Rattle.std.specs.Prelude.{MatchBool, ◌≡◌, ℕ, Bool, true, false, List
 use Rattle.at_ddp.specs.Datagram.{canonical}
 use Rattle.at_ddp.specs.Datagrams.{Posted}
 use Rattle.at_ddp.specs.declared.address.Address.{Address}
-use Rattle.at_event.specs.declared.event.Report.{Report}
-use Rattle.at_event.specs.declared.event.Report.TheVariants as report
+use Rattle.at_event.specs.declared.report.Report.{Report}
+use Rattle.at_event.specs.declared.report.Report.TheVariants as report
 
 -- a datagram that a node sends
 pub record Outgoing : Type 0 where

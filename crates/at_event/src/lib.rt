@@ -5,11 +5,13 @@ mod event;
 mod fault;
 mod packet_count;
 mod ranges;
+mod report;
 mod seat;
 mod service;
 
-pub use event::{Call, Report, Timer};
+pub use event::{Call, Timer};
 pub use fault::NodeFault;
 pub use packet_count::PacketCount;
+pub use report::Report;
 pub use seat::Seat;
 pub use service::{Deferring, Reply, Service};

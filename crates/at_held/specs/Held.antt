@@ -3,8 +3,8 @@ use Rattle.std.specs.Prelude.{◌≡◌, ℕ, false, true, List, [], Option, Som
 use Rattle.std.specs.declared.alloc.Global.{Global}
 use Rattle.at_ddp.specs.Datagrams.{Posted}
 use Rattle.at_event.specs.Outcomes.{IsStep, wants_memory}
-use Rattle.at_event.specs.declared.event.Report.{Report}
-use Rattle.at_event.specs.declared.event.Report.TheVariants as report
+use Rattle.at_event.specs.declared.report.Report.{Report}
+use Rattle.at_event.specs.declared.report.Report.TheVariants as report
 use Rattle.at_faults.specs.declared.fault.LineFault.{LineFault}
 use Rattle.at_faults.specs.declared.fault.LineFault.TheVariants.{NoMemory, Unlawful}
 use Rattle.at_held.specs.Lines.{Says}

@@ -96,6 +96,11 @@ taken_ends A s new id index c f takes is =
     (sym (claim_ending A s id index c ∙ ap (claim_ended {A = A} s id c.claim) takes))
     (record { finished = refl; state = is })
 
+-- a claim of a name that is taken can be finished
+pub taken_has_no_fault : (s : SocketState) (id index : ℕ) (c : Claiming s id index) (f : Find)
+    → taker s (c.search).finds c.claim ≡ Some f → finish_fault s id ≡ None
+taken_has_no_fault s id index c f takes = fault_is s id index c ∙ ap (claim_fault s c.claim) takes
+
 -- the finds of its lookup
 pub finds_are : (s : SocketState) (id index : ℕ) (c : Claiming s id index) → finds_in (search_of s.lookups id)
     ≡ (c.search).finds

@@ -13,7 +13,7 @@ use crate::claim::Claim;
 use crate::socket::NameSocket;
 use crate::step::Finished;
 use at_ddp::{Listed, Outbox, Pascal};
-use at_nbp::{Find, Name, NbpFault, copy_of, is_no_name};
+use at_nbp::{Find, Name, NbpFault, Owner, copy_of, is_no_name};
 use std::alloc::{AllocError, Allocator};
 
 impl<A: Allocator + Copy> NameSocket<A> {
@@ -114,8 +114,9 @@ impl<A: Allocator + Copy> NameSocket<A> {
         ensures unchanged { OnErr result (self.new ≡ self.old) }
     {
         if let Some(find) = self.taker(&self.claims[index], count) {
+            let owner = Owner::new(self.alloc, find)?;
             self.close(index, id);
-            return Ok(Finished::Taken(find));
+            return Ok(Finished::Taken(owner));
         }
         let claim = &self.claims[index];
         let (object, kind) = (copy_of(&claim.object), copy_of(&claim.kind));

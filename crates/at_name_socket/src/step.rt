@@ -1,6 +1,6 @@
 //! What came of a packet at the socket, or of a lookup that was finished.
 use at_ddp::Listed;
-use at_nbp::Find;
+use at_nbp::{Find, Owner};
 use std::alloc::{Allocator, Global};
 
 /// What came of a lookup that was finished.
@@ -11,7 +11,7 @@ pub enum Finished<A: Allocator = Global> {
     /// It was a claim: no such name was found, and now the name is registered.
     Claimed,
     /// It was a claim, and this node or another has the name.
-    Taken(Find),
+    Taken(Owner<A>),
 }
 
 /// What came of a packet.

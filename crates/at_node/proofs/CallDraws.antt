@@ -48,8 +48,8 @@ use Rattle.at_event.specs.declared.event.Call.{Call}
 use Rattle.at_event.specs.declared.event.Call.TheVariants.{Zones, SetZones, Ask, Answer, Pick}
 use Rattle.at_event.specs.declared.event.Call.TheVariants.{Find, Claim, Finish, Register, Unregister}
 use Rattle.at_event.specs.declared.event.Call.TheVariants.{Open, Listen, Connect, Write, Read, Reset, Close}
-use Rattle.at_event.specs.declared.event.Report.{Report}
-use Rattle.at_event.specs.declared.event.Report.TheVariants as report
+use Rattle.at_event.specs.declared.report.Report.{Report}
+use Rattle.at_event.specs.declared.report.Report.TheVariants as report
 use Rattle.at_event.specs.declared.event.Timer.{Timer}
 use Rattle.at_event.specs.declared.event.Timer.TheVariants as timer
 use Rattle.at_event.specs.declared.seat.Seat.{Seat}

@@ -13,8 +13,8 @@ use Rattle.at_nbp.specs.declared.fault.NbpFault.TheVariants as faults
 use Rattle.at_name_socket.specs.NameSockets.{Hears as SocketHears, SocketState, names_of}
 use Rattle.at_name_socket.specs.declared.step.Heard.{Heard}
 use Rattle.at_name_socket.specs.declared.step.Heard.TheVariants as heard
-use Rattle.at_event.specs.declared.event.Report.{Report}
-use Rattle.at_event.specs.declared.event.Report.TheVariants.{Again, NoMemory}
+use Rattle.at_event.specs.declared.report.Report.{Report}
+use Rattle.at_event.specs.declared.report.Report.TheVariants.{Again, NoMemory}
 use Rattle.at_event.specs.declared.seat.Seat.{Seat}
 use Rattle.at_node.specs.NameCalls.{asked_again, sent_of}
 use Rattle.at_node.specs.NameHearing.{HearsName, HearsNbpFault, told_by}

@@ -12,8 +12,8 @@ use Rattle.at_atp_frame.specs.declared.fault.AtpFault.TheVariants as atps
 use Rattle.at_zip.specs.Fault as zip
 use Rattle.at_zip.specs.declared.fault.ZipFault.{ZipFault}
 use Rattle.at_zip.specs.declared.fault.ZipFault.TheVariants as zips
-use Rattle.at_event.specs.declared.event.Report.{Report}
-use Rattle.at_event.specs.declared.event.Report.TheVariants.{Ignored, Refused}
+use Rattle.at_event.specs.declared.report.Report.{Report}
+use Rattle.at_event.specs.declared.report.Report.TheVariants.{Ignored, Refused}
 use Rattle.at_event.specs.Outcomes.{wants_memory, takes_memory, refused_as, Outcome, Over, over, idle, Exactly, IsStep}
 use Rattle.at_event.specs.Outcomes.{Comes}
 

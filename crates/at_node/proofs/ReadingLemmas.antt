@@ -13,8 +13,8 @@ use Rattle.at_atp_requester.specs.declared.step.Step.{Step}
 use Rattle.at_atp_requester.specs.declared.step.Step.TheVariants as step
 use Rattle.at_node.specs.declared.numbers.Draw.{Draw}
 use Rattle.at_node.specs.declared.numbers.Draw.TheVariants.{Tid}
-use Rattle.at_event.specs.declared.event.Report.{Report}
-use Rattle.at_event.specs.declared.event.Report.TheVariants.{Begun, ZoneFault, Zones}
+use Rattle.at_event.specs.declared.report.Report.{Report}
+use Rattle.at_event.specs.declared.report.Report.TheVariants.{Begun, ZoneFault, Zones}
 use Rattle.at_event.specs.declared.seat.Seat.{Seat}
 use Rattle.at_node.specs.AtpParts.{AtpState, Reading, after_heard, asking, asks, packet_in, tid_of}
 use Rattle.at_node.specs.Numbers.{drawn_by}

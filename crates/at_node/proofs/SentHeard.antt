@@ -22,7 +22,7 @@ use Rattle.at_zip.specs.Tables.{Tables, table_of}
 use Rattle.at_zip.specs.declared.request.Which.{Which}
 use Rattle.at_zip.specs.declared.fault.ZipFault.{ZipFault}
 use Rattle.at_event.specs.declared.service.Reply.{Reply}
-use Rattle.at_event.specs.declared.event.Report.TheVariants.{Ignored}
+use Rattle.at_event.specs.declared.report.Report.TheVariants.{Ignored}
 use Rattle.at_event.specs.declared.seat.Seat.{Seat}
 use Rattle.at_node.specs.AtpHearing.{AtpSocket, AtSocket, HearsAt, atp_socket}
 use Rattle.at_node.specs.AtpParts.{AtpState}

@@ -12,8 +12,8 @@ use Rattle.at_name_socket.specs.NameSockets.{SocketState, claim_ended, claim_fau
 use Rattle.at_name_socket.specs.NameSockets.{finish_fault, is_claim, taker, told_at_end}
 use Rattle.at_name_socket.specs.declared.claim.Claim.{Claim}
 use Rattle.at_event.specs.Outcomes.{Comes, Exactly, IsStep, Outcome, Through, refused_as, takes_memory, wants_memory}
-use Rattle.at_event.specs.declared.event.Report.{Report}
-use Rattle.at_event.specs.declared.event.Report.TheVariants as report
+use Rattle.at_event.specs.declared.report.Report.{Report}
+use Rattle.at_event.specs.declared.report.Report.TheVariants as report
 use Rattle.at_session.specs.Sessions.{SessionState, finds_kept, list_kept}
 use Rattle.at_node.specs.AtpParts.{AtpState}
 use Rattle.at_node.specs.NameCalls.{finish_called, finished_as, told_of}

@@ -24,8 +24,8 @@ use Rattle.at_event.specs.Outcomes.{Outcome}
 use Rattle.at_event.specs.Seats.{is_mine}
 use Rattle.at_event.specs.declared.event.Call.{Call}
 use Rattle.at_event.specs.declared.event.Call.TheVariants.{Ask, Claim, Connect, Find, Open, Zones}
-use Rattle.at_event.specs.declared.event.Report.{Report}
-use Rattle.at_event.specs.declared.event.Report.TheVariants as report
+use Rattle.at_event.specs.declared.report.Report.{Report}
+use Rattle.at_event.specs.declared.report.Report.TheVariants as report
 use Rattle.at_event.specs.declared.service.Reply.{Reply}
 use Rattle.at_session.specs.Sessions.{address_at}
 use Rattle.at_node.specs.AtpParts.{AtpState, Reading}

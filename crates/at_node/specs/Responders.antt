@@ -8,8 +8,8 @@ use Rattle.at_atp_frame.specs.declared.fault.AtpFault.{AtpFault}
 use Rattle.at_atp_responder.specs.declared.reception.Key.{Key}
 use Rattle.at_atp_responder.specs.declared.reception.Reception.{Reception}
 use Rattle.at_atp_responder.specs.declared.reception.Reception.TheVariants as reception
-use Rattle.at_event.specs.declared.event.Report.{Report}
-use Rattle.at_event.specs.declared.event.Report.TheVariants as report
+use Rattle.at_event.specs.declared.report.Report.{Report}
+use Rattle.at_event.specs.declared.report.Report.TheVariants as report
 use Rattle.at_node.specs.AtpParts.{AtpState}
 use Rattle.at_event.specs.Outcomes.{Outcome, idle, refused_as}
 

@@ -112,6 +112,6 @@ fn told_of<A: Allocator>(finished: Finished<A>) -> Report<A>
     match finished {
         Finished::Found(finds) => Report::Found(finds),
         Finished::Claimed => Report::Claimed,
-        Finished::Taken(find) => Report::Taken(find),
+        Finished::Taken(owner) => Report::Taken(owner),
     }
 }

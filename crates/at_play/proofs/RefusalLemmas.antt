@@ -1,8 +1,8 @@
 -- Which numbers of refusals are told after one report more.
 use Rattle.std.proofs.Common.{Bool, ◌≡◌, ◌⊎◌, inl, inr, ℕ, List, [], ◌∷◌, ◌++◌}
 use Rattle.std.specs.Prelude.{◌↔◌}
-use Rattle.at_event.specs.declared.event.Report.{Report}
-use Rattle.at_event.specs.declared.event.Report.TheVariants.{Refused}
+use Rattle.at_event.specs.declared.report.Report.{Report}
+use Rattle.at_event.specs.declared.report.Report.TheVariants.{Refused}
 use Rattle.at_diagnostics.specs.NumberSets.{HasNumber}
 use Rattle.at_play.specs.Refusals.{Refuse, TellsRefusals}
 

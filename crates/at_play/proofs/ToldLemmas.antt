@@ -2,7 +2,7 @@
 use Rattle.std.proofs.Common.{◌≡◌, ℕ, List, [], ◌∷◌, ◌++◌, length, Err, Result, Bool, true, false, ◌<◌, ◌≤◌, None, Some}
 use Rattle.std.proofs.Common.{Ok, IfErr, IfSome, refl, sym, ap, subst, ◌∙◌, append-nil}
 use Rattle.std.proofs.Common.{append_assoc}
-use Rattle.at_event.specs.declared.event.Report.{Report}
+use Rattle.at_event.specs.declared.report.Report.{Report}
 use Rattle.at_setup.specs.declared.event.Event.{Event}
 use Rattle.at_world.specs.declared.refusal.Fault.{Fault}
 use Rattle.at_world.specs.declared.refusal.Fault.TheVariants as fault

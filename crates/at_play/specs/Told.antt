@@ -1,7 +1,7 @@
 -- What is printed of a play: each event that was played, in its order.
 use Rattle.std.specs.Prelude.{◌≡◌, ℕ, Bool, true, false, List, [], ◌∷◌, ◌++◌, length, IfSome, Option}
 use Rattle.std.specs.Prelude.{Result, Ok, Err}
-use Rattle.at_event.specs.declared.event.Report.{Report}
+use Rattle.at_event.specs.declared.report.Report.{Report}
 use Rattle.at_setup.specs.declared.event.Event.{Event}
 use Rattle.at_world.specs.declared.refusal.Fault.{Fault as WorldFault}
 use Rattle.at_world.specs.declared.refusal.Fault.TheVariants as world

@@ -8,8 +8,8 @@ use Rattle.at_atp_responder.specs.declared.reception.Key.{Key}
 use Rattle.at_nbp.specs.declared.find.Find.{Find}
 use Rattle.at_zip.specs.declared.request.Which.{Which}
 use Rattle.at_zip.specs.declared.request.Which.TheVariants.{All, Local}
-use Rattle.at_event.specs.declared.event.Report.{Report}
-use Rattle.at_event.specs.declared.event.Report.TheVariants as report
+use Rattle.at_event.specs.declared.report.Report.{Report}
+use Rattle.at_event.specs.declared.report.Report.TheVariants as report
 use Rattle.at_world.specs.Sents.{SentDatagram}
 use Rattle.at_print.specs.Items.{items_text}
 use Rattle.at_print.specs.Lines.{hex_text, pairs}

@@ -1,5 +1,5 @@
 //! Bytes as hexadecimal digits, in capitals.
-ghost use Rattle.std.specs.Prelude.{◌≡◌, ◌≤◌, ◌<◌, true, length};
+ghost use Rattle.std.specs.Prelude.{◌≡◌, ◌≤◌, ◌<◌, ◌*◌, true, length, take};
 ghost use Rattle.std.specs.Fmt.{digit_glyph};
 ghost use Rattle.at_print.specs.Lines.{hex_text, pairs};
 ghost use Rattle.at_print.specs.Printers.{Prints};
@@ -40,12 +40,21 @@ fn write_block<W: Paper>(printer: &mut Printer<W>, block: &[u8])
     requires { length block.now ≤ BLOCK }
     ensures { Prints W.page printer.old printer.new (pairs block.now) }
 {
+    let digits = digits_of(block);
+    printer.write_all(&digits[..2 * block.len()]);
+}
+
+/// The digits of a block, and then zeros. It is short, so that its digits are put side by side before they are used.
+pub(crate) fn digits_of(block: &[u8]) -> [u8; BLOCK_DIGITS]
+    requires { length block.now ≤ BLOCK }
+    ensures { take (2 * length block.now) result ≡ pairs block.now }
+{
     let mut digits = [0; BLOCK_DIGITS];
     for place in 0..block.len() {
         digits[2 * place] = digit(block[place] / 16);
         digits[2 * place + 1] = digit(block[place] % 16);
     }
-    printer.write_all(&digits[..2 * block.len()]);
+    digits
 }
 
 fn digit(value: u8) -> u8

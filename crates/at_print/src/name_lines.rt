@@ -9,8 +9,8 @@ ghost use Rattle.at_print.specs.Reports.{name_text};
 
 use crate::packet_lines::write_address;
 use crate::paper::Paper;
-use crate::print::write_text;
 use crate::printer::Printer;
+use crate::text_words::write_text;
 use at_nbp::{Function, Packet, Tuple, Tuples};
 
 /// The line of an NBP packet, and a line for each tuple.

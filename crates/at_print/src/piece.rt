@@ -1,21 +1,23 @@
 //! The beginning of a line, or a short line, in one piece: a write costs more than a few bytes.
-ghost use Rattle.std.specs.Prelude.{◌≡◌, ◌≤◌, ◌+◌, ◌++◌, [], codes, length};
+ghost use Rattle.std.specs.Prelude.{◌≡◌, ◌≤◌, ◌+◌, ◌*◌, ◌++◌, [], codes, length};
 ghost use Rattle.std.specs.Fmt.{decimal};
+ghost use Rattle.at_print.specs.Lines.{hex_text, pairs};
 ghost use Rattle.at_print.specs.Printers.{Prints};
 
+use crate::digits::{digits_of, write_hex};
 use crate::paper::Paper;
 use crate::printer::Printer;
 use arrayvec::ArrayVec;
 use itoa::Buffer;
 use std::marker::Model;
 
-/// Room for four numbers and a word.
-const ROOM: usize = 96;
+/// Room for four numbers and a word, or for the line of a short datagram.
+pub(crate) const ROOM: usize = 128;
 
 /// The number of an event and a space, with which its line begins.
 pub(crate) const HEAD: usize = 21;
 
-/// A text that is not printed yet, of at most 96 bytes.
+/// A text that is not printed yet, of at most 128 bytes.
 #[derive(Drop)]
 pub(crate) struct Piece {
     text: ArrayVec<u8, ROOM>,
@@ -54,6 +56,16 @@ impl Piece {
         self.put(digits.format(number).as_bytes());
     }
 
+    /// Two hexadecimal digits for each byte.
+    pub(crate) fn put_pairs(&mut self, bytes: &[u8])
+        requires { length self.old + 2 * length bytes.now ≤ ROOM }
+        ensures text { self.new ≡ self.old ++ pairs bytes.now }
+        ensures short { length self.new ≤ length self.old + 2 * length bytes.now }
+    {
+        let digits = digits_of(bytes);
+        self.put(&digits[..2 * bytes.len()]);
+    }
+
     pub(crate) fn text(&self) -> &[u8]
         ensures { result.now ≡ self.now }
     {
@@ -87,4 +99,24 @@ pub(crate) fn end_with_number<W: Paper>(
     line.put_number(number);
     line.put(b"\n");
     printer.write_all(line.text());
+}
+
+/// Prints a line that begins with this piece and ends with two digits for each byte.
+pub(crate) fn end_with_pairs<W: Paper>(printer: &mut Printer<W>, line: Piece, bytes: &[u8])
+    requires { length line + 2 * length bytes.now + 1 ≤ ROOM }
+    ensures { Prints W.page printer.old printer.new (line ++ (pairs bytes.now ++ codes "\n")) }
+{
+    let mut line = line;
+    line.put_pairs(bytes);
+    line.put(b"\n");
+    printer.write_all(line.text());
+}
+
+/// Prints a line that begins with this piece and ends with bytes, however many.
+pub(crate) fn end_with_hex<W: Paper>(printer: &mut Printer<W>, line: Piece, bytes: &[u8])
+    ensures { Prints W.page printer.old printer.new (line ++ (hex_text bytes.now ++ codes "\n")) }
+{
+    printer.write_all(line.text());
+    write_hex(printer, bytes);
+    printer.write_all(b"\n");
 }

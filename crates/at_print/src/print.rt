@@ -6,20 +6,23 @@ ghost use Rattle.at_print.specs.Lines.{hex_text};
 ghost use Rattle.at_print.specs.Printers.{Prints};
 ghost use Rattle.at_print.specs.Reports.{asked_text, datagram_line, event_line, packet_text, report_text, sent_lines};
 ghost use Rattle.at_print.specs.Reports.{table_word, zone_text};
-ghost use Rattle.at_print.specs.Reports.{glyph, is_sign, stands_for_itself, text_word};
 
-use crate::digits::{write_hex, write_pairs};
+use crate::digits::write_hex;
 use crate::name_reports::{write_found, write_taken};
 use crate::paper::Paper;
-use crate::piece::{HEAD, Piece, end_with_number, end_with_word};
+use crate::piece::{HEAD, Piece, end_with_hex, end_with_number, end_with_pairs, end_with_word};
 use crate::printer::Printer;
 use crate::stream_reports::write_stream_report;
+use crate::text_words::write_text;
 use at_atp::{Key, Packet};
 use at_ddp::Pascal;
 use at_node::Report;
 use at_world::World;
 use at_zip::Which;
 use std::alloc::Allocator;
+
+/// The most bytes of a datagram that is printed with the beginning of its line, by one write.
+const SHORT: usize = 40;
 
 /// Prints the report of an event.
 pub fn write_event<A: Allocator, W: Paper>(
@@ -59,9 +62,10 @@ pub fn write_datagram<W: Paper>(printer: &mut Printer<W>, number: usize, to: u8,
     line.put(b" ");
     line.put_number(u64::from(to));
     line.put(b" ");
-    printer.write_all(line.text());
-    write_hex(printer, bytes);
-    printer.write_all(b"\n");
+    match bytes.len() {
+        1..=SHORT => end_with_pairs(printer, line, bytes),
+        _ => end_with_hex(printer, line, bytes),
+    }
 }
 
 // The line that begins with this piece, and ends with a report.
@@ -102,7 +106,7 @@ fn write_report<A: Allocator, W: Paper>(printer: &mut Printer<W>, line: Piece, r
             write_response(printer, line, *tid, packets.as_slice())
         }
         Report::Found(finds) => write_found(printer, line, finds.as_slice()),
-        Report::Taken(find) => write_taken(printer, line, find),
+        Report::Taken(owner) => write_taken(printer, line, owner.find()),
         _ => write_stream_report(printer, line, report),
     }
 }
@@ -200,46 +204,4 @@ fn write_packets<A: Allocator, W: Paper>(printer: &mut Printer<W>, packets: &[Pa
         printer.write_all(b":");
         write_hex(printer, packet.data_());
     }
-}
-
-/// Letters, digits and a few signs as they are, `%` and two digits for every other byte, and `%` for the empty text.
-pub fn write_text<W: Paper>(printer: &mut Printer<W>, text: &[u8])
-    ensures { Prints W.page printer.old printer.new (text_word text.now) }
-{
-    if text.is_empty() {
-        printer.write_all(b"%");
-    } else {
-        write_glyphs(printer, text);
-    }
-}
-
-fn write_glyphs<W: Paper>(printer: &mut Printer<W>, text: &[u8])
-    ensures { Prints W.page printer.old printer.new (flat_map glyph text.now) }
-{
-    for byte in text {
-        write_glyph(printer, *byte);
-    }
-}
-
-fn write_glyph<W: Paper>(printer: &mut Printer<W>, byte: u8)
-    ensures { Prints W.page printer.old printer.new (glyph byte) }
-{
-    if stands_for_itself(byte) {
-        printer.write_all(&[byte]);
-    } else {
-        printer.write_all(b"%");
-        write_pairs(printer, &[byte]);
-    }
-}
-
-fn stands_for_itself(byte: u8) -> bool
-    ensures { result ≡ stands_for_itself byte }
-{
-    byte.is_ascii_alphanumeric() || is_sign(byte)
-}
-
-fn is_sign(byte: u8) -> bool
-    ensures { result ≡ is_sign byte }
-{
-    byte == b'-' || (byte == b'_' || (byte == b'.' || (byte == b'=' || byte == b'*')))
 }

@@ -34,6 +34,11 @@ SaysEvent word ws (event.Deliver which node) = (word ≡ codes "deliver") × Del
 SaysEvent word ws (event.Timer node t) = (word ≡ codes "timer") × TimerSays ws node t
 SaysEvent word ws (event.Forge node bytes) = (word ≡ codes "forge") × ForgeSays ws node bytes
 
+-- what was found is an event, which they say
+abbrev pub SaysFound : {A : Type 0} → List ℕ → List (List ℕ) → Option (Event A) → Type 0
+SaysFound word ws None = ⊥
+SaysFound word ws (Some e) = SaysEvent word ws e
+
 -- the words say this event
 abbrev pub AreEvent : {A : Type 0} → List (List ℕ) → Event A → Type 0
 AreEvent [] e = ⊥

@@ -5,7 +5,7 @@ ghost use Rattle.at_setup_lines.specs.Drafts.{IsDraft, IsNoSetup, Refuses, Takes
 ghost use Rattle.at_setup_lines.specs.SetupLines.{IsSetup};
 ghost use Rattle.at_setup.specs.declared.event.Event.{Event as Happening};
 ghost use Rattle.at_schedule.specs.Drafts.{BeginSchedule, IsRead};
-ghost use Rattle.at_schedule.specs.Says.{Reads, SaysEvent};
+ghost use Rattle.at_schedule.specs.Says.{Reads, SaysEvent, SaysFound};
 ghost use Rattle.at_schedule.specs.Schedules.{is_event_word, is_passed_over};
 ghost use Rattle.at_words.specs.Words.{words_of};
 
@@ -80,13 +80,12 @@ impl<A: Allocator + Copy> Draft<A> {
         ensures only { IfUnlawful result
             (((e : Happening A) → ¬ SaysEvent word.now (words_of words.entry.rest.now) e) ⊎ IsNoSetup A self.old) }
     {
-        match event_of(self.alloc, word, words) {
-            Ok(event) => match self.begin_event() {
-                Ok(()) => Ok(Some(event)),
-                Err(fault) => Err(fault),
-            },
-            Err(fault) => Err(fault),
+        let found = event_of(self.alloc, word, words);
+        if found.is_err() {
+            return found;
         }
+        self.begin_event()?;
+        found
     }
 
     fn begin_event(&mut self) -> Result<(), LineFault>
@@ -120,21 +119,28 @@ impl<A: Allocator + Copy> Draft<A> {
     }
 }
 
-// The event of a line, after its first word.
+// The event of a line, after its first word. An event is large, so it is handed on as it is found, and never moved from
+// one result to another.
 fn event_of<A: Allocator + Copy>(
     alloc: A,
     word: &[u8],
     words: Words<'_>,
-) -> Result<Event<A>, LineFault>
-    ensures { IsFoundInMemory result (SaysEvent word.now (words_of words.entry.rest.now)) }
+) -> Result<Option<Event<A>>, LineFault>
+    ensures { IsFoundInMemory result (SaysFound word.now (words_of words.entry.rest.now)) }
 {
-    match word {
-        b"call" => call_event(alloc, words),
-        b"deliver" => delivery_event(words),
-        b"timer" => timer_event(words),
-        b"forge" => forged_event(alloc, words),
-        _ => Err(LineFault::Unlawful(Rule::FirstWord)),
+    if word == b"call".as_slice() {
+        return call_event(alloc, words);
     }
+    if word == b"deliver".as_slice() {
+        return delivery_event(words);
+    }
+    if word == b"timer".as_slice() {
+        return timer_event(words);
+    }
+    if word == b"forge".as_slice() {
+        return forged_event(alloc, words);
+    }
+    Err(LineFault::Unlawful(Rule::FirstWord))
 }
 
 /// Whether a line says nothing: it is empty, or begins with `#`.

@@ -1,7 +1,7 @@
 //! The line of an event, after its first word.
 ghost use Rattle.std.specs.Prelude.{ℕ, codes, IfSome, IsNone};
 ghost use Rattle.at_call_words.specs.Readings.{IsFoundInMemory};
-ghost use Rattle.at_schedule.specs.Says.{DeliverSays, SaysEvent};
+ghost use Rattle.at_schedule.specs.Says.{DeliverSays, SaysFound};
 ghost use Rattle.at_words.specs.Words.{words_of};
 
 use at_call_words::{call_of, data_of, timer_of};
@@ -14,23 +14,23 @@ use std::alloc::Allocator;
 pub(crate) fn call_event<A: Allocator + Copy>(
     alloc: A,
     mut words: Words<'_>,
-) -> Result<Event<A>, LineFault>
-    ensures { IsFoundInMemory result (SaysEvent (codes "call") (words_of words.entry.rest.now)) }
+) -> Result<Option<Event<A>>, LineFault>
+    ensures { IsFoundInMemory result (SaysFound (codes "call") (words_of words.entry.rest.now)) }
 {
     let node = words.next().ok_or(LineFault::Unlawful(Rule::Call))?;
     let node = node_number(node).ok_or(LineFault::Unlawful(Rule::Call))?;
     match call_of(alloc, words) {
-        Ok(call) => Ok(Event::Call { node, call }),
+        Ok(call) => Ok(Some(Event::Call { node, call })),
         Err(fault) => Err(fault),
     }
 }
 
 /// `K N`
-pub(crate) fn delivery_event<A: Allocator>(words: Words<'_>) -> Result<Event<A>, LineFault>
-    ensures { IsFoundInMemory result (SaysEvent (codes "deliver") (words_of words.entry.rest.now)) }
+pub(crate) fn delivery_event<A: Allocator>(words: Words<'_>) -> Result<Option<Event<A>>, LineFault>
+    ensures { IsFoundInMemory result (SaysFound (codes "deliver") (words_of words.entry.rest.now)) }
 {
     match delivery(words) {
-        Some((which, node)) => Ok(Event::Deliver { which, node }),
+        Some((which, node)) => Ok(Some(Event::Deliver { which, node })),
         None => Err(LineFault::Unlawful(Rule::Deliver)),
     }
 }
@@ -48,28 +48,28 @@ fn delivery(mut words: Words<'_>) -> Option<(u64, u8)>
 }
 
 /// `N` and a timer.
-pub(crate) fn timer_event<A: Allocator>(mut words: Words<'_>) -> Result<Event<A>, LineFault>
-    ensures { IsFoundInMemory result (SaysEvent (codes "timer") (words_of words.entry.rest.now)) }
+pub(crate) fn timer_event<A: Allocator>(mut words: Words<'_>) -> Result<Option<Event<A>>, LineFault>
+    ensures { IsFoundInMemory result (SaysFound (codes "timer") (words_of words.entry.rest.now)) }
 {
     let node = words.next().ok_or(LineFault::Unlawful(Rule::Timer))?;
     let node = node_number(node).ok_or(LineFault::Unlawful(Rule::Timer))?;
     let timer = timer_of(words)?;
-    Ok(Event::Timer { node, timer })
+    Ok(Some(Event::Timer { node, timer }))
 }
 
 /// `N HEX`
 pub(crate) fn forged_event<A: Allocator>(
     alloc: A,
     mut words: Words<'_>,
-) -> Result<Event<A>, LineFault>
-    ensures { IsFoundInMemory result (SaysEvent (codes "forge") (words_of words.entry.rest.now)) }
+) -> Result<Option<Event<A>>, LineFault>
+    ensures { IsFoundInMemory result (SaysFound (codes "forge") (words_of words.entry.rest.now)) }
 {
     let node = words.next().ok_or(LineFault::Unlawful(Rule::Forge))?;
     let node = node_number(node).ok_or(LineFault::Unlawful(Rule::Forge))?;
     let hex = words.next().ok_or(LineFault::Unlawful(Rule::Forge))?;
     words.end().ok_or(LineFault::Unlawful(Rule::Forge))?;
     match data_of(alloc, hex) {
-        Ok(bytes) => Ok(Event::Forge { node, bytes }),
+        Ok(bytes) => Ok(Some(Event::Forge { node, bytes })),
         Err(fault) => Err(fault),
     }
 }

@@ -7,8 +7,8 @@ use Rattle.at_nbp.specs.Names.{same_text}
 use Rattle.at_nbp.specs.declared.find.Find.{Find}
 use Rattle.at_nbp.specs.declared.name.Name.{Name}
 use Rattle.at_zip.specs.Tables.{Tables, with_table}
-use Rattle.at_event.specs.declared.event.Report.{Report}
-use Rattle.at_event.specs.declared.event.Report.TheVariants as report
+use Rattle.at_event.specs.declared.report.Report.{Report}
+use Rattle.at_event.specs.declared.report.Report.TheVariants as report
 
 pub record SessionState : Type 0 where
   pub lists : Tables  -- the zone list of the last reading of each kind that ended with one

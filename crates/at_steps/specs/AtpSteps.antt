@@ -17,8 +17,8 @@ use Rattle.at_zip.specs.declared.fault.ZipFault.{ZipFault}
 use Rattle.at_node.specs.AtpParts.{AtpState, Reading, asking, serving, zones_at}
 use Rattle.at_node.specs.ZoneSocket.{page_packet}
 use Rattle.at_event.specs.declared.event.Call.TheVariants.{Zones, SetZones, Ask, Answer}
-use Rattle.at_event.specs.declared.event.Report.{Report}
-use Rattle.at_event.specs.declared.event.Report.TheVariants as report
+use Rattle.at_event.specs.declared.report.Report.{Report}
+use Rattle.at_event.specs.declared.report.Report.TheVariants as report
 use Rattle.at_event.specs.declared.event.Timer.{Timer}
 use Rattle.at_event.specs.declared.event.Timer.TheVariants as timer
 use Rattle.at_steps.specs.Acts.{Act, Calls, Fires, Gets}

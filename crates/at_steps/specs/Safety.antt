@@ -20,8 +20,8 @@ use Rattle.at_adsp_end.specs.declared.fault.StreamFault.{StreamFault}
 use Rattle.at_adsp_end.specs.declared.fault.StreamFault.TheVariants.{EndsFull}
 use Rattle.at_event.specs.Faults as node
 use Rattle.at_event.specs.Outcomes.{Outcome, idle}
-use Rattle.at_event.specs.declared.event.Report.{Report}
-use Rattle.at_event.specs.declared.event.Report.TheVariants as report
+use Rattle.at_event.specs.declared.report.Report.{Report}
+use Rattle.at_event.specs.declared.report.Report.TheVariants as report
 use Rattle.at_event.specs.declared.fault.NodeFault.{NodeFault}
 use Rattle.at_node.specs.Nodes.{NodeState}
 use Rattle.at_node.specs.Responders.{records_at}

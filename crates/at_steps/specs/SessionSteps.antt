@@ -3,8 +3,8 @@
 use Rattle.std.specs.Prelude.{◌≡◌, ℕ, List, true}
 use Rattle.at_event.specs.Kinds.{Kind, Session, reporter_of}
 use Rattle.at_event.specs.declared.event.Call.TheVariants.{Finish, Pick}
-use Rattle.at_event.specs.declared.event.Report.{Report}
-use Rattle.at_event.specs.declared.event.Report.TheVariants as report
+use Rattle.at_event.specs.declared.report.Report.{Report}
+use Rattle.at_event.specs.declared.report.Report.TheVariants as report
 use Rattle.at_session.specs.Sessions.{SessionState, finds_kept, is_listed, list_kept, picking}
 use Rattle.at_steps.specs.Acts.{Act, Calls, Gets}
 

@@ -20,8 +20,8 @@ use Rattle.at_session.specs.Sessions.{SessionState, address_at}
 use Rattle.at_event.specs.Kinds.{reporter_of}
 use Rattle.at_event.specs.Outcomes.{Outcome}
 use Rattle.at_event.specs.declared.event.Call.TheVariants.{Close, Connect, Listen, Open, Read, Reset, Write}
-use Rattle.at_event.specs.declared.event.Report.{Report}
-use Rattle.at_event.specs.declared.event.Report.TheVariants as report
+use Rattle.at_event.specs.declared.report.Report.{Report}
+use Rattle.at_event.specs.declared.report.Report.TheVariants as report
 use Rattle.at_event.specs.declared.event.Timer.TheVariants as timer
 use Rattle.at_node.specs.Numbers.{drawn_by}
 use Rattle.at_node.specs.Nodes.{NodeState}

@@ -10,8 +10,8 @@ use Rattle.at_ddp.specs.Posts.{packet_at}
 use Rattle.at_adsp.specs.Network.{Sent}
 use Rattle.at_adsp.specs.Streams.{Stream, GaveUp, Read as ReadItems, Wrote as WroteItems, has_number, with_deed}
 use Rattle.at_event.specs.declared.event.Call.TheVariants.{Close, Connect, Listen, Open, Read, Reset, Write}
-use Rattle.at_event.specs.declared.event.Report.{Report}
-use Rattle.at_event.specs.declared.event.Report.TheVariants as report
+use Rattle.at_event.specs.declared.report.Report.{Report}
+use Rattle.at_event.specs.declared.report.Report.TheVariants as report
 use Rattle.at_event.specs.declared.event.Timer.TheVariants as timer
 use Rattle.at_session.specs.Sessions.{SessionState, address_at}
 use Rattle.at_steps.specs.Acts.{Act, Calls, Fires, Gets}

@@ -25,8 +25,8 @@ use Rattle.at_adsp_ends.specs.Moves.{IsCalled}
 use Rattle.at_adsp_ends.specs.Receiving.{settled}
 use Rattle.at_adsp_ends.specs.Tables.{Done, EndTable, freed, moved}
 use Rattle.at_event.specs.Outcomes.{IsStep, idle, posted, refused_as, sent_by, takes_memory, wants_memory}
-use Rattle.at_event.specs.declared.event.Report.{Report}
-use Rattle.at_event.specs.declared.event.Report.TheVariants as report
+use Rattle.at_event.specs.declared.report.Report.{Report}
+use Rattle.at_event.specs.declared.report.Report.TheVariants as report
 use Rattle.at_event.specs.declared.seat.Seat.{Seat}
 use Rattle.at_stream_socket.specs.Calls.{called}
 use Rattle.at_stream_socket.specs.Sockets.{streams_at, told_by}

@@ -5,7 +5,7 @@ use Rattle.at_event.specs.Calls.{IsCall}
 use Rattle.at_node.specs.Numbers.{Draws as DrawsFor}
 use Rattle.at_node.specs.declared.numbers.Input.TheVariants as input
 use Rattle.at_event.specs.declared.event.Call.{Call}
-use Rattle.at_event.specs.declared.event.Report.{Report}
+use Rattle.at_event.specs.declared.report.Report.{Report}
 use Rattle.at_event.specs.declared.event.Timer.{Timer}
 use Rattle.at_setup.specs.declared.event.Event.{Event}
 use Rattle.at_setup.specs.declared.event.Event.TheVariants as event

@@ -9,8 +9,8 @@ use Rattle.at_ddp.specs.Tables.{replaced}
 use Rattle.at_ddp.proofs.CountLemmas.{length_replaced}
 use Rattle.at_event.specs.Outcomes.{Comes, IsStep, Outcome, posted}
 use Rattle.at_event.specs.declared.event.Call.{Call}
-use Rattle.at_event.specs.declared.event.Report.{Report}
-use Rattle.at_event.specs.declared.event.Report.TheVariants as report
+use Rattle.at_event.specs.declared.report.Report.{Report}
+use Rattle.at_event.specs.declared.report.Report.TheVariants as report
 use Rattle.at_event.specs.declared.event.Timer.{Timer}
 use Rattle.at_event.specs.declared.service.Reply.{Reply}
 use Rattle.at_node.specs.Numbers.{drawn_by}

@@ -15,8 +15,8 @@ use Rattle.at_name_socket.specs.declared.claim.Claim.{Claim as Claimed}
 use Rattle.at_event.specs.Kinds.{Kind, Nbp}
 use Rattle.at_event.specs.declared.event.Call.{Call}
 use Rattle.at_event.specs.declared.event.Call.TheVariants.{Claim, Find, Finish, Register, Unregister}
-use Rattle.at_event.specs.declared.event.Report.{Report}
-use Rattle.at_event.specs.declared.event.Report.TheVariants as report
+use Rattle.at_event.specs.declared.report.Report.{Report}
+use Rattle.at_event.specs.declared.report.Report.TheVariants as report
 use Rattle.at_session.specs.Sessions.{pattern_asked}
 use Rattle.at_world.specs.SessionGuards.{Sessions}
 use Rattle.at_setup.specs.declared.event.Event.{Event}

@@ -12,7 +12,7 @@ use Rattle.at_ddp.specs.Protocols.{atp_kind}
 use Rattle.at_atp.specs.Network.{Network, Sent, Happening, AllTimely, after, done}
 use Rattle.at_zip.specs.Tables.{Tables, with_table}
 use Rattle.at_event.specs.declared.event.Call.TheVariants.{SetZones}
-use Rattle.at_event.specs.declared.event.Report.{Report}
+use Rattle.at_event.specs.declared.report.Report.{Report}
 use Rattle.at_steps.specs.AtpHappenings.{sets_table}
 use Rattle.at_steps.specs.AtpReports as reports
 use Rattle.at_world.specs.Events.{act_of, node_of}

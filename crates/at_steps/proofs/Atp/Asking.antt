@@ -31,8 +31,8 @@ use Rattle.at_node.specs.ZoneReading.{reading_begins, zones_called, page_transac
 use Rattle.at_node.specs.ZoneSocket.{set_zones_called, table_set}
 use Rattle.at_node.specs.declared.numbers.Draw.TheVariants.{Tid}
 use Rattle.at_event.specs.declared.event.Call.TheVariants.{Zones, SetZones, Ask}
-use Rattle.at_event.specs.declared.event.Report.{Report}
-use Rattle.at_event.specs.declared.event.Report.TheVariants as report
+use Rattle.at_event.specs.declared.report.Report.{Report}
+use Rattle.at_event.specs.declared.report.Report.TheVariants as report
 use Rattle.at_steps.specs.Acts.{Calls}
 use Rattle.at_steps.specs.AtpHappenings.{Stands, IsOpen}
 use Rattle.at_steps.specs.AtpSteps.{Begins, Reads, Sets}

@@ -29,8 +29,8 @@ use Rattle.at_node.specs.RequesterSocket.{AtRequester, reported_other}
 use Rattle.at_node.specs.ZoneReading.{AsksOn, ReadsPage, is_page, is_reading, names_read, page_transaction}
 use Rattle.at_node.specs.ZoneReading.{table_read}
 use Rattle.at_node.specs.declared.numbers.Draw.TheVariants.{Tid}
-use Rattle.at_event.specs.declared.event.Report.{Report}
-use Rattle.at_event.specs.declared.event.Report.TheVariants as report
+use Rattle.at_event.specs.declared.report.Report.{Report}
+use Rattle.at_event.specs.declared.report.Report.TheVariants as report
 use Rattle.at_steps.specs.Acts.{Gets}
 use Rattle.at_steps.specs.AtpReports.{Matches}
 use Rattle.at_steps.specs.AtpHappenings.{Stands, IsOpen}

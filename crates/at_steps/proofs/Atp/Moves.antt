@@ -28,8 +28,8 @@ use Rattle.at_node.specs.Numbers.{drawn_by}
 use Rattle.at_node.specs.Nodes.{NodeState, with_atp}
 use Rattle.at_event.specs.Kinds.{reporter_of}
 use Rattle.at_event.specs.Outcomes.{Outcome, idle, sent_by}
-use Rattle.at_event.specs.declared.event.Report.{Report}
-use Rattle.at_event.specs.declared.event.Report.TheVariants as report
+use Rattle.at_event.specs.declared.report.Report.{Report}
+use Rattle.at_event.specs.declared.report.Report.TheVariants as report
 use Rattle.at_event.specs.declared.event.Timer.TheVariants as timer
 use Rattle.at_steps.specs.Acts.{Act, Calls, Fires, Gets, is_atp}
 use Rattle.at_steps.specs.AtpReports.{Matches}

@@ -18,8 +18,8 @@ use Rattle.at_event.specs.Outcomes.{over, Outcome, idle}
 use Rattle.at_node.specs.Responders.{released_report}
 use Rattle.at_event.specs.Services.{is_asked}
 use Rattle.at_node.specs.ServiceSocket.{service_taken, handed_up, at_service, service_asked, service_released}
-use Rattle.at_event.specs.declared.event.Report.{Report}
-use Rattle.at_event.specs.declared.event.Report.TheVariants as report
+use Rattle.at_event.specs.declared.report.Report.{Report}
+use Rattle.at_event.specs.declared.report.Report.TheVariants as report
 use Rattle.at_event.specs.declared.service.Reply.{Reply}
 use Rattle.at_event.specs.declared.service.Reply.TheVariants as reply
 use Rattle.at_steps.specs.Acts.{Gets}

@@ -28,8 +28,8 @@ use Rattle.at_node.specs.Nodes.{with_atp, NodeState}
 use Rattle.at_event.specs.Outcomes.{over, Outcome, idle}
 use Rattle.at_node.specs.Responders.{released_report}
 use Rattle.at_node.specs.ZoneSocket.{page_packet, zone_served, zone_taken, at_zones, zone_asked, zone_released}
-use Rattle.at_event.specs.declared.event.Report.{Report}
-use Rattle.at_event.specs.declared.event.Report.TheVariants as report
+use Rattle.at_event.specs.declared.report.Report.{Report}
+use Rattle.at_event.specs.declared.report.Report.TheVariants as report
 use Rattle.at_steps.specs.Acts.{Gets}
 use Rattle.at_steps.specs.AtpReports.{AsksFrom}
 use Rattle.at_steps.specs.AtpSteps as steps

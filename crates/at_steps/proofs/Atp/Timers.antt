@@ -25,7 +25,7 @@ use Rattle.at_node.specs.RequesterSocket.{after_retry, retry_fired}
 use Rattle.at_node.specs.Responders.{records_at}
 use Rattle.at_event.specs.Seats.{at_socket}
 use Rattle.at_node.specs.ZoneReading.{is_reading, after_failing}
-use Rattle.at_event.specs.declared.event.Report.TheVariants as report
+use Rattle.at_event.specs.declared.report.Report.TheVariants as report
 use Rattle.at_event.specs.declared.event.Timer.{Timer}
 use Rattle.at_event.specs.declared.event.Timer.TheVariants as timer
 use Rattle.at_steps.specs.Acts.{Fires, is_atp}

@@ -31,7 +31,7 @@ use Rattle.at_event.specs.declared.event.Call.{Call}
 use Rattle.at_event.specs.declared.event.Call.TheVariants.{Zones, SetZones, Ask, Answer, Pick, Find, Claim, Finish}
 use Rattle.at_event.specs.declared.event.Call.TheVariants.{Register, Unregister, Open, Listen, Connect, Write, Read}
 use Rattle.at_event.specs.declared.event.Call.TheVariants.{Reset, Close}
-use Rattle.at_event.specs.declared.event.Report.TheVariants as report
+use Rattle.at_event.specs.declared.report.Report.TheVariants as report
 use Rattle.at_steps.specs.Acts.{Calls, is_nbp}
 use Rattle.at_steps.specs.NameHappenings.{Stands}
 use Rattle.at_steps.specs.NameSteps.{Claims, Finds, HasClaimed, HasLost, Looks, Registers, Unregisters}

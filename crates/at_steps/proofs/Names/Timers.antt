@@ -10,7 +10,7 @@ use Rattle.at_event.specs.Kinds.{kind_of_timer}
 use Rattle.at_node.specs.NameCalls.{asked_again}
 use Rattle.at_node.specs.Nodes.{NodeState, timed, with_names}
 use Rattle.at_event.specs.Outcomes.{over}
-use Rattle.at_event.specs.declared.event.Report.TheVariants as report
+use Rattle.at_event.specs.declared.report.Report.TheVariants as report
 use Rattle.at_event.specs.declared.event.Timer.{Timer}
 use Rattle.at_event.specs.declared.event.Timer.TheVariants as timer
 use Rattle.at_steps.specs.Acts.{Fires, is_nbp}

@@ -6,8 +6,8 @@ use Rattle.at_atp_frame.specs.Frames.{Content as Frame, spelled, spelled_all}
 use Rattle.at_zip.specs.Fault as zip
 use Rattle.at_zip.specs.declared.fault.ZipFault.{ZipFault}
 use Rattle.at_event.specs.Outcomes.{Outcome, Outgoing, idle, over, refused_as, sent_by}
-use Rattle.at_event.specs.declared.event.Report.{Report}
-use Rattle.at_event.specs.declared.event.Report.TheVariants as report
+use Rattle.at_event.specs.declared.report.Report.{Report}
+use Rattle.at_event.specs.declared.report.Report.TheVariants as report
 use Rattle.at_node.specs.Nodes.{NodeState}
 use Rattle.at_steps.specs.Safety.{IsSafe, IsTrueOf, OfZones, Place, Reason, number_of, number_told}
 

@@ -11,7 +11,7 @@ use Rattle.at_event.specs.Outcomes.{Outcome, Over, Through, idle, over}
 use Rattle.at_event.specs.Seats.{at_socket, is_for_all, is_mine}
 use Rattle.at_event.specs.declared.event.Call.{Call}
 use Rattle.at_event.specs.declared.event.Call.TheVariants as call
-use Rattle.at_event.specs.declared.event.Report.TheVariants as report
+use Rattle.at_event.specs.declared.report.Report.TheVariants as report
 use Rattle.at_event.specs.declared.event.Timer.{Timer}
 use Rattle.at_event.specs.declared.event.Timer.TheVariants as timer
 use Rattle.at_event.specs.declared.fault.NodeFault.TheVariants as nodes

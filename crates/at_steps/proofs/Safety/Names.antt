@@ -22,7 +22,7 @@ use Rattle.at_name_socket.specs.declared.step.Finished.TheVariants as finished
 use Rattle.at_name_socket.specs.declared.step.Heard.{Heard}
 use Rattle.at_name_socket.specs.declared.step.Heard.TheVariants as heard
 use Rattle.at_event.specs.Outcomes.{Outcome, idle}
-use Rattle.at_event.specs.declared.event.Report.TheVariants as report
+use Rattle.at_event.specs.declared.report.Report.TheVariants as report
 use Rattle.at_node.specs.Limits.{IsWithin}
 use Rattle.at_node.specs.NameCalls.{asked_again, claim_called, claimed_as, find_called, finish_called, finished_as}
 use Rattle.at_node.specs.NameCalls.{found_as, lookup_fired, refused_by, register_called, registered_as, sent_of}

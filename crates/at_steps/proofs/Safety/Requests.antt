@@ -20,8 +20,8 @@ use Rattle.at_zip.specs.Fault as zip
 use Rattle.at_zip.specs.declared.fault.ZipFault.{ZipFault}
 use Rattle.at_zip.specs.declared.fault.ZipFault.TheVariants.{TooManyZones}
 use Rattle.at_event.specs.Outcomes.{Outcome, idle, refused_as}
-use Rattle.at_event.specs.declared.event.Report.{Report}
-use Rattle.at_event.specs.declared.event.Report.TheVariants as report
+use Rattle.at_event.specs.declared.report.Report.{Report}
+use Rattle.at_event.specs.declared.report.Report.TheVariants as report
 use Rattle.at_event.specs.declared.fault.NodeFault.TheVariants as nodes
 use Rattle.at_node.specs.AtpParts.{AtpState, Reading, after_heard, asking as asking_at, asks, packet_in}
 use Rattle.at_node.specs.AtpParts.{tid_of}

@@ -18,7 +18,7 @@ use Rattle.at_atp_responder.specs.declared.reception.Key.{Key}
 use Rattle.at_atp_responder.specs.declared.reception.Reception.{Reception}
 use Rattle.at_atp_responder.specs.declared.reception.Reception.TheVariants as reception
 use Rattle.at_event.specs.Outcomes.{Outcome, idle, refused_as, sent_by}
-use Rattle.at_event.specs.declared.event.Report.TheVariants as report
+use Rattle.at_event.specs.declared.report.Report.TheVariants as report
 use Rattle.at_event.specs.declared.service.Reply.{Reply}
 use Rattle.at_event.specs.declared.service.Reply.TheVariants as reply
 use Rattle.at_node.specs.AtpHearing.{AtSocket, AtpSocket, HearsAt, HearsAtp, Requester, Service, Zones as ZoneSocket}

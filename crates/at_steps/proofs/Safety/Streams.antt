@@ -23,8 +23,8 @@ use Rattle.at_adsp_ends.specs.Calls.{wrote_some}
 use Rattle.at_adsp_ends.specs.Receiving.{received, settled}
 use Rattle.at_adsp_ends.specs.Tables.{Done, EndTable, IsId, SendsFew, by_id, freed, moved, next_id}
 use Rattle.at_event.specs.Outcomes.{Outcome, idle}
-use Rattle.at_event.specs.declared.event.Report.{Report}
-use Rattle.at_event.specs.declared.event.Report.TheVariants as report
+use Rattle.at_event.specs.declared.report.Report.{Report}
+use Rattle.at_event.specs.declared.report.Report.TheVariants as report
 use Rattle.at_event.specs.declared.fault.NodeFault.TheVariants as nodes
 use Rattle.at_node.specs.Limits.{IsWithin}
 use Rattle.at_node.specs.Nodes.{NodeState}

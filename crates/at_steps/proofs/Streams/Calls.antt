@@ -32,8 +32,8 @@ use Rattle.at_event.specs.declared.event.Call.{Call}
 use Rattle.at_event.specs.declared.event.Call.TheVariants.{Zones, SetZones, Ask, Answer, Pick, Find, Claim, Finish}
 use Rattle.at_event.specs.declared.event.Call.TheVariants.{Register, Unregister, Open, Listen, Connect, Write, Read}
 use Rattle.at_event.specs.declared.event.Call.TheVariants.{Reset, Close}
-use Rattle.at_event.specs.declared.event.Report.{Report}
-use Rattle.at_event.specs.declared.event.Report.TheVariants as report
+use Rattle.at_event.specs.declared.report.Report.{Report}
+use Rattle.at_event.specs.declared.report.Report.TheVariants as report
 use Rattle.at_node.specs.Numbers.{drawn_by}
 use Rattle.at_node.specs.Nodes.{NodeState, called, with_streams}
 use Rattle.at_node.specs.declared.numbers.Draw.TheVariants.{Conn}

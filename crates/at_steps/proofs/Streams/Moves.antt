@@ -20,8 +20,8 @@ use Rattle.at_adsp.specs.Network.{done, listens}
 use Rattle.at_adsp.specs.Streams.{Deed, GaveUp, Read, Stream, Wrote, has_number, read_after, with_deed, with_peer}
 use Rattle.at_adsp.specs.Streams.{written_after}
 use Rattle.at_event.specs.Outcomes.{Outcome, Outgoing, idle, refused_as}
-use Rattle.at_event.specs.declared.event.Report.{Report}
-use Rattle.at_event.specs.declared.event.Report.TheVariants as report
+use Rattle.at_event.specs.declared.report.Report.{Report}
+use Rattle.at_event.specs.declared.report.Report.TheVariants as report
 use Rattle.at_event.specs.declared.seat.Seat.{Seat}
 use Rattle.at_node.specs.Numbers.{drawn_by}
 use Rattle.at_node.specs.Nodes.{NodeState, with_streams}

@@ -9,8 +9,8 @@ use Rattle.at_steps.proofs.Entries.{entries_foreign}
 use Rattle.at_adsp.specs.Network.{Happening, Other, Setting, after}
 use Rattle.at_event.specs.Kinds.{reporter_of}
 use Rattle.at_event.specs.Outcomes.{Outcome}
-use Rattle.at_event.specs.declared.event.Report.{Report}
-use Rattle.at_event.specs.declared.event.Report.TheVariants as report
+use Rattle.at_event.specs.declared.report.Report.{Report}
+use Rattle.at_event.specs.declared.report.Report.TheVariants as report
 use Rattle.at_node.specs.Numbers.{drawn_by}
 use Rattle.at_node.specs.Nodes.{NodeState}
 use Rattle.at_stream_socket.specs.Sockets.{streams_at}

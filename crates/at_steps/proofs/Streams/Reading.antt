@@ -15,8 +15,8 @@ use Rattle.at_adsp.specs.Orders.{ReadsInOrder}
 use Rattle.at_adsp.specs.Pairs.{HappensHere}
 use Rattle.at_event.specs.Outcomes.{refused_as}
 use Rattle.at_event.specs.declared.event.Call.TheVariants.{Read}
-use Rattle.at_event.specs.declared.event.Report.{Report}
-use Rattle.at_event.specs.declared.event.Report.TheVariants as report
+use Rattle.at_event.specs.declared.report.Report.{Report}
+use Rattle.at_event.specs.declared.report.Report.TheVariants as report
 use Rattle.at_node.specs.Nodes.{NodeState, called}
 use Rattle.at_stream_socket.specs.Calls as sockets
 use Rattle.at_stream_socket.specs.Sockets.{streams_at}

@@ -21,8 +21,8 @@ use Rattle.at_adsp.specs.Network.{Happening, Network, Setting, Ticks, calls, don
 use Rattle.at_adsp.specs.Streams.{Nothing}
 use Rattle.at_event.specs.Kinds.{kind_of_timer}
 use Rattle.at_event.specs.Outcomes.{over}
-use Rattle.at_event.specs.declared.event.Report.{Report}
-use Rattle.at_event.specs.declared.event.Report.TheVariants as report
+use Rattle.at_event.specs.declared.report.Report.{Report}
+use Rattle.at_event.specs.declared.report.Report.TheVariants as report
 use Rattle.at_event.specs.declared.event.Timer.{Timer}
 use Rattle.at_event.specs.declared.event.Timer.TheVariants as timer
 use Rattle.at_node.specs.Nodes.{NodeState, timed, with_streams}

@@ -21,7 +21,7 @@ ghost use Rattle.at_event.specs.Outcomes.{Outcome};
 ghost use Rattle.at_node.specs.declared.numbers.Draw.TheVariants.{Conn};
 ghost use Rattle.at_event.specs.declared.event.Call.{Call};
 ghost use Rattle.at_event.specs.declared.event.Call.TheVariants.{Read};
-ghost use Rattle.at_event.specs.declared.event.Report.TheVariants as report;
+ghost use Rattle.at_event.specs.declared.report.Report.TheVariants as report;
 ghost use Rattle.at_event.specs.declared.event.Timer.{Timer};
 ghost use Rattle.at_event.specs.declared.service.Reply.{Reply};
 ghost use Rattle.at_stream_socket.specs.Sockets.{streams_at};

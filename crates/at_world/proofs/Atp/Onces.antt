@@ -18,8 +18,8 @@ use Rattle.at_atp.specs.Transactions.{Transaction, transaction_of, answered}
 use Rattle.at_atp_responder.specs.declared.reception.Key.{Key}
 use Rattle.at_node.specs.AtpParts.{asking}
 use Rattle.at_event.specs.declared.event.Call.TheVariants.{Answer}
-use Rattle.at_event.specs.declared.event.Report.{Report}
-use Rattle.at_event.specs.declared.event.Report.TheVariants as report
+use Rattle.at_event.specs.declared.report.Report.{Report}
+use Rattle.at_event.specs.declared.report.Report.TheVariants as report
 use Rattle.at_world.specs.ExactlyOnce.{Played, onto, since, is_once, CameFrom, HandsUpBy, IsGivenBy, IsPageFor, GivesBy}
 use Rattle.at_world.specs.ExactlyOnce.{SomeGives, tables_after, Gives, NoneGives, AtMostOneGives, RanOnce, wanted_by}
 use Rattle.at_world.specs.ExactlyOnce.{SomeHandsUp, AllLive, EndsBy, RunsOnce, IsOnce}

@@ -9,8 +9,8 @@ use Rattle.at_zip.specs.Tables.{Tables, AreTables}
 use Rattle.at_node.specs.AtpParts.{Reading as ZoneReading, asking, zones_at}
 use Rattle.at_node.specs.Nodes.{NodeState}
 use Rattle.at_event.specs.Kinds.{reporter_of}
-use Rattle.at_event.specs.declared.event.Report.{Report}
-use Rattle.at_event.specs.declared.event.Report.TheVariants as report
+use Rattle.at_event.specs.declared.report.Report.{Report}
+use Rattle.at_event.specs.declared.report.Report.TheVariants as report
 use Rattle.at_event.specs.declared.event.Timer.TheVariants as timer
 use Rattle.at_steps.specs.Acts.{Act, Calls, Fires, Gets, Forges}
 use Rattle.at_steps.specs.AtpHappenings.{sets_table}

@@ -12,8 +12,8 @@ use Rattle.at_node.specs.AtpParts.{AtpState, asking, zones_at}
 use Rattle.at_node.specs.Nodes.{NodeState}
 use Rattle.at_event.specs.Kinds.{reporter_of}
 use Rattle.at_event.specs.declared.event.Call.TheVariants.{SetZones, Ask, Answer}
-use Rattle.at_event.specs.declared.event.Report.{Report}
-use Rattle.at_event.specs.declared.event.Report.TheVariants as report
+use Rattle.at_event.specs.declared.report.Report.{Report}
+use Rattle.at_event.specs.declared.report.Report.TheVariants as report
 use Rattle.at_steps.specs.AtpHappenings.{sets_table}
 use Rattle.at_steps.specs.AtpSteps as steps
 use Rattle.at_steps.specs.AtpSteps.{Change, ComesToReading, IsPlain, BeginsAsking, BeginsReading, SetsTable}

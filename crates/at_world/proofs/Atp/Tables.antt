@@ -2,8 +2,8 @@
 use Rattle.std.proofs.Common.{◌≡◌, refl, ap}
 use Rattle.at_event.specs.Kinds.{Kind, Nobody, Session, Atp, Nbp, Adsp, reporter_of}
 use Rattle.at_event.specs.declared.event.Call.TheVariants.{Zones, SetZones, Ask, Answer}
-use Rattle.at_event.specs.declared.event.Report.{Report}
-use Rattle.at_event.specs.declared.event.Report.TheVariants as report
+use Rattle.at_event.specs.declared.report.Report.{Report}
+use Rattle.at_event.specs.declared.report.Report.TheVariants as report
 use Rattle.at_world.specs.AtpGuards.{AtpMachine, Says, StepBy}
 use Rattle.at_world.specs.Cables.{Cable}
 use Rattle.at_world.specs.Stories.{tables_by}

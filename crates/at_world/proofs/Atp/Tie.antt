@@ -26,7 +26,7 @@ use Rattle.at_event.specs.Services.{is_asked}
 use Rattle.at_node.specs.declared.numbers.Draw.{Draw}
 use Rattle.at_node.specs.declared.numbers.Draw.TheVariants.{Tid}
 use Rattle.at_event.specs.declared.event.Call.{Call}
-use Rattle.at_event.specs.declared.event.Report.{Report}
+use Rattle.at_event.specs.declared.report.Report.{Report}
 use Rattle.at_event.specs.declared.event.Timer.{Timer}
 use Rattle.at_event.specs.declared.service.Reply.{Reply}
 use Rattle.at_event.specs.declared.service.Reply.TheVariants.{Later}

@@ -22,8 +22,8 @@ use Rattle.at_ddp.proofs.PostLemmas.{sent_at}
 use Rattle.at_atp.specs.Network.{Network, Sent, Happening, Takes, Serves, AllTimely, GivesAnswers, after}
 use Rattle.at_atp_responder.specs.Once.{same_key}
 use Rattle.at_atp_responder.specs.declared.reception.Key.{Key}
-use Rattle.at_event.specs.declared.event.Report.{Report}
-use Rattle.at_event.specs.declared.event.Report.TheVariants as report
+use Rattle.at_event.specs.declared.report.Report.{Report}
+use Rattle.at_event.specs.declared.report.Report.TheVariants as report
 use Rattle.at_zip.specs.Tables.{Tables}
 use Rattle.at_world.specs.ExactlyOnce.{Played, onto, since, tables_after, CameFrom, HandsUpBy, HandsUp, NoneHandsUp}
 use Rattle.at_world.specs.ExactlyOnce.{AtMostOneHandsUp, SomeHandsUp, has_expired, LivesBy, AllLive}

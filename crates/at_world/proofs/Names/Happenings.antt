@@ -9,8 +9,8 @@ use Rattle.at_event.specs.Kinds.{Kind, Nbp, kind_of_call, kind_of_timer, reporte
 use Rattle.at_node.specs.Nodes.{NodeState, called, timed}
 use Rattle.at_event.specs.Outcomes.{Outcome}
 use Rattle.at_event.specs.declared.event.Call.{Call}
-use Rattle.at_event.specs.declared.event.Report.{Report}
-use Rattle.at_event.specs.declared.event.Report.TheVariants as report
+use Rattle.at_event.specs.declared.report.Report.{Report}
+use Rattle.at_event.specs.declared.report.Report.TheVariants as report
 use Rattle.at_event.specs.declared.event.Timer.{Timer}
 use Rattle.at_event.specs.declared.service.Reply.{Reply}
 use Rattle.at_steps.specs.Acts.{is_nbp}

@@ -21,8 +21,8 @@ use Rattle.at_node.specs.Numbers.{drawn_by}
 use Rattle.at_session.specs.Sessions.{pattern_asked}
 use Rattle.at_node.specs.Nodes.{NodeState}
 use Rattle.at_event.specs.declared.event.Call.TheVariants.{Claim, Find, Finish, Register, Unregister}
-use Rattle.at_event.specs.declared.event.Report.{Report}
-use Rattle.at_event.specs.declared.event.Report.TheVariants as report
+use Rattle.at_event.specs.declared.report.Report.{Report}
+use Rattle.at_event.specs.declared.report.Report.TheVariants as report
 use Rattle.at_steps.specs.NameSteps as steps
 use Rattle.at_steps.specs.NameSteps.{Change, IsOpen, IsPlain, IsStep}
 use Rattle.at_world.specs.Cables.{Cable}

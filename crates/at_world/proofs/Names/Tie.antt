@@ -27,7 +27,7 @@ use Rattle.at_node.specs.Nodes.{NodeState, called, timed}
 use Rattle.at_event.specs.Outcomes.{Outcome}
 use Rattle.at_node.specs.declared.numbers.Draw.TheVariants.{Lookup as Identifier}
 use Rattle.at_event.specs.declared.event.Call.{Call}
-use Rattle.at_event.specs.declared.event.Report.{Report}
+use Rattle.at_event.specs.declared.report.Report.{Report}
 use Rattle.at_event.specs.declared.event.Timer.{Timer}
 use Rattle.at_event.specs.declared.service.Reply.{Reply}
 use Rattle.at_steps.specs.Acts.{Act, Calls, Fires, Gets, is_nbp}

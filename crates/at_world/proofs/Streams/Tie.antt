@@ -25,8 +25,8 @@ use Rattle.at_event.specs.Kinds.{kind_of_call, kind_of_timer}
 use Rattle.at_event.specs.Outcomes.{Outcome}
 use Rattle.at_event.specs.declared.event.Call.{Call}
 use Rattle.at_event.specs.declared.event.Call.TheVariants.{Read}
-use Rattle.at_event.specs.declared.event.Report.TheVariants as report
-use Rattle.at_event.specs.declared.event.Report.{Report}
+use Rattle.at_event.specs.declared.report.Report.TheVariants as report
+use Rattle.at_event.specs.declared.report.Report.{Report}
 use Rattle.at_event.specs.declared.event.Timer.{Timer}
 use Rattle.at_event.specs.declared.service.Reply.{Reply}
 use Rattle.at_node.specs.Numbers.{Carries, drawn_by, holds}

@@ -1,12 +1,12 @@
 use Rattle.std.proofs.Common.{◌≡◌, ℕ, length, get_or, refl, sym, ap, subst, ◌∙◌, arith}
-use Rattle.std.specs.Prelude.{IfSome, Result, Err}
+use Rattle.std.specs.Prelude.{IfSome, Result, Err, Some}
 use Rattle.at_nbp.specs.Lookups.{finds_in, search_of}
-use Rattle.at_name_socket.specs.NameSockets.{SocketState, claim_fault}
+use Rattle.at_name_socket.specs.NameSockets.{SocketState}
 use Rattle.at_name_socket.specs.declared.claim.Claim.{Claim}
 use Rattle.at_name_socket.specs.declared.step.Finished.{Finished}
 use Rattle.at_nbp.specs.declared.fault.NbpFault.{NbpFault}
-use Rattle.at_name_socket.proofs.SocketLemmas.{claimed_ends, claiming, fault_is, no_fault, register_is, same_fault}
-use Rattle.at_name_socket.proofs.SocketLemmas.{taken_ends, taker_is}
+use Rattle.at_name_socket.proofs.SocketLemmas.{claimed_ends, claiming, no_fault, register_is, same_fault}
+use Rattle.at_name_socket.proofs.SocketLemmas.{taken_ends, taken_has_no_fault, taker_is}
 use Rattle.at_name_socket.proofs.socket.NameSocket.end_claim.Goals as goal
 
 pub index-requires : goal.index-requires
@@ -36,8 +36,8 @@ returns-in-Some-clause-ok g c =
     ∙ ap (λ (t : SocketState). get_or t.claims c.args.index c.index.result.now) c.self.view_is
     ∙ e.at c.index.result.now in
     let takes = sym (taker_is s c.args.id c.args.index e c.index.result.now claim) ∙ sym c.taker.ensures
-    ∙ c.in-Some.is in
-    taken_ends g.row.A.Denot s c.close.new.self c.args.id c.args.index e c.in-Some.find takes c.close.ensures
+    ∙ c.in-Some.is ∙ ap Some (sym c.in_ok-owner.ensures) in
+    taken_ends g.row.A.Denot s c.close.new.self c.args.id c.args.index e c.in_ok-owner.owner takes c.close.ensures
 
 pub returns-in-Some-clause-refuses : goal.returns-in-Some-clause-refuses
 returns-in-Some-clause-refuses g c =
@@ -48,7 +48,18 @@ returns-in-Some-clause-refuses g c =
     ∙ e.at c.index.result.now in
     let takes = sym (taker_is s c.args.id c.args.index e c.index.result.now claim) ∙ sym c.taker.ensures
     ∙ c.in-Some.is in
-    rw (fault_is s c.args.id c.args.index e ∙ ap (claim_fault s e.claim) takes) tt
+    rw (taken_has_no_fault s c.args.id c.args.index e c.in-Some.find takes) tt
+
+pub returns-in_err-owner-clause-refuses : goal.returns-in_err-owner-clause-refuses
+returns-in_err-owner-clause-refuses g c =
+    let s = c.args.self.now in
+    let e = claiming s c.args.id c.args.index c.requires.claim c.requires.open in
+    let claim : c.index.result.now ≡ e.claim = c.index.ensures
+    ∙ ap (λ (t : SocketState). get_or t.claims c.args.index c.index.result.now) c.self.view_is
+    ∙ e.at c.index.result.now in
+    let takes = sym (taker_is s c.args.id c.args.index e c.index.result.now claim) ∙ sym c.taker.ensures
+    ∙ c.in-Some.is in
+    rw (taken_has_no_fault s c.args.id c.args.index e c.in-Some.find takes) tt
 
 pub returns-in-Err-clause-refuses : goal.returns-in-Err-clause-refuses
 returns-in-Err-clause-refuses g c =

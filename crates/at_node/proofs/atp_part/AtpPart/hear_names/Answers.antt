@@ -7,8 +7,8 @@ use Rattle.at_node.specs.AtpParts.{AtpState, after_heard}
 use Rattle.at_event.specs.Outcomes.{IsStep}
 use Rattle.at_node.specs.Readings.{reading_of}
 use Rattle.at_node.specs.ZoneReading.{names_read}
-use Rattle.at_event.specs.declared.event.Report.{Report}
-use Rattle.at_event.specs.declared.event.Report.TheVariants.{ZoneFault}
+use Rattle.at_event.specs.declared.report.Report.{Report}
+use Rattle.at_event.specs.declared.report.Report.TheVariants.{ZoneFault}
 use Rattle.at_node.proofs.OutcomeLemmas.{when_some}
 use Rattle.at_node.proofs.ReadingLemmas.{ends_with_all, is_too_long, page_wanted}
 use Rattle.at_node.proofs.atp_part.AtpPart.hear_names.Goals as goal

@@ -6,8 +6,8 @@ use Rattle.at_zip.specs.Fault as zip
 use Rattle.at_zip.specs.Page as pages
 use Rattle.at_node.specs.AtpParts.{after_heard}
 use Rattle.at_event.specs.Outcomes.{IsStep}
-use Rattle.at_event.specs.declared.event.Report.{Report}
-use Rattle.at_event.specs.declared.event.Report.TheVariants.{ZoneFault}
+use Rattle.at_event.specs.declared.report.Report.{Report}
+use Rattle.at_event.specs.declared.report.Report.TheVariants.{ZoneFault}
 use Rattle.at_node.proofs.OutcomeLemmas.{when_some, zip_number}
 use Rattle.at_node.proofs.RequesterLemmas.{comes_fault, comes_page}
 use Rattle.at_node.proofs.atp_part.AtpPart.hear_page.Goals as goal

@@ -4,7 +4,7 @@ use Rattle.at_ddp.specs.declared.address.Address.{Address}
 use Rattle.at_atp_frame.specs.Frames.{Content, content}
 use Rattle.at_zip.specs.declared.request.Which.{Which}
 use Rattle.at_event.specs.Outcomes.{Outcome}
-use Rattle.at_event.specs.declared.event.Report.TheVariants.{Zones}
+use Rattle.at_event.specs.declared.report.Report.TheVariants.{Zones}
 use Rattle.at_event.specs.declared.seat.Seat.{Seat}
 use Rattle.at_event.specs.declared.service.Reply.{Reply}
 use Rattle.at_node.specs.AtpHearing.{HearsAtp}

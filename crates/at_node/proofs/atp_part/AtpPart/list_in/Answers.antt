@@ -8,7 +8,7 @@ use Rattle.at_zip.specs.Page as pages
 use Rattle.at_zip.specs.declared.request.Which.{Which}
 use Rattle.at_zip.specs.declared.fault.ZipFault.{ZipFault}
 use Rattle.at_event.specs.Outcomes.{Outcome, takes_memory}
-use Rattle.at_event.specs.declared.event.Report.TheVariants.{Zones}
+use Rattle.at_event.specs.declared.report.Report.TheVariants.{Zones}
 use Rattle.at_node.specs.AtpParts.{AtpState, packet_in, tid_of}
 use Rattle.at_node.specs.RequesterSocket.{AtRequester}
 use Rattle.at_node.specs.ZoneReading.{is_page, is_reading, list_after, names_read}

@@ -3,7 +3,7 @@ use Rattle.at_adsp_end.specs.Positions.{wire}
 use Rattle.at_adsp_ends.specs.Calls.{read_at, unread_at}
 use Rattle.at_adsp_ends.specs.Tables.{by_id}
 use Rattle.at_event.specs.Outcomes.{IsStep}
-use Rattle.at_event.specs.declared.event.Report.TheVariants as report
+use Rattle.at_event.specs.declared.report.Report.TheVariants as report
 use Rattle.at_stream_socket.specs.Calls.{called}
 use Rattle.at_stream_socket.proofs.CallLemmas.{read_fewer}
 use Rattle.at_stream_socket.proofs.socket.StreamSocket.read.Goals as goal

@@ -5,7 +5,7 @@ use Rattle.at_adsp_end.specs.Positions.{wire}
 use Rattle.at_adsp_ends.specs.Calls.{read_at}
 use Rattle.at_adsp_ends.specs.Moves.{IsCalled, read_of}
 use Rattle.at_adsp_ends.specs.Tables.{by_id}
-use Rattle.at_event.specs.declared.event.Report.TheVariants as report
+use Rattle.at_event.specs.declared.report.Report.TheVariants as report
 use Rattle.at_stream_socket.proofs.CallLemmas.{IsBox, call_step, can_read, reported}
 use Rattle.at_stream_socket.proofs.socket.StreamSocket.read_some.Goals as goal
 use Rattle.at_stream_socket.proofs.socket.StreamSocket.read_some.Goals.{in-Ok-read, in-Err}

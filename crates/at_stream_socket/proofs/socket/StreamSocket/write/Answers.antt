@@ -2,7 +2,7 @@ use Rattle.std.proofs.Common.{◌≡◌, ap, refl, sym, ◌∙◌}
 use Rattle.at_adsp_end.specs.Positions.{wire}
 use Rattle.at_adsp_ends.specs.Calls.{wrote}
 use Rattle.at_adsp_ends.specs.Tables.{by_id}
-use Rattle.at_event.specs.declared.event.Report.TheVariants as report
+use Rattle.at_event.specs.declared.report.Report.TheVariants as report
 use Rattle.at_stream_socket.proofs.CallLemmas.{IsBox, call_step, reported}
 use Rattle.at_stream_socket.proofs.socket.StreamSocket.write.Goals as goal
 use Rattle.at_stream_socket.proofs.socket.StreamSocket.write.Goals.{in-Ok, in-Err}

@@ -4,10 +4,10 @@ use Rattle.std.proofs.lemmas.List.{length-set}
 use Rattle.std.specs.Fmt.{digit_glyph}
 use Rattle.at_print.specs.Lines.{pairs}
 use Rattle.at_print.proofs.PrintLemmas.{pairs-next, two_more}
-use Rattle.at_print.proofs.digits.write_block.Goals as goal
+use Rattle.at_print.proofs.digits.digits_of.Goals as goal
 
 pub loop-place-preserved : goal.loop-place-preserved
-loop-place-preserved g c =
+loop-place-preserved c =
     let place = c.loop-place.place in
     let high = c.digit.result in
     let low = c.digit-in-loop-place.result in
