@@ -68,9 +68,7 @@ fn node_of(number: u32) -> u8 {
 }
 
 fn was_sent(log: &Log, arrival: &Arrival) -> bool {
-    log.sent.iter().any(|out| {
-        (0..out.len()).any(|index| out.get(index) == arrival.bytes.as_slice())
-    })
+    log.sent.iter().any(|out| { (0..out.len()).any(|index| out.get(index) == arrival.bytes()) })
 }
 
 #[test]

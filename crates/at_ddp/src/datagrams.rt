@@ -125,8 +125,8 @@ impl<A: Allocator> Datagrams<A> {
         Ok(())
     }
 
-    // Takes all datagrams out, and keeps the room.
-    fn clear(&mut self)
+    /// Takes all datagrams out, and keeps the room.
+    pub fn clear(&mut self)
         ensures { self.new.items ≡ [] }
     {
         self.bytes.clear();

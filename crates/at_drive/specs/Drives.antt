@@ -11,8 +11,8 @@ use Rattle.at_node.specs.Nodes.{NodeState, called, timed}
 use Rattle.at_setup.specs.declared.setup.Setup.{Setup}
 use Rattle.at_world.specs.Plays.{opening_node}
 use Rattle.at_world.specs.Worlds.{Receives, is_numbered}
+use Rattle.at_drive.specs.Arrivals.{Came}
 use Rattle.at_drive.specs.Sendings.{Sends}
-use Rattle.at_drive.specs.declared.log.Arrival.{Arrival}
 use Rattle.at_drive.specs.declared.log.DriveFault.{DriveFault}
 use Rattle.at_drive.specs.declared.log.Log.{Log}
 use Rattle.at_drive.specs.declared.step.Step.{Step}
@@ -21,7 +21,7 @@ use Rattle.at_drive.specs.declared.step.Step.TheVariants as step
 pub record Logged (A : Type 0) : Type 0 where
   pub reports : List (Report A)  -- of each call and timer, and of each poll at which a datagram came
   pub sent : List Datagrams  -- what was sent with each of these reports
-  pub arrived : List (Arrival A)  -- what came, with the place of its poll
+  pub arrived : List Came  -- what came, with the place of its poll
   pub faults : List ℕ  -- the place of the step of each failed call of the cable
 
 pub record Driving (A : Type 0) : Type 0 where
@@ -47,7 +47,7 @@ most_bytes = 600
 
 -- A node takes an input by a step T of its own. Its report is logged, and what it sends is logged and sent.
 pub record Plays {A C : Type 0} (S : C → ℕ → ℕ → List ℕ → Result (Unit {0}) CableFault → C → Type 0) (at k : ℕ)
-    (T : NodeState → List Posted → Report A → NodeState → List Posted → Type 0) (news : List (Arrival A))
+    (T : NodeState → List Posted → Report A → NodeState → List Posted → Type 0) (news : List Came)
     (d : Driving A) (c : C) (d' : Driving A) (c' : C) : Type 0 where
   pub node : NodeState
   pub stands : find (is_numbered k) d.nodes ≡ Some node

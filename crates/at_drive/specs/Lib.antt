@@ -1,3 +1,4 @@
+pub mod Arrivals
 pub mod Drives
 pub mod Logs
 pub mod Sendings

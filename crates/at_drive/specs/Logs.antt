@@ -2,11 +2,11 @@
 use Rattle.std.specs.Prelude.{◌<◌, List, [], ◌∷◌, ◌++◌, Option, Some, None, vec_len, vec_capacity}
 use Rattle.at_ddp.specs.Datagrams.{Datagrams}
 use Rattle.at_event.specs.declared.report.Report.{Report}
+use Rattle.at_drive.specs.Arrivals.{Came}
 use Rattle.at_drive.specs.Drives.{Logged}
-use Rattle.at_drive.specs.declared.log.Arrival.{Arrival}
 use Rattle.at_drive.specs.declared.log.Log.{Log}
 
-abbrev pub news_of : {A : Type 0} → Option (Arrival A) → List (Arrival A)
+abbrev pub news_of : Option Came → List Came
 news_of None = []
 news_of (Some arrival) = arrival ∷ []
 
@@ -16,7 +16,7 @@ HasRoom l =
     (vec_len l.reports < vec_capacity l.reports) × (vec_len l.sent < vec_capacity l.sent)
     × (vec_len l.arrived < vec_capacity l.arrived)
 
-abbrev pub with_report : {A : Type 0} → Logged A → Report A → Datagrams → List (Arrival A) → Logged A
+abbrev pub with_report : {A : Type 0} → Logged A → Report A → Datagrams → List Came → Logged A
 with_report l report out news = record l {
   reports = l.reports ++ report ∷ [];
   sent = l.sent ++ out ∷ [];

@@ -1,6 +1,7 @@
 //! Nodes that are driven over a cable. They take calls, timers and what the cable delivers, and send on it.
 #![tactic(auto)]
 
+mod arrival;
 mod driving;
 mod log;
 mod places;
@@ -8,7 +9,8 @@ mod sending;
 mod step;
 mod stepping;
 
+pub use arrival::Arrival;
 pub use driving::{drive, has_all};
-pub use log::{Arrival, DriveFault, Log};
+pub use log::{DriveFault, Log};
 pub use step::Step;
 pub use stepping::Drive;

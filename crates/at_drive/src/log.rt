@@ -1,19 +1,13 @@
 //! What comes of a drive.
-ghost use Rattle.std.specs.Prelude.{◌≡◌, ◌<◌, ◌++◌, ◌∷◌, [], OnOk, OnErr, IsOk, vec_len, vec_capacity};
+ghost use Rattle.std.specs.Prelude.{◌≡◌, ◌<◌, ◌++◌, ◌∷◌, [], IfOk, OnOk, OnErr, IsOk, vec_len, vec_capacity};
 ghost use Rattle.at_drive.specs.Drives.{logged, no_log};
 ghost use Rattle.at_drive.specs.Logs.{HasRoom, news_of, with_report};
 
-use at_ddp::{Bytes, Datagrams};
+use crate::arrival::Arrival;
+use at_ddp::Datagrams;
 use at_node::Report;
 use std::alloc::{AllocError, Allocator, Global};
-
-/// What came to a node at a poll.
-#[derive(Drop)]
-pub struct Arrival<A: Allocator = Global> {
-    /// The place of the poll among the steps.
-    pub at: usize,
-    pub bytes: Bytes<A>,
-}
+use std::mem;
 
 /// What came of the steps of a drive.
 #[derive(Drop)]
@@ -26,6 +20,9 @@ pub struct Log<A: Allocator = Global> {
     pub arrived: Vec<Arrival<A>, A>,
     /// For each failed call of the cable, the place of its step.
     pub faults: Vec<usize, A>,
+    // What was cleared. The next steps use its room.
+    past_sent: Vec<Datagrams<A>, A>,
+    past_arrived: Vec<Arrival<A>, A>,
 }
 
 /// The drive ran out of memory. This is the place of the step that was not driven, and the log of those before it.
@@ -45,6 +42,41 @@ impl<A: Allocator + Copy> Log<A> {
             sent: Vec::new(alloc),
             arrived: Vec::new(alloc),
             faults: Vec::new(alloc),
+            past_sent: Vec::new(alloc),
+            past_arrived: Vec::new(alloc),
+        }
+    }
+
+    // An empty list for what a step sends, in the room of one that was cleared, if there is one.
+    pub(crate) fn empty_list(&mut self, alloc: A) -> Datagrams<A>
+        ensures list { result.items ≡ [] }
+        ensures log { logged self.new ≡ logged self.old }
+    {
+        match self.past_sent.pop() {
+            None => Datagrams::new(alloc),
+            Some(mut list) => {
+                list.clear();
+                list
+            }
+        }
+    }
+
+    // What came at a poll, in the room of what was cleared, if there is some.
+    pub(crate) fn arrival(
+        &mut self,
+        alloc: A,
+        at: usize,
+        bytes: &[u8],
+    ) -> Result<Arrival<A>, AllocError>
+        ensures arrival { IfOk result (λ a. a ≡ record { at = at; bytes = bytes.now }) }
+        ensures log { logged self.new ≡ logged self.old }
+    {
+        match self.past_arrived.pop() {
+            None => Arrival::new(alloc, at, bytes),
+            Some(mut arrival) => {
+                arrival.replace(at, bytes)?;
+                Ok(arrival)
+            }
         }
     }
 }
@@ -54,6 +86,8 @@ impl<A: Allocator> Log<A> {
     pub(crate) fn clear(&mut self)
         ensures { logged self.new ≡ no_log }
     {
+        mem::swap(&mut self.past_sent, &mut self.sent);
+        mem::swap(&mut self.past_arrived, &mut self.arrived);
         self.reports.clear();
         self.sent.clear();
         self.arrived.clear();

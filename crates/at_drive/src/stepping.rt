@@ -8,12 +8,13 @@ ghost use Rattle.at_drive.specs.Drives.{opening_drive};
 ghost use Rattle.at_drive.specs.Logs.{news_of};
 ghost use Rattle.at_drive.specs.Steps.{node_of, stands_in};
 
-use crate::log::{Arrival, Log};
+use crate::arrival::Arrival;
+use crate::log::Log;
 use crate::places::{has_node, place_among};
 use crate::sending::send_all;
 use crate::step::Step;
 use at_cable::{Cable, CableFault};
-use at_ddp::{Bytes, Datagrams, Received};
+use at_ddp::Received;
 use at_node::{Input, Node};
 use at_setup::Setup;
 use at_world::{opening_nodes, take};
@@ -176,10 +177,7 @@ impl<A: Allocator + Copy> Drive<A> {
         ensures numbers { map number_of self.new.nodes ≡ map number_of self.old.nodes }
         ensures failed { self.new.failed ≡ self.old.failed }
     {
-        let arrival = Arrival {
-            at,
-            bytes: Bytes::copy_of(self.alloc, bytes)?,
-        };
+        let arrival = self.log.arrival(self.alloc, at, bytes)?;
         let received = Received::of(bytes);
         self.play(cable, at, node, &Input::Received(&received), Some(arrival))
     }
@@ -201,9 +199,9 @@ impl<A: Allocator + Copy> Drive<A> {
         ensures numbers { map number_of self.new.nodes ≡ map number_of self.old.nodes }
         ensures failed { self.new.failed ≡ self.old.failed }
     {
+        let mut out = self.log.empty_list(self.alloc);
         self.log.reserve()?;
         let place = place_among(&self.nodes, number);
-        let mut out = Datagrams::new(self.alloc);
         let report = take(&mut self.nodes[place], input, &mut out);
         self.log.faults.reserve(out.len())?;
         send_all(cable, number, &out, at, &mut self.log.faults);

@@ -1,4 +1,13 @@
+use Rattle.std.proofs.Common.{ap, ◌∙◌}
+use Rattle.at_drive.specs.Drives.{Driving, Logged}
 use Rattle.at_drive.proofs.stepping.Drive.arrive.Goals as goal
 
 pub returns-clause-driven : goal.returns-clause-driven
-returns-clause-driven g c = rw (c.of-received.ensures, c.in_ok-copy_of.ensures) at c.play.ensures.driven
+returns-clause-driven g c =
+    let with_log : Logged g.row.A.Denot → Driving g.row.A.Denot = λ l. record {
+      nodes = c.self.inside.nodes.items;
+      log = l;
+      failed = c.self.inside.failed;
+    } in
+    let same = ap with_log c.arrival.ensures.log ∙ c.self.view_is in
+    rw (c.of-received.ensures, c.in_ok-arrival.ensures.arrival, same) at c.play.ensures.driven

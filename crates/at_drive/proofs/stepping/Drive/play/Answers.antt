@@ -27,7 +27,7 @@ pub returns-in_err-reserve-2-clause-stopped : goal.returns-in_err-reserve-2-clau
 returns-in_err-reserve-2-clause-stopped g c =
     on_err c.from_residual-in_err-reserve-2.result _
     (ap (λ f. record (logged {A = g.row.A.Denot} c.reserve.new.self) { faults = f }) c.reserve-2.ensures.items
-    ∙ c.reserve.ensures.log ∙ ap (λ (d : Driving g.row.A.Denot). d.log) c.self.view_is)
+    ∙ c.reserve.ensures.log ∙ c.empty_list-out.ensures.log ∙ ap (λ (d : Driving g.row.A.Denot). d.log) c.self.view_is)
 
 pub returns-in_err-reserve-2-clause-numbers : goal.returns-in_err-reserve-2-clause-numbers
 returns-in_err-reserve-2-clause-numbers g c =
@@ -51,7 +51,7 @@ returns-clause-driven g c =
     let notes : List ℕ = c.send_all.ensures.0 in
     let view = c.self.view_is in
     let before : logged {A = g.row.A.Denot} c.reserve.new.self ≡ c.args.self.now.log = c.reserve.ensures.log
-    ∙ ap (λ (d : Driving g.row.A.Denot). d.log) view in
+    ∙ c.empty_list-out.ensures.log ∙ ap (λ (d : Driving g.row.A.Denot). d.log) view in
     let pushed = c.push.ensures in
     record {
       node = node;
@@ -60,7 +60,7 @@ returns-clause-driven g c =
       report = report;
       after = after;
       out = out;
-      steps = subst (λ l. Takes c.args.input.now node l report after out.items) c.new-out.ensures
+      steps = subst (λ l. Takes c.args.input.now node l report after out.items) c.empty_list-out.ensures.list
           c.take-report.ensures.takes;
       notes = notes;
       sends = c.send_all.ensures.1;

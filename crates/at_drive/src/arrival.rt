@@ -1,0 +1,52 @@
+//! What came to a node at a poll.
+ghost use Rattle.std.specs.Prelude.{◌≡◌, IfOk, OnOk};
+
+use std::alloc::{AllocError, Allocator, Global};
+use std::marker::Model;
+
+/// What came to a node at a poll.
+#[derive(Drop)]
+pub struct Arrival<A: Allocator = Global> {
+    at: usize,
+    bytes: Vec<u8, A>,
+}
+
+impl<A: Allocator> Model for Arrival<A> {
+    ghost use Rattle.at_drive.specs.Arrivals.{Came};
+
+    ghost Value = { Came };
+
+    ghost view = { λ a. record { at = a.at; bytes = a.bytes.items } };
+}
+
+impl<A: Allocator> Arrival<A> {
+    pub(crate) fn new(alloc: A, at: usize, bytes: &[u8]) -> Result<Arrival<A>, AllocError>
+        ensures { IfOk result (λ a. a ≡ record { at = at; bytes = bytes.now }) }
+    {
+        let bytes = Vec::from_slice(alloc, bytes)?;
+        Ok(Arrival { at, bytes })
+    }
+
+    /// The place of the poll among the steps.
+    pub fn at(&self) -> usize
+        ensures { result ≡ self.now.at }
+    {
+        self.at
+    }
+
+    /// The bytes that came.
+    pub fn bytes(&self) -> &[u8]
+        ensures { result.now ≡ self.now.bytes }
+    {
+        &self.bytes
+    }
+
+    // Holds what came at another poll, in the room of what came at this one.
+    pub(crate) fn replace(&mut self, at: usize, bytes: &[u8]) -> Result<(), AllocError>
+        ensures { OnOk result (self.new ≡ record { at = at; bytes = bytes.now }) }
+    {
+        self.at = at;
+        self.bytes.clear();
+        self.bytes.extend_from_slice(bytes)
+    }
+}
