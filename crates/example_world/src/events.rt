@@ -12,8 +12,26 @@ const SERVER: u8 = 7;
 /// The number of the transaction: a node numbers its transactions from 0.
 const TID: u16 = 0;
 
-/// Node 5 asks. A node asks from socket 128, and its service has socket 129.
-pub(crate) fn ask(alloc: Global) -> Result<Event, AllocError> {
+/// All events, in their order. They stand in one list, since the end of a list is proved sooner than eight ends.
+pub(crate) fn all_events(alloc: Global) -> Result<Vec<Event>, AllocError> {
+    let mut events = Vec::new(alloc);
+    // The request is datagram 0. It is never delivered, so it is lost.
+    events.push(ask(alloc)?)?;
+    // The retry sends datagram 1, and the answer to it is datagram 2.
+    events.push(retry())?;
+    events.push(deliver(1, SERVER))?;
+    events.push(answer(alloc)?)?;
+    // Datagram 2 takes so long that the client asks again, by datagram 3. The response to it, datagram 4, is faster.
+    events.push(retry())?;
+    events.push(deliver(3, SERVER))?;
+    events.push(deliver(4, CLIENT))?;
+    // Datagram 2 comes late: the transaction has ended.
+    events.push(deliver(2, CLIENT))?;
+    Ok(events)
+}
+
+// Node 5 asks. A node asks from socket 128, and its service has socket 129.
+fn ask(alloc: Global) -> Result<Event, AllocError> {
     let call = Call::Ask {
         node: SERVER,
         socket: 129,
@@ -26,8 +44,8 @@ pub(crate) fn ask(alloc: Global) -> Result<Event, AllocError> {
     Ok(Event::Call { node: CLIENT, call })
 }
 
-/// Node 7 answers the request.
-pub(crate) fn answer(alloc: Global) -> Result<Event, AllocError> {
+// Node 7 answers the request.
+fn answer(alloc: Global) -> Result<Event, AllocError> {
     let mut packets = Vec::new(alloc);
     packets.push(Packet::new([0; 4], Bytes::copy_of(alloc, b"noon")?))?;
     let call = Call::Answer {
@@ -39,15 +57,15 @@ pub(crate) fn answer(alloc: Global) -> Result<Event, AllocError> {
     Ok(Event::Call { node: SERVER, call })
 }
 
-/// Node 5's timer fires, as no answer has come.
-pub(crate) fn retry() -> Event {
+// Node 5's timer fires, as no answer has come.
+fn retry() -> Event {
     Event::Timer {
         node: CLIENT,
         timer: Timer::Retry { tid: TID },
     }
 }
 
-/// The datagram of this number comes to a node. Datagrams are numbered from 0, in the order in which they were sent.
-pub(crate) fn deliver(which: u64, node: u8) -> Event {
+// The datagram of this number comes to a node. Datagrams are numbered from 0, in the order in which they were sent.
+fn deliver(which: u64, node: u8) -> Event {
     Event::Deliver { which, node }
 }

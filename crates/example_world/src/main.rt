@@ -6,7 +6,7 @@ mod telling;
 
 use at_ddp::Listed;
 use at_world::{Event, NodeSetup, Setup, World};
-use events::{answer, ask, deliver, retry};
+use events::all_events;
 use std::alloc::{AllocError, Global};
 use std::io;
 use telling::tell;
@@ -14,18 +14,11 @@ use telling::tell;
 fn main(rt: HostRuntime) -> io::Result<()> {
     let setup = two_nodes(rt.alloc())?;
     let mut world = World::open(rt.alloc(), &setup)?;
-    // The request is datagram 0. It is never delivered, so it is lost.
-    step(&rt, &mut world, &ask(rt.alloc())?)?;
-    // The retry sends datagram 1, and the answer to it is datagram 2.
-    step(&rt, &mut world, &retry())?;
-    step(&rt, &mut world, &deliver(1, 7))?;
-    step(&rt, &mut world, &answer(rt.alloc())?)?;
-    // Datagram 2 takes so long that the client asks again, by datagram 3. The response to it, datagram 4, is faster.
-    step(&rt, &mut world, &retry())?;
-    step(&rt, &mut world, &deliver(3, 7))?;
-    step(&rt, &mut world, &deliver(4, 5))?;
-    // Datagram 2 comes late: the transaction has ended.
-    step(&rt, &mut world, &deliver(2, 5))
+    let events = all_events(rt.alloc())?;
+    for event in events.as_slice() {
+        step(&rt, &mut world, event)?;
+    }
+    Ok(())
 }
 
 // Plays an event, and prints what came of it.
