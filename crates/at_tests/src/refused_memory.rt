@@ -1,7 +1,7 @@
 //! Plays of which one request for memory is refused, each in turn.
 use crate::connections::{OPENING, OPENING_PLAYED, STREAM, STREAM_PLAYED};
 use crate::forged::{FORGED, FORGED_PLAYED};
-use crate::lookups::{FOUND, FOUND_PLAYED};
+use crate::lookups::{FOUND, FOUND_PLAYED, TAKEN, TAKEN_PLAYED};
 use crate::session::{SESSION, SESSION_PLAYED};
 use crate::zone_pages::{PAGES, PAGES_PLAYED};
 use at_diagnostics::Diagnostics;
@@ -101,8 +101,9 @@ fn is_refused_in(rt: &impl Abort, alloc: Global, text: &[u8], whole: &[u8], gran
 }
 
 // Schedules, what is printed of each, and how many requests for memory it makes at least.
-static PLAYS: [(&str, &str, u64); 6] = [
+static PLAYS: [(&str, &str, u64); 7] = [
     (FOUND, FOUND_PLAYED, 20),
+    (TAKEN, TAKEN_PLAYED, 20),
     (PAGES, PAGES_PLAYED, 20),
     (SESSION, SESSION_PLAYED, 50),
     (STREAM, STREAM_PLAYED, 50),
