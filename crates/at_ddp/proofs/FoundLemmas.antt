@@ -1,5 +1,6 @@
 -- What a table lends at the place that was found.
-use Rattle.std.proofs.Common.{◌≡◌, ℕ, zero, suc, Bool, List, [], ◌∷◌, set, slice_get, Result, Ok, Err, Some, ap, sym, ◌∙◌}
+use Rattle.std.proofs.Common.{◌≡◌, ℕ, zero, suc, Bool, List, [], ◌∷◌, set, slice_get, Result, Ok, Err, Some, ap, sym}
+use Rattle.std.proofs.Common.{◌∙◌}
 use Rattle.std.specs.Prelude.{OnErr}
 use Rattle.std.proofs.lemmas.Option.{get_or_from_slice_get}
 use Rattle.at_ddp.proofs.TableLemmas.{Found}

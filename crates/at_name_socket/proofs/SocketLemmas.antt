@@ -79,6 +79,11 @@ claiming s id index at some = go (search_of s.lookups id) refl some
           is_search = e;
         }
 
+-- the claim that is lent at its place
+pub claim_is : (s t : SocketState) (id index : ℕ) (e : Claiming s id index) (claim : Claim)
+    → claim ≡ get_or t.claims index claim → t ≡ s → claim ≡ e.claim
+claim_is s t id index e claim lent same = lent ∙ ap (λ (u : SocketState). get_or u.claims index claim) same ∙ e.at claim
+
 -- the fault of the claim, with who has its name
 pub fault_is : (s : SocketState) (id index : ℕ) (c : Claiming s id index) → finish_fault s id
     ≡ claim_fault s c.claim (taker s (c.search).finds c.claim)

@@ -1,4 +1,4 @@
-//! Who has a name that another asks for. It stands apart from what holds it, which stays small.
+//! Who has a name that was claimed. It stands apart from what holds it, which stays small.
 ghost use Rattle.std.specs.Prelude.{◌≡◌, IfOk};
 
 use crate::find::Find;

@@ -1,6 +1,6 @@
 -- The page that makes the next one be asked for: by the transaction that it ends, and by what its packet does.
-use Rattle.std.proofs.Common.{◌≡◌, ◌⊎◌, ℕ, ◌+◌, Bool, true, false, cond, List, length, Option, Some, None, refl, sym, ap}
-use Rattle.std.proofs.Common.{inl, inr, subst, ◌∙◌, ◌++◌}
+use Rattle.std.proofs.Common.{◌≡◌, ◌⊎◌, ℕ, ◌+◌, Bool, true, false, cond, List, length, Option, Some, None, refl, sym}
+use Rattle.std.proofs.Common.{ap, inl, inr, subst, ◌∙◌, ◌++◌}
 use Rattle.std.specs.Prelude.{nat_lt, find, is_some}
 use Rattle.std.proofs.lemmas.Bool.{and_parts, eq-eqb, eqb-true, false≢true, le-ltb, ltb-false, not-true}
 use Rattle.at_ddp.specs.Tables.{replaced, without_first}
@@ -211,7 +211,8 @@ module _ (A : Type 0) (s : Seat) (a : AtpState) (from : Address) (f : Content) w
   begins_or_not o at = go (is_page A a from f) refl
     where
       taken : (p : pages.Page) (long last : Bool) → nat_lt 1024 (length (names_read a.reading) + length p.names) ≡ long
-          → p.last ≡ last → TakesPage s a (heard {A = A} a.requester from f) from (names_read a.reading) p o → BeginsOrNot o
+          → p.last ≡ last → TakesPage s a (heard {A = A} a.requester from f) from (names_read a.reading) p o
+          → BeginsOrNot o
       taken p true last e g t = inl (ap (λ (x : Outcome A AtpState). drawn_by x.report) (rw e at t))
       taken p false true e g t = inl (ap (λ (x : Outcome A AtpState). drawn_by x.report) (rw (e, g) at t))
       taken p false false e g t =

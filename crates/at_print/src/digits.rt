@@ -44,7 +44,7 @@ fn write_block<W: Paper>(printer: &mut Printer<W>, block: &[u8])
     printer.write_all(&digits[..2 * block.len()]);
 }
 
-/// The digits of a block, and then zeros. It is short, so that its digits are put side by side before they are used.
+/// The digits of a block, and then zeros. A block is short, so its digits are put side by side before they are used.
 pub(crate) fn digits_of(block: &[u8]) -> [u8; BLOCK_DIGITS]
     requires { length block.now ≤ BLOCK }
     ensures { take (2 * length block.now) result ≡ pairs block.now }

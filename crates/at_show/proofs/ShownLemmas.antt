@@ -1,6 +1,6 @@
 -- Words and bytes that are shown, if a reading of them is known.
-use Rattle.std.proofs.Common.{arith, ◌≡◌, ◌⊎◌, ◌<◌, ◌≤◌, ◌/◌, ◌∷◌, [], List, ℕ, Ok, length, refl, sym, ◌∙◌, ap, subst, inl}
-use Rattle.std.proofs.Common.{inr}
+use Rattle.std.proofs.Common.{arith, ◌≡◌, ◌⊎◌, ◌<◌, ◌≤◌, ◌/◌, ◌∷◌, [], List, ℕ, Ok, length, refl, sym, ◌∙◌, ap, subst}
+use Rattle.std.proofs.Common.{inl, inr}
 use Rattle.std.specs.Prelude.{Option}
 use Rattle.at_ddp.specs.Datagram.{Content, BeginsWith}
 use Rattle.at_diagnostics.specs.Diagnostics.{TellsLine}

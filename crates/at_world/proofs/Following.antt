@@ -31,7 +31,8 @@ follows_more A w es i e rs mid r w' within is h fine plays =
 
 -- if the world's step did not play an event, the play stops there
 pub stops : (A : Type 0) (w : WorldState) (es : List (Event A)) (i : ℕ) (e : Event A) (f : Fault) (w' : WorldState)
-    → w.failed ≡ false → i < length es → e ≡ get_or es i e → IsFault w e f w' → StopsAt w (slice_get es i) f i × (w'.sent ≡ w.sent)
+    → w.failed ≡ false → i < length es → e ≡ get_or es i e → IsFault w e f w'
+    → StopsAt w (slice_get es i) f i × (w'.sent ≡ w.sent)
 stops A w es i e (Refused r) w' whole within is h = (
   subst (λ o. IsRefused w o r) (sym (slice_get-get_or es i e within ∙ ap (λ x. Some x) (sym is))) h.0,
   ap

@@ -122,7 +122,8 @@ module _ (net : ℕ) (t : EndTable) (h : AllByRecursion (λ (e : EndState). e.as
         go true = moved_kept (step.Closed e.id) (closing N e).after (closing N e).sent (found_on (has_id id) e is)
         go false = freed_kept (step.Freed e.id) e
 
-    pub wrote_kept : (items : List Item) (id : ℕ) (o : Option EndState) → by_id t id ≡ o → KeptAny net (wrote N t items o)
+    pub wrote_kept : (items : List Item) (id : ℕ) (o : Option EndState) → by_id t id ≡ o
+        → KeptAny net (wrote N t items o)
     wrote_kept items id None is = tt
     wrote_kept items id (Some e) is = go (is_open e.phase) (finds_no_room e items)
       where

@@ -21,7 +21,8 @@ use Rattle.at_adsp.specs.Network.{Strange, Takes, Ticks, Writes, after, calls_wi
 use Rattle.at_adsp.specs.Network.{wrote_first}
 use Rattle.at_adsp.specs.Streams.{Deed, Nothing, Read}
 use Rattle.at_steps.specs.StreamHappenings.{IsHere, is_streams_socket}
-use Rattle.at_steps.proofs.Streams.OnNet.{Kept, KeptAny, connected_kept, closed_kept, wrote_kept, read_kept, reset_kept, ticked_kept, part_kept}
+use Rattle.at_steps.proofs.Streams.OnNet.{Kept, KeptAny, connected_kept, closed_kept, wrote_kept, read_kept, reset_kept}
+use Rattle.at_steps.proofs.Streams.OnNet.{ticked_kept, part_kept}
 
 pub record IsOn (net : ℕ) (s : Sent) : Type 0 where
   pub from : s.from.net ≡ net

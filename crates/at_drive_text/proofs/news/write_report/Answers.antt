@@ -8,5 +8,5 @@ use Rattle.at_drive_text.proofs.news.write_report.Goals as goal
 pub returns-in-None : goal.returns-in-None
 returns-in-None g c =
     let none = slice_get_past c.args.reports.now c.args.place c.in-None.ensures.lookup.3 in
-    subst (λ found. Prints g.W.Paper.page c.args.printer.now c.args.printer.now (report_part c.args.at found)) (sym none)
-    (Prints-nothing g.W.Paper.page c.args.printer.now)
+    subst (λ found. Prints g.W.Paper.page c.args.printer.now c.args.printer.now (report_part c.args.at found))
+    (sym none) (Prints-nothing g.W.Paper.page c.args.printer.now)

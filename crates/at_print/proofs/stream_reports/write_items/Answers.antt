@@ -13,7 +13,8 @@ loop-rest-preserved g c =
     let after = items_text c.starts_with_byte-follows_byte.result c.split_at.result.1.now in
     let next : c.starts_with_byte-follows_byte.result ≡ starts_with_byte c.loop-rest.rest.now =
     c.starts_with_byte-follows_byte.ensures in
-    let back : c.split_at.result.1.now ≡ drop c.write_front-count.result c.loop-rest.rest.now = c.split_at.ensures.back in
+    let back : c.split_at.result.1.now ≡ drop c.write_front-count.result c.loop-rest.rest.now =
+    c.split_at.ensures.back in
     let parts : left ≡ front.0 ++ after = front.2
     ∙ (λ i. front.0 ++ items_text (sym next i) (sym back i)) in
     text_more g.W.Paper.page c.args.printer.now c.loop-rest.printer c.write_front-count.new.printer

@@ -49,8 +49,8 @@ returns-clause-printed g c = elim c.match-bytes_of.branch [
 pub returns-clause-told : goal.returns-clause-told
 returns-clause-told g c = elim c.match-bytes_of.branch [
   | in-Ok w ↦
-      rw w.diagnostics-is (told_in g.E.Paper.page w.show_bytes-status.result c.args.diagnostics.now w.show_bytes-status.new.diagnostics
-      (Shows c.args.word.now) (λ done. record {
+      rw w.diagnostics-is (told_in g.E.Paper.page w.show_bytes-status.result c.args.diagnostics.now
+      w.show_bytes-status.new.diagnostics (Shows c.args.word.now) (λ done. record {
         bytes = c.bytes_of.new.room.items;
         written = w.in-Ok.ensures.found;
         sound = subst IsSound w.as_slice.ensures.value (w.show_bytes-status.ensures.done.0 done);

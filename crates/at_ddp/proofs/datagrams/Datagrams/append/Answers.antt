@@ -9,7 +9,8 @@ pub push_marks-requires-clause-fits : goal.push_marks-requires-clause-fits
 push_marks-requires-clause-fits g c k d lt =
     let within : (get_or c.deref.result.now k d).end ≤ length c.other.inside.bytes.items = mark_within 0
     c.deref.result.now (length c.other.inside.bytes.items) k d
-    (subst (λ ms. AreMarks 0 ms (length c.other.inside.bytes.items)) (sym c.deref.ensures.value) c.other.invariant) lt in
+    (subst (λ ms. AreMarks 0 ms (length c.other.inside.bytes.items)) (sym c.deref.ensures.value) c.other.invariant)
+    lt in
     omega (
       arith,
       within,

@@ -5,7 +5,7 @@ use Rattle.at_name_socket.specs.NameSockets.{SocketState}
 use Rattle.at_name_socket.specs.declared.claim.Claim.{Claim}
 use Rattle.at_name_socket.specs.declared.step.Finished.{Finished}
 use Rattle.at_nbp.specs.declared.fault.NbpFault.{NbpFault}
-use Rattle.at_name_socket.proofs.SocketLemmas.{claimed_ends, claiming, no_fault, register_is, same_fault}
+use Rattle.at_name_socket.proofs.SocketLemmas.{claim_is, claimed_ends, claiming, no_fault, register_is, same_fault}
 use Rattle.at_name_socket.proofs.SocketLemmas.{taken_ends, taken_has_no_fault, taker_is}
 use Rattle.at_name_socket.proofs.socket.NameSocket.end_claim.Goals as goal
 
@@ -17,9 +17,7 @@ index-requires g c =
 pub taker-requires : goal.taker-requires
 taker-requires g c =
     let e = claiming c.args.self.now c.args.id c.args.index c.requires.claim c.requires.open in
-    let claim : c.index.result.now ≡ e.claim = c.index.ensures
-    ∙ ap (λ (s : SocketState). get_or s.claims c.args.index c.index.result.now) c.self.view_is
-    ∙ e.at c.index.result.now in
+    let claim = claim_is _ _ c.args.id c.args.index e c.index.result.now c.index.ensures c.self.view_is in
     c.requires.count ∙ ap (λ (k : ℕ). length (finds_in (search_of c.args.self.now.lookups k)))
     (sym (ap (λ (x : Claim). x.id) claim ∙ e.numbered))
 
@@ -32,9 +30,7 @@ pub returns-in-Some-clause-ok : goal.returns-in-Some-clause-ok
 returns-in-Some-clause-ok g c =
     let s = c.args.self.now in
     let e = claiming s c.args.id c.args.index c.requires.claim c.requires.open in
-    let claim : c.index.result.now ≡ e.claim = c.index.ensures
-    ∙ ap (λ (t : SocketState). get_or t.claims c.args.index c.index.result.now) c.self.view_is
-    ∙ e.at c.index.result.now in
+    let claim = claim_is _ _ c.args.id c.args.index e c.index.result.now c.index.ensures c.self.view_is in
     let takes = sym (taker_is s c.args.id c.args.index e c.index.result.now claim) ∙ sym c.taker.ensures
     ∙ c.in-Some.is ∙ ap Some (sym c.in_ok-owner.ensures) in
     taken_ends g.row.A.Denot s c.close.new.self c.args.id c.args.index e c.in_ok-owner.owner takes c.close.ensures
@@ -43,9 +39,7 @@ pub returns-in-Some-clause-refuses : goal.returns-in-Some-clause-refuses
 returns-in-Some-clause-refuses g c =
     let s = c.args.self.now in
     let e = claiming s c.args.id c.args.index c.requires.claim c.requires.open in
-    let claim : c.index.result.now ≡ e.claim = c.index.ensures
-    ∙ ap (λ (t : SocketState). get_or t.claims c.args.index c.index.result.now) c.self.view_is
-    ∙ e.at c.index.result.now in
+    let claim = claim_is _ _ c.args.id c.args.index e c.index.result.now c.index.ensures c.self.view_is in
     let takes = sym (taker_is s c.args.id c.args.index e c.index.result.now claim) ∙ sym c.taker.ensures
     ∙ c.in-Some.is in
     rw (taken_has_no_fault s c.args.id c.args.index e c.in-Some.find takes) tt
@@ -54,9 +48,7 @@ pub returns-in_err-owner-clause-refuses : goal.returns-in_err-owner-clause-refus
 returns-in_err-owner-clause-refuses g c =
     let s = c.args.self.now in
     let e = claiming s c.args.id c.args.index c.requires.claim c.requires.open in
-    let claim : c.index.result.now ≡ e.claim = c.index.ensures
-    ∙ ap (λ (t : SocketState). get_or t.claims c.args.index c.index.result.now) c.self.view_is
-    ∙ e.at c.index.result.now in
+    let claim = claim_is _ _ c.args.id c.args.index e c.index.result.now c.index.ensures c.self.view_is in
     let takes = sym (taker_is s c.args.id c.args.index e c.index.result.now claim) ∙ sym c.taker.ensures
     ∙ c.in-Some.is in
     rw (taken_has_no_fault s c.args.id c.args.index e c.in-Some.find takes) tt
@@ -65,12 +57,8 @@ pub returns-in-Err-clause-refuses : goal.returns-in-Err-clause-refuses
 returns-in-Err-clause-refuses g c =
     let s = c.args.self.now in
     let e = claiming s c.args.id c.args.index c.requires.claim c.requires.open in
-    let claim : c.index.result.now ≡ e.claim = c.index.ensures
-    ∙ ap (λ (t : SocketState). get_or t.claims c.args.index c.index.result.now) c.self.view_is
-    ∙ e.at c.index.result.now in
-    let again : c.index-claim.result.now ≡ e.claim = c.index-claim.ensures
-    ∙ ap (λ (t : SocketState). get_or t.claims c.args.index c.index-claim.result.now) c.self.view_is
-    ∙ e.at c.index-claim.result.now in
+    let claim = claim_is _ _ c.args.id c.args.index e c.index.result.now c.index.ensures c.self.view_is in
+    let again = claim_is _ _ c.args.id c.args.index e c.index-claim.result.now c.index-claim.ensures c.self.view_is in
     let none = sym (taker_is s c.args.id c.args.index e c.index.result.now claim) ∙ sym c.taker.ensures
     ∙ c.in_default.is in
     let fault = register_is s c.args.id c.args.index e c.index-claim.result.now c.copy_of-object.result
@@ -83,12 +71,8 @@ pub returns-in-Err-clause-memory : goal.returns-in-Err-clause-memory
 returns-in-Err-clause-memory g c =
     let s = c.args.self.now in
     let e = claiming s c.args.id c.args.index c.requires.claim c.requires.open in
-    let claim : c.index.result.now ≡ e.claim = c.index.ensures
-    ∙ ap (λ (t : SocketState). get_or t.claims c.args.index c.index.result.now) c.self.view_is
-    ∙ e.at c.index.result.now in
-    let again : c.index-claim.result.now ≡ e.claim = c.index-claim.ensures
-    ∙ ap (λ (t : SocketState). get_or t.claims c.args.index c.index-claim.result.now) c.self.view_is
-    ∙ e.at c.index-claim.result.now in
+    let claim = claim_is _ _ c.args.id c.args.index e c.index.result.now c.index.ensures c.self.view_is in
+    let again = claim_is _ _ c.args.id c.args.index e c.index-claim.result.now c.index-claim.ensures c.self.view_is in
     let none = sym (taker_is s c.args.id c.args.index e c.index.result.now claim) ∙ sym c.taker.ensures
     ∙ c.in_default.is in
     let fault = register_is s c.args.id c.args.index e c.index-claim.result.now c.copy_of-object.result
@@ -99,12 +83,8 @@ pub returns-in-Ok-clause-ok : goal.returns-in-Ok-clause-ok
 returns-in-Ok-clause-ok g c =
     let s = c.args.self.now in
     let e = claiming s c.args.id c.args.index c.requires.claim c.requires.open in
-    let claim : c.index.result.now ≡ e.claim = c.index.ensures
-    ∙ ap (λ (t : SocketState). get_or t.claims c.args.index c.index.result.now) c.self.view_is
-    ∙ e.at c.index.result.now in
-    let again : c.index-claim.result.now ≡ e.claim = c.index-claim.ensures
-    ∙ ap (λ (t : SocketState). get_or t.claims c.args.index c.index-claim.result.now) c.self.view_is
-    ∙ e.at c.index-claim.result.now in
+    let claim = claim_is _ _ c.args.id c.args.index e c.index.result.now c.index.ensures c.self.view_is in
+    let again = claim_is _ _ c.args.id c.args.index e c.index-claim.result.now c.index-claim.ensures c.self.view_is in
     let none = sym (taker_is s c.args.id c.args.index e c.index.result.now claim) ∙ sym c.taker.ensures
     ∙ c.in_default.is in
     claimed_ends g.row.A.Denot s c.register.new.self c.close-in-Ok.new.self c.args.id c.args.index e
@@ -115,12 +95,8 @@ pub returns-in-Ok-clause-refuses : goal.returns-in-Ok-clause-refuses
 returns-in-Ok-clause-refuses g c =
     let s = c.args.self.now in
     let e = claiming s c.args.id c.args.index c.requires.claim c.requires.open in
-    let claim : c.index.result.now ≡ e.claim = c.index.ensures
-    ∙ ap (λ (t : SocketState). get_or t.claims c.args.index c.index.result.now) c.self.view_is
-    ∙ e.at c.index.result.now in
-    let again : c.index-claim.result.now ≡ e.claim = c.index-claim.ensures
-    ∙ ap (λ (t : SocketState). get_or t.claims c.args.index c.index-claim.result.now) c.self.view_is
-    ∙ e.at c.index-claim.result.now in
+    let claim = claim_is _ _ c.args.id c.args.index e c.index.result.now c.index.ensures c.self.view_is in
+    let again = claim_is _ _ c.args.id c.args.index e c.index-claim.result.now c.index-claim.ensures c.self.view_is in
     let none = sym (taker_is s c.args.id c.args.index e c.index.result.now claim) ∙ sym c.taker.ensures
     ∙ c.in_default.is in
     let fault = register_is s c.args.id c.args.index e c.index-claim.result.now c.copy_of-object.result

@@ -36,7 +36,8 @@ pub returns-then-draws_held-clause-not_played : goal.returns-then-draws_held-cla
 returns-then-draws_held-clause-not_played g c =
     let f = stands_there g (goal.at.returns-then-draws_held-clause-not_played g c).In-Some in
     let same = ap (λ (w : WorldState). w.nodes) c.self.view_is in
-    let stands = node_stands c.args.self.now c.args.node c.self.inside.nodes.items c.in-Some.place f.entry same f refl in (
+    let stands = node_stands c.args.self.now c.args.node c.self.inside.nodes.items c.in-Some.place f.entry same f
+    refl in (
       one_stands c.args.self.now c.args.node f.entry stands,
       some_held g.row.A.Denot c.args.self.now c.args.node c.args.input.now c.deref-2.result.now
           (c.deref-2.ensures.value ∙ same) (c.draws_held.ensures.held c.if-draws_held.true),
@@ -93,7 +94,8 @@ pub returns-clause-not_played : goal.returns-clause-not_played
 returns-clause-not_played g c =
     let f = stands_there g (goal.at.returns-clause-not_played g c).In-Some in
     let same = ap (λ (w : WorldState). w.nodes) c.self.view_is in
-    let stands = node_stands c.args.self.now c.args.node c.self.inside.nodes.items c.in-Some.place f.entry same f refl in
+    let stands = node_stands c.args.self.now c.args.node c.self.inside.nodes.items c.in-Some.place f.entry same f
+    refl in
     not_taken g.row.A.Denot c.args.self.now c.finish.new.self c.args.node c.args.input.now c.self.inside.sent
     c.finish.result (ap (λ (w : WorldState). w.sent) c.self.view_is)
     (one_stands c.args.self.now c.args.node f.entry stands)
