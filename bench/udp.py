@@ -4,17 +4,21 @@
 ATNODE and BENCH are the programs that the crates `atnode` and `bench` build. A node asks its router for the zone list,
 over and over, and each of them polls once for what the other sent. `bench udp` drives the nodes and no more. `atnode
 udp` reads each step as a line of text too, and prints what came of it. Beside them a loop in C sends and receives
-payloads of the same sizes between two such sockets, in one process and with nothing around it. All three run five times
-in turn, and the fastest of each counts. `cc` has to be there.
+payloads of the same sizes between two such sockets, in one process and with nothing around it. All three run in turn,
+over and over, each for a short time. Of the datagrams a second the fastest run counts. What part of the loop a program
+does is told by the middle turn, since a machine that others use too is twice as slow for seconds at a time. `cc` has to
+be there.
 """
 
 import pathlib
+import statistics
 import subprocess
 import sys
 import tempfile
 import time
 
-ROUNDS = 100_000
+ROUNDS = 25_000
+TURNS = 25
 FIRST = 47_200
 SCHEDULE = f"net 10\nport {FIRST}\nnode 1 router zone Lab\nnode 5 zone Lab\nzones Lab Office\n"
 ROUND = "call 5 zones\npoll 1\npoll 5\n"
@@ -79,7 +83,7 @@ with tempfile.TemporaryDirectory() as folder:
     idle = played.count(" idle\n")
     print(f"bench udp: {driven.strip()}")
     print(f"atnode udp: idle {idle}")
-    runs = [[seconds_of(command) for command in kinds.values()] for _ in range(5)]
-    best = [min(seconds) for seconds in zip(*runs)]
-    for kind, seconds in zip(kinds, best):
-        print(f"{kind}: {ROUNDS * 2 / seconds:,.0f} datagrams a second, {best[0] / seconds:.2f} of the bare sockets")
+    runs = [[seconds_of(command) for command in kinds.values()] for _ in range(TURNS)]
+    for kind, seconds in zip(kinds, zip(*runs)):
+        part = statistics.median(bare / taken for (bare, *_), taken in zip(runs, seconds))
+        print(f"{kind}: {ROUNDS * 2 / min(seconds):,.0f} datagrams a second, {part:.2f} of the bare sockets")
