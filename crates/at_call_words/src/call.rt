@@ -1,5 +1,5 @@
 //! A call, as words.
-ghost use Rattle.std.specs.Prelude.{codes};
+ghost use Rattle.std.specs.Prelude.{◌≡◌, codes, IfErr};
 ghost use Rattle.at_call_words.specs.Calls.{AreCall, SaysCall, list_word};
 ghost use Rattle.at_call_words.specs.Readings.{IsFoundInMemory};
 ghost use Rattle.at_words.specs.Words.{words_of};
@@ -94,7 +94,8 @@ fn said_by<A: Allocator + Copy>(
 }
 
 fn zones<A: Allocator>(which: Which, rule: Rule, words: Words<'_>) -> Result<Call<A>, LineFault>
-    ensures { IsFoundInMemory result (SaysCall (list_word which) (words_of words.entry.rest.now)) }
+    ensures said { IsFoundInMemory result (SaysCall (list_word which) (words_of words.entry.rest.now)) }
+    ensures rule { IfErr result (λ fault. fault ≡ LineFault.Unlawful rule) }
 {
     words.end().ok_or(LineFault::Unlawful(rule))?;
     Ok(Call::Zones { which })
