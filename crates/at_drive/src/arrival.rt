@@ -1,5 +1,5 @@
 //! What came to a node at a poll.
-ghost use Rattle.std.specs.Prelude.{◌≡◌, IfOk, OnOk};
+ghost use Rattle.std.specs.Prelude.{◌≡◌, IfOk};
 
 use std::alloc::{AllocError, Allocator, Global};
 use std::marker::Model;
@@ -41,12 +41,13 @@ impl<A: Allocator> Arrival<A> {
         &self.bytes
     }
 
-    // Holds what came at another poll, in the room of what came at this one.
-    pub(crate) fn replace(&mut self, at: usize, bytes: &[u8]) -> Result<(), AllocError>
-        ensures { OnOk result (self.new ≡ record { at = at; bytes = bytes.now }) }
+    // What came at another poll, in the room of what came at this one, which is dropped if memory runs out.
+    pub(crate) fn replaced(self, at: usize, bytes: &[u8]) -> Result<Arrival<A>, AllocError>
+        ensures { IfOk result (λ a. a ≡ record { at = at; bytes = bytes.now }) }
     {
-        self.at = at;
-        self.bytes.clear();
-        self.bytes.extend_from_slice(bytes)
+        let mut room = self.bytes;
+        room.clear();
+        room.extend_from_slice(bytes)?;
+        Ok(Arrival { at, bytes: room })
     }
 }

@@ -73,10 +73,7 @@ impl<A: Allocator + Copy> Log<A> {
     {
         match self.past_arrived.pop() {
             None => Arrival::new(alloc, at, bytes),
-            Some(mut arrival) => {
-                arrival.replace(at, bytes)?;
-                Ok(arrival)
-            }
+            Some(arrival) => arrival.replaced(at, bytes),
         }
     }
 }
