@@ -5,11 +5,12 @@ ATNODE and BENCH are the programs that the crates `atnode` and `bench` build. A 
 over and over, and each of them polls once for what the other sent. `bench udp` drives the nodes and no more. `atnode
 udp` reads each step as a line of text too, and prints what came of it. Beside them a loop in C sends and receives
 payloads of the same sizes between two such sockets, in one process and with nothing around it. All three run in turn,
-over and over, each for a short time. Of the datagrams a second the fastest run counts. What part of the loop a program
-does is told by the middle turn, since a machine that others use too is twice as slow for seconds at a time. `cc` has to
-be there.
+over and over, each for a short time and on the same processor, since those of a machine that others use too differ. The
+fastest turn of each counts. Beside it stands what part of the loop a program did in the middle turn. `cc` has to be
+there.
 """
 
+import os
 import pathlib
 import statistics
 import subprocess
@@ -68,6 +69,7 @@ def seconds_of(command):
     return time.perf_counter() - begun
 
 
+os.sched_setaffinity(0, {min(os.sched_getaffinity(0))})
 with tempfile.TemporaryDirectory() as folder:
     atnode, bench = sys.argv[1:]
     bare, source, schedule = (pathlib.Path(folder) / name for name in ("bare", "bare.c", "schedule.txt"))
@@ -84,6 +86,8 @@ with tempfile.TemporaryDirectory() as folder:
     print(f"bench udp: {driven.strip()}")
     print(f"atnode udp: idle {idle}")
     runs = [[seconds_of(command) for command in kinds.values()] for _ in range(TURNS)]
-    for kind, seconds in zip(kinds, zip(*runs)):
-        part = statistics.median(bare / taken for (bare, *_), taken in zip(runs, seconds))
-        print(f"{kind}: {ROUNDS * 2 / min(seconds):,.0f} datagrams a second, {part:.2f} of the bare sockets")
+    bests = [min(seconds) for seconds in zip(*runs)]
+for kind, best, seconds in zip(kinds, bests, zip(*runs)):
+    middle = statistics.median(bare / taken for (bare, *_), taken in zip(runs, seconds))
+    rate, part = ROUNDS * 2 / best, bests[0] / best
+    print(f"{kind}: {rate:,.0f} datagrams a second, {part:.2f} of the bare sockets, {middle:.2f} in the middle turn")
