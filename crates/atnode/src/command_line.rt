@@ -4,7 +4,7 @@ use clap::{Arg, Command, Error};
 use std::alloc::{AllocError, Global};
 
 /// What the words of a command line ask for.
-#[derive(Clone, Copy, Debug, PartialEq, Eq)]
+#[derive(Clone, Copy)]
 pub enum Request<'a> {
     /// To play this file, or the standard input for `-`.
     Play(&'a str),

@@ -4,8 +4,6 @@
 
 mod command_line;
 mod telling;
-#[cfg(test)]
-mod tests;
 mod udp;
 
 use at_diagnostics::Diagnostics;
