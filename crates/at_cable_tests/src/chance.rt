@@ -3,7 +3,10 @@ use crate::schedules::{driven, setup_of};
 use crate::sockets::free_cable;
 use at_drive::{Arrival, Log, Step};
 use at_event::{Call, Timer};
+use at_setup::Setup;
 use std::alloc::{AllocError, Global};
+use std::net::Net;
+use std::process::Abort;
 use std::test::Fail;
 
 const SIXTEEN: &str = "net 10
@@ -71,17 +74,28 @@ fn was_sent(log: &Log, arrival: &Arrival) -> bool {
     log.sent.iter().any(|out| { (0..out.len()).any(|index| out.get(index) == arrival.bytes()) })
 }
 
+// A drive by chance. Returns how much arrived.
+fn arrived_in<R: Net + Abort>(
+    rt: &R,
+    alloc: Global,
+    setup: &Setup,
+    seed: u32,
+) -> Result<usize, AllocError> {
+    let steps = steps_from(alloc, seed)?;
+    let (mut cable, _first) = free_cable(rt, alloc, &NODES);
+    let log = driven(rt, alloc, setup, &steps, &mut cable);
+    assert!(rt; log.faults.is_empty());
+    assert!(rt; log.arrived.iter().all(|arrival| was_sent(&log, arrival)));
+    Ok(log.arrived.len())
+}
+
 #[test]
 fn all_that_arrives_over_udp_was_sent(rt: HostRuntime) -> Result<(), Fail> {
     let setup = setup_of(&rt, rt.alloc(), SIXTEEN);
     let mut arrived = 0usize;
     for play in 0..PLAYS {
-        let steps = steps_from(rt.alloc(), play)?;
-        let (mut cable, _first) = free_cable(&rt, rt.alloc(), &NODES);
-        let log = driven(&rt, rt.alloc(), &setup, &steps, &mut cable);
-        assert!(rt; log.faults.is_empty());
-        assert!(rt; log.arrived.iter().all(|arrival| was_sent(&log, arrival)));
-        arrived = arrived.saturating_add(log.arrived.len());
+        let came = arrived_in(&rt, rt.alloc(), &setup, play)?;
+        arrived = arrived.saturating_add(came);
     }
     assert!(rt; arrived > 1_000);
     Ok(())

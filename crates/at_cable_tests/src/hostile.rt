@@ -4,6 +4,8 @@ ghost use Rattle.at_cable.specs.Calls.{IsCounted};
 
 use crate::schedules::{SESSION, driven, setup_of, steps_of};
 use at_cable::{Cable, CableFault};
+use at_drive::Log;
+use std::process::Abort;
 use std::test::Fail;
 
 // Each third call fails. A node gets what was sent last, whoever sent it, or bytes that nobody sent.
@@ -70,6 +72,12 @@ impl Cable for Hostile {
     ghost receive_is_counted = { λ before node room answer after counted. counted };
 }
 
+// Each failure is noted, and each report is of a step or of what came.
+fn compare(rt: &impl Abort, log: &Log, failures: u64) {
+    assert!(rt; log.faults.len() as u64 == failures);
+    assert!(rt; log.reports.len() > log.arrived.len());
+}
+
 #[test]
 fn a_drive_over_a_hostile_cable_goes_to_its_end(rt: HostRuntime) -> Result<(), Fail> {
     let setup = setup_of(&rt, rt.alloc(), SESSION);
@@ -82,8 +90,7 @@ fn a_drive_over_a_hostile_cable_goes_to_its_end(rt: HostRuntime) -> Result<(), F
             len: 0,
         };
         let log = driven(&rt, rt.alloc(), &setup, &steps, &mut cable);
-        assert!(rt; log.faults.len() as u64 == cable.failures());
-        assert!(rt; log.reports.len() > log.arrived.len());
+        compare(&rt, &log, cable.failures());
         assert!(rt; !log.arrived.is_empty() || polls == 1);
     }
     Ok(())

@@ -1,6 +1,7 @@
 //! The lines of drives: which text is at fault, and in which line.
 use at_drive_lines::{line_of_node, read_drive};
 use at_faults::{Fault, Rule};
+use std::alloc::Global;
 use std::test::Fail;
 
 // A text, and the line at fault with the rule that it breaks.
@@ -57,35 +58,44 @@ static FAULTS: [(&str, usize, Rule); 30] = [
     ("net 10\nport 1\nnode 5\nforge 5 00\n", 4, Rule::PlayAlone),
 ];
 
-#[test]
-fn a_text_that_is_no_drive_has_its_line_at_fault(rt: HostRuntime) {
-    for (text, line, broken) in FAULTS.iter() {
-        match read_drive(rt.alloc(), text.as_bytes()) {
-            Err(Fault::Line { number, rule }) => {
-                assert!(rt; number == *line, "{text:?}");
-                assert!(rt; rule == *broken, "{text:?}");
-            }
-            _ => panic!(rt; "no line of {text:?} is at fault"),
-        }
+// The line at fault and the rule that it breaks, if a text is no drive for this.
+fn line_at_fault(alloc: Global, text: &str) -> Option<(usize, Rule)> {
+    match read_drive(alloc, text.as_bytes()) {
+        Err(Fault::Line { number, rule }) => Some((number, rule)),
+        _ => None,
     }
 }
 
 #[test]
+fn a_text_that_is_no_drive_has_its_line_at_fault(rt: HostRuntime) {
+    for (text, line, rule) in FAULTS.iter() {
+        assert!(rt;
+            line_at_fault(rt.alloc(), text) == Some((*line, *rule)),
+            "{text:?}"
+        );
+    }
+}
+
+const DRIVE: &[u8] =
+    b"# A drive.\nnet 10\n\nport 65533\nnode 1 zone Lab\nnode 02 router zone Lab\nzones Lab\ncall 1 zones\n\
+    poll 2\ntimer 1 retry 0\npoll 1\n";
+
+#[test]
 fn a_drive_has_its_port_and_a_step_for_each_line(rt: HostRuntime) -> Result<(), Fail> {
-    let text =
-        b"# A drive.\nnet 10\n\nport 65533\nnode 1 zone Lab\nnode 02 router zone Lab\nzones Lab\ncall 1 zones\n\
-        poll 2\ntimer 1 retry 0\npoll 1\n";
-    let drive = read_drive(rt.alloc(), text).map_err(|_| "a fault")?;
-    assert!(rt; drive.port == 65_533);
-    assert!(rt; drive.setup.net == 10);
+    let drive = read_drive(rt.alloc(), DRIVE).map_err(|_| "a fault")?;
+    assert!(rt; (drive.port, drive.setup.net) == (65_533, 10));
     assert!(rt; drive.setup.nodes.as_slice().len() == 2);
     assert!(rt; drive.setup.zones.as_slice().len() == 1);
     assert!(rt; drive.steps.len() == 4);
     for (step, node) in drive.steps.iter().zip([1, 2, 1, 1]) {
         assert!(rt; step.node() == node);
     }
-    assert!(rt; line_of_node(text, 1) == Some(5));
-    assert!(rt; line_of_node(text, 2) == Some(6));
-    assert!(rt; line_of_node(text, 3) == None);
     Ok(())
+}
+
+#[test]
+fn the_line_of_a_node_is_the_one_that_has_its_number(rt: HostRuntime) {
+    assert!(rt; line_of_node(DRIVE, 1) == Some(5));
+    assert!(rt; line_of_node(DRIVE, 2) == Some(6));
+    assert!(rt; line_of_node(DRIVE, 3) == None);
 }

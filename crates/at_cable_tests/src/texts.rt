@@ -11,6 +11,7 @@ use at_drive_text::drive_text;
 use at_play::play_text;
 use at_print::{Printer, Status};
 use std::alloc::{AllocError, Global};
+use std::net::Net;
 use std::process::Abort;
 use std::test::Fail;
 
@@ -107,13 +108,25 @@ fn read(rt: &impl Abort, alloc: Global, text: &[u8]) -> DriveText
     read_drive(alloc, text).expect(rt, "a fault")
 }
 
+// What is printed and told if this call of the cable fails.
+fn printed_failing(
+    rt: &impl Abort,
+    alloc: Global,
+    drive: &DriveText,
+    call: u64,
+) -> Result<(Vec<u8>, Vec<u8>), AllocError>
+    requires { has_all drive.now.setup drive.now.steps.items ≡ true }
+{
+    let mut cable = MemoryCable::new(alloc, &[1, 5])?.failing_at(call);
+    Ok(printed_by(rt, alloc, drive, &mut cable))
+}
+
 #[test]
 fn a_call_of_the_cable_that_fails_is_printed_after_its_event(rt: HostRuntime) -> Result<(), Fail> {
     let drive = read(&rt, rt.alloc(), ZONES.as_bytes());
     assert!(rt; drive.port == 20_000);
     for (call, printed, told) in ROWS.iter() {
-        let mut cable = MemoryCable::new(rt.alloc(), &[1, 5])?.failing_at(*call);
-        let came = printed_by(&rt, rt.alloc(), &drive, &mut cable);
+        let came = printed_failing(&rt, rt.alloc(), &drive, *call)?;
         assert!(rt; came.0.as_slice() == printed.as_bytes(), "call {call}");
         assert!(rt; came.1.as_slice() == told.as_bytes(), "call {call}");
     }
@@ -172,26 +185,42 @@ fn unnumbered(rt: &impl Abort, alloc: Global, printed: &[u8]) -> Result<Vec<u8>,
     Ok(left)
 }
 
+// What the play of a schedule prints.
+fn played(rt: &impl Abort, alloc: Global, schedule: &str) -> Vec<u8> {
+    let mut printed = Vec::new(alloc);
+    let mut told = Vec::new(alloc);
+    let status = play_text(
+        alloc,
+        &mut schedule.as_bytes(),
+        &mut Printer::new(&mut printed),
+        &mut Diagnostics::new("a.txt", &mut told),
+    );
+    assert!(rt; status == Status::Done);
+    printed
+}
+
+// What a drive of the same schedule over UDP prints. It tells nothing.
+fn driven<R: Net + Abort>(
+    rt: &R,
+    alloc: Global,
+    schedule: &str,
+    nodes: &[u8],
+) -> Result<Vec<u8>, AllocError> {
+    let text = with_polls(alloc, schedule)?;
+    let drive = read(rt, alloc, text.as_slice());
+    let (mut cable, _first) = free_cable(rt, alloc, nodes);
+    let (printed, told) = printed_by(rt, alloc, &drive, &mut cable);
+    assert!(rt; told.is_empty());
+    Ok(printed)
+}
+
 #[test]
 fn a_drive_over_udp_prints_what_the_play_prints(rt: HostRuntime) -> Result<(), Fail> {
     for (schedule, nodes) in [(ZONE_LIST, &[1, 5][..]), (SESSION, &[1, 5, 7][..])] {
-        let mut played = Vec::new(rt.alloc());
-        let mut told = Vec::new(rt.alloc());
-        let status = play_text(
-            rt.alloc(),
-            &mut schedule.as_bytes(),
-            &mut Printer::new(&mut played),
-            &mut Diagnostics::new("a.txt", &mut told),
-        );
-        assert!(rt; status == Status::Done);
-        let text = with_polls(rt.alloc(), schedule)?;
-        let drive = read(&rt, rt.alloc(), text.as_slice());
-        let (mut cable, _first) = free_cable(&rt, rt.alloc(), nodes);
-        let (printed, told) = printed_by(&rt, rt.alloc(), &drive, &mut cable);
-        let driven = unnumbered(&rt, rt.alloc(), printed.as_slice())?;
-        let wanted = unnumbered(&rt, rt.alloc(), played.as_slice())?;
-        assert!(rt; driven == wanted);
-        assert!(rt; told.is_empty());
+        let played = played(&rt, rt.alloc(), schedule);
+        let driven = driven(&rt, rt.alloc(), schedule, nodes)?;
+        let wanted = unnumbered(&rt, rt.alloc(), &played)?;
+        assert!(rt; unnumbered(&rt, rt.alloc(), &driven)? == wanted);
     }
     Ok(())
 }

@@ -1,4 +1,5 @@
 //! The ends of streams beside a plain list of their identifiers and remotes, over the same calls.
+use crate::chance::following;
 use at_adsp_ends::{Ends, MAX_ENDS, Remote, Rooms, Step};
 use at_adsp_frame::{Body, OpenKind, Segment};
 use at_ddp::{Address, Datagrams, Outbox};
@@ -35,11 +36,6 @@ struct Plain {
 struct PlainEnds {
     next: u16,
     ends: Vec<Plain>,
-}
-
-// Numbers that look drawn at random.
-fn following(number: u32) -> u32 {
-    number.wrapping_mul(1_664_525).wrapping_add(1_013_904_223)
 }
 
 fn remote_of(number: u32) -> Remote {

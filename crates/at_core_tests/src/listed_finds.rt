@@ -1,6 +1,8 @@
 //! The finds of a lookup beside the plain list that their contracts speak of, over the same replies.
+use crate::chance::following;
 use at_ddp::{Address, Datagrams, Outbox, Pascal};
 use at_nbp::{Find, Function, Lookup, MAX_FINDS, Name, Tuple, decode, encode};
+use std::alloc::Global;
 use std::process::Abort;
 
 const OWN: Address = Address {
@@ -15,11 +17,6 @@ const REPLIES: u32 = 3_000;
 const TEXTS: [&[u8]; 8] = [
     b"ada", b"Ada", b"ADA", b"eve", b"Eve", b"\x8Aeve", b"\x80EVE", b"max",
 ];
-
-// Numbers that look drawn at random.
-fn following(number: u32) -> u32 {
-    number.wrapping_mul(1_664_525).wrapping_add(1_013_904_223)
-}
 
 fn text(rt: &impl Abort, bytes: &[u8]) -> Pascal {
     Pascal::new(bytes).expect(rt, "a string is too long")
@@ -75,21 +72,29 @@ fn keep_plainly(rt: &impl Abort, plain: &mut Vec<Find>, find: &Find) -> usize {
     1
 }
 
+// A lookup of anything, which is open, and its identifier.
+fn open_lookup(rt: &impl Abort, alloc: Global) -> (Lookup, u8) {
+    let mut out = Outbox::over(Datagrams::new(alloc), OWN, 2);
+    let mut lookup = Lookup::new(alloc, OWN, OWN, Function::LookUp);
+    let id = lookup.start(anything(rt), &mut out);
+    (lookup, id.expect(rt, "no lookup"))
+}
+
+// How many finds a reply brings to a lookup.
+fn receive(rt: &impl Abort, lookup: &mut Lookup, bytes: &[u8]) -> usize {
+    let (packet, _) = decode(bytes).expect(rt, "no packet");
+    lookup.receive(&packet).expect(rt, "no memory")
+}
+
 #[test]
 fn the_finds_of_a_lookup_are_the_plain_list_of_what_is_new(rt: HostRuntime) {
-    let mut out = Outbox::over(Datagrams::new(rt.alloc()), OWN, 2);
-    let mut lookup = Lookup::new(rt.alloc(), OWN, OWN, Function::LookUp);
-    let id = lookup
-        .start(anything(&rt), &mut out)
-        .expect(&rt, "no lookup");
+    let (mut lookup, id) = open_lookup(&rt, rt.alloc());
     let mut plain = Vec::new(rt.alloc());
     let mut number = 1u32;
     for _reply in 0..REPLIES {
         number = following(number);
         let find = drawn(&rt, number);
-        let bytes = reply(&rt, id, &find);
-        let (packet, _) = decode(&bytes).expect(&rt, "no packet");
-        let kept = lookup.receive(&packet).expect(&rt, "no memory");
+        let kept = receive(&rt, &mut lookup, &reply(&rt, id, &find));
         assert!(rt; kept == keep_plainly(&rt, &mut plain, &find));
     }
     assert!(rt; lookup.count(id) == Ok(MAX_FINDS));

@@ -1,6 +1,7 @@
 //! A node's names beside the plain list that their contracts speak of, over the same calls.
+use crate::chance::following;
 use at_ddp::{Address, Pascal, same_text};
-use at_nbp::{MAX_NAMES, Names, NbpFault, Registered};
+use at_nbp::{Find, MAX_NAMES, Names, NbpFault, Registered};
 use std::process::Abort;
 
 const OWN: Address = Address {
@@ -18,11 +19,6 @@ const TEXTS: [&[u8]; 8] = [
 
 /// The names of the plain list.
 type Plain = Vec<Registered>;
-
-// Numbers that look drawn at random.
-fn following(number: u32) -> u32 {
-    number.wrapping_mul(1_664_525).wrapping_add(1_013_904_223)
-}
 
 fn text(rt: &impl Abort, number: u32) -> Pascal {
     Pascal::new(TEXTS[(number % 8) as usize]).expect(rt, "a string is too long")
@@ -78,16 +74,19 @@ fn unregister_plainly(plain: &mut Plain, object: &Pascal, kind: &Pascal) -> Resu
     Err(NbpFault::NoSuchName)
 }
 
+// What is found is what was registered.
+fn compare_found(rt: &impl Abort, found: &Find, name: &Registered) {
+    assert!(rt; found.name.object == name.object);
+    assert!(rt; found.name.kind == name.kind);
+    assert!(rt; (found.address.socket, found.enumerator) == (name.socket, name.enumerator));
+}
+
 // What is found under an object and a type, in this spelling, is the same in both.
 fn compare(rt: &impl Abort, names: &Names, plain: &Plain, object: &Pascal, kind: &Pascal) {
-    let found = names.find(object, kind);
     let name = plain.iter().find(|name| is_called(name, object, kind));
-    assert!(rt; found.is_some() == name.is_some());
-    if let (Some(found), Some(name)) = (found, name) {
-        assert!(rt; found.name.object == name.object);
-        assert!(rt; found.name.kind == name.kind);
-        assert!(rt; found.address.socket == name.socket);
-        assert!(rt; found.enumerator == name.enumerator);
+    match (names.find(object, kind), name) {
+        (Some(found), Some(name)) => compare_found(rt, &found, name),
+        (found, name) => assert!(rt; found.is_none() && name.is_none()),
     }
 }
 

@@ -2,6 +2,8 @@
 use at_atp_frame::Frame;
 use at_atp_responder::{Key, Reception, Responder};
 use at_ddp::{Address, Datagrams, Outbox};
+use std::alloc::Global;
+use std::process::Abort;
 
 const ASKER: Address = Address {
     net: 10,
@@ -15,6 +17,11 @@ const SERVER: Address = Address {
     socket: 129,
 };
 
+const KEY: Key = Key {
+    from: ASKER,
+    tid: 9,
+};
+
 const REQUEST: Frame<'static> = Frame::Request {
     mask: 1,
     xo: false,
@@ -24,15 +31,17 @@ const REQUEST: Frame<'static> = Frame::Request {
     data_: &[],
 };
 
+// A request that comes for the first time gets a record.
+fn receive(rt: &impl Abort, alloc: Global, answerer: &mut Responder) {
+    let mut out = Outbox::over(Datagrams::new(alloc), SERVER, 3);
+    let reception = answerer.receive(ASKER, &REQUEST, &mut out);
+    assert!(rt; reception == Ok(Reception::New(KEY)));
+}
+
 #[test]
 fn a_request_has_a_record_under_its_key_alone(rt: HostRuntime) {
     let mut answerer = Responder::new(rt.alloc());
-    let mut out = Outbox::over(Datagrams::new(rt.alloc()), SERVER, 3);
-    let key = Key {
-        from: ASKER,
-        tid: 9,
-    };
-    assert!(rt; answerer.receive(ASKER, &REQUEST, &mut out) == Ok(Reception::New(key)));
-    assert!(rt; answerer.holds(key));
-    assert!(rt; !answerer.holds(Key { tid: 8, ..key }));
+    receive(&rt, rt.alloc(), &mut answerer);
+    assert!(rt; answerer.holds(KEY));
+    assert!(rt; !answerer.holds(Key { tid: 8, ..KEY }));
 }

@@ -34,6 +34,14 @@ fn outbox(heap: Heap<'_>, from: Address) -> Outbox<Heap<'_>> {
     Outbox::over(Datagrams::new(heap), from, ADSP)
 }
 
+// A table hears a datagram. There is nothing if memory is refused.
+fn hear<'a>(bytes: &[u8], ends: &mut Ends<Heap<'a>>, answers: &mut Outbox<Heap<'a>>) -> Option<()> {
+    let (datagram, _) = decode(bytes).ok()?;
+    let segment = at_adsp_frame::decode(datagram.data_).ok()?;
+    let _step = ends.receive(datagram.from, &segment, answers).ok()?;
+    Some(())
+}
+
 // Delivers what was sent to a table, and returns what it sends then. There is none if memory is refused.
 fn deliver<'a>(
     heap: Heap<'a>,
@@ -44,9 +52,7 @@ fn deliver<'a>(
     let list = sent.into_list();
     let mut answers = outbox(heap, own);
     for index in 0..list.len() {
-        let (datagram, _) = decode(list.get(index)).ok()?;
-        let segment = at_adsp_frame::decode(datagram.data_).ok()?;
-        let _step = ends.receive(datagram.from, &segment, &mut answers).ok()?;
+        hear(list.get(index), ends, &mut answers)?;
     }
     Some(answers)
 }
@@ -83,22 +89,31 @@ fn carry<'a>(
     assert!(rt; read == items);
 }
 
-// Whether a stream opens with so many requests for memory. Then the next would be refused, and carrying makes none. A
-// list that grows as it is written to would make one.
+// Whether a stream opens. Then items are carried over it.
+fn open_and_carry(rt: &impl Abort, heap: Heap<'_>, wide: Heap<'_>) -> bool {
+    let mut asker = Ends::new(heap, ROOMS);
+    let mut listener = Ends::new(heap, ROOMS);
+    let opens = open(&mut asker, &mut listener, wide).is_some();
+    if opens {
+        carry(rt, &mut asker, &mut listener, wide);
+    }
+    opens
+}
+
+// A list that grows as it is written to asks for memory.
+fn fails_to_grow(heap: Heap<'_>) -> bool {
+    let mut list = Vec::new(heap);
+    list.push(Item::End).is_err()
+}
+
+// Whether a stream opens with so many requests for memory. Then the next would be refused, and carrying makes none.
 fn opens_with(rt: &impl Abort, alloc: Global, wide: Heap<'_>, granted: u64) -> bool {
     let heap = Refusing::new(alloc, granted);
-    let mut asker = Ends::new(&heap, ROOMS);
-    let mut listener = Ends::new(&heap, ROOMS);
-    if open(&mut asker, &mut listener, wide).is_none() {
-        assert!(rt; heap.has_refused());
-        return false;
-    }
-    carry(rt, &mut asker, &mut listener, wide);
-    assert!(rt; !heap.has_refused());
-    let mut list = Vec::new(&heap);
-    assert!(rt; list.push(Item::End).is_err());
+    let opens = open_and_carry(rt, &heap, wide);
+    assert!(rt; opens != heap.has_refused());
+    assert!(rt; !opens || fails_to_grow(&heap));
     assert!(rt; heap.has_refused());
-    true
+    opens
 }
 
 // How many requests for memory two tables make to open a stream.

@@ -1,6 +1,7 @@
 //! A table beside the plain list that its contracts speak of, over the same calls.
 ghost use Rattle.std.specs.Prelude.{◌<◌, length, IfSome};
 
+use crate::chance::following;
 use at_table::Table;
 use std::process::Abort;
 
@@ -11,11 +12,6 @@ const CALLS: u32 = 20_000;
 
 /// The entries of the plain list.
 type Plain = Vec<(u16, u32)>;
-
-// Numbers that look drawn at random.
-fn following(number: u32) -> u32 {
-    number.wrapping_mul(1_664_525).wrapping_add(1_013_904_223)
-}
 
 fn index_of(plain: &Plain, key: u16) -> Option<usize>
     ensures { IfSome result (λ index. index < length plain.now.items) }

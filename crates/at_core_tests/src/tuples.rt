@@ -1,6 +1,6 @@
 //! The tuples of a decoded packet, one after the other.
 use at_ddp::Address;
-use at_nbp::{Function, Tuple, decode, encode};
+use at_nbp::{Function, Tuple, Tuples, decode, encode};
 use std::process::Abort;
 
 const ADA: Tuple<'static> = Tuple {
@@ -35,18 +35,25 @@ fn spelled(rt: &(impl Abort + AllocGlobal), function: Function, tuples: &[Tuple<
     bytes
 }
 
+// The tuples that are left are these, in this order.
+fn compare(rt: &impl Abort, mut left: Tuples<'_>, tuples: &[Tuple<'_>]) {
+    for (index, tuple) in tuples.iter().enumerate() {
+        assert!(rt; left.unread() == tuples.len() - index);
+        assert!(rt; left.next() == Some(*tuple));
+    }
+    for _again in 0..2 {
+        assert!(rt; left.next() == None);
+    }
+}
+
 #[test]
-fn the_tuples_of_a_packet_come_in_their_order_and_end(rt: HostRuntime) {
-    let bytes = spelled(&rt, Function::Reply, &[ADA, EVE]);
-    let (packet, _) = decode(&bytes).expect(&rt, "no packet");
-    let mut tuples = packet.tuples.iter();
-    assert!(rt; tuples.unread() == 2);
-    assert!(rt; tuples.next() == Some(ADA));
-    assert!(rt; tuples.unread() == 1);
-    assert!(rt; tuples.next() == Some(EVE));
-    assert!(rt; tuples.next() == None);
-    assert!(rt; tuples.next() == None);
-    assert!(rt; packet.tuples.unread() == 2);
+fn the_tuples_of_a_reply_come_in_their_order_and_end(rt: HostRuntime) {
+    for tuples in [[ADA, EVE].as_slice(), &[]] {
+        let bytes = spelled(&rt, Function::Reply, tuples);
+        let (packet, _) = decode(&bytes).expect(&rt, "no packet");
+        compare(&rt, packet.tuples.iter(), tuples);
+        assert!(rt; packet.tuples.unread() == tuples.len());
+    }
 }
 
 #[test]
@@ -55,13 +62,4 @@ fn a_packet_that_asks_has_one_tuple(rt: HostRuntime) {
     let (packet, _) = decode(&bytes).expect(&rt, "no packet");
     assert!(rt; packet.tuples.unread() == 1);
     assert!(rt; packet.tuples.only() == EVE);
-}
-
-#[test]
-fn a_reply_may_have_no_tuple(rt: HostRuntime) {
-    let bytes = spelled(&rt, Function::Reply, &[]);
-    let (packet, _) = decode(&bytes).expect(&rt, "no packet");
-    let mut tuples = packet.tuples.iter();
-    assert!(rt; tuples.unread() == 0);
-    assert!(rt; tuples.next() == None);
 }

@@ -20,16 +20,21 @@ fn has(zones: &Zones, name: &[u8]) -> bool {
     }
 }
 
+// Whether the two tables have this one name each.
+fn have(tables: &Tables, all: &[u8], local: &[u8]) -> bool {
+    has(tables.get(Which::All), all) && has(tables.get(Which::Local), local)
+}
+
 #[test]
 fn a_table_is_set_in_its_own_place(rt: HostRuntime) {
     let all = table(&rt, rt.alloc(), b"Lab");
     let mut tables = Tables::new(all, table(&rt, rt.alloc(), b"Hall"));
-    assert!(rt; has(tables.get(Which::All), b"Lab") && has(tables.get(Which::Local), b"Hall"));
+    assert!(rt; have(&tables, b"Lab", b"Hall"));
     tables.set(Which::Local, table(&rt, rt.alloc(), b"Attic"));
     tables.limits();
-    assert!(rt; has(tables.get(Which::All), b"Lab") && has(tables.get(Which::Local), b"Attic"));
+    assert!(rt; have(&tables, b"Lab", b"Attic"));
     tables.set(Which::All, table(&rt, rt.alloc(), b"Office"));
-    assert!(rt; has(tables.get(Which::All), b"Office") && has(tables.get(Which::Local), b"Attic"));
+    assert!(rt; have(&tables, b"Office", b"Attic"));
 }
 
 #[test]

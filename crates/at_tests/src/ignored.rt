@@ -1,10 +1,10 @@
 //! Packets that a node ignores, or refuses by number. None of them takes memory.
 use crate::steps::{Step, give, node_of};
 use at_ddp::Datagrams;
-use at_node::Deferring;
+use at_node::{Deferring, Node, Report};
 use at_print::{Printer, write_event};
 use refusing::Refusing;
-use std::alloc::Global;
+use std::alloc::{Allocator, Global};
 use std::process::Abort;
 
 // What node 1 is given before, the router of network 10: it reads the zone list, has a name and looks names up, and
@@ -108,22 +108,58 @@ static PACKETS: [(&[u8], &str); 19] = [
     ),
 ];
 
-// What a node prints of bytes that come, with the request for memory after so many refused. There is nothing if what it
-// was given before lacked memory.
+// Gives node 1 what it is given before.
+fn prepare<A: Allocator + Copy>(rt: &impl Abort, heap: A, node: &mut Node<A>) {
+    for step in BEFORE.iter() {
+        prepare_step(rt, heap, node, *step);
+    }
+}
+
+fn prepare_step<A: Allocator + Copy>(rt: &impl Abort, heap: A, node: &mut Node<A>, step: Step) {
+    let mut out = Datagrams::new(heap);
+    let _report = give(rt, heap, node, step, &mut out);
+}
+
+// What a node prints of bytes that come.
+fn printed_by<A: Allocator + Copy>(
+    alloc: Global,
+    heap: A,
+    node: &mut Node<A>,
+    bytes: &[u8],
+) -> Vec<u8> {
+    let mut out = Datagrams::new(heap);
+    let report = node.receive(&mut Deferring, bytes, &mut out);
+    text_of(alloc, &report)
+}
+
+// What node 1 prints of bytes that come. It takes no memory, unless what it was given before lacked some.
+fn printed_after<A: Allocator + Copy>(
+    rt: &impl Abort,
+    alloc: Global,
+    heap: A,
+    refusing: &Refusing<Global>,
+    bytes: &[u8],
+) -> (Vec<u8>, bool) {
+    let mut node = node_of(rt, heap, 1);
+    prepare(rt, heap, &mut node);
+    let lacked = refusing.has_refused();
+    let text = printed_by(alloc, heap, &mut node, bytes);
+    assert!(rt; lacked == refusing.has_refused());
+    drop(node);
+    (text, lacked)
+}
+
+fn text_of<A: Allocator>(alloc: Global, report: &Report<A>) -> Vec<u8> {
+    let mut text = Vec::new(alloc);
+    write_event(&mut Printer::new(&mut text), 0, report);
+    text
+}
+
+// The same with the request for memory after so many refused. There is nothing if what it was given before lacked it.
 fn printed_of(rt: &impl Abort, alloc: Global, bytes: &[u8], granted: u64) -> Option<Vec<u8>> {
     let heap = Refusing::new(alloc, granted);
-    let mut node = node_of(rt, &heap, 1);
-    for step in BEFORE.iter() {
-        let _report = give(rt, &heap, &mut node, *step, &mut Datagrams::new(&heap));
-    }
-    if heap.has_refused() {
-        return None;
-    }
-    let report = node.receive(&mut Deferring, bytes, &mut Datagrams::new(&heap));
-    assert!(rt; !heap.has_refused());
-    let mut text = Vec::new(alloc);
-    write_event(&mut Printer::new(&mut text), 0, &report);
-    Some(text)
+    let (text, lacked) = printed_after(rt, alloc, &heap, &heap, bytes);
+    if lacked { None } else { Some(text) }
 }
 
 // The same with no more memory than what it was given before takes.

@@ -15,6 +15,8 @@ mod ignored;
 #[cfg(test)]
 mod lookups;
 #[cfg(test)]
+mod played;
+#[cfg(test)]
 mod reads;
 #[cfg(test)]
 mod receptions;

@@ -1,8 +1,10 @@
 //! What is printed and told of schedules that can't be read, or that change while they are read.
 use crate::failing::Changing;
+use crate::played::Outcome;
 use at_diagnostics::Diagnostics;
 use at_play::{play_file, play_text};
-use at_print::Printer;
+use at_print::{Printer, Status};
+use std::alloc::Global;
 
 // Whether a file or a stream is played, what is read of it each time from the beginning, and what is printed and told.
 // A file is read first for its length, then for its faults and last to be played, and a stream is read once.
@@ -48,25 +50,53 @@ const DIRECTORY: &str = "atnode: a.txt: can't be read to its end: Is a directory
 
 const UNREAD: &str = "atnode: a.txt: can't be read to its end\n";
 
+// Plays a file or a stream with these texts.
+fn played_of(alloc: Global, texts: &'static [&'static [u8]], is_file: bool) -> Outcome {
+    let mut printed = Vec::new(alloc);
+    let mut told = Vec::new(alloc);
+    let status = play(alloc, texts, is_file, &mut printed, &mut told);
+    Outcome {
+        printed,
+        told,
+        status,
+    }
+}
+
+fn play(
+    alloc: Global,
+    texts: &'static [&'static [u8]],
+    is_file: bool,
+    printed: &mut Vec<u8>,
+    told: &mut Vec<u8>,
+) -> Status {
+    let mut text = Changing::new(texts);
+    let mut printer = Printer::new(printed);
+    let mut diagnostics = Diagnostics::new("a.txt", told);
+    if is_file {
+        play_file(alloc, &mut text, &mut printer, &mut diagnostics)
+    } else {
+        play_text(alloc, &mut text, &mut printer, &mut diagnostics)
+    }
+}
+
+// Whether these lines are told, and no more.
+fn are_told(told: &[u8], lines: &[&str]) -> bool {
+    let mut left = told;
+    for line in lines {
+        match left.strip_prefix(line.as_bytes()) {
+            Some(rest) => left = rest,
+            None => return false,
+        }
+    }
+    left.is_empty()
+}
+
 #[test]
 fn a_schedule_that_fails_or_changes_while_it_is_read_is_told_as_unreadable(rt: HostRuntime) {
     for (is_file, texts, printed, told) in READ.iter() {
-        let mut text = Changing::new(texts);
-        let mut lines = Vec::new(rt.alloc());
-        let mut printer = Printer::new(&mut lines);
-        let mut reasons = Vec::new(rt.alloc());
-        let mut diagnostics = Diagnostics::new("a.txt", &mut reasons);
-        let status = if *is_file {
-            play_file(rt.alloc(), &mut text, &mut printer, &mut diagnostics)
-        } else {
-            play_text(rt.alloc(), &mut text, &mut printer, &mut diagnostics)
-        };
-        assert!(rt; lines.as_slice() == printed.as_bytes());
-        let mut left = reasons.as_slice();
-        for line in told.iter() {
-            left = left.strip_prefix(line.as_bytes()).expect(&rt, "not told");
-        }
-        assert!(rt; left.is_empty());
-        assert!(rt; (status.code() == 0) == (*printed == PRINTED));
+        let play = played_of(rt.alloc(), texts, *is_file);
+        assert!(rt; play.printed.as_slice() == printed.as_bytes());
+        assert!(rt; are_told(&play.told, told));
+        assert!(rt; (play.status == Status::Done) == (*printed == PRINTED));
     }
 }

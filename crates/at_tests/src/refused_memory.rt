@@ -2,11 +2,10 @@
 use crate::connections::{OPENING, OPENING_PLAYED, STREAM, STREAM_PLAYED};
 use crate::forged::{FORGED, FORGED_PLAYED};
 use crate::lookups::{FOUND, FOUND_PLAYED, TAKEN, TAKEN_PLAYED};
+use crate::played::played;
 use crate::session::{SESSION, SESSION_PLAYED};
 use crate::zone_pages::{PAGES, PAGES_PLAYED};
-use at_diagnostics::Diagnostics;
-use at_play::play_text;
-use at_print::{Printer, Status};
+use at_print::Status;
 use refusing::Refusing;
 use std::alloc::Global;
 use std::process::Abort;
@@ -62,14 +61,24 @@ fn count_of_events(lines: &[u8]) -> u64 {
 fn compare(rt: &impl Abort, alloc: Global, printed: &[u8], whole: &[u8]) {
     let before = lines_before(printed);
     let at = count_of_events(before);
+    assert!(rt; whole.starts_with(before));
+    assert!(rt; goes_on_with(rt, alloc, whole, before.len(), at));
+    assert!(rt; lacks_memory(rt, alloc, printed, before.len(), at));
+}
+
+// Whether the lines from a place on begin with this event, if there are any.
+fn goes_on_with(rt: &impl Abort, alloc: Global, whole: &[u8], place: usize, at: u64) -> bool {
     let event = format!(in alloc; "{at} ").expect(rt, "out of memory");
+    let lines = whole.get(place..).unwrap_or(b"");
+    lines.is_empty() || lines.starts_with(event.as_bytes())
+}
+
+// Whether the lines from a place on begin with this event, which lacks memory, or the play ends before it.
+fn lacks_memory(rt: &impl Abort, alloc: Global, printed: &[u8], place: usize, at: u64) -> bool {
     let lacked = format!(in alloc; "{at} nomemory\n").expect(rt, "out of memory");
     let stopped = format!(in alloc; "stopped nomemory at {at}\n").expect(rt, "out of memory");
-    let told = printed.get(before.len()..).unwrap_or(b"");
-    assert!(rt; whole.starts_with(before));
-    let left = whole.get(before.len()..).unwrap_or(b"");
-    assert!(rt; left.is_empty() || left.starts_with(event.as_bytes()));
-    assert!(rt; told.starts_with(lacked.as_bytes()) || told == stopped.as_bytes());
+    let lines = printed.get(place..).unwrap_or(b"");
+    lines.starts_with(lacked.as_bytes()) || lines == stopped.as_bytes()
 }
 
 // Whether more was told than why nodes refused events.
@@ -83,21 +92,17 @@ fn has_stopped(told: &[u8]) -> bool {
 // has that request.
 fn is_refused_in(rt: &impl Abort, alloc: Global, text: &[u8], whole: &[u8], granted: u64) -> bool {
     let heap = Refusing::new(alloc, granted);
-    let mut printed = Vec::new(alloc);
-    let mut printer = Printer::new(&mut printed);
-    let mut told = Vec::new(alloc);
-    let mut diagnostics = Diagnostics::new("a.txt", &mut told);
-    let mut lines = text;
-    let status = play_text(&heap, &mut lines, &mut printer, &mut diagnostics);
+    let play = played(alloc, &heap, text);
+    let refused = heap.has_refused();
     assert!(rt; heap.held() == 0);
-    assert!(rt; (status == Status::Done) != has_stopped(&told));
-    assert!(rt; count_of_wants(&printed) == u64::from(heap.has_refused()));
-    if heap.has_refused() {
-        compare(rt, alloc, &printed, whole);
+    assert!(rt; (play.status == Status::Done) != has_stopped(&play.told));
+    assert!(rt; count_of_wants(&play.printed) == u64::from(refused));
+    if refused {
+        compare(rt, alloc, &play.printed, whole);
     } else {
-        assert!(rt; printed.as_slice() == whole);
+        assert!(rt; play.printed.as_slice() == whole);
     }
-    heap.has_refused()
+    refused
 }
 
 // Schedules, what is printed of each, and how many requests for memory it makes at least.

@@ -95,6 +95,38 @@ pub(crate) fn give<A: Allocator + Copy>(
     }
 }
 
+// Gives a node a step, again if it lacked memory. Returns whether it did.
+fn give_again<A: Allocator + Copy>(
+    rt: &impl Abort,
+    alloc: A,
+    node: &mut Node<A>,
+    step: Step,
+    out: &mut Datagrams<A>,
+) -> (Report<A>, bool) {
+    let report = give(rt, alloc, node, step, out);
+    if !matches!(&report, Report::NoMemory) {
+        return (report, false);
+    }
+    assert!(rt; out.is_empty());
+    (give(rt, alloc, node, step, out), true)
+}
+
+// Gives a node a step, which sends this datagram, and prints its report. Returns whether the step lacked memory.
+fn tell<A: Allocator + Copy>(
+    rt: &impl Abort,
+    alloc: A,
+    printer: &mut Printer<&mut Vec<u8>>,
+    node: &mut Node<A>,
+    (event, step, sent): (u32, Step, &[u8]),
+) -> bool {
+    // A list without room, so that what is sent needs memory.
+    let mut out = Datagrams::new(alloc);
+    let (report, lacks) = give_again(rt, alloc, node, step, &mut out);
+    assert!(rt; sent_in(rt, &out) == sent);
+    write_event(printer, event as usize, &report);
+    lacks
+}
+
 // Prints the reports of a node that is given steps, each again if it lacked memory. Returns which step did.
 fn told<A: Allocator + Copy>(
     rt: &impl Abort,
@@ -106,16 +138,10 @@ fn told<A: Allocator + Copy>(
     let mut printer = Printer::new(text);
     let mut lacked = None;
     for (event, (step, sent)) in (0u32..).zip(steps) {
-        // A list without room, so that what is sent needs memory.
-        let mut out = Datagrams::new(alloc);
-        let mut report = give(rt, alloc, node, *step, &mut out);
-        if matches!(&report, Report::NoMemory) {
-            assert!(rt; lacked.is_none() && out.is_empty());
+        if tell(rt, alloc, &mut printer, node, (event, *step, sent)) {
+            assert!(rt; lacked.is_none());
             lacked = Some(event);
-            report = give(rt, alloc, node, *step, &mut out);
         }
-        assert!(rt; sent_in(rt, &out) == *sent);
-        write_event(&mut printer, event as usize, &report);
     }
     lacked
 }
@@ -136,45 +162,74 @@ fn table<A: Allocator>(rt: &impl Abort, names: Vec<Pascal, A>) -> Zones<A> {
 
 /// A node of network 10. Node 1 is the router, of one request for memory: its table of all zones.
 pub(crate) fn node_of<A: Allocator + Copy>(rt: &impl Abort, alloc: A, number: u8) -> Node<A> {
-    let seat = Seat {
+    if number == ROUTER {
+        router(rt, alloc)
+    } else {
+        workstation(alloc, number)
+    }
+}
+
+const ROUTER: u8 = 1;
+
+fn seat_of(number: u8) -> Seat {
+    Seat {
         net: 10,
         number,
-        router: Some(1),
-    };
-    let mut settings = Settings {
-        seat,
+        router: Some(ROUTER),
+    }
+}
+
+fn workstation<A: Allocator + Copy>(alloc: A, number: u8) -> Node<A> {
+    let settings = Settings {
+        seat: seat_of(number),
         zone: None,
         tables: None,
         neighbours: None,
         rooms: ROOMS,
     };
-    if number != 1 {
-        return Node::new(alloc, settings);
-    }
+    Node::new(alloc, settings)
+}
+
+fn router<A: Allocator + Copy>(rt: &impl Abort, alloc: A) -> Node<A> {
+    let settings = Settings {
+        seat: seat_of(ROUTER),
+        zone: Some(text(rt, b"Lab")),
+        tables: Some(tables(rt, alloc)),
+        neighbours: Some(Listed::from_vec(Vec::new(alloc))),
+        rooms: ROOMS,
+    };
+    Node::new(alloc, settings)
+}
+
+// The tables of all zones and of the local ones, of which there are none.
+fn tables<A: Allocator + Copy>(rt: &impl Abort, alloc: A) -> Tables<A> {
     let names = Vec::from_array(alloc, [text(rt, b"Lab"), text(rt, b"Office")]);
     let all = table(rt, names.expect(rt, "out of memory"));
-    let local = table(rt, Vec::new(alloc));
-    settings.zone = Some(text(rt, b"Lab"));
-    settings.tables = Some(Tables::new(all, local));
-    settings.neighbours = Some(Listed::from_vec(Vec::new(alloc)));
-    Node::new(alloc, settings)
+    Tables::new(all, table(rt, Vec::new(alloc)))
 }
 
 /// Gives a node its steps and compares. The request for memory after so many is refused, and the step that lacked it is
 /// given again. All memory is given back. Returns which step lacked it.
 pub(crate) fn replay(rt: &impl Abort, alloc: Global, case: &Case, granted: u64) -> Option<u32> {
     let heap = Refusing::new(alloc, granted);
-    let lacked = replay_on(rt, alloc, &heap, case);
+    let lacked = replay_on(rt, alloc, &heap, &heap, case);
     assert!(rt; lacked.is_some() == heap.has_refused());
     assert!(rt; heap.held() == 0);
     lacked
 }
 
-fn replay_on(rt: &impl Abort, alloc: Global, heap: &Refusing<Global>, case: &Case) -> Option<u32> {
+fn replay_on<A: Allocator + Copy>(
+    rt: &impl Abort,
+    alloc: Global,
+    heap: A,
+    refusing: &Refusing<Global>,
+    case: &Case,
+) -> Option<u32> {
     let mut node = node_of(rt, heap, case.node);
     let mut text = Vec::new(alloc);
     let lacked = told(rt, heap, &mut text, &mut node, case.steps);
     assert!(rt; text.as_slice() == case.reported.as_bytes());
-    assert!(rt; heap.held() > 0);
+    assert!(rt; refusing.held() > 0);
+    drop(node);
     lacked
 }

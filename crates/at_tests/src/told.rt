@@ -1,8 +1,9 @@
 //! What is told of the refusals of a play: each of its numbers once, where it came first.
 use crate::failing::Scarce;
-use at_diagnostics::Diagnostics;
-use at_play::play_text;
-use at_print::Printer;
+use crate::played::{play_onto, played};
+use at_print::Status;
+use std::alloc::Global;
+use std::process::Abort;
 
 const REFUSED: &str = "\
 net 10
@@ -33,32 +34,25 @@ atnode: a.txt:7: event 3 was refused: the last lookup that ended found no such e
 
 #[test]
 fn each_number_of_a_refusal_is_told_the_first_time_that_it_comes(rt: HostRuntime) {
-    let mut printed = Vec::new(rt.alloc());
-    let mut told = Vec::new(rt.alloc());
-    let status = play_text(
-        rt.alloc(),
-        &mut REFUSED.as_bytes(),
-        &mut Printer::new(&mut printed),
-        &mut Diagnostics::new("a.txt", &mut told),
-    );
+    let play = played(rt.alloc(), rt.alloc(), REFUSED.as_bytes());
+    assert!(rt; play.printed.as_slice() == PRINTED.as_bytes());
+    assert!(rt; play.told.as_slice() == TOLD.as_bytes());
+    assert!(rt; play.status == Status::Done);
+}
+
+// Plays onto a writer of what is told, which refuses a write.
+fn tell_scarcely(rt: &impl Abort, alloc: Global, told: &mut Scarce) {
+    let mut printed = Vec::new(alloc);
+    let status = play_onto(alloc, REFUSED.as_bytes(), &mut printed, told);
     assert!(rt; printed.as_slice() == PRINTED.as_bytes());
-    assert!(rt; told.as_slice() == TOLD.as_bytes());
-    assert!(rt; status.code() == 0);
+    assert!(rt; status == Status::Done);
 }
 
 #[test]
 fn what_can_not_be_told_changes_neither_what_is_printed_nor_the_status(rt: HostRuntime) {
     for left in 0..40u32 {
-        let mut printed = Vec::new(rt.alloc());
         let mut told = Scarce::new(rt.alloc(), left, false);
-        let status = play_text(
-            rt.alloc(),
-            &mut REFUSED.as_bytes(),
-            &mut Printer::new(&mut printed),
-            &mut Diagnostics::new("a.txt", &mut told),
-        );
-        assert!(rt; printed.as_slice() == PRINTED.as_bytes());
+        tell_scarcely(&rt, rt.alloc(), &mut told);
         assert!(rt; TOLD.as_bytes().starts_with(told.bytes.as_slice()));
-        assert!(rt; status.code() == 0);
     }
 }

@@ -2,6 +2,7 @@
 use at_node::Call;
 use at_print::{Printer, write_event};
 use at_schedule::read_setup;
+use at_setup::Setup;
 use at_world::{Event, Fault, Refusal, Transcript, play};
 use at_zip::Which;
 use std::alloc::Global;
@@ -27,25 +28,39 @@ fn compare(rt: &impl Abort, alloc: Global, transcript: &Transcript) {
     assert!(rt; transcript.sent.get(1).bytes == ANSWERED);
 }
 
-#[test]
-fn a_play_of_events_goes_up_to_the_first_that_is_refused(rt: HostRuntime) {
-    let text = b"net 10\nnode 1 router zone Lab\nnode 5 zone Lab\nzones Lab Office\n";
-    let setup = read_setup(rt.alloc(), &mut text.as_slice()).expect(&rt, "a fault");
+const SETUP: &[u8] = b"net 10\nnode 1 router zone Lab\nnode 5 zone Lab\nzones Lab Office\n";
+
+// The last datagram was not sent.
+const EVENTS: [Event; 4] = [
+    Event::Call {
+        node: 5,
+        call: Call::Zones { which: Which::All },
+    },
+    Event::Deliver { which: 0, node: 1 },
+    Event::Deliver { which: 1, node: 5 },
+    Event::Deliver { which: 2, node: 5 },
+];
+
+fn compare_stopped(rt: &impl Abort, alloc: Global, setup: &Setup, events: &[Event]) {
     assert!(rt; setup.is_lawful());
-    let call = Call::Zones { which: Which::All };
-    let events = [
-        Event::Call { node: 5, call },
-        Event::Deliver { which: 0, node: 1 },
-        Event::Deliver { which: 1, node: 5 },
-        // This datagram was not sent.
-        Event::Deliver { which: 2, node: 5 },
-    ];
-    let stopped = play(rt.alloc(), &setup, &events);
-    let stopped = stopped.err().expect(&rt, "played to the end");
+    let stopped = play(alloc, setup, events).err();
+    let stopped = stopped.expect(rt, "played to the end");
     let no_datagram = Fault::Refused(Refusal::NoDatagram);
     assert!(rt; (stopped.fault, stopped.at) == (no_datagram, 3));
-    compare(&rt, rt.alloc(), &stopped.transcript);
-    let played = play(rt.alloc(), &setup, &events[..3]);
-    let played = played.ok().expect(&rt, "stopped");
-    compare(&rt, rt.alloc(), &played);
+    compare(rt, alloc, &stopped.transcript);
+}
+
+fn compare_played(rt: &impl Abort, alloc: Global, setup: &Setup, events: &[Event]) {
+    assert!(rt; setup.is_lawful());
+    let played = play(alloc, setup, events).ok();
+    compare(rt, alloc, &played.expect(rt, "stopped"));
+}
+
+#[test]
+fn a_play_of_events_goes_up_to_the_first_that_is_refused(rt: HostRuntime) {
+    let mut text = SETUP;
+    let setup = read_setup(rt.alloc(), &mut text).expect(&rt, "a fault");
+    let events = EVENTS;
+    compare_stopped(&rt, rt.alloc(), &setup, &events);
+    compare_played(&rt, rt.alloc(), &setup, &events[..3]);
 }
