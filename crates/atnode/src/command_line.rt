@@ -1,6 +1,6 @@
 //! What a command line asks for.
 use clap::error::ErrorKind;
-use clap::{Arg, Command, Error};
+use clap::{Arg, ArgMatches, Command, Error};
 use std::alloc::{AllocError, Global};
 
 /// What the words of a command line ask for.
@@ -27,19 +27,29 @@ pub fn request_of<'a>(alloc: Global, words: &'a [String]) -> Request<'a> {
     }
 }
 
-// What the one subcommand and its one word ask for.
 fn asked_by<'a>(alloc: Global, words: &'a [String]) -> Result<Option<Request<'a>>, Error> {
-    let command = Command::new(alloc, "atnode")
-        .subcommand(subcommand(alloc, "play", "FILE")?)?
-        .subcommand(subcommand(alloc, "udp", "FILE")?)?
-        .subcommand(subcommand(alloc, "show", "HEX")?)?;
-    let matches = command.try_get_matches_from(words)?;
-    match matches.subcommand() {
-        Some(("play", play)) => Ok(play.get_str("FILE").map(Request::Play)),
-        Some(("udp", udp)) => Ok(udp.get_str("FILE").map(Request::Udp)),
-        Some((_, show)) => Ok(show.get_str("HEX").map(Request::Show)),
-        None => Ok(None),
+    let matches = command_of(alloc)?.try_get_matches_from(words)?;
+    Ok(request_in(&matches))
+}
+
+// What the one subcommand and its one word ask for.
+fn request_in<'a>(matches: &ArgMatches<'a>) -> Option<Request<'a>> {
+    match matches.subcommand()? {
+        ("play", play) => play.get_str("FILE").map(Request::Play),
+        ("udp", udp) => udp.get_str("FILE").map(Request::Udp),
+        (_, show) => show.get_str("HEX").map(Request::Show),
     }
+}
+
+// The subcommands, each with the name of its one word.
+const SUBCOMMANDS: [(&str, &str); 3] = [("play", "FILE"), ("udp", "FILE"), ("show", "HEX")];
+
+fn command_of<'a>(alloc: Global) -> Result<Command<'a>, AllocError> {
+    let mut command = Command::new(alloc, "atnode");
+    for (name, word) in SUBCOMMANDS {
+        command = command.subcommand(subcommand(alloc, name, word)?)?;
+    }
+    Ok(command)
 }
 
 // A subcommand that takes one word.
