@@ -14,9 +14,14 @@ use telling::tell;
 fn main(rt: HostRuntime) -> io::Result<()> {
     let setup = two_nodes(rt.alloc())?;
     let mut world = World::open(rt.alloc(), &setup)?;
+    play(&rt, &mut world)
+}
+
+// Plays all events. A function of few values that end in it is proved sooner.
+fn play<R: Print + AllocGlobal>(rt: &R, world: &mut World<Global>) -> io::Result<()> {
     let events = all_events(rt.alloc())?;
     for event in events.as_slice() {
-        step(&rt, &mut world, event)?;
+        step(rt, world, event)?;
     }
     Ok(())
 }
