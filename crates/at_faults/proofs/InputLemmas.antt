@@ -1,6 +1,6 @@
 -- What a reader gave, read by read.
-use Rattle.std.proofs.Common.{◌≡◌, ℕ, ◌+◌, ◌≤◌, List, [], ◌++◌, length, IfSome, take, sym, append-nil, arith}
-use Rattle.std.specs.Prelude.{Option}
+use Rattle.std.proofs.Common.{◌≡◌, ℕ, ◌+◌, ◌<◌, ◌≤◌, List, [], ◌++◌, length, IfSome, take, refl, sym, append-nil, arith}
+use Rattle.std.specs.Prelude.{Option, None, Some}
 use Rattle.std.specs.Io.KnownBytes.{Consumes, IsAtEnd}
 use Rattle.std.proofs.KnownBytes.{Consumes-all, Consumes-trans, Consumes-whole}
 use Rattle.std.proofs.lemmas.List.{length-append, length-take-le}
@@ -12,6 +12,23 @@ all_read first last end bytes part n before read none over =
     let same : bytes ≡ [] ++ (bytes ++ take n part) = rw none (sym (append-nil bytes)) in
     Consumes-all first end (bytes ++ take n part) [] bytes
     (Consumes-trans first last end bytes (take n part) before read) over same
+
+-- if more was read than may be, there was more than may be
+pub much_read : (first last : Option (List ℕ)) (bytes : List ℕ) → Consumes first last bytes → 67108864 < length bytes
+    → IfSome first (λ all. 67108864 < length all)
+much_read None last bytes read much = tt
+much_read (Some all) None bytes read much = absurd read
+much_read (Some all) (Some left) bytes read much =
+    let same : length all ≡ length (bytes ++ left) = rw read refl in
+    omega (arith, much, same, length-append bytes left)
+
+-- a read of more than is left of the most that may be read
+pub over_read : (first last end : Option (List ℕ)) (bytes part : List ℕ) (n : ℕ) → Consumes first last bytes
+    → Consumes last end (take n part) → n ≤ length part → 67108864 < length bytes + n
+    → IfSome first (λ all. 67108864 < length all)
+over_read first last end bytes part n before read fits much =
+    much_read first end (bytes ++ take n part) (Consumes-trans first last end bytes (take n part) before read)
+    (omega (arith, much, length-append bytes (take n part), length-take-le n part fits))
 
 -- so many bytes were read that this much of the most that may be read is left
 abbrev pub IsLeft : Option (List ℕ) → Option (List ℕ) → ℕ → Type 0

@@ -1,6 +1,6 @@
 //! The bytes of a schedule.
-ghost use Rattle.std.specs.Prelude.{◌≡◌, ◌≤◌, length, IfErr, IfOk, IfSome, OnOk, vec_len};
-ghost use Rattle.at_faults.specs.Reads.{IsOfBytes};
+ghost use Rattle.std.specs.Prelude.{◌≡◌, ◌<◌, ◌≤◌, length, IfErr, IfOk, IfSome, OnOk, vec_len};
+ghost use Rattle.at_faults.specs.Reads.{IsOfBytes, IsTooLong};
 
 use crate::fault::{Fault, Unreadable};
 use std::alloc::Allocator;
@@ -12,8 +12,9 @@ pub const MAX_LEN: usize = 67_108_864;
 /// Reads to the end.
 pub fn read_bytes<A: Allocator, R: Read>(alloc: A, reader: &mut R) -> Result<Vec<u8, A>, Fault>
     ensures fits { IfOk result (λ bytes. vec_len bytes ≤ MAX_LEN) }
-    // Said if it is known what the reader holds.
+    // This and the next are said if it is known what the reader holds.
     ensures whole { IfOk result (λ bytes. IfSome (R.remaining reader.old) (λ all. bytes.items ≡ all)) }
+    ensures long { IfErr result (λ e. IsTooLong e → IfSome (R.remaining reader.old) (λ all. MAX_LEN < length all)) }
     ensures fault { IfErr result IsOfBytes }
 {
     let mut bytes = Vec::new(alloc);
@@ -34,8 +35,9 @@ pub fn read_bytes<A: Allocator, R: Read>(alloc: A, reader: &mut R) -> Result<Vec
 
 /// Reads to the end, and tells whether this is too much for a schedule.
 pub fn check_length<R: Read>(reader: &mut R) -> Result<(), Fault>
-    // Said if it is known what the reader holds.
+    // This and the next are said if it is known what the reader holds.
     ensures fits { OnOk result (IfSome (R.remaining reader.old) (λ all. length all ≤ MAX_LEN)) }
+    ensures long { IfErr result (λ e. IsTooLong e → IfSome (R.remaining reader.old) (λ all. MAX_LEN < length all)) }
     ensures fault { IfErr result IsOfBytes }
 {
     let mut left = MAX_LEN;

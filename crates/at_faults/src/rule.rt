@@ -1,4 +1,7 @@
 //! The rules on the lines of a schedule, each as the sentence of a line that breaks it.
+ghost use Rattle.std.specs.Prelude.{◌≡◌, Some};
+ghost use Rattle.at_faults.specs.Sentences.{sentence};
+
 use std::error::Error;
 use std::fmt;
 use std::fmt::{Display, Formatter, Write};
@@ -140,6 +143,8 @@ pub enum Rule {
 
 // By hand: the proof of a derived text of so many variants takes longer than that of all the rest of the crate.
 impl Display for Rule {
+    ghost output = { λ rule. Some (sentence rule) };
+
     fn fmt<W: Write>(&self, f: &mut Formatter<W>) -> fmt::Result {
         f.write_str(self.sentence())
     }
@@ -149,7 +154,9 @@ impl Error for Rule {}
 
 impl Rule {
     // What a person is told of a line that breaks the rule.
-    fn sentence(self) -> &'static str {
+    fn sentence(self) -> &'static str
+        ensures { result.now ≡ sentence self }
+    {
         match self {
             Rule::CarriageReturn =>
                 "the line ends with a carriage return; lines end with a line feed alone",
@@ -170,9 +177,9 @@ impl Rule {
             Rule::Zones => "`zones` wants names of 1 to 32 bytes, as in \"zones Lab Office\"",
             Rule::Local => "`local` wants names of 1 to 32 bytes, as in \"local Lab\"",
             Rule::Call => {
-                "`call` wants a node and `zones`, `setzones`, `localzones`, `setlocal`, `ask`, `answer`, `pick`, `find`, \
-        `claim`, `finish`, `register`, `unregister`, `open`, `listen`, `connect`, `write`, `read`, `reset` or `close`, \
-        as in \"call 5 zones\""
+                "`call` wants a node and `zones`, `setzones`, `localzones`, `setlocal`, `ask`, `answer`, `pick`, \
+        `find`, `claim`, `finish`, `register`, `unregister`, `open`, `listen`, `connect`, `write`, `read`, `reset` \
+        or `close`, as in \"call 5 zones\""
             }
             Rule::CallZones => "`zones` wants nothing after it in a call, as in \"call 5 zones\"",
             Rule::SetZones =>
@@ -215,8 +222,8 @@ impl Rule {
                 "`connect` wants a node and a socket, 1 to 254 each, as in \"call 5 connect 7 130\""
             }
             Rule::Write => {
-                "`write` wants an end's identifier, 0 to 65535, and items, each pairs of hexadecimal digits, `-` for no \
-        bytes, or `end`, as in \"call 5 write 1 6162 end\""
+                "`write` wants an end's identifier, 0 to 65535, and items, each pairs of hexadecimal digits, `-` for \
+        no bytes, or `end`, as in \"call 5 write 1 6162 end\""
             }
             Rule::Read => {
                 "`read` wants an end's identifier and how many items, 0 to 65535 each, as in \"call 7 read 1 10\""

@@ -1,6 +1,6 @@
 use Rattle.std.proofs.Common.{arith, refl, sym, subst, ◌<◌, [], length}
 use Rattle.std.proofs.KnownBytes.{Consumes-kept, Consumes-nil}
-use Rattle.at_faults.proofs.InputLemmas.{IsLeft, few_read, part_read}
+use Rattle.at_faults.proofs.InputLemmas.{IsLeft, few_read, over_read, part_read}
 use Rattle.at_faults.proofs.input.check_length.Goals as goal
 use Rattle.at_faults.proofs.input.check_length.Goals.{in-Ok-2, in-Err}
 
@@ -13,6 +13,13 @@ returns-in-Ok-eq0-clause-fits g c =
     let room : 0 < length c.read.new.buf = omega (arith, c.read.auto.buf) in
     few_read _ _ _ c.read.new.buf c.loop.left c.in-Ok-eq0.field-0 c.loop.invariant read.0 c.in-Ok-eq0.field-0-test
     (read.1 c.in-Ok-eq0.field-0-test room)
+
+pub returns-in-Ok-clause-long : goal.returns-in-Ok-clause-long
+returns-in-Ok-clause-long g c said =
+    let before = c.loop.invariant in
+    let read = c.in-Ok.ensures in
+    over_read _ _ _ before.0 c.read.new.buf c.in-Ok.len before.2 read.bytes.0 read.bound.0
+    (omega (arith, c.if-len-left.true, before.1))
 
 pub loop-preserved : goal.loop-preserved
 loop-preserved g c = elim c.match-read.branch [

@@ -2,7 +2,7 @@ use Rattle.std.proofs.Common.{arith, sym, ap, subst, ◌∙◌, ◌<◌, length}
 use Rattle.std.specs.Io.KnownBytes.{Consumes}
 use Rattle.std.proofs.KnownBytes.{Consumes-kept, Consumes-trans}
 use Rattle.std.proofs.lemmas.Grind.{common_steps}
-use Rattle.at_faults.proofs.InputLemmas.{all_read}
+use Rattle.at_faults.proofs.InputLemmas.{all_read, over_read}
 use Rattle.at_faults.proofs.input.read_bytes.Goals as goal
 use Rattle.at_faults.proofs.input.read_bytes.Goals.{in-Ok-2+in_ok-extend_from_slice-in-Ok-2, in-Err}
 
@@ -12,6 +12,12 @@ returns-in-Ok-eq0-clause-whole g c =
     let room : 0 < length c.read.new.buf = omega (arith, c.read.auto.buf) in
     all_read _ _ _ c.loop.bytes.items c.read.new.buf c.in-Ok-eq0.field-0 c.loop.invariant.taken read.0
     c.in-Ok-eq0.field-0-test (read.1 c.in-Ok-eq0.field-0-test room)
+
+pub returns-in-Ok-clause-long : goal.returns-in-Ok-clause-long
+returns-in-Ok-clause-long g c said =
+    let read = c.in-Ok.ensures in
+    over_read _ _ _ c.loop.bytes.items c.read.new.buf c.in-Ok.len c.loop.invariant.taken read.bytes.0 read.bound.0
+    (omega (arith, c.if-len.true, c.loop.invariant.fits, c.len.ensures))
 
 pub loop-preserved : goal.loop-preserved
 loop-preserved g c = elim c.match-read.branch [
