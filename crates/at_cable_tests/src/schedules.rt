@@ -133,3 +133,20 @@ pub(crate) fn reports_of(alloc: Global, log: &Log) -> Vec<u8> {
     }
     text
 }
+
+/// A drive over this cable, with so many polls in place of a delivery, ends with these reports, and no call fails.
+pub(crate) fn compare<C: Cable>(
+    rt: &impl Abort,
+    alloc: Global,
+    (text, polls): (&str, u32),
+    cable: &mut C,
+    reports: &str,
+) -> Result<(), AllocError> {
+    let setup = setup_of(rt, alloc, text);
+    let steps = steps_of(rt, alloc, text, polls)?;
+    let log = driven(rt, alloc, &setup, &steps, cable);
+    assert!(rt; reports_of(alloc, &log).as_slice() == reports.as_bytes());
+    assert!(rt; log.faults.is_empty());
+    assert_eq!(rt; cable.failures(), 0);
+    Ok(())
+}
