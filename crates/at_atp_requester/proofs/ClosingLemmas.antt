@@ -1,7 +1,8 @@
 -- A packet that ends a transaction leaves the requester as if that transaction were closed.
-use Rattle.std.proofs.Common.{◌≡◌, ℕ, ◌+◌, Bool, true, false, cond, List, [], ◌∷◌, length, Option, Some, None, IsSome}
-use Rattle.std.proofs.Common.{refl, sym, ap, subst, ◌∙◌, arith}
+use Rattle.std.proofs.Common.{◌≡◌, ℕ, ◌<◌, ◌≤◌, Bool, true, false, cond, List, [], ◌∷◌, length, Option, Some, None}
+use Rattle.std.proofs.Common.{IsSome, refl, sym, ap, subst, ◌∙◌, arith}
 use Rattle.std.specs.Prelude.{find, ◌==◌, ◌&&◌, ◌||◌}
+use Rattle.std.specs.List.{position_from}
 use Rattle.std.proofs.lemmas.Bool.{true≢false, false≢true, and_parts, eqb-true}
 use Rattle.at_ddp.specs.Address.{same_address}
 use Rattle.at_ddp.specs.Tables.{without_first}
@@ -11,6 +12,7 @@ use Rattle.at_atp_requester.specs.Requests.{Transaction, Requests, Effect, Numbe
 use Rattle.at_atp_requester.specs.Requests.{is_numbered, is_of, closing, came, is_at_least_once, is_finished, finishes}
 use Rattle.at_atp_requester.specs.Requests.{heard, next_number, response_came}
 use Rattle.at_atp_requester.proofs.RequestLemmas.{number_left}
+use Rattle.at_atp_requester.proofs.StandingLemmas.{no_number, one_less}
 
 -- an entry that is found has its number in the list
 pub found_there : (ts : List Transaction) (tid : ℕ) (from : Address) (t : Transaction)
@@ -74,16 +76,14 @@ turns_to A r closed number differ is from f ends this = is ∙ ap (λ o. next_nu
 
 -- ---- a number is free then
 
-pub shorter : (ts : List Transaction) (tid : ℕ) → has_number ts tid ≡ true
-    → length (without_first (is_numbered tid) ts) + 1 ≡ length ts
-shorter [] tid h = absurd (false≢true h)
-shorter (x ∷ ts) tid h = go (shorter ts tid) (x.tid == tid) refl h
+-- if one of at most 32 open transactions is closed, another may begin
+pub room_left : (ts : List Transaction) (tid : ℕ) → has_number ts tid ≡ true → length ts ≤ 32
+    → length (without_first (is_numbered tid) ts) < 32
+room_left ts tid h few = go (position_from (is_numbered tid) 0 ts) refl
   where
-    go : (has_number ts tid ≡ true → length (without_first (is_numbered tid) ts) + 1 ≡ length ts) → (b : Bool)
-        → (x.tid == tid) ≡ b → (b || has_number ts tid) ≡ true → length (without_first (is_numbered tid) (x ∷ ts)) + 1
-        ≡ length (x ∷ ts)
-    go ih true e g = rw e (omega arith)
-    go ih false e g = let less = ih g in rw e (omega (arith, less))
+    go : (o : Option ℕ) → position_from (is_numbered tid) 0 ts ≡ o → length (without_first (is_numbered tid) ts) < 32
+    go (Some i) is = let less = one_less tid i ts is in omega (arith, less, few)
+    go None is = absurd (true≢false (sym h ∙ no_number tid 0 ts is))
 
 ends_open : (A : Type 0) (r : Requests) (from : Address) (f : Content) → finishes A r from f ≡ true
     → has_number r.standing (number_of f) ≡ true
@@ -102,7 +102,5 @@ ends_open A r from (Response place eom sts tid user bytes) h =
 pub is_free_then : (A : Type 0) (r : Requests) (from : Address) (f : Content) → IsRequester r → finishes A r from f
     ≡ true → IsSome (next_number (heard {A = A} r from f).after)
 is_free_then A r from f ok h =
-    let few = ok.few in
-    let less = shorter r.standing (number_of f) (ends_open A r from f h) in
     subst (λ (x : Requests). IsSome (next_number x)) (sym (closes_its A r from f ok.differ h))
-    (number_left (closing r (Some (number_of f))) (omega (arith, few, less)))
+    (number_left (closing r (Some (number_of f))) (room_left r.standing (number_of f) (ends_open A r from f h) ok.few))

@@ -1,20 +1,20 @@
 -- The open transactions in their table, each found by its number.
 use Rattle.std.proofs.Common.{◌≡◌, ℕ, ◌+◌, ◌-◌, nat_eq, Bool, true, false, cond, List, [], ◌∷◌, length, map, Option}
 use Rattle.std.proofs.Common.{Some, None, is_some, refl, sym, ap, ◌∙◌, arith}
-use Rattle.std.specs.Prelude.{find, ◌==◌, ◌&&◌, ◌||◌}
+use Rattle.std.specs.Prelude.{find, remove, ◌==◌, ◌&&◌, ◌||◌}
 use Rattle.std.specs.List.{position_from}
 use Rattle.std.specs.Option.{option_eq}
 use Rattle.std.proofs.lemmas.Bool.{true≢false, eqb-true, or_parts}
+use Rattle.std.proofs.lemmas.List.Edits.{length-remove}
 use Rattle.at_ddp.specs.Address.{same_address}
 use Rattle.at_ddp.specs.Tables.{without_first}
 use Rattle.at_ddp.specs.declared.address.Address.{Address}
 use Rattle.at_ddp.proofs.EqualLemmas.{turned}
-use Rattle.at_ddp.proofs.TableLemmas.{not_found, without_none}
+use Rattle.at_ddp.proofs.TableLemmas.{found, not_found, without_none}
 use Rattle.at_table.specs.Rows.{Rows}
 use Rattle.at_atp_requester.specs.Requests.{NumbersDiffer, Requests, Transaction, closing, has_number, is_numbered}
 use Rattle.at_atp_requester.specs.Requests.{is_of}
 use Rattle.at_atp_requester.specs.Standing.{AreFiled, left_open, tid_of}
-use Rattle.at_atp_requester.proofs.ClosingLemmas.{shorter}
 
 -- it finds the transaction that has the number
 pub finds_number : (tid : ℕ) (t : Transaction) → nat_eq tid (tid_of t) ≡ is_numbered tid t
@@ -124,11 +124,12 @@ pub others_stay : (closed : Option ℕ) (tid : ℕ) (ts : List Transaction)
 others_stay None tid ts h = refl
 others_stay (Some c) tid ts h = others c tid ts h
 
-pub one_less : (tid n i : ℕ) (ts : List Transaction) → position_from (is_numbered tid) n ts ≡ Some i
+pub one_less : (tid i : ℕ) (ts : List Transaction) → position_from (is_numbered tid) 0 ts ≡ Some i
     → length ts - 1 ≡ length (without_first (is_numbered tid) ts)
-one_less tid n i ts h =
-    let less = shorter ts tid (sym (some_position tid n ts) ∙ ap is_some h) in
-    omega (arith, less)
+one_less tid i ts h =
+    let place = found (is_numbered tid) ts i h in
+    let same : length (without_first (is_numbered tid) ts) ≡ length (remove ts i) = ap length place.gone_is in
+    omega (arith, same, length-remove ts i place.within)
 
 pub none_less : (tid : ℕ) (ts : List Transaction) → position_from (is_numbered tid) 0 ts ≡ None
     → length ts ≡ length (without_first (is_numbered tid) ts)

@@ -1,6 +1,6 @@
 //! What an open stream asks of memory: room for what it sends, and nothing else.
 use at_adsp_ends::{Ends, Item, Rooms};
-use at_ddp::{Address, Datagrams, Outbox, decode};
+use at_ddp::{ADSP, Address, Datagrams, Outbox, decode};
 use refusing::Refusing;
 use std::alloc::Global;
 use std::process::Abort;
@@ -21,9 +21,6 @@ const ROOMS: Rooms = Rooms {
     receive: 64,
     send: 64,
 };
-
-/// The protocol of streams.
-const ADSP: u8 = 7;
 
 /// The identifier of the first end of a table.
 const FIRST: u16 = 1;

@@ -1,6 +1,6 @@
-use Rattle.std.proofs.Common.{Some, sym, ap, ◌∙◌, arith}
+use Rattle.std.proofs.Common.{Some, sym, ap, ◌∙◌}
 use Rattle.at_atp_requester.specs.Requests.{Requests, closing, next_number}
-use Rattle.at_atp_requester.proofs.ClosingLemmas.{shorter}
+use Rattle.at_atp_requester.proofs.ClosingLemmas.{room_left}
 use Rattle.at_atp_requester.proofs.StandingLemmas.{closing_is}
 use Rattle.at_atp_requester.proofs.TurnLemmas.{drawn_next}
 use Rattle.at_atp_requester.proofs.requester.Requester.following.Goals as goal
@@ -8,8 +8,8 @@ use Rattle.at_atp_requester.proofs.requester.Requester.following.Goals as goal
 pub unwrap-tid-requires : goal.unwrap-tid-requires
 unwrap-tid-requires g c =
     let r : Requests = record { next = c.self.inside.next; standing = c.self.inside.standing.items } in
-    let less = shorter r.standing c.args.ended (rw (← c.self.view_is) at c.requires) in
-    c.next_of.ensures.some (omega (arith, less, c.self.invariant.0.few))
+    c.next_of.ensures.some
+    (room_left r.standing c.args.ended (rw (← c.self.view_is) at c.requires) c.self.invariant.0.few)
 
 pub returns-clause-drawn : goal.returns-clause-drawn
 returns-clause-drawn g c =
