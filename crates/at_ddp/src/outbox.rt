@@ -30,7 +30,10 @@ impl<A: Allocator + Copy> Outbox<A> {
     /// Takes over a list, which is empty until the outbox gives it back by `into_list`. The socket `from` sends
     /// datagrams of protocol `kind`.
     pub fn lent(alloc: A, list: &mut Datagrams<A>, from: Address, kind: u8) -> Outbox<A>
-        ensures { result ≡ record { items = list.old.items; from = from; kind = kind; room = list.old.room } }
+        ensures items { result.items ≡ list.old.items }
+        ensures from { result.from ≡ from }
+        ensures kind { result.kind ≡ kind }
+        ensures room { result.room ≡ list.old.room }
     {
         Outbox::over(mem::replace(list, Datagrams::new(alloc)), from, kind)
     }

@@ -1,7 +1,6 @@
 //! The part of a node that speaks ATP and ZIP. Each of its three sockets has a file of its own.
 ghost use Rattle.std.specs.Prelude.{◌≡◌, Option, None};
 ghost use Rattle.at_ddp.specs.Datagram.{content};
-ghost use Rattle.at_ddp.specs.Protocols.{atp_kind};
 ghost use Rattle.at_node.specs.AtpHearing.{HearsAtp};
 ghost use Rattle.at_node.specs.AtpParts.{opening};
 ghost use Rattle.at_event.specs.Outcomes.{Comes};
@@ -13,7 +12,7 @@ use crate::service_socket::SERVICE_SOCKET;
 use crate::zone_reading::ZoneReading;
 use crate::zone_socket::ZONE_SOCKET;
 use at_atp::{Requester, Responder};
-use at_ddp::{ATP, Address, Datagram, Datagrams, Outbox};
+use at_ddp::{Datagram, Datagrams};
 use at_event::{Report, Seat, Service};
 use at_zip::Tables;
 use std::alloc::Allocator;
@@ -88,18 +87,4 @@ impl<A: Allocator + Copy> AtpPart<A> {
         }
         Report::Ignored
     }
-}
-
-// An outbox of one of the part's sockets, over a list that is empty until the outbox gives it back.
-pub(crate) fn outbox_over<A: Allocator + Copy>(
-    alloc: A,
-    own: Address,
-    list: &mut Datagrams<A>,
-) -> Outbox<A>
-    ensures items { result.items ≡ list.old.items }
-    ensures from { result.from ≡ own }
-    ensures kind { result.kind ≡ atp_kind }
-    ensures room { result.room ≡ list.old.room }
-{
-    Outbox::lent(alloc, list, own, ATP)
 }

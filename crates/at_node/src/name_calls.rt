@@ -6,11 +6,11 @@ ghost use Rattle.at_node.specs.NameCalls.{claim_called, find_called, finish_call
 ghost use Rattle.at_node.specs.NameCalls.{register_called, told_of, unregister_called};
 ghost use Rattle.at_event.specs.Outcomes.{IsStep};
 
-use crate::name_part::{NamePart, outbox_over};
+use crate::name_part::NamePart;
 use crate::node::refused;
-use at_ddp::{Datagrams, Listed, Pascal};
+use at_ddp::{Datagrams, Listed, NBP, Outbox, Pascal};
 use at_event::{Report, Seat};
-use at_name_socket::Finished;
+use at_name_socket::{Finished, NAME_SOCKET};
 use at_nbp::{Find, Name, copy_of};
 use std::alloc::{AllocError, Allocator};
 
@@ -19,7 +19,7 @@ impl<A: Allocator + Copy> NamePart<A> {
     pub(crate) fn find(&mut self, seat: Seat, pattern: Name, out: &mut Datagrams<A>) -> Report<A>
         ensures { IsStep (find_called seat self.old pattern) self.old out.old.items result self.new out.new.items }
     {
-        let mut outbox = outbox_over(self.alloc, seat, out);
+        let mut outbox = Outbox::lent(self.alloc, out, seat.at(NAME_SOCKET), NBP);
         let begun = self.socket.find(pattern, &mut outbox);
         *out = outbox.into_list();
         match begun {
@@ -40,7 +40,7 @@ impl<A: Allocator + Copy> NamePart<A> {
         ensures { IsStep (claim_called seat self.old object.now kind.now socket) self.old out.old.items result self.new
             out.new.items }
     {
-        let mut outbox = outbox_over(self.alloc, seat, out);
+        let mut outbox = Outbox::lent(self.alloc, out, seat.at(NAME_SOCKET), NBP);
         let begun = self
             .socket
             .claim(copy_of(object), copy_of(kind), socket, &mut outbox);
@@ -73,7 +73,7 @@ impl<A: Allocator + Copy> NamePart<A> {
     pub(crate) fn ask_again(&mut self, seat: Seat, id: u8, out: &mut Datagrams<A>) -> Report<A>
         ensures { IsStep (lookup_fired seat self.old id) self.old out.old.items result self.new out.new.items }
     {
-        let mut outbox = outbox_over(self.alloc, seat, out);
+        let mut outbox = Outbox::lent(self.alloc, out, seat.at(NAME_SOCKET), NBP);
         let asked = self.socket.retry(id, &mut outbox);
         *out = outbox.into_list();
         match asked {

@@ -1,8 +1,7 @@
 //! The part of a node that speaks NBP: its socket for names, and what packets do there.
 ghost use Rattle.std.specs.Prelude.{◌≡◌, Option, false};
 ghost use Rattle.at_ddp.specs.Datagram.{content};
-ghost use Rattle.at_ddp.specs.Protocols.{nbp_kind};
-ghost use Rattle.at_name_socket.specs.NameSockets.{names_of, opening};
+ghost use Rattle.at_name_socket.specs.NameSockets.{opening};
 ghost use Rattle.at_name_socket.specs.declared.neighbour.Neighbour.{Neighbour as Known};
 ghost use Rattle.at_node.specs.NameHearing.{HearsNames, told_by};
 ghost use Rattle.at_event.specs.Outcomes.{Comes};
@@ -59,7 +58,7 @@ impl<A: Allocator + Copy> NamePart<A> {
         if datagram.to.socket != NAME_SOCKET {
             return Report::Ignored;
         }
-        let mut outbox = outbox_over(self.alloc, seat, out);
+        let mut outbox = Outbox::lent(self.alloc, out, seat.at(NAME_SOCKET), NBP);
         let heard = self.socket.receive(datagram.data_, &mut outbox);
         *out = outbox.into_list();
         match heard {
@@ -67,19 +66,6 @@ impl<A: Allocator + Copy> NamePart<A> {
             Err(fault) => refused(fault.number()),
         }
     }
-}
-
-// An outbox of the socket for names, over a list that is empty until the outbox gives it back.
-pub(crate) fn outbox_over<A: Allocator + Copy>(
-    alloc: A,
-    seat: Seat,
-    list: &mut Datagrams<A>,
-) -> Outbox<A>
-    ensures items { result.items ≡ list.old.items }
-    ensures from { result.from ≡ names_of seat.net seat.number }
-    ensures kind { result.kind ≡ nbp_kind }
-{
-    Outbox::lent(alloc, list, seat.at(NAME_SOCKET), NBP)
 }
 
 // The report of what came of a packet.

@@ -15,13 +15,13 @@ ghost use Rattle.at_zip.specs.Fault.{number_of as zip_number};
 ghost use Rattle.at_zip.specs.Reading.{HasRoomFor};
 ghost use Rattle.at_zip.specs.Request.{request_user};
 
-use crate::atp_part::{AtpPart, outbox_over};
+use crate::atp_part::AtpPart;
 use crate::incoming::Incoming;
 use crate::node::refused;
 use crate::requester_socket::{REQUESTER_SOCKET, hear};
 use crate::zone_reading::{RETRIES, ZoneReading};
 use at_atp::Requester;
-use at_ddp::{Address, Datagrams};
+use at_ddp::{ATP, Address, Datagrams, Outbox};
 use at_event::Report;
 use at_zip::{PageView, Taken, ZipFault, read_page, request_user};
 use std::alloc::{AllocError, Allocator};
@@ -192,7 +192,7 @@ fn turn<A: Allocator + Copy>(
     ensures unchanged { OnErr result (requester.new ≡ requester.old) }
     ensures nothing_sent { OnErr result (out.new.items ≡ out.old.items) }
 {
-    let mut outbox = outbox_over(alloc, own, out);
+    let mut outbox = Outbox::lent(alloc, out, own, ATP);
     let turned = requester.turn(packet.from, &packet.frame, user, RETRIES, &mut outbox);
     *out = outbox.into_list();
     match turned {

@@ -14,11 +14,11 @@ ghost use Rattle.at_event.specs.Services.{is_asked};
 ghost use Rattle.at_node.specs.ZoneReading.{is_page};
 ghost use Rattle.at_event.specs.declared.service.Reply.{Reply as Said};
 
-use crate::atp_part::{AtpPart, outbox_over};
+use crate::atp_part::AtpPart;
 use crate::incoming::Incoming;
 use crate::node::refused;
 use at_atp::{AtpFault, Frame, Requester, Retry, Step};
-use at_ddp::{Address, Datagram, Datagrams};
+use at_ddp::{ATP, Address, Datagram, Datagrams, Outbox};
 use at_event::{Report, Seat};
 use std::alloc::{AllocError, Allocator};
 
@@ -157,7 +157,7 @@ pub(crate) fn begin<A: Allocator + Copy>(
         exactly_once,
         retries,
     } = *question;
-    let mut outbox = outbox_over(alloc, own, out);
+    let mut outbox = Outbox::lent(alloc, out, own, ATP);
     let begun = requester.begin(to, user, bytes, wanted, exactly_once, retries, &mut outbox);
     *out = outbox.into_list();
     begun
@@ -179,7 +179,7 @@ fn retry<A: Allocator + Copy>(
     ensures unchanged { OnErr result (requester.new ≡ requester.old) }
     ensures nothing_sent { OnErr result (out.new.items ≡ out.old.items) }
 {
-    let mut outbox = outbox_over(alloc, own, out);
+    let mut outbox = Outbox::lent(alloc, out, own, ATP);
     let step = requester.retry(tid, &mut outbox);
     *out = outbox.into_list();
     step
@@ -206,7 +206,7 @@ pub(crate) fn hear<A: Allocator + Copy>(
     ensures ignored { is_ignored (heard {A = A} requester.old packet.now.from (content packet.now.frame)).step ≡ true
         → IsOk result }
 {
-    let mut outbox = outbox_over(alloc, own, out);
+    let mut outbox = Outbox::lent(alloc, out, own, ATP);
     let step = requester.receive(packet.from, &packet.frame, &mut outbox);
     *out = outbox.into_list();
     step

@@ -8,13 +8,13 @@ ghost use Rattle.at_event.specs.Outcomes.{posted, sent_by};
 ghost use Rattle.at_node.specs.Responders.{is_release, release_fired, released_report};
 ghost use Rattle.at_event.specs.Services.{is_asked};
 
-use crate::atp_part::{AtpPart, outbox_over};
+use crate::atp_part::AtpPart;
 use crate::incoming::Incoming;
 use crate::node::refused;
 use crate::service_socket::SERVICE_SOCKET;
 use crate::zone_socket::ZONE_SOCKET;
 use at_atp::{AtpFault, Key, Packet, Reception, Responder};
-use at_ddp::{Address, Datagrams};
+use at_ddp::{ATP, Address, Datagrams, Outbox};
 use at_event::Report;
 use std::alloc::Allocator;
 
@@ -59,7 +59,7 @@ pub(crate) fn hear<A: Allocator + Copy>(
     ensures nothing_sent { OnErr result (out.new.items ≡ out.old.items) }
     ensures release { is_release (content packet.now.frame) ≡ true → IsOk result }
 {
-    let mut outbox = outbox_over(alloc, own, out);
+    let mut outbox = Outbox::lent(alloc, out, own, ATP);
     let reception = records.receive(packet.from, &packet.frame, &mut outbox);
     *out = outbox.into_list();
     reception
@@ -84,7 +84,7 @@ pub(crate) fn answer<A: Allocator + Copy>(
     ensures unchanged { OnErr result (records.new ≡ records.old) }
     ensures nothing_sent { OnErr result (out.new.items ≡ out.old.items) }
 {
-    let mut outbox = outbox_over(alloc, own, out);
+    let mut outbox = Outbox::lent(alloc, out, own, ATP);
     let answered = records.respond(key, packets, &mut outbox);
     *out = outbox.into_list();
     answered

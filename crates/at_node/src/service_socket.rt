@@ -15,12 +15,12 @@ ghost use Rattle.at_event.specs.declared.seat.Seat.{Seat as Place};
 ghost use Rattle.at_event.specs.declared.service.Reply.{Reply as Said};
 ghost use Rattle.at_node.specs.AtpParts.{serving};
 
-use crate::atp_part::{AtpPart, outbox_over};
+use crate::atp_part::AtpPart;
 use crate::incoming::Incoming;
 use crate::node::refused;
 use crate::responders::{answer, hear, release};
 use at_atp::{Frame, Key, Packet, Reception, Responder};
-use at_ddp::{Address, Bytes, Datagram, Datagrams, Outbox};
+use at_ddp::{ATP, Address, Bytes, Datagram, Datagrams, Outbox};
 use at_event::{Reply, Report, Seat, Service};
 use std::alloc::{AllocError, Allocator};
 
@@ -161,7 +161,7 @@ fn hand_up<A: Allocator + Copy, S: Service<A>>(
 {
     // The copy comes first: a delivery to the service cannot be taken back.
     let copy = Bytes::copy_of(alloc, bytes)?;
-    let mut outbox = outbox_over(alloc, own, out);
+    let mut outbox = Outbox::lent(alloc, out, own, ATP);
     let replied = reply(records, service, key, user, bytes, &mut outbox);
     *out = outbox.into_list();
     match replied {

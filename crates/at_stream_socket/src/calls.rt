@@ -5,9 +5,9 @@ ghost use Rattle.at_event.specs.Outcomes.{IsStep};
 ghost use Rattle.at_stream_socket.specs.Calls.{close_called, connect_called, listen_called, reset_called, tick_fired};
 ghost use Rattle.at_stream_socket.specs.Calls.{write_called};
 
-use crate::socket::{StreamSocket, outbox_over, refused_by, told_by};
+use crate::socket::{STREAM_SOCKET, StreamSocket, refused_by, told_by};
 use at_adsp_ends::{Item, Tick};
-use at_ddp::{Address, Datagrams};
+use at_ddp::{ADSP, Address, Datagrams, Outbox};
 use at_event::{Report, Seat};
 use std::alloc::Allocator;
 
@@ -24,7 +24,7 @@ impl<A: Allocator + Copy> StreamSocket<A> {
     pub fn connect(&mut self, seat: Seat, to: Address, out: &mut Datagrams<A>) -> Report<A>
         ensures { IsStep (connect_called seat self.old to) self.old out.old.items result self.new out.new.items }
     {
-        let mut outbox = outbox_over(self.alloc, seat, out);
+        let mut outbox = Outbox::lent(self.alloc, out, seat.at(STREAM_SOCKET), ADSP);
         let begun = self.ends.connect(to, &mut outbox);
         *out = outbox.into_list();
         match begun {
@@ -37,7 +37,7 @@ impl<A: Allocator + Copy> StreamSocket<A> {
     pub fn close(&mut self, seat: Seat, id: u16, out: &mut Datagrams<A>) -> Report<A>
         ensures { IsStep (close_called seat self.old id) self.old out.old.items result self.new out.new.items }
     {
-        let mut outbox = outbox_over(self.alloc, seat, out);
+        let mut outbox = Outbox::lent(self.alloc, out, seat.at(STREAM_SOCKET), ADSP);
         let closed = self.ends.close(id, &mut outbox);
         *out = outbox.into_list();
         match closed {
@@ -57,7 +57,7 @@ impl<A: Allocator + Copy> StreamSocket<A> {
         ensures { IsStep (write_called seat self.old id items.now) self.old out.old.items result self.new
             out.new.items }
     {
-        let mut outbox = outbox_over(self.alloc, seat, out);
+        let mut outbox = Outbox::lent(self.alloc, out, seat.at(STREAM_SOCKET), ADSP);
         let wrote = self.ends.write(id, items, &mut outbox);
         *out = outbox.into_list();
         match wrote {
@@ -70,7 +70,7 @@ impl<A: Allocator + Copy> StreamSocket<A> {
     pub fn reset(&mut self, seat: Seat, id: u16, out: &mut Datagrams<A>) -> Report<A>
         ensures { IsStep (reset_called seat self.old id) self.old out.old.items result self.new out.new.items }
     {
-        let mut outbox = outbox_over(self.alloc, seat, out);
+        let mut outbox = Outbox::lent(self.alloc, out, seat.at(STREAM_SOCKET), ADSP);
         let reset = self.ends.reset(id, &mut outbox);
         *out = outbox.into_list();
         match reset {
@@ -83,7 +83,7 @@ impl<A: Allocator + Copy> StreamSocket<A> {
     pub fn tick(&mut self, seat: Seat, id: u16, tick: Tick, out: &mut Datagrams<A>) -> Report<A>
         ensures { IsStep (tick_fired seat self.old id tick) self.old out.old.items result self.new out.new.items }
     {
-        let mut outbox = outbox_over(self.alloc, seat, out);
+        let mut outbox = Outbox::lent(self.alloc, out, seat.at(STREAM_SOCKET), ADSP);
         let ticked = self.ends.tick(id, tick, &mut outbox);
         *out = outbox.into_list();
         match ticked {

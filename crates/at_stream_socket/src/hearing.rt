@@ -7,10 +7,10 @@ ghost use Rattle.at_event.specs.Outcomes.{Comes, refused_as};
 ghost use Rattle.at_event.specs.Services.{is_asked};
 ghost use Rattle.at_stream_socket.specs.Hearing.{HearsStreams, Makes};
 
-use crate::socket::{STREAM_SOCKET, StreamSocket, outbox_over, told_by};
+use crate::socket::{STREAM_SOCKET, StreamSocket, told_by};
 use at_adsp_ends::laws::what_is_ignored_does_nothing;
 use at_adsp_frame::{AdspFault, decode};
-use at_ddp::{Datagram, Datagrams};
+use at_ddp::{ADSP, Datagram, Datagrams, Outbox};
 use at_event::{Report, Seat};
 use std::alloc::{AllocError, Allocator};
 
@@ -35,7 +35,7 @@ impl<A: Allocator + Copy> StreamSocket<A> {
         };
         // So what is ignored needs no memory.
         what_is_ignored_does_nothing();
-        let mut outbox = outbox_over(self.alloc, seat, out);
+        let mut outbox = Outbox::lent(self.alloc, out, seat.at(STREAM_SOCKET), ADSP);
         let heard = self.ends.receive(datagram.from, &segment, &mut outbox);
         *out = outbox.into_list();
         match heard {

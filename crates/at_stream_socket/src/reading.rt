@@ -5,9 +5,9 @@ ghost use Rattle.at_adsp_ends.specs.Tables.{by_id};
 ghost use Rattle.at_event.specs.Outcomes.{IsStep};
 ghost use Rattle.at_stream_socket.specs.Calls.{read_called};
 
-use crate::socket::{StreamSocket, outbox_over, refused_by};
+use crate::socket::{STREAM_SOCKET, StreamSocket, refused_by};
 use at_adsp_ends::Item;
-use at_ddp::{Datagrams, Listed};
+use at_ddp::{ADSP, Datagrams, Listed, Outbox};
 use at_event::{Report, Seat};
 use std::alloc::Allocator;
 
@@ -31,7 +31,7 @@ impl<A: Allocator + Copy> StreamSocket<A> {
         let Ok(()) = items.resize(count, Item::End) else {
             return Report::NoMemory;
         };
-        let mut outbox = outbox_over(self.alloc, seat, out);
+        let mut outbox = Outbox::lent(self.alloc, out, seat.at(STREAM_SOCKET), ADSP);
         let read = self.ends.read(id, &mut items, &mut outbox);
         *out = outbox.into_list();
         match read {

@@ -1,17 +1,15 @@
 //! The socket of a node for streams, with its table of ends, and how steps and refusals of ends are reported.
 ghost use Rattle.std.specs.Prelude.{◌≡◌, Some, false, option_map};
 ghost use Rattle.std.specs.List.{AllByRecursion, list_any};
-ghost use Rattle.at_ddp.specs.Protocols.{adsp_kind};
 ghost use Rattle.at_adsp_end.specs.Ends.{FitsRooms};
 ghost use Rattle.at_adsp_end.specs.Fault.{number_of};
 ghost use Rattle.at_adsp_ends.specs.Tables.{AreEnds, AreRooms, has_remote_at, next_id, no_ends};
 ghost use Rattle.at_event.specs.Outcomes.{refused_as};
 ghost use Rattle.at_event.specs.Services.{is_asked};
-ghost use Rattle.at_stream_socket.specs.Sockets.{streams_at, told_by};
+ghost use Rattle.at_stream_socket.specs.Sockets.{told_by};
 
 use at_adsp_ends::{Ends, Rooms, Step, StreamFault};
-use at_ddp::{ADSP, Datagrams, Outbox};
-use at_event::{Report, Seat};
+use at_event::Report;
 use std::alloc::{Allocator, Global};
 use std::marker::Model;
 
@@ -66,19 +64,6 @@ impl<A: Allocator + Copy> StreamSocket<A> {
     {
         self.ends.holds_number(node, id)
     }
-}
-
-// An outbox of the socket for streams, over a list that is empty until the outbox gives it back.
-pub(crate) fn outbox_over<A: Allocator + Copy>(
-    alloc: A,
-    seat: Seat,
-    list: &mut Datagrams<A>,
-) -> Outbox<A>
-    ensures items { result.items ≡ list.old.items }
-    ensures from { result.from ≡ streams_at seat.net seat.number }
-    ensures kind { result.kind ≡ adsp_kind }
-{
-    Outbox::lent(alloc, list, seat.at(STREAM_SOCKET), ADSP)
 }
 
 // The report of a step.

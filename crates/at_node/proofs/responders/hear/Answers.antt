@@ -3,7 +3,7 @@ use Rattle.at_node.proofs.responders.hear.Goals as goal
 
 pub returns-clause-sent : goal.returns-clause-sent
 returns-clause-sent g c =
-    taken_posts c.receive-reception.result _ c.receive-reception.new.self c.outbox_over-outbox.result
+    taken_posts c.receive-reception.result _ c.receive-reception.new.self c.lent-outbox.result
     c.receive-reception.new.out c.args.out.now.items c.into_list.result.items c.args.own c.receive-reception.ensures.ok
-    c.outbox_over-outbox.ensures.items c.outbox_over-outbox.ensures.from c.outbox_over-outbox.ensures.kind
+    c.lent-outbox.ensures.items c.lent-outbox.ensures.from c.lent-outbox.ensures.kind
     c.into_list.ensures.items

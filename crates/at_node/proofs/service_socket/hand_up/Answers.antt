@@ -10,8 +10,8 @@ returns-in-Ok-clause-replied g c =
       r.0,
       r.1,
       r.2,
-      posts c.outbox_over-outbox.result c.reply-replied.new.out
+      posts c.lent-outbox.result c.reply-replied.new.out
           (spelled_all (sent_by_reply c.args.records.now c.args.key r.0)) c.args.out.now.items c.into_list.result.items
-          c.args.own atp_kind r.3 c.outbox_over-outbox.ensures.items c.outbox_over-outbox.ensures.from
-          c.outbox_over-outbox.ensures.kind c.into_list.ensures.items,
+          c.args.own atp_kind r.3 c.lent-outbox.ensures.items c.lent-outbox.ensures.from
+          c.lent-outbox.ensures.kind c.into_list.ensures.items,
     )

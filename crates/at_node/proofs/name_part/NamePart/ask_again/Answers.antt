@@ -1,4 +1,4 @@
-use Rattle.std.proofs.Common.{rules, subst}
+use Rattle.std.proofs.Common.{rules, subst, ◌∙◌}
 use Rattle.at_nbp.specs.Lookups.{search_of}
 use Rattle.at_name_socket.specs.NameSockets.{SocketState}
 use Rattle.at_node.specs.NameCalls.{lookup_fired}
@@ -15,9 +15,9 @@ returns g c = elim c.match-asked.branch [
       rw w.result-is
       (subst (λ (x : SocketState). IsStep (lookup_fired {A = g.row.A.Denot} c.args.seat x c.args.id) x
       c.args.out.now.items Again x c.into_list.result.items) c.self.view_is
-      (again_sent {A = g.row.A.Denot} c.args.seat n (search_of n.lookups c.args.id) c.outbox_over-outbox.result
+      (again_sent {A = g.row.A.Denot} c.args.seat n (search_of n.lookups c.args.id) c.lent-outbox.result
       c.retry-asked.new.out c.args.out.now.items c.into_list.result.items
-      (λ e. let x = w.in-Ok.ensures.missing.1 e in absurd (cc)) w.in-Ok.ensures.ok c.outbox_over-outbox.ensures.items
-      c.outbox_over-outbox.ensures.from c.outbox_over-outbox.ensures.kind c.into_list.ensures.items))
+      (λ e. let x = w.in-Ok.ensures.missing.1 e in absurd (cc)) w.in-Ok.ensures.ok c.lent-outbox.ensures.items
+      (c.lent-outbox.ensures.from ∙ c.at.ensures) c.lent-outbox.ensures.kind c.into_list.ensures.items))
   | in-Err w ↦ search rules
 ]

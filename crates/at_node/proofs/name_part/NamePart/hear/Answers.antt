@@ -33,15 +33,15 @@ returns-clause-comes g c =
           (subst (λ (x : SocketState). Comes (HearsData {A = g.row.A.Denot} s x d.data_) x items
           (told_by w.in-Ok.heard) c.receive-heard.new.self c.into_list.result.items) c.self.view_is
           (heard_comes g.row.A.Denot s n d.data_ items w.in-Ok.heard c.receive-heard.new.self ok.0
-          c.outbox_over-outbox.result c.receive-heard.new.out c.into_list.result.items ok.1 ok.2
-          c.outbox_over-outbox.ensures.items c.outbox_over-outbox.ensures.from c.outbox_over-outbox.ensures.kind
+          c.lent-outbox.result c.receive-heard.new.out c.into_list.result.items ok.1 ok.2
+          c.lent-outbox.ensures.items (c.lent-outbox.ensures.from ∙ c.at.ensures) c.lent-outbox.ensures.kind
           c.into_list.ensures.items))
       | in-Err w ↦
           let e = w.in-Err.ensures in
           let nothing = e.nothing_sent in
           let same : c.receive-heard.new.self ≡ c.args.self.now = e.unchanged ∙ c.self.view_is in
           let stays : c.into_list.result.items ≡ items = c.into_list.ensures.items ∙ nothing.items
-          ∙ append-nil c.outbox_over-outbox.result.items ∙ c.outbox_over-outbox.ensures.items in
+          ∙ append-nil c.lent-outbox.result.items ∙ c.lent-outbox.ensures.items in
           rw (w.result-is, same, stays)
           (subst (λ (x : SocketState). Comes (HearsData {A = g.row.A.Denot} s x d.data_) x items w.refused.result x
           items) c.self.view_is

@@ -14,12 +14,12 @@ pub returns : goal.returns
 returns g c =
     let t = c.self.inside.ends in
     let all : length c.deref_mut.result.now ≡ c.args.count = c.deref_mut.ensures.len ∙ c.in-Ok.ensures.len in
-    let box : IsBox c.args.seat c.outbox_over-outbox.result c.read-read.new.out c.args.out.now.items
+    let box : IsBox c.args.seat c.lent-outbox.result c.read-read.new.out c.args.out.now.items
     c.into_list.result.items =
     record {
-      items = c.outbox_over-outbox.ensures.items;
-      from = c.outbox_over-outbox.ensures.from;
-      kind = c.outbox_over-outbox.ensures.kind;
+      items = c.lent-outbox.ensures.items;
+      from = c.lent-outbox.ensures.from ∙ c.at.ensures;
+      kind = c.lent-outbox.ensures.kind;
       back = c.into_list.ensures.items;
     } in
     let same : c.match-read.result
@@ -44,11 +44,11 @@ returns g c =
           ∙ ap (λ r. reported {A = g.row.A.Denot} report.Read (read_of r c.read-read.new.items)) (sym w.in-Err.is)
     ] in
     let call = subst (λ n. IsCalled (read_at wire t n (by_id t c.args.id))
-    (read_of c.read-read.result c.read-read.new.items) t c.read-read.new.self c.outbox_over-outbox.result
+    (read_of c.read-read.result c.read-read.new.items) t c.read-read.new.self c.lent-outbox.result
     c.read-read.new.out) all c.read-read.ensures.call in
     rw (same, ← c.self.view_is)
     (call_step c.args.seat t c.read-read.new.self report.Read (read_at wire t c.args.count (by_id t c.args.id))
-    (read_of c.read-read.result c.read-read.new.items) c.outbox_over-outbox.result c.read-read.new.out
+    (read_of c.read-read.result c.read-read.new.items) c.lent-outbox.result c.read-read.new.out
     c.args.out.now.items c.into_list.result.items (λ x. refl) (λ d is. refl) box call)
 
 pub returns-in_default : goal.returns-in_default

@@ -23,12 +23,12 @@ returns-in-Err-clause-comes g c =
 pub returns-clause-comes : goal.returns-clause-comes
 returns-clause-comes g c =
     let d = content c.args.datagram.now in
-    let box : IsBox c.args.seat c.outbox_over-outbox.result c.receive-heard.new.out c.args.out.now.items
+    let box : IsBox c.args.seat c.lent-outbox.result c.receive-heard.new.out c.args.out.now.items
     c.into_list.result.items =
     record {
-      items = c.outbox_over-outbox.ensures.items;
-      from = c.outbox_over-outbox.ensures.from;
-      kind = c.outbox_over-outbox.ensures.kind;
+      items = c.lent-outbox.ensures.items;
+      from = c.lent-outbox.ensures.from ∙ c.at.ensures;
+      kind = c.lent-outbox.ensures.kind;
       back = c.into_list.ensures.items;
     } in
     let same : c.match-heard.result ≡ reported c.receive-heard.result = elim c.match-heard.branch [
@@ -36,13 +36,13 @@ returns-clause-comes g c =
           ∙ ap (reported {A = g.row.A.Denot}) (sym w.in-Ok-heard.is)
       | in-Err-heard w ↦ w.result-is ∙ ap (reported {A = g.row.A.Denot}) (sym w.in-Err-heard.is)
     ] in
-    let heeds = ignored_ok c.self.inside.ends d.from (segment_in c.in-Ok.segment) c.outbox_over-outbox.result
+    let heeds = ignored_ok c.self.inside.ends d.from (segment_in c.in-Ok.segment) c.lent-outbox.result
     c.receive-heard.result
     (c.what_is_ignored_does_nothing.ensures c.self.inside.ends d.from (segment_in c.in-Ok.segment))
     c.receive-heard.ensures.memory in
     rw (same, ← c.self.view_is)
     (taken_comes g.row.A.Denot c.args.seat c.self.inside.ends d c.args.out.now.items
     (eq-eqb d.to.socket 130 c.if-datagram.false) c.receive-heard.new.self
-    (segment_in c.in-Ok.segment) c.receive-heard.result c.outbox_over-outbox.result c.receive-heard.new.out
+    (segment_in c.in-Ok.segment) c.receive-heard.result c.lent-outbox.result c.receive-heard.new.out
     c.into_list.result.items
     c.in-Ok.ensures.found box c.receive-heard.ensures.taken heeds)

@@ -9,12 +9,12 @@ use Rattle.at_stream_socket.proofs.socket.StreamSocket.tick.Goals.{in-Ok, in-Err
 
 pub returns : goal.returns
 returns g c =
-    let box : IsBox c.args.seat c.outbox_over-outbox.result c.tick-ticked.new.out c.args.out.now.items
+    let box : IsBox c.args.seat c.lent-outbox.result c.tick-ticked.new.out c.args.out.now.items
     c.into_list.result.items =
     record {
-      items = c.outbox_over-outbox.ensures.items;
-      from = c.outbox_over-outbox.ensures.from;
-      kind = c.outbox_over-outbox.ensures.kind;
+      items = c.lent-outbox.ensures.items;
+      from = c.lent-outbox.ensures.from ∙ c.at.ensures;
+      kind = c.lent-outbox.ensures.kind;
       back = c.into_list.ensures.items;
     } in
     let same : c.match-ticked.result ≡ reported (told_by {A = g.row.A.Denot}) c.tick-ticked.result =
@@ -25,7 +25,7 @@ returns g c =
     rw (same, ← c.self.view_is)
     (call_step c.args.seat c.self.inside.ends c.tick-ticked.new.self told_by
     (ticked_at wire c.self.inside.ends c.args.tick (by_id c.self.inside.ends c.args.id)) c.tick-ticked.result
-    c.outbox_over-outbox.result c.tick-ticked.new.out c.args.out.now.items c.into_list.result.items
+    c.lent-outbox.result c.tick-ticked.new.out c.args.out.now.items c.into_list.result.items
     (told_some g.row.A.Denot)
     (ticking_takes g.row.A.Denot c.self.inside.ends c.args.tick (by_id c.self.inside.ends c.args.id)) box
     c.tick-ticked.ensures.call)

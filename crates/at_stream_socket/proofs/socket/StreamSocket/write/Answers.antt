@@ -9,12 +9,12 @@ use Rattle.at_stream_socket.proofs.socket.StreamSocket.write.Goals.{in-Ok, in-Er
 
 pub returns : goal.returns
 returns g c =
-    let box : IsBox c.args.seat c.outbox_over-outbox.result c.write-wrote.new.out c.args.out.now.items
+    let box : IsBox c.args.seat c.lent-outbox.result c.write-wrote.new.out c.args.out.now.items
     c.into_list.result.items =
     record {
-      items = c.outbox_over-outbox.ensures.items;
-      from = c.outbox_over-outbox.ensures.from;
-      kind = c.outbox_over-outbox.ensures.kind;
+      items = c.lent-outbox.ensures.items;
+      from = c.lent-outbox.ensures.from ∙ c.at.ensures;
+      kind = c.lent-outbox.ensures.kind;
       back = c.into_list.ensures.items;
     } in
     let same : c.match-wrote.result ≡ reported {A = g.row.A.Denot} report.Wrote c.write-wrote.result =
@@ -25,5 +25,5 @@ returns g c =
     rw (same, ← c.self.view_is)
     (call_step c.args.seat c.self.inside.ends c.write-wrote.new.self report.Wrote
     (wrote wire c.self.inside.ends c.args.items.now (by_id c.self.inside.ends c.args.id)) c.write-wrote.result
-    c.outbox_over-outbox.result c.write-wrote.new.out c.args.out.now.items c.into_list.result.items (λ x. refl)
+    c.lent-outbox.result c.write-wrote.new.out c.args.out.now.items c.into_list.result.items (λ x. refl)
     (λ d is. refl) box c.write-wrote.ensures.call)
