@@ -11,7 +11,7 @@ use Rattle.at_adsp_ends.specs.Calls.{closed_at, connected, read_at, reset_at, ti
 use Rattle.at_adsp_ends.specs.Receiving.{received}
 use Rattle.at_adsp_ends.specs.Tables.{Done, by_id, next_id}
 use Rattle.at_adsp.specs.Cables.{few_segments, wire_numbered}
-use Rattle.at_adsp.specs.Nearness.{AllNear, ComesNear, HasWindows, IsNear, expected, gone, unsent}
+use Rattle.at_adsp.specs.Nearness.{AllNear, ComesNear, HasWindows, IsNear}
 use Rattle.at_adsp.specs.Network.{Setting, Made, Sent, Network, Happening, Connects, Listens, Closes, Writes, Reads}
 use Rattle.at_adsp.specs.Network.{Resets, Ticks, Takes, Strange, Other, AllTimely, IsTimely, after, calls_with}
 use Rattle.at_adsp.specs.Network.{does_with}

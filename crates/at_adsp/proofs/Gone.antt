@@ -21,7 +21,7 @@ use Rattle.at_adsp.proofs.Fews.{count_of}
 use Rattle.at_adsp.proofs.Finds.{some_same}
 use Rattle.at_adsp.proofs.Histories.{history_sound, same_event}
 use Rattle.at_adsp.proofs.Mapped.{mapped}
-use Rattle.at_adsp.proofs.PacedNetworks.{Goes, IsBack, IsLow, LowHere, PaceOf, PaceOn, Paced, most_of, whose}
+use Rattle.at_adsp.proofs.PacedNetworks.{Goes, IsLow, LowHere, PaceOf, PaceOn, Paced, most_of, whose}
 use Rattle.at_adsp.proofs.PacedHistories.{done_pace, opening_pace}
 use Rattle.at_adsp.proofs.Paces.{Marks, marks_of}
 use Rattle.at_adsp.proofs.Slows.{TellsAll}

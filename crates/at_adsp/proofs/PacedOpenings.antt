@@ -17,7 +17,7 @@ use Rattle.at_adsp_ends.specs.Openings.{heard_opening, opened}
 use Rattle.at_adsp_ends.specs.Tables.{EndTable, by_id, has_id}
 use Rattle.at_ddp.specs.Posts.{AllSent, put, stamped}
 use Rattle.at_ddp.proofs.PostLemmas.{put_elsewhere, sent_both}
-use Rattle.at_adsp.specs.Network.{Setting, Network, birth_of, does, hears, is_end, named, names_now, newest}
+use Rattle.at_adsp.specs.Network.{Setting, Network, birth_of, does, is_end, named, names_now, newest}
 use Rattle.at_adsp.specs.Orders.{whole_numbered}
 use Rattle.at_adsp.specs.Streams.{Nothing}
 use Rattle.at_adsp.proofs.Carries.{acks_within}

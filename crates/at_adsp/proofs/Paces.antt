@@ -11,7 +11,6 @@ use Rattle.at_adsp_end.specs.Hearing.{if_asked}
 use Rattle.at_adsp_end.specs.Positions.{whole}
 use Rattle.at_adsp_end.specs.Sending.{acknowledged, acks, at_most, going, hearing, repeated, sending}
 use Rattle.at_adsp_end.specs.declared.item.Item.{Item}
-use Rattle.at_adsp_end.specs.Ends.{Receiver}
 use Rattle.at_adsp.proofs.Carries.{acks_within}
 use Rattle.at_adsp.proofs.EndMoves.{IsPlainPart}
 use Rattle.at_adsp.proofs.Fews.{count_of, length_drop}

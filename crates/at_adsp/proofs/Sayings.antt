@@ -1,19 +1,16 @@
 -- What the packets of an end say, and what is sent on the cable.
-use Rattle.std.proofs.Common.{◌≡◌, ℕ, zero, suc, ◌+◌, ◌<◌, Bool, true, false, cond, List, [], ◌∷◌, ◌++◌, replicate}
-use Rattle.std.proofs.Common.{Option, Some, None, refl, sym, ap, subst, ◌∙◌, arith}
-use Rattle.std.specs.Prelude.{IfSome}
+use Rattle.std.proofs.Common.{◌≡◌, ℕ, Bool, true, false, List, [], ◌∷◌}
+use Rattle.std.proofs.Common.{Some, sym, ap, ◌∙◌, arith}
 use Rattle.std.specs.List.{AllByRecursion}
-use Rattle.at_ddp.specs.Address.{same_address}
 use Rattle.at_ddp.specs.declared.address.Address.{Address}
 use Rattle.at_ddp.proofs.Alls.{all_found}
-use Rattle.at_ddp.proofs.Octets.{same_address-true}
 use Rattle.at_adsp_frame.specs.Segments.{Content, Part, Open}
 use Rattle.at_adsp_frame.specs.declared.segment.OpenKind.{OpenKind}
 use Rattle.at_adsp_frame.specs.declared.segment.OpenKind.TheVariants.{Request, Acknowledgement}
 use Rattle.at_adsp_frame.specs.declared.segment.OpenKind.TheVariants.{RequestAndAcknowledgement, Denial}
 use Rattle.at_adsp_end.specs.Ends.{EndState, addressed}
-use Rattle.at_ddp.specs.Posts.{AllSent, packet_at, put, stamped}
-use Rattle.at_adsp.specs.Network.{Setting, Made, Sent, is_end, named, newest}
+use Rattle.at_ddp.specs.Posts.{AllSent, stamped}
+use Rattle.at_adsp.specs.Network.{Setting, Made, is_end, named, newest}
 use Rattle.at_adsp.proofs.Sound.{Fresh, Lawful, Stands, Tells, Told}
 
 -- ---- what an end says

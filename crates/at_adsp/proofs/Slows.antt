@@ -1,5 +1,5 @@
 -- That an end goes on by little in one event, and that a forward reset tells exactly how far it has come.
-use Rattle.std.proofs.Common.{◌≡◌, ℕ, ◌+◌, ◌*◌, ◌≤◌, Bool, true, false, cond, List, [], ◌∷◌, ◌++◌, length, take, Option}
+use Rattle.std.proofs.Common.{◌≡◌, ℕ, ◌+◌, ◌*◌, ◌≤◌, Bool, true, false, cond, List, [], ◌∷◌, ◌++◌, length, Option}
 use Rattle.std.proofs.Common.{Some}
 use Rattle.std.proofs.Common.{None, refl, arith}
 use Rattle.std.specs.Prelude.{IfSome, nat_le}
@@ -7,17 +7,15 @@ use Rattle.std.specs.List.{AllByRecursion}
 use Rattle.std.proofs.lemmas.Bool.{leb-true}
 use Rattle.at_ddp.proofs.Alls.{all_both, all_implied}
 use Rattle.at_adsp_frame.specs.Segments.{Content, Part, Data, Probe, Open, Close, Reset, ResetAck, Advice}
-use Rattle.at_adsp_end.specs.Calls.{is_last, open_again, probed, probes, reading, sent_again, ticked, writing}
+use Rattle.at_adsp_end.specs.Calls.{probed, probes, reading, sent_again, ticked}
 use Rattle.at_adsp_end.specs.Calls.{read_opens, after_read}
 use Rattle.at_adsp_end.specs.Cuts.{Piece, items_of, numbered, pieces}
-use Rattle.at_adsp_end.specs.Ends.{Change, EndState, control, free, places}
+use Rattle.at_adsp_end.specs.Ends.{Change, EndState, control, free}
 use Rattle.at_adsp_end.specs.Hearing.{Advises, Answers, Asks, Brings, Closes, Resets, Saying, after_hearing, fitting}
-use Rattle.at_adsp_end.specs.Hearing.{heard, if_asked, jumped, passed, saying, taken, taking, told}
+use Rattle.at_adsp_end.specs.Hearing.{heard, if_asked, jumped, passed, saying, taking, told}
 use Rattle.at_adsp_end.specs.Positions.{whole}
-use Rattle.at_adsp_end.specs.Sending.{acknowledged, acks, closing, going, hearing, repeated, resetting_now, sending}
-use Rattle.at_adsp_end.specs.Sending.{shut}
+use Rattle.at_adsp_end.specs.Sending.{acknowledged, acks, going, hearing, repeated, sending}
 use Rattle.at_adsp_end.specs.declared.forward.Forward.TheVariants.{Jump, Older, Beyond}
-use Rattle.at_adsp_end.specs.declared.item.Item.{Item}
 use Rattle.at_adsp_end.specs.declared.phase.Phase.{Phase}
 use Rattle.at_adsp_end.specs.declared.phase.Phase.TheVariants as phase
 use Rattle.at_adsp_end.specs.declared.tick.Tick.TheVariants.{Retransmit}

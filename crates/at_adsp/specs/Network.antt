@@ -1,10 +1,9 @@
 -- A network of nodes with ends of streams, which open and close connections with each other. Each segment may come
 -- late, again or never (Inside AppleTalk, ADSP, "Opening a connection").
 use Rattle.std.specs.Prelude.{◌≡◌, ℕ, ◌+◌, ◌==◌, ◌&&◌, ◌||◌, not, nat_le, is_none, if◌then◌else◌, Bool, true, false}
-use Rattle.std.specs.Prelude.{List, [], ◌∷◌, ◌++◌, map, find, take, replicate, slice_get, IfSome, Option, Some, None}
+use Rattle.std.specs.Prelude.{List, [], ◌∷◌, ◌++◌, find, take, replicate, Option, Some, None}
 use Rattle.std.specs.Prelude.{Result, Ok, Err}
-use Rattle.std.specs.List.{AllByRecursion, list_all}
-use Rattle.at_ddp.specs.Address.{same_address}
+use Rattle.std.specs.List.{list_all}
 use Rattle.at_ddp.specs.Tables.{replaced}
 use Rattle.at_ddp.specs.Posts.{Post, Posts, packet_at, put, stamped}
 use Rattle.at_ddp.specs.declared.address.Address.{Address}

@@ -16,7 +16,7 @@ use Rattle.at_atp.specs.Askings.{ChangesAsked, ByItself, AfterOne, Leaves, Start
 use Rattle.at_atp.specs.HandUps.{brings, draws, is_drawn, is_drawn_after}
 use Rattle.at_atp.specs.Network as network
 use Rattle.at_ddp.specs.Posts.{packet_at}
-use Rattle.at_atp.specs.Network.{Network, Sent, Happening, Begins, Answers, Turns, Serves, done, ending, number_after}
+use Rattle.at_atp.specs.Network.{Network, Sent, Happening, Begins, Answers, Turns, Serves, ending, number_after}
 use Rattle.at_atp.specs.Network.{hears}
 use Rattle.at_atp.proofs.Newest.{asks_or_answers, left_as_asked}
 

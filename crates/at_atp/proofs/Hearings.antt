@@ -11,7 +11,7 @@ use Rattle.at_ddp.proofs.Octets.{same_address-true}
 use Rattle.at_atp_requester.specs.Answers.{Arrival, is_wanted, whole, with_part}
 use Rattle.at_atp_frame.specs.Frames.{Content, Request, Response, Release, number_of}
 use Rattle.at_atp_frame.specs.Packets.{Packet}
-use Rattle.at_atp_requester.specs.Requests.{Requests, Effect, Heard, Retried, came, came_for, was_kept, asked_again}
+use Rattle.at_atp_requester.specs.Requests.{Requests, Effect, Heard, Retried, came, came_for, was_kept}
 use Rattle.at_atp_requester.specs.Requests.{release_by, is_of, is_finished, settled, response_came, heard, retried_with}
 use Rattle.at_atp_requester.specs.Requests.{is_numbered}
 use Rattle.at_atp_requester.specs.Requests as requests

@@ -12,7 +12,7 @@ use Rattle.at_atp.specs.Network.{GivesAnswers}
 use Rattle.at_atp_frame.specs.Packets.{Packet}
 use Rattle.at_atp_responder.specs.Records.{is_key, taken, answer_fault, expiry_fault}
 use Rattle.at_atp_requester.specs.Requests as requests
-use Rattle.at_atp_requester.specs.Requests.{heard, is_numbered, next_number, retried}
+use Rattle.at_atp_requester.specs.Requests.{is_numbered, next_number, retried}
 use Rattle.at_atp.specs.Transactions.{transaction_of}
 use Rattle.at_atp_frame.specs.declared.fault.AtpFault.{AtpFault}
 use Rattle.at_atp_responder.specs.declared.reception.Key.{Key}

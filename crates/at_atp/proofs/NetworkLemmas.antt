@@ -3,11 +3,9 @@ use Rattle.std.proofs.Common.{◌≡◌, ℕ, ◌+◌, ◌<◌, Bool, true, fals
 use Rattle.std.proofs.Common.{subst, ◌∙◌, arith}
 use Rattle.std.specs.Prelude.{find, IfSome}
 use Rattle.std.specs.List.{AllByRecursion, Contains}
-use Rattle.at_ddp.specs.Address.{same_address}
 use Rattle.at_ddp.specs.declared.address.Address.{Address}
-use Rattle.at_ddp.proofs.Octets.{same_address-true}
 use Rattle.at_atp_frame.specs.Frames.{Content, owner, number_of}
-use Rattle.at_ddp.specs.Posts.{AllSent, packet_at, put, stamped}
+use Rattle.at_ddp.specs.Posts.{AllSent, packet_at, stamped}
 use Rattle.at_atp.specs.Network.{Network, Sent, Drawn, is_fresh, with_requester, with_responder, answers, gives, hears}
 use Rattle.at_atp.specs.Network.{takes, takes_in, handed_up, serves, expires, retries, ComesInTime}
 use Rattle.at_atp_frame.specs.Packets.{Packet}

@@ -21,7 +21,7 @@ use Rattle.at_atp_frame.specs.Packets.{Packet}
 use Rattle.at_atp_responder.specs.Records.{State, Waiting, Answered, Released, Record, is_key, taken, record_fault}
 use Rattle.at_atp_responder.specs.Records.{answer_fault, expiry_fault}
 use Rattle.at_atp_requester.specs.Requests as requests
-use Rattle.at_atp_requester.specs.Requests.{heard, next_number, retried, beginning}
+use Rattle.at_atp_requester.specs.Requests.{next_number, retried, beginning}
 use Rattle.at_atp.specs.Transactions.{Transaction, Asked, IsPart, AreParts, EndsAnswer, IsResponse}
 use Rattle.at_atp_frame.specs.declared.fault.AtpFault.{AtpFault}
 use Rattle.at_atp_responder.specs.declared.reception.Key.{Key}

@@ -1,6 +1,6 @@
 -- Parties of a network whose state is in range, and what they send.
-use Rattle.std.proofs.Common.{◌≡◌, ℕ, zero, suc, ◌+◌, ◌*◌, ◌%◌, ◌/◌, ◌^◌, ◌<◌, ◌≤◌, Bool, true, false, cond, List, []}
-use Rattle.std.proofs.Common.{◌∷◌, ◌++◌, length, Option, Some, None, refl, subst, arith, lit<, lit≤}
+use Rattle.std.proofs.Common.{◌≡◌, ℕ, suc, ◌+◌, ◌*◌, ◌%◌, ◌/◌, ◌^◌, ◌<◌, ◌≤◌, Bool, true, false, cond, List, []}
+use Rattle.std.proofs.Common.{◌∷◌, ◌++◌, length, Option, Some, None, refl, arith, lit<, lit≤}
 use Rattle.std.specs.Prelude.{IfSome, nat_lt, ◌==◌}
 use Rattle.std.specs.List.{AllByRecursion}
 use Rattle.std.proofs.Math.Pow.{pow_mono}
@@ -8,7 +8,7 @@ use Rattle.std.proofs.Math.Nat.{pow-suc}
 use Rattle.at_ddp.specs.Datagram.{IsAddress}
 use Rattle.at_ddp.specs.declared.address.Address.{Address}
 use Rattle.at_atp_requester.specs.Answers.{Arrival, bitmap_of}
-use Rattle.at_atp_frame.specs.Frames.{Content, Request, Response, Release, IsTimer, IsLawful}
+use Rattle.at_atp_frame.specs.Frames.{Content, Response, IsTimer, IsLawful}
 use Rattle.at_atp_frame.specs.Frames as frames
 use Rattle.at_atp.specs.Lawfully.{IsLawfullySent}
 use Rattle.at_ddp.specs.Posts.{AllSent, stamped}

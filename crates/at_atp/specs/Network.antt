@@ -1,8 +1,8 @@
 -- A network of requesters and responders at any addresses that ask and answer each other. Each packet may come late,
 -- again or never (Inside AppleTalk, ATP, "Transactions").
 use Rattle.std.specs.Prelude.{◌≡◌, ℕ, ◌+◌, ◌==◌, ◌&&◌, ◌||◌, not, nat_le, if◌then◌else◌, Bool, true, false, List, []}
-use Rattle.std.specs.Prelude.{◌∷◌, ◌++◌, length, map, find, replicate, slice_get, IfSome, Option, Some, None}
-use Rattle.std.specs.List.{AllByRecursion, list_all}
+use Rattle.std.specs.Prelude.{◌∷◌, ◌++◌, length, find, replicate, Option, Some, None}
+use Rattle.std.specs.List.{list_all}
 use Rattle.at_ddp.specs.Address.{same_address}
 use Rattle.at_ddp.specs.Posts.{Post, Posts, packet_at, put, stamped}
 use Rattle.at_ddp.specs.declared.address.Address.{Address}

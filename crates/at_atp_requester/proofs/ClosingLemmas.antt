@@ -2,17 +2,16 @@
 use Rattle.std.proofs.Common.{◌≡◌, ℕ, ◌<◌, ◌≤◌, Bool, true, false, cond, List, [], ◌∷◌, length, Option, Some, None}
 use Rattle.std.proofs.Common.{IsSome, refl, sym, ap, subst, ◌∙◌, arith}
 use Rattle.std.specs.Prelude.{find, ◌==◌, ◌&&◌, ◌||◌}
-use Rattle.std.specs.List.{position_from}
 use Rattle.std.proofs.lemmas.Bool.{true≢false, false≢true, and_parts, eqb-true}
 use Rattle.at_ddp.specs.Address.{same_address}
 use Rattle.at_ddp.specs.Tables.{without_first}
 use Rattle.at_ddp.specs.declared.address.Address.{Address}
+use Rattle.at_ddp.proofs.CountLemmas.{shorter}
 use Rattle.at_atp_frame.specs.Frames.{Content, Request, Response, Release, number_of}
 use Rattle.at_atp_requester.specs.Requests.{Transaction, Requests, Effect, NumbersDiffer, IsRequester, has_number}
 use Rattle.at_atp_requester.specs.Requests.{is_numbered, is_of, closing, came, is_at_least_once, is_finished, finishes}
 use Rattle.at_atp_requester.specs.Requests.{heard, next_number, response_came}
 use Rattle.at_atp_requester.proofs.RequestLemmas.{number_left}
-use Rattle.at_atp_requester.proofs.StandingLemmas.{no_number, one_less}
 
 -- an entry that is found has its number in the list
 pub found_there : (ts : List Transaction) (tid : ℕ) (from : Address) (t : Transaction)
@@ -79,11 +78,7 @@ turns_to A r closed number differ is from f ends this = is ∙ ap (λ o. next_nu
 -- if one of at most 32 open transactions is closed, another may begin
 pub room_left : (ts : List Transaction) (tid : ℕ) → has_number ts tid ≡ true → length ts ≤ 32
     → length (without_first (is_numbered tid) ts) < 32
-room_left ts tid h few = go (position_from (is_numbered tid) 0 ts) refl
-  where
-    go : (o : Option ℕ) → position_from (is_numbered tid) 0 ts ≡ o → length (without_first (is_numbered tid) ts) < 32
-    go (Some i) is = let less = one_less tid i ts is in omega (arith, less, few)
-    go None is = absurd (true≢false (sym h ∙ no_number tid 0 ts is))
+room_left ts tid h few = let less = shorter (is_numbered tid) ts h in omega (arith, less, few)
 
 ends_open : (A : Type 0) (r : Requests) (from : Address) (f : Content) → finishes A r from f ≡ true
     → has_number r.standing (number_of f) ≡ true

@@ -24,7 +24,7 @@ length_replaced p y (x ∷ xs) = go (length_replaced p y xs) (p x)
     go ih false = ap suc ih
 
 -- a list without an entry that passes is shorter by one
-shorter : {X : Type 0} (p : X → Bool) (xs : List X) → list_any p xs ≡ true
+pub shorter : {X : Type 0} (p : X → Bool) (xs : List X) → list_any p xs ≡ true
     → length (without_first p xs) + 1 ≡ length xs
 shorter p [] h = absurd cc
 shorter {X} p (x ∷ xs) h = go (λ g. shorter p xs g) (p x) refl h

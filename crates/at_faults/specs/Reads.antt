@@ -25,12 +25,3 @@ abbrev pub IsOfRead : Fault → Type 0
 IsOfRead (fault.Unreadable why) = IsOfSystem why
 IsOfRead (fault.Line number rule) = ⊥
 IsOfRead fault.NoMemory = Unit {0}
-
--- there are too many bytes
-abbrev pub IsTooLong : Fault → Type 0
-IsTooLong (fault.Unreadable TooLong) = Unit {0}
-IsTooLong (fault.Unreadable Changed) = ⊥
-IsTooLong (fault.Unreadable (System code)) = ⊥
-IsTooLong (fault.Unreadable Failed) = ⊥
-IsTooLong (fault.Line number rule) = ⊥
-IsTooLong fault.NoMemory = ⊥

@@ -1,6 +1,8 @@
 //! The bytes of a schedule.
 ghost use Rattle.std.specs.Prelude.{◌≡◌, ◌<◌, ◌≤◌, length, IfErr, IfOk, IfSome, OnOk, vec_len};
-ghost use Rattle.at_faults.specs.Reads.{IsOfBytes, IsTooLong};
+ghost use Rattle.at_faults.specs.Reads.{IsOfBytes};
+ghost use Rattle.at_faults.specs.declared.fault.Fault.TheVariants as of_text;
+ghost use Rattle.at_faults.specs.declared.fault.Unreadable.TheVariants.{TooLong};
 
 use crate::fault::{Fault, Unreadable};
 use std::alloc::Allocator;
@@ -14,7 +16,8 @@ pub fn read_bytes<A: Allocator, R: Read>(alloc: A, reader: &mut R) -> Result<Vec
     ensures fits { IfOk result (λ bytes. vec_len bytes ≤ MAX_LEN) }
     // This and the next are said if it is known what the reader holds.
     ensures whole { IfOk result (λ bytes. IfSome (R.remaining reader.old) (λ all. bytes.items ≡ all)) }
-    ensures long { IfErr result (λ e. IsTooLong e → IfSome (R.remaining reader.old) (λ all. MAX_LEN < length all)) }
+    ensures long { IfErr result (λ e. e ≡ of_text.Unreadable TooLong
+        → IfSome (R.remaining reader.old) (λ all. MAX_LEN < length all)) }
     ensures fault { IfErr result IsOfBytes }
 {
     let mut bytes = Vec::new(alloc);
@@ -37,7 +40,8 @@ pub fn read_bytes<A: Allocator, R: Read>(alloc: A, reader: &mut R) -> Result<Vec
 pub fn check_length<R: Read>(reader: &mut R) -> Result<(), Fault>
     // This and the next are said if it is known what the reader holds.
     ensures fits { OnOk result (IfSome (R.remaining reader.old) (λ all. length all ≤ MAX_LEN)) }
-    ensures long { IfErr result (λ e. IsTooLong e → IfSome (R.remaining reader.old) (λ all. MAX_LEN < length all)) }
+    ensures long { IfErr result (λ e. e ≡ of_text.Unreadable TooLong
+        → IfSome (R.remaining reader.old) (λ all. MAX_LEN < length all)) }
     ensures fault { IfErr result IsOfBytes }
 {
     let mut left = MAX_LEN;

@@ -12,7 +12,7 @@ use Rattle.at_name_socket.specs.declared.claim.Claim.{Claim}
 use Rattle.at_name_socket.specs.declared.neighbour.Neighbour.{Neighbour}
 use Rattle.at_nbp.specs.Lawfully.{IsName}
 use Rattle.at_nbp.specs.Lookups as lookups
-use Rattle.at_nbp.specs.Lookups.{Lookups, Search, asked, beginning, closed, next_id, question, search_of, sent_question}
+use Rattle.at_nbp.specs.Lookups.{Lookups, Search, beginning, next_id, question, search_of, sent_question}
 use Rattle.at_nbp.specs.NameTables.{Table, has_number, is_called, is_no_text, number_from, register_fault}
 use Rattle.at_ddp.proofs.PostLemmas.{put_here, put_there}
 use Rattle.at_nbp.specs.Network.{Begins, Network, Other, Retries, begins, done, retries}

@@ -1,13 +1,12 @@
 -- Packets with one tuple, and the identifiers that they get.
 use Rattle.std.proofs.Common.{◌≡◌, ◌≢◌, ℕ, zero, suc, ◌+◌, ◌-◌, ◌%◌, ◌<◌, ◌≤◌, Bool, true, false, cond, List, [], ◌∷◌}
-use Rattle.std.proofs.Common.{length, Some, None, refl, sym, ap, subst, append-nil, arith}
-use Rattle.std.proofs.lemmas.Bool.{eqb-true, ne_eqb}
+use Rattle.std.proofs.Common.{length, None, refl, ap, append-nil, arith}
 use Rattle.std.proofs.lemmas.Bool.Decides.{nat_tests}
 use Rattle.std.specs.Prelude.{nat_lt}
 use Rattle.std.specs.Prelude.{All, IfErr, IsErrOf, IsOk, Result, Ok, Err}
-use Rattle.std.specs.List.{flat_map, list_any}
+use Rattle.std.specs.List.{flat_map}
 use Rattle.at_ddp.proofs.NumberLemmas.{below_tries, round_8}
-use Rattle.at_nbp.specs.Lookups.{Lookups, Search, free_id, has_id, next_id}
+use Rattle.at_nbp.specs.Lookups.{Lookups, Search, free_id, next_id}
 use Rattle.at_nbp.specs.Packets.{Content, HasCount, spelling}
 use Rattle.at_nbp.specs.Tuples.{Entry, FitsStrings, tuple_spelling}
 use Rattle.at_nbp.specs.declared.fault.NbpFault.{NbpFault}

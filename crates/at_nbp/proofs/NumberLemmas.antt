@@ -1,11 +1,10 @@
 -- Numbers in use: there are at least as many entries as numbers that they have.
 use Rattle.std.proofs.Common.{◌≡◌, ℕ, zero, suc, ◌+◌, ◌<◌, ◌≤◌, Bool, true, false, List, [], ◌∷◌, length, refl, arith}
 use Rattle.std.proofs.Common.{cond, ◌++◌, sym, ap, subst, ◌∙◌}
-use Rattle.std.specs.Prelude.{nat_lt, ◌==◌, ◌||◌}
+use Rattle.std.specs.Prelude.{nat_lt, ◌==◌}
 use Rattle.std.specs.List.{list_any}
 use Rattle.std.proofs.lemmas.Bool.{and_parts, eqb-true, ne_eqb, true≢false}
 use Rattle.std.proofs.lemmas.Bool.Decides.{nat_tests}
-use Rattle.at_ddp.specs.Tables.{without_first}
 use Rattle.at_ddp.proofs.CountLemmas.{tests_in_use}
 use Rattle.at_nbp.specs.NameTables.{IsLeastFree, IsRegistered, Table, has_number, number_from, registered}
 use Rattle.at_nbp.specs.declared.names.Registered.{Registered}

@@ -8,8 +8,8 @@ use Rattle.std.proofs.lemmas.List.Elements.{All-drop, All-take}
 use Rattle.at_ddp.specs.Datagram.{IsAddress}
 use Rattle.at_nbp.specs.Lawfully.{IsName, IsNamed}
 use Rattle.at_nbp.specs.Lookups as lookups
-use Rattle.at_nbp.specs.Lookups.{Lookups, Search, answered, asking, beginning, closed, free_id, has_id, heard, is_reply}
-use Rattle.at_nbp.specs.Lookups.{next_id, question, reply_came, search_of}
+use Rattle.at_nbp.specs.Lookups.{Lookups, Search, asking}
+use Rattle.at_nbp.specs.Lookups.{question}
 use Rattle.at_nbp.specs.NameTables.{Table}
 use Rattle.at_nbp.specs.Names.{is_any_zone}
 use Rattle.at_nbp.specs.Network.{asks}

@@ -1,7 +1,7 @@
 -- A network of names and lookups at any addresses that ask and answer each other. Each packet may come late, again or
 -- never (Inside AppleTalk, NBP, "Name lookup").
-use Rattle.std.specs.Prelude.{◌≡◌, ℕ, ◌+◌, ◌<◌, ◌==◌, ◌&&◌, ◌||◌, not, nat_le, if◌then◌else◌, Bool, true, List, []}
-use Rattle.std.specs.Prelude.{◌∷◌, ◌++◌, length, drop, map, find, replicate, slice_get, Contains, Option, Some, None}
+use Rattle.std.specs.Prelude.{◌≡◌, ℕ, ◌+◌, ◌<◌, ◌==◌, ◌&&◌, ◌||◌, not, nat_le, Bool, true, List, []}
+use Rattle.std.specs.Prelude.{◌∷◌, ◌++◌, length, drop, map, find, replicate, Contains, Option, Some, None}
 use Rattle.std.specs.List.{AllByRecursion, list_all}
 use Rattle.at_ddp.specs.Address.{same_address}
 use Rattle.at_ddp.specs.Tables.{without_first}

@@ -1,6 +1,6 @@
 -- Values that have their keys in themselves, beside the list of these keys.
-use Rattle.std.proofs.Common.{◌≡◌, ℕ, zero, suc, ◌+◌, ◌++◌, Bool, cond, List, [], ◌∷◌, map, set, slice_get, Option}
-use Rattle.std.proofs.Common.{Some, None, refl, sym, ap, ◌∙◌}
+use Rattle.std.proofs.Common.{◌≡◌, ℕ, zero, suc, ◌+◌, ◌++◌, Bool, List, [], ◌∷◌, map, set, slice_get}
+use Rattle.std.proofs.Common.{Some, refl, sym, ap, ◌∙◌}
 use Rattle.std.specs.Prelude.{find, remove}
 use Rattle.std.specs.List.{position_from}
 use Rattle.std.proofs.lemmas.List.{map_push}

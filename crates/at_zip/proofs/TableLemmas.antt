@@ -1,6 +1,6 @@
 -- The two tables of a router.
 use Rattle.std.proofs.Common.{ℕ, List}
-use Rattle.at_zip.specs.Tables.{Tables, AreTables, table_of, with_table}
+use Rattle.at_zip.specs.Tables.{Tables, AreTables, with_table}
 use Rattle.at_zip.specs.Zones.{IsTable}
 use Rattle.at_zip.specs.declared.request.Which.{Which}
 use Rattle.at_zip.specs.declared.request.Which.TheVariants.{All, Local}

@@ -16,7 +16,7 @@ use Rattle.at_atp_responder.specs.Records.{Record, expiry_fault, is_key}
 use Rattle.at_atp_responder.specs.declared.reception.Key.{Key}
 use Rattle.at_atp.specs.Network as network
 use Rattle.at_ddp.specs.Posts.{put}
-use Rattle.at_atp.specs.Network.{Network, Happening, Expires, Retries, after, done, with_requester, with_responder}
+use Rattle.at_atp.specs.Network.{Happening, Expires, Retries, after, done, with_requester, with_responder}
 use Rattle.at_node.specs.AtpParts.{AtpState, Reading, serving, zones_at, asking}
 use Rattle.at_event.specs.Kinds.{kind_of_timer}
 use Rattle.at_node.specs.Nodes.{with_atp, NodeState, timed}

@@ -15,7 +15,7 @@ use Rattle.at_name_socket.specs.NameSockets.{SocketState, names_of}
 use Rattle.at_name_socket.specs.Sockets as sockets
 use Rattle.at_name_socket.specs.Sockets.{Stays}
 use Rattle.at_name_socket.specs.Steps as steps
-use Rattle.at_name_socket.specs.Steps.{StandsLawfully, begun_with, spelled}
+use Rattle.at_name_socket.specs.Steps.{StandsLawfully, begun_with}
 use Rattle.at_node.specs.Numbers.{drawn_by}
 use Rattle.at_node.specs.NameCalls.{sent_of}
 use Rattle.at_node.specs.Nodes.{NodeState, with_names}

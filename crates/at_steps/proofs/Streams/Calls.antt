@@ -21,7 +21,7 @@ use Rattle.at_adsp.specs.Connections.{AfterCall, AfterConnecting, streams}
 use Rattle.at_adsp.specs.Lawfully.{IsInRange}
 use Rattle.at_adsp.specs.Network.{Closes, Connects, Happening, IsTimely, Listens, Network, NoneNames, Reads, Resets}
 use Rattle.at_adsp.specs.Network.{Setting, Writes, calls, calls_with, done, gave_up, wrote_first}
-use Rattle.at_adsp.specs.Streams.{Deed, Nothing, Stream, has_number}
+use Rattle.at_adsp.specs.Streams.{Deed, Nothing}
 use Rattle.at_adsp.specs.Streams as deeds
 use Rattle.at_nbp.specs.declared.find.Find.{Find as Found}
 use Rattle.at_event.specs.Calls.{IsCall}

@@ -16,9 +16,9 @@ use Rattle.at_event.specs.declared.report.Report.{Report}
 use Rattle.at_event.specs.declared.report.Report.TheVariants as report
 use Rattle.at_steps.specs.AtpHappenings.{sets_table}
 use Rattle.at_steps.specs.AtpSteps as steps
-use Rattle.at_steps.specs.AtpSteps.{Change, ComesToReading, IsPlain, BeginsAsking, BeginsReading, SetsTable}
-use Rattle.at_steps.specs.AtpSteps.{GivesAnswer, ServesPage, HandsUp, Finishes, TurnsPage, EndsReading, FailsReading}
-use Rattle.at_steps.specs.AtpSteps.{IsStep, Tells, All, TooMany, Faulty, is_plain, page_answer, page_asked}
+use Rattle.at_steps.specs.AtpSteps.{Change, IsPlain, BeginsAsking, SetsTable}
+use Rattle.at_steps.specs.AtpSteps.{GivesAnswer, ServesPage, HandsUp, Finishes}
+use Rattle.at_steps.specs.AtpSteps.{IsStep, page_answer}
 use Rattle.at_world.specs.AtpGuards.{AtpMachine, StepBy, next}
 use Rattle.at_world.specs.Cables.{Cable, IsSaid}
 use Rattle.at_world.specs.Events.{act_of, node_of}

@@ -12,7 +12,7 @@ use Rattle.at_ddp.proofs.Octets.{same_address-true, same_address_itself}
 use Rattle.at_atp_frame.specs.Frames.{Content, Request, IsLawful, Spells, spelled}
 use Rattle.at_atp.specs.Askings.{ChangesAsked}
 use Rattle.at_atp.specs.HandUps as HandUps
-use Rattle.at_atp.specs.HandUps.{brings, draws, is_drawn, is_handed_up, expires_there, hand_ups_since}
+use Rattle.at_atp.specs.HandUps.{is_handed_up, hand_ups_since}
 use Rattle.at_atp.specs.HandUps.{has_expired as record_expired, AllLived, AnswersOnce}
 use Rattle.at_atp.specs.Lawfully.{IsInRange, IsLawfullySent}
 use Rattle.at_atp_frame.specs.Frames.{number_of}

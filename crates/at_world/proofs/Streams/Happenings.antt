@@ -33,7 +33,7 @@ use Rattle.at_world.proofs.Streams.Coming.{Comes}
 use Rattle.at_world.proofs.Streams.Freely.{none_names}
 use Rattle.at_world.proofs.Streams.Next.{Good, good_next, moved}
 use Rattle.at_world.proofs.Streams.Steps.{ReadsAt, step_allows}
-use Rattle.at_world.proofs.Streams.Tie.{HasEnds, StreamLaws, StreamTie}
+use Rattle.at_world.proofs.Streams.Tie.{StreamLaws, StreamTie}
 use Rattle.at_world.proofs.Streams.Tie as tie
 use Rattle.at_world.proofs.Sessions.Tie.{HasSession, SessionTie}
 

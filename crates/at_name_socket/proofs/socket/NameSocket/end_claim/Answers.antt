@@ -1,4 +1,4 @@
-use Rattle.std.proofs.Common.{◌≡◌, ℕ, length, get_or, refl, sym, ap, subst, ◌∙◌, arith}
+use Rattle.std.proofs.Common.{◌≡◌, ℕ, length, refl, sym, ap, subst, ◌∙◌, arith}
 use Rattle.std.specs.Prelude.{IfSome, Result, Err, Some}
 use Rattle.at_nbp.specs.Lookups.{finds_in, search_of}
 use Rattle.at_name_socket.specs.NameSockets.{SocketState}

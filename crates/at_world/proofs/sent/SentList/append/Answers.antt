@@ -1,7 +1,6 @@
 use Rattle.std.proofs.Common.{◌++◌, map, ◌∙◌, ap, refl}
 use Rattle.at_world.specs.Sents.{stamp}
 use Rattle.at_world.proofs.SentLemmas.{more_stamped}
-use Rattle.at_world.proofs.sent.SentList.append.Goals.{After-push_all}
 use Rattle.at_world.proofs.sent.SentList.append.Goals as goal
 
 pub returns-clause-ok : goal.returns-clause-ok
