@@ -1,4 +1,5 @@
 mod LineLemmas
 mod RefusalLemmas
+mod SentLemmas
 mod TextLines
 mod ToldLemmas

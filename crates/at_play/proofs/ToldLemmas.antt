@@ -9,7 +9,7 @@ use Rattle.at_world.specs.declared.refusal.Fault.TheVariants as fault
 use Rattle.at_world.specs.Safety.{IsSafe, Safely}
 use Rattle.at_world.specs.Worlds.{WorldState, IsFault, IsPlayable, Plays}
 use Rattle.at_world.specs.Plays.{Follows}
-use Rattle.at_print.specs.Reports.{event_text}
+use Rattle.at_play.specs.Sent.{event_text}
 use Rattle.at_print.specs.Papers.{Page}
 use Rattle.at_print.specs.Printers.{Prints}
 use Rattle.at_diagnostics.specs.Stops.{IsUnread, stop_of}

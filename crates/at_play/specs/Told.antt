@@ -11,9 +11,9 @@ use Rattle.at_world.specs.Safety.{IsSafe}
 use Rattle.at_world.specs.Worlds.{WorldState, IsPlayable, IsFault, Plays, Refuses}
 use Rattle.at_print.specs.Papers.{Page}
 use Rattle.at_print.specs.Printers.{Prints}
-use Rattle.at_print.specs.Reports.{event_text}
 use Rattle.at_diagnostics.specs.Stops.{IsOfReading}
 use Rattle.at_play.specs.Refusals.{TellsRefusals}
+use Rattle.at_play.specs.Sent.{event_text}
 use Rattle.at_schedule.specs.Says.{SayAll, Says}
 use Rattle.at_schedule.specs.Schedules.{event_lines, is_event_line}
 use Rattle.at_print.specs.declared.printer.Printer.{Printer}

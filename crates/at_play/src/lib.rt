@@ -4,5 +4,7 @@
 mod playing;
 mod playing_text;
 mod program;
+mod sent;
 
 pub use program::{play_file, play_text};
+pub use sent::write_sent;

@@ -11,9 +11,10 @@ ghost use Rattle.at_schedule.specs.Schedules.{is_event_line};
 ghost use Rattle.at_play.specs.Told.{IsStopped, IsWhole, Played, StopsLine, Tells, TellsLine};
 ghost use Rattle.at_setup.specs.Setups.{is_lawful};
 
+use crate::sent::write_sent;
 use at_diagnostics::{Diagnostics, Stop};
 use at_faults::{Fault, LineFault, Unreadable};
-use at_print::{Paper, Printer, write_event, write_sent};
+use at_print::{Paper, Printer, write_event};
 use at_schedule::laws::first_line;
 use at_schedule::{Draft, next_line};
 use at_world::laws::{at_most_16_nodes_stand, exactly_once_requests_run_once, steps_are_a_run};

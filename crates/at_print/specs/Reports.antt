@@ -1,5 +1,5 @@
--- What is printed of an event that was played: its report, and the datagrams that it sent.
-use Rattle.std.specs.Prelude.{ℕ, ◌+◌, ◌==◌, ◌||◌, if◌then◌else◌, Bool, false, List, [], ◌∷◌, ◌++◌, drop, codes}
+-- What is printed of a report, and of a datagram.
+use Rattle.std.specs.Prelude.{ℕ, ◌==◌, ◌||◌, if◌then◌else◌, Bool, false, List, [], ◌∷◌, ◌++◌, codes}
 use Rattle.std.specs.List.{flat_map}
 use Rattle.std.specs.Char.{is_ascii_alphanumeric}
 use Rattle.std.specs.Fmt.{decimal}
@@ -10,7 +10,6 @@ use Rattle.at_zip.specs.declared.request.Which.{Which}
 use Rattle.at_zip.specs.declared.request.Which.TheVariants.{All, Local}
 use Rattle.at_event.specs.declared.report.Report.{Report}
 use Rattle.at_event.specs.declared.report.Report.TheVariants as report
-use Rattle.at_world.specs.Sents.{SentDatagram}
 use Rattle.at_print.specs.Items.{items_text}
 use Rattle.at_print.specs.Lines.{hex_text, pairs}
 
@@ -115,15 +114,3 @@ event_line at r = (decimal at ++ codes " ") ++ (report_text r ++ codes "\n")
 abbrev pub datagram_line : ℕ → ℕ → List ℕ → List ℕ
 datagram_line number to bytes =
     (codes "sent " ++ (decimal number ++ (codes " " ++ (decimal to ++ codes " ")))) ++ (hex_text bytes ++ codes "\n")
-
-abbrev pub sent_line : ℕ → SentDatagram → List ℕ
-sent_line number d = datagram_line number d.to d.bytes
-
--- a line for each of these datagrams, which are numbered from here on
-abbrev pub sent_lines : ℕ → List SentDatagram → List ℕ
-sent_lines number [] = []
-sent_lines number (d ∷ ds) = sent_line number d ++ sent_lines (number + 1) ds
-
--- what is printed of an event: its line, and those of the datagrams that it sent, all from this number on
-abbrev pub event_text : {A : Type 0} → ℕ → Report A → List SentDatagram → ℕ → List ℕ
-event_text at r sent first = event_line at r ++ sent_lines first (drop first sent)

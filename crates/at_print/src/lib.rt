@@ -18,7 +18,7 @@ mod text_words;
 pub use name_lines::write_names;
 pub use packet_lines::{write_frame, write_header, write_raw};
 pub use paper::Paper;
-pub use print::{write_datagram, write_event, write_sent};
+pub use print::{write_datagram, write_event};
 pub use printer::Printer;
 pub use segment_lines::write_segment;
 pub use status::Status;

@@ -1,10 +1,10 @@
-//! What is printed of a play.
-ghost use Rattle.std.specs.Prelude.{◌≡◌, ◌≤◌, ◌++◌, codes, drop, length};
+//! What is printed of a report, and of a datagram.
+ghost use Rattle.std.specs.Prelude.{◌≡◌, ◌≤◌, ◌++◌, codes, length};
 ghost use Rattle.std.specs.Fmt.{decimal};
 ghost use Rattle.std.specs.List.{flat_map};
 ghost use Rattle.at_print.specs.Lines.{hex_text};
 ghost use Rattle.at_print.specs.Printers.{Prints};
-ghost use Rattle.at_print.specs.Reports.{asked_text, datagram_line, event_line, packet_text, report_text, sent_lines};
+ghost use Rattle.at_print.specs.Reports.{asked_text, datagram_line, event_line, packet_text, report_text};
 ghost use Rattle.at_print.specs.Reports.{table_word, zone_text};
 
 use crate::digits::write_hex;
@@ -16,8 +16,7 @@ use crate::stream_reports::write_stream_report;
 use crate::text_words::write_text;
 use at_atp::{Key, Packet};
 use at_ddp::Pascal;
-use at_node::Report;
-use at_world::World;
+use at_event::Report;
 use at_zip::Which;
 use std::alloc::Allocator;
 
@@ -36,20 +35,6 @@ pub fn write_event<A: Allocator, W: Paper>(
     line.put_number(event as u64);
     line.put(b" ");
     write_report(printer, line, report);
-}
-
-/// Prints the datagrams that a world sent, from a number on.
-pub fn write_sent<A: Allocator + Copy, W: Paper>(
-    printer: &mut Printer<W>,
-    world: &World<A>,
-    first: usize,
-)
-    ensures { Prints W.page printer.old printer.new (sent_lines first (drop first world.now.sent)) }
-{
-    for number in first..world.sent_count() {
-        let sent = world.sent(number);
-        write_datagram(printer, number, sent.to, sent.bytes);
-    }
 }
 
 /// Prints a datagram that was sent: its number, the node that it goes to, and its bytes.

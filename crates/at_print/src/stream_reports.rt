@@ -12,7 +12,7 @@ use crate::paper::Paper;
 use crate::piece::{HEAD, Piece, end_with_number, end_with_word};
 use crate::printer::Printer;
 use at_adsp_end::Item;
-use at_node::Report;
+use at_event::Report;
 use std::alloc::Allocator;
 
 /// The line that begins with this piece, and ends with a report that only streams give.

@@ -1,10 +1,10 @@
 use Rattle.std.proofs.Common.{arith, ◌<◌, ◌≤◌, sym, subst, length, drop}
 use Rattle.std.proofs.lemmas.List.{take_all}
 use Rattle.at_print.specs.Printers.{Prints}
-use Rattle.at_print.specs.Reports.{sent_lines}
+use Rattle.at_play.specs.Sent.{sent_lines}
 use Rattle.at_print.proofs.PrintLemmas.{Prints-nothing}
-use Rattle.at_print.proofs.ReportLemmas.{Prints-sent, sent_lines-none}
-use Rattle.at_print.proofs.print.write_sent.Goals as goal
+use Rattle.at_play.proofs.SentLemmas.{Prints-sent, sent_lines-none}
+use Rattle.at_play.proofs.sent.write_sent.Goals as goal
 
 pub loop-number-init : goal.loop-number-init
 loop-number-init g c = subst (Prints g.W.Paper.page c.args.printer.now c.args.printer.now)
