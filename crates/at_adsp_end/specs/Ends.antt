@@ -87,6 +87,21 @@ half_end rooms id from = record {
   send_room = rooms.send;
 }
 
+-- an open end whose next item has this number, both of what it sends and of what it receives
+abbrev pub open_end : Rooms → ℕ → Remote → ℕ → EndState
+open_end rooms id remote number = record {
+  id = id;
+  listener = false;
+  asked = remote.address;
+  remote = Some remote;
+  phase = phase.Open;
+  sender = record no_sender { front = number };
+  receiver = record { received = number; unread = [] };
+  ticks = 0;
+  receive_room = rooms.receive;
+  send_room = rooms.send;
+}
+
 -- the queues of an end fit their rooms, which hold at most 65,535 items
 pub record FitsRooms (e : EndState) : Type 0 where
   pub unread : length e.receiver.unread ≤ e.receive_room

@@ -3,7 +3,7 @@ ghost use Rattle.std.specs.Prelude.{◌≡◌, ◌&&◌, ◌||◌, not, IfOk, is
 ghost use Rattle.at_ddp.specs.Address.{same_address};
 ghost use Rattle.at_adsp_end.specs.Calls.{is_last};
 ghost use Rattle.at_adsp_end.specs.Ends.{FitsRooms, connector, half_end, has_opened, has_remote, is_closed};
-ghost use Rattle.at_adsp_end.specs.Ends.{is_half, is_open, is_opening};
+ghost use Rattle.at_adsp_end.specs.Ends.{is_half, is_open, is_opening, open_end};
 
 use crate::item::Item;
 use crate::outgoing::Outgoing;
@@ -85,6 +85,32 @@ impl<A: Allocator + Copy> End<A> {
             phase: Phase::Half,
             outgoing: Outgoing::new(alloc, rooms.send)?,
             received: 0,
+            unread: HeapCircularBuffer::with_capacity(alloc, rooms.receive as usize)?,
+            ticks: 0,
+        })
+    }
+
+    /// An end that is open to this one, and whose next item has this number in both directions. The error is out of
+    /// memory.
+    pub fn open_at(
+        alloc: A,
+        rooms: Rooms,
+        id: u16,
+        remote: Remote,
+        number: u32,
+    ) -> Result<End<A>, AllocError>
+        ensures { IfOk result (λ e. e ≡ open_end rooms id remote number) }
+    {
+        let mut outgoing = Outgoing::new(alloc, rooms.send)?;
+        outgoing.set_front(number);
+        Ok(End {
+            id,
+            listener: false,
+            asked: remote.address,
+            remote: Some(remote),
+            phase: Phase::Open,
+            outgoing,
+            received: number,
             unread: HeapCircularBuffer::with_capacity(alloc, rooms.receive as usize)?,
             ticks: 0,
         })

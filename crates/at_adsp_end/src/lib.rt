@@ -21,8 +21,6 @@ mod remote;
 mod resets;
 mod rooms;
 mod step;
-#[cfg(test)]
-mod tests;
 mod tick;
 
 pub use end::End;

@@ -58,7 +58,6 @@ impl<A: Allocator> Outgoing<A> {
     }
 
     // Has the first item that is not acknowledged take this number from now on.
-    #[cfg(test)]
     pub(crate) fn set_front(&mut self, front: u32)
         ensures { self.new ≡ record self.old { sender = record self.old.sender { front = front } } }
     {

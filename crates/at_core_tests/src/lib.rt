@@ -29,4 +29,6 @@ mod texts;
 #[cfg(test)]
 mod tuples;
 #[cfg(test)]
+mod wraps;
+#[cfg(test)]
 mod zone_tables;

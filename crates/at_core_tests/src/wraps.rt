@@ -1,9 +1,5 @@
-//! Ends whose sequence numbers begin again at 0.
-use crate::end::End;
-use crate::item::Item;
-use crate::phase::Phase;
-use crate::rooms::Rooms;
-use crate::step::Step;
+//! Ends whose sequence numbers begin again at 0. What an end sent and expects is seen by what its timers send.
+use at_adsp_end::{End, Item, Remote, Rooms, Step, Tick};
 use at_adsp_frame::{Body, Segment};
 use at_ddp::{Address, Datagrams, HEADER_LEN, Outbox};
 use std::process::Abort;
@@ -13,6 +9,12 @@ const HOST: Address = Address {
     net: 10,
     node: 7,
     socket: 130,
+};
+
+/// The other end.
+const REMOTE: Remote = Remote {
+    address: HOST,
+    id: 2,
 };
 
 /// Each queue holds five items.
@@ -37,13 +39,15 @@ fn heard(items: u16) -> Step {
     Step::Heard { id: 1, items }
 }
 
-// An open end whose next item has this number in both directions. It may send as many items as this window holds.
-fn end_at<R: AllocGlobal + Abort>(rt: &R, number: u32, window: u16) -> End {
-    let mut end = End::connector(rt.alloc(), ROOMS, 1, HOST).expect(rt, "out of memory");
-    end.phase = Phase::Open;
-    end.received = number;
-    end.outgoing.set_front(number);
-    assert!(rt; hear(rt, &mut end, number, number, window, Body::Probe, &[]) == heard(0));
+fn outbox<R: AllocGlobal>(rt: &R) -> Outbox {
+    Outbox::over(Datagrams::new(rt.alloc()), HOST, 7)
+}
+
+// An open end whose next item has the last number but one in both directions. It may send as many items as this window
+// holds.
+fn end_with<R: AllocGlobal + Abort>(rt: &R, window: u16) -> End {
+    let mut end = End::open_at(rt.alloc(), ROOMS, 1, REMOTE, FIRST).expect(rt, "out of memory");
+    assert!(rt; hear(rt, &mut end, FIRST, FIRST, window, Body::Probe, &[]) == heard(0));
     end
 }
 
@@ -74,7 +78,7 @@ fn hear<R: AllocGlobal + Abort>(
         ack: matches!(body, Body::Data { .. }),
         body,
     };
-    let mut out = Outbox::over(Datagrams::new(rt.alloc()), HOST, 7);
+    let mut out = outbox(rt);
     let step = end.receive(&segment, &mut out).expect(rt, "out of memory");
     sends(rt, out, want);
     step
@@ -82,39 +86,54 @@ fn hear<R: AllocGlobal + Abort>(
 
 // The end writes items, and sends these.
 fn write<R: AllocGlobal + Abort>(rt: &R, end: &mut End, items: &[Item], want: &[&[u8]]) -> usize {
-    let mut out = Outbox::over(Datagrams::new(rt.alloc()), HOST, 7);
+    let mut out = outbox(rt);
     let count = end.write(items, &mut out).expect(rt, "out of memory");
     sends(rt, out, want);
     count
 }
 
+// A timer of the end fires, and the end sends these.
+fn tick<R: AllocGlobal + Abort>(rt: &R, end: &mut End, tick: Tick, want: &[&[u8]]) -> Step {
+    assert!(rt; !end.is_closed());
+    let mut out = outbox(rt);
+    let step = end.tick(tick, &mut out).expect(rt, "out of memory");
+    sends(rt, out, want);
+    step
+}
+
+// The end waits for no answer, and this is its probe, which has the number of its next item.
+fn waits_for_nothing<R: AllocGlobal + Abort>(rt: &R, end: &mut End, probe: &[u8]) {
+    assert!(rt; tick(rt, end, Tick::Retransmit, &[]) == Step::Idle);
+    assert!(rt; tick(rt, end, Tick::Probe, &[probe]) == Step::Again);
+}
+
 #[test]
 fn three_items_from_the_last_number_but_one_end_at_one(rt: HostRuntime) {
-    let mut end = end_at(&rt, FIRST, 5);
+    let mut end = end_with(&rt, 5);
     let abc: &[u8] = b"\0\x01\xFF\xFF\xFF\xFE\xFF\xFF\xFF\xFE\0\x05\x40abc";
     assert!(&rt; write(&rt, &mut end, &ABCDE[..3], &[abc]) == 3);
     assert!(&rt; hear(&rt, &mut end, FIRST, 1, 5, Body::Probe, &[]) == heard(0));
-    assert!(&rt; (end.outgoing.front(), end.outgoing.sent()) == (1, 0));
+    waits_for_nothing(&rt, &mut end, b"\0\x01\0\0\0\x01\xFF\xFF\xFF\xFE\0\x05\xC0");
 }
 
 #[test]
 fn a_reset_across_the_wrap_leads_to_one(rt: HostRuntime) {
-    let mut end = end_at(&rt, FIRST, 5);
+    let mut end = end_with(&rt, 5);
     let abc: &[u8] = b"\0\x01\xFF\xFF\xFF\xFE\xFF\xFF\xFF\xFE\0\x05\x40abc";
     assert!(&rt; write(&rt, &mut end, &ABCDE[..3], &[abc]) == 3);
-    let mut out = Outbox::over(Datagrams::new(rt.alloc()), HOST, 7);
+    let mut out = outbox(&rt);
     assert!(&rt; end.reset(&mut out) == Ok(()));
     sends(&rt, out, &[b"\0\x01\0\0\0\x01\xFF\xFF\xFF\xFE\0\x05\x86"]);
-    let mut other = end_at(&rt, FIRST, 5);
+    let mut other = end_with(&rt, 5);
     let answer: &[u8] = b"\0\x01\xFF\xFF\xFF\xFE\0\0\0\x01\0\x05\x87";
     assert!(&rt; hear(&rt, &mut other, 1, FIRST, 5, Body::Reset, &[answer]) == Step::Dropped(1));
     assert!(&rt; hear(&rt, &mut end, FIRST, 1, 5, Body::ResetAck, &[]) == heard(0));
-    assert!(&rt; (end.outgoing.front(), end.outgoing.is_resetting()) == (1, false));
+    waits_for_nothing(&rt, &mut end, b"\0\x01\0\0\0\x01\xFF\xFF\xFF\xFE\0\x05\xC0");
 }
 
 #[test]
 fn old_data_from_before_the_wrap_is_not_taken_again(rt: HostRuntime) {
-    let mut end = end_at(&rt, FIRST, 5);
+    let mut end = end_with(&rt, 5);
     let abc = Body::Data {
         end: false,
         data_: b"abc",
@@ -122,17 +141,19 @@ fn old_data_from_before_the_wrap_is_not_taken_again(rt: HostRuntime) {
     let taken: &[u8] = b"\0\x01\xFF\xFF\xFF\xFE\0\0\0\x01\0\x02\x80";
     assert!(&rt; hear(&rt, &mut end, FIRST, FIRST, 5, abc, &[taken]) == heard(3));
     assert!(&rt; hear(&rt, &mut end, FIRST, FIRST, 5, abc, &[taken]) == heard(0));
-    assert!(&rt; (end.received, end.unread()) == (1, 3));
+    waits_for_nothing(&rt, &mut end, b"\0\x01\xFF\xFF\xFF\xFE\0\0\0\x01\0\x02\xC0");
+    assert!(&rt; end.unread() == 3);
 }
 
 #[test]
 fn a_window_across_the_wrap_does_not_move_back(rt: HostRuntime) {
-    let mut end = end_at(&rt, FIRST, 4);
+    let mut end = end_with(&rt, 4);
     let abcd: &[u8] = b"\0\x01\xFF\xFF\xFF\xFE\xFF\xFF\xFF\xFE\0\x05\x40abcd";
     assert!(&rt; write(&rt, &mut end, &ABCDE, &[abcd]) == 5);
     // All before 0 is acknowledged, and the window ends at 1, which is before 2.
     assert!(&rt; hear(&rt, &mut end, FIRST, 0, 1, Body::Probe, &[]) == heard(0));
     let e: &[u8] = b"\0\x01\0\0\0\x02\xFF\xFF\xFF\xFE\0\x05\x40e";
     assert!(&rt; hear(&rt, &mut end, FIRST, 0, 3, Body::Probe, &[e]) == heard(0));
-    assert!(&rt; (end.outgoing.front(), end.outgoing.sent()) == (0, 3));
+    let cde: &[u8] = b"\0\x01\0\0\0\0\xFF\xFF\xFF\xFE\0\x05\x40cde";
+    assert!(&rt; tick(&rt, &mut end, Tick::Retransmit, &[cde]) == Step::Again);
 }
