@@ -1,8 +1,8 @@
 -- The lines that say why a play ended before its last event.
 use Rattle.std.specs.Prelude.{◌≡◌, ℕ, List, ◌++◌, None, codes}
 use Rattle.std.specs.Fmt.{decimal}
-use Rattle.at_world.specs.Refusals.{number_of}
-use Rattle.at_world.specs.declared.refusal.Fault.TheVariants as world
+use Rattle.at_setup.specs.Refusals.{number_of}
+use Rattle.at_setup.specs.declared.refusal.Fault.TheVariants as world
 use Rattle.at_faults.specs.declared.fault.Fault.{Fault}
 use Rattle.at_faults.specs.declared.fault.Fault.TheVariants as text
 use Rattle.at_diagnostics.specs.declared.stop.Stop.{Stop}

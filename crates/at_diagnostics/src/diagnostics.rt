@@ -67,7 +67,7 @@ impl<'a, W: Paper> Diagnostics<'a, W> {
     }
 
     // Tells why an event was not played, or that there was no memory for any line.
-    fn tell_event(&mut self, fault: at_world::Fault, at: u32, line: usize, which: Option<u64>)
+    fn tell_event(&mut self, fault: at_setup::Fault, at: u32, line: usize, which: Option<u64>)
         ensures { (reason : List ℕ) × TellsLine W.page (stopped_told (file_of self.old) at line reason)
             self.old self.new }
     {

@@ -5,7 +5,7 @@ ghost use Rattle.at_print.specs.Printers.{Prints};
 ghost use Rattle.at_faults.specs.Reads.{IsOfRead};
 ghost use Rattle.at_faults.specs.declared.fault.Fault.{Fault as Why};
 ghost use Rattle.at_diagnostics.specs.declared.stop.Stop.TheVariants as stop;
-ghost use Rattle.at_world.specs.declared.refusal.Fault.TheVariants as world;
+ghost use Rattle.at_setup.specs.declared.refusal.Fault.TheVariants as world;
 
 use at_faults::Fault;
 use at_print::{Paper, Printer};
@@ -19,7 +19,7 @@ pub enum Stop {
     /// The event of this place, counted from 0, was not played. It stands in the line of this number, counted from 1;
     /// the number is 0 before any line was read. `which` is the datagram that was to be delivered.
     Event {
-        fault: at_world::Fault,
+        fault: at_setup::Fault,
         at: u32,
         line: usize,
         which: Option<u64>,
@@ -33,7 +33,7 @@ impl Stop {
         ensures stop { result ≡ stop.Event world.NoMemory at line None }
     {
         Stop::Event {
-            fault: at_world::Fault::NoMemory,
+            fault: at_setup::Fault::NoMemory,
             at,
             line,
             which: None,
@@ -67,10 +67,10 @@ pub fn write_stop<W: Paper>(printer: &mut Printer<W>, stop: Stop)
     match stop {
         Stop::Text(fault) => write_fault(printer, fault),
         Stop::Event { fault, at, .. } => match fault {
-            at_world::Fault::Refused(refusal) => {
+            at_setup::Fault::Refused(refusal) => {
                 writeln!(printer, "stopped {} at {at}", refusal.number());
             }
-            at_world::Fault::NoMemory => writeln!(printer, "stopped nomemory at {at}"),
+            at_setup::Fault::NoMemory => writeln!(printer, "stopped nomemory at {at}"),
         },
     }
 }

@@ -8,7 +8,7 @@ use Rattle.at_setup.specs.declared.event.Event.{Event}
 use Rattle.at_setup.specs.declared.setup.Setup.{Setup}
 use Rattle.at_setup_lines.specs.Drafts.{Draft}
 use Rattle.at_world.specs.Worlds.{WorldState}
-use Rattle.at_world.specs.declared.refusal.Fault.TheVariants as fault
+use Rattle.at_setup.specs.declared.refusal.Fault.TheVariants as fault
 use Rattle.at_print.specs.Papers.{Page}
 use Rattle.at_print.specs.declared.printer.Printer.{Printer}
 use Rattle.at_schedule.specs.Drafts.{BeginSchedule, HoldsSetup, IsRead, IsSchedule}

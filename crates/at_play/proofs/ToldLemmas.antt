@@ -4,8 +4,8 @@ use Rattle.std.proofs.Common.{Ok, IfErr, IfSome, refl, sym, ap, subst, ◌∙◌
 use Rattle.std.proofs.Common.{append_assoc}
 use Rattle.at_event.specs.declared.report.Report.{Report}
 use Rattle.at_setup.specs.declared.event.Event.{Event}
-use Rattle.at_world.specs.declared.refusal.Fault.{Fault}
-use Rattle.at_world.specs.declared.refusal.Fault.TheVariants as fault
+use Rattle.at_setup.specs.declared.refusal.Fault.{Fault}
+use Rattle.at_setup.specs.declared.refusal.Fault.TheVariants as fault
 use Rattle.at_world.specs.Safety.{IsSafe, Safely}
 use Rattle.at_world.specs.Worlds.{WorldState, IsFault, IsPlayable, Plays}
 use Rattle.at_world.specs.Plays.{Follows}

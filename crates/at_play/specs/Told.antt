@@ -3,8 +3,8 @@ use Rattle.std.specs.Prelude.{◌≡◌, ℕ, Bool, true, false, List, [], ◌�
 use Rattle.std.specs.Prelude.{Result, Ok, Err}
 use Rattle.at_event.specs.declared.report.Report.{Report}
 use Rattle.at_setup.specs.declared.event.Event.{Event}
-use Rattle.at_world.specs.declared.refusal.Fault.{Fault as WorldFault}
-use Rattle.at_world.specs.declared.refusal.Fault.TheVariants as world
+use Rattle.at_setup.specs.declared.refusal.Fault.{Fault as WorldFault}
+use Rattle.at_setup.specs.declared.refusal.Fault.TheVariants as world
 use Rattle.at_setup.specs.declared.setup.Setup.{Setup}
 use Rattle.at_world.specs.Plays.{opening_world}
 use Rattle.at_world.specs.Safety.{IsSafe}

@@ -1,8 +1,10 @@
-//! What a world is made of, and what happens in it: setups and events.
+//! What a world is made of, what happens in it, and why something does not: setups, events and refusals.
 #![tactic(auto)]
 
 mod event;
+mod refusal;
 mod setup;
 
 pub use event::Event;
+pub use refusal::{Fault, Refusal};
 pub use setup::{NodeSetup, Setup};

@@ -14,10 +14,10 @@ use Rattle.at_world.specs.Draws.{Draws, last_of, is_no_later}
 use Rattle.at_world.specs.Sents.{SentDatagram}
 use Rattle.at_setup.specs.declared.event.Event.{Event}
 use Rattle.at_setup.specs.declared.event.Event.TheVariants as event
-use Rattle.at_world.specs.declared.refusal.Refusal.{Refusal}
-use Rattle.at_world.specs.declared.refusal.Refusal.TheVariants.{NoDatagram, NotForNode}
-use Rattle.at_world.specs.declared.refusal.Fault.{Fault}
-use Rattle.at_world.specs.declared.refusal.Fault.TheVariants as fault
+use Rattle.at_setup.specs.declared.refusal.Refusal.{Refusal}
+use Rattle.at_setup.specs.declared.refusal.Refusal.TheVariants.{NoDatagram, NotForNode}
+use Rattle.at_setup.specs.declared.refusal.Fault.{Fault}
+use Rattle.at_setup.specs.declared.refusal.Fault.TheVariants as fault
 use Rattle.at_world.specs.Worlds.{WorldState, is_over, node_at, node_refusal, refusal, refusal_at, delivery_refusal}
 use Rattle.at_world.specs.Worlds.{is_for, ComesInTime, DrawsFree, IsFresh, IsTimely, IsPlayable, is_numbered, PlaysAt}
 use Rattle.at_world.specs.Worlds.{Receives, PlaysDelivery, IsFault}

@@ -9,9 +9,9 @@ use Rattle.at_event.specs.declared.report.Report.{Report}
 use Rattle.at_event.specs.declared.event.Timer.{Timer}
 use Rattle.at_setup.specs.declared.event.Event.{Event}
 use Rattle.at_setup.specs.declared.event.Event.TheVariants as event
-use Rattle.at_world.specs.declared.refusal.Refusal.TheVariants.{Limit, NoDatagram, NotForNode, Untimely}
-use Rattle.at_world.specs.declared.refusal.Fault.{Fault}
-use Rattle.at_world.specs.declared.refusal.Fault.TheVariants as fault
+use Rattle.at_setup.specs.declared.refusal.Refusal.TheVariants.{Limit, NoDatagram, NotForNode, Untimely}
+use Rattle.at_setup.specs.declared.refusal.Fault.{Fault}
+use Rattle.at_setup.specs.declared.refusal.Fault.TheVariants as fault
 use Rattle.at_world.specs.Worlds.{WorldState, is_over, DrawsFree, IsPlayable, IsNotTaken, IsFault, Plays, PlaysAt}
 use Rattle.at_world.specs.Worlds.{PlaysDelivery, Takes}
 use Rattle.at_world.proofs.DeliveryLemmas.{refused_at}

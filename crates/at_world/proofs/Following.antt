@@ -7,8 +7,8 @@ use Rattle.std.specs.Prelude.{false, slice_get}
 use Rattle.at_event.specs.declared.report.Report.{Report}
 use Rattle.at_setup.specs.declared.event.Event.{Event}
 use Rattle.at_setup.specs.declared.event.Event.TheVariants as event
-use Rattle.at_world.specs.declared.refusal.Fault.{Fault}
-use Rattle.at_world.specs.declared.refusal.Fault.TheVariants.{Refused, NoMemory}
+use Rattle.at_setup.specs.declared.refusal.Fault.{Fault}
+use Rattle.at_setup.specs.declared.refusal.Fault.TheVariants.{Refused, NoMemory}
 use Rattle.at_world.specs.Worlds.{WorldState, IsPlayable, Plays, IsFault}
 use Rattle.at_world.specs.Plays.{Follows, StopsAt, IsNextPlayable, IsRefused}
 

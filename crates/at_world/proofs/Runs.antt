@@ -43,7 +43,7 @@ use Rattle.at_world.proofs.Streams.Happenings as streamed
 use Rattle.at_world.proofs.Streams.Next.{Good as GoodStreams}
 use Rattle.at_world.proofs.Streams.Tie.{StreamLaws, StreamTie}
 use Rattle.at_world.proofs.Tied.{Tied}
-use Rattle.at_world.specs.declared.refusal.Refusal.TheVariants.{Limit}
+use Rattle.at_setup.specs.declared.refusal.Refusal.TheVariants.{Limit}
 
 -- the machine may answer an event so, and is tied to the world after it
 abbrev pub Follow : (A : Type 0) (w : WorldState) (m : Machine) → Tied A w m → Event A → Report A → WorldState → Type 0

@@ -28,7 +28,7 @@ use Rattle.at_world.specs.Safety.{AreWithin, HasNoEffect, IsSafe, KeepsLimits, S
 use Rattle.at_world.specs.Sents.{SentDatagram, stamp}
 use Rattle.at_world.specs.Worlds.{WorldState, IsPlayable, Plays, PlaysAt, Receives, is_numbered, is_over, node_at}
 use Rattle.at_world.specs.Worlds.{recorded}
-use Rattle.at_world.specs.declared.refusal.Fault.{Fault}
+use Rattle.at_setup.specs.declared.refusal.Fault.{Fault}
 use Rattle.at_world.proofs.Runs.{still_runs}
 
 -- what the layer below promises of each event of a node

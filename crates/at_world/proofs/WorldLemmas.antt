@@ -16,9 +16,9 @@ use Rattle.at_node.specs.Numbers.{drawn_by, Draws as DrawsFor}
 use Rattle.at_node.specs.Nodes.{NodeState}
 use Rattle.at_world.specs.Draws.{Draws}
 use Rattle.at_world.specs.Sents.{SentDatagram}
-use Rattle.at_world.specs.declared.refusal.Refusal.TheVariants.{NotForNode}
-use Rattle.at_world.specs.declared.refusal.Fault.{Fault}
-use Rattle.at_world.specs.declared.refusal.Fault.TheVariants as fault
+use Rattle.at_setup.specs.declared.refusal.Refusal.TheVariants.{NotForNode}
+use Rattle.at_setup.specs.declared.refusal.Fault.{Fault}
+use Rattle.at_setup.specs.declared.refusal.Fault.TheVariants as fault
 use Rattle.at_world.specs.Worlds.{WorldState, is_over, is_numbered, node_at, node_refusal, holds_some, recorded}
 use Rattle.at_world.specs.Worlds.{AreFree, PlaysAt, DrawsFree, IsNotTaken, with_event}
 

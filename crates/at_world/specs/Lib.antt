@@ -6,7 +6,6 @@ pub mod ExactlyOnce
 pub mod Machine
 pub mod NameGuards
 pub mod Plays
-pub mod Refusals
 pub mod Safety
 pub mod Sents
 pub mod SessionGuards

@@ -7,9 +7,9 @@ use Rattle.at_event.specs.declared.report.Report.{Report}
 use Rattle.at_node.specs.Nodes.{NodeState, opening}
 use Rattle.at_setup.specs.Setups.{tables_of}
 use Rattle.at_setup.specs.declared.event.Event.{Event}
-use Rattle.at_world.specs.declared.refusal.Refusal.{Refusal}
-use Rattle.at_world.specs.declared.refusal.Fault.{Fault}
-use Rattle.at_world.specs.declared.refusal.Fault.TheVariants as fault
+use Rattle.at_setup.specs.declared.refusal.Refusal.{Refusal}
+use Rattle.at_setup.specs.declared.refusal.Fault.{Fault}
+use Rattle.at_setup.specs.declared.refusal.Fault.TheVariants as fault
 use Rattle.at_setup.specs.declared.setup.NodeSetup.{NodeSetup}
 use Rattle.at_setup.specs.declared.setup.Setup.{Setup}
 use Rattle.at_world.specs.declared.transcript.Transcript.{Transcript}

@@ -21,10 +21,10 @@ use Rattle.at_world.specs.Draws.{Draws, last_of, noted, is_no_later}
 use Rattle.at_world.specs.Sents.{SentDatagram, stamp}
 use Rattle.at_setup.specs.declared.event.Event.{Event}
 use Rattle.at_setup.specs.declared.event.Event.TheVariants as event
-use Rattle.at_world.specs.declared.refusal.Refusal.{Refusal}
-use Rattle.at_world.specs.declared.refusal.Refusal.TheVariants as refusals
-use Rattle.at_world.specs.declared.refusal.Fault.{Fault}
-use Rattle.at_world.specs.declared.refusal.Fault.TheVariants as fault
+use Rattle.at_setup.specs.declared.refusal.Refusal.{Refusal}
+use Rattle.at_setup.specs.declared.refusal.Refusal.TheVariants as refusals
+use Rattle.at_setup.specs.declared.refusal.Fault.{Fault}
+use Rattle.at_setup.specs.declared.refusal.Fault.TheVariants as fault
 
 pub record WorldState : Type 0 where
   pub nodes : List NodeState

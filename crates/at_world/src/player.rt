@@ -7,13 +7,12 @@ ghost use Rattle.at_world.specs.Safety.{IsSafePlay};
 ghost use Rattle.at_setup.specs.Setups.{is_lawful};
 
 use crate::laws::{exactly_once_requests_run_once, steps_are_a_run};
-use crate::refusal::Fault;
 use crate::sent::SentList;
 use crate::transcript::{PlayFault, Transcript};
 use crate::world::World;
 use at_ddp::Listed;
 use at_node::Report;
-use at_setup::{Event, Setup};
+use at_setup::{Event, Fault, Setup};
 use std::alloc::Allocator;
 
 /// Opens a world and plays events up to the first that is refused.

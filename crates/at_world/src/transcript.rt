@@ -1,8 +1,8 @@
 //! What a play gives: the reports and the datagrams, of all events or up to the one that was refused.
-use crate::refusal::Fault;
 use crate::sent::SentList;
 use at_ddp::Listed;
 use at_node::Report;
+use at_setup::Fault;
 use std::alloc::{Allocator, Global};
 
 /// What the nodes reported, with one report for each event, and all that they sent.

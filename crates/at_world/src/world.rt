@@ -13,13 +13,12 @@ ghost use Rattle.at_world.specs.Worlds.{node_at, is_numbered, is_over, with_even
 use crate::draws::LastDraws;
 use crate::opening::opening_nodes;
 use crate::places::{is_held, place_of};
-use crate::refusal::{Fault, Refusal};
 use crate::sent::SentList;
 use crate::taking::take;
 use crate::timely::is_fresh;
 use at_ddp::{Datagrams, Received};
 use at_node::{Draw, Input, Node, Report};
-use at_setup::{Event, Setup};
+use at_setup::{Event, Fault, Refusal, Setup};
 use at_steps::laws::safety::every_event_is_safe;
 use std::alloc::{AllocError, Allocator};
 use std::marker::Model;

@@ -9,7 +9,7 @@ use Rattle.at_node.specs.Numbers.{DrawsHearing}
 use Rattle.at_world.specs.Safety.{AreWithin}
 use Rattle.at_world.specs.Sents.{SentDatagram}
 use Rattle.at_world.specs.Worlds.{AreFree, Receives, WorldState, is_for, is_numbered, node_at, node_refusal}
-use Rattle.at_world.specs.declared.refusal.Fault.TheVariants as fault
+use Rattle.at_setup.specs.declared.refusal.Fault.TheVariants as fault
 use Rattle.at_world.proofs.DeliveryLemmas.{HeardFree, delivered, for_it, for_same, fresh_there, held_there}
 use Rattle.at_world.proofs.DeliveryLemmas.{not_delivered, not_sent, stale_there}
 use Rattle.at_world.proofs.WorldLemmas.{node_stands, none_stands, one_stands, recorded_by, taken}

@@ -1,6 +1,6 @@
 use Rattle.std.proofs.Common.{◌≡◌, true, subst, sym}
 use Rattle.std.specs.Prelude.{IfErr, IfOk}
-use Rattle.at_world.specs.declared.refusal.Fault.TheVariants as fault
+use Rattle.at_setup.specs.declared.refusal.Fault.TheVariants as fault
 use Rattle.at_world.specs.Worlds.{WorldState, with_event}
 use Rattle.at_node.specs.Numbers.{drawn_by}
 use Rattle.at_world.proofs.WorldLemmas.{finished, unfinished}

@@ -1,4 +1,4 @@
-use Rattle.std.proofs.Common.{refl, sym, ◌∙◌}
+use Rattle.std.proofs.Common.{refl, rules, sym, ◌∙◌}
 use Rattle.at_world.proofs.EventLemmas.{called_by, came, fired, forged, not_called, not_came, not_fired, not_forged}
 use Rattle.at_world.proofs.world.World.step_once.Goals as goal
 
@@ -53,3 +53,7 @@ returns-in-Forge-clause-not_played g c =
     (c.of.ensures ∙ c.as_slice.ensures)
     (sym c.is_over.ensures ∙ c.if-is_over.false)
     c.play-in-Forge.ensures.not_played
+
+-- (so that a search which fails, for a wrong body, is not made a second time)
+pub returns-then-is_over-clause-not_played : goal.returns-then-is_over-clause-not_played
+returns-then-is_over-clause-not_played g c = search rules

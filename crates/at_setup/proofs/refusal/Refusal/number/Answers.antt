@@ -1,5 +1,5 @@
 use Rattle.std.proofs.Common.{rules}
-use Rattle.at_world.proofs.refusal.Refusal.number.Goals as goal
+use Rattle.at_setup.proofs.refusal.Refusal.number.Goals as goal
 
 pub returns-in-NoDatagram : goal.returns-in-NoDatagram
 returns-in-NoDatagram c = search rules

@@ -23,7 +23,7 @@ pub enum Refusal {
 }
 
 impl Refusal {
-    ghost use Rattle.at_world.specs.Refusals.{number_of};
+    ghost use Rattle.at_setup.specs.Refusals.{number_of};
 
     /// The number by which the refusal is reported.
     pub fn number(self) -> u8
