@@ -4,7 +4,7 @@ ghost use Rattle.at_held.specs.Held.{IsOpened};
 ghost use Rattle.at_held.specs.Openings.{IsFault};
 
 use at_held::{HeldNode, OpenFault};
-use std::alloc::Global;
+use std::alloc::{AllocError, Global};
 
 /// The node of this number, of the cable that the first lines of a schedule set up.
 pub(crate) fn opened(alloc: Global, setup: &[u8], number: u8) -> Result<Box<HeldNode>, OpenFault>
@@ -12,16 +12,13 @@ pub(crate) fn opened(alloc: Global, setup: &[u8], number: u8) -> Result<Box<Held
     ensures fault { IfErr result (IsFault setup.now number) }
 {
     let node = HeldNode::open(alloc, setup, number)?;
-    boxed(alloc, node)
+    let place = boxed(alloc, node)?;
+    Ok(place)
 }
 
-// The node in memory of its own.
-fn boxed(alloc: Global, node: HeldNode) -> Result<Box<HeldNode>, OpenFault>
-    ensures boxed { IfOk result (λ place. place.value ≡ node) }
-    ensures fault { IfErr result (λ fault. fault ≡ OpenFault.NoMemory) }
+// The node in memory of its own. If there is none, `?` ends the node by a call. Any other end of it is proved anew.
+fn boxed(alloc: Global, node: HeldNode) -> Result<Box<HeldNode>, AllocError>
+    ensures { IfOk result (λ place. place.value ≡ node) }
 {
-    match Box::new(alloc, node) {
-        Ok(place) => Ok(place),
-        Err(_) => Err(OpenFault::NoMemory),
-    }
+    Ok(Box::new(alloc, node)?)
 }

@@ -1,10 +1,11 @@
 //! The drive of nodes over a cable: each step is driven and printed before the next.
-ghost use Rattle.std.specs.Prelude.{◌≡◌, ◌↔◌, true, List, ℕ, IsOk, slice_get};
+ghost use Rattle.std.specs.Prelude.{◌≡◌, ◌↔◌, true, List, ℕ, IsOk, map, slice_get};
 ghost use Rattle.at_diagnostics.specs.Diagnostics.{TellsWrites};
 ghost use Rattle.at_diagnostics.specs.declared.diagnostics.Diagnostics.{Diagnostics as Told};
-ghost use Rattle.at_drive.specs.Drives.{logged};
-ghost use Rattle.at_drive.specs.Steps.{has_all};
+ghost use Rattle.at_drive.specs.Drives.{logged, number_of as node_number, opening_drive};
+ghost use Rattle.at_drive.specs.Steps.{has_all, numbers_of};
 ghost use Rattle.at_print.specs.Printers.{HasFailed, Prints};
+ghost use Rattle.at_setup.specs.declared.setup.Setup.{Setup as Said};
 ghost use Rattle.at_drive_text.specs.Driven.{Driven, TellsDrive, drive_end};
 ghost use Rattle.at_drive_text.specs.Told.{TellsCable, TellsEnd, TellsRefusal, TellsStep};
 
@@ -51,6 +52,25 @@ fn drive_each<A: Allocator + Copy, C: Cable, W: Paper, E: Paper>(
     let Ok(mut drive) = Drive::open(alloc, setup) else {
         return Err(0);
     };
+    let driven = drive_steps(&mut drive, steps, cable, printer, diagnostics);
+    // By this call. Wherever a drive ends without one, its end is proved anew.
+    drop(drive);
+    driven
+}
+
+fn drive_steps<A: Allocator + Copy, C: Cable, W: Paper, E: Paper>(
+    drive: &mut Drive<A>,
+    steps: &[Step<A>],
+    cable: &mut C,
+    printer: &mut Printer<W>,
+    diagnostics: &mut Diagnostics<'_, E>,
+) -> Result<(), usize>
+    requires { (setup : Said A) × (map node_number drive.old.nodes ≡ numbers_of setup)
+        × (has_all setup steps.now ≡ true) }
+    ensures { (setup : Said A) → drive.old ≡ opening_drive setup → (text : List ℕ)
+        × TellsDrive C.sends C.receives setup steps.now cable.old cable.new result text
+        × Prints W.page printer.old printer.new text }
+{
     let mut number = 0usize;
     for (at, step) in steps.iter().enumerate() {
         let marks = Marks::of(drive.log());

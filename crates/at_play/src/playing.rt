@@ -10,6 +10,8 @@ ghost use Rattle.at_print.specs.Printers.{Prints};
 ghost use Rattle.at_schedule.specs.Schedules.{is_event_line};
 ghost use Rattle.at_play.specs.Told.{IsStopped, IsWhole, Played, StopsLine, Tells, TellsLine};
 ghost use Rattle.at_setup.specs.Setups.{is_lawful};
+ghost use Rattle.at_setup.specs.declared.setup.Setup.{Setup as Said};
+ghost use Rattle.at_world.specs.Plays.{opening_world};
 
 use crate::sent::write_sent;
 use at_diagnostics::{Diagnostics, Stop};
@@ -52,10 +54,28 @@ fn play_all<A: Allocator + Copy, R: Read, W: Paper, E: Paper>(
         × Prints W.page printer.old printer.new p.text × IsWhole A (R.remaining reader.old) result p
         × TellsRefusals (told_by diagnostics.old) (told_by diagnostics.new) p.reports }
 {
-    first_line();
     let Ok(mut world) = World::open(alloc, setup) else {
         return Err(Stop::no_memory(0, 0));
     };
+    let played = play_in(alloc, &mut world, reader, printer, diagnostics);
+    // By this call. Wherever a world ends without one, its end is proved anew.
+    drop(world);
+    played
+}
+
+// Plays what a reader gives, in a world that was opened.
+fn play_in<A: Allocator + Copy, R: Read, W: Paper, E: Paper>(
+    alloc: A,
+    world: &mut World<A>,
+    reader: &mut R,
+    printer: &mut Printer<W>,
+    diagnostics: &mut Diagnostics<'_, E>,
+) -> Result<(), Stop>
+    ensures told { (setup : Said A) → world.old ≡ opening_world setup → (p : Played setup)
+        × Prints W.page printer.old printer.new p.text × IsWhole A (R.remaining reader.old) result p
+        × TellsRefusals (told_by diagnostics.old) (told_by diagnostics.new) p.reports }
+{
+    first_line();
     let Ok(mut lines) = BufReader::new(alloc, reader) else {
         return Err(Stop::no_memory(0, 0));
     };
@@ -68,7 +88,7 @@ fn play_all<A: Allocator + Copy, R: Read, W: Paper, E: Paper>(
         if !more {
             return Ok(());
         }
-        play_line(&mut world, &mut draft, number, &line, printer, diagnostics)?;
+        play_line(world, &mut draft, number, &line, printer, diagnostics)?;
     }
     // No text has so many lines.
     Err(Stop::Text(Fault::Unreadable(Unreadable::Failed)))

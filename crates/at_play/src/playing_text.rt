@@ -8,6 +8,8 @@ ghost use Rattle.at_print.specs.Printers.{Prints};
 ghost use Rattle.at_schedule.specs.Drafts.{BeginSchedule, HoldsSetup, IsRead};
 ghost use Rattle.at_schedule.specs.Schedules.{is_event_line};
 ghost use Rattle.at_setup.specs.Setups.{is_lawful};
+ghost use Rattle.at_setup.specs.declared.setup.Setup.{Setup as Said};
+ghost use Rattle.at_world.specs.Plays.{opening_world};
 
 use crate::playing::play_event;
 use at_diagnostics::{Diagnostics, Stop};
@@ -55,13 +57,32 @@ fn play_each<A: Allocator + Copy, W: Paper, E: Paper>(
     let Ok(mut world) = World::open(alloc, setup) else {
         return Err(Stop::no_memory(0, 0));
     };
+    let played = play_in(alloc, &mut world, text, printer, diagnostics);
+    drop(world);
+    played
+}
+
+// Plays a text in a world that was opened.
+fn play_in<A: Allocator + Copy, W: Paper, E: Paper>(
+    alloc: A,
+    world: &mut World<A>,
+    text: &[u8],
+    printer: &mut Printer<W>,
+    diagnostics: &mut Diagnostics<'_, E>,
+) -> Result<(), Stop>
+    requires { (setup : Said A) × HoldsSetup (Some text.now) setup }
+    ensures told { (setup : Said A) → world.old ≡ opening_world setup → (p : Played setup)
+        × Prints W.page printer.old printer.new p.text × IsWhole A (Some text.now) result p
+        × TellsRefusals (told_by diagnostics.old) (told_by diagnostics.new) p.reports }
+    ensures playing { IfErr result IsOfPlaying }
+{
     let mut draft = Draft::new(alloc);
     let mut number = 0usize;
     let mut rest = text;
     while !rest.is_empty() {
         number = number.saturating_add(1);
         let (line, later) = cut_line(rest);
-        take_line(&mut world, &mut draft, number, line, printer, diagnostics)?;
+        take_line(world, &mut draft, number, line, printer, diagnostics)?;
         rest = later;
     }
     Ok(())
