@@ -1,17 +1,13 @@
-//! What is printed of drives, over a cable in memory and over UDP.
+//! What is printed and told of drives over a cable in memory, of which each call fails in turn.
 ghost use Rattle.std.specs.Prelude.{◌≡◌, true};
 ghost use Rattle.at_drive.specs.Steps.{has_all};
 
-use crate::schedules::{SESSION, ZONE_LIST};
-use crate::sockets::free_cable;
 use at_cable::{Cable, MemoryCable};
 use at_diagnostics::Diagnostics;
 use at_drive_lines::{DriveText, read_drive};
 use at_drive_text::drive_text;
-use at_play::play_text;
 use at_print::{Printer, Status};
 use std::alloc::{AllocError, Global};
-use std::net::Net;
 use std::process::Abort;
 use std::test::Fail;
 
@@ -129,98 +125,6 @@ fn a_call_of_the_cable_that_fails_is_printed_after_its_event(rt: HostRuntime) ->
         let came = printed_failing(&rt, rt.alloc(), &drive, *call)?;
         assert!(rt; came.0.as_slice() == printed.as_bytes(), "call {call}");
         assert!(rt; came.1.as_slice() == told.as_bytes(), "call {call}");
-    }
-    Ok(())
-}
-
-#[test]
-fn a_refusal_is_told_the_first_time_that_it_comes(rt: HostRuntime) -> Result<(), Fail> {
-    let text = b"net 10\nport 1\nnode 5\ncall 5 zones\ncall 5 zones\n";
-    let drive = read(&rt, rt.alloc(), text);
-    let mut cable = MemoryCable::new(rt.alloc(), &[5])?;
-    let came = printed_by(&rt, rt.alloc(), &drive, &mut cable);
-    assert!(rt; came.0.as_slice() == b"0 refused 60\n1 refused 60\n".as_slice());
-    let told =
-        b"atnode: a.txt: event 0 was refused: the cable has no router, so there is no zone list to read (refusal 60)\n";
-    assert!(rt; came.1.as_slice() == told.as_slice());
-    Ok(())
-}
-
-// The schedule of a drive that polls ten times in place of each delivery.
-fn with_polls(alloc: Global, schedule: &str) -> Result<Vec<u8>, AllocError> {
-    let mut text = Vec::new(alloc);
-    for line in schedule.lines() {
-        if line.starts_with("deliver ") {
-            let node = line.rsplit(' ').next().unwrap_or("");
-            for _poll in 0..10u32 {
-                text.extend_from_slice(b"poll ")?;
-                text.extend_from_slice(node.as_bytes())?;
-                text.push(b'\n')?;
-            }
-        } else {
-            text.extend_from_slice(line.as_bytes())?;
-            text.push(b'\n')?;
-        }
-        if line.starts_with("net ") {
-            text.extend_from_slice(b"port 20000\n")?;
-        }
-    }
-    Ok(text)
-}
-
-// What is printed, without the numbers of events and the polls at which nothing waited.
-fn unnumbered(rt: &impl Abort, alloc: Global, printed: &[u8]) -> Result<Vec<u8>, AllocError> {
-    let text = str::from_utf8(printed).expect(rt, "no text");
-    let mut left = Vec::new(alloc);
-    for line in text.lines() {
-        let told = match line.split_once(' ') {
-            Some(("sent", _)) | None => line,
-            Some((_, report)) => report,
-        };
-        if told != "idle" {
-            left.extend_from_slice(told.as_bytes())?;
-            left.push(b'\n')?;
-        }
-    }
-    Ok(left)
-}
-
-// What the play of a schedule prints.
-fn played(rt: &impl Abort, alloc: Global, schedule: &str) -> Vec<u8> {
-    let mut printed = Vec::new(alloc);
-    let mut told = Vec::new(alloc);
-    let status = play_text(
-        alloc,
-        &mut schedule.as_bytes(),
-        &mut Printer::new(&mut printed),
-        &mut Diagnostics::new("a.txt", &mut told),
-    );
-    assert!(rt; status == Status::Done);
-    printed
-}
-
-// What a drive of the same schedule over UDP prints. It tells nothing.
-fn driven<R: Net + Abort>(
-    rt: &R,
-    alloc: Global,
-    schedule: &str,
-    nodes: &[u8],
-) -> Result<Vec<u8>, AllocError> {
-    let text = with_polls(alloc, schedule)?;
-    let drive = read(rt, alloc, text.as_slice());
-    let (mut cable, _first) = free_cable(rt, alloc, nodes);
-    let (printed, told) = printed_by(rt, alloc, &drive, &mut cable);
-    assert!(rt; told.is_empty());
-    Ok(printed)
-}
-
-#[test]
-fn a_drive_over_udp_prints_what_the_play_prints(rt: HostRuntime) -> Result<(), Fail> {
-    for (schedule, nodes) in [(ZONE_LIST, &[1, 5][..]), (SESSION, &[1, 5, 7][..])] {
-        let played = played(&rt, rt.alloc(), schedule);
-        let driven = driven(&rt, rt.alloc(), schedule, nodes)?;
-        let wanted = unnumbered(&rt, rt.alloc(), &played)?;
-        assert!(rt; unnumbered(&rt, rt.alloc(), &driven)? == wanted);
     }
     Ok(())
 }

@@ -3,6 +3,8 @@
 #![tactic(auto)]
 
 #[cfg(test)]
+mod allocator;
+#[cfg(test)]
 mod chance;
 #[cfg(test)]
 mod datagrams;

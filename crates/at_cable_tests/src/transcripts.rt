@@ -1,5 +1,5 @@
 //! A play of a list of events, whose transcript is whole, or goes up to the first event that is refused.
-use at_node::Call;
+use at_event::Call;
 use at_print::{Printer, write_event};
 use at_schedule::read_setup;
 use at_setup::Setup;
