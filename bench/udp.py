@@ -1,13 +1,13 @@
 #!/usr/bin/env python3
-"""Measures how many datagrams a second two nodes exchange over UDP: `python3 bench/udp.py ATNODE BENCH`.
+"""Measures how many datagrams a second two nodes exchange over UDP: `python3 bench/udp.py ATNODE`.
 
-ATNODE and BENCH are the programs that the crates `atnode` and `bench` build. A node asks its router for the zone list,
-over and over, and each of them polls once for what the other sent. `bench udp` drives the nodes and no more. `atnode
-udp` reads each step as a line of text too, and prints what came of it. Beside them a loop in C sends and receives
-payloads of the same sizes between two such sockets, in one process and with nothing around it. All three run in turn,
-over and over, each for a short time and on the same processor, since those of a machine that others use too differ. The
-fastest turn of each counts. Beside it stands what part of the loop a program did in the middle turn. `cc` has to be
-there.
+ATNODE is the program that the crate `atnode` builds. A node asks its router for the zone list, over and over, and each
+of them polls once for what the other sent. `nodes.c`, over the library for C, has the nodes, their sockets and no more.
+`atnode udp` reads each step as a line of text too, and prints what came of it. Beside them a loop in C sends and
+receives payloads of the same sizes between two such sockets, in one process and with nothing around it. All three run
+in turn, over and over, each for a short time and on the same processor, since those of a machine that others use too
+differ. The fastest turn of each counts. Beside it stands what part of the loop a program did in the middle turn. `cc`
+has to be there, and the library, which `./atnode lib` builds if it is not.
 """
 
 import os
@@ -20,6 +20,7 @@ import time
 
 ROUNDS = 25_000
 TURNS = 25
+TOP = pathlib.Path(__file__).resolve().parent.parent
 FIRST = 47_200
 SCHEDULE = f"net 10\nport {FIRST}\nnode 1 router zone Lab\nnode 5 zone Lab\nzones Lab Office\n"
 ROUND = "call 5 zones\npoll 1\npoll 5\n"
@@ -62,6 +63,14 @@ def printed_by(command):
     return subprocess.run(command, check=True, stdin=subprocess.DEVNULL, capture_output=True, text=True).stdout
 
 
+def build_nodes(program):
+    """Builds the nodes over the library for C, whose files the script `atnode` names."""
+    header, *libraries = printed_by([TOP / "atnode", "lib"]).split()
+    include = pathlib.Path(header).parent
+    command = ["cc", "-std=c99", "-O2", "-I", include, "-o", program, TOP / "bench" / "nodes.c", *libraries]
+    subprocess.run(command, check=True)
+
+
 def seconds_of(command):
     """How long a command takes, which has to succeed."""
     begun = time.perf_counter()
@@ -69,21 +78,23 @@ def seconds_of(command):
     return time.perf_counter() - begun
 
 
-os.sched_setaffinity(0, {min(os.sched_getaffinity(0))})
-with tempfile.TemporaryDirectory() as folder:
-    atnode, bench = sys.argv[1:]
-    bare, source, schedule = (pathlib.Path(folder) / name for name in ("bare", "bare.c", "schedule.txt"))
+with tempfile.TemporaryDirectory() as name:
+    (atnode,) = sys.argv[1:]
+    folder = pathlib.Path(name)
+    bare, nodes, source, schedule = (folder / it for it in ("bare", "nodes", "bare.c", "schedule.txt"))
     source.write_text(BARE)
     subprocess.run(["cc", "-O2", "-o", bare, source], check=True)
+    build_nodes(nodes)
+    os.sched_setaffinity(0, {min(os.sched_getaffinity(0))})
     schedule.write_text(SCHEDULE + ROUND * ROUNDS)
     kinds = {
         "bare sockets": [bare, str(ROUNDS), str(FIRST)],
-        "bench udp": [bench, "udp", str(FIRST), str(ROUNDS)],
+        "the nodes alone": [nodes, "udp", str(FIRST), str(ROUNDS)],
         "atnode udp": [atnode, "udp", schedule],
     }
-    driven, played = printed_by(kinds["bench udp"]), printed_by(kinds["atnode udp"])
+    exchanged, played = printed_by(kinds["the nodes alone"]), printed_by(kinds["atnode udp"])
     idle = played.count(" idle\n")
-    print(f"bench udp: {driven.strip()}")
+    print(f"the nodes alone: {exchanged.strip()}")
     print(f"atnode udp: idle {idle}")
     runs = [[seconds_of(command) for command in kinds.values()] for _ in range(TURNS)]
     bests = [min(seconds) for seconds in zip(*runs)]
