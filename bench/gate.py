@@ -1,15 +1,17 @@
 #!/usr/bin/env python3
-"""Runs the gate, and tells where its processor time goes: a table of crates by proofs, tests and must-fail edits.
+"""Runs the gate, and tells where its processor time goes: a table of crates by proofs, tests, edits and groups.
 
-    bench/gate.py [COMMAND ..]
+    bench/gate.py [--table FILE] [COMMAND ..]
 
 It runs `rt ci`, or the command that is given, and looks four times a second at the prover's processes. What such a
 process does in its last quarter of a second is not counted. What the command prints is printed as it comes. The status
-is the command's.
+is the command's. The table is written to FILE too: bench/gate.txt is such a one, of which `gate/changed` makes its
+forecast. Groups are those of `gate/wrong`.
 """
 
 import collections
 import os
+import pathlib
 import subprocess
 import sys
 import time
@@ -31,10 +33,12 @@ def seconds_of(pid):
 
 
 def kind_of(words):
-    """What a process of the prover is for: an edit's check runs over kept work, whose folder's name tells it."""
+    """What a process of the prover is for: that of a wrong body runs over kept work, whose folder's name tells it."""
     kept = next((words[at + 1] for at, it in enumerate(words[:-1]) if it == "--incremental"), "")
     if "rt-edits-" in kept:
         return "seeds" if kept.endswith("/seed") else "edits"
+    if "/wrong-" in kept:
+        return "groups"
     return "tests" if "--test" in words else "proofs"
 
 
@@ -51,27 +55,34 @@ def looked_at(found):
 
 
 def told(found, clock):
-    kinds = ("proofs", "tests", "seeds", "edits")
+    """The lines of the table."""
+    kinds = ("proofs", "tests", "seeds", "edits", "groups")
     crates = collections.defaultdict(lambda: dict.fromkeys(kinds, 0))
     count = collections.Counter(crate for _, crate, kind in found if kind == "edits")
     for (_, crate, kind), seconds in found.items():
         crates[crate][kind] += seconds
-    print(f"{'processor seconds':20}" + "".join(f"{it:>9}" for it in (*kinds, "all", "an edit")))
+    yield f"{'processor seconds':20}" + "".join(f"{it:>9}" for it in (*kinds, "all", "an edit"))
     for crate, by in sorted(crates.items(), key=lambda it: -sum(it[1].values())):
         one = by["edits"] / count[crate] if count[crate] else 0
-        print(f"{crate:20}" + "".join(f"{it:9.0f}" for it in (*by.values(), sum(by.values()), one)))
+        yield f"{crate:20}" + "".join(f"{it:9.0f}" for it in (*by.values(), sum(by.values()), one))
     sums = [sum(by[it] for by in crates.values()) / 60 for it in kinds]
-    print(f"{'processor minutes':20}" + "".join(f"{it:9.1f}" for it in (*sums, sum(sums))))
-    print(f"{'minutes of the clock':20}{clock / 60:9.1f}")
+    yield f"{'processor minutes':20}" + "".join(f"{it:9.1f}" for it in (*sums, sum(sums)))
+    yield f"{'minutes of the clock':20}{clock / 60:9.1f}"
 
 
 def main():
+    words, table = sys.argv[1:], None
+    if words[:1] == ["--table"]:
+        table, words = pathlib.Path(words[1]), words[2:]
     found, begun = {}, time.monotonic()
-    command = subprocess.Popen(sys.argv[1:] or ["rt", "ci"], stdin=subprocess.DEVNULL)
+    command = subprocess.Popen(words or ["rt", "ci"], stdin=subprocess.DEVNULL)
     while command.poll() is None:
         looked_at(found)
         time.sleep(PERIOD)
-    told(found, time.monotonic() - begun)
+    lines = [*told(found, time.monotonic() - begun)]
+    print(*lines, sep="\n")
+    if table:
+        table.write_text("".join(f"{it}\n" for it in lines))
     return command.returncode
 
 
