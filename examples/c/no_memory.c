@@ -69,18 +69,36 @@ static int again(const char *what, uint32_t status) {
     return 0;
 }
 
-/* Prints the report and the datagrams of a node, and gives each datagram to the other one. */
+/* Prints the timers that a node waits for. */
+static void print_timers(int which) {
+    size_t length = 0;
+    uint32_t status;
+    do status = at_node_timers(&nodes[which], printed + printed_length, MAX_PRINTED - printed_length, &length);
+    while (again("timers", status));
+    printed_length += length;
+}
+
+/* Prints what a datagram is. */
+static void print_datagram(const uint8_t *bytes, size_t count) {
+    size_t length = 0;
+    uint32_t status;
+    do status = at_node_show(bytes, count, printed + printed_length, MAX_PRINTED - printed_length, &length);
+    while (again("show", status));
+    printed_length += length;
+}
+
+/* Prints the report, the timers and the datagrams of a node, and gives each datagram to the other one. */
 static void settle(int which) {
     size_t length = 0;
     uint32_t status;
     do status = at_node_report(&nodes[which], 0, printed + printed_length, MAX_PRINTED - printed_length, &length);
     while (again("report", status));
     printed_length += length;
+    print_timers(which);
     uint8_t bytes[AT_NODE_MAX_DATAGRAM] = {0};
     uint8_t to = 0;
     while (at_node_next_datagram(&nodes[which], &to, bytes, sizeof bytes, &length) == AT_NODE_OK) {
-        memcpy(printed + printed_length, bytes, length);
-        printed_length += length;
+        print_datagram(bytes, length);
         do status = at_node_receive(&nodes[!which], bytes, length);
         while (again("receive", status));
         settle(!which);
@@ -102,14 +120,19 @@ static void play(const char *line) {
     }
 }
 
-static void run(void) {
-    asked = retries = 0;
-    printed_length = 0;
+static void open_nodes(void) {
     for (int which = 0; which < NODES; which++) {
         uint32_t status;
         do status = at_node_open(&nodes[which], (const uint8_t *)setup, sizeof setup - 1, numbers[which]);
         while (again("open", status));
     }
+}
+
+static void run(void) {
+    asked = retries = 0;
+    printed_length = 0;
+    open_nodes();
+    open_nodes(); /* frees those that were open */
     for (int i = 0; i < LINES; i++) play(lines[i]);
     for (int which = 0; which < NODES; which++) at_node_close(&nodes[which]);
     if (standing != 0) fail("blocks that still stand", standing);

@@ -22,14 +22,17 @@
 #include <time.h>
 #include <unistd.h>
 
+#include "alarms.h"
 #include "at_node.h"
 
 enum { MAX_OTHERS = 15, MAX_TEXT = 65536, MAX_LINE = 256, HIGHEST_NODE = 254, HIGHEST_FIRST = 65535 - HIGHEST_NODE };
 
-/* A timer of the node fires after so long, and the program gives up after so long, in milliseconds. */
-enum { TIMER = 100, PATIENCE = 30000 };
+/* The clock of the timers runs so many times as fast as real time, since loopback is faster than the cable of the book.
+   The program gives up after so many milliseconds of its clock. */
+enum { SPEED = 10, PATIENCE = 300000 };
 
 static at_node node = AT_NODE_NONE;
+static struct alarms alarms;
 static int own_socket;
 static unsigned first_port;
 static unsigned others[MAX_OTHERS];
@@ -47,7 +50,7 @@ static void fail(const char *why) {
 static long long now(void) {
     struct timespec time;
     clock_gettime(CLOCK_MONOTONIC, &time);
-    return time.tv_sec * 1000LL + time.tv_nsec / 1000000;
+    return SPEED * (time.tv_sec * 1000LL + time.tv_nsec / 1000000);
 }
 
 static struct sockaddr_in address_of(unsigned number) {
@@ -76,7 +79,7 @@ static void send_all(void) {
     }
 }
 
-/* Prints what came of a call, a timer or a datagram, and sends what the node has to send. */
+/* Prints what came of a call, a timer or a datagram, sends what the node has to send, and reads its timers. */
 static void take(uint32_t status) {
     size_t length = 0;
     if (status == AT_NODE_OK) {
@@ -86,6 +89,7 @@ static void take(uint32_t status) {
     text[length] = '\0';
     fputs(text, stdout);
     send_all();
+    if (read_alarms(&alarms, &node, now()) != AT_NODE_OK) fail("the timers were not listed");
 }
 
 /* Whether the last report begins with this word. */
@@ -106,7 +110,7 @@ static int receive(long long until) {
     static uint8_t bytes[AT_NODE_MAX_DATAGRAM];
     struct pollfd waiting = {own_socket, POLLIN, 0};
     long long left = until - now();
-    if (poll(&waiting, 1, left > 0 ? (int)left : 0) <= 0) return 0;
+    if (poll(&waiting, 1, left > 0 ? (int)(left / SPEED) + 1 : 0) <= 0) return 0;
     ssize_t length = recv(own_socket, bytes, sizeof bytes, MSG_DONTWAIT);
     if (length < 0) return 0;
     take(at_node_receive(&node, bytes, (size_t)length));
@@ -114,23 +118,39 @@ static int receive(long long until) {
     return 1;
 }
 
-/* Waits until the node reports this. The node has no clock: the timer is played each time that this has not come for so
-   long. */
-static void wait_for(const char *word, const char *timer) {
-    long long fires_at = now() + TIMER;
-    while (!(receive(fires_at) && reports(word))) {
-        if (now() > ends_at) fail("there was no answer in time");
-        if (now() < fires_at) continue;
-        event(timer);
-        if (reports(word)) return;
-        fires_at = now() + TIMER;
+/* Waits for a datagram up to the first alarm, and plays the timers that are due. The node has no clock: it lists which
+   timers would do something. */
+static void go_on(void) {
+    const struct alarm *first = first_alarm(&alarms);
+    if (now() > ends_at) fail("there was no answer in time");
+    if (receive(first != NULL ? first->due : ends_at)) return;
+    struct alarm *due = first_alarm(&alarms);
+    if (due != NULL && due->due <= now()) event(fire(&alarms, due).line);
+}
+
+/* Waits until the node reports this. */
+static void wait_for(const char *word) {
+    do {
+        go_on();
+    } while (!reports(word));
+}
+
+/* Waits until this timer would do nothing more. */
+static void wait_without(const char *timer) {
+    for (size_t i = 0; i < alarms.count;) {
+        if (strcmp(alarms.all[i].line, timer) != 0) {
+            i++;
+            continue;
+        }
+        go_on();
+        i = 0;
     }
 }
 
 /* A node's first lookup is number 0, and its first end of a stream is number 1. */
 static void look_printers_up(void) {
     event("call find = LaserWriter");
-    wait_for("finds", "timer lookup 0");
+    wait_for("finds");
     event("call finish 0");
 }
 
@@ -146,7 +166,7 @@ static void write_line(const char *line) {
 /* Reads until a message has ended. It can come in parts, and a segment that was heard may have been without any. */
 static void read_line(void) {
     do {
-        wait_for("heard", "timer resend 1");
+        wait_for("heard");
         event("call read 1 64");
     } while (strstr(text, " end\n") == NULL);
 }
@@ -154,11 +174,10 @@ static void read_line(void) {
 static void talk(void) {
     look_printers_up();
     event("call open 0");
-    wait_for("opened", "timer resend 1");
+    wait_for("opened");
     write_line("print");
     read_line();
-    /* The timer reports this once nothing is left that the other end has not acknowledged. */
-    wait_for("idle", "timer resend 1");
+    wait_without("timer resend 1"); /* the other end has acknowledged all */
     event("call close 1"); /* tells the other end */
     event("call close 1"); /* frees this one */
 }

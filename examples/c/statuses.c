@@ -57,6 +57,14 @@ static uint32_t report(size_t most) {
     return at_node_report(&node, 12, room, most, &length);
 }
 
+static uint32_t timers(size_t most) {
+    return at_node_timers(&node, room, most, &length);
+}
+
+static uint32_t show(const uint8_t *bytes, size_t byte_count, size_t most) {
+    return at_node_show(bytes, byte_count, room, most, &length);
+}
+
 static uint32_t refusal(size_t most) {
     return at_node_refusal(&node, &number, room, most, &length);
 }
@@ -81,13 +89,15 @@ static void try_without_node(void) {
     want(at_node_receive(&node, room, 0), AT_NODE_NOT_OPEN);
     want(next_datagram(sizeof room), AT_NODE_NOT_OPEN);
     want(report(sizeof room), AT_NODE_NOT_OPEN);
+    want(timers(sizeof room), AT_NODE_NOT_OPEN);
     want(refusal(sizeof room), AT_NODE_NOT_OPEN);
     at_node_close(&node);
     want(node.pointer == NULL, 1);
     want_untouched(7777);
 }
 
-/* An opening that fails leaves the handle as it is. */
+/* An opening that fails leaves the handle as it is. Where there is memory, a text that is no setup is told as that, and
+   so is a node that the setup lacks. */
 static void try_faulty_setups(void) {
     void *before = node.pointer;
     for (int i = 0; i < FAULTY_SETUPS; i++) want(open_it(faulty_setups[i], 5), AT_NODE_NO_SETUP);
@@ -107,7 +117,11 @@ static void try_fresh_node(void) {
     want(play("call nothing"), AT_NODE_NO_EVENT);
     want(play("call zones\n"), AT_NODE_NO_EVENT);
     want(play("deliver 0"), AT_NODE_NO_EVENT);
+    want(play("timer"), AT_NODE_NO_EVENT);
+    want(play("timer release 129 65536.9 128 0"), AT_NODE_NO_EVENT);
     want_untouched(7777);
+    want(timers(0), AT_NODE_OK);
+    want_untouched(0);
 }
 
 /* A report and a datagram wait for more room, and an opening that fails leaves them there. */
@@ -126,6 +140,35 @@ static void try_small_rooms(void) {
     want(number, 1);
     want(room[21], 0xEE);
     want(next_datagram(sizeof room), AT_NODE_MISSING);
+}
+
+/* The timers wait for more room too. One that is not listed does nothing. */
+static void try_timers(void) {
+    fill();
+    want(timers(13), AT_NODE_NO_ROOM);
+    want_untouched(14);
+    want(timers(14), AT_NODE_OK);
+    want(length == 14, 1);
+    want(memcmp(room, "timer retry 0\n\xEE", 15), 0);
+    want(play("timer release 129 65535.9 128 0"), AT_NODE_OK);
+    want(report(sizeof room), AT_NODE_OK);
+    want(memcmp(room, "12 refused 15\n", length), 0);
+    want(next_datagram(sizeof room), AT_NODE_MISSING);
+}
+
+/* What bytes are is shown without a node, also of those that are refused. */
+static void try_showing(void) {
+    static const uint8_t zip[13] = {0, 13, 0, 0, 0, 10, 0, 10, 1, 5, 6, 6, 6};
+    static const char shown[] = "ddp length 13 hops 0 sum none from 10.5.6 to 10.1.6 type 6 rest 0\nraw -\n";
+    fill();
+    want(show(zip, sizeof zip, sizeof shown - 2), AT_NODE_NO_ROOM);
+    want_untouched(sizeof shown - 1);
+    want(show(zip, sizeof zip, sizeof room), AT_NODE_OK);
+    want(length == sizeof shown - 1, 1);
+    want(memcmp(room, shown, length), 0);
+    want(show(zip, 12, sizeof room), AT_NODE_OK);
+    want(length == 10, 1);
+    want(memcmp(room, "refused 1\n", length), 0);
 }
 
 /* A call that is refused has a number and a sentence. The number comes also where there is no room for the sentence. */
@@ -174,12 +217,14 @@ static void try_closing(void) {
 }
 
 int main(void) {
-    want(at_node_version(), 1);
+    want(at_node_version(), 2);
     try_without_node();
     try_faulty_setups();
     want(open_it(setup, 5), AT_NODE_OK);
     try_fresh_node();
     try_small_rooms();
+    try_timers();
+    try_showing();
     try_refusal();
     want(open_it(setup, 5), AT_NODE_OK);
     try_long_datagrams();

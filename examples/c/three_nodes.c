@@ -83,10 +83,10 @@ static void event(int which, const char *line) {
 
 /* The service of each node: it answers a request with the byte 2A. */
 static void serve(int which) {
-    unsigned node, socket, number;
-    char line[64];
-    if (sscanf((const char *)text, "%*u asked %u %u %u", &node, &socket, &number) != 3) return;
-    snprintf(line, sizeof line, "call answer %u %u %u 00000000:2A", node, socket, number);
+    unsigned socket, number;
+    char who[16], line[64];
+    if (sscanf((const char *)text, "%*u asked %15s %u %u", who, &socket, &number) != 3) return;
+    snprintf(line, sizeof line, "call answer %s %u %u 00000000:2A", who, socket, number);
     event(which, line);
 }
 

@@ -3,8 +3,8 @@ use Rattle.std.specs.Prelude.{ℕ, ◌+◌, ◌==◌, ◌&&◌, not, nat_le, if�
 use Rattle.std.specs.Prelude.{◌++◌, take, drop}
 use Rattle.at_adsp_frame.specs.Segments.{Content, Reset}
 use Rattle.at_adsp_end.specs.Positions.{Numbers}
-use Rattle.at_adsp_end.specs.Ends.{EndState, Change, free, places, is_open, control, asking, answering}
-use Rattle.at_adsp_end.specs.Ends.{probing, acknowledging}
+use Rattle.at_adsp_end.specs.Ends.{EndState, Change, free, places, is_open, is_closed, control, asking}
+use Rattle.at_adsp_end.specs.Ends.{answering, probing, acknowledging}
 use Rattle.at_adsp_end.specs.Sending.{sending, repeated, shut}
 use Rattle.at_adsp_end.specs.Hearing.{Outcome, is_empty}
 use Rattle.at_adsp_end.specs.declared.item.Item.{Item}
@@ -55,6 +55,11 @@ ticked N e Retransmit = record {
   sent = sent_again N e e.phase;
 }
 ticked N e Probe = probed N e (is_last e Probe)
+
+-- Does a tick do anything at an end? At a closed one it does not, and from an idle one nothing goes again.
+abbrev pub heeds : EndState → Tick → Bool
+heeds e Retransmit = not (is_closed e.phase) && not (is_idle e)
+heeds e Probe = not (is_closed e.phase)
 
 -- ---- reading and writing
 

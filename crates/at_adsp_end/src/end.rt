@@ -1,7 +1,7 @@
 //! One end of a stream: its state, how it is made, and what is asked of it. What changes it stands in the other files.
 ghost use Rattle.std.specs.Prelude.{◌≡◌, ◌&&◌, ◌||◌, not, IfOk, is_none};
 ghost use Rattle.at_ddp.specs.Address.{same_address};
-ghost use Rattle.at_adsp_end.specs.Calls.{is_last};
+ghost use Rattle.at_adsp_end.specs.Calls.{heeds, is_last};
 ghost use Rattle.at_adsp_end.specs.Ends.{FitsRooms, connector, half_end, has_opened, has_remote, is_closed};
 ghost use Rattle.at_adsp_end.specs.Ends.{is_half, is_open, is_opening, open_end};
 
@@ -195,6 +195,20 @@ impl<A: Allocator> End<A> {
         ensures { result ≡ (is_open self.now.phase && not self.now.listener && has_remote remote self.now) }
     {
         matches!(self.phase, Phase::Open) && !self.listener && self.has_remote(remote)
+    }
+
+    /// Whether this tick would do anything.
+    pub fn heeds(&self, tick: Tick) -> bool
+        ensures { result ≡ heeds self.now tick }
+    {
+        match tick {
+            Tick::Probe => !self.is_closed(),
+            Tick::Retransmit => match self.phase {
+                Phase::Opening | Phase::Half => true,
+                Phase::Open => self.outgoing.is_resetting() || self.outgoing.sent() > 0,
+                Phase::Closed => false,
+            },
+        }
     }
 
     /// Whether this tick is the fourth probe tick without a word from the other end.

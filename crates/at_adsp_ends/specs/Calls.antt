@@ -6,7 +6,7 @@ use Rattle.at_adsp_end.specs.Positions.{Numbers}
 use Rattle.at_adsp_end.specs.Ends.{EndState, connector, places, asking, is_open, is_closed, has_opened}
 use Rattle.at_adsp_end.specs.Sending.{resetting_now, closing}
 use Rattle.at_adsp_end.specs.Hearing.{is_empty}
-use Rattle.at_adsp_end.specs.Calls.{ticked, is_last, reading, writing}
+use Rattle.at_adsp_end.specs.Calls.{heeds, ticked, is_last, reading, writing}
 use Rattle.at_adsp_end.specs.declared.fault.StreamFault.{StreamFault}
 use Rattle.at_adsp_end.specs.declared.fault.StreamFault.TheVariants.{EndsFull, NotOpen, NoSuchEnd, NoRoom}
 use Rattle.at_adsp_end.specs.declared.item.Item.{Item}
@@ -45,6 +45,10 @@ ticked_at N t tick (Some e) =
     if is_closed e.phase
     then Err NotOpen
     else if frees e tick then Ok (freed t (Freed e.id) e) else Ok (settled t (ticked N e tick))
+
+-- the identifier of an end at which a tick does something
+abbrev pub heeding : Tick → EndState → Option ℕ
+heeding tick e = if heeds e tick then Some e.id else None
 
 -- the answer is what was read
 abbrev pub read_at : Numbers → EndTable → ℕ → Option EndState → Result (Done (List Item)) StreamFault

@@ -1,19 +1,19 @@
 //! The table of a node's ends: which of them an identifier or a remote names, and what is asked of the table.
 ghost use Rattle.std.specs.Prelude.{◌≡◌, ◌≢◌, ◌≤◌, ◌<◌, ◌↔◌, find, length, is_some};
-ghost use Rattle.std.specs.Prelude.{IfOk, IfErr, IfSome, OnErr, IsOk, None, Err, remove};
+ghost use Rattle.std.specs.Prelude.{IfOk, IfErr, IfSome, OnErr, IsOk, None, Err, remove, slice_get};
 ghost use Rattle.std.specs.List.{AllByRecursion, position_from, list_any};
 ghost use Rattle.std.specs.Option.{option_copied};
 ghost use Rattle.at_ddp.specs.Outbox.{Sends};
 ghost use Rattle.at_adsp_end.specs.Ends.{EndState, FitsRooms, has_remote};
 ghost use Rattle.at_adsp_end.specs.Positions.{wire};
-ghost use Rattle.at_adsp_ends.specs.Calls.{connected, listened, unread_at};
+ghost use Rattle.at_adsp_ends.specs.Calls.{connected, heeding, listened, unread_at};
 ghost use Rattle.at_adsp_ends.specs.Tables.{AreEnds, AreRooms, by_id, by_remote, has_id, has_remote_at};
 ghost use Rattle.at_adsp_ends.specs.Tables.{next_id, no_ends};
 
 use crate::identifiers::{FIRST, free_id};
 use crate::remotes::{Remotes, forget, id_under};
 use crate::standing::{Standing, any_at_from, end_named, index_of, limits_from};
-use at_adsp_end::{End, Remote, Rooms, StreamFault};
+use at_adsp_end::{End, Remote, Rooms, StreamFault, Tick};
 use at_ddp::Address;
 use at_table::Table;
 use indexmap::IndexMap;
@@ -108,6 +108,27 @@ impl<A: Allocator + Copy> Ends<A> {
         ensures { result ≡ list_any (has_remote_at node id) self.now.ends }
     {
         any_at_from(&self.ends, 0, node, id)
+    }
+
+    /// How many ends there are.
+    pub fn end_count(&self) -> usize
+        ensures { result ≡ length self.now.ends }
+    {
+        self.ends.len()
+    }
+
+    /// The identifier of the end at a place, if this tick would do anything there. The end that was made first has
+    /// place 0.
+    pub fn heeding_at(&self, place: usize, tick: Tick) -> Option<u16>
+        requires { place < length self.now.ends }
+        ensures { IfSome (slice_get self.now.ends place) (λ e. result ≡ heeding tick e) }
+    {
+        let end = self.ends.at(place);
+        if end.heeds(tick) {
+            Some(end.id())
+        } else {
+            None
+        }
     }
 
     /// How many items can be read of an end that is open or was.

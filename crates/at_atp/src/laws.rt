@@ -21,8 +21,8 @@ pub use at_atp_requester::laws::{
 };
 pub use at_atp_responder::laws::{
     a_new_request_waits, a_request_is_handed_up_once, at_most_64_records_stand,
-    no_more_is_sent_than_answered, only_a_waiting_request_is_answered,
-    what_is_sent_is_of_the_answer,
+    no_more_is_sent_than_answered, no_two_records_are_of_one_request,
+    only_a_waiting_request_is_answered, what_is_sent_is_of_the_answer,
 };
 use std::alloc::Allocator;
 

@@ -1,6 +1,6 @@
 //! The requester of a socket: its open transactions and its calls. `turning.rt` has the turn from one to the next.
 ghost use Rattle.std.specs.Prelude.{◌≡◌, ◌≢◌, ◌↔◌, ◌+◌, ◌≤◌, ◌<◌, ◌∷◌, [], length, IfOk, IfErr};
-ghost use Rattle.std.specs.Prelude.{IfSome, OnErr, IsOk, IsErrOf, true, Some, None};
+ghost use Rattle.std.specs.Prelude.{IfSome, OnErr, IsOk, IsErrOf, true, Some, None, slice_get};
 ghost use Rattle.at_ddp.specs.Outbox.{Sends};
 ghost use Rattle.at_ddp.specs.declared.address.Address.{Address as At};
 ghost use Rattle.at_atp_frame.specs.Frames.{Content, content, number_of, spelled};
@@ -68,6 +68,21 @@ impl<A: Allocator + Copy> Requester<A> {
             → result ≡ next_number (heard {A = A} self.now from f).after }
     {
         next_of(&self.standing, closed, self.next)
+    }
+
+    /// How many transactions are open.
+    pub fn open_count(&self) -> usize
+        ensures { result ≡ length self.now.standing }
+    {
+        self.standing.len()
+    }
+
+    /// The number of the open transaction at a place. The one that began first has place 0.
+    pub fn number_at(&self, place: usize) -> u16
+        requires { place < length self.now.standing }
+        ensures { IfSome (slice_get self.now.standing place) (λ t. result ≡ t.tid) }
+    {
+        self.standing.at(place).tid()
     }
 
     /// Begins a transaction that asks for `wanted` packets, 1 to 8, and returns its number. The request may be sent

@@ -181,6 +181,10 @@ abbrev pub expiry_fault : Option Record → Option AtpFault
 expiry_fault None = Some NoSuch
 expiry_fault (Some r) = expiry_fault_of r.state
 
+-- the key of a record that can expire
+abbrev pub expiring_key : Record → Option Key
+expiring_key r = if is_none (expiry_fault_of r.state) then Some r.key else None
+
 -- the reception, the new records and what was sent are these
 pub record IsTaken (t : Taken) (r : Reception) (new : List Record) (before after : Outbox) : Type 0 where
   pub is_reception : r ≡ t.reception

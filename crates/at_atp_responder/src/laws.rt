@@ -3,6 +3,7 @@
 ghost use Rattle.std.specs.Prelude.{◌≡◌, ◌≤◌, ◌+◌, [], List, ◌⊎◌, true, length, find, Option, Some, None};
 ghost use Rattle.at_ddp.specs.declared.address.Address.{Address};
 ghost use Rattle.at_atp_frame.specs.Frames.{Content, number_of};
+ghost use Rattle.at_atp_responder.specs.Keys.{AreApart};
 ghost use Rattle.at_atp_responder.specs.Once.{Event, Expires, Undoes, stands, hand_ups, removes, removals, is_once};
 ghost use Rattle.at_atp_responder.specs.Records.{AsksForEight, Record, is_key, taken};
 ghost use Rattle.at_atp_responder.specs.Records.{record_fault, answer_fault, asked_for};
@@ -11,6 +12,7 @@ ghost use Rattle.at_atp_responder.specs.declared.reception.Key.{Key};
 ghost use Rattle.at_atp_responder.specs.declared.reception.Reception.TheVariants.{New};
 ghost use Rattle.at_atp_frame.specs.Packets.{Packet};
 
+use crate::records::keys_differ;
 use crate::responder::Responder;
 use std::alloc::Allocator;
 
@@ -64,4 +66,11 @@ pub fn at_most_64_records_stand<A: Allocator>(responder: &Responder<A>)
     ensures { length responder.now ≤ 64 }
 {
     let _records = &responder.records;
+}
+
+/// No two records of a responder are of one request. The body does nothing at run time.
+pub fn no_two_records_are_of_one_request<A: Allocator>(responder: &Responder<A>)
+    ensures { AreApart responder.now }
+{
+    keys_differ(&responder.records);
 }

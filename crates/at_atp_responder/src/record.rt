@@ -5,7 +5,7 @@ ghost use Rattle.at_ddp.specs.Outbox.{Sends, HasRoomFor};
 ghost use Rattle.at_atp_frame.specs.Frames.{Response, spelled_all};
 ghost use Rattle.at_atp_responder.specs.Records.{Waiting, Answered, fit, responses, is_from, state_fault};
 ghost use Rattle.at_atp_responder.specs.Records.{expiry_fault_of, asked_bitmap, keeps_answer, repeated, released};
-ghost use Rattle.at_atp_responder.specs.Records.{IsRepeat};
+ghost use Rattle.at_atp_responder.specs.Records.{IsRepeat, expiring_key};
 
 use crate::answer_room::AnswerRoom;
 use crate::reception::{Key, Reception};
@@ -100,6 +100,16 @@ impl<A: Allocator> Record<A> {
             RecordState::Waiting { .. } => Some(AtpFault::StillPending),
             RecordState::Answered(_) => None,
             RecordState::Released => None,
+        }
+    }
+
+    // The key of the record, if it can expire.
+    pub(crate) fn expiring_key(&self) -> Option<Key>
+        ensures { result ≡ expiring_key self.now }
+    {
+        match self.expiry_fault() {
+            Some(_) => None,
+            None => Some(self.key),
         }
     }
 

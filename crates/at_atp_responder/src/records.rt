@@ -7,7 +7,8 @@ ghost use Rattle.at_ddp.specs.Outbox.{Sends};
 ghost use Rattle.at_atp_responder.specs.Records.{Record as Kept, repeated, released, request_came, release_came};
 ghost use Rattle.at_atp_responder.specs.Records.{is_new_and_full, IsRepeat, Waiting, Answered, fit, is_key, is_kept};
 ghost use Rattle.at_atp_responder.specs.Records.{state_fault, record_fault, expiry_fault, asked_bitmap, after_answer};
-ghost use Rattle.at_atp_responder.specs.Records.{IsTaken, is_from};
+ghost use Rattle.at_atp_responder.specs.Records.{IsTaken, is_from, expiring_key};
+ghost use Rattle.at_atp_responder.specs.Keys.{AreApart};
 ghost use Rattle.at_ddp.specs.Tables.{replaced, without_first};
 
 use crate::reception::{Key, Reception};
@@ -78,6 +79,28 @@ pub(crate) fn expiry_fault<A: Allocator>(records: &Records<A>, key: Key) -> Opti
         None => Some(AtpFault::NoSuch),
         Some(record) => record.expiry_fault(),
     }
+}
+
+// The key of the record at an index, if that record can expire.
+pub(crate) fn expiring_at<A: Allocator>(records: &Records<A>, index: usize) -> Option<Key>
+    requires { index < length records.now }
+    ensures { IfSome (slice_get records.now index) (λ r. result ≡ expiring_key r) }
+{
+    records.table.at(index).expiring_key()
+}
+
+// No two records are of one request. The body only visits the table.
+pub(crate) fn keys_differ<A: Allocator>(records: &Records<A>)
+    ensures { AreApart records.now }
+{
+    let _table = &records.table;
+}
+
+// How many records there are.
+pub(crate) fn count<A: Allocator>(records: &Records<A>) -> usize
+    ensures { result ≡ length records.now }
+{
+    records.table.len()
 }
 
 // Whether the answer to a request will be kept.

@@ -1,16 +1,17 @@
 //! The responder of a socket: what packets and timers do to its records. Answers stand in `answering.rt`.
 ghost use Rattle.std.specs.Prelude.{◌≡◌, ◌≢◌, ◌↔◌, [], true, find, is_some, IfOk, IfErr, IfSome, OnOk, OnErr, IsOk};
-ghost use Rattle.std.specs.Prelude.{IsErrOf, None, Err};
+ghost use Rattle.std.specs.Prelude.{IsErrOf, None, Err, ◌<◌, length, slice_get};
 ghost use Rattle.std.specs.List.{list_any};
 ghost use Rattle.at_ddp.specs.Outbox.{Sends};
 ghost use Rattle.at_atp_frame.specs.Frames.{content, number_of};
 ghost use Rattle.at_atp_responder.specs.Records.{is_from, is_key, taken, finds_no_place, record_fault, expiry_fault};
-ghost use Rattle.at_atp_responder.specs.Records.{IsTaken};
+ghost use Rattle.at_atp_responder.specs.Records.{IsTaken, expiring_key};
 ghost use Rattle.at_ddp.specs.Tables.{without_first};
 
 use crate::reception::{Key, Reception};
 use crate::records::{
-    Records, any_from, expiry_fault, forget, hear_release, hear_request, record_fault, record_of,
+    Records, any_from, count, expiring_at, expiry_fault, forget, hear_release, hear_request,
+    record_fault, record_of,
 };
 use at_atp_frame::{AtpFault, Frame};
 use at_ddp::{Address, Outbox};
@@ -102,6 +103,21 @@ impl<A: Allocator + Copy> Responder<A> {
         ensures { result ≡ list_any (is_from node tid) self.now }
     {
         any_from(&self.records, 0, node, tid)
+    }
+
+    /// How many records there are.
+    pub fn record_count(&self) -> usize
+        ensures { result ≡ length self.now }
+    {
+        count(&self.records)
+    }
+
+    /// The key of the record at a place, if that record can expire. The first that came has place 0.
+    pub fn expiring_at(&self, place: usize) -> Option<Key>
+        requires { place < length self.now }
+        ensures { IfSome (slice_get self.now place) (λ r. result ≡ expiring_key r) }
+    {
+        expiring_at(&self.records, place)
     }
 
     /// Removes the record of a request that waits, as if the request had not come. This needs no memory.

@@ -1,1 +1,2 @@
 mod NodeHandles
+mod StatusLemmas

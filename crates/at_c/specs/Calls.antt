@@ -4,11 +4,13 @@ use Rattle.std.specs.declared.alloc.AllocError.{AllocError}
 use Rattle.std.specs.declared.option.Option.TheVariants.{None, Some}
 use Rattle.at_c.specs.Statuses.{done, handed_status, not_open, open_status, played_status, received_status, told_length}
 use Rattle.at_faults.specs.declared.fault.LineFault.{LineFault}
-use Rattle.at_held.specs.Handing.{HandsDatagram, HandsReport, HandsSentence}
+use Rattle.at_held.specs.Handing.{HandsDatagram, HandsReport, HandsSentence, HandsShown, HandsTimers}
 use Rattle.at_held.specs.Held.{Happens, HeldState, IsOpened, Plays, refusal_in}
 use Rattle.at_held.specs.Openings.{IsFault}
+use Rattle.at_held.specs.Safety.{IsSafe}
 use Rattle.at_held.specs.declared.opening.OpenFault.{OpenFault}
 use Rattle.at_held.specs.declared.withheld.Withheld.{Withheld}
+use Rattle.at_steps.specs.Safety.{Place}
 use Rattle.at_world.specs.Worlds.{Receives}
 
 -- The node in the handle is there after the call too, and this is so of it before and after. If the handle has none,
@@ -34,6 +36,11 @@ ReceivesBytes bytes status old new =
     (answer : Result (Unit {0}) AllocError) × (status ≡ received_status answer)
     × Happens (Receives bytes) old answer new
 
+-- an event that was done was safe
+abbrev pub IsSafeAt : (Place → Type 0) → Option HeldState → ℕ → Option HeldState → Type 0
+IsSafeAt Wants (Some old) status (Some new) = status ≡ done → IsSafe Wants old new
+IsSafeAt Wants before status after = Unit {0}
+
 -- how long is what is handed out
 abbrev pub length_of : Result (ℕ × ℕ) Withheld → Result ℕ Withheld
 length_of (Ok given) = Ok given.1
@@ -56,6 +63,18 @@ abbrev pub HandsTold : ℕ → List ℕ → ℕ → ℕ → List ℕ → ℕ →
 HandsTold event room length status room' length' old new =
     (new ≡ old) × ((answer : Result ℕ Withheld) × HandsReport old event room answer room'
     × (status ≡ handed_status answer) × (length' ≡ told_length answer length))
+
+-- the lines of the timers that would do something now are handed out, and the node stays as it is
+abbrev pub HandsLines : List ℕ → ℕ → ℕ → List ℕ → ℕ → HeldState → HeldState → Type 0
+HandsLines room length status room' length' old new =
+    (new ≡ old) × ((answer : Result ℕ Withheld) × HandsTimers old room answer room'
+    × (status ≡ handed_status answer) × (length' ≡ told_length answer length))
+
+-- the lines of what bytes are are handed out
+abbrev pub Shows : List ℕ → List ℕ → ℕ → ℕ → List ℕ → ℕ → Type 0
+Shows bytes room length status room' length' =
+    (answer : Result ℕ Withheld) × HandsShown bytes room answer room' × (status ≡ handed_status answer)
+    × (length' ≡ told_length answer length)
 
 -- the number of the refusal, or the number before
 abbrev pub refusal_or : Option ℕ → ℕ → ℕ

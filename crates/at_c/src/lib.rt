@@ -1,26 +1,31 @@
 //! A node for programs in C. The file `include/at_node.h` declares these functions, and says what a program owes.
 #![tactic(auto)]
 
-ghost use Rattle.std.specs.Prelude.{◌≡◌};
+ghost use Rattle.std.specs.Prelude.{◌≡◌, IfSome};
 ghost use Rattle.std.specs.declared.option.Option.TheVariants.{None};
-ghost use Rattle.at_c.specs.Calls.{At, HandsNext, HandsRefusal, HandsTold, Opens, PlaysLine, ReceivesBytes};
+ghost use Rattle.at_c.specs.Calls.{At, HandsLines, HandsNext, HandsRefusal, HandsTold, IsSafeAt, Opens, PlaysLine};
+ghost use Rattle.at_c.specs.Calls.{ReceivesBytes, Shows};
+ghost use Rattle.at_c.specs.Statuses.{done};
+ghost use Rattle.at_node.specs.Limits.{IsWithin};
+ghost use Rattle.at_steps.specs.Safety.{IsPlaceOf, IsPlaceOfCall};
 
 mod handle;
 mod opening;
 mod status;
 
+use at_held::show;
 use handle::AtNode;
 use opening::opened;
 use status::{DONE, NOT_OPEN, handed_status, open_status, played_status, received_status};
 use std::alloc::Global;
 
 /// The number of this library, which rises with each change of what these functions promise.
-const VERSION: u32 = 1;
+const VERSION: u32 = 2;
 
 /// The number of this library.
 #[unsafe(no_mangle)]
 pub extern "C" fn at_node_version() -> u32
-    ensures { result ≡ 1 }
+    ensures { result ≡ 2 }
 {
     VERSION
 }
@@ -29,7 +34,8 @@ pub extern "C" fn at_node_version() -> u32
 /// is closed then. If no node is opened, the handle stays as it is.
 #[unsafe(no_mangle)]
 pub extern "C" fn at_node_open(alloc: Global, handle: &mut AtNode, setup: &[u8], number: u8) -> u32
-    ensures { Opens setup.now number handle.old.node result handle.new.node }
+    ensures opens { Opens setup.now number handle.old.node result handle.new.node }
+    ensures within { result ≡ done → IfSome handle.new.node (λ held. IsWithin held.node) }
 {
     match opened(alloc, setup, number) {
         Ok(node) => {
@@ -48,10 +54,12 @@ pub extern "C" fn at_node_close(alloc: Global, handle: &mut AtNode)
     drop(handle.take(alloc));
 }
 
-/// Plays `call CALL` or `timer TIMER`.
+/// Plays `call CALL` or `timer TIMER`. Only a call, or a timer whose step takes memory, can lack memory.
 #[unsafe(no_mangle)]
 pub extern "C" fn at_node_play(alloc: Global, handle: &mut AtNode, line: &[u8]) -> u32
-    ensures { At handle.old.node result handle.new.node (PlaysLine line.now result) }
+    ensures plays { At handle.old.node result handle.new.node (PlaysLine line.now result) }
+    ensures safe { IsSafeAt IsPlaceOfCall handle.old.node result handle.new.node }
+    ensures within { IfSome handle.new.node (λ held. IsWithin held.node) }
 {
     let Some(mut node) = handle.take(alloc) else {
         return NOT_OPEN;
@@ -64,7 +72,9 @@ pub extern "C" fn at_node_play(alloc: Global, handle: &mut AtNode, line: &[u8]) 
 /// Takes the bytes of a datagram that came.
 #[unsafe(no_mangle)]
 pub extern "C" fn at_node_receive(alloc: Global, handle: &mut AtNode, bytes: &[u8]) -> u32
-    ensures { At handle.old.node result handle.new.node (ReceivesBytes bytes.now result) }
+    ensures receives { At handle.old.node result handle.new.node (ReceivesBytes bytes.now result) }
+    ensures safe { IsSafeAt (IsPlaceOf bytes.now) handle.old.node result handle.new.node }
+    ensures within { IfSome handle.new.node (λ held. IsWithin held.node) }
 {
     let Some(mut node) = handle.take(alloc) else {
         return NOT_OPEN;
@@ -120,6 +130,40 @@ pub extern "C" fn at_node_report(
     let told = node.report(alloc, event, room);
     handle.put(alloc, node);
     handed_status(told, length)
+}
+
+/// Hands out a line for each timer that would do something now, and how long they are.
+#[unsafe(no_mangle)]
+pub extern "C" fn at_node_timers(
+    alloc: Global,
+    handle: &mut AtNode,
+    room: &mut [u8],
+    length: &mut usize,
+) -> u32
+    ensures node { At handle.old.node result handle.new.node
+        (HandsLines room.old length.old result room.new length.new) }
+    ensures untouched { handle.old.node ≡ None → (room.new ≡ room.old) × (length.new ≡ length.old) }
+{
+    let Some(node) = handle.take(alloc) else {
+        return NOT_OPEN;
+    };
+    let listed = node.timers(alloc, room);
+    handle.put(alloc, node);
+    handed_status(listed, length)
+}
+
+/// Hands out the lines of what these bytes are, as of a datagram, and how long they are. It needs no node.
+#[unsafe(no_mangle)]
+pub extern "C" fn at_node_show(
+    alloc: Global,
+    bytes: &[u8],
+    room: &mut [u8],
+    length: &mut usize,
+) -> u32
+    ensures { Shows bytes.now room.old length.old result room.new length.new }
+{
+    let shown = show(alloc, bytes, room);
+    handed_status(shown, length)
 }
 
 /// Hands out the number and the sentence of the refusal, if the last event was refused, and the sentence's length.

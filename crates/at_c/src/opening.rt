@@ -2,6 +2,7 @@
 ghost use Rattle.std.specs.Prelude.{◌≡◌, IfErr, IfOk};
 ghost use Rattle.at_held.specs.Held.{IsOpened};
 ghost use Rattle.at_held.specs.Openings.{IsFault};
+ghost use Rattle.at_node.specs.Limits.{IsWithin};
 
 use at_held::{HeldNode, OpenFault};
 use std::alloc::{AllocError, Global};
@@ -10,6 +11,7 @@ use std::alloc::{AllocError, Global};
 pub(crate) fn opened(alloc: Global, setup: &[u8], number: u8) -> Result<Box<HeldNode>, OpenFault>
     ensures opened { IfOk result (λ node. IsOpened setup.now number node.value) }
     ensures fault { IfErr result (IsFault setup.now number) }
+    ensures within { IfOk result (λ node. IsWithin (node.value).node) }
 {
     let node = HeldNode::open(alloc, setup, number)?;
     let place = boxed(alloc, node)?;

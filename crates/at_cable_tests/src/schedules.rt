@@ -86,10 +86,14 @@ pub(crate) fn steps_of(
     text: &str,
     polls: u32,
 ) -> Result<Vec<Step>, AllocError> {
+    let net = setup_of(rt, alloc, text).net;
     let mut draft = Draft::new(alloc);
     let mut steps = Vec::new(alloc);
     for line in text.as_bytes().split(|byte| *byte == b'\n') {
-        if let Some(event) = draft.take_line(line).expect(rt, "no line of a schedule") {
+        if let Some(event) = draft
+            .take_line(net, line)
+            .expect(rt, "no line of a schedule")
+        {
             push_steps(&mut steps, event, polls)?;
         }
     }

@@ -4,13 +4,12 @@ use Rattle.std.specs.Prelude.{Option, codes}
 use Rattle.std.specs.List.{AllZip}
 use Rattle.std.specs.Str.{bytes_eq}
 use Rattle.at_adsp_end.specs.declared.item.Item.{Item}
-use Rattle.at_atp_frame.specs.Packets.{Packet}
 use Rattle.at_event.specs.declared.event.Call.{Call}
 use Rattle.at_event.specs.declared.event.Call.TheVariants as call
 use Rattle.at_zip.specs.declared.request.Which.TheVariants as which
 use Rattle.at_faults.specs.declared.fault.LineFault.{LineFault}
 use Rattle.at_faults.specs.declared.fault.LineFault.TheVariants.{NoMemory, Unlawful}
-use Rattle.at_call_words.specs.Calls.{AnswerSays, AskSays, FindSays, IsMode, IsSwitch, IsWanted, SaysCall, SocketSays}
+use Rattle.at_call_words.specs.Calls.{AskSays, FindSays, IsMode, IsSwitch, IsWanted, SaysPlain, SocketSays}
 use Rattle.at_call_words.specs.Calls.{WriteSays}
 use Rattle.at_call_words.specs.Readings.{IsFoundInMemory}
 use Rattle.at_call_words.specs.Words.{One, Two}
@@ -34,8 +33,6 @@ SaidBy word ws =
     Either (bytes_eq word (codes "ask"))
     ((node socket : ℕ) × (user bytes : List ℕ) × (wanted : ℕ) × (once : Bool) × (retries : ℕ)
     × AskSays ws node socket user bytes wanted once retries) (
-    Either (bytes_eq word (codes "answer"))
-    ((node socket tid : ℕ) × (packets : List Packet) × AnswerSays ws node socket tid packets) (
     Either (bytes_eq word (codes "pick")) ((zone : List ℕ) × One IsText ws zone) (
     Either (bytes_eq word (codes "find"))
     ((object kind : List ℕ) × (place : Option (List ℕ)) × FindSays ws object kind place) (
@@ -50,20 +47,19 @@ SaidBy word ws =
     Either (bytes_eq word (codes "write")) ((id : ℕ) × (items : List Item) × WriteSays ws id items) (
     Either (bytes_eq word (codes "read")) ((id count : ℕ) × Two IsTwoBytes IsTwoBytes ws id count) (
     Either (bytes_eq word (codes "reset")) ((id : ℕ) × One IsTwoBytes ws id) (
-    Either (bytes_eq word (codes "close")) ((id : ℕ) × One IsTwoBytes ws id) ⊥))))))))))))))))))
+    Either (bytes_eq word (codes "close")) ((id : ℕ) × One IsTwoBytes ws id) ⊥)))))))))))))))))
 
 of_kind : (word known : List ℕ) (ws : List (List ℕ)) → word ≡ known → SaidBy known ws → SaidBy word ws
 of_kind word known ws is said = subst (λ w. SaidBy w ws) (sym is) said
 
-pub kinds : {A : Type 0} (word : List ℕ) (ws : List (List ℕ)) (c : Call A) → SaysCall word ws c → SaidBy word ws
+pub kinds : {A : Type 0} (word : List ℕ) (ws : List (List ℕ)) (c : Call A) → SaysPlain word ws c → SaidBy word ws
 kinds word ws (call.Zones which.All) (is, said) = of_kind word (codes "zones") ws is said
 kinds word ws (call.Zones which.Local) (is, said) = of_kind word (codes "localzones") ws is said
 kinds word ws (call.SetZones which.All names) (is, said) = of_kind word (codes "setzones") ws is (names, said)
 kinds word ws (call.SetZones which.Local names) (is, said) = of_kind word (codes "setlocal") ws is (names, said)
 kinds word ws (call.Ask node socket user bytes wanted once retries) (is, said) =
     of_kind word (codes "ask") ws is (node, socket, user, bytes, wanted, once, retries, said)
-kinds word ws (call.Answer node socket tid packets) (is, said) =
-    of_kind word (codes "answer") ws is (node, socket, tid, packets, said)
+kinds word ws (call.Answer key packets) said = absurd said
 kinds word ws (call.Pick zone) (is, said) = of_kind word (codes "pick") ws is (zone, said)
 kinds word ws (call.Find object kind place) (is, said) = of_kind word (codes "find") ws is (object, kind, place, said)
 kinds word ws (call.Claim object kind socket) (is, said) =
@@ -82,19 +78,19 @@ kinds word ws (call.Close id) (is, said) = of_kind word (codes "close") ws is (i
 
 -- a reader gives nothing, and the words say no call
 pub no_call : {A : Type 0} (o : Option (Call A)) (word : List ℕ) (ws : List (List ℕ)) → o ≡ None → ¬ SaidBy word ws
-    → IsFound o (SaysCall word ws)
+    → IsFound o (SaysPlain word ws)
 no_call o word ws none nothing = rw none (λ c said. nothing (kinds word ws c said))
 
 -- a fault of a reader is told on, unless a growth was refused, and the words say no call
 pub call_told_on : {A S : Type 0} (P : S → Type 0) (q : Result S LineFault) (r : Result (Call A) LineFault)
     (fault : LineFault) (word : List ℕ) (ws : List (List ℕ)) → q ≡ Err fault → r ≡ Err fault → IsFoundInMemory q P
-    → (((s : S) → ¬ P s) → ¬ SaidBy word ws) → IsFoundInMemory r (SaysCall word ws)
-call_told_on P q r fault word ws was is nothing so = told_on P (SaysCall word ws) q r fault was is nothing
+    → (((s : S) → ¬ P s) → ¬ SaidBy word ws) → IsFoundInMemory r (SaysPlain word ws)
+call_told_on P q r fault word ws was is nothing so = told_on P (SaysPlain word ws) q r fault was is nothing
     (λ never c said. so never (kinds word ws c said))
 
 -- a rule is broken, and the words say no call
 pub unlawful_call : {A : Type 0} (r : Result (Call A) LineFault) (fault : LineFault) (word : List ℕ)
-    (ws : List (List ℕ)) → r ≡ Err fault → ¬ SaidBy word ws → IsFoundInMemory r (SaysCall word ws)
+    (ws : List (List ℕ)) → r ≡ Err fault → ¬ SaidBy word ws → IsFoundInMemory r (SaysPlain word ws)
 unlawful_call r (Unlawful rule) word ws is nothing = rw is (λ c said. nothing (kinds word ws c said))
 unlawful_call r NoMemory word ws is nothing = rw is tt
 

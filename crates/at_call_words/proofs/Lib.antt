@@ -1,4 +1,6 @@
 mod CallLemmas
+mod DotLemmas
 mod ItemLemmas
 mod PacketLemmas
+mod RequesterLemmas
 mod WordLemmas

@@ -3,11 +3,13 @@ use Rattle.std.specs.Prelude.{◌≡◌, ◌<◌, ℕ, Bool, true, false, List, 
 use Rattle.std.specs.List.{AllZip}
 use Rattle.at_atp_frame.specs.Packets.{Packet}
 use Rattle.at_adsp_end.specs.declared.item.Item.{Item}
+use Rattle.at_atp_responder.specs.declared.reception.Key.{Key}
 use Rattle.at_event.specs.declared.event.Call.{Call}
 use Rattle.at_event.specs.declared.event.Call.TheVariants as call
 use Rattle.at_zip.specs.declared.request.Which.{Which}
 use Rattle.at_zip.specs.declared.request.Which.TheVariants as which
 use Rattle.at_call_words.specs.Items.{AreItems}
+use Rattle.at_call_words.specs.Requesters.{NameAny, NameNode, Naming}
 use Rattle.at_call_words.specs.Words.{One, Two}
 use Rattle.at_words.specs.Hexes.{IsHex, IsUser}
 use Rattle.at_words.specs.Numbers.{IsByte, IsCount, IsNode, IsNumber, IsTwoBytes}
@@ -39,10 +41,10 @@ AskSays ws node socket user bytes wanted exactly_once retries =
     × IsByte r retries
 
 -- what an answer says: node, socket and transaction of who asked, and the packets
-abbrev pub AnswerSays : List (List ℕ) → ℕ → ℕ → ℕ → List Packet → Type 0
-AnswerSays ws node socket tid packets =
+abbrev pub AnswerSays : Naming → List (List ℕ) → Key → List Packet → Type 0
+AnswerSays Names ws key packets =
     (n s t : List ℕ) × (ps : List (List ℕ)) × (ws ≡ n ∷ s ∷ t ∷ ps)
-    × IsNode n node × IsNode s socket × IsTwoBytes t tid × AllZip IsPacketWord ps packets
+    × Names n s key.from × IsTwoBytes t key.tid × AllZip IsPacketWord ps packets
 
 -- what a lookup says: an object, a type, and a zone if there is one
 abbrev pub FindSays : List (List ℕ) → List ℕ → List ℕ → Option (List ℕ) → Type 0
@@ -69,29 +71,45 @@ abbrev pub table_word : Which → List ℕ
 table_word which.All = codes "setzones"
 table_word which.Local = codes "setlocal"
 
--- the word of a call, and what the words after it say
-abbrev pub SaysCall : {A : Type 0} → List ℕ → List (List ℕ) → Call A → Type 0
-SaysCall word ws (call.Zones which) = (word ≡ list_word which) × (ws ≡ [])
-SaysCall word ws (call.SetZones which names) = (word ≡ table_word which) × AllZip IsText ws names
-SaysCall word ws (call.Ask node socket user bytes wanted exactly_once retries) =
+-- the word of a call that names no requester, and what the words after it say
+abbrev pub SaysPlain : {A : Type 0} → List ℕ → List (List ℕ) → Call A → Type 0
+SaysPlain word ws (call.Zones which) = (word ≡ list_word which) × (ws ≡ [])
+SaysPlain word ws (call.SetZones which names) = (word ≡ table_word which) × AllZip IsText ws names
+SaysPlain word ws (call.Ask node socket user bytes wanted exactly_once retries) =
     (word ≡ codes "ask") × AskSays ws node socket user bytes wanted exactly_once retries
-SaysCall word ws (call.Answer node socket tid packets) =
-    (word ≡ codes "answer") × AnswerSays ws node socket tid packets
-SaysCall word ws (call.Pick zone) = (word ≡ codes "pick") × One IsText ws zone
-SaysCall word ws (call.Find object kind place) = (word ≡ codes "find") × FindSays ws object kind place
-SaysCall word ws (call.Claim object kind socket) = (word ≡ codes "claim") × SocketSays ws object kind socket
-SaysCall word ws (call.Finish id) = (word ≡ codes "finish") × One IsByte ws id
-SaysCall word ws (call.Register object kind socket) = (word ≡ codes "register") × SocketSays ws object kind socket
-SaysCall word ws (call.Unregister object kind) = (word ≡ codes "unregister") × Two IsText IsText ws object kind
-SaysCall word ws (call.Open index) = (word ≡ codes "open") × One IsCount ws index
-SaysCall word ws (call.Listen on) = (word ≡ codes "listen") × One IsSwitch ws on
-SaysCall word ws (call.Connect node socket) = (word ≡ codes "connect") × Two IsNode IsNode ws node socket
-SaysCall word ws (call.Write id items) = (word ≡ codes "write") × WriteSays ws id items
-SaysCall word ws (call.Read id count) = (word ≡ codes "read") × Two IsTwoBytes IsTwoBytes ws id count
-SaysCall word ws (call.Reset id) = (word ≡ codes "reset") × One IsTwoBytes ws id
-SaysCall word ws (call.Close id) = (word ≡ codes "close") × One IsTwoBytes ws id
+SaysPlain word ws (call.Answer key packets) = ⊥
+SaysPlain word ws (call.Pick zone) = (word ≡ codes "pick") × One IsText ws zone
+SaysPlain word ws (call.Find object kind place) = (word ≡ codes "find") × FindSays ws object kind place
+SaysPlain word ws (call.Claim object kind socket) = (word ≡ codes "claim") × SocketSays ws object kind socket
+SaysPlain word ws (call.Finish id) = (word ≡ codes "finish") × One IsByte ws id
+SaysPlain word ws (call.Register object kind socket) = (word ≡ codes "register") × SocketSays ws object kind socket
+SaysPlain word ws (call.Unregister object kind) = (word ≡ codes "unregister") × Two IsText IsText ws object kind
+SaysPlain word ws (call.Open index) = (word ≡ codes "open") × One IsCount ws index
+SaysPlain word ws (call.Listen on) = (word ≡ codes "listen") × One IsSwitch ws on
+SaysPlain word ws (call.Connect node socket) = (word ≡ codes "connect") × Two IsNode IsNode ws node socket
+SaysPlain word ws (call.Write id items) = (word ≡ codes "write") × WriteSays ws id items
+SaysPlain word ws (call.Read id count) = (word ≡ codes "read") × Two IsTwoBytes IsTwoBytes ws id count
+SaysPlain word ws (call.Reset id) = (word ≡ codes "reset") × One IsTwoBytes ws id
+SaysPlain word ws (call.Close id) = (word ≡ codes "close") × One IsTwoBytes ws id
 
--- the words say this call
+-- the same of each call, where requesters are named so
+abbrev pub SaysCall : {A : Type 0} → Naming → List ℕ → List (List ℕ) → Call A → Type 0
+SaysCall Names word ws (call.Answer key packets) = (word ≡ codes "answer") × AnswerSays Names ws key packets
+SaysCall Names word ws other = SaysPlain word ws other
+
+abbrev pub AreCallBy : {A : Type 0} → Naming → List (List ℕ) → Call A → Type 0
+AreCallBy Names [] call = ⊥
+AreCallBy Names (word ∷ ws) call = SaysCall Names word ws call
+
+-- the words say this call, and the network of who asked is not said
 abbrev pub AreCall : {A : Type 0} → List (List ℕ) → Call A → Type 0
-AreCall [] call = ⊥
-AreCall (word ∷ ws) call = SaysCall word ws call
+AreCall ws call = AreCallBy NameNode ws call
+
+-- the words say this call, whose requester can be on any network; it is on this one if none is named
+abbrev pub AreAnyCall : {A : Type 0} → ℕ → List (List ℕ) → Call A → Type 0
+AreAnyCall net ws call = AreCallBy (NameAny net) ws call
+
+-- who asked for an answer is on this network
+abbrev pub IsHere : {A : Type 0} → ℕ → Call A → Type 0
+IsHere net (call.Answer key packets) = (key.from).net ≡ net
+IsHere net other = Unit {0}

@@ -3,57 +3,61 @@ ghost use Rattle.std.specs.Prelude.{◌≡◌, ◌++◌, ◌∷◌, List, ℕ, c
 ghost use Rattle.std.specs.List.{AllZip};
 ghost use Rattle.at_call_words.specs.Calls.{IsPacketWord, SaysCall};
 ghost use Rattle.at_call_words.specs.Readings.{IsFoundInMemory};
+ghost use Rattle.at_call_words.specs.Requesters.{Names};
+ghost use Rattle.at_ddp.specs.declared.address.Address.{Address as Socket};
 ghost use Rattle.at_words.specs.Hexes.{IsUser};
-ghost use Rattle.at_words.specs.Numbers.{IsNode, IsTwoBytes};
+ghost use Rattle.at_words.specs.Numbers.{IsTwoBytes};
 ghost use Rattle.at_words.specs.Words.{words_of};
 
 use crate::data_word::data_of;
-use at_atp::Packet;
+use crate::requester::{Requesters, requester};
+use at_atp::{Key, Packet};
 use at_ddp::Listed;
 use at_event::Call;
 use at_faults::{LineFault, Rule};
-use at_words::{Words, node_number, two_bytes, user_of};
+use at_words::{Words, two_bytes, user_of};
 use std::alloc::Allocator;
 
 /// `NODE SOCKET T USER:DATA ..`
 #[derive(Clone, Copy)]
 struct AnswerWords<'a> {
-    node: u8,
-    socket: u8,
-    tid: u16,
+    key: Key,
     packets: Words<'a>,
 }
 
 impl<'a> AnswerWords<'a> {
-    fn of(mut words: Words<'a>) -> Option<AnswerWords<'a>>
+    fn of(requesters: Requesters, net: u16, mut words: Words<'a>) -> Option<AnswerWords<'a>>
         ensures said { IfSome result (λ a. (n s t : List ℕ)
             × (words_of words.entry.rest.now ≡ n ∷ s ∷ t ∷ words_of a.packets.rest.now)
-            × IsNode n a.node × IsNode s a.socket × IsTwoBytes t a.tid) }
-        ensures only { IsNone result → (n s t : List ℕ) (ps : List (List ℕ)) (node socket tid : ℕ)
-            → words_of words.entry.rest.now ≡ n ∷ s ∷ t ∷ ps → IsNode n node → IsNode s socket → ¬ IsTwoBytes t tid }
+            × Names requesters net n s (a.key).from × IsTwoBytes t (a.key).tid) }
+        ensures only { IsNone result → (n s t : List ℕ) (ps : List (List ℕ)) (from : Socket) (tid : ℕ)
+            → words_of words.entry.rest.now ≡ n ∷ s ∷ t ∷ ps → Names requesters net n s from → ¬ IsTwoBytes t tid }
     {
-        let node = node_number(words.next()?)?;
-        let socket = node_number(words.next()?)?;
+        let node = words.next()?;
+        let socket = words.next()?;
+        let from = requester(requesters, net, node, socket)?;
         let tid = two_bytes(words.next()?)?;
         Some(AnswerWords {
-            node,
-            socket,
-            tid,
+            key: Key { from, tid },
             packets: words,
         })
     }
 }
 
 /// An answer, after its word.
-pub(crate) fn answer<A: Allocator + Copy>(alloc: A, words: Words<'_>) -> Result<Call<A>, LineFault>
-    ensures { IsFoundInMemory result (SaysCall (codes "answer") (words_of words.entry.rest.now)) }
+pub(crate) fn answer<A: Allocator + Copy>(
+    alloc: A,
+    requesters: Requesters,
+    net: u16,
+    words: Words<'_>,
+) -> Result<Call<A>, LineFault>
+    ensures { IsFoundInMemory result
+        (SaysCall (Names requesters net) (codes "answer") (words_of words.entry.rest.now)) }
 {
-    let said = AnswerWords::of(words).ok_or(LineFault::Unlawful(Rule::Answer))?;
+    let said = AnswerWords::of(requesters, net, words).ok_or(LineFault::Unlawful(Rule::Answer))?;
     let packets = packets_of(alloc, said.packets)?;
     Ok(Call::Answer {
-        node: said.node,
-        socket: said.socket,
-        tid: said.tid,
+        key: said.key,
         packets,
     })
 }

@@ -1,6 +1,6 @@
 //! The words of an ask.
 ghost use Rattle.std.specs.Prelude.{◌≡◌, ◌∷◌, [], List, ℕ, Bool, codes, IfSome, IsNone};
-ghost use Rattle.at_call_words.specs.Calls.{AskSays, IsMode, IsWanted, SaysCall};
+ghost use Rattle.at_call_words.specs.Calls.{AskSays, IsMode, IsWanted, SaysPlain};
 ghost use Rattle.at_call_words.specs.Readings.{IsFoundInMemory};
 ghost use Rattle.at_words.specs.Hexes.{IsUser};
 ghost use Rattle.at_words.specs.Numbers.{IsByte, IsNode};
@@ -76,7 +76,7 @@ fn wanted(word: &[u8]) -> Option<PacketCount>
 
 /// An ask, after its word.
 pub(crate) fn ask<A: Allocator>(alloc: A, words: Words<'_>) -> Result<Call<A>, LineFault>
-    ensures { IsFoundInMemory result (SaysCall (codes "ask") (words_of words.entry.rest.now)) }
+    ensures { IsFoundInMemory result (SaysPlain (codes "ask") (words_of words.entry.rest.now)) }
 {
     let Some(said) = AskWords::of(words) else {
         return Err(LineFault::Unlawful(Rule::Ask));

@@ -1,6 +1,6 @@
 //! The words of names and lookups.
 ghost use Rattle.std.specs.Prelude.{◌≡◌, ◌∷◌, [], List, ℕ, codes, IfSome, IsNone};
-ghost use Rattle.at_call_words.specs.Calls.{SaysCall, SocketSays};
+ghost use Rattle.at_call_words.specs.Calls.{SaysPlain, SocketSays};
 ghost use Rattle.at_words.specs.Readings.{IsFound};
 ghost use Rattle.at_words.specs.Numbers.{IsNode};
 ghost use Rattle.at_words.specs.Texts.{AreZone, IsText};
@@ -14,7 +14,7 @@ use std::alloc::Allocator;
 
 /// `TEXT TEXT [TEXT]`
 pub(crate) fn find<A: Allocator>(mut words: Words<'_>) -> Option<Call<A>>
-    ensures { IsFound result (SaysCall (codes "find") (words_of words.entry.rest.now)) }
+    ensures { IsFound result (SaysPlain (codes "find") (words_of words.entry.rest.now)) }
 {
     let object = text(words.next()?)?;
     let kind = text(words.next()?)?;
@@ -36,7 +36,7 @@ fn zone_of(mut words: Words<'_>) -> Option<Option<Pascal>>
 
 /// `TEXT TEXT SOCKET`
 pub(crate) fn claim<A: Allocator>(words: Words<'_>) -> Option<Call<A>>
-    ensures { IsFound result (SaysCall (codes "claim") (words_of words.entry.rest.now)) }
+    ensures { IsFound result (SaysPlain (codes "claim") (words_of words.entry.rest.now)) }
 {
     let (object, kind, socket) = socket_name(words)?;
     Some(Call::Claim {
@@ -48,7 +48,7 @@ pub(crate) fn claim<A: Allocator>(words: Words<'_>) -> Option<Call<A>>
 
 /// `ID`
 pub(crate) fn finish<A: Allocator>(words: Words<'_>) -> Option<Call<A>>
-    ensures { IsFound result (SaysCall (codes "finish") (words_of words.entry.rest.now)) }
+    ensures { IsFound result (SaysPlain (codes "finish") (words_of words.entry.rest.now)) }
 {
     let id = byte(one(words)?)?;
     Some(Call::Finish { id })
@@ -56,7 +56,7 @@ pub(crate) fn finish<A: Allocator>(words: Words<'_>) -> Option<Call<A>>
 
 /// `TEXT TEXT SOCKET`
 pub(crate) fn register<A: Allocator>(words: Words<'_>) -> Option<Call<A>>
-    ensures { IsFound result (SaysCall (codes "register") (words_of words.entry.rest.now)) }
+    ensures { IsFound result (SaysPlain (codes "register") (words_of words.entry.rest.now)) }
 {
     let (object, kind, socket) = socket_name(words)?;
     Some(Call::Register {
@@ -81,7 +81,7 @@ fn socket_name(words: Words<'_>) -> Option<(Pascal, Pascal, u8)>
 
 /// `TEXT TEXT`
 pub(crate) fn unregister<A: Allocator>(words: Words<'_>) -> Option<Call<A>>
-    ensures { IsFound result (SaysCall (codes "unregister") (words_of words.entry.rest.now)) }
+    ensures { IsFound result (SaysPlain (codes "unregister") (words_of words.entry.rest.now)) }
 {
     let (object, kind) = two(words)?;
     let object = text(object)?;

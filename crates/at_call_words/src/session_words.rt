@@ -1,6 +1,6 @@
 //! The words of a session: which zone is picked, and which of what was found is connected to.
 ghost use Rattle.std.specs.Prelude.{codes};
-ghost use Rattle.at_call_words.specs.Calls.{SaysCall};
+ghost use Rattle.at_call_words.specs.Calls.{SaysPlain};
 ghost use Rattle.at_words.specs.Readings.{IsFound};
 ghost use Rattle.at_words.specs.Words.{words_of};
 
@@ -11,7 +11,7 @@ use std::alloc::Allocator;
 
 /// `TEXT`
 pub(crate) fn pick<A: Allocator>(words: Words<'_>) -> Option<Call<A>>
-    ensures { IsFound result (SaysCall (codes "pick") (words_of words.entry.rest.now)) }
+    ensures { IsFound result (SaysPlain (codes "pick") (words_of words.entry.rest.now)) }
 {
     let zone = text(one(words)?)?;
     Some(Call::Pick { zone })
@@ -19,7 +19,7 @@ pub(crate) fn pick<A: Allocator>(words: Words<'_>) -> Option<Call<A>>
 
 /// `I`
 pub(crate) fn open<A: Allocator>(words: Words<'_>) -> Option<Call<A>>
-    ensures { IsFound result (SaysCall (codes "open") (words_of words.entry.rest.now)) }
+    ensures { IsFound result (SaysPlain (codes "open") (words_of words.entry.rest.now)) }
 {
     let index = number(one(words)?)?;
     Some(Call::Open { index })

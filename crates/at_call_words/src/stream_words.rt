@@ -1,6 +1,6 @@
 //! The words of streams.
 ghost use Rattle.std.specs.Prelude.{codes};
-ghost use Rattle.at_call_words.specs.Calls.{IsSwitch, SaysCall};
+ghost use Rattle.at_call_words.specs.Calls.{IsSwitch, SaysPlain};
 ghost use Rattle.at_call_words.specs.Readings.{IsFoundInMemory};
 ghost use Rattle.at_words.specs.Readings.{IsFound};
 ghost use Rattle.at_words.specs.Words.{words_of};
@@ -14,7 +14,7 @@ use std::alloc::Allocator;
 
 /// `on` or `off`
 pub(crate) fn listen<A: Allocator>(words: Words<'_>) -> Option<Call<A>>
-    ensures { IsFound result (SaysCall (codes "listen") (words_of words.entry.rest.now)) }
+    ensures { IsFound result (SaysPlain (codes "listen") (words_of words.entry.rest.now)) }
 {
     let on = is_on(one(words)?)?;
     Some(Call::Listen { on })
@@ -32,7 +32,7 @@ fn is_on(word: &[u8]) -> Option<bool>
 
 /// `NODE SOCKET`
 pub(crate) fn connect<A: Allocator>(words: Words<'_>) -> Option<Call<A>>
-    ensures { IsFound result (SaysCall (codes "connect") (words_of words.entry.rest.now)) }
+    ensures { IsFound result (SaysPlain (codes "connect") (words_of words.entry.rest.now)) }
 {
     let (node, socket) = two(words)?;
     let node = node_number(node)?;
@@ -42,7 +42,7 @@ pub(crate) fn connect<A: Allocator>(words: Words<'_>) -> Option<Call<A>>
 
 /// `ID ITEM ..`
 pub(crate) fn write<A: Allocator>(alloc: A, mut words: Words<'_>) -> Result<Call<A>, LineFault>
-    ensures { IsFoundInMemory result (SaysCall (codes "write") (words_of words.entry.rest.now)) }
+    ensures { IsFoundInMemory result (SaysPlain (codes "write") (words_of words.entry.rest.now)) }
 {
     let id = words.next().ok_or(LineFault::Unlawful(Rule::Write))?;
     let id = two_bytes(id).ok_or(LineFault::Unlawful(Rule::Write))?;
@@ -52,7 +52,7 @@ pub(crate) fn write<A: Allocator>(alloc: A, mut words: Words<'_>) -> Result<Call
 
 /// `ID COUNT`
 pub(crate) fn read<A: Allocator>(words: Words<'_>) -> Option<Call<A>>
-    ensures { IsFound result (SaysCall (codes "read") (words_of words.entry.rest.now)) }
+    ensures { IsFound result (SaysPlain (codes "read") (words_of words.entry.rest.now)) }
 {
     let (id, count) = two(words)?;
     let id = two_bytes(id)?;
@@ -62,7 +62,7 @@ pub(crate) fn read<A: Allocator>(words: Words<'_>) -> Option<Call<A>>
 
 /// `ID`
 pub(crate) fn reset<A: Allocator>(words: Words<'_>) -> Option<Call<A>>
-    ensures { IsFound result (SaysCall (codes "reset") (words_of words.entry.rest.now)) }
+    ensures { IsFound result (SaysPlain (codes "reset") (words_of words.entry.rest.now)) }
 {
     let id = two_bytes(one(words)?)?;
     Some(Call::Reset { id })
@@ -70,7 +70,7 @@ pub(crate) fn reset<A: Allocator>(words: Words<'_>) -> Option<Call<A>>
 
 /// `ID`
 pub(crate) fn close<A: Allocator>(words: Words<'_>) -> Option<Call<A>>
-    ensures { IsFound result (SaysCall (codes "close") (words_of words.entry.rest.now)) }
+    ensures { IsFound result (SaysPlain (codes "close") (words_of words.entry.rest.now)) }
 {
     let id = two_bytes(one(words)?)?;
     Some(Call::Close { id })

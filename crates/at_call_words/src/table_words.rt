@@ -1,7 +1,7 @@
 //! The words of a zone table that a call gives the router.
 ghost use Rattle.std.specs.Prelude.{◌≡◌, ◌⊎◌, IfErr};
 ghost use Rattle.std.specs.List.{AllZip};
-ghost use Rattle.at_call_words.specs.Calls.{SaysCall, table_word};
+ghost use Rattle.at_call_words.specs.Calls.{SaysPlain, table_word};
 ghost use Rattle.at_call_words.specs.Readings.{IsFoundInMemory};
 ghost use Rattle.at_words.specs.Texts.{IsText};
 ghost use Rattle.at_words.specs.Words.{words_of};
@@ -20,7 +20,7 @@ pub(crate) fn set_zones<A: Allocator>(
     rule: Rule,
     words: Words<'_>,
 ) -> Result<Call<A>, LineFault>
-    ensures said { IsFoundInMemory result (SaysCall (table_word which) (words_of words.entry.rest.now)) }
+    ensures said { IsFoundInMemory result (SaysPlain (table_word which) (words_of words.entry.rest.now)) }
     ensures rule { IfErr result (λ fault. (fault ≡ LineFault.NoMemory) ⊎ (fault ≡ LineFault.Unlawful rule)) }
 {
     let names = names_of(alloc, rule, words)?;

@@ -1,64 +1,81 @@
 //! A timer, as words.
-ghost use Rattle.std.specs.Prelude.{codes};
-ghost use Rattle.at_call_words.specs.Readings.{IsFoundInMemory};
-ghost use Rattle.at_call_words.specs.Timers.{AreTimer, IsOwn, SaysTimer};
+ghost use Rattle.std.specs.Prelude.{codes, IfOk};
+ghost use Rattle.at_call_words.specs.Readings.{IsFoundLawful};
+ghost use Rattle.at_call_words.specs.Requesters.{Names};
+ghost use Rattle.at_call_words.specs.Timers.{AreAnyTimer, AreTimer, AreTimerBy, IsOwn, IsTimerHere};
+ghost use Rattle.at_call_words.specs.Timers.{SaysPlainTimer, SaysTimer};
 ghost use Rattle.at_words.specs.Readings.{IsFound};
 ghost use Rattle.at_words.specs.Words.{words_of};
 
+use crate::requester::{Requesters, requester};
 use crate::words::{one, three};
+use at_atp::Key;
 use at_event::Timer;
-use at_faults::{LineFault, Rule};
-use at_words::{Words, byte, is_word, node_number, two_bytes};
+use at_faults::Rule;
+use at_words::{Words, byte, is_word, two_bytes};
 
-/// Reads a timer: its word, and what the words after it say. Unlawful if the words say no timer.
-pub fn timer_of(mut words: Words<'_>) -> Result<Timer, LineFault>
-    ensures { IsFoundInMemory result (AreTimer (words_of words.entry.rest.now)) }
+/// Reads a timer: its word, and what the words after it say. The error is the rule that is broken if the words say no
+/// timer. A requester is named by its node and socket, and is on network `net`.
+pub fn timer_of(net: u16, words: Words<'_>) -> Result<Timer, Rule>
+    ensures said { IsFoundLawful result (AreTimer (words_of words.entry.rest.now)) }
+    ensures here { IfOk result (IsTimerHere net) }
 {
-    let word = words.next().ok_or(LineFault::Unlawful(Rule::Timer))?;
+    timer_by(Requesters::Here, net, words)
+}
+
+/// The same where every requester can be named, as `call_of_any` reads it.
+pub fn timer_of_any(net: u16, words: Words<'_>) -> Result<Timer, Rule>
+    ensures { IsFoundLawful result (AreAnyTimer net (words_of words.entry.rest.now)) }
+{
+    timer_by(Requesters::Any, net, words)
+}
+
+fn timer_by(requesters: Requesters, net: u16, mut words: Words<'_>) -> Result<Timer, Rule>
+    ensures { IsFoundLawful result (AreTimerBy (Names requesters net) (words_of words.entry.rest.now)) }
+{
+    let word = words.next().ok_or(Rule::Timer)?;
+    if is_word(word, b"release") {
+        return release(requesters, net, words).ok_or(Rule::Release);
+    }
     said_by(word, words)
 }
 
-// The timer of a word, with the words after it.
-fn said_by(word: &[u8], words: Words<'_>) -> Result<Timer, LineFault>
-    ensures { IsFoundInMemory result (SaysTimer word.now (words_of words.entry.rest.now)) }
+// The timer of another word, with the words after it.
+fn said_by(word: &[u8], words: Words<'_>) -> Result<Timer, Rule>
+    ensures { IsFoundLawful result (SaysPlainTimer word.now (words_of words.entry.rest.now)) }
 {
     if is_word(word, b"retry") {
-        retry(words).ok_or(LineFault::Unlawful(Rule::Retry))
-    } else if is_word(word, b"release") {
-        release(words).ok_or(LineFault::Unlawful(Rule::Release))
+        retry(words).ok_or(Rule::Retry)
     } else if is_word(word, b"lookup") {
-        lookup(words).ok_or(LineFault::Unlawful(Rule::Lookup))
+        lookup(words).ok_or(Rule::Lookup)
     } else if is_word(word, b"resend") {
-        resend(words).ok_or(LineFault::Unlawful(Rule::Resend))
+        resend(words).ok_or(Rule::Resend)
     } else if is_word(word, b"probe") {
-        probe(words).ok_or(LineFault::Unlawful(Rule::Probe))
+        probe(words).ok_or(Rule::Probe)
     } else {
-        Err(LineFault::Unlawful(Rule::Timer))
+        Err(Rule::Timer)
     }
 }
 
 // `T`
 fn retry(words: Words<'_>) -> Option<Timer>
-    ensures { IsFound result (SaysTimer (codes "retry") (words_of words.entry.rest.now)) }
+    ensures { IsFound result (SaysPlainTimer (codes "retry") (words_of words.entry.rest.now)) }
 {
     let tid = two_bytes(one(words)?)?;
     Some(Timer::Retry { tid })
 }
 
 // `OWN NODE SOCKET T`
-fn release(mut words: Words<'_>) -> Option<Timer>
-    ensures { IsFound result (SaysTimer (codes "release") (words_of words.entry.rest.now)) }
+fn release(requesters: Requesters, net: u16, mut words: Words<'_>) -> Option<Timer>
+    ensures { IsFound result (SaysTimer (Names requesters net) (codes "release") (words_of words.entry.rest.now)) }
 {
     let own = own_socket(words.next()?)?;
     let (node, socket, tid) = three(words)?;
-    let node = node_number(node)?;
-    let socket = node_number(socket)?;
+    let from = requester(requesters, net, node, socket)?;
     let tid = two_bytes(tid)?;
     Some(Timer::Release {
         own,
-        node,
-        socket,
-        tid,
+        key: Key { from, tid },
     })
 }
 
@@ -76,7 +93,7 @@ fn own_socket(word: &[u8]) -> Option<u8>
 
 // `ID`
 fn lookup(words: Words<'_>) -> Option<Timer>
-    ensures { IsFound result (SaysTimer (codes "lookup") (words_of words.entry.rest.now)) }
+    ensures { IsFound result (SaysPlainTimer (codes "lookup") (words_of words.entry.rest.now)) }
 {
     let id = byte(one(words)?)?;
     Some(Timer::Lookup { id })
@@ -84,7 +101,7 @@ fn lookup(words: Words<'_>) -> Option<Timer>
 
 // `ID`
 fn resend(words: Words<'_>) -> Option<Timer>
-    ensures { IsFound result (SaysTimer (codes "resend") (words_of words.entry.rest.now)) }
+    ensures { IsFound result (SaysPlainTimer (codes "resend") (words_of words.entry.rest.now)) }
 {
     let id = two_bytes(one(words)?)?;
     Some(Timer::Resend { id })
@@ -92,7 +109,7 @@ fn resend(words: Words<'_>) -> Option<Timer>
 
 // `ID`
 fn probe(words: Words<'_>) -> Option<Timer>
-    ensures { IsFound result (SaysTimer (codes "probe") (words_of words.entry.rest.now)) }
+    ensures { IsFound result (SaysPlainTimer (codes "probe") (words_of words.entry.rest.now)) }
 {
     let id = two_bytes(one(words)?)?;
     Some(Timer::Probe { id })

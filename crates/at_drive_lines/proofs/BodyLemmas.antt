@@ -3,8 +3,9 @@ use Rattle.std.proofs.Common.{◌≡◌, ℕ, Bool, true, false, List, [], ◌�
 use Rattle.std.proofs.Common.{subst, ◌∙◌, append-nil, append_assoc, arith}
 use Rattle.std.proofs.lemmas.Bool.{and_parts, false≢true}
 use Rattle.std.proofs.lemmas.List.{length-append}
+use Rattle.std.proofs.lemmas.List.Elements.{All-nil, All-push}
 use Rattle.std.specs.Prelude.{◌==◌, ◌&&◌, codes}
-use Rattle.std.specs.List.{AllZip, list_all, list_any}
+use Rattle.std.specs.List.{All, AllZip, list_all, list_any}
 use Rattle.at_setup.specs.declared.setup.NodeSetup.{NodeSetup}
 use Rattle.at_setup.specs.declared.setup.Setup.{Setup}
 use Rattle.at_setup_lines.specs.Drafts.{Draft, IsDraft, IsDraftAt, Takes, has_events, is_event, setup_of}
@@ -14,7 +15,7 @@ use Rattle.at_setup_lines.specs.declared.draft.Stage.TheVariants.{Event, Local, 
 use Rattle.at_drive.specs.Steps.{node_of}
 use Rattle.at_drive.specs.declared.step.Step.{Step}
 use Rattle.at_drive_lines.specs.Drafts.{HasBody}
-use Rattle.at_drive_lines.specs.Says.{AreStep, SaysPort, have_ports, leave_port}
+use Rattle.at_drive_lines.specs.Says.{AreStep, IsStepHere, SaysPort, have_ports, leave_port}
 use Rattle.at_drive_lines.specs.declared.draft.DriveDraft.{DriveDraft}
 use Rattle.at_drive_lines.proofs.StepLemmas.{all_more, zip_more, zip_none}
 
@@ -92,6 +93,7 @@ port_taken A lines net line d is draft early none says =
       room = ap (leave_port d.port) nodes;
       said = subst (AllZip AreStep []) (sym none) tt;
       stand = ap (list_all (λ x. list_any (λ n. n.node == node_of x) (d.setup).nodes)) none;
+      here = subst (All (IsStepHere (d.setup).net)) (sym none) (All-nil (IsStepHere (d.setup).net));
       early = λ e. refl;
       late = λ l. absurd (false≢true (sym early ∙ l));
     }
@@ -120,6 +122,7 @@ head_taken A lines line old new b port steps early after takes fits =
       room = both.1;
       said = subst (AllZip AreStep []) (sym empty) tt;
       stand = ap (list_all (λ x. list_any (λ n. n.node == node_of x) (new.setup).nodes)) empty;
+      here = subst (All (IsStepHere (new.setup).net)) (sym empty) (All-nil (IsStepHere (new.setup).net));
       early = λ e. refl;
       late = λ l. absurd (false≢true (sym after ∙ l));
     }
@@ -129,8 +132,9 @@ pub step_taken : (A : Type 0) (lines : List (List (List ℕ))) (line : List (Lis
     → new.steps.items ≡ old.steps.items ++ x ∷ [] → has_events new.setup ≡ true
     → ((ls : List (List (List ℕ))) → IsDraft ls old.setup → IsDraft ls new.setup)
     → (new.setup).nodes ≡ (old.setup).nodes → AreStep line x
-    → list_any (λ n. n.node == node_of x) (new.setup).nodes ≡ true → HasBody A (lines ++ line ∷ []) new
-step_taken A lines line x old new b port steps over goes nodes says stands =
+    → list_any (λ n. n.node == node_of x) (new.setup).nodes ≡ true → (new.setup).net ≡ (old.setup).net
+    → IsStepHere (old.setup).net x → HasBody A (lines ++ line ∷ []) new
+step_taken A lines line x old new b port steps over goes nodes says stands net here =
     let tests : List NodeSetup → Step A → Bool = λ ns y. list_any (λ n. n.node == node_of y) ns in
     let before = ap (λ ns. list_all (tests ns) old.steps.items) nodes ∙ b.stand in
     record {
@@ -148,6 +152,9 @@ step_taken A lines line x old new b port steps over goes nodes says stands =
           (zip_more b.last old.steps.items line x b.said says);
       stand = ap (list_all (tests (new.setup).nodes)) steps
           ∙ all_more (tests (new.setup).nodes) old.steps.items x before stands;
+      here = subst (All (IsStepHere (new.setup).net)) (sym steps)
+          (subst (λ n. All (IsStepHere n) (old.steps.items ++ x ∷ [])) (sym net)
+          (All-push (IsStepHere (old.setup).net) old.steps.items x b.here here));
       early = λ e. absurd (false≢true (sym e ∙ over));
       late = λ l. omega (arith, length-append b.last (line ∷ []));
     }

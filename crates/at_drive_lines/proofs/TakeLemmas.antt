@@ -12,7 +12,7 @@ use Rattle.at_setup_lines.specs.SetupLines.{IsSetup}
 use Rattle.at_drive.specs.Steps.{node_of}
 use Rattle.at_drive.specs.declared.step.Step.{Step}
 use Rattle.at_drive_lines.specs.Drafts.{Adds, Bars, HasBody, HasRead, HasReadAt}
-use Rattle.at_drive_lines.specs.Says.{AreStep, SaysPort, begins_step, have_ports, leave_port}
+use Rattle.at_drive_lines.specs.Says.{AreStep, IsStepHere, SaysPort, begins_step, have_ports, leave_port}
 use Rattle.at_drive_lines.specs.declared.draft.DriveDraft.{DriveDraft}
 use Rattle.at_drive_lines.specs.declared.draft.Stage.TheVariants.{Body, Net, Port}
 use Rattle.at_drive_lines.proofs.BodyLemmas.{event_setup, head_taken, port_taken, step_taken}
@@ -71,13 +71,14 @@ module _ (A : Type 0) (old : DriveDraft A) (line : List (List ℕ)) where
       → s.nodes ≡ d.nodes) → old.stage ≡ Body → new.stage ≡ Body → new.port ≡ old.port
       → new.steps.items ≡ old.steps.items ++ x ∷ [] → has_events new.setup ≡ true
       → ((ls : List (List (List ℕ))) → IsDraft ls old.setup → IsDraft ls new.setup) → AreStep line x
-      → list_any (λ n. n.node == node_of x) (new.setup).nodes ≡ true → Adds A old line new
-  step_adds x new same stage after port steps over goes says stands lines read =
+      → list_any (λ n. n.node == node_of x) (new.setup).nodes ≡ true → (new.setup).net ≡ (old.setup).net
+      → IsStepHere (old.setup).net x → Adds A old line new
+  step_adds x new same stage after port steps over goes says stands net here lines read =
       let b = body_of lines stage read in
       let (s, nodes, setup) = event_setup A (b.net ∷ b.head) new.setup over (goes (b.net ∷ b.head) b.draft) in
       let kept = sym nodes ∙ same old.setup (b.net ∷ b.head) s b.draft setup in
       subst (λ st. HasReadAt A st (lines ++ line ∷ []) new) (sym after)
-      (step_taken A lines line x old new b port steps over goes kept says stands)
+      (step_taken A lines line x old new b port steps over goes kept says stands net here)
 
   module _ (setups : (lines : List (List (List ℕ))) (s : Setup A) → IsSetup lines s → HaveHeads lines)
       (drafts : (lines : List (List (List ℕ))) (d : Draft) → IsDraft lines d → HaveHeads lines)

@@ -1,6 +1,6 @@
 -- What was read of the lines of a drive, and which line is at fault.
 use Rattle.std.specs.Prelude.{◌≡◌, ◌⊎◌, ◌<◌, ◌==◌, not, Bool, true, false, ℕ, List, [], ◌∷◌, ◌++◌, filter, length, map}
-use Rattle.std.specs.List.{AllZip, list_all, list_any}
+use Rattle.std.specs.List.{All, AllZip, list_all, list_any}
 use Rattle.at_faults.specs.declared.fault.Fault.{Fault}
 use Rattle.at_faults.specs.declared.fault.Fault.TheVariants as fault
 use Rattle.at_words.specs.Words.{words_of}
@@ -10,7 +10,7 @@ use Rattle.at_schedule.specs.Drafts.{number_after}
 use Rattle.at_schedule.specs.Schedules.{is_passed_over}
 use Rattle.at_drive.specs.Steps.{node_of}
 use Rattle.at_drive.specs.declared.step.Step.{Step}
-use Rattle.at_drive_lines.specs.Says.{AreDrive, AreStep, SaysPort, have_ports, leave_port}
+use Rattle.at_drive_lines.specs.Says.{AreDrive, AreStep, IsStepHere, SaysPort, have_ports, leave_port}
 use Rattle.at_drive_lines.specs.declared.draft.DriveDraft.{DriveDraft}
 use Rattle.at_drive_lines.specs.declared.draft.Stage.{Stage}
 use Rattle.at_drive_lines.specs.declared.draft.Stage.TheVariants.{Body, Net, Port}
@@ -56,7 +56,7 @@ IsDriveFault A lines fault.NoMemory = Unit {0}
 -- ---- what was read
 
 -- The lines of the network and the port were read, those of the setup, and those of steps. A setup of which no step
--- was read may go on, and any router that has to follow finds a port.
+-- was read may go on, and any router that has to follow finds a port. Steps name requesters of the setup's network.
 pub record HasBody (A : Type 0) (lines : List (List (List ℕ))) (d : DriveDraft A) : Type 0 where
   pub net : List (List ℕ)
   pub port : List (List ℕ)
@@ -69,6 +69,7 @@ pub record HasBody (A : Type 0) (lines : List (List (List ℕ))) (d : DriveDraft
   pub room : leave_port d.port (d.setup).nodes ≡ true
   pub said : AllZip AreStep last d.steps.items
   pub stand : list_all (λ x. list_any (λ n. n.node == node_of x) (d.setup).nodes) d.steps.items ≡ true
+  pub here : All (IsStepHere (d.setup).net) d.steps.items
   pub early : has_events d.setup ≡ false → last ≡ []
   pub late : has_events d.setup ≡ true → 0 < length last
 

@@ -3,6 +3,8 @@ use Rattle.std.specs.Prelude.{◌≡◌, ◌+◌, ◌-◌, ◌||◌, not, nat_le
 use Rattle.std.specs.Prelude.{codes, length}
 use Rattle.std.specs.List.{AllZip, list_all}
 use Rattle.std.specs.Str.{bytes_eq}
+use Rattle.at_call_words.specs.Calls.{IsHere}
+use Rattle.at_call_words.specs.Timers.{IsTimerHere}
 use Rattle.at_words.specs.Numbers.{IsNode, IsTwoBytes}
 use Rattle.at_setup.specs.declared.setup.NodeSetup.{NodeSetup}
 use Rattle.at_setup.specs.declared.setup.Setup.{Setup}
@@ -32,6 +34,12 @@ abbrev pub StepSays : {A : Type 0} → List ℕ → List (List ℕ) → Step A �
 StepSays word ws (step.Call node c) = (word ≡ codes "call") × CallSays ws node c
 StepSays word ws (step.Timer node t) = (word ≡ codes "timer") × TimerSays ws node t
 StepSays word ws (step.Poll node) = (word ≡ codes "poll") × PollSays ws node
+
+-- a requester that the step names is on this network
+abbrev pub IsStepHere : {A : Type 0} → ℕ → Step A → Type 0
+IsStepHere net (step.Call node c) = IsHere net c
+IsStepHere net (step.Timer node t) = IsTimerHere net t
+IsStepHere net (step.Poll node) = Unit {0}
 
 -- the line says this step
 abbrev pub AreStep : {A : Type 0} → List (List ℕ) → Step A → Type 0

@@ -1,11 +1,12 @@
 //! A drive of which some lines are read.
 ghost use Rattle.std.specs.Prelude.{◌≡◌, ◌∷◌, ◌++◌, [], List, ℕ, true, false, IfOk, OnErr, OnOk};
+ghost use Rattle.std.specs.List.{All};
 ghost use Rattle.at_call_words.specs.Readings.{IfUnlawful};
 ghost use Rattle.at_setup.specs.declared.setup.Setup.{Setup as Said};
 ghost use Rattle.at_drive.specs.declared.step.Step.{Step as Move};
 ghost use Rattle.at_words.specs.Words.{words_of};
 ghost use Rattle.at_drive_lines.specs.Drafts.{Adds, Bars, BeginDrive, HasRead, words_in};
-ghost use Rattle.at_drive_lines.specs.Says.{AreDrive, is_step_word};
+ghost use Rattle.at_drive_lines.specs.Says.{AreDrive, IsStepHere, is_step_word};
 
 use crate::ports::{port_of, rule_broken_by};
 use crate::step_line::{is_step_word, stands_among, step_of};
@@ -148,7 +149,7 @@ impl<A: Allocator + Copy> DriveDraft<A> {
     {
         lines_begin_with_known_words::<A>();
         lines_say_one_setup::<A>();
-        let step = match step_of(self.alloc, word, words) {
+        let step = match step_of(self.alloc, self.setup.net(), word, words) {
             Ok(step) => step,
             Err(fault) => return Err(fault),
         };
@@ -166,6 +167,8 @@ impl<A: Allocator + Copy> DriveDraft<A> {
     pub(crate) fn finish(self) -> Result<DriveText<A>, Rule>
         ensures said { IfOk result (λ t. (lines : List (List (List ℕ))) → HasRead A lines self
             → AreDrive lines t.setup t.port t.steps.items) }
+        ensures here { IfOk result (λ t. (lines : List (List (List ℕ))) → HasRead A lines self
+            → All (IsStepHere (t.setup).net) t.steps.items) }
         ensures only { OnErr result ((lines : List (List (List ℕ))) → HasRead A lines self
             → (s : Said A) (port : ℕ) (steps : List (Move A)) → ¬ AreDrive lines s port steps) }
     {

@@ -1,10 +1,10 @@
 //! The line of a step, after its first word.
-ghost use Rattle.std.specs.Prelude.{◌≡◌, ◌==◌, codes};
+ghost use Rattle.std.specs.Prelude.{◌≡◌, ◌==◌, ℕ, codes, IfOk, IfSome};
 ghost use Rattle.std.specs.List.{list_any};
 ghost use Rattle.at_call_words.specs.Readings.{IsFoundInMemory};
 ghost use Rattle.at_words.specs.Readings.{IsFound};
 ghost use Rattle.at_words.specs.Words.{words_of};
-ghost use Rattle.at_drive_lines.specs.Says.{StepSays, is_step_word};
+ghost use Rattle.at_drive_lines.specs.Says.{IsStepHere, StepSays, is_step_word};
 
 use at_call_words::{call_of, timer_of};
 use at_drive::Step;
@@ -27,45 +27,56 @@ pub(crate) fn stands_among(nodes: &[NodeSetup], number: u8) -> bool
     nodes.iter().any(|node| node.node == number)
 }
 
-/// The step of a line, after its first word.
+/// The step of a line, after its first word. A requester that it names is on network `net`.
 pub(crate) fn step_of<A: Allocator + Copy>(
     alloc: A,
+    net: u16,
     word: &[u8],
     words: Words<'_>,
 ) -> Result<Step<A>, LineFault>
-    ensures { IsFoundInMemory result (StepSays word.now (words_of words.entry.rest.now)) }
+    ensures said { IsFoundInMemory result (StepSays word.now (words_of words.entry.rest.now)) }
+    ensures here { IfOk result (IsStepHere net) }
 {
     match word {
-        b"call" => call_step(alloc, words),
-        b"timer" => timer_step(words),
+        b"call" => call_step(alloc, net, words),
+        b"timer" => timer_step(net, words),
         b"poll" => poll_step(words).ok_or(LineFault::Unlawful(Rule::Poll)),
         _ => Err(LineFault::Unlawful(Rule::DriveFirstWord)),
     }
 }
 
 // `N` and a call.
-fn call_step<A: Allocator + Copy>(alloc: A, mut words: Words<'_>) -> Result<Step<A>, LineFault>
-    ensures { IsFoundInMemory result (StepSays (codes "call") (words_of words.entry.rest.now)) }
+fn call_step<A: Allocator + Copy>(
+    alloc: A,
+    net: u16,
+    mut words: Words<'_>,
+) -> Result<Step<A>, LineFault>
+    ensures said { IsFoundInMemory result (StepSays (codes "call") (words_of words.entry.rest.now)) }
+    ensures here { IfOk result (IsStepHere net) }
 {
     let node = words.next().ok_or(LineFault::Unlawful(Rule::Call))?;
     let node = node_number(node).ok_or(LineFault::Unlawful(Rule::Call))?;
-    let call = call_of(alloc, words)?;
+    let call = call_of(alloc, net, words)?;
     Ok(Step::Call { node, call })
 }
 
 // `N` and a timer.
-fn timer_step<A: Allocator>(mut words: Words<'_>) -> Result<Step<A>, LineFault>
-    ensures { IsFoundInMemory result (StepSays (codes "timer") (words_of words.entry.rest.now)) }
+fn timer_step<A: Allocator>(net: u16, mut words: Words<'_>) -> Result<Step<A>, LineFault>
+    ensures said { IsFoundInMemory result (StepSays (codes "timer") (words_of words.entry.rest.now)) }
+    ensures here { IfOk result (IsStepHere net) }
 {
     let node = words.next().ok_or(LineFault::Unlawful(Rule::Timer))?;
     let node = node_number(node).ok_or(LineFault::Unlawful(Rule::Timer))?;
-    let timer = timer_of(words)?;
-    Ok(Step::Timer { node, timer })
+    match timer_of(net, words) {
+        Ok(timer) => Ok(Step::Timer { node, timer }),
+        Err(rule) => Err(LineFault::Unlawful(rule)),
+    }
 }
 
 // `N`
 fn poll_step<A: Allocator>(mut words: Words<'_>) -> Option<Step<A>>
-    ensures { IsFound result (StepSays (codes "poll") (words_of words.entry.rest.now)) }
+    ensures said { IsFound result (StepSays (codes "poll") (words_of words.entry.rest.now)) }
+    ensures here { (net : ℕ) → IfSome result (IsStepHere net) }
 {
     let node = node_number(words.next()?)?;
     words.end()?;

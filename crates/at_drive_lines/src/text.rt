@@ -1,11 +1,12 @@
 //! The text of a drive.
 ghost use Rattle.std.specs.Prelude.{◌≡◌, true, IfErr, IfOk};
+ghost use Rattle.std.specs.List.{All};
 ghost use Rattle.at_drive.specs.Steps.{has_all};
 ghost use Rattle.at_faults.specs.declared.rule.Rule.{Rule as Told};
 ghost use Rattle.at_schedule.specs.Schedules.{lines_in};
 ghost use Rattle.at_setup.specs.Setups.{is_lawful};
 ghost use Rattle.at_drive_lines.specs.Drafts.{IsDriveFault, words_in};
-ghost use Rattle.at_drive_lines.specs.Says.{AreDrive};
+ghost use Rattle.at_drive_lines.specs.Says.{AreDrive, IsStepHere};
 
 use crate::draft::DriveDraft;
 use at_drive::Step;
@@ -25,11 +26,12 @@ pub struct DriveText<A: Allocator = Global> {
     pub steps: Vec<Step<A>, A>,
 }
 
-/// Reads the lines of a drive, all of which have to be lawful.
+/// Reads the lines of a drive, all of which have to be lawful. The requesters that steps name are on its network.
 pub fn read_drive<A: Allocator + Copy>(alloc: A, text: &[u8]) -> Result<DriveText<A>, Fault>
     ensures said { IfOk result (λ t. AreDrive (words_in (lines_in text.now)) t.setup t.port t.steps.items) }
     ensures lawful { IfOk result (λ t. is_lawful t.setup ≡ true) }
     ensures stand { IfOk result (λ t. has_all t.setup t.steps.items ≡ true) }
+    ensures here { IfOk result (λ t. All (IsStepHere (t.setup).net) t.steps.items) }
     ensures fault { IfErr result (IsDriveFault A (lines_in text.now)) }
 {
     each_draft_can_end::<A>();

@@ -3,6 +3,7 @@ use Rattle.std.specs.Prelude.{◌≡◌, ℕ, ◌<◌, ◌≤◌, List, length, 
 use Rattle.std.specs.List.{AllByRecursion}
 use Rattle.at_ddp.specs.Datagram.{AreBytes}
 use Rattle.at_atp_frame.specs.Packets.{AreWords}
+use Rattle.at_atp_responder.specs.declared.reception.Key.{Key}
 use Rattle.at_nbp.specs.Tuples.{IsString}
 use Rattle.at_adsp_end.specs.Items.{IsItem}
 use Rattle.at_event.specs.declared.event.Call.{Call}
@@ -15,12 +16,16 @@ abbrev pub IsZone : Option (List ℕ) → Type 0
 IsZone None = Unit {0}
 IsZone (Some zone) = IsString zone
 
+-- the address of who asked, and the number of the transaction
+abbrev pub IsKey : Key → Type 0
+IsKey key =
+    (key.from.net < 65536) × (key.from.node < 256) × (key.from.socket < 256) × (key.tid < 65536)
+
 -- the parts of a call are in the range of their types
 abbrev pub IsCall : {A : Type 0} → Call A → Type 0
 IsCall (Ask node socket user bytes wanted xo retries) =
     (node < 256) × (socket < 256) × (length user ≡ 4) × AreBytes user × AreBytes bytes × (1 ≤ wanted) × (wanted ≤ 8)
-IsCall (Answer node socket tid packets) =
-    (node < 256) × (socket < 256) × (tid < 65536) × AllByRecursion AreWords packets
+IsCall (Answer key packets) = IsKey key × AllByRecursion AreWords packets
 IsCall (SetZones which names) = AllByRecursion IsString names
 IsCall (Pick zone) = IsString zone
 IsCall (Find object kind zone) = IsString object × IsString kind × IsZone zone

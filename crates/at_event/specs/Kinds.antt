@@ -20,7 +20,7 @@ abbrev pub kind_of_call : {A : Type 0} → Call A → Kind
 kind_of_call (Zones which) = Atp
 kind_of_call (SetZones which names) = Atp
 kind_of_call (Ask node socket user bytes wanted xo retries) = Atp
-kind_of_call (Answer node socket tid packets) = Atp
+kind_of_call (Answer key packets) = Atp
 kind_of_call (Pick zone) = Session
 kind_of_call (Find object kind _) = Nbp
 kind_of_call (Claim object kind socket) = Nbp
@@ -37,7 +37,7 @@ kind_of_call (Close id) = Adsp
 
 abbrev pub kind_of_timer : Timer → Kind
 kind_of_timer (timer.Retry tid) = Atp
-kind_of_timer (timer.Release own node socket tid) = Atp
+kind_of_timer (timer.Release own key) = Atp
 kind_of_timer (timer.Lookup id) = Nbp
 kind_of_timer (timer.Resend id) = Adsp
 kind_of_timer (timer.Probe id) = Adsp

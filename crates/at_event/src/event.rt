@@ -3,11 +3,12 @@ ghost use Rattle.at_event.specs.Calls.{IsCall};
 
 use crate::packet_count::PacketCount;
 use crate::ranges::{
-    ranges_of_name, ranges_of_own, ranges_of_text, ranges_of_texts, ranges_of_written,
-    ranges_of_zone,
+    ranges_of_key, ranges_of_name, ranges_of_own, ranges_of_text, ranges_of_texts,
+    ranges_of_written, ranges_of_zone,
 };
 use at_adsp_end::Item;
 use at_atp_frame::{Packet, ranges_of, ranges_of_bytes};
+use at_atp_responder::Key;
 use at_ddp::{Bytes, Listed, Pascal};
 use at_zip::Which;
 use std::alloc::{Allocator, Global};
@@ -39,9 +40,8 @@ pub enum Call<A: Allocator = Global> {
     },
     /// Answers a request that was delivered to the service, by 1 to 8 packets with at most 578 bytes of data each.
     Answer {
-        node: u8,
-        socket: u8,
-        tid: u16,
+        /// Who asked under which number, as the report of the request has it.
+        key: Key,
         packets: Listed<Packet<A>, A>,
     },
     /// Picks a zone of a zone list that was read last. Lookups that name no zone ask for it from now on.
@@ -130,13 +130,8 @@ impl<A: Allocator> Call<A> {
                 ranges_of_bytes(data_.as_slice());
                 wanted.get();
             }
-            Call::Answer {
-                node,
-                socket,
-                tid,
-                packets,
-            } => {
-                let _key = (*node, *socket, *tid);
+            Call::Answer { key, packets } => {
+                ranges_of_key(*key);
                 ranges_of(packets.as_slice());
             }
             Call::Pick { zone } => ranges_of_text(zone),
@@ -184,9 +179,8 @@ pub enum Timer {
     /// The record of an exactly-once request is to go, which the socket `own` answered, 6 or 129.
     Release {
         own: u8,
-        node: u8,
-        socket: u8,
-        tid: u16,
+        /// Who asked, under which number.
+        key: Key,
     },
     /// A lookup is to be asked again.
     Lookup {

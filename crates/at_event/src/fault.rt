@@ -7,8 +7,8 @@ use thiserror::Error;
 /// Why a node itself refuses a call.
 #[derive(Clone, Copy, Debug, PartialEq, Eq, Error)]
 pub enum NodeFault {
-    /// The cable has no router, so there is no zone list.
-    #[error("the cable has no router, so there is no zone list to read")]
+    /// A zone table is set at a node that is not the router, or is read on a cable without one.
+    #[error("this node is not the router, or the cable has none")]
     NoRouter,
     /// The zone stands in no zone list that the node read last.
     #[error("the zone stands in no zone list that the node read last")]

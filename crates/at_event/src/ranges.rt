@@ -3,11 +3,19 @@ ghost use Rattle.std.specs.Prelude.{◌<◌};
 ghost use Rattle.std.specs.List.{AllByRecursion};
 ghost use Rattle.at_adsp_end.specs.Items.{IsItem};
 ghost use Rattle.at_nbp.specs.Tuples.{IsString};
-ghost use Rattle.at_event.specs.Calls.{IsZone};
+ghost use Rattle.at_event.specs.Calls.{IsKey, IsZone};
 
 use at_adsp_end::Item;
 use at_atp_frame::ranges_of_bytes;
+use at_atp_responder::Key;
 use at_ddp::Pascal;
+
+// Who asked, under which number.
+pub(crate) fn ranges_of_key(key: Key)
+    ensures { IsKey key }
+{
+    let _key = (key.from.net, key.from.node, key.from.socket, key.tid);
+}
 
 // What is written to the end of a stream.
 pub(crate) fn ranges_of_written(id: u16, items: &[Item])

@@ -1,3 +1,6 @@
+mod HandingLemmas
 mod OpeningLemmas
+mod SafetyLemmas
 mod StepLemmas
+mod TimerLemmas
 mod WaitingLemmas

@@ -1,5 +1,6 @@
 -- What a node hands out to a program.
 use Rattle.std.specs.Prelude.{◌≡◌, ℕ, List, [], ◌∷◌, length, Option, Some, None, Result, Ok, Err}
+use Rattle.std.specs.List.{flat_map}
 use Rattle.std.specs.declared.alloc.Global.{Global}
 use Rattle.at_ddp.specs.Datagrams.{Posted}
 use Rattle.at_event.specs.declared.report.Report.{Report}
@@ -7,7 +8,11 @@ use Rattle.at_held.specs.Held.{HeldState, refusal_in}
 use Rattle.at_held.specs.Rooms.{Fits, IsPlaced, IsTooLong, placed}
 use Rattle.at_held.specs.declared.withheld.Withheld.{Withheld}
 use Rattle.at_held.specs.declared.withheld.Withheld.TheVariants as withheld
-use Rattle.at_print.specs.Reports.{event_line}
+use Rattle.at_node.specs.Nodes.{NodeState}
+use Rattle.at_node.specs.Timers.{timers_of}
+use Rattle.at_print.specs.Reports.{event_line_at}
+use Rattle.at_print.specs.Timers.{timer_line}
+use Rattle.at_show.specs.Texts.{BytesText}
 
 -- the first datagram that waits is copied, with the node that it goes to, and the others go on waiting
 abbrev pub IsHanded : List Posted → List ℕ → ℕ × ℕ → List Posted → List ℕ → Type 0
@@ -36,13 +41,25 @@ HandsText text before result after = IsPlaced text before result after
 abbrev pub IsMissing : List ℕ → Result ℕ Withheld → List ℕ → Type 0
 IsMissing before result after = (result ≡ Err withheld.Missing) × (after ≡ before)
 
-abbrev pub HandsLine : Option (Report Global) → ℕ → List ℕ → Result ℕ Withheld → List ℕ → Type 0
-HandsLine None event before result after = IsMissing before result after
-HandsLine (Some r) event before result after = HandsText (event_line event r) before result after
+abbrev pub HandsLine : ℕ → Option (Report Global) → ℕ → List ℕ → Result ℕ Withheld → List ℕ → Type 0
+HandsLine net None event before result after = IsMissing before result after
+HandsLine net (Some r) event before result after = HandsText (event_line_at net event r) before result after
 
--- the line of the last event, as the language has it
+-- the line of the last event, where requesters of other networks than the node's are named by their network too
 abbrev pub HandsReport : HeldState → ℕ → List ℕ → Result ℕ Withheld → List ℕ → Type 0
-HandsReport h event before result after = HandsLine h.report event before result after
+HandsReport h event before result after = HandsLine h.node.seat.net h.report event before result after
+
+-- a line for each timer of a node that would do something now
+abbrev pub timer_lines : NodeState → List ℕ
+timer_lines n = flat_map (timer_line n.seat.net) (timers_of n)
+
+abbrev pub HandsTimers : HeldState → List ℕ → Result ℕ Withheld → List ℕ → Type 0
+HandsTimers h before result after = HandsText (timer_lines h.node) before result after
+
+-- what is shown of bytes, of refused ones too
+abbrev pub HandsShown : List ℕ → List ℕ → Result ℕ Withheld → List ℕ → Type 0
+HandsShown bytes before result after =
+    (text : List ℕ) × BytesText bytes text × HandsText text before result after
 
 abbrev pub HandsReason : Option ℕ → List ℕ → Result ℕ Withheld → List ℕ → Type 0
 HandsReason None before result after = IsMissing before result after

@@ -1,13 +1,14 @@
 -- A node in the hands of a program: what is kept of it, and what an event does to it.
-use Rattle.std.specs.Prelude.{◌≡◌, ℕ, false, true, List, [], Option, Some, None, Result, Ok, Err}
+use Rattle.std.specs.Prelude.{◌≡◌, ◌⊎◌, ℕ, false, true, List, [], Option, Some, None, Result, Ok, Err}
 use Rattle.std.specs.declared.alloc.Global.{Global}
 use Rattle.at_ddp.specs.Datagrams.{Posted}
-use Rattle.at_event.specs.Outcomes.{IsStep, wants_memory}
+use Rattle.at_event.specs.Outcomes.{IsStep, takes_memory, wants_memory}
+use Rattle.at_event.specs.declared.event.Timer.{Timer}
 use Rattle.at_event.specs.declared.report.Report.{Report}
 use Rattle.at_event.specs.declared.report.Report.TheVariants as report
 use Rattle.at_faults.specs.declared.fault.LineFault.{LineFault}
 use Rattle.at_faults.specs.declared.fault.LineFault.TheVariants.{NoMemory, Unlawful}
-use Rattle.at_held.specs.Lines.{Says}
+use Rattle.at_held.specs.Lines.{BeginsAsCall, Says}
 use Rattle.at_held.specs.Openings.{IsNodeOf}
 use Rattle.at_held.specs.declared.line.Line.{Line}
 use Rattle.at_held.specs.declared.line.Line.TheVariants as said
@@ -43,11 +44,18 @@ Happens S old (Ok u) new = IsTaken S old new
 Happens S old (Err e) new =
     (new ≡ old) × ((r : Report Global) × S old.node old.waiting r old.node old.waiting × (wants_memory r ≡ true))
 
+-- the line is of a call, or it says a timer whose step takes memory
+abbrev pub LacksMemory : List ℕ → NodeState → Type 0
+LacksMemory line n =
+    BeginsAsCall line
+    ⊎ ((timer : Timer) × Says n.seat.net line (said.Timer timer)
+    × (takes_memory {A = Global} (timed n timer).report ≡ true))
+
 -- The node did what the line says. If the line says nothing, or memory ran out, nothing changed.
 abbrev pub Plays : List ℕ → HeldState → Result (Unit {0}) LineFault → HeldState → Type 0
-Plays line old (Ok u) new = (told : Line) × Says line told × IsTaken (Does told) old new
-Plays line old (Err NoMemory) new = new ≡ old
-Plays line old (Err (Unlawful rule)) new = (new ≡ old) × ((told : Line) → ¬ Says line told)
+Plays line old (Ok u) new = (told : Line) × Says old.node.seat.net line told × IsTaken (Does told) old new
+Plays line old (Err NoMemory) new = (new ≡ old) × LacksMemory line old.node
+Plays line old (Err (Unlawful rule)) new = (new ≡ old) × ((told : Line) → ¬ Says old.node.seat.net line told)
 
 -- the number of the refusal, if the last event was refused
 abbrev pub refusal_of : Option (Report Global) → Option ℕ

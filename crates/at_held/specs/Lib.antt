@@ -4,3 +4,5 @@ pub mod Held
 pub mod Lines
 pub mod Openings
 pub mod Rooms
+pub mod Safety
+pub mod Waiting

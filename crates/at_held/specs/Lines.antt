@@ -1,12 +1,19 @@
 -- What a line says to a node.
 use Rattle.std.specs.Prelude.{◌≡◌, ℕ, List, ◌∷◌, codes}
-use Rattle.at_call_words.specs.Calls.{AreCall}
-use Rattle.at_call_words.specs.Timers.{AreTimer}
+use Rattle.at_call_words.specs.Calls.{AreAnyCall}
+use Rattle.at_call_words.specs.Timers.{AreAnyTimer}
 use Rattle.at_held.specs.declared.line.Line.{Line}
 use Rattle.at_held.specs.declared.line.Line.TheVariants as said
 use Rattle.at_words.specs.Words.{words_of}
 
--- the words of the line are `call` and those of a call, or `timer` and those of a timer
-abbrev pub Says : List ℕ → Line → Type 0
-Says line (said.Call call) = (ws : List (List ℕ)) × (words_of line ≡ codes "call" ∷ ws) × AreCall ws call
-Says line (said.Timer timer) = (ws : List (List ℕ)) × (words_of line ≡ codes "timer" ∷ ws) × AreTimer ws timer
+-- The words of the line are `call` and those of a call, or `timer` and those of a timer. A requester can be on any
+-- network, and is on that of the node, this one, if none is named.
+abbrev pub Says : ℕ → List ℕ → Line → Type 0
+Says net line (said.Call call) =
+    (ws : List (List ℕ)) × (words_of line ≡ codes "call" ∷ ws) × AreAnyCall net ws call
+Says net line (said.Timer timer) =
+    (ws : List (List ℕ)) × (words_of line ≡ codes "timer" ∷ ws) × AreAnyTimer net ws timer
+
+-- the first word of the line is `call`
+abbrev pub BeginsAsCall : List ℕ → Type 0
+BeginsAsCall line = (ws : List (List ℕ)) × (words_of line ≡ codes "call" ∷ ws)

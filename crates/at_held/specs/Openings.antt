@@ -1,5 +1,6 @@
 -- The opening of a node.
-use Rattle.std.specs.Prelude.{◌≡◌, ℕ, List, map, find, Option, Some, None}
+use Rattle.std.specs.Prelude.{◌≡◌, ℕ, ◌==◌, Bool, true, List, map, find, Option, Some, None}
+use Rattle.std.specs.List.{list_any}
 use Rattle.std.specs.declared.alloc.Global.{Global}
 use Rattle.at_held.specs.declared.opening.OpenFault.{OpenFault}
 use Rattle.at_held.specs.declared.opening.OpenFault.TheVariants as why
@@ -12,6 +13,16 @@ use Rattle.at_world.specs.Worlds.{is_numbered}
 -- the node of this number, if the setup has one, before anything happened
 abbrev pub node_of : Setup Global → ℕ → Option NodeState
 node_of s number = find (is_numbered number) (map (opening_node s) s.nodes)
+
+-- does the setup have a node of this number?
+abbrev pub is_set_up : Setup Global → ℕ → Bool
+is_set_up s number = list_any (λ n. n.node == number) s.nodes
+
+-- why no node of this number of a setup is opened; memory can run out only if there is one
+abbrev pub IsFaultOf : Setup Global → ℕ → OpenFault → Type 0
+IsFaultOf s number why.NoSetup = ⊥
+IsFaultOf s number why.NoNode = node_of s number ≡ None
+IsFaultOf s number why.NoMemory = is_set_up s number ≡ true
 
 -- the text is a schedule, and this is the node of the number in its setup
 abbrev pub IsNodeOf : List ℕ → ℕ → NodeState → Type 0

@@ -1,20 +1,25 @@
 //! A node, the datagrams that it sent, and what came of its last event.
-ghost use Rattle.std.specs.Prelude.{◌≡◌, ◌<◌, ◌∷◌, [], List, MatchOption, drop, length, IfErr, IfOk};
-ghost use Rattle.at_ddp.specs.Datagrams.{Posted};
+ghost use Rattle.std.specs.Prelude.{◌≡◌, [], IfErr, IfOk, OnOk, Ok};
+ghost use Rattle.at_held.specs.Handing.{HandsDatagram, HandsReport, HandsSentence, HandsTimers};
 ghost use Rattle.at_held.specs.Held.{Happens, IsOpened, Plays, refusal_in};
-ghost use Rattle.at_held.specs.Handing.{HandsDatagram, HandsReport, HandsSentence};
 ghost use Rattle.at_held.specs.Openings.{IsFault};
+ghost use Rattle.at_held.specs.Safety.{IsSafe};
+ghost use Rattle.at_node.specs.Limits.{IsWithin};
+ghost use Rattle.at_node.specs.Timers.{timers_of};
+ghost use Rattle.at_steps.specs.Safety.{IsPlaceOf, IsPlaceOfCall};
 ghost use Rattle.at_world.specs.Worlds.{Receives, Takes};
 
 use crate::line::{Line, read_line};
 use crate::opening::{OpenFault, node_of};
-use crate::room::place;
+use crate::room::{place, place_text};
+use crate::sent::Sent;
 use crate::text::{line_of, sentence_of};
+use crate::timers::timer_lines;
 use crate::withheld::Withheld;
-use at_ddp::{Datagrams, Received};
+use at_ddp::Received;
 use at_faults::LineFault;
 use at_node::{Input, Node, Report};
-use at_world::take;
+use at_steps::laws::safety::every_event_is_safe;
 use std::alloc::{AllocError, Global};
 use std::marker::Model;
 
@@ -22,21 +27,17 @@ use std::marker::Model;
 #[derive(Drop)]
 pub struct HeldNode {
     node: Node,
-    sent: Datagrams,
-    // How many of those that were sent are taken.
-    taken: usize,
+    sent: Sent,
     report: Option<Report>,
 }
 
 impl Model for HeldNode {
-    ghost use Rattle.std.specs.Prelude.{◌≤◌, drop, length};
     ghost use Rattle.at_held.specs.Held.{HeldState};
+    ghost use Rattle.at_held.specs.Waiting.{waiting_of};
 
     ghost Value = { HeldState };
 
-    ghost view = { λ h. record { node = h.node; waiting = drop h.taken h.sent.items; report = h.report } };
-
-    ghost invariant = { λ h. h.taken ≤ length h.sent.items };
+    ghost view = { λ h. record { node = h.node; waiting = waiting_of h.sent; report = h.report } };
 }
 
 impl HeldNode {
@@ -44,39 +45,66 @@ impl HeldNode {
     pub fn open(alloc: Global, setup: &[u8], number: u8) -> Result<HeldNode, OpenFault>
         ensures opened { IfOk result (IsOpened setup.now number) }
         ensures fault { IfErr result (IsFault setup.now number) }
+        ensures within { IfOk result (λ held. IsWithin held.node) }
     {
         let node = node_of(alloc, setup, number)?;
+        node.limits();
         Ok(HeldNode {
             node,
-            sent: Datagrams::new(alloc),
-            taken: 0,
+            sent: Sent::new(alloc),
             report: None,
         })
     }
 
-    /// Plays `call CALL` or `timer TIMER`, as a schedule says them of a node. Unlawful if the line says neither.
+    /// Plays `call CALL` or `timer TIMER`, as a schedule says them of a node, but with requesters of other networks as
+    /// `NET.NODE`. Unlawful if the line says neither. Only a call, or a timer whose step takes memory, can lack memory.
     pub fn play(&mut self, alloc: Global, line: &[u8]) -> Result<(), LineFault>
+        ensures played { Plays line.now self.old result self.new }
+        ensures safe { OnOk result (IsSafe IsPlaceOfCall self.old self.new) }
+        ensures within { IsWithin self.new.node }
+    {
+        every_event_is_safe::<Global>();
+        self.limits();
+        let played = self.play_line(alloc, line);
+        self.limits();
+        played
+    }
+
+    /// Takes bytes that came. A request for the service is reported, and answered later, by a call.
+    pub fn receive(&mut self, bytes: &[u8]) -> Result<(), AllocError>
+        ensures received { Happens (Receives bytes.now) self.old result self.new }
+        ensures safe { OnOk result (IsSafe (IsPlaceOf bytes.now) self.old self.new) }
+        ensures within { IsWithin self.new.node }
+    {
+        every_event_is_safe::<Global>();
+        self.limits();
+        let received = self.take(&Input::Received(&Received::of(bytes)));
+        self.limits();
+        received
+    }
+
+    // The node keeps to its limits. The body only visits it.
+    fn limits(&self)
+        ensures { IsWithin self.now.node }
+    {
+        self.node.limits();
+    }
+
+    fn play_line(&mut self, alloc: Global, line: &[u8]) -> Result<(), LineFault>
         ensures { Plays line.now self.old result self.new }
     {
-        match read_line(alloc, line)? {
+        match read_line(alloc, self.node.net(), line)? {
             Line::Call(call) => self.take(&Input::Call(&call))?,
             Line::Timer(timer) => self.take(&Input::Timer(timer))?,
         }
         Ok(())
     }
 
-    /// Takes bytes that came. A request for the service is reported, and answered later, by a call.
-    pub fn receive(&mut self, bytes: &[u8]) -> Result<(), AllocError>
-        ensures { Happens (Receives bytes.now) self.old result self.new }
-    {
-        self.take(&Input::Received(&Received::of(bytes)))
-    }
-
     // If the node is out of memory, nothing changed, and the report of the event before stays.
     fn take(&mut self, input: &Input<'_, Global>) -> Result<(), AllocError>
         ensures { Happens (Takes input.now) self.old result self.new }
     {
-        let report = take(&mut self.node, input, &mut self.sent);
+        let report = self.sent.take(&mut self.node, input);
         if let Report::NoMemory = report {
             return Err(AllocError);
         }
@@ -88,40 +116,12 @@ impl HeldNode {
     pub fn next_datagram(&mut self, alloc: Global, room: &mut [u8]) -> Result<(u8, usize), Withheld>
         ensures { HandsDatagram self.old room.old result self.new room.new }
     {
-        let Some((node, bytes)) = self.first() else {
+        let Some((node, bytes)) = self.sent.first() else {
             return Err(Withheld::Missing);
         };
         let length = place(bytes, room)?;
-        self.pass(alloc);
+        self.sent.pass(alloc);
         Ok((node, length))
-    }
-
-    // The datagram that waits for longest, and the node that it goes to.
-    fn first(&self) -> Option<(u8, &[u8])>
-        ensures { MatchOption result (self.now.waiting ≡ []) (λ first. (rest : List Posted)
-            × (self.now.waiting ≡ record { node = first.0; bytes = first.1.now } ∷ rest)) }
-    {
-        if self.taken >= self.sent.len() {
-            return None;
-        }
-        let node = self.sent.node(self.taken);
-        Some((node, self.sent.get(self.taken)))
-    }
-
-    // The memory of datagrams is freed when all of them are taken.
-    fn pass(&mut self, alloc: Global)
-        requires { 0 < length self.old.waiting }
-        ensures waiting { self.new.waiting ≡ drop 1 self.old.waiting }
-        ensures node { self.new.node ≡ self.old.node }
-        ensures report { self.new.report ≡ self.old.report }
-    {
-        let sent = self.sent.len();
-        if self.taken + 1 < sent {
-            self.taken += 1;
-        } else {
-            self.sent = Datagrams::new(alloc);
-            self.taken = 0;
-        }
     }
 
     /// Copies out the line of what came of the last event, under this number, and gives its length.
@@ -131,10 +131,16 @@ impl HeldNode {
         let Some(report) = &self.report else {
             return Err(Withheld::Missing);
         };
-        match line_of(alloc, event, report) {
-            Ok(line) => place(&line, room),
-            Err(_) => Err(Withheld::NoMemory),
-        }
+        place_text(line_of(alloc, self.node.net(), event, report), room)
+    }
+
+    /// Copies out a line for each timer that would do something now, and gives their length. A timer that is not
+    /// listed does nothing.
+    pub fn timers(&self, alloc: Global, room: &mut [u8]) -> Result<usize, Withheld>
+        ensures lines { HandsTimers self.now room.old result room.new }
+        ensures none { timers_of self.now.node ≡ [] → result ≡ Ok 0 }
+    {
+        place_text(timer_lines(alloc, &self.node), room)
     }
 
     /// The number of the refusal, if the last event was refused.

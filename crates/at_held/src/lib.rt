@@ -6,10 +6,14 @@ mod held;
 mod line;
 mod opening;
 mod room;
+mod sent;
+mod shown;
 mod text;
+mod timers;
 mod withheld;
 
 pub use held::HeldNode;
 pub use line::Line;
 pub use opening::OpenFault;
+pub use shown::show;
 pub use withheld::Withheld;

@@ -1,11 +1,12 @@
 //! The opening of a node.
-ghost use Rattle.std.specs.Prelude.{◌≡◌, map, find, IfOk, IfErr, Some};
-ghost use Rattle.at_held.specs.Openings.{IsFault, IsNodeOf};
+ghost use Rattle.std.specs.Prelude.{◌≡◌, find, IfOk, IfErr, Some};
+ghost use Rattle.at_held.specs.Openings.{IsFault, IsFaultOf, IsNodeOf, is_set_up, node_of};
 ghost use Rattle.at_world.specs.Worlds.{is_numbered};
 
 use at_faults::Fault;
 use at_node::Node;
 use at_schedule::read_setup;
+use at_setup::Setup;
 use at_world::opening_nodes;
 use std::alloc::{AllocError, Global};
 
@@ -36,14 +37,31 @@ pub(crate) fn node_of(alloc: Global, text: &[u8], number: u8) -> Result<Node, Op
     ensures fault { IfErr result (IsFault text.now number) }
 {
     let mut rest = text;
-    let setup = match read_setup(alloc, &mut rest) {
-        Ok(setup) => setup,
-        Err(Fault::Line { .. }) => return Err(OpenFault::NoSetup),
+    match read_setup(alloc, &mut rest) {
+        Ok(setup) => opened(alloc, &setup, number),
+        Err(Fault::Line { .. }) => Err(OpenFault::NoSetup),
         // Bytes in memory can always be read.
-        Err(_) => return Err(OpenFault::NoMemory),
-    };
-    let nodes = opening_nodes(alloc, &setup)?;
+        Err(_) => Err(OpenFault::NoMemory),
+    }
+}
+
+// The node of this number in a setup.
+fn opened(alloc: Global, setup: &Setup, number: u8) -> Result<Node, OpenFault>
+    ensures opened { IfOk result (λ node. node_of setup.now number ≡ Some node) }
+    ensures fault { IfErr result (IsFaultOf setup.now number) }
+{
+    if !is_set_up(setup, number) {
+        return Err(OpenFault::NoNode);
+    }
+    let nodes = opening_nodes(alloc, setup)?;
     numbered(nodes, number).ok_or(OpenFault::NoNode)
+}
+
+fn is_set_up(setup: &Setup, number: u8) -> bool
+    ensures { result ≡ is_set_up setup.now number }
+{
+    let nodes = setup.nodes.as_slice();
+    nodes.iter().any(|node| node.node == number)
 }
 
 fn numbered(nodes: Vec<Node>, number: u8) -> Option<Node>

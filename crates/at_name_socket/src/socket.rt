@@ -1,6 +1,6 @@
 //! The socket of a node for names, and the calls that only one of its tables has a part in.
 ghost use Rattle.std.specs.Prelude.{◌≡◌, ◌≢◌, ◌≤◌, ◌↔◌, ◌∷◌, [], length, find, is_some, IfOk, IfErr, IfSome, OnOk};
-ghost use Rattle.std.specs.Prelude.{OnErr, IsOk, IsSome, IsErrOf, Some, None, Err};
+ghost use Rattle.std.specs.Prelude.{OnErr, IsOk, IsSome, IsErrOf, Some, None, Err, ◌<◌, slice_get};
 ghost use Rattle.at_ddp.specs.Outbox.{Sends};
 ghost use Rattle.at_ddp.specs.Tables.{without_first};
 ghost use Rattle.at_name_socket.specs.NameSockets.{asked_by, asked_node, opening, own_zone};
@@ -115,6 +115,21 @@ impl<A: Allocator + Copy> NameSocket<A> {
         ensures { result ≡ next_id self.now.lookups }
     {
         self.lookups.next_id()
+    }
+
+    /// How many lookups are open.
+    pub fn open_count(&self) -> usize
+        ensures { result ≡ length self.now.lookups.searches }
+    {
+        self.lookups.open_count()
+    }
+
+    /// The identifier of the open lookup at a place. The one that began first has place 0.
+    pub fn id_at(&self, place: usize) -> u8
+        requires { place < length self.now.lookups.searches }
+        ensures { IfSome (slice_get self.now.lookups.searches place) (λ s. result ≡ s.id) }
+    {
+        self.lookups.id_at(place)
     }
 
     /// Begins a lookup and returns its identifier.

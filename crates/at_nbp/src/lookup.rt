@@ -148,6 +148,21 @@ impl<A: Allocator + Copy> Lookup<A> {
         Ok(())
     }
 
+    /// How many lookups are open.
+    pub fn open_count(&self) -> usize
+        ensures { result ≡ length self.now.searches }
+    {
+        self.searches.len()
+    }
+
+    /// The identifier of the open lookup at a place. The one that began first has place 0.
+    pub fn id_at(&self, place: usize) -> u8
+        requires { place < length self.now.searches }
+        ensures { IfSome (slice_get self.now.searches place) (λ s. result ≡ s.id) }
+    {
+        self.searches[place].id
+    }
+
     /// How many finds the open lookup of this identifier has.
     pub fn count(&self, id: u8) -> Result<usize, NbpFault>
         ensures { result ≡ counted (search_of self.now id) }

@@ -239,8 +239,7 @@ module _ (A : Type 0) where
   call_draws n (SetZones which names) = sets_zones n.seat n.atp n.atp.tables which names
   call_draws n (Ask node socket user bytes wanted xo retries) =
       asks n.seat n.atp (at_socket n.seat node socket) user bytes wanted xo retries (nat_lt 578 (length bytes))
-  call_draws n (Answer node socket tid packets) =
-      let key : Key = record { from = at_socket n.seat node socket; tid = tid } in
+  call_draws n (Answer key packets) =
       answers n.seat n.atp key packets (answer_fault n.atp.service_responder key packets)
   call_draws n (Pick zone) = picks n.session zone (is_listed n.session zone)
   call_draws n (Find object kind zone) =
@@ -266,8 +265,7 @@ module _ (A : Type 0) where
 
   pub timer_draws : (n : NodeState) (time : Timer) → By (timed n time) None
   timer_draws n (timer.Retry tid) = retries_some n.seat n.atp tid (retried n.atp.requester tid)
-  timer_draws n (timer.Release own node socket tid) =
-      let key : Key = record { from = at_socket n.seat node socket; tid = tid } in
+  timer_draws n (timer.Release own key) =
       expires n.seat n.atp own key (expiry_fault (find (is_key key) (records_at n.atp own)))
   timer_draws n (timer.Lookup id) = asks_again n.seat n.names (search_of n.names.lookups id)
   timer_draws n (timer.Resend id) = ticks_at n.seat n.streams tick.Retransmit (by_id n.streams id)

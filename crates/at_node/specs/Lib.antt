@@ -11,5 +11,6 @@ pub mod RequesterSocket
 pub mod Responders
 pub mod ServiceSocket
 pub mod SessionCalls
+pub mod Timers
 pub mod ZoneReading
 pub mod ZoneSocket

@@ -82,8 +82,7 @@ called n (Zones which) = over (with_atp n) (zones_called n.seat n.atp which n.se
 called n (SetZones which names) = over (with_atp n) (set_zones_called n.atp n.atp.tables which names)
 called n (Ask node socket user bytes wanted xo retries) =
     over (with_atp n) (ask_called n.seat n.atp (at_socket n.seat node socket) user bytes wanted xo retries)
-called n (Answer node socket tid packets) =
-    over (with_atp n) (answer_called n.seat n.atp (record { from = at_socket n.seat node socket; tid = tid }) packets)
+called n (Answer key packets) = over (with_atp n) (answer_called n.seat n.atp key packets)
 called n (Pick zone) = over (with_session n) (pick_called n.session zone)
 called n (Find object kind zone) =
     over (with_names n) (find_called n.seat n.names (pattern_asked n.session object kind zone))
@@ -103,8 +102,7 @@ called n (Close id) = over (with_streams n) (close_called n.seat n.streams id)
 
 abbrev pub timed : {A : Type 0} → NodeState → Timer → Outcome A NodeState
 timed n (timer.Retry tid) = over (with_atp n) (retry_fired n.seat n.atp tid (retried n.atp.requester tid))
-timed n (timer.Release own node socket tid) =
-    over (with_atp n) (release_fired n.atp own (record { from = at_socket n.seat node socket; tid = tid }))
+timed n (timer.Release own key) = over (with_atp n) (release_fired n.atp own key)
 timed n (timer.Lookup id) = over (with_names n) (lookup_fired n.seat n.names id)
 timed n (timer.Resend id) = over (with_streams n) (tick_fired n.seat n.streams id tick.Retransmit)
 timed n (timer.Probe id) = over (with_streams n) (tick_fired n.seat n.streams id tick.Probe)

@@ -15,6 +15,7 @@ mod responders;
 mod service_socket;
 mod session;
 mod settings;
+mod timers;
 mod zone_list;
 mod zone_reading;
 mod zone_socket;

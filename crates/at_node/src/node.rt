@@ -1,5 +1,5 @@
 //! A node: what it is made of, and the calls and timers that its user and its clock play.
-ghost use Rattle.std.specs.Prelude.{◌≡◌, ◌≢◌, ℕ, List, Option, false};
+ghost use Rattle.std.specs.Prelude.{◌≡◌, ◌≢◌, ℕ, Option, false};
 ghost use Rattle.at_adsp_ends.specs.Tables.{AreRooms};
 ghost use Rattle.at_event.specs.Kinds.{Adsp, Atp, Nbp, kind_of_call};
 ghost use Rattle.at_node.specs.Limits.{IsWithin};
@@ -12,7 +12,6 @@ use crate::name_part::NamePart;
 use crate::requester_socket::Question;
 use crate::settings::Settings;
 use at_adsp_ends::Tick;
-use at_atp::Key;
 use at_atp::laws::at_most_64_records_stand;
 use at_ddp::Datagrams;
 use at_event::{Call, Report, Seat, Timer};
@@ -89,6 +88,13 @@ impl<A: Allocator + Copy> Node<A> {
         self.seat.number
     }
 
+    /// The number of the network that the node is on.
+    pub fn net(&self) -> u16
+        ensures { result ≡ self.now.seat.net }
+    {
+        self.seat.net
+    }
+
     /// Plays a call by the node's user. What the node sends goes to the end of the list.
     pub fn call(&mut self, call: &Call<A>, out: &mut Datagrams<A>) -> Report<A>
         ensures { IsStep (called self.old call.now) self.old out.old.items result self.new out.new.items }
@@ -137,15 +143,8 @@ impl<A: Allocator + Copy> Node<A> {
                 };
                 self.atp.ask(self.seat, &question, out)
             }
-            Call::Answer {
-                node,
-                socket,
-                tid,
-                packets,
-            } => {
-                let from = self.seat.there(*node, *socket);
-                let key = Key { from, tid: *tid };
-                self.atp.answer(self.seat, key, packets.as_slice(), out)
+            Call::Answer { key, packets } => {
+                self.atp.answer(self.seat, *key, packets.as_slice(), out)
             }
             _ => unreachable!(),
         }
@@ -205,15 +204,7 @@ impl<A: Allocator + Copy> Node<A> {
     {
         match timer {
             Timer::Retry { tid } => self.atp.retry(self.seat, tid, out),
-            Timer::Release {
-                own,
-                node,
-                socket,
-                tid,
-            } => {
-                let from = self.seat.there(node, socket);
-                self.atp.expire(own, Key { from, tid })
-            }
+            Timer::Release { own, key } => self.atp.expire(own, key),
             Timer::Lookup { id } => self.names.ask_again(self.seat, id, out),
             Timer::Resend { id } => self.streams.tick(self.seat, id, Tick::Retransmit, out),
             Timer::Probe { id } => self.streams.tick(self.seat, id, Tick::Probe, out),

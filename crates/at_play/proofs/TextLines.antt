@@ -44,7 +44,7 @@ stops_in A all rest later line es w (stop.Event (fault.Refused r) n number which
 module _ (A : Type 0) {W : Type 0} (page : W → Page) (setup : Setup A) where
   pub text_played : (all rest later line : List ℕ) (w w' : WorldState) (a b c : Printer W) (u v z : List Bool)
       (before : Sofar A page setup w a b u v) → SaidSoFar (Some all) (Some rest) (before.0).events
-      → lines_in rest ≡ line ∷ lines_in later → TellsLine A page (is_event_line line) line w w' b c v z
+      → lines_in rest ≡ line ∷ lines_in later → TellsLine A page setup.net (is_event_line line) line w w' b c v z
       → (after : Sofar A page setup w' a c u z) × SaidSoFar (Some all) (Some later) (after.0).events
   text_played all rest later line w w' a b c u v z before said cut told =
       let after = sofar_line A page setup (is_event_line line) line w w' a b c u v z before told in (

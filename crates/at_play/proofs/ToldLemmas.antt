@@ -26,9 +26,10 @@ use Rattle.at_print.proofs.PrintLemmas.{Prints-nothing, Prints-trans}
 use Rattle.at_play.proofs.RefusalLemmas.{none_told, tells_more}
 use Rattle.at_world.specs.Plays.{opening_world}
 use Rattle.at_setup.specs.declared.setup.Setup.{Setup}
+use Rattle.std.proofs.lemmas.List.Elements.{All-nil, All-push}
 use Rattle.std.specs.Io.BufRead.{DropsThrough, first_piece}
 use Rattle.at_schedule.specs.Drafts.{HoldsSetup, IsLineFault}
-use Rattle.at_schedule.specs.Says.{SayAll, Says}
+use Rattle.at_schedule.specs.Says.{IsEventHere, SayAll, Says}
 use Rattle.at_schedule.specs.Schedules.{event_lines, is_event_line}
 use Rattle.at_play.proofs.LineLemmas.{Adds, FirstLine, SaidSoFar, next_said, none_said, reads_more}
 use Rattle.std.specs.Prelude.{◌↔◌, IsErr, IsOk, Option}
@@ -142,7 +143,14 @@ bytes_of_read why.NoMemory h = tt
 
 -- before the first event nothing is told
 abbrev opened : (A : Type 0) (setup : Setup A) → Played setup
-opened A setup = record { events = []; reports = []; world = opening_world setup; text = []; told = (refl, refl) }
+opened A setup = record {
+  events = [];
+  reports = [];
+  world = opening_world setup;
+  text = [];
+  told = (refl, refl);
+  here = All-nil (IsEventHere setup.net);
+}
 
 -- a play so far, at a world and a printer, and the refusals that were told
 abbrev pub Sofar : (A : Type 0) {W : Type 0} → (W → Page) → Setup A → WorldState → Printer W → Printer W
@@ -167,9 +175,9 @@ module _ (A : Type 0) {W : Type 0} (page : W → Page) (setup : Setup A) where
 
   -- one event more
   told_on : (w w' : WorldState) (a b c : Printer W) (x y z : List Bool) (e : Event A)
-      (before : Sofar A page setup w a b x y) → Tells page w e w' b c y z
+      (before : Sofar A page setup w a b x y) → IsEventHere setup.net e → Tells page w e w' b c y z
       → (after : Sofar A page setup w' a c x z) × ((after.0).events ≡ (before.0).events ++ e ∷ [])
-  told_on w w' a b c x y z e before t =
+  told_on w w' a b c x y z e before here t =
       let p = before.0 in
       let more : List ℕ = event_text w.events t.report w'.sent (length w.sent) in
       let told = told_more A (opening_world setup) p.events p.reports w p.text e t.report w'
@@ -182,6 +190,7 @@ module _ (A : Type 0) {W : Type 0} (page : W → Page) (setup : Setup A) where
             world = w';
             text = p.text ++ more;
             told = told;
+            here = All-push (IsEventHere setup.net) p.events e p.here here;
           },
           refl,
           Prints-trans page a b c p.text more before.2 t.printed,
@@ -192,9 +201,9 @@ module _ (A : Type 0) {W : Type 0} (page : W → Page) (setup : Setup A) where
 
   -- one line more
   pub sofar_line : (has_event : Bool) (line : List ℕ) (w w' : WorldState) (a b c : Printer W) (x y z : List Bool)
-      (before : Sofar A page setup w a b x y) → TellsLine A page has_event line w w' b c y z
+      (before : Sofar A page setup w a b x y) → TellsLine A page setup.net has_event line w w' b c y z
       → (after : Sofar A page setup w' a c x z) × Adds has_event line (before.0).events (after.0).events
-  sofar_line true line w w' a b c x y z before (e, says, t) = let after = told_on w w' a b c x y z e before t in
+  sofar_line true line w w' a b c x y z before (e, says, here, t) = let after = told_on w w' a b c x y z e before here t in
       (after.0, (e, says, after.1))
   sofar_line false line w w' a b c x y z before h = (
     (
@@ -223,7 +232,7 @@ module _ (A : Type 0) {W : Type 0} (page : W → Page) (setup : Setup A) where
       → (line : List ℕ) (first known new : Option (List ℕ)) (w w' : WorldState) (a b c : Printer W)
       (u v z : List Bool) (before : Sofar A page setup w a b u v) → SaidSoFar first known (before.0).events
       → IfSome known (λ xs. (0 < length xs) × (line ≡ first_piece 10 xs)) → DropsThrough known new 10
-      → TellsLine A page (is_event_line line) line w w' b c v z
+      → TellsLine A page setup.net (is_event_line line) line w w' b c v z
       → (after : Sofar A page setup w' a c u z) × SaidSoFar first new (after.0).events
   line_played law line first known new w w' a b c u v z before said piece drops told =
       let after = sofar_line (is_event_line line) line w w' a b c u v z before told in (

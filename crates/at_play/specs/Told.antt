@@ -1,6 +1,7 @@
 -- What is printed of a play: each event that was played, in its order.
 use Rattle.std.specs.Prelude.{◌≡◌, ℕ, Bool, true, false, List, [], ◌∷◌, ◌++◌, length, IfSome, Option}
 use Rattle.std.specs.Prelude.{Result, Ok, Err}
+use Rattle.std.specs.List.{All}
 use Rattle.at_event.specs.declared.report.Report.{Report}
 use Rattle.at_setup.specs.declared.event.Event.{Event}
 use Rattle.at_setup.specs.declared.refusal.Fault.{Fault as WorldFault}
@@ -14,7 +15,7 @@ use Rattle.at_print.specs.Printers.{Prints}
 use Rattle.at_diagnostics.specs.Stops.{IsOfReading}
 use Rattle.at_play.specs.Refusals.{TellsRefusals}
 use Rattle.at_play.specs.Sent.{event_text}
-use Rattle.at_schedule.specs.Says.{SayAll, Says}
+use Rattle.at_schedule.specs.Says.{IsEventHere, SayAll, Says}
 use Rattle.at_schedule.specs.Schedules.{event_lines, is_event_line}
 use Rattle.at_print.specs.declared.printer.Printer.{Printer}
 use Rattle.at_diagnostics.specs.declared.stop.Stop.{Stop}
@@ -40,12 +41,13 @@ pub record Tells {A W : Type 0} (page : W → Page) (w : WorldState) (e : Event 
   pub printed : Prints page old new (event_text w.events report w'.sent (length w.sent))
   pub told : TellsRefusals before after (report ∷ [])
 
--- a line that is no event changes nothing, and the event that any other says is played and printed
-abbrev pub TellsLine : (A : Type 0) {W : Type 0} → (W → Page) → Bool → List ℕ → WorldState → WorldState
+-- A line that is no event changes nothing. The event that any other says is played and printed, and a requester that
+-- it names is on this network.
+abbrev pub TellsLine : (A : Type 0) {W : Type 0} → (W → Page) → ℕ → Bool → List ℕ → WorldState → WorldState
     → Printer W → Printer W → List Bool → List Bool → Type 0
-TellsLine A page true line w w' old new before after =
-    (e : Event A) × Says line e × Tells page w e w' old new before after
-TellsLine A page false line w w' old new before after = (w' ≡ w) × (new ≡ old) × (after ≡ before)
+TellsLine A page net true line w w' old new before after =
+    (e : Event A) × Says line e × IsEventHere net e × Tells page w e w' old new before after
+TellsLine A page net false line w w' old new before after = (w' ≡ w) × (new ≡ old) × (after ≡ before)
 
 -- an event was not played, and this is why
 pub record IsStopped {A : Type 0} (w : WorldState) (e : Event A) (w' : WorldState) (s : Stop) : Type 0 where
@@ -55,13 +57,15 @@ pub record IsStopped {A : Type 0} (w : WorldState) (e : Event A) (w' : WorldStat
   pub says : s ≡ stop.Event fault w.events line which
   pub faulty : IsFault w e fault w'
 
--- events that were played in their order from the opening world on, one report each, and what is printed of them
+-- Events that were played in their order from the opening world on, one report each, and what is printed of them. The
+-- requesters that they name are on the setup's network.
 pub record Played {A : Type 0} (setup : Setup A) : Type 0 where
   pub events : List (Event A)
   pub reports : List (Report A)
   pub world : WorldState
   pub text : List ℕ
   pub told : Told (opening_world setup) events reports world text
+  pub here : All (IsEventHere setup.net) events
 
 -- the first event lines of a schedule say these events
 abbrev pub BeginsWith : {A : Type 0} → List ℕ → List (Event A) → Type 0

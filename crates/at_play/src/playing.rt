@@ -57,21 +57,22 @@ fn play_all<A: Allocator + Copy, R: Read, W: Paper, E: Paper>(
     let Ok(mut world) = World::open(alloc, setup) else {
         return Err(Stop::no_memory(0, 0));
     };
-    let played = play_in(alloc, &mut world, reader, printer, diagnostics);
+    let played = play_in(alloc, &mut world, setup.net, reader, printer, diagnostics);
     // By this call. Wherever a world ends without one, its end is proved anew.
     drop(world);
     played
 }
 
-// Plays what a reader gives, in a world that was opened.
+// Plays what a reader gives, in a world of network `net` that was opened.
 fn play_in<A: Allocator + Copy, R: Read, W: Paper, E: Paper>(
     alloc: A,
     world: &mut World<A>,
+    net: u16,
     reader: &mut R,
     printer: &mut Printer<W>,
     diagnostics: &mut Diagnostics<'_, E>,
 ) -> Result<(), Stop>
-    ensures told { (setup : Said A) → world.old ≡ opening_world setup → (p : Played setup)
+    ensures told { (setup : Said A) → world.old ≡ opening_world setup → net ≡ setup.net → (p : Played setup)
         × Prints W.page printer.old printer.new p.text × IsWhole A (R.remaining reader.old) result p
         × TellsRefusals (told_by diagnostics.old) (told_by diagnostics.new) p.reports }
 {
@@ -88,7 +89,7 @@ fn play_in<A: Allocator + Copy, R: Read, W: Paper, E: Paper>(
         if !more {
             return Ok(());
         }
-        play_line(world, &mut draft, number, &line, printer, diagnostics)?;
+        play_line(world, &mut draft, net, number, &line, printer, diagnostics)?;
     }
     // No text has so many lines.
     Err(Stop::Text(Fault::Unreadable(Unreadable::Failed)))
@@ -118,18 +119,19 @@ fn read_line<A: Allocator, R: BufRead>(
 fn play_line<A: Allocator + Copy, W: Paper, E: Paper>(
     world: &mut World<A>,
     draft: &mut Draft<A>,
+    net: u16,
     number: usize,
     line: &[u8],
     printer: &mut Printer<W>,
     diagnostics: &mut Diagnostics<'_, E>,
 ) -> Result<(), Stop>
-    ensures told { OnOk result (TellsLine A W.page (is_event_line line.now) line.now world.old world.new
+    ensures told { OnOk result (TellsLine A W.page net (is_event_line line.now) line.now world.old world.new
         printer.old printer.new (told_by diagnostics.old) (told_by diagnostics.new)) }
     ensures stopped { IfErr result
         (λ stop. (printer.new ≡ printer.old) × (told_by diagnostics.new ≡ told_by diagnostics.old)
         × StopsLine A line.now world.old stop) }
 {
-    match draft.take_line(line) {
+    match draft.take_line(net, line) {
         Ok(Some(event)) => play_event(world, &event, number, printer, diagnostics),
         Ok(None) => Ok(()),
         Err(LineFault::NoMemory) => Err(Stop::no_memory(world.played(), number)),

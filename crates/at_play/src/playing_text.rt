@@ -57,21 +57,22 @@ fn play_each<A: Allocator + Copy, W: Paper, E: Paper>(
     let Ok(mut world) = World::open(alloc, setup) else {
         return Err(Stop::no_memory(0, 0));
     };
-    let played = play_in(alloc, &mut world, text, printer, diagnostics);
+    let played = play_in(alloc, &mut world, setup.net, text, printer, diagnostics);
     drop(world);
     played
 }
 
-// Plays a text in a world that was opened.
+// Plays a text in a world of network `net` that was opened.
 fn play_in<A: Allocator + Copy, W: Paper, E: Paper>(
     alloc: A,
     world: &mut World<A>,
+    net: u16,
     text: &[u8],
     printer: &mut Printer<W>,
     diagnostics: &mut Diagnostics<'_, E>,
 ) -> Result<(), Stop>
     requires { (setup : Said A) × HoldsSetup (Some text.now) setup }
-    ensures told { (setup : Said A) → world.old ≡ opening_world setup → (p : Played setup)
+    ensures told { (setup : Said A) → world.old ≡ opening_world setup → net ≡ setup.net → (p : Played setup)
         × Prints W.page printer.old printer.new p.text × IsWhole A (Some text.now) result p
         × TellsRefusals (told_by diagnostics.old) (told_by diagnostics.new) p.reports }
     ensures playing { IfErr result IsOfPlaying }
@@ -82,7 +83,7 @@ fn play_in<A: Allocator + Copy, W: Paper, E: Paper>(
     while !rest.is_empty() {
         number = number.saturating_add(1);
         let (line, later) = cut_line(rest);
-        take_line(world, &mut draft, number, line, printer, diagnostics)?;
+        take_line(world, &mut draft, net, number, line, printer, diagnostics)?;
         rest = later;
     }
     Ok(())
@@ -92,13 +93,14 @@ fn play_in<A: Allocator + Copy, W: Paper, E: Paper>(
 fn take_line<A: Allocator + Copy, W: Paper, E: Paper>(
     world: &mut World<A>,
     draft: &mut Draft<A>,
+    net: u16,
     number: usize,
     line: &[u8],
     printer: &mut Printer<W>,
     diagnostics: &mut Diagnostics<'_, E>,
 ) -> Result<(), Stop>
     requires { (lines : List (List ℕ)) × IsRead A lines draft.old × BeginSchedule A (lines ++ line.now ∷ []) }
-    ensures told { OnOk result (TellsLine A W.page (is_event_line line.now) line.now world.old world.new
+    ensures told { OnOk result (TellsLine A W.page net (is_event_line line.now) line.now world.old world.new
         printer.old printer.new (told_by diagnostics.old) (told_by diagnostics.new)) }
     ensures taken { OnOk result ((lines : List (List ℕ)) → IsRead A lines draft.old
         → IsRead A (lines ++ line.now ∷ []) draft.new) }
@@ -107,7 +109,7 @@ fn take_line<A: Allocator + Copy, W: Paper, E: Paper>(
         × StopsLine A line.now world.old stop) }
     ensures playing { IfErr result IsOfPlaying }
 {
-    match draft.take_line(line) {
+    match draft.take_line(net, line) {
         Ok(Some(event)) => play_event(world, &event, number, printer, diagnostics),
         Ok(None) => Ok(()),
         Err(LineFault::NoMemory) => Err(Stop::no_memory(world.played(), number)),

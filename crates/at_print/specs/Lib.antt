@@ -4,5 +4,7 @@ pub mod NameLines
 pub mod Papers
 pub mod Printers
 pub mod Reports
+pub mod Requesters
 pub mod SegmentLines
 pub mod Statuses
+pub mod Timers

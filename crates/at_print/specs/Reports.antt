@@ -1,5 +1,5 @@
 -- What is printed of a report, and of a datagram.
-use Rattle.std.specs.Prelude.{ℕ, ◌==◌, ◌||◌, if◌then◌else◌, Bool, false, List, [], ◌∷◌, ◌++◌, codes}
+use Rattle.std.specs.Prelude.{ℕ, ◌==◌, ◌||◌, if◌then◌else◌, Bool, false, List, [], ◌∷◌, ◌++◌, None, codes}
 use Rattle.std.specs.List.{flat_map}
 use Rattle.std.specs.Char.{is_ascii_alphanumeric}
 use Rattle.std.specs.Fmt.{decimal}
@@ -12,6 +12,7 @@ use Rattle.at_event.specs.declared.report.Report.{Report}
 use Rattle.at_event.specs.declared.report.Report.TheVariants as report
 use Rattle.at_print.specs.Items.{items_text}
 use Rattle.at_print.specs.Lines.{hex_text, pairs}
+use Rattle.at_print.specs.Requesters.{asked_by, other_net}
 
 -- `-`, `_`, `.`, `=` and `*`
 abbrev pub is_sign : ℕ → Bool
@@ -53,9 +54,7 @@ packet_text p = codes " " ++ (hex_text p.user ++ (codes ":" ++ hex_text p.data_)
 
 -- who asked, under which number
 abbrev pub asked_text : Key → List ℕ
-asked_text key =
-    codes "asked " ++ (decimal (key.from).node ++ (codes " " ++ (decimal (key.from).socket
-    ++ (codes " " ++ (decimal key.tid ++ codes " ")))))
+asked_text key = asked_by None key
 
 -- the word for a list of the zones of this table
 abbrev pub table_word : Which → List ℕ
@@ -109,6 +108,15 @@ report_text report.NoMemory = codes "nomemory"
 -- the line of an event by its number, and of what it reported
 abbrev pub event_line : {A : Type 0} → ℕ → Report A → List ℕ
 event_line at r = (decimal at ++ codes " ") ++ (report_text r ++ codes "\n")
+
+-- the same on this network, of which alone a requester is named by its node alone
+abbrev pub report_text_at : {A : Type 0} → ℕ → Report A → List ℕ
+report_text_at net (report.Asked key user bytes) =
+    asked_by (other_net net (key.from).net) key ++ (hex_text user ++ (codes " " ++ hex_text bytes))
+report_text_at net other = report_text other
+
+abbrev pub event_line_at : {A : Type 0} → ℕ → ℕ → Report A → List ℕ
+event_line_at net at r = (decimal at ++ codes " ") ++ (report_text_at net r ++ codes "\n")
 
 -- the line of a datagram: its number, the node that it goes to, and its bytes
 abbrev pub datagram_line : ℕ → ℕ → List ℕ → List ℕ

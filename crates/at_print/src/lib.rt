@@ -1,4 +1,4 @@
-//! What a play prints, by a printer that keeps in mind whether a write failed: reports, datagrams and packets.
+//! What a play prints, by a printer that keeps in mind whether a write failed: reports, datagrams, packets and timers.
 #![tactic(auto)]
 
 mod digits;
@@ -10,16 +10,19 @@ mod paper;
 mod piece;
 mod print;
 mod printer;
+mod requesters;
 mod segment_lines;
 mod status;
 mod stream_reports;
 mod text_words;
+mod timers;
 
 pub use name_lines::write_names;
 pub use packet_lines::{write_frame, write_header, write_raw};
 pub use paper::Paper;
-pub use print::{write_datagram, write_event};
+pub use print::{write_datagram, write_event, write_event_at};
 pub use printer::Printer;
 pub use segment_lines::write_segment;
 pub use status::Status;
 pub use text_words::write_text;
+pub use timers::write_timer;

@@ -4,14 +4,16 @@ ghost use Rattle.std.specs.Fmt.{decimal};
 ghost use Rattle.std.specs.List.{flat_map};
 ghost use Rattle.at_print.specs.Lines.{hex_text};
 ghost use Rattle.at_print.specs.Printers.{Prints};
-ghost use Rattle.at_print.specs.Reports.{asked_text, datagram_line, event_line, packet_text, report_text};
+ghost use Rattle.at_print.specs.Reports.{datagram_line, event_line, event_line_at, packet_text, report_text};
 ghost use Rattle.at_print.specs.Reports.{table_word, zone_text};
+ghost use Rattle.at_print.specs.Requesters.{asked_by};
 
 use crate::digits::write_hex;
 use crate::name_reports::{write_found, write_taken};
 use crate::paper::Paper;
 use crate::piece::{HEAD, Piece, end_with_hex, end_with_number, end_with_pairs, end_with_word};
 use crate::printer::Printer;
+use crate::requesters::{other_net, put_key};
 use crate::stream_reports::write_stream_report;
 use crate::text_words::write_text;
 use at_atp::{Key, Packet};
@@ -31,10 +33,44 @@ pub fn write_event<A: Allocator, W: Paper>(
 )
     ensures { Prints W.page printer.old printer.new (event_line event report.now) }
 {
+    write_report(printer, beginning(event), report);
+}
+
+/// Prints the report of an event on network `net`. A requester of that network is named by its node, as by
+/// `write_event`, and one of another network by `NET.NODE`.
+pub fn write_event_at<A: Allocator, W: Paper>(
+    printer: &mut Printer<W>,
+    net: u16,
+    event: usize,
+    report: &Report<A>,
+)
+    ensures { Prints W.page printer.old printer.new (event_line_at net event report.now) }
+{
+    let line = beginning(event);
+    match report {
+        Report::Asked { key, user, data_ } => {
+            write_asked(
+                printer,
+                line,
+                other_net(net, *key),
+                *key,
+                *user,
+                data_.as_slice(),
+            )
+        }
+        _ => write_report(printer, line, report),
+    }
+}
+
+// The number of an event, with which its line begins.
+fn beginning(event: usize) -> Piece
+    ensures text { result ≡ decimal event ++ codes " " }
+    ensures short { length result ≤ HEAD }
+{
     let mut line = Piece::new();
     line.put_number(event as u64);
     line.put(b" ");
-    write_report(printer, line, report);
+    line
 }
 
 /// Prints a datagram that was sent: its number, the node that it goes to, and its bytes.
@@ -84,7 +120,7 @@ fn write_report<A: Allocator, W: Paper>(printer: &mut Printer<W>, line: Piece, r
         Report::Refused(number) => end_with_number(printer, line, b"refused ", u64::from(*number)),
         Report::NoMemory => end_with_word(printer, line, b"nomemory"),
         Report::Asked { key, user, data_ } => {
-            write_asked(printer, line, *key, *user, data_.as_slice())
+            write_asked(printer, line, None, *key, *user, data_.as_slice())
         }
         Report::Zones { which, names } => write_zones(printer, line, *which, names.as_slice()),
         Report::Response { tid, packets } => {
@@ -99,16 +135,17 @@ fn write_report<A: Allocator, W: Paper>(printer: &mut Printer<W>, line: Piece, r
 fn write_asked<W: Paper>(
     printer: &mut Printer<W>,
     line: Piece,
+    net: Option<u16>,
     key: Key,
     user: [u8; 4],
     bytes: &[u8],
 )
     requires { length line ≤ HEAD }
     ensures { Prints W.page printer.old printer.new
-        (line ++ ((asked_text key ++ (hex_text user ++ (codes " " ++ hex_text bytes.now))) ++ codes "\n")) }
+        (line ++ ((asked_by net key ++ (hex_text user ++ (codes " " ++ hex_text bytes.now))) ++ codes "\n")) }
 {
     let mut line = line;
-    put_asked(&mut line, key);
+    put_asked(&mut line, net, key);
     printer.write_all(line.text());
     write_hex(printer, &user);
     printer.write_all(b" ");
@@ -117,16 +154,12 @@ fn write_asked<W: Paper>(
 }
 
 // Who asked, and under which number.
-fn put_asked(line: &mut Piece, key: Key)
+fn put_asked(line: &mut Piece, net: Option<u16>, key: Key)
     requires { length line.old ≤ HEAD }
-    ensures { line.new ≡ line.old ++ asked_text key }
+    ensures { line.new ≡ line.old ++ asked_by net key }
 {
     line.put(b"asked ");
-    line.put_number(u64::from(key.from.node));
-    line.put(b" ");
-    line.put_number(u64::from(key.from.socket));
-    line.put(b" ");
-    line.put_number(u64::from(key.tid));
+    put_key(line, net, key);
     line.put(b" ");
 }
 

@@ -1,7 +1,7 @@
 -- Which event a line of a schedule says.
 use Rattle.std.specs.Prelude.{◌≡◌, ℕ, true, false, List, [], ◌∷◌, Option, Some, None, codes}
-use Rattle.at_call_words.specs.Calls.{AreCall}
-use Rattle.at_call_words.specs.Timers.{AreTimer}
+use Rattle.at_call_words.specs.Calls.{AreCall, IsHere}
+use Rattle.at_call_words.specs.Timers.{AreTimer, IsTimerHere}
 use Rattle.at_event.specs.declared.event.Call.{Call}
 use Rattle.at_event.specs.declared.event.Timer.{Timer}
 use Rattle.at_setup.specs.declared.event.Event.{Event}
@@ -38,6 +38,12 @@ SaysEvent word ws (event.Forge node bytes) = (word ≡ codes "forge") × ForgeSa
 abbrev pub SaysFound : {A : Type 0} → List ℕ → List (List ℕ) → Option (Event A) → Type 0
 SaysFound word ws None = ⊥
 SaysFound word ws (Some e) = SaysEvent word ws e
+
+-- a requester that the event names is on this network
+abbrev pub IsEventHere : {A : Type 0} → ℕ → Event A → Type 0
+IsEventHere net (event.Call node c) = IsHere net c
+IsEventHere net (event.Timer node t) = IsTimerHere net t
+IsEventHere net other = Unit {0}
 
 -- the words say this event
 abbrev pub AreEvent : {A : Type 0} → List (List ℕ) → Event A → Type 0

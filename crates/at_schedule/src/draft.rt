@@ -1,11 +1,11 @@
 //! A schedule of which some lines are read.
-ghost use Rattle.std.specs.Prelude.{◌≡◌, ◌⊎◌, ◌↔◌, ◌++◌, ◌∷◌, [], List, ℕ, false, true, Some, IfOk, OnErr, OnOk};
+ghost use Rattle.std.specs.Prelude.{◌≡◌, ◌⊎◌, ◌↔◌, ◌++◌, ◌∷◌, [], List, ℕ, false, true, Some, IfOk, IfSome, OnErr, OnOk};
 ghost use Rattle.at_call_words.specs.Readings.{IfUnlawful, IsFoundInMemory};
 ghost use Rattle.at_setup_lines.specs.Drafts.{IsDraft, IsNoSetup, Refuses, Takes, has_events};
 ghost use Rattle.at_setup_lines.specs.SetupLines.{IsSetup};
 ghost use Rattle.at_setup.specs.declared.event.Event.{Event as Happening};
 ghost use Rattle.at_schedule.specs.Drafts.{BeginSchedule, IsRead};
-ghost use Rattle.at_schedule.specs.Says.{Reads, SaysEvent, SaysFound};
+ghost use Rattle.at_schedule.specs.Says.{IsEventHere, Reads, SaysEvent, SaysFound};
 ghost use Rattle.at_schedule.specs.Schedules.{is_event_word, is_passed_over};
 ghost use Rattle.at_words.specs.Words.{words_of};
 
@@ -44,9 +44,10 @@ impl<A: Allocator + Copy> Draft<A> {
         }
     }
 
-    /// Takes one line more, and gives its event if it has one.
-    pub fn take_line(&mut self, line: &[u8]) -> Result<Option<Event<A>>, LineFault>
+    /// Takes one line more, and gives its event if it has one. A requester that it names is on network `net`.
+    pub fn take_line(&mut self, net: u16, line: &[u8]) -> Result<Option<Event<A>>, LineFault>
         ensures reads { IfOk result (Reads line.now) }
+        ensures here { IfOk result (λ found. IfSome found (IsEventHere net)) }
         ensures taken { OnOk result ((lines : List (List ℕ)) → IsRead A lines self.old
             → IsRead A (lines ++ line.now ∷ []) self.new) }
         ensures kept { OnErr result (self.new ≡ self.old) }
@@ -62,7 +63,7 @@ impl<A: Allocator + Copy> Draft<A> {
             return Err(LineFault::Unlawful(Rule::SpacesAlone));
         };
         if is_event_word(word) {
-            self.take_event(word, words)
+            self.take_event(net, word, words)
         } else {
             match self.take_head(word, words) {
                 Ok(()) => Ok(None),
@@ -71,16 +72,22 @@ impl<A: Allocator + Copy> Draft<A> {
         }
     }
 
-    fn take_event(&mut self, word: &[u8], words: Words<'_>) -> Result<Option<Event<A>>, LineFault>
+    fn take_event(
+        &mut self,
+        net: u16,
+        word: &[u8],
+        words: Words<'_>,
+    ) -> Result<Option<Event<A>>, LineFault>
         ensures said { IfOk result (λ found. (e : Happening A) × (found ≡ Some e)
             × SaysEvent word.now (words_of words.entry.rest.now) e) }
+        ensures here { IfOk result (λ found. IfSome found (IsEventHere net)) }
         ensures taken { OnOk result ((has_events self.new ≡ true)
             × ((lines : List (List (List ℕ))) → IsDraft lines self.old → IsDraft lines self.new)) }
         ensures kept { OnErr result (self.new ≡ self.old) }
         ensures only { IfUnlawful result
             (((e : Happening A) → ¬ SaysEvent word.now (words_of words.entry.rest.now) e) ⊎ IsNoSetup A self.old) }
     {
-        let found = event_of(self.alloc, word, words);
+        let found = event_of(self.alloc, net, word, words);
         if found.is_err() {
             return found;
         }
@@ -123,19 +130,21 @@ impl<A: Allocator + Copy> Draft<A> {
 // one result to another.
 fn event_of<A: Allocator + Copy>(
     alloc: A,
+    net: u16,
     word: &[u8],
     words: Words<'_>,
 ) -> Result<Option<Event<A>>, LineFault>
-    ensures { IsFoundInMemory result (SaysFound word.now (words_of words.entry.rest.now)) }
+    ensures said { IsFoundInMemory result (SaysFound word.now (words_of words.entry.rest.now)) }
+    ensures here { IfOk result (λ found. IfSome found (IsEventHere net)) }
 {
     if word == b"call".as_slice() {
-        return call_event(alloc, words);
+        return call_event(alloc, net, words);
     }
     if word == b"deliver".as_slice() {
         return delivery_event(words);
     }
     if word == b"timer".as_slice() {
-        return timer_event(words);
+        return timer_event(net, words);
     }
     if word == b"forge".as_slice() {
         return forged_event(alloc, words);

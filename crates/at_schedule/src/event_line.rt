@@ -1,7 +1,7 @@
 //! The line of an event, after its first word.
-ghost use Rattle.std.specs.Prelude.{ℕ, codes, IfSome, IsNone};
+ghost use Rattle.std.specs.Prelude.{ℕ, codes, IfOk, IfSome, IsNone};
 ghost use Rattle.at_call_words.specs.Readings.{IsFoundInMemory};
-ghost use Rattle.at_schedule.specs.Says.{DeliverSays, SaysFound};
+ghost use Rattle.at_schedule.specs.Says.{DeliverSays, IsEventHere, SaysFound};
 ghost use Rattle.at_words.specs.Words.{words_of};
 
 use at_call_words::{call_of, data_of, timer_of};
@@ -13,13 +13,15 @@ use std::alloc::Allocator;
 /// `N` and a call.
 pub(crate) fn call_event<A: Allocator + Copy>(
     alloc: A,
+    net: u16,
     mut words: Words<'_>,
 ) -> Result<Option<Event<A>>, LineFault>
-    ensures { IsFoundInMemory result (SaysFound (codes "call") (words_of words.entry.rest.now)) }
+    ensures said { IsFoundInMemory result (SaysFound (codes "call") (words_of words.entry.rest.now)) }
+    ensures here { IfOk result (λ found. IfSome found (IsEventHere net)) }
 {
     let node = words.next().ok_or(LineFault::Unlawful(Rule::Call))?;
     let node = node_number(node).ok_or(LineFault::Unlawful(Rule::Call))?;
-    match call_of(alloc, words) {
+    match call_of(alloc, net, words) {
         Ok(call) => Ok(Some(Event::Call { node, call })),
         Err(fault) => Err(fault),
     }
@@ -27,7 +29,8 @@ pub(crate) fn call_event<A: Allocator + Copy>(
 
 /// `K N`
 pub(crate) fn delivery_event<A: Allocator>(words: Words<'_>) -> Result<Option<Event<A>>, LineFault>
-    ensures { IsFoundInMemory result (SaysFound (codes "deliver") (words_of words.entry.rest.now)) }
+    ensures said { IsFoundInMemory result (SaysFound (codes "deliver") (words_of words.entry.rest.now)) }
+    ensures here { (net : ℕ) → IfOk result (λ found. IfSome found (IsEventHere net)) }
 {
     match delivery(words) {
         Some((which, node)) => Ok(Some(Event::Deliver { which, node })),
@@ -48,13 +51,19 @@ fn delivery(mut words: Words<'_>) -> Option<(u64, u8)>
 }
 
 /// `N` and a timer.
-pub(crate) fn timer_event<A: Allocator>(mut words: Words<'_>) -> Result<Option<Event<A>>, LineFault>
-    ensures { IsFoundInMemory result (SaysFound (codes "timer") (words_of words.entry.rest.now)) }
+pub(crate) fn timer_event<A: Allocator>(
+    net: u16,
+    mut words: Words<'_>,
+) -> Result<Option<Event<A>>, LineFault>
+    ensures said { IsFoundInMemory result (SaysFound (codes "timer") (words_of words.entry.rest.now)) }
+    ensures here { IfOk result (λ found. IfSome found (IsEventHere net)) }
 {
     let node = words.next().ok_or(LineFault::Unlawful(Rule::Timer))?;
     let node = node_number(node).ok_or(LineFault::Unlawful(Rule::Timer))?;
-    let timer = timer_of(words)?;
-    Ok(Some(Event::Timer { node, timer }))
+    match timer_of(net, words) {
+        Ok(timer) => Ok(Some(Event::Timer { node, timer })),
+        Err(rule) => Err(LineFault::Unlawful(rule)),
+    }
 }
 
 /// `N HEX`
@@ -62,7 +71,8 @@ pub(crate) fn forged_event<A: Allocator>(
     alloc: A,
     mut words: Words<'_>,
 ) -> Result<Option<Event<A>>, LineFault>
-    ensures { IsFoundInMemory result (SaysFound (codes "forge") (words_of words.entry.rest.now)) }
+    ensures said { IsFoundInMemory result (SaysFound (codes "forge") (words_of words.entry.rest.now)) }
+    ensures here { (net : ℕ) → IfOk result (λ found. IfSome found (IsEventHere net)) }
 {
     let node = words.next().ok_or(LineFault::Unlawful(Rule::Forge))?;
     let node = node_number(node).ok_or(LineFault::Unlawful(Rule::Forge))?;

@@ -71,6 +71,13 @@ impl<A: Allocator + Copy> SetupDraft<A> {
         }
     }
 
+    /// The network, once its line is read.
+    pub fn net(&self) -> u16
+        ensures { result ≡ self.now.net }
+    {
+        self.net
+    }
+
     /// The nodes so far.
     pub fn nodes(&self) -> &[NodeSetup]
         ensures { result.now ≡ self.now.nodes }
@@ -86,6 +93,7 @@ impl<A: Allocator + Copy> SetupDraft<A> {
             → Refuses A self.old (word.now ∷ words_of words.entry.rest.now)) }
         ensures early { OnOk result (has_events self.new ≡ false) }
         ensures late { has_events self.old ≡ true → IsErr result }
+        ensures net { self.old.stage ≢ Stage.Net → self.new.net ≡ self.old.net }
     {
         if is_word(word, b"net") {
             self.take_net(words)
@@ -108,6 +116,7 @@ impl<A: Allocator + Copy> SetupDraft<A> {
             → Refuses A self.old (codes "net" ∷ words_of words.entry.rest.now)) }
         ensures early { OnOk result (has_events self.new ≡ false) }
         ensures late { has_events self.old ≡ true → IsErr result }
+        ensures net { self.old.stage ≢ Stage.Net → self.new.net ≡ self.old.net }
     {
         let net = net_of(words).ok_or(LineFault::Unlawful(Rule::Net))?;
         match self.stage {
@@ -128,6 +137,7 @@ impl<A: Allocator + Copy> SetupDraft<A> {
             → Refuses A self.old (codes "node" ∷ words_of words.entry.rest.now)) }
         ensures early { OnOk result (has_events self.new ≡ false) }
         ensures late { has_events self.old ≡ true → IsErr result }
+        ensures net { self.old.stage ≢ Stage.Net → self.new.net ≡ self.old.net }
     {
         let node = node_of(words).ok_or(LineFault::Unlawful(Rule::Node))?;
         match self.stage {
@@ -152,6 +162,7 @@ impl<A: Allocator + Copy> SetupDraft<A> {
             → Refuses A self.old (codes "zones" ∷ words_of words.entry.rest.now)) }
         ensures early { OnOk result (has_events self.new ≡ false) }
         ensures late { has_events self.old ≡ true → IsErr result }
+        ensures net { self.old.stage ≢ Stage.Net → self.new.net ≡ self.old.net }
     {
         match self.stage {
             Stage::Net => return Err(LineFault::Unlawful(Rule::NetFirst)),
@@ -175,6 +186,7 @@ impl<A: Allocator + Copy> SetupDraft<A> {
             → Refuses A self.old (codes "local" ∷ words_of words.entry.rest.now)) }
         ensures early { OnOk result (has_events self.new ≡ false) }
         ensures late { has_events self.old ≡ true → IsErr result }
+        ensures net { self.old.stage ≢ Stage.Net → self.new.net ≡ self.old.net }
     {
         match self.stage {
             Stage::Net => return Err(LineFault::Unlawful(Rule::NetFirst)),
@@ -196,6 +208,7 @@ impl<A: Allocator + Copy> SetupDraft<A> {
         ensures kept { OnErr result (self.new ≡ self.old) }
         ensures only { OnErr result (IsNoSetup A self.old) }
         ensures rule { IfErr result (λ rule. rule ≡ event_rule self.old.stage) }
+        ensures net { self.new.net ≡ self.old.net }
     {
         match self.stage {
             Stage::Net => return Err(Rule::NetFirst),
@@ -215,6 +228,7 @@ impl<A: Allocator + Copy> SetupDraft<A> {
         ensures said { IfOk result (λ s. (lines : List (List (List ℕ))) → IsDraft lines self → IsSetup lines s) }
         ensures only { OnErr result (IsNoSetup A self) }
         ensures rule { IfErr result (λ rule. rule ≡ end_rule self.net) }
+        ensures net { IfOk result (λ s. s.net ≡ self.net) }
     {
         let SetupDraft {
             net,

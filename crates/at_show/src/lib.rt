@@ -1,4 +1,4 @@
-//! The showing of one datagram, which is given in hexadecimal digits.
+//! The showing of one datagram, which is given as bytes or in hexadecimal digits.
 #![tactic(auto)]
 
 mod hex_reason;
@@ -6,4 +6,4 @@ mod show;
 mod show_names;
 mod show_segment;
 
-pub use show::show_text;
+pub use show::{show_bytes, show_text};

@@ -42,9 +42,27 @@ pub fn show_text<A: Allocator, W: Paper, E: Paper>(
         → diagnostics.new ≡ diagnostics.old }
 {
     let status = match bytes_of(word, room) {
-        Ok(()) => show_bytes(room.as_slice(), printer, diagnostics),
+        Ok(()) => show_first(room.as_slice(), printer, diagnostics),
         Err(fault) => show_fault(fault, word, printer, diagnostics),
     };
+    printer.finish(status)
+}
+
+/// The same of bytes, in the place of a word that spells them.
+pub fn show_bytes<W: Paper, E: Paper>(
+    bytes: &[u8],
+    printer: &mut Printer<W>,
+    diagnostics: &mut Diagnostics<'_, E>,
+) -> Status
+    // It fails only if the bytes are refused, or a write failed.
+    ensures done { (result ≡ Status.Done) ↔ (IsSound bytes.now × ¬ HasFailed printer.new) }
+    ensures printed { (text : List ℕ) × BytesText bytes.now text × Prints W.page printer.old printer.new text }
+    ensures told { (IsSound bytes.now × (diagnostics.new ≡ diagnostics.old))
+        ⊎ ((reason : List ℕ) × (number : Option ℕ)
+        × TellsLine E.page (reason_told reason number) diagnostics.old diagnostics.new) }
+    ensures silent { IsSound bytes.now → diagnostics.new ≡ diagnostics.old }
+{
+    let status = show_first(bytes, printer, diagnostics);
     printer.finish(status)
 }
 
@@ -72,7 +90,8 @@ fn show_fault<W: Paper, E: Paper>(
     Status::Failed
 }
 
-fn show_bytes<W: Paper, E: Paper>(
+// The datagram with which the bytes begin.
+fn show_first<W: Paper, E: Paper>(
     bytes: &[u8],
     printer: &mut Printer<W>,
     diagnostics: &mut Diagnostics<'_, E>,

@@ -156,14 +156,14 @@ call_of_atp A n (Ask node socket user bytes wanted xo retries) h = record {
   its = asking_bytes A (Ask node socket user bytes wanted xo retries) n.atp n.seat
       (at_socket n.seat node socket) user bytes wanted xo retries (nat_lt 578 (length bytes));
 }
-call_of_atp A n (Answer node socket tid packets) h = record {
-  part = answer_called n.seat n.atp (record { from = at_socket n.seat node socket; tid = tid }) packets;
+call_of_atp A n (Answer key packets) h = record {
+  part = answer_called n.seat n.atp key packets;
   kept = n.session;
   is = refl;
   keeps = refl;
-  its = answering A (Answer node socket tid packets) n.atp n.seat
-      (record { from = at_socket n.seat node socket; tid = tid }) packets
-      (answer_fault n.atp.service_responder (record { from = at_socket n.seat node socket; tid = tid }) packets);
+  its = answering A (Answer key packets) n.atp n.seat
+      key packets
+      (answer_fault n.atp.service_responder key packets);
 }
 call_of_atp A n (Pick zone) h = absurd (true≢false (sym h))
 call_of_atp A n (Find object kind _) h = absurd (true≢false (sym h))
@@ -199,11 +199,11 @@ module _ (A : Type 0) (a : AtpState) where
   firing s tid None = timer_refused (timer.Retry tid) (atp.number_of NoSuch)
   firing s tid (Some r) = retrying s tid r r.step
 
-  expiring : (own node socket tid : ℕ) (key : Key) (o : Option AtpFault)
-      → IsOfTransactions A (Fires (timer.Release own node socket tid)) (expired a own key o)
-  expiring own node socket tid key (Some fault) =
-      timer_refused (timer.Release own node socket tid) (atp.number_of fault)
-  expiring own node socket tid key None = (tt, tt)
+  expiring : (own : ℕ) (key : Key) (o : Option AtpFault)
+      → IsOfTransactions A (Fires (timer.Release own key)) (expired a own key o)
+  expiring own key (Some fault) =
+      timer_refused (timer.Release own key) (atp.number_of fault)
+  expiring own key None = (tt, tt)
 
 pub timer_of_atp : (A : Type 0) (n : NodeState) (time : Timer) → is_atp (kind_of_timer time) ≡ true
     → ComesOfAtp A n (Fires time) (timed n time)
@@ -214,13 +214,13 @@ timer_of_atp A n (timer.Retry tid) h = record {
   keeps = refl;
   its = firing A n.atp n.seat tid (retried n.atp.requester tid);
 }
-timer_of_atp A n (timer.Release own node socket tid) h = record {
-  part = release_fired n.atp own (record { from = at_socket n.seat node socket; tid = tid });
+timer_of_atp A n (timer.Release own key) h = record {
+  part = release_fired n.atp own key;
   kept = n.session;
   is = refl;
   keeps = refl;
-  its = expiring A n.atp own node socket tid (record { from = at_socket n.seat node socket; tid = tid })
-      (expiry_fault (find (is_key (record { from = at_socket n.seat node socket; tid = tid })) (records_at n.atp own)));
+  its = expiring A n.atp own key
+      (expiry_fault (find (is_key key) (records_at n.atp own)));
 }
 timer_of_atp A n (timer.Lookup id) h = absurd (true≢false (sym h))
 timer_of_atp A n (timer.Resend id) h = absurd (true≢false (sym h))

@@ -118,7 +118,7 @@ pub call_of_names : (A : Type 0) (n : NodeState) (call : Call A) → is_nbp (kin
 call_of_names A n (Zones kind) h = absurd (true≢false (sym h))
 call_of_names A n (SetZones kind names) h = absurd (true≢false (sym h))
 call_of_names A n (Ask node socket user bytes wanted xo retries) h = absurd (true≢false (sym h))
-call_of_names A n (Answer node socket tid packets) h = absurd (true≢false (sym h))
+call_of_names A n (Answer key packets) h = absurd (true≢false (sym h))
 call_of_names A n (Pick zone) h = absurd (true≢false (sym h))
 call_of_names A n (Find object kind zone) h = record {
   part = find_called n.seat n.names (pattern_asked n.session object kind zone);
@@ -174,7 +174,7 @@ asked A s n id (Some search) = ((refl, tt), (tt, tt))
 pub timer_of_names : (A : Type 0) (n : NodeState) (time : Timer) → is_nbp (kind_of_timer time) ≡ true
     → ComesOfNames A n (Fires time) (timed n time)
 timer_of_names A n (timer.Retry tid) h = absurd (true≢false (sym h))
-timer_of_names A n (timer.Release own node socket tid) h = absurd (true≢false (sym h))
+timer_of_names A n (timer.Release own key) h = absurd (true≢false (sym h))
 timer_of_names A n (timer.Lookup id) h =
     record {
       part = lookup_fired n.seat n.names id;

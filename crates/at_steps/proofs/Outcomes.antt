@@ -89,7 +89,7 @@ module _ (A : Type 0) (n : NodeState) where
   call_comes (SetZones kind names) = call_of_atp A n (SetZones kind names) refl
   call_comes (Ask node socket user bytes wanted xo retries) =
       call_of_atp A n (Ask node socket user bytes wanted xo retries) refl
-  call_comes (Answer node socket tid packets) = call_of_atp A n (Answer node socket tid packets) refl
+  call_comes (Answer key packets) = call_of_atp A n (Answer key packets) refl
   call_comes (Pick zone) = picking_comes (is_listed n.session zone) refl
     where
       picking_comes : (b : Bool) → is_listed n.session zone ≡ b
@@ -127,7 +127,7 @@ module _ (A : Type 0) (n : NodeState) where
 
   pub timer_comes : (time : Timer) → Comes A n (Fires time) (timed n time) (kind_of_timer time)
   timer_comes (timer.Retry tid) = timer_of_atp A n (timer.Retry tid) refl
-  timer_comes (timer.Release own node socket tid) = timer_of_atp A n (timer.Release own node socket tid) refl
+  timer_comes (timer.Release own key) = timer_of_atp A n (timer.Release own key) refl
   timer_comes (timer.Lookup id) = timer_of_names A n (timer.Lookup id) refl
   timer_comes (timer.Resend id) = timer_of_streams A n (timer.Resend id) refl
   timer_comes (timer.Probe id) = timer_of_streams A n (timer.Probe id) refl

@@ -172,7 +172,7 @@ pub call_of_streams : (A : Type 0) (n : NodeState) (call : Call A) → is_adsp (
 call_of_streams A n (Zones kind) h = absurd (true≢false (sym h))
 call_of_streams A n (SetZones kind names) h = absurd (true≢false (sym h))
 call_of_streams A n (Ask node socket user bytes wanted xo retries) h = absurd (true≢false (sym h))
-call_of_streams A n (Answer node socket tid packets) h = absurd (true≢false (sym h))
+call_of_streams A n (Answer key packets) h = absurd (true≢false (sym h))
 call_of_streams A n (Pick zone) h = absurd (true≢false (sym h))
 call_of_streams A n (Find object kind _) h = absurd (true≢false (sym h))
 call_of_streams A n (Claim object kind socket) h = absurd (true≢false (sym h))
@@ -237,7 +237,7 @@ call_of_streams A n (Close id) h = record {
 pub timer_of_streams : (A : Type 0) (n : NodeState) (time : Timer) → is_adsp (kind_of_timer time) ≡ true
     → ComesOfStreams A n (Fires time) (timed n time)
 timer_of_streams A n (timer.Retry tid) h = absurd (true≢false (sym h))
-timer_of_streams A n (timer.Release own node socket tid) h = absurd (true≢false (sym h))
+timer_of_streams A n (timer.Release own key) h = absurd (true≢false (sym h))
 timer_of_streams A n (timer.Lookup id) h = absurd (true≢false (sym h))
 timer_of_streams A n (timer.Resend id) h = record {
   part = calls.tick_fired n.seat n.streams id tick.Retransmit;

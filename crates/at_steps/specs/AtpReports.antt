@@ -34,9 +34,9 @@ began_under net number act r key = false
 
 -- the release timer removed the record of this key at one of the node's responders
 abbrev pub expired_at : {A : Type 0} → ℕ → ℕ → Act A → Report A → Address → Key → Bool
-expired_at net number (Fires (timer.Release own k socket tid)) report.Expired at key =
+expired_at net number (Fires (timer.Release own k)) report.Expired at key =
     same_address (record { net = net; node = number; socket = own }) at
-    && same_key (record { from = record { net = net; node = k; socket = socket }; tid = tid }) key
+    && same_key k key
 expired_at net number act r at key = false
 
 -- the packet that came has this key
@@ -94,23 +94,21 @@ pub record IsPageAsked (tables : Option Tables) (n : Network) (which : ℕ) (pac
   pub page : packets ≡ page_answer (table_of table has) start
 
 -- a call gives an answer, or the router, which has these tables, answers what came by a page of one
-abbrev pub AnswersAs : {A : Type 0} → ℕ → Option Tables → Network → Happening → Act A → Report A → Type 0
-AnswersAs net tables n (Answers at key packets) act r =
-    (k : ℕ) × (socket : ℕ) × (tid : ℕ) × (count : ℕ) × (act ≡ Calls (Answer k socket tid packets))
-    × (r ≡ report.Answered count)
-    × (key ≡ record { from = record { net = net; node = k; socket = socket }; tid = tid })
-AnswersAs net tables n (Serves which packets) act r =
+abbrev pub AnswersAs : {A : Type 0} → Option Tables → Network → Happening → Act A → Report A → Type 0
+AnswersAs tables n (Answers at key packets) act r =
+    (count : ℕ) × (act ≡ Calls (Answer key packets)) × (r ≡ report.Answered count)
+AnswersAs tables n (Serves which packets) act r =
     (count : ℕ) × (act ≡ Gets which) × (r ≡ report.Served count) × IsPageAsked tables n which packets
-AnswersAs net tables n h act r = Unit {0}
+AnswersAs tables n h act r = Unit {0}
 
 -- an answer that is reported joins its transaction: that of a call, or the router's to what came
-abbrev pub Joins : {A : Type 0} → ℕ → Network → Happening → Report A → Act A → Type 0
-Joins {A} net n h (report.Answered count) (Calls (Answer k socket tid packets)) =
-    (done A n h).asked ≡ answered n.asked (record { net = net; node = k; socket = socket }) tid packets
-Joins {A} net n h (report.Served count) (Gets which) =
+abbrev pub Joins : {A : Type 0} → Network → Happening → Report A → Act A → Type 0
+Joins {A} n h (report.Answered count) (Calls (Answer key packets)) =
+    (done A n h).asked ≡ answered n.asked key.from key.tid packets
+Joins {A} n h (report.Served count) (Gets which) =
     (s : Sent) × (packet_at n.sent which ≡ Some s)
     × ((packets : List Packet) × ((done A n h).asked ≡ answered n.asked s.from (number_of s.packet) packets))
-Joins net n h r act = Unit {0}
+Joins n h r act = Unit {0}
 
 -- a packet in time came that ends the node's transaction of this number with these packets
 pub record Ends (A : Type 0) (net number : ℕ) (n : Network) (which tid : ℕ) (packets : List Packet) : Type 0 where
@@ -135,6 +133,6 @@ pub record Matches {A : Type 0} (net number : ℕ) (tables : Option Tables) (n :
   pub hands_up : (key : Key) → is_handed_up n h key ≡ handed_up_by n.sent act r key
   pub takes_in : TakesIn h act
   pub begins_as : BeginsAs h act
-  pub answers_as : AnswersAs net tables n h act r
-  pub joins : Joins net n h r act
+  pub answers_as : AnswersAs tables n h act r
+  pub joins : Joins n h r act
   pub finishes : Finishes net number n act r

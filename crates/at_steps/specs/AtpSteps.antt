@@ -55,7 +55,7 @@ is_plain (Gets which) report.Kept = true
 is_plain (Gets which) report.Released = true
 is_plain (Fires time) report.Again = true
 is_plain (Fires time) (report.Failed tid) = true
-is_plain (Fires (timer.Release own node socket tid)) report.Expired = true
+is_plain (Fires (timer.Release own key)) report.Expired = true
 is_plain act r = false
 
 -- the transactions before and after, the part before and after, what happened, and its report
@@ -117,16 +117,14 @@ pub record SetsTable {A : Type 0} (c : Change A) : Type 0 where
 
 -- the node's user answers the newest transaction of a requester under a number, which asked the node's service
 pub record GivesAnswer {A : Type 0} (net number : ℕ) (c : Change A) : Type 0 where
-  pub node : ℕ
-  pub socket : ℕ
-  pub tid : ℕ
+  pub key : Key
   pub packets : List Packet
   pub count : ℕ
-  pub act : c.act ≡ Calls (Answer node socket tid packets)
+  pub act : c.act ≡ Calls (Answer key packets)
   pub report : c.report ≡ report.Answered count
-  pub newest : Asked c.asked (record { net = net; node = node; socket = socket }) tid (serving net number)
+  pub newest : Asked c.asked key.from key.tid (serving net number)
   pub few : count ≤ length packets
-  pub asked : c.now_asked ≡ answered c.asked (record { net = net; node = node; socket = socket }) tid packets
+  pub asked : c.now_asked ≡ answered c.asked key.from key.tid packets
   pub reading : c.now.reading ≡ c.part.reading
 
 -- the router answers the newest transaction of a requester under a number, which asked it for the page

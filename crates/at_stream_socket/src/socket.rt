@@ -1,14 +1,15 @@
 //! The socket of a node for streams, with its table of ends, and how steps and refusals of ends are reported.
-ghost use Rattle.std.specs.Prelude.{◌≡◌, Some, false, option_map};
+ghost use Rattle.std.specs.Prelude.{◌≡◌, ◌<◌, Some, false, option_map, length, slice_get, IfSome};
 ghost use Rattle.std.specs.List.{AllByRecursion, list_any};
 ghost use Rattle.at_adsp_end.specs.Ends.{FitsRooms};
 ghost use Rattle.at_adsp_end.specs.Fault.{number_of};
+ghost use Rattle.at_adsp_ends.specs.Calls.{heeding};
 ghost use Rattle.at_adsp_ends.specs.Tables.{AreEnds, AreRooms, has_remote_at, next_id, no_ends};
 ghost use Rattle.at_event.specs.Outcomes.{refused_as};
 ghost use Rattle.at_event.specs.Services.{is_asked};
 ghost use Rattle.at_stream_socket.specs.Sockets.{told_by};
 
-use at_adsp_ends::{Ends, Rooms, Step, StreamFault};
+use at_adsp_ends::{Ends, Rooms, Step, StreamFault, Tick};
 use at_event::Report;
 use std::alloc::{Allocator, Global};
 use std::marker::Model;
@@ -56,6 +57,22 @@ impl<A: Allocator + Copy> StreamSocket<A> {
         ensures { result ≡ next_id self.now }
     {
         self.ends.next_id()
+    }
+
+    /// How many ends there are.
+    pub fn end_count(&self) -> usize
+        ensures { result ≡ length self.now.ends }
+    {
+        self.ends.end_count()
+    }
+
+    /// The identifier of the end at a place, if this tick would do anything there. The end that was made first has
+    /// place 0.
+    pub fn heeding_at(&self, place: usize, tick: Tick) -> Option<u16>
+        requires { place < length self.now.ends }
+        ensures { IfSome (slice_get self.now.ends place) (λ e. result ≡ heeding tick e) }
+    {
+        self.ends.heeding_at(place, tick)
     }
 
     /// Whether an end is connected to one with this identifier at a node with this number, or is about to be.

@@ -28,7 +28,7 @@ pub call_keeps_seat : (A : Type 0) (n : NodeState) (call : Call A) → KeepsSeat
 call_keeps_seat A n (Zones which) = refl
 call_keeps_seat A n (SetZones which names) = refl
 call_keeps_seat A n (Ask node socket user bytes wanted xo retries) = refl
-call_keeps_seat A n (Answer node socket tid packets) = refl
+call_keeps_seat A n (Answer key packets) = refl
 call_keeps_seat A n (Pick zone) = picking (is_listed n.session zone)
   where
     picking : (b : Bool) → KeepsSeat {A = A} n (over (with_session n) (picked_as n.session zone b))
@@ -49,7 +49,7 @@ call_keeps_seat A n (Close id) = refl
 
 pub timer_keeps_seat : (A : Type 0) (n : NodeState) (time : Timer) → KeepsSeat {A = A} n (timed n time)
 timer_keeps_seat A n (timer.Retry tid) = refl
-timer_keeps_seat A n (timer.Release own node socket tid) = refl
+timer_keeps_seat A n (timer.Release own key) = refl
 timer_keeps_seat A n (timer.Lookup id) = refl
 timer_keeps_seat A n (timer.Resend id) = refl
 timer_keeps_seat A n (timer.Probe id) = refl

@@ -170,7 +170,7 @@ Sets c m node call m' = ⊥
 
 -- a call gives this answer, and so many of its packets are sent
 abbrev pub Answers : {A : Type 0} → Cable → AtpMachine → ℕ → Call A → ℕ → AtpMachine → Type 0
-Answers c m node (Answer k socket tid packets) count m' = GivesAnswer c m node (at_net c k socket) tid packets count m'
+Answers c m node (Answer key packets) count m' = GivesAnswer c m node key.from key.tid packets count m'
 Answers c m node call count m' = ⊥
 
 -- the reports of this protocol, row by row

@@ -89,14 +89,13 @@ wanted_by net [] key = 0
 wanted_by net (x ∷ xs) key = if began_under net x.event x.report key then asks_for x.event else wanted_by net xs key
 
 -- an answer was given to it: by a node's user, or by the router, which answers what came
-abbrev pub IsGivenBy : {A : Type 0} → ℕ → List SentDatagram → Event A → Report A → Key → Type 0
-IsGivenBy net sent (event.Call node (Answer k socket tid given)) (report.Answered count) key =
-    same_key (record { from = record { net = net; node = k; socket = socket }; tid = tid }) key ≡ true
-IsGivenBy net sent (event.Deliver which node) (report.Served count) key = CameFrom sent which key
-IsGivenBy net sent e r key = ⊥
+abbrev pub IsGivenBy : {A : Type 0} → List SentDatagram → Event A → Report A → Key → Type 0
+IsGivenBy sent (event.Call node (Answer k given)) (report.Answered count) key = same_key k key ≡ true
+IsGivenBy sent (event.Deliver which node) (report.Served count) key = CameFrom sent which key
+IsGivenBy sent e r key = ⊥
 
-abbrev pub Gives : {A : Type 0} → ℕ → List SentDatagram → Key → Played A → Type 0
-Gives net sent key x = IsGivenBy net sent x.event x.report key
+abbrev pub Gives : {A : Type 0} → List SentDatagram → Key → Played A → Type 0
+Gives sent key x = IsGivenBy sent x.event x.report key
 
 -- the router's zone tables after these steps, if they were these before the first
 abbrev pub tables_after : {A : Type 0} → Tables → List (Played A) → Tables
@@ -114,30 +113,29 @@ pub record IsPageFor (sent : List SentDatagram) (tables : Tables) (which : ℕ) 
   pub page : answer ≡ page_answer (table_of table tables) start
 
 -- this answer was given to it: that of a node's user, or the page of a table that the router has
-abbrev pub GivesBy : {A : Type 0} → ℕ → List SentDatagram → Tables → Event A → Report A → Key → List Packet
+abbrev pub GivesBy : {A : Type 0} → List SentDatagram → Tables → Event A → Report A → Key → List Packet
     → Type 0
-GivesBy net sent tables (event.Call node (Answer k socket tid given)) (report.Answered count) key answer =
-    (same_key (record { from = record { net = net; node = k; socket = socket }; tid = tid }) key ≡ true)
-    × (given ≡ answer)
-GivesBy net sent tables (event.Deliver which node) (report.Served count) key answer =
+GivesBy sent tables (event.Call node (Answer k given)) (report.Answered count) key answer =
+    (same_key k key ≡ true) × (given ≡ answer)
+GivesBy sent tables (event.Deliver which node) (report.Served count) key answer =
     IsPageFor sent tables which key answer
-GivesBy net sent tables e r key answer = ⊥
+GivesBy sent tables e r key answer = ⊥
 
 -- this answer was given to it since its transaction began
 abbrev pub SomeGives : {A : Type 0} → ℕ → Tables → List SentDatagram → Key → List Packet → List (Played A)
     → Type 0
 SomeGives net tables sent key answer [] = ⊥
 SomeGives net tables sent key answer (x ∷ xs) = MatchBool (began_under net x.event x.report key) ⊥
-    (GivesBy net sent (tables_after tables xs) x.event x.report key answer ⊎ SomeGives net tables sent key answer xs)
+    (GivesBy sent (tables_after tables xs) x.event x.report key answer ⊎ SomeGives net tables sent key answer xs)
 
-abbrev pub NoneGives : {A : Type 0} → ℕ → List SentDatagram → Key → List (Played A) → Type 0
-NoneGives net sent key [] = Unit {0}
-NoneGives net sent key (x ∷ xs) = (Gives net sent key x → ⊥) × NoneGives net sent key xs
+abbrev pub NoneGives : {A : Type 0} → List SentDatagram → Key → List (Played A) → Type 0
+NoneGives sent key [] = Unit {0}
+NoneGives sent key (x ∷ xs) = (Gives sent key x → ⊥) × NoneGives sent key xs
 
-abbrev pub AtMostOneGives : {A : Type 0} → ℕ → List SentDatagram → Key → List (Played A) → Type 0
-AtMostOneGives net sent key [] = Unit {0}
-AtMostOneGives net sent key (x ∷ xs) =
-    (Gives net sent key x → NoneGives net sent key xs) × AtMostOneGives net sent key xs
+abbrev pub AtMostOneGives : {A : Type 0} → List SentDatagram → Key → List (Played A) → Type 0
+AtMostOneGives sent key [] = Unit {0}
+AtMostOneGives sent key (x ∷ xs) =
+    (Gives sent key x → NoneGives sent key xs) × AtMostOneGives sent key xs
 
 -- ---- plays in which no request outlives its record
 
@@ -184,7 +182,7 @@ EndsBy net tables sent e r past = Unit {0}
 -- it was delivered at most once since its transaction began, and answered at most once
 abbrev pub RanOnce : {A : Type 0} → ℕ → List SentDatagram → List (Played A) → Key → Type 0
 RanOnce net sent past key =
-    AtMostOneHandsUp sent key (since net past key) × AtMostOneGives net sent key (since net past key)
+    AtMostOneHandsUp sent key (since net past key) × AtMostOneGives sent key (since net past key)
 
 -- At each moment, each exactly-once request was delivered and answered at most once since its transaction began. If the
 -- transaction ended with a response, it was delivered once, and the response is of the one answer that was given to it.

@@ -1,6 +1,6 @@
 //! A world of two nodes, stepped event by event: a request is lost, and the response to its retry comes late.
-use at_atp::Packet;
-use at_ddp::{Bytes, Listed};
+use at_atp::{Key, Packet};
+use at_ddp::{Address, Bytes, Listed};
 use at_node::{Call, PacketCount, Report, Timer};
 use at_world::{Event, NodeSetup, Setup, World};
 use std::alloc::{AllocError, Global};
@@ -9,6 +9,9 @@ use std::io;
 const CLIENT: u8 = 5;
 
 const SERVER: u8 = 7;
+
+/// The number of their network.
+const NET: u16 = 10;
 
 /// The number of the transaction: a node numbers its transactions from 0.
 const TID: u16 = 0;
@@ -34,7 +37,7 @@ fn two_nodes(alloc: Global) -> Result<World<Global>, AllocError> {
 fn setup(alloc: Global) -> Result<Setup, AllocError> {
     let nodes = Vec::from_array(alloc, [node(CLIENT), node(SERVER)])?;
     Ok(Setup {
-        net: 10,
+        net: NET,
         nodes: Listed::from_vec(nodes),
         zones: Listed::from_vec(Vec::new(alloc)),
         local: Listed::from_vec(Vec::new(alloc)),
@@ -67,7 +70,7 @@ fn event(alloc: Global, number: u32) -> Result<Event, AllocError> {
         1 => Ok(retry()),
         2 => Ok(deliver(1, SERVER)),
         3 => answer(alloc),
-        // Datagram 2 takes so long that the client asks again, by datagram 3. The response to it, datagram 4, is faster.
+        // Datagram 2 takes so long that the client asks again, by datagram 3. The response to that is faster.
         4 => Ok(retry()),
         5 => Ok(deliver(3, SERVER)),
         6 => Ok(deliver(4, CLIENT)),
@@ -94,10 +97,13 @@ fn ask(alloc: Global) -> Result<Event, AllocError> {
 fn answer(alloc: Global) -> Result<Event, AllocError> {
     let packet = Packet::new([0; 4], Bytes::copy_of(alloc, b"noon")?);
     let packets = Vec::from_array(alloc, [packet])?;
-    let call = Call::Answer {
+    let from = Address {
+        net: NET,
         node: CLIENT,
         socket: 128,
-        tid: TID,
+    };
+    let call = Call::Answer {
+        key: Key { from, tid: TID },
         packets: Listed::from_vec(packets),
     };
     Ok(Event::Call { node: SERVER, call })

@@ -5,6 +5,8 @@ use Rattle.std.specs.Prelude.{find, ◌&&◌, nat_lt, nat_le}
 use Rattle.std.specs.List.{AllByRecursion}
 use Rattle.std.proofs.lemmas.Bool.{and_parts, leb-true}
 use Rattle.at_ddp.specs.Datagram.{IsAddress}
+use Rattle.at_ddp.specs.declared.address.Address.{Address}
+use Rattle.at_atp_frame.specs.Frames.{Content}
 use Rattle.at_atp_frame.specs.Fault.{number_of}
 use Rattle.at_atp_frame.specs.Packets.{Packet, IsPacket, AreWords}
 use Rattle.at_atp_frame.specs.declared.fault.AtpFault.{AtpFault}
@@ -20,7 +22,6 @@ use Rattle.at_node.specs.AtpParts.{serving}
 use Rattle.at_event.specs.Kinds.{kind_of_call}
 use Rattle.at_node.specs.Nodes.{with_atp, NodeState, called}
 use Rattle.at_event.specs.Outcomes.{over, idle, refused_as}
-use Rattle.at_event.specs.Seats.{at_socket}
 use Rattle.at_node.specs.ServiceSocket.{answered_with}
 use Rattle.at_event.specs.declared.event.Call.{Call}
 use Rattle.at_event.specs.declared.event.Call.TheVariants.{Zones, SetZones, Ask, Answer, Pick, Find, Claim, Finish}
@@ -74,78 +75,56 @@ module _ (A : Type 0) (laws : CallLaws A) (history : List Happening) (n : NodeSt
         packets_fit ps both.1 all.1,
       )
 
-  module _ (node socket tid : ℕ) (packets : List Packet) (range : IsCall {A = A} (Answer node socket tid packets)) where
-    is_done : answer_fault n.atp.service_responder (record { from = at_socket n.seat node socket; tid = tid }) packets
-        ≡ None → done A (after A history)
-        (network.Answers (serving n.seat.net n.seat.number) (record { from = at_socket n.seat node socket; tid = tid })
-        packets) ≡ network.answers (after A history) (serving n.seat.net n.seat.number)
-        (record { from = at_socket n.seat node socket; tid = tid }) packets None
-    is_done free = ap (λ f. network.answers (after A history) (serving n.seat.net n.seat.number)
-        (record { from = at_socket n.seat node socket; tid = tid }) packets f)
-        (ap (λ rs. answer_fault rs (record { from = at_socket n.seat node socket; tid = tid }) packets) st.service
-        ∙ free)
+  module _ (key : Key) (packets : List Packet) (range : IsCall {A = A} (Answer key packets)) where
+    -- the socket of the node's service, its records after the answer, and what is sent
+    abbrev here : Address
+    here = serving n.seat.net n.seat.number
 
-    answer_call : (fault : Option AtpFault)
-        → answer_fault n.atp.service_responder (record { from = at_socket n.seat node socket; tid = tid }) packets
-        ≡ fault →
-        IsIts A history n (Calls (Answer node socket tid packets))
-        (over (with_atp n) (answered_with n.seat n.atp (record { from = at_socket n.seat node socket; tid = tid })
-        packets fault))
-    answer_call (Some fault) is = refused_happens A history n (Calls (Answer node socket tid packets)) st
-        (number_of fault)
+    abbrev now : List Record
+    now = after_answer n.atp.service_responder key packets
+
+    abbrev sent : List (Address × Content)
+    sent = asked_for (find (is_key key) n.atp.service_responder) key packets
+
+    is_done : answer_fault n.atp.service_responder key packets ≡ None
+        → done A (after A history) (network.Answers here key packets)
+        ≡ network.answers (after A history) here key packets None
+    is_done free = ap (λ f. network.answers (after A history) here key packets f)
+        (ap (λ rs. answer_fault rs key packets) st.service ∙ free)
+
+    answer_call : (fault : Option AtpFault) → answer_fault n.atp.service_responder key packets ≡ fault
+        → IsIts A history n (Calls (Answer key packets))
+        (over (with_atp n) (answered_with n.seat n.atp key packets fault))
+    answer_call (Some fault) is = refused_happens A history n (Calls (Answer key packets)) st (number_of fault)
     answer_call None is =
-        let found = found_record n.atp.service_responder (record { from = at_socket n.seat node socket; tid = tid })
-        packets is in
+        let found = found_record n.atp.service_responder key packets is in
         let gives = laws.answers history st.timely in
-        let held = ap (find (is_key (record { from = at_socket n.seat node socket; tid = tid }))) st.service
-        ∙ found.0.1 in
-        let asked : Asked (after A history).asked (at_socket n.seat node socket) tid
-        (serving n.seat.net n.seat.number) = gives.recorded (serving n.seat.net n.seat.number)
-        (record { from = at_socket n.seat node socket; tid = tid }) found.0.0 held in
+        let held = ap (find (is_key key)) st.service ∙ found.0.1 in
+        let asked : Asked (after A history).asked key.from key.tid here = gives.recorded here key found.0.0 held in
         let done_is = is_done is in
-        gave_happens A history n (Calls (Answer node socket tid packets)) st
-        (network.Answers (serving n.seat.net n.seat.number)
-        (record { from = at_socket n.seat node socket; tid = tid }) packets)
-        (report.Answered (length
-        (asked_for (find (is_key (record { from = at_socket n.seat node socket; tid = tid }))
-        n.atp.service_responder) (record { from = at_socket n.seat node socket; tid = tid }) packets)))
-        (serving n.seat.net n.seat.number) (at_socket n.seat node socket) tid packets n.atp.zone_responder
-        (after_answer n.atp.service_responder (record { from = at_socket n.seat node socket; tid = tid }) packets)
-        (asked_for (find (is_key (record { from = at_socket n.seat node socket; tid = tid }))
-        n.atp.service_responder) (record { from = at_socket n.seat node socket; tid = tid }) packets)
-        tt (serving_fits, packets_fit packets found.1 range.3)
+        gave_happens A history n (Calls (Answer key packets)) st (network.Answers here key packets)
+        (report.Answered (length sent)) here key.from key.tid packets n.atp.zone_responder now sent
+        tt (serving_fits, packets_fit packets found.1 range.1)
         (ap (λ (x : Network). x.event) done_is)
         (λ who. ap (λ (x : Network). x.requesters who) done_is)
         (λ at. ap (λ (x : Network). x.responders at) done_is
-        ∙ ap (λ rs. put (after A history).responders (serving n.seat.net n.seat.number)
-        (after_answer rs (record { from = at_socket n.seat node socket; tid = tid }) packets) at) st.service
-        ∙ with_service A history n (Calls (Answer node socket tid packets)) st
-        (after_answer n.atp.service_responder (record { from = at_socket n.seat node socket; tid = tid }) packets)
-        at)
+        ∙ ap (λ rs. put (after A history).responders here (after_answer rs key packets) at) st.service
+        ∙ with_service A history n (Calls (Answer key packets)) st now at)
         (ap (λ (x : Network). x.sent) done_is
-        ∙ ap (λ rs. (after A history).sent ++ stamped (after A history).event (serving n.seat.net n.seat.number)
-        (asked_for (find (is_key (record { from = at_socket n.seat node socket; tid = tid })) rs)
-        (record { from = at_socket n.seat node socket; tid = tid }) packets)) st.service)
+        ∙ ap (λ rs. (after A history).sent ++ stamped (after A history).event here
+        (asked_for (find (is_key key) rs) key packets)) st.service)
         (ap (λ (x : Network). x.drawn) done_is)
         (ap (λ (x : Network). x.asked) done_is) refl
-        (answers_match A n.seat.net n.seat.number n.atp.tables (after A history) (serving n.seat.net n.seat.number)
-        (record { from = at_socket n.seat node socket; tid = tid }) packets node socket tid
-        (length (asked_for (find (is_key (record { from = at_socket n.seat node socket; tid = tid }))
-        n.atp.service_responder) (record { from = at_socket n.seat node socket; tid = tid }) packets)) refl
+        (answers_match A n.seat.net n.seat.number n.atp.tables (after A history) here key packets (length sent)
         (ap (λ (x : Network). x.asked) done_is))
         (steps.Answers (record {
-          node = node;
-          socket = socket;
-          tid = tid;
+          key = key;
           packets = packets;
-          count = length (asked_for
-              (find (is_key (record { from = at_socket n.seat node socket; tid = tid })) n.atp.service_responder)
-              (record { from = at_socket n.seat node socket; tid = tid }) packets);
+          count = length sent;
           act = refl;
           report = refl;
           newest = asked;
-          few = laws.few (find (is_key (record { from = at_socket n.seat node socket; tid = tid }))
-              n.atp.service_responder) (record { from = at_socket n.seat node socket; tid = tid }) packets;
+          few = laws.few (find (is_key key) n.atp.service_responder) key packets;
           asked = refl;
           reading = refl;
         }))
@@ -156,9 +135,8 @@ module _ (A : Type 0) (laws : CallLaws A) (history : List Happening) (n : NodeSt
   call_happens (SetZones kind names) range own free = set_zones_call A laws history n st kind names n.atp.tables refl
   call_happens (Ask node socket user bytes wanted xo retries) range own free = ask_call A laws history n st node socket
       user bytes wanted xo retries range (nat_lt 578 (length bytes)) refl free
-  call_happens (Answer node socket tid packets) range own free =
-      answer_call node socket tid packets range
-      (answer_fault n.atp.service_responder (record { from = at_socket n.seat node socket; tid = tid }) packets) refl
+  call_happens (Answer key packets) range own free =
+      answer_call key packets range (answer_fault n.atp.service_responder key packets) refl
   call_happens (Pick zone) range own free = absurd (cc)
   call_happens (Find object kind _) range own free = absurd (cc)
   call_happens (Claim object kind socket) range own free = absurd (cc)

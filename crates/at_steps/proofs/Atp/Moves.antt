@@ -53,7 +53,7 @@ foreign_is_quiet A (report.Answered count) (Calls call) h = absurd (true≢false
 foreign_is_quiet A (report.Served count) (Gets which) h = absurd (true≢false h)
 foreign_is_quiet A (report.Asked k user bytes) (Gets which) h = absurd (true≢false h)
 foreign_is_quiet A (report.Response tid packets) (Gets which) h = absurd (true≢false h)
-foreign_is_quiet A report.Expired (Fires (timer.Release own node socket tid)) h = absurd (true≢false h)
+foreign_is_quiet A report.Expired (Fires (timer.Release own key)) h = absurd (true≢false h)
 foreign_is_quiet A r act h = refl
 
 foreign_draws_nothing : (A : Type 0) (r : Report A) (event : ℕ) (who : Address) → is_atp (reporter_of r) ≡ false

@@ -37,7 +37,7 @@ is_quiet (report.Answered count) (Calls call) = false
 is_quiet (report.Served count) (Gets which) = false
 is_quiet (report.Asked k user bytes) (Gets which) = false
 is_quiet (report.Response tid packets) (Gets which) = false
-is_quiet report.Expired (Fires (timer.Release own node socket tid)) = false
+is_quiet report.Expired (Fires (timer.Release own key)) = false
 is_quiet r act = true
 
 no_begin : (A : Type 0) (net number : ℕ) (act : Act A) (r : Report A) (key : Key) → is_quiet r act ≡ true
@@ -59,8 +59,8 @@ no_expiry : (A : Type 0) (net number : ℕ) (act : Act A) (r : Report A) (at : A
 no_expiry A net number (Calls call) r at key q = refl
 no_expiry A net number (Gets which) r at key q = refl
 no_expiry A net number (Fires (timer.Retry tid)) r at key q = refl
-no_expiry A net number (Fires (timer.Release own k' socket tid')) report.Expired at key q = absurd (false≢true q)
-no_expiry A net number (Fires (timer.Release own k' socket tid')) r at key q = refl
+no_expiry A net number (Fires (timer.Release own k)) report.Expired at key q = absurd (false≢true q)
+no_expiry A net number (Fires (timer.Release own k)) r at key q = refl
 no_expiry A net number (Fires (timer.Lookup id)) r at key q = refl
 no_expiry A net number (Fires (timer.Resend id)) r at key q = refl
 no_expiry A net number (Fires (timer.Probe id)) r at key q = refl
@@ -75,14 +75,14 @@ no_end A net number n (Gets which) r q = tt
 no_end A net number n (Fires time) r q = tt
 no_end A net number n Forges r q = tt
 
-no_answer : (A : Type 0) (net : ℕ) (n : Network) (h : Happening) (act : Act A) (r : Report A) → is_quiet r act ≡ true
-    → Joins net n h r act
-no_answer A net n h (Calls call) (report.Answered count) q = absurd (false≢true q)
-no_answer A net n h (Gets which) (report.Served count) q = absurd (false≢true q)
-no_answer A net n h (Fires time) (report.Answered count) q = tt
-no_answer A net n h Forges (report.Answered count) q = tt
-no_answer A net n h Forges (report.Served count) q = tt
-no_answer A net n h act r q = tt
+no_answer : (A : Type 0) (n : Network) (h : Happening) (act : Act A) (r : Report A) → is_quiet r act ≡ true
+    → Joins n h r act
+no_answer A n h (Calls call) (report.Answered count) q = absurd (false≢true q)
+no_answer A n h (Gets which) (report.Served count) q = absurd (false≢true q)
+no_answer A n h (Fires time) (report.Answered count) q = tt
+no_answer A n h Forges (report.Answered count) q = tt
+no_answer A n h Forges (report.Served count) q = tt
+no_answer A n h act r q = tt
 
 module _ (A : Type 0) (net number : ℕ) (tables : Option Tables) (n : Network) where
   pub other_matches : (count : ℕ) (act : Act A) (r : Report A) → is_quiet r act ≡ true
@@ -95,24 +95,22 @@ module _ (A : Type 0) (net number : ℕ) (tables : Option Tables) (n : Network) 
         takes_in = tt;
         begins_as = tt;
         answers_as = tt;
-        joins = no_answer A net n (Other count) act r q;
+        joins = no_answer A n (Other count) act r q;
         finishes = no_end A net number n act r q;
       }
 
-  pub answers_match : (at : Address) (key : Key) (packets : List Packet) (k socket tid count : ℕ) → key
-      ≡ record { from = record { net = net; node = k; socket = socket }; tid = tid } →
-      (done A n (Answers at key packets)).asked
-      ≡ answered n.asked (record { net = net; node = k; socket = socket }) tid packets
-      → Matches {A = A} net number tables n (Answers at key packets) (Calls (Answer k socket tid packets))
+  pub answers_match : (at : Address) (key : Key) (packets : List Packet) (count : ℕ)
+      → (done A n (Answers at key packets)).asked ≡ answered n.asked key.from key.tid packets
+      → Matches {A = A} net number tables n (Answers at key packets) (Calls (Answer key packets))
       (report.Answered count)
-  answers_match at key packets k socket tid count its joins =
+  answers_match at key packets count joins =
       record {
         draws_it = λ x. refl;
         expires_it = λ at x. refl;
         hands_up = λ x. refl;
         takes_in = tt;
         begins_as = tt;
-        answers_as = (k, socket, tid, count, refl, refl, its);
+        answers_as = (count, refl, refl);
         joins = joins;
         finishes = tt;
       }
@@ -127,7 +125,7 @@ module _ (A : Type 0) (net number : ℕ) (tables : Option Tables) (n : Network) 
         takes_in = tt;
         begins_as = tt;
         answers_as = tt;
-        joins = no_answer A net n (Hears which) act r q;
+        joins = no_answer A n (Hears which) act r q;
         finishes = no_end A net number n act r q;
       }
 
@@ -156,7 +154,7 @@ module _ (A : Type 0) (net number : ℕ) (tables : Option Tables) (n : Network) 
         takes_in = tt;
         begins_as = tt;
         answers_as = tt;
-        joins = no_answer A net n (Retries who tid) act r q;
+        joins = no_answer A n (Retries who tid) act r q;
         finishes = no_end A net number n act r q;
       }
 
@@ -207,7 +205,7 @@ module _ (A : Type 0) (net number : ℕ) (tables : Option Tables) (n : Network) 
       takes_in = refl;
       begins_as = tt;
       answers_as = tt;
-      joins = no_answer A net n (Takes which) (Gets which) r q;
+      joins = no_answer A n (Takes which) (Gets which) r q;
       finishes = no_end A net number n (Gets which) r q;
     }
 
@@ -247,15 +245,14 @@ module _ (A : Type 0) (net number : ℕ) (tables : Option Tables) (n : Network) 
     }
 
   -- a record that expires
-  pub expires_match : (own node socket tid : ℕ) (place : Address) (key : Key) → place
-      ≡ record { net = net; node = number; socket = own } → key
-      ≡ record { from = record { net = net; node = node; socket = socket }; tid = tid } →
+  pub expires_match : (own : ℕ) (place : Address) (key : Key) → place
+      ≡ record { net = net; node = number; socket = own } →
       expiry_fault (find (is_key key) (n.responders place)) ≡ None
       → Matches {A = A} net number tables n (Expires place key)
-      (Fires (timer.Release own node socket tid)) report.Expired
-  expires_match own node socket tid place key here its free = record {
+      (Fires (timer.Release own key)) report.Expired
+  expires_match own place key here free = record {
     draws_it = λ x. refl;
-    expires_it = λ at x. λ i. is_none (free i) && same_address (here i) at && same_key (its i) x;
+    expires_it = λ at x. λ i. is_none (free i) && same_address (here i) at && same_key key x;
     hands_up = λ x. refl;
     takes_in = tt;
     begins_as = tt;

@@ -150,55 +150,55 @@ module _ (A : Type 0) (stays : StaysOpen) (history : List Happening) (n : NodeSt
 
 -- the release timer of a record
 module _ (A : Type 0) (history : List Happening) (n : NodeState) (st : Stands A history n.seat.net n.seat.number n)
-    (own node socket tid : ℕ) where
+    (own : ℕ) (key : Key) where
   -- a record is taken away, and nothing is sent
   expired_is : (at : Address) (rs : List Record) → (after A history).responders at ≡ rs
-      → expiry_fault (find (is_key (record { from = at_socket n.seat node socket; tid = tid })) rs) ≡ None →
-      done A (after A history) (Expires at (record { from = at_socket n.seat node socket; tid = tid }))
+      → expiry_fault (find (is_key key) rs) ≡ None →
+      done A (after A history) (Expires at key)
       ≡ with_responder (after A history) at
-      (without_first (is_key (record { from = at_socket n.seat node socket; tid = tid })) rs) []
+      (without_first (is_key key) rs) []
   expired_is at rs is free =
-      ap (network.expires (after A history) at (record { from = at_socket n.seat node socket; tid = tid }))
-      (ap (λ l. expiry_fault (find (is_key (record { from = at_socket n.seat node socket; tid = tid })) l)) is
+      ap (network.expires (after A history) at key)
+      (ap (λ l. expiry_fault (find (is_key key) l)) is
       ∙ free)
       ∙ (λ i. record (after A history) {
         responders = put (after A history).responders at
-            (without_first (is_key (record { from = at_socket n.seat node socket; tid = tid })) (is i));
+            (without_first (is_key key) (is i));
         sent = sym (append-nil (after A history).sent) i;
       })
 
   expiry_matches : (at : Address) (rs : List Record) → at ≡ at_socket n.seat n.seat.number own
       → (after A history).responders at ≡ rs
-      → expiry_fault (find (is_key (record { from = at_socket n.seat node socket; tid = tid })) rs) ≡ None →
+      → expiry_fault (find (is_key key) rs) ≡ None →
       Matches {A = A} n.seat.net n.seat.number n.atp.tables (after A history)
-      (Expires at (record { from = at_socket n.seat node socket; tid = tid }))
-      (Fires (timer.Release own node socket tid)) report.Expired
+      (Expires at key)
+      (Fires (timer.Release own key)) report.Expired
   expiry_matches at rs here is free =
-      expires_match A n.seat.net n.seat.number n.atp.tables (after A history) own node socket tid at
-      (record { from = at_socket n.seat node socket; tid = tid }) here refl
-      (ap (λ l. expiry_fault (find (is_key (record { from = at_socket n.seat node socket; tid = tid })) l)) is ∙ free)
+      expires_match A n.seat.net n.seat.number n.atp.tables (after A history) own at
+      key here
+      (ap (λ l. expiry_fault (find (is_key key) l)) is ∙ free)
 
   release_happens : (x y : Bool) (fault : Option AtpFault) → (own == 129) ≡ x → (own == 6) ≡ y
-      → expiry_fault (find (is_key (record { from = at_socket n.seat node socket; tid = tid }))
+      → expiry_fault (find (is_key key)
       (cond x n.atp.service_responder (cond y n.atp.zone_responder []))) ≡ fault →
-      IsIts A history n (Fires (timer.Release own node socket tid))
+      IsIts A history n (Fires (timer.Release own key))
       (over (with_atp n) (expired_in n.atp (cond x n.atp.service_responder (cond y n.atp.zone_responder [])) x y
-      (record { from = at_socket n.seat node socket; tid = tid }) fault))
+      key fault))
   release_happens x y (Some fault) ex ey is =
-      refused_happens A history n (Fires (timer.Release own node socket tid)) st (number_of fault)
+      refused_happens A history n (Fires (timer.Release own key)) st (number_of fault)
   release_happens true y None ex ey is =
-      service_happens A history n (Fires (timer.Release own node socket tid)) st
-      (Expires (serving n.seat.net n.seat.number) (record { from = at_socket n.seat node socket; tid = tid }))
-      (without_first (is_key (record { from = at_socket n.seat node socket; tid = tid })) n.atp.service_responder)
+      service_happens A history n (Fires (timer.Release own key)) st
+      (Expires (serving n.seat.net n.seat.number) key)
+      (without_first (is_key key) n.atp.service_responder)
       [] report.Expired tt tt
       (expired_is (serving n.seat.net n.seat.number) n.atp.service_responder st.service is) refl
       (expiry_matches (serving n.seat.net n.seat.number) n.atp.service_responder
       (ap (at_socket n.seat n.seat.number) (sym (eqb-true own 129 ex))) st.service is)
       (Plain (record { plain = refl; asked = refl; reading = refl }))
   release_happens false true None ex ey is =
-      zones_happen A history n (Fires (timer.Release own node socket tid)) st
-      (Expires (zones_at n.seat.net n.seat.number) (record { from = at_socket n.seat node socket; tid = tid }))
-      (without_first (is_key (record { from = at_socket n.seat node socket; tid = tid })) n.atp.zone_responder) []
+      zones_happen A history n (Fires (timer.Release own key)) st
+      (Expires (zones_at n.seat.net n.seat.number) key)
+      (without_first (is_key key) n.atp.zone_responder) []
       report.Expired tt tt
       (expired_is (zones_at n.seat.net n.seat.number) n.atp.zone_responder st.zones is) refl
       (expiry_matches (zones_at n.seat.net n.seat.number) n.atp.zone_responder
@@ -211,9 +211,9 @@ pub timer_happens : (A : Type 0) (stays : StaysOpen) (history : List Happening) 
     → IsIts A history n (Fires time) (timed n time)
 timer_happens A stays history n st (timer.Retry tid) its =
     retry_happens A stays history n st tid (retried n.atp.requester tid) refl
-timer_happens A stays history n st (timer.Release own node socket tid) its =
-    release_happens A history n st own node socket tid (own == 129) (own == 6)
-    (expiry_fault (find (is_key (record { from = at_socket n.seat node socket; tid = tid }))
+timer_happens A stays history n st (timer.Release own key) its =
+    release_happens A history n st own key (own == 129) (own == 6)
+    (expiry_fault (find (is_key key)
     (records_at n.atp own))) refl refl refl
 timer_happens A stays history n st (timer.Lookup id) its = absurd (cc)
 timer_happens A stays history n st (timer.Resend id) its = absurd (cc)

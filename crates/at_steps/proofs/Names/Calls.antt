@@ -276,7 +276,7 @@ module _ (A : Type 0) (laws : CallLaws A) (setting : Setting) (history : List Ha
   call_happens (Zones kind) range its = absurd (cc)
   call_happens (SetZones kind names) range its = absurd (cc)
   call_happens (Ask node socket user bytes wanted xo retries) range its = absurd (cc)
-  call_happens (Answer node socket tid packets) range its = absurd (cc)
+  call_happens (Answer key packets) range its = absurd (cc)
   call_happens (Pick zone) range its = absurd (cc)
   call_happens (Find object kind zone) range its =
       finding object kind zone range.0 range.1 range.2 (next_id n.names.lookups) refl

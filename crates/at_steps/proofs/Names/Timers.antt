@@ -36,7 +36,7 @@ module _ (A : Type 0) (laws : TimerLaws) (setting : Setting) (history : List Hap
   pub timer_happens : (time : Timer) → is_nbp (kind_of_timer time) ≡ true
       → IsIts A setting history n (Fires time) (timed n time)
   timer_happens (timer.Retry tid) its = absurd (cc)
-  timer_happens (timer.Release own node socket tid) its = absurd (cc)
+  timer_happens (timer.Release own key) its = absurd (cc)
   timer_happens (timer.Lookup id) its = asking id (search_of n.names.lookups id) refl
   timer_happens (timer.Resend id) its = absurd (cc)
   timer_happens (timer.Probe id) its = absurd (cc)

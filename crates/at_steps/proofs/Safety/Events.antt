@@ -5,7 +5,6 @@ use Rattle.std.specs.Prelude.{MatchBool, nat_lt, ◌==◌, ◌||◌}
 use Rattle.at_ddp.specs.Datagram.{Content as Datagram}
 use Rattle.at_ddp.specs.Protocols.{atp_kind, nbp_kind, adsp_kind}
 use Rattle.at_atp_responder.specs.Records.{answer_fault}
-use Rattle.at_atp_responder.specs.declared.reception.Key.{Key}
 use Rattle.at_adsp_end.specs.declared.tick.Tick.TheVariants as tick
 use Rattle.at_event.specs.Outcomes.{Outcome, Over, Through, idle, over}
 use Rattle.at_event.specs.Seats.{at_socket, is_for_all, is_mine}
@@ -95,8 +94,7 @@ module _ (A : Type 0) (laws : Laws) (n : NodeState) (within : IsWithin n) where
       let to = at_socket n.seat node socket in
       of_atp (ask_called n.seat n.atp to user bytes wanted xo retries)
       (requests.ask_safe A n laws.numbers to user bytes wanted xo retries (nat_lt 578 (length bytes)))
-  call_safe (call.Answer node socket tid packets) =
-      let key : Key = record { from = at_socket n.seat node socket; tid = tid } in
+  call_safe (call.Answer key packets) =
       of_atp (answer_called n.seat n.atp key packets)
       (records.answer_safe A n IsPlaceOfCall laws.records key packets
       (answer_fault n.atp.service_responder key packets) refl)
@@ -139,8 +137,7 @@ module _ (A : Type 0) (laws : Laws) (n : NodeState) (within : IsWithin n) where
   pub timer_safe : (time : Timer) → Calling n (timed n time)
   timer_safe (timer.Retry tid) =
       of_atp (retry_fired n.seat n.atp tid (retried n.atp.requester tid)) (requests.retry_safe A n IsPlaceOfCall tid)
-  timer_safe (timer.Release own node socket tid) =
-      let key : Key = record { from = at_socket n.seat node socket; tid = tid } in
+  timer_safe (timer.Release own key) =
       of_atp (release_fired n.atp own key) (records.release_safe A n IsPlaceOfCall own key)
   timer_safe (timer.Lookup id) =
       of_names (lookup_fired n.seat n.names id) (names.lookup_safe A n IsPlaceOfCall laws.names within id)

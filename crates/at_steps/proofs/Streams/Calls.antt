@@ -255,7 +255,7 @@ module _ (A : Type 0) (changes : AllChange) (paired : AllPaired) (setting : Sett
   call_happens (Zones kind) range its free = absurd (true≢false (sym its))
   call_happens (SetZones kind names) range its free = absurd (true≢false (sym its))
   call_happens (Ask node socket user bytes wanted xo retries) range its free = absurd (true≢false (sym its))
-  call_happens (Answer node socket tid packets) range its free = absurd (true≢false (sym its))
+  call_happens (Answer key packets) range its free = absurd (true≢false (sym its))
   call_happens (Pick zone) range its free = absurd (true≢false (sym its))
   call_happens (Find object kind _) range its free = absurd (true≢false (sym its))
   call_happens (Claim object kind socket) range its free = absurd (true≢false (sym its))

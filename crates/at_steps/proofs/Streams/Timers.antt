@@ -109,7 +109,7 @@ module _ (A : Type 0) (changes : AllChange) (paired : AllPaired) (setting : Sett
   pub timer_happens : (time : Timer) → is_adsp (kind_of_timer time) ≡ true
       → IsIts A setting history n (Fires time) (timed n time)
   timer_happens (timer.Retry tid) its = absurd (true≢false (sym its))
-  timer_happens (timer.Release socket_ node socket tid) its = absurd (true≢false (sym its))
+  timer_happens (timer.Release socket key) its = absurd (true≢false (sym its))
   timer_happens (timer.Lookup id) its = absurd (true≢false (sym its))
   timer_happens (timer.Resend id) its = ticking (timer.Resend id) id tick.Retransmit (λ r. inl refl)
       (resent id (done setting old (Ticks at id tick.Retransmit)) (by_id n.streams id)

@@ -12,7 +12,6 @@ use Rattle.at_atp.specs.Lawfully.{IsInRange, IsLawfullySent}
 use Rattle.at_ddp.specs.Posts.{AllSent}
 use Rattle.at_ddp.proofs.PostLemmas.{sent_at}
 use Rattle.at_atp.specs.Network.{Network, Happening, Answers, Serves, AllTimely, after, done}
-use Rattle.at_atp_responder.specs.Once.{same_key}
 use Rattle.at_atp_frame.specs.Packets.{Packet}
 use Rattle.at_atp.specs.Transactions.{Transaction, transaction_of, answered}
 use Rattle.at_atp_responder.specs.declared.reception.Key.{Key}
@@ -73,21 +72,20 @@ module _ (A : Type 0) (laws : OnceLaws A) (net : ℕ) (tables : Tables) (sent : 
   -- what gives an answer in the network is a step that gives it
   step_gives : (e : Event A) (r : Report A) (now : Tables) (n : Network) (h : Happening) (key : Key)
       (answer : List Packet) → Within sent n → AllSent IsLawfullySent n.sent → Matches net now n h e r
-      → asking.Gives n h key answer → GivesBy net sent now e r key answer
+      → asking.Gives n h key answer → GivesBy sent now e r key answer
   step_gives e r now n (Answers at k packets) key answer within ok m g =
       let gives = m.answers_as in
-      subst (λ x. GivesBy net sent now x r key answer)
-      (sym (called_at e (Answer gives.0 gives.1 gives.2 packets) gives.4))
-      (subst (λ x. GivesBy net sent now (event.Call (node_of e) (Answer gives.0 gives.1 gives.2 packets)) x key
-      answer) (sym gives.5) (ap (λ x. same_key x key) (sym gives.6) ∙ g.0, g.1))
+      subst (λ x. GivesBy sent now x r key answer)
+      (sym (called_at e (Answer k packets) gives.1))
+      (subst (λ x. GivesBy sent now (event.Call (node_of e) (Answer k packets)) x key answer) (sym gives.2) g)
   step_gives e r now n (Serves which packets) key answer within ok m g =
       let gives = m.answers_as in
       let is = delivered_at e which gives.1 in
       let up = hands_complete A laws net tables sent e r n key within ok m.finishes (sym (m.hands_up key) ∙ g.0) in
       let came = subst (λ x. HandsUpBy sent (event.Deliver which (node_of e)) x key) gives.2
       (subst (λ x. HandsUpBy sent x r key) is up) in
-      subst (λ x. GivesBy net sent now x r key answer) (sym is)
-      (subst (λ x. GivesBy net sent now (event.Deliver which (node_of e)) x key answer) (sym gives.2)
+      subst (λ x. GivesBy sent now x r key answer) (sym is)
+      (subst (λ x. GivesBy sent now (event.Deliver which (node_of e)) x key answer) (sym gives.2)
       (page_for which now n packets key answer within ok gives.3 came g.1))
   step_gives e r now n h key answer within ok m g = absurd g
 
@@ -106,7 +104,7 @@ module _ (A : Type 0) (laws : OnceLaws A) (net : ℕ) (tables : Tables) (sent : 
 
       either : (Has (after A hs).asked key answer → SomeGives net tables sent key answer xs)
           → Has (after A hs).asked key answer ⊎ asking.Gives (after A hs) h key answer
-          → GivesBy net sent (tables_after tables xs) x.event x.report key answer
+          → GivesBy sent (tables_after tables xs) x.event x.report key answer
           ⊎ SomeGives net tables sent key answer xs
       either before (inl old) = inr (before old)
       either before (inr gave) = inl
@@ -115,22 +113,21 @@ module _ (A : Type 0) (laws : OnceLaws A) (net : ℕ) (tables : Tables) (sent : 
 
       go : (Has (after A hs).asked key answer → SomeGives net tables sent key answer xs) → (b : Bool)
           → began_under net x.event x.report key ≡ b
-          → MatchBool b ⊥ (GivesBy net sent (tables_after tables xs) x.event x.report key answer
+          → MatchBool b ⊥ (GivesBy sent (tables_after tables xs) x.event x.report key answer
           ⊎ SomeGives net tables sent key answer xs)
       go before true e = none_yet A laws.changes (after A hs) h key answer (m.draws_it key ∙ e) has
       go before false e = either before (had_or_gave A laws.changes (after A hs) h key answer (m.draws_it key ∙ e) has)
 
   -- an answer that a step gives joins the transaction of its key
   joins_it : (e : Event A) (r : Report A) (n : Network) (h : Happening) (key : Key) → Within sent n
-      → AllSent IsLawfullySent n.sent → reports.Joins net n h r (act_of e) → IsGivenBy net sent e r key →
+      → AllSent IsLawfullySent n.sent → reports.Joins n h r (act_of e) → IsGivenBy sent e r key →
       (packets : List Packet) × ((done A n h).asked ≡ answered n.asked key.from key.tid packets)
-  joins_it (event.Call node (Answer k socket tid packets)) (report.Answered count) n h key within ok j g =
-      let both = and_parts (same_address (record { net = net; node = k; socket = socket }) key.from)
-      (tid == key.tid) g in
-      let from = same_address-true (record { net = net; node = k; socket = socket }) key.from both.0 in
-      let number = eqb-true tid key.tid both.1 in
+  joins_it (event.Call node (Answer k packets)) (report.Answered count) n h key within ok j g =
+      let both = and_parts (same_address k.from key.from) (k.tid == key.tid) g in
+      let from = same_address-true k.from key.from both.0 in
+      let number = eqb-true k.tid key.tid both.1 in
       (packets, j ∙ (λ i. answered n.asked (from i) (number i) packets))
-  joins_it (event.Call node (Answer k socket tid packets)) r n h key within ok j g = absurd g
+  joins_it (event.Call node (Answer k packets)) r n h key within ok j g = absurd g
   joins_it (event.Call node call) r n h key within ok j g = absurd g
   joins_it (event.Deliver which node) (report.Served count) n h key within ok j g =
       let s = j.0 in
@@ -145,7 +142,7 @@ module _ (A : Type 0) (laws : OnceLaws A) (net : ℕ) (tables : Tables) (sent : 
   -- the newest transaction of a key after a step that answers it, one that had so many answers
   more_answers : (x : Played A) (now : Tables) (n : Network) (h : Happening) (key : Key) (count : ℕ)
       → Within sent n → AllSent IsLawfullySent n.sent → Matches net now n h x.event x.report
-      → NewestIs (HasAnswers count) n.asked key → Gives net sent key x
+      → NewestIs (HasAnswers count) n.asked key → Gives sent key x
       → NewestIs (HasAnswers (count + 1)) (done A n h).asked key
   more_answers x now n h key count within ok m newest gives =
       let joined = joins_it x.event x.report n h key within ok m.joins gives in
@@ -155,7 +152,7 @@ module _ (A : Type 0) (laws : OnceLaws A) (net : ℕ) (tables : Tables) (sent : 
   -- a transaction without answers was given none since it began
   none_given : (past : List (Played A)) (hs : List Happening) (key : Key) → Told A net tables past hs
       → Within sent (after A hs) → AllByRecursion IsInRange hs → is_once net past key ≡ true
-      → NewestIs (λ t. length t.answers ≡ 0) (after A hs).asked key → NoneGives net sent key (since net past key)
+      → NewestIs (λ t. length t.answers ≡ 0) (after A hs).asked key → NoneGives sent key (since net past key)
   none_given [] hs key told within range once none = tt
   none_given (x ∷ xs) [] key told within range once none = absurd told
   none_given (x ∷ xs) (h ∷ hs) key told within range once none =
@@ -178,9 +175,9 @@ module _ (A : Type 0) (laws : OnceLaws A) (net : ℕ) (tables : Tables) (sent : 
       one count e = absurd (omega (arith, e))
 
       go : (is_once net xs key ≡ true → NewestIs (λ t. length t.answers ≡ 0) (after A hs).asked key
-          → NoneGives net sent key (since net xs key)) → (b : Bool) → began_under net x.event x.report key ≡ b
+          → NoneGives sent key (since net xs key)) → (b : Bool) → began_under net x.event x.report key ≡ b
           → cond b (asks_once x.event) (is_once net xs key) ≡ true
-          → NoneGives net sent key (cond b [] (x ∷ since net xs key))
+          → NoneGives sent key (cond b [] (x ∷ since net xs key))
       go before true e is = tt
       go before false e is =
           let t = once_newest A laws.changes net tables xs hs key told.2 is in
@@ -196,7 +193,7 @@ module _ (A : Type 0) (laws : OnceLaws A) (net : ℕ) (tables : Tables) (sent : 
   -- a transaction that must not run twice was given one answer at most
   one_given : (past : List (Played A)) (hs : List Happening) (key : Key) → Told A net tables past hs
       → Within sent (after A hs) → AllTimely A hs → AllByRecursion IsInRange hs → AllLive net sent past
-      → is_once net past key ≡ true → AtMostOneGives net sent key (since net past key)
+      → is_once net past key ≡ true → AtMostOneGives sent key (since net past key)
   one_given [] hs key told within timely range live once = tt
   one_given (x ∷ xs) [] key told within timely range live once = absurd told
   one_given (x ∷ xs) (h ∷ hs) key told within timely range live once =
@@ -224,9 +221,9 @@ module _ (A : Type 0) (laws : OnceLaws A) (net : ℕ) (tables : Tables) (sent : 
       none : (k : ℕ) → k + 1 ≤ 1 → k ≡ 0
       none k e = omega (arith, e)
 
-      go : (is_once net xs key ≡ true → AtMostOneGives net sent key (since net xs key)) → (b : Bool)
+      go : (is_once net xs key ≡ true → AtMostOneGives sent key (since net xs key)) → (b : Bool)
           → began_under net x.event x.report key ≡ b → cond b (asks_once x.event) (is_once net xs key) ≡ true
-          → AtMostOneGives net sent key (cond b [] (x ∷ since net xs key))
+          → AtMostOneGives sent key (cond b [] (x ∷ since net xs key))
       go before true e is = tt
       go before false e is =
           let t = once_newest A laws.changes net tables xs hs key told.2 is in (

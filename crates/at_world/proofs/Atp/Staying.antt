@@ -51,7 +51,7 @@ plainly A c m (event.Deliver which node) report.Kept h = (tt, refl)
 plainly A c m (event.Deliver which node) report.Released h = (tt, refl)
 plainly A c m (event.Timer node time) report.Again h = (tt, refl)
 plainly A c m (event.Timer node time) (report.Failed tid) h = (tt, refl)
-plainly A c m (event.Timer node (timer.Release own k socket tid)) report.Expired h = (tt, refl)
+plainly A c m (event.Timer node (timer.Release own key)) report.Expired h = (tt, refl)
 plainly A c m e r h = absurd (false≢true h)
 
 -- nor does it set a table

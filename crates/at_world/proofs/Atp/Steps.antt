@@ -114,22 +114,19 @@ module _ (A : Type 0) (laws : Laws A) (w : WorldState) (cable : Cable) (m : AtpM
   answers_step : (ts : List Transaction) → GivesAnswer cable.net (node_of e) (Changed ts) → IsSaid e r
       × Becomes A cable m e x r ts
   answers_step ts s =
-      goes_by A laws w cable m wires e n x r t stands keeps (answered m.asked from s.tid s.packets) ts s.asked
+      goes_by A laws w cable m wires e n x r t stands keeps (answered m.asked s.key.from s.key.tid s.packets) ts s.asked
       s.reading (ap sets_table s.report)
-      (λ read server is. joined_stays m.tables m.asked from s.tid s.packets (asking cable.net (node_of e)) read.tid
+      (λ read server is. joined_stays m.tables m.asked s.key.from s.key.tid s.packets (asking cable.net (node_of e)) read.tid
       (zones_at cable.net server) (elsewhere server))
-      (λ j tid server apart. joined_stays m.tables m.asked from s.tid s.packets (asking cable.net j) tid
+      (λ j tid server apart. joined_stays m.tables m.asked s.key.from s.key.tid s.packets (asking cable.net j) tid
       (zones_at cable.net server) (elsewhere server))
-      (so_at A cable m (moved m m.tables (answered m.asked from s.tid s.packets) m.readings) e
-      (event.Call (node_of e) (Answer s.node s.socket s.tid s.packets)) r (report.Answered s.count)
-      (called_at e (Answer s.node s.socket s.tid s.packets) s.act) s.report
+      (so_at A cable m (moved m m.tables (answered m.asked s.key.from s.key.tid s.packets) m.readings) e
+      (event.Call (node_of e) (Answer s.key s.packets)) r (report.Answered s.count)
+      (called_at e (Answer s.key s.packets) s.act) s.report
       (tt, record { asked = s.newest; few = s.few; becomes = refl }))
     where
-      from : Address
-      from = record { net = cable.net; node = s.node; socket = s.socket }
-
       -- what asked the service did not ask a router for its zones
-      elsewhere : (server : ℕ) (u : Transaction) → transaction_of m.asked from s.tid ≡ Some u → u.responder
+      elsewhere : (server : ℕ) (u : Transaction) → transaction_of m.asked s.key.from s.key.tid ≡ Some u → u.responder
           ≡ zones_at cable.net server → (which : Which) × (start : ℕ) × RequestSpells u.user which start
           × (s.packets ≡ page_answer (table_of which m.tables) start)
       elsewhere server u is here =

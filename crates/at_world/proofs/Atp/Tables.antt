@@ -22,7 +22,7 @@ says_tables c m (event.Call node (Zones which)) (report.Begun tid) m' h = kept_o
 says_tables c m (event.Call node (Ask k socket user bytes wanted xo retries)) (report.Begun tid) m' h =
     kept_of h.becomes
 says_tables c m (event.Call node call) (report.Begun tid) m' h = absurd h
-says_tables c m (event.Call node (Answer k socket tid packets)) (report.Answered count) m' h = kept_of h.becomes
+says_tables c m (event.Call node (Answer key packets)) (report.Answered count) m' h = kept_of h.becomes
 says_tables c m (event.Call node call) (report.Answered count) m' h = absurd h
 says_tables c m (event.Call node (SetZones which names)) report.TableSet m' h = kept_of h.becomes
 says_tables c m (event.Call node call) report.TableSet m' h = absurd h

@@ -155,7 +155,7 @@ with_tables A net number its tables n h act r same m =
       finishes = m.finishes;
     }
   where
-    as_it_is : (h : Happening) → AnswersAs net its n h act r → AnswersAs net (Some tables) n h act r
+    as_it_is : (h : Happening) → AnswersAs its n h act r → AnswersAs (Some tables) n h act r
     as_it_is (Answers at key packets) g = g
     as_it_is (Serves which packets) g = let p = g.3 in (
       g.0,

@@ -50,6 +50,11 @@ returns-in-Ok-clause-stand g c =
     let t = c.in-Ok.ensures.said (words_in read) has in
     t.stand
 
+pub returns-in-Ok-clause-here : goal.returns-in-Ok-clause-here
+returns-in-Ok-clause-here g c =
+    let (read, left, has, numbered) = c.loop-rest.invariant in
+    c.in-Ok.ensures.here (words_in read) has
+
 pub returns-in-Err-finish-clause-fault : goal.returns-in-Err-finish-clause-fault
 returns-in-Err-finish-clause-fault g c =
     let A = g.row.A.Denot in

@@ -1,3 +1,4 @@
+use Rattle.std.proofs.Common.{refl}
 use Rattle.at_diagnostics.specs.Diagnostics.{told_by}
 use Rattle.at_play.proofs.ToldLemmas.{stops_first}
 use Rattle.at_play.proofs.playing.play_all.Goals as goal
@@ -9,4 +10,4 @@ returns-in_default g c = record {
 }
 
 pub returns : goal.returns
-returns g c = record { told = c.play_in-played.ensures.told c.args.setup.now c.in-Ok.ensures }
+returns g c = record { told = c.play_in-played.ensures.told c.args.setup.now c.in-Ok.ensures refl }

@@ -12,25 +12,28 @@ use Rattle.at_play.proofs.playing.play_in.Goals as goal
 
 pub returns-in_default : goal.returns-in_default
 returns-in_default g c = record {
-  told = λ setup _.
+  told = λ setup _ _.
       stops_first g.row.A.Denot g.W.Paper.page setup (g.R.Read.remaining c.args.reader.now)
       c.args.printer.now (told_by c.args.diagnostics.now) c.no_memory.result c.no_memory.ensures.unread;
 }
 
 pub loop-turn-init : goal.loop-turn-init
-loop-turn-init g c = λ setup is. (
+loop-turn-init g c = λ setup is net. (
   sofar_opened g.row.A.Denot g.W.Paper.page setup c.args.world.now c.args.printer.now
       (told_by c.args.diagnostics.now) is,
   reads_none g.row.A.Denot (g.R.Read.remaining c.args.reader.now) _ (search rules),
 )
 
 pub loop-turn-preserved : goal.loop-turn-preserved
-loop-turn-preserved g c = λ setup is.
-    let before = c.loop-turn.invariant setup is in
+loop-turn-preserved g c = λ setup is net.
+    let before = c.loop-turn.invariant setup is net in
     let more = c.in_ok-more.was ∙ ap Ok c.if-not-more.false in
-    let told = subst (λ l. TellsLine g.row.A.Denot g.W.Paper.page (is_event_line l) l c.loop-turn.world
+    let told = subst (λ n. TellsLine g.row.A.Denot g.W.Paper.page n (is_event_line c.read_line.new.room.items)
+    c.read_line.new.room.items c.loop-turn.world c.play_line.new.world c.loop-turn.printer c.play_line.new.printer
+    (told_by c.loop-turn.diagnostics) (told_by c.play_line.new.diagnostics)) net
+    (subst (λ l. TellsLine g.row.A.Denot g.W.Paper.page c.args.net (is_event_line l) l c.loop-turn.world
     c.play_line.new.world c.loop-turn.printer c.play_line.new.printer (told_by c.loop-turn.diagnostics)
-    (told_by c.play_line.new.diagnostics)) c.deref.ensures.value c.in_ok-play_line.ensures.told in
+    (told_by c.play_line.new.diagnostics)) c.deref.ensures.value c.in_ok-play_line.ensures.told) in
     line_played g.row.A.Denot g.W.Paper.page setup c.first_line.ensures c.read_line.new.room.items
     (g.R.Read.remaining c.args.reader.now) _ _ c.loop-turn.world c.play_line.new.world c.args.printer.now
     c.loop-turn.printer c.play_line.new.printer (told_by c.args.diagnostics.now) (told_by c.loop-turn.diagnostics)
@@ -41,8 +44,8 @@ pub returns-then-not-more : goal.returns-then-not-more
 returns-then-not-more g c =
     let none = c.in_ok-more.was ∙ ap Ok c.if-not-more.true in
     record {
-      told = λ setup is.
-          let before = c.loop-turn.invariant setup is in (
+      told = λ setup is net.
+          let before = c.loop-turn.invariant setup is net in (
             before.0.0,
             before.0.2,
             reads_all g.row.A.Denot (g.R.Read.remaining c.args.reader.now) _ ((before.0).0).events before.1
@@ -55,8 +58,8 @@ pub returns-in_err-more : goal.returns-in_err-more
 returns-in_err-more g c =
     let p = err_from_is_err_and c.from_residual.result c.from_residual.ensures.1 in
     record {
-      told = λ setup is.
-          let before = c.loop-turn.invariant setup is in
+      told = λ setup is net.
+          let before = c.loop-turn.invariant setup is net in
           sofar_stopped g.row.A.Denot g.W.Paper.page setup (g.R.Read.remaining c.args.reader.now)
           c.loop-turn.world c.args.printer.now c.loop-turn.printer c.loop-turn.printer
           (told_by c.args.diagnostics.now) (told_by c.loop-turn.diagnostics) (told_by c.loop-turn.diagnostics)
@@ -75,8 +78,8 @@ returns-in_err-play_line g c =
     let stops = subst (λ l. StopsLine g.row.A.Denot l c.loop-turn.world p.0) c.deref.ensures.value
     (rw p.2 stopped.2) in
     record {
-      told = λ setup is.
-          let before = c.loop-turn.invariant setup is in
+      told = λ setup is net.
+          let before = c.loop-turn.invariant setup is net in
           sofar_stopped g.row.A.Denot g.W.Paper.page setup (g.R.Read.remaining c.args.reader.now)
           c.loop-turn.world c.args.printer.now c.loop-turn.printer c.play_line.new.printer
           (told_by c.args.diagnostics.now) (told_by c.loop-turn.diagnostics) (told_by c.play_line.new.diagnostics)
@@ -90,8 +93,8 @@ pub returns : goal.returns
 returns g c =
     let told = told_by c.loop-turn.diagnostics in
     record {
-      told = λ setup is.
-          let before = c.loop-turn.invariant setup is in
+      told = λ setup is net.
+          let before = c.loop-turn.invariant setup is net in
           sofar_stopped g.row.A.Denot g.W.Paper.page setup (g.R.Read.remaining c.args.reader.now)
           c.loop-turn.world c.args.printer.now c.loop-turn.printer c.loop-turn.printer
           (told_by c.args.diagnostics.now) told told _

@@ -11,7 +11,7 @@ use Rattle.at_play.proofs.playing.play_in.Given as goal
 -- left
 abbrev pub invariant-loop-turn : goal.invariant-loop-turn
 invariant-loop-turn g l =
-    (setup : Setup g.row.A.Denot) → l.fn.world ≡ opening_world setup
+    (setup : Setup g.row.A.Denot) → l.fn.world ≡ opening_world setup → l.fn.net ≡ setup.net
     → (so_far : Sofar g.row.A.Denot g.W.Paper.page setup l.world l.fn.printer l.printer (told_by l.fn.diagnostics)
     (told_by l.diagnostics))
     × SaidSoFar (g.R.Read.remaining l.fn.reader) (reader_remaining (λ r. g.R.Read.remaining r.now) l.lines)

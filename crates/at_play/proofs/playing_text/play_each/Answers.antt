@@ -1,4 +1,4 @@
-use Rattle.std.proofs.Common.{Some}
+use Rattle.std.proofs.Common.{Some, refl}
 use Rattle.at_diagnostics.specs.Diagnostics.{told_by}
 use Rattle.at_play.proofs.ToldLemmas.{stops_first}
 use Rattle.at_play.proofs.playing_text.play_each.Goals as goal
@@ -11,4 +11,4 @@ pub play_in-played-requires : goal.play_in-played-requires
 play_in-played-requires g c = (c.args.setup.now, c.requires)
 
 pub returns-clause-told : goal.returns-clause-told
-returns-clause-told g c = c.play_in-played.ensures.told c.args.setup.now c.in-Ok.ensures
+returns-clause-told g c = c.play_in-played.ensures.told c.args.setup.now c.in-Ok.ensures refl

@@ -1,14 +1,16 @@
-use Rattle.std.proofs.Common.{Some, refl, sym, ◌∙◌}
+use Rattle.std.proofs.Common.{Some, refl, subst, sym, ◌∙◌}
 use Rattle.std.proofs.lemmas.Result.{err_from_is_err_and}
 use Rattle.at_diagnostics.specs.Diagnostics.{told_by}
 use Rattle.at_play.proofs.LineLemmas.{reads_all, reads_none, reads_so_far}
 use Rattle.at_play.proofs.TextLines.{begins, none_left, none_read, read_more, stops_in, text_played}
 use Rattle.at_play.proofs.ToldLemmas.{sofar_opened, sofar_stopped}
+use Rattle.at_play.specs.Told.{TellsLine}
+use Rattle.at_schedule.specs.Schedules.{is_event_line}
 use Rattle.at_play.proofs.playing_text.play_in.Goals as goal
 
 pub loop-rest-init : goal.loop-rest-init
 loop-rest-init g c = (
-  λ setup is. (
+  λ setup is net. (
     sofar_opened g.row.A.Denot g.W.Paper.page setup c.args.world.now c.args.printer.now
         (told_by c.args.diagnostics.now) is,
     reads_none g.row.A.Denot (Some c.args.text.now) (Some c.args.text.now) refl,
@@ -23,20 +25,23 @@ take_line-requires g c = begins g.row.A.Denot c.requires.0 c.args.text.now c.loo
 
 pub loop-rest-preserved : goal.loop-rest-preserved
 loop-rest-preserved g c = (
-  λ setup is.
-      let before = c.loop-rest.invariant.0 setup is in
+  λ setup is net.
+      let before = c.loop-rest.invariant.0 setup is net in
       text_played g.row.A.Denot g.W.Paper.page setup c.args.text.now c.loop-rest.rest.now
       c.cut_line.result.1.now c.cut_line.result.0.now c.loop-rest.world c.take_line.new.world c.args.printer.now
       c.loop-rest.printer c.take_line.new.printer (told_by c.args.diagnostics.now) (told_by c.loop-rest.diagnostics)
-      (told_by c.take_line.new.diagnostics) before.0 before.1 c.cut_line.ensures.cut c.in_ok-take_line.ensures.told,
+      (told_by c.take_line.new.diagnostics) before.0 before.1 c.cut_line.ensures.cut
+      (subst (λ n. TellsLine g.row.A.Denot g.W.Paper.page n (is_event_line c.cut_line.result.0.now)
+      c.cut_line.result.0.now c.loop-rest.world c.take_line.new.world c.loop-rest.printer c.take_line.new.printer
+      (told_by c.loop-rest.diagnostics) (told_by c.take_line.new.diagnostics)) net c.in_ok-take_line.ensures.told),
   read_more g.row.A.Denot c.args.text.now c.loop-rest.rest.now c.cut_line.result.1.now c.cut_line.result.0.now
       c.loop-rest.draft c.take_line.new.draft c.loop-rest.invariant.1 c.cut_line.ensures.cut
       c.in_ok-take_line.ensures.taken,
 )
 
 pub returns-clause-told : goal.returns-clause-told
-returns-clause-told g c = λ setup is.
-    let before = c.loop-rest.invariant.0 setup is in
+returns-clause-told g c = λ setup is net.
+    let before = c.loop-rest.invariant.0 setup is net in
     let end = none_left c.loop-rest.rest.now (sym c.is_empty.ensures ∙ c.loop-rest-test.false) in (
       before.0.0,
       before.0.2,
@@ -45,9 +50,9 @@ returns-clause-told g c = λ setup is.
     )
 
 pub returns-in_err-take_line-clause-told : goal.returns-in_err-take_line-clause-told
-returns-in_err-take_line-clause-told g c = λ setup is.
+returns-in_err-take_line-clause-told g c = λ setup is net.
     let p = err_from_is_err_and c.from_residual.result c.from_residual.ensures.1 in
-    let before = c.loop-rest.invariant.0 setup is in
+    let before = c.loop-rest.invariant.0 setup is net in
     let stopped = c.in_err-take_line.ensures.stopped in
     sofar_stopped g.row.A.Denot g.W.Paper.page setup (Some c.args.text.now) c.loop-rest.world
     c.args.printer.now c.loop-rest.printer c.take_line.new.printer (told_by c.args.diagnostics.now)

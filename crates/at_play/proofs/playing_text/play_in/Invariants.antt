@@ -11,7 +11,7 @@ use Rattle.at_play.proofs.playing_text.play_in.Given as goal
 -- read
 abbrev pub invariant-loop-rest : goal.invariant-loop-rest
 invariant-loop-rest g l =
-    ((setup : Setup g.row.A.Denot) → l.fn.world ≡ opening_world setup
+    ((setup : Setup g.row.A.Denot) → l.fn.world ≡ opening_world setup → l.fn.net ≡ setup.net
     → (so_far : Sofar g.row.A.Denot g.W.Paper.page setup l.world l.fn.printer l.printer (told_by l.fn.diagnostics)
     (told_by l.diagnostics)) × SaidSoFar (Some l.fn.text) (Some l.rest) (so_far.0).events)
     × IsLeft g.row.A.Denot l.fn.text l.rest l.draft

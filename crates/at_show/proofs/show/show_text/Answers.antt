@@ -12,7 +12,7 @@ pub returns-clause-only : goal.returns-clause-only
 returns-clause-only g c shows room written = elim c.match-bytes_of.branch [
   | in-Ok w ↦
       let sound = sound_in c.args.word.now c.bytes_of.new.room.items shows w.in-Ok.ensures.found in
-      let shown = w.show_bytes-status.ensures.done.1 (subst IsSound (sym w.as_slice.ensures.value) sound) in
+      let shown = w.show_first-status.ensures.done.1 (subst IsSound (sym w.as_slice.ensures.value) sound) in
       c.finish.ensures.done.1 (w.status-is ∙ shown, written)
   | in-Err w ↦
       absurd
@@ -24,13 +24,13 @@ returns-clause-only g c shows room written = elim c.match-bytes_of.branch [
 pub returns-clause-printed : goal.returns-clause-printed
 returns-clause-printed g c = elim c.match-bytes_of.branch [
   | in-Ok w ↦
-      let shown = w.show_bytes-status.ensures.printed in
+      let shown = w.show_first-status.ensures.printed in
       let text = subst (λ bytes. BytesText bytes shown.0) w.as_slice.ensures.value shown.1 in
       let flushed = rw w.printer-is at c.finish.ensures.printed in (
         shown.0,
         Spelled c.bytes_of.new.room.items shown.0 w.in-Ok.ensures.found text,
         subst (Prints g.W.Paper.page c.args.printer.now c.finish.new.self) (append-nil shown.0)
-            (Prints-trans g.W.Paper.page c.args.printer.now w.show_bytes-status.new.printer c.finish.new.self
+            (Prints-trans g.W.Paper.page c.args.printer.now w.show_first-status.new.printer c.finish.new.self
             shown.0 [] shown.2 flushed),
       )
   | in-Err w ↦
@@ -49,12 +49,12 @@ returns-clause-printed g c = elim c.match-bytes_of.branch [
 pub returns-clause-told : goal.returns-clause-told
 returns-clause-told g c = elim c.match-bytes_of.branch [
   | in-Ok w ↦
-      rw w.diagnostics-is (told_in g.E.Paper.page w.show_bytes-status.result c.args.diagnostics.now
-      w.show_bytes-status.new.diagnostics (Shows c.args.word.now) (λ done. record {
+      rw w.diagnostics-is (told_in g.E.Paper.page w.show_first-status.result c.args.diagnostics.now
+      w.show_first-status.new.diagnostics (Shows c.args.word.now) (λ done. record {
         bytes = c.bytes_of.new.room.items;
         written = w.in-Ok.ensures.found;
-        sound = subst IsSound w.as_slice.ensures.value (w.show_bytes-status.ensures.done.0 done);
-      }) w.show_bytes-status.ensures.told)
+        sound = subst IsSound w.as_slice.ensures.value (w.show_first-status.ensures.done.0 done);
+      }) w.show_first-status.ensures.told)
   | in-Err w ↦ let line = w.show_fault-status.ensures.told in rw w.diagnostics-is (inr (line.0, None, line.1))
 ]
 
@@ -62,8 +62,8 @@ pub returns-clause-silent : goal.returns-clause-silent
 returns-clause-silent g c shows room = elim c.match-bytes_of.branch [
   | in-Ok w ↦
       let sound = sound_in c.args.word.now c.bytes_of.new.room.items shows w.in-Ok.ensures.found in
-      let shown = w.show_bytes-status.ensures.done.1 (subst IsSound (sym w.as_slice.ensures.value) sound) in
-      let silent = rw shown at w.show_bytes-status.ensures.told in rw w.diagnostics-is silent
+      let shown = w.show_first-status.ensures.done.1 (subst IsSound (sym w.as_slice.ensures.value) sound) in
+      let silent = rw shown at w.show_first-status.ensures.told in rw w.diagnostics-is silent
   | in-Err w ↦ absurd
       (no_fault c.args.word.now (vec_capacity c.args.room.now) w.in-Err.fault
       (λ e. c.bytes_of.ensures.fault (w.in-Err.is ∙ ap Err e))

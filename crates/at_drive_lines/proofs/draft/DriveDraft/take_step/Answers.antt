@@ -1,9 +1,9 @@
-use Rattle.std.proofs.Common.{◌≡◌, ◌∷◌, ◌∙◌, ◌==◌, refl, sym}
+use Rattle.std.proofs.Common.{◌≡◌, ◌∷◌, ◌∙◌, ◌==◌, refl, subst, sym}
 use Rattle.std.specs.List.{list_any}
 use Rattle.at_drive.specs.Steps.{node_of}
 use Rattle.at_words.specs.Words.{words_of}
 use Rattle.at_drive_lines.specs.Drafts.{Bars}
-use Rattle.at_drive_lines.specs.Says.{StepSays}
+use Rattle.at_drive_lines.specs.Says.{IsStepHere, StepSays}
 use Rattle.at_drive_lines.specs.contracts.draft.DriveDraft.take_step.{A-type}
 use Rattle.at_drive_lines.proofs.RefusalLemmas.{nothing_if}
 use Rattle.at_drive_lines.proofs.TakeLemmas.{event_barred, stands_barred, step_adds, step_barred}
@@ -16,7 +16,7 @@ returns-in-Err-clause-only g c =
     let ws = words_of c.args.words.rest.now in
     let line = c.args.word.now ∷ ws in
     let law = c.lines_begin_with_known_words.ensures in
-    nothing_if (Unit {0}) c.in-Err.fault (StepSays c.args.word.now ws) (Bars A old line) c.in-Err.ensures
+    nothing_if (Unit {0}) c.in-Err.fault (StepSays c.args.word.now ws) (Bars A old line) c.in-Err.ensures.said
     (step_barred A old line law.setups law.drafts c.requires.stage c.requires.word)
 
 pub returns-in-Err-take_event-clause-only : goal.returns-in-Err-take_event-clause-only
@@ -34,7 +34,7 @@ returns-then-not-stands_among-clause-only g c =
     ≡ list_any (λ n. n.node == c.node.result) c.nodes.result.now =
     (λ i. list_any (λ n. n.node == sym c.node.ensures i) (sym c.nodes.ensures i)) in
     stands_barred (A-type g.row.A) c.args.self.now line law.setups law.drafts c.requires.stage c.requires.word
-    c.in-Ok.step c.take_event.new.self c.in-Ok.ensures c.lines_say_one_setup.ensures.same c.in_default.ensures.taken
+    c.in-Ok.step c.take_event.new.self c.in-Ok.ensures.said c.lines_say_one_setup.ensures.same c.in_default.ensures.taken
     (same ∙ sym c.stands_among.ensures ∙ c.if-not-stands_among.true)
 
 pub returns-clause-taken : goal.returns-clause-taken
@@ -47,4 +47,6 @@ returns-clause-taken g c =
     step_adds (A-type g.row.A) old line c.in-Ok.step
     (record old { setup = c.take_event.new.self; steps = c.push.new.self }) c.lines_say_one_setup.ensures.same
     c.requires.stage c.requires.stage refl c.in_ok-push.ensures.items c.in_default.ensures.over
-    c.in_default.ensures.taken c.in-Ok.ensures (same ∙ sym c.stands_among.ensures ∙ c.if-not-stands_among.false)
+    c.in_default.ensures.taken c.in-Ok.ensures.said
+    (same ∙ sym c.stands_among.ensures ∙ c.if-not-stands_among.false) c.take_event.ensures.net
+    (subst (λ n. IsStepHere n c.in-Ok.step) c.net.ensures c.in-Ok.ensures.here)

@@ -14,4 +14,4 @@ returns-in-Ask g c =
 pub returns-in-Answer : goal.returns-in-Answer
 returns-in-Answer g c =
     let packets = subst (AllByRecursion AreWords) c.as_slice-in-Answer.ensures c.ranges_of.ensures in
-    subst IsCall (sym c.in-Answer.is) (omega arith, omega arith, omega arith, packets)
+    subst IsCall (sym c.in-Answer.is) (c.ranges_of_key.ensures, packets)

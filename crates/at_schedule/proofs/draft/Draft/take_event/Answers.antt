@@ -14,4 +14,4 @@ returns-then-is_err-clause-only g c =
     let ws = words_of c.args.words.rest.now in
     unlawful_map c.event_of-found.result ((e : Event A) → ¬ SaysEvent c.args.word.now ws e)
     (((e : Event A) → ¬ SaysEvent c.args.word.now ws e) ⊎ IsNoSetup A c.args.self.now)
-    (no_event c.event_of-found.result c.args.word.now ws c.event_of-found.ensures) (λ never. inl never)
+    (no_event c.event_of-found.result c.args.word.now ws c.event_of-found.ensures.said) (λ never. inl never)

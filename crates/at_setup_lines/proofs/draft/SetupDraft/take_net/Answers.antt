@@ -23,4 +23,5 @@ returns-in_default g c =
           (λ e. c.in_default.not-Net (ap (λ d. d.stage) c.self.view_is ∙ e));
       early = tt;
       late = λ _. refl;
+      net = λ _. refl;
     }

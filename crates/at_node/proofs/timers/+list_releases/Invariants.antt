@@ -1,0 +1,5 @@
+use Rattle.std.proofs.Common.{◌-◌, length}
+use Rattle.at_node.proofs.timers.+list_releases.Given as goal
+
+abbrev pub decreases-list_releases : goal.decreases-list_releases
+decreases-list_releases g l = length l.responder.now - l.place

@@ -1,0 +1,47 @@
+use Rattle.at_ddp.specs.Datagram.{content}
+use Rattle.at_ddp.specs.Fault.{number_of}
+use Rattle.at_print.specs.Lines.{header_line}
+use Rattle.at_show.specs.Texts.{Begin, Stop, refusal_line}
+use Rattle.std.proofs.Common.{◌++◌, length}
+use Rattle.at_show.proofs.ShownLemmas.{readable_in, tells_why}
+use Rattle.at_show.proofs.show.show_first.Goals as goal
+
+pub returns-in-Ok-clause-done : goal.returns-in-Ok-clause-done
+returns-in-Ok-clause-done g c = (
+  λ done. record {
+    datagram = _;
+    rest = c.in-Ok.rest.now;
+    begins = c.in-Ok.ensures.found;
+    readable = c.show_datagram.ensures.done.0 done;
+  },
+  λ sound. c.show_datagram.ensures.done.1 (readable_in c.args.bytes.now _ c.in-Ok.rest.now c.in-Ok.ensures.only sound),
+)
+
+pub returns-in-Ok-clause-printed : goal.returns-in-Ok-clause-printed
+returns-in-Ok-clause-printed g c =
+    let printed = c.show_datagram.ensures.printed in
+    let d = content c.in-Ok.datagram in (
+      header_line d (length c.in-Ok.rest.now) ++ printed.0,
+      Begin d c.in-Ok.rest.now printed.0 c.in-Ok.ensures.found
+          printed.1,
+      printed.2,
+    )
+
+pub returns-in-Err-clause-done : goal.returns-in-Err-clause-done
+returns-in-Err-clause-done g c = (
+  λ done. cc,
+  λ sound. absurd (c.in-Err.ensures.only sound.datagram sound.rest sound.begins),
+)
+
+pub returns-in-Err-clause-printed : goal.returns-in-Err-clause-printed
+returns-in-Err-clause-printed g c = (
+  refusal_line (number_of c.in-Err.refusal),
+  Stop c.in-Err.refusal c.in-Err.ensures.fault,
+  rw c.number.ensures at
+      c.show_refusal.ensures.printed,
+)
+
+pub returns-in-Err-clause-told : goal.returns-in-Err-clause-told
+returns-in-Err-clause-told g c =
+    tells_why g.E.Paper.page c.show_refusal.result c.number.result c.args.diagnostics.now c.show_refusal.new.diagnostics
+    c.show_refusal.ensures.failed c.show_refusal.ensures.told
