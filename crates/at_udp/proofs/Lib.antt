@@ -1,1 +1,1 @@
-mod SeatLemmas
+mod NodeLemmas

@@ -10,7 +10,7 @@ use at_drive_text::{drive_text, end_at_fault, end_at_line};
 use at_faults::{Fault, read_bytes};
 use at_print::{Paper, Printer, Status};
 use at_setup::Setup;
-use at_udp::{BindFault, UdpCable};
+use at_udp::{BindFault, LocalSocket, UdpCable};
 use std::alloc::{AllocError, Global};
 use std::io::{BufWriter, Read, Write};
 use std::net::Net;
@@ -76,7 +76,7 @@ fn drive_nodes<R: Net + AllocGlobal, W: Paper, E: Paper>(
     let Ok(nodes) = numbers_of(rt.alloc(), &drive.setup) else {
         return end_at_fault(Fault::NoMemory, printer, diagnostics);
     };
-    match UdpCable::bind(rt.alloc(), rt, drive.port, nodes.as_slice()) {
+    match UdpCable::<LocalSocket>::bind(rt.alloc(), rt, drive.port, nodes.as_slice()) {
         Ok(mut cable) => drive_text(
             rt.alloc(),
             &drive.setup,
