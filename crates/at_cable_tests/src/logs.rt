@@ -1,4 +1,4 @@
-//! The log of a drive, which is taken out or cleared while the drive goes on.
+//! The log of a drive, which is lent to each step and may be cleared between them.
 use crate::schedules::{ZONE_LIST, setup_of};
 use at_cable::MemoryCable;
 use at_drive::{Drive, Log, Step};
@@ -14,46 +14,42 @@ const ASK: Step = Step::Call {
     call: Call::Zones { which: Which::All },
 };
 
-// The log of a drive is empty.
-fn is_empty(drive: &Drive) -> bool {
-    drive.log().reports.is_empty() && drive.log().sent.is_empty()
-}
-
-// A drive of the router and node 5, which has asked.
-fn asked(rt: &impl Abort, alloc: Global, cable: &mut MemoryCable) -> Result<Drive, AllocError> {
+// The log of a step at which node 5 asked its router, and what the router did at the next one.
+fn asked(rt: &impl Abort, alloc: Global, log: &mut Log, clears: bool) -> Result<(), AllocError> {
+    let mut cable = MemoryCable::new(alloc, &[1, 5])?;
     let setup = setup_of(rt, alloc, ZONE_LIST);
     let mut drive = Drive::open(alloc, &setup)?;
     assert!(rt; drive.has(5) && drive.has(1));
-    drive.step(cable, 0, &ASK)?;
-    assert!(rt; !is_empty(&drive));
-    Ok(drive)
-}
-
-#[test]
-fn a_log_that_is_taken_out_is_begun_anew(rt: HostRuntime) -> Result<(), Fail> {
-    let mut cable = MemoryCable::new(rt.alloc(), &[1, 5])?;
-    let mut drive = asked(&rt, rt.alloc(), &mut cable)?;
-    let log = drive.take_log();
-    assert!(rt; matches!(log.reports.as_slice(), [Report::Begun(0)]));
-    assert_eq!(rt; log.sent.len(), 1);
-    assert!(rt; is_empty(&drive));
+    drive.step(&mut cable, 0, &ASK, log)?;
+    if clears {
+        log.clear();
+    }
+    drive.step(&mut cable, 1, &Step::Poll { node: 1 }, log)?;
+    drop(drive);
     Ok(())
 }
 
-// The router answers, and nothing else is in the log.
-fn compare_answer(rt: &impl Abort, log: &Log) {
-    assert!(rt; matches!(log.reports.as_slice(), [Report::Served(1)]));
-    assert!(rt; matches!(log.sent.as_slice(), [sent] if sent.len() == 1));
+#[test]
+fn each_step_adds_to_the_log_that_it_is_lent(rt: HostRuntime) -> Result<(), Fail> {
+    let mut log = Log::new(rt.alloc());
+    asked(&rt, rt.alloc(), &mut log, false)?;
+    assert!(rt;
+        matches!(
+            log.reports.as_slice(),
+            [Report::Begun(0), Report::Served(1)]
+        )
+    );
+    assert_eq!(rt; log.sent.len(), 2);
     assert_eq!(rt; log.arrived.len(), 1);
+    Ok(())
 }
 
 #[test]
 fn a_log_that_is_cleared_is_begun_anew(rt: HostRuntime) -> Result<(), Fail> {
-    let mut cable = MemoryCable::new(rt.alloc(), &[1, 5])?;
-    let mut drive = asked(&rt, rt.alloc(), &mut cable)?;
-    drive.clear_log();
-    assert!(rt; is_empty(&drive) && drive.has(1));
-    drive.step(&mut cable, 1, &Step::Poll { node: 1 })?;
-    compare_answer(&rt, drive.log());
+    let mut log = Log::new(rt.alloc());
+    asked(&rt, rt.alloc(), &mut log, true)?;
+    assert!(rt; matches!(log.reports.as_slice(), [Report::Served(1)]));
+    assert!(rt; matches!(log.sent.as_slice(), [sent] if sent.len() == 1));
+    assert_eq!(rt; log.arrived.len(), 1);
     Ok(())
 }

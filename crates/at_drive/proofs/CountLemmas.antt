@@ -8,6 +8,7 @@ use Rattle.at_cable.specs.declared.fault.CableFault.{CableFault}
 use Rattle.at_ddp.specs.Datagrams.{Posted}
 use Rattle.at_event.specs.declared.report.Report.{Report}
 use Rattle.at_node.specs.Nodes.{NodeState}
+use Rattle.at_steps.specs.Safety.{Place}
 use Rattle.at_drive.specs.Arrivals.{Came}
 use Rattle.at_drive.specs.Drives.{Driving, Drives, Plays, Polled, Runs, most_bytes}
 use Rattle.at_drive.specs.Sendings.{Sends, fault_of}
@@ -62,10 +63,10 @@ module _ {A C : Type 0} (S : C → ℕ → ℕ → List ℕ → Result (Unit {0}
     → S c from to bytes answer c' → IsCounted (failed c) answer (failed c'))
     (receive_counts : (c : C) (k room : ℕ) (answer : Result (Option (List ℕ)) CableFault) (c' : C)
     → R c k room answer c' → IsCounted (failed c) answer (failed c')) where
-  plays_count : (at k : ℕ) (T : NodeState → List Posted → Report A → NodeState → List Posted → Type 0)
+  plays_count : (at k : ℕ) (Wants : Place → Type 0) (T : NodeState → List Posted → Report A → NodeState → List Posted → Type 0)
       (news : List Came) (d : Driving A) (c : C) (d' : Driving A) (c' : C) → failed c ≤ last_count
-      → Plays S at k T news d c d' c' → Counts failed d c d' c'
-  plays_count at k T news d c d' c' within h = record {
+      → Plays S at k Wants T news d c d' c' → Counts failed d c d' c'
+  plays_count at k Wants T news d c d' c' within h = record {
     k = length h.notes;
     longer = ap length h.faults ∙ length-append d.log.faults h.notes;
     rises = sends_count S failed send_counts at k h.out.items c h.notes c' within h.sends;
@@ -76,7 +77,7 @@ module _ {A C : Type 0} (S : C → ℕ → ℕ → List ℕ → Result (Unit {0}
       → Polled S at k answer d between d' c' → Counts failed d c d' c'
   polled_counts at k (Ok (Some bytes)) d c between d' c' within counted h =
       let same = counted.0 in
-      let rest = plays_count at k _ _ d between d' c' (omega arith) h in
+      let rest = plays_count at k _ _ _ d between d' c' (omega arith) h in
       record {
         k = rest.k;
         longer = rest.longer;
@@ -96,8 +97,8 @@ module _ {A C : Type 0} (S : C → ℕ → ℕ → List ℕ → Result (Unit {0}
 
   step_counts : (at : ℕ) (s : Step A) (d : Driving A) (c : C) (d' : Driving A) (c' : C) → failed c ≤ last_count
       → Drives S R at s d c d' c' → Counts failed d c d' c'
-  step_counts at (Call k call) d c d' c' within h = plays_count at k _ _ d c d' c' within h
-  step_counts at (Timer k timer) d c d' c' within h = plays_count at k _ _ d c d' c' within h
+  step_counts at (Call k call) d c d' c' within h = plays_count at k _ _ _ d c d' c' within h
+  step_counts at (Timer k timer) d c d' c' within h = plays_count at k _ _ _ d c d' c' within h
   step_counts at (Poll k) d c d' c' within h =
       polled_counts at k h.answer d c h.between d' c' within
       (receive_counts c k most_bytes h.answer h.between h.receives) h.polled

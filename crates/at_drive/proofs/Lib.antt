@@ -2,4 +2,5 @@ mod CountLemmas
 mod NodeLemmas
 mod PlayLemmas
 mod RunLemmas
+mod SafetyLemmas
 mod SendLemmas

@@ -11,7 +11,9 @@ use Rattle.at_node.specs.Nodes.{NodeState, called, timed}
 use Rattle.at_setup.specs.declared.setup.Setup.{Setup}
 use Rattle.at_world.specs.Plays.{opening_node}
 use Rattle.at_world.specs.Worlds.{Receives, is_numbered}
+use Rattle.at_steps.specs.Safety.{IsPlaceOf, IsPlaceOfCall, Place}
 use Rattle.at_drive.specs.Arrivals.{Came}
+use Rattle.at_drive.specs.Safety.{IsSafe}
 use Rattle.at_drive.specs.Sendings.{Sends}
 use Rattle.at_drive.specs.declared.log.DriveFault.{DriveFault}
 use Rattle.at_drive.specs.declared.log.Log.{Log}
@@ -24,14 +26,27 @@ pub record Logged (A : Type 0) : Type 0 where
   pub arrived : List Came  -- what came, with the place of its poll
   pub faults : List ℕ  -- the place of the step of each failed call of the cable
 
+-- the nodes that are driven
+pub record Driven : Type 0 where
+  pub nodes : List NodeState
+  pub failed : Bool  -- the drive found no memory of its own
+
+-- the same with the log of what came of their steps
 pub record Driving (A : Type 0) : Type 0 where
   pub nodes : List NodeState
   pub log : Logged A
-  pub failed : Bool  -- the drive found no memory of its own
+  pub failed : Bool
 
 abbrev pub logged : {A : Type 0} → Log A → Logged A
 logged l =
     record { reports = l.reports.items; sent = l.sent.items; arrived = l.arrived.items; faults = l.faults.items }
+
+-- the nodes, and what came of their steps
+abbrev pub with_log : {A : Type 0} → Driven → Logged A → Driving A
+with_log d l = record { nodes = d.nodes; log = l; failed = d.failed }
+
+abbrev pub noting : {A : Type 0} → Driven → Log A → Driving A
+noting d l = with_log d (logged l)
 
 abbrev pub no_log : {A : Type 0} → Logged A
 no_log = record { reports = []; sent = []; arrived = []; faults = [] }
@@ -45,16 +60,18 @@ most_bytes = 600
 
 -- ---- steps
 
--- A node takes an input by a step T of its own. Its report is logged, and what it sends is logged and sent.
+-- A node takes an input by a step T of its own, which is safe, and may want a place there for a transaction. Its report
+-- is logged, and what it sends is logged and sent.
 pub record Plays {A C : Type 0} (S : C → ℕ → ℕ → List ℕ → Result (Unit {0}) CableFault → C → Type 0) (at k : ℕ)
-    (T : NodeState → List Posted → Report A → NodeState → List Posted → Type 0) (news : List Came)
-    (d : Driving A) (c : C) (d' : Driving A) (c' : C) : Type 0 where
+    (Wants : Place → Type 0) (T : NodeState → List Posted → Report A → NodeState → List Posted → Type 0)
+    (news : List Came) (d : Driving A) (c : C) (d' : Driving A) (c' : C) : Type 0 where
   pub node : NodeState
   pub stands : find (is_numbered k) d.nodes ≡ Some node
   pub report : Report A
   pub after : NodeState
   pub out : Datagrams
   pub steps : T node [] report after out.items
+  pub safe : IsSafe Wants node report after out.items
   pub notes : List ℕ
   pub sends : Sends S at k out.items c notes c'
   pub nodes : d'.nodes ≡ replaced (is_numbered k) after d.nodes
@@ -68,7 +85,7 @@ pub record Plays {A C : Type 0} (S : C → ℕ → ℕ → List ℕ → Result (
 abbrev pub Polled : {A C : Type 0} → (C → ℕ → ℕ → List ℕ → Result (Unit {0}) CableFault → C → Type 0) → ℕ → ℕ
     → Result (Option (List ℕ)) CableFault → Driving A → C → Driving A → C → Type 0
 Polled S at k (Ok (Some bytes)) d c d' c' =
-    Plays S at k (Receives bytes) (record { at = at; bytes = bytes } ∷ []) d c d' c'
+    Plays S at k (IsPlaceOf bytes) (Receives bytes) (record { at = at; bytes = bytes } ∷ []) d c d' c'
 Polled S at k (Ok None) d c d' c' = (d' ≡ d) × (c' ≡ c)
 Polled S at k (Err fault) d c d' c' =
     (d' ≡ record d { log = record d.log { faults = d.log.faults ++ at ∷ [] } }) × (c' ≡ c)
@@ -87,9 +104,9 @@ abbrev pub Drives : {A C : Type 0} → (C → ℕ → ℕ → List ℕ → Resul
     → (C → ℕ → ℕ → Result (Option (List ℕ)) CableFault → C → Type 0) → ℕ → Step A → Driving A → C → Driving A → C
     → Type 0
 Drives S R at (step.Call k call) d c d' c' =
-    Plays S at k (λ n before report after out. IsStep (called n call) n before report after out) [] d c d' c'
+    Plays S at k IsPlaceOfCall (λ n before r after out. IsStep (called n call) n before r after out) [] d c d' c'
 Drives S R at (step.Timer k timer) d c d' c' =
-    Plays S at k (λ n before report after out. IsStep (timed n timer) n before report after out) [] d c d' c'
+    Plays S at k IsPlaceOfCall (λ n before r after out. IsStep (timed n timer) n before r after out) [] d c d' c'
 Drives S R at (step.Poll k) d c d' c' = Polls S R at k d c d' c'
 
 -- ---- whole drives
@@ -103,6 +120,10 @@ Runs {A} {C} S R at (s ∷ ss) d c d' c' =
     (mid : Driving A) × (between : C) × Drives S R at s d c mid between × Runs S R (at + 1) ss mid between d' c'
 
 -- the nodes of a setup before the first step
+abbrev pub opening_nodes_of : {A : Type 0} → Setup A → Driven
+opening_nodes_of s = record { nodes = map (opening_node s) s.nodes; failed = false }
+
+-- and no log yet
 abbrev pub opening_drive : {A : Type 0} → Setup A → Driving A
 opening_drive s = record { nodes = map (opening_node s) s.nodes; log = no_log; failed = false }
 

@@ -49,19 +49,14 @@ pub fn drive<A: Allocator + Copy, C: Cable>(
 {
     // The count of failures is at most the last number that a `u64` holds.
     let _failures = cable.failures();
+    let mut log = Log::new(alloc);
     let Ok(mut drive) = Drive::open(alloc, setup) else {
-        return Err(DriveFault {
-            at: 0,
-            log: Log::new(alloc),
-        });
+        return Err(DriveFault { at: 0, log });
     };
     for (at, step) in steps.iter().enumerate() {
-        if drive.step(cable, at, step).is_err() {
-            return Err(DriveFault {
-                at,
-                log: drive.into_log(),
-            });
+        if drive.step(cable, at, step, &mut log).is_err() {
+            return Err(DriveFault { at, log });
         }
     }
-    Ok(drive.into_log())
+    Ok(log)
 }

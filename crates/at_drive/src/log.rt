@@ -9,7 +9,7 @@ use at_node::Report;
 use std::alloc::{AllocError, Allocator, Global};
 use std::mem;
 
-/// What came of the steps of a drive.
+/// What came of some steps of a drive.
 #[derive(Drop)]
 pub struct Log<A: Allocator = Global> {
     /// The report of each call, of each timer, and of each poll at which a datagram came.
@@ -33,8 +33,8 @@ pub struct DriveFault<A: Allocator = Global> {
 }
 
 impl<A: Allocator + Copy> Log<A> {
-    // The log before the first step.
-    pub(crate) fn new(alloc: A) -> Log<A>
+    /// The log before the first step.
+    pub fn new(alloc: A) -> Log<A>
         ensures { logged result ≡ no_log }
     {
         Log {
@@ -79,8 +79,8 @@ impl<A: Allocator + Copy> Log<A> {
 }
 
 impl<A: Allocator> Log<A> {
-    // Drops all of it, and keeps its room.
-    pub(crate) fn clear(&mut self)
+    /// Drops all of it, and keeps its room for what comes of the next steps.
+    pub fn clear(&mut self)
         ensures { logged self.new ≡ no_log }
     {
         mem::swap(&mut self.past_sent, &mut self.sent);

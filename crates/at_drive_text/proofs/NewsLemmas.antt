@@ -1,8 +1,8 @@
 -- What is printed of a log, part after part.
-use Rattle.std.proofs.Common.{◌≡◌, ℕ, ◌+◌, ◌<◌, ◌≤◌, List, [], ◌∷◌, ◌++◌, length, take, drop, get_or}
-use Rattle.std.proofs.Common.{refl, sym, ap, subst, ◌∙◌, append-nil, append_assoc, arith, drop_of_length-le}
+use Rattle.std.proofs.Common.{◌≡◌, ℕ, ◌+◌, ◌<◌, List, [], ◌∷◌, ◌++◌, length, take, get_or}
+use Rattle.std.proofs.Common.{refl, sym, ap, subst, ◌∙◌, append-nil, append_assoc, arith}
 use Rattle.std.proofs.lemmas.Grind.{flat_map-append}
-use Rattle.std.proofs.lemmas.List.{take_more, drop-append-le, length-take, length-take-le}
+use Rattle.std.proofs.lemmas.List.{take_more, length-take, length-take-le}
 use Rattle.std.proofs.lemmas.List.Concat.{flat_map-cons}
 use Rattle.std.proofs.lemmas.Option.{slice_get-get_or}
 use Rattle.std.specs.List.{flat_map}
@@ -16,7 +16,6 @@ use Rattle.at_print.specs.Reports.{datagram_line}
 use Rattle.at_print.specs.declared.printer.Printer.{Printer}
 use Rattle.at_drive_text.specs.Driven.{datagram_lines, fault_line, is_idle, news_text, number_of, report_part}
 use Rattle.at_drive_text.specs.Driven.{sent_part}
-use Rattle.at_drive_text.specs.declared.news.Marks.{Marks}
 use Rattle.at_print.proofs.PrintLemmas.{Prints-trans}
 
 -- ---- datagrams
@@ -66,10 +65,9 @@ sent_from : (n : ℕ) (o : Option Datagrams) → sent_part (number_of n) o ≡ s
 sent_from n None = refl
 sent_from n (Some out) = from_number n out.items
 
-pub news_from : {A : Type 0} (at n : ℕ) (m : Marks) (l : Logged A) → news_text at (number_of n) m l ≡ news_text at n m l
-news_from at n m l =
-    ap (λ s. report_part at (slice_get l.reports m.reports) ++ (s ++ (flat_map fault_line (drop m.faults l.faults)
-    ++ (if is_idle m l then decimal at ++ codes " idle\n" else [])))) (sent_from n (slice_get l.sent m.sent))
+pub news_from : {A : Type 0} (at n : ℕ) (l : Logged A) → news_text at (number_of n) l ≡ news_text at n l
+news_from at n l = ap (λ s. report_part at (slice_get l.reports 0) ++ (s ++ (flat_map fault_line l.faults
+    ++ (if is_idle l then decimal at ++ codes " idle\n" else [])))) (sent_from n (slice_get l.sent 0))
 
 -- what is printed in four parts
 pub four_parts : {W : Type 0} (page : W → Page) (a b c d e : Printer W) (w x y z : List ℕ) → Prints page a b w
@@ -78,22 +76,13 @@ four_parts page a b c d e w x y z p q r s =
     Prints-trans page a b e w (x ++ (y ++ z)) p
     (Prints-trans page b c e x (y ++ z) q (Prints-trans page c d e y z r s))
 
--- ---- what a list has from a place on
-
-pub none_dropped : {T : Type 0} (f : T → List ℕ) (xs : List T) (m : ℕ) → flat_map f (drop m (take m xs)) ≡ []
-none_dropped f xs m =
-    let short : length (take m xs) ≤ m = omega (arith, length-take m xs) in
-    ap (flat_map f) (drop_of_length-le (take m xs) short)
-
-pub next_dropped : {T W : Type 0} (page : W → Page) (f : T → List ℕ) (xs : List T) (m i : ℕ) (d x : T)
-    (a b c : Printer W) → i < length xs → m ≤ i → x ≡ get_or xs i d
-    → Prints page a b (flat_map f (drop m (take i xs))) → Prints page b c (f x)
-    → Prints page a c (flat_map f (drop m (take (i + 1) xs)))
-next_dropped page f xs m i d x a b c lt le is before next =
-    let fits : m ≤ length (take i xs) = omega (arith, length-take-le i xs (omega arith)) in
-    let more : flat_map f (drop m (take (i + 1) xs)) ≡ flat_map f (drop m (take i xs)) ++ f x =
-    ap (λ l. flat_map f (drop m l)) (take_more xs i d lt ∙ ap (λ y. take i xs ++ y ∷ []) (sym is))
-    ∙ ap (flat_map f) (drop-append-le m (take i xs) (x ∷ []) fits)
-    ∙ flat_map-append f (drop m (take i xs)) (x ∷ [])
-    ∙ ap (λ l. flat_map f (drop m (take i xs)) ++ l) (flat_map-cons f x [] ∙ append-nil (f x)) in
+-- one line more
+pub next_line : {T W : Type 0} (page : W → Page) (f : T → List ℕ) (xs : List T) (i : ℕ) (d x : T) (a b c : Printer W)
+    → i < length xs → x ≡ get_or xs i d → Prints page a b (flat_map f (take i xs)) → Prints page b c (f x)
+    → Prints page a c (flat_map f (take (i + 1) xs))
+next_line page f xs i d x a b c lt is before next =
+    let more : flat_map f (take (i + 1) xs) ≡ flat_map f (take i xs) ++ f x =
+    ap (flat_map f) (take_more xs i d lt ∙ ap (λ y. take i xs ++ y ∷ []) (sym is))
+    ∙ flat_map-append f (take i xs) (x ∷ [])
+    ∙ ap (λ l. flat_map f (take i xs) ++ l) (flat_map-cons f x [] ∙ append-nil (f x)) in
     subst (Prints page a c) (sym more) (Prints-trans page a b c _ _ before next)

@@ -10,66 +10,71 @@ use Rattle.std.proofs.lemmas.List.Folds.{list_all_at}
 use Rattle.std.proofs.lemmas.List.{take_more, length-take}
 use Rattle.std.proofs.lemmas.Option.{slice_get-get_or}
 use Rattle.at_cable.specs.declared.fault.CableFault.{CableFault}
-use Rattle.at_drive.specs.Drives.{Driving, Drives, IsLeft, number_of as node_number, opening_drive}
+use Rattle.at_drive.specs.Drives.{Driven as Nodes, Drives, IsLeft, Logged, no_log, number_of as node_number}
+use Rattle.at_drive.specs.Drives.{opening_nodes_of, with_log}
 use Rattle.at_drive.specs.Steps.{number_in, numbers_of}
 use Rattle.at_drive.specs.declared.step.Step.{Step}
 use Rattle.at_drive.specs.declared.step.Step.TheVariants.{Call, Timer, Poll}
 use Rattle.at_setup.specs.declared.setup.NodeSetup.{NodeSetup}
 use Rattle.at_setup.specs.declared.setup.Setup.{Setup}
 use Rattle.at_world.specs.Plays.{opening_node}
-use Rattle.at_drive_text.specs.Driven.{Tells, marks_of, news_text, sent_count}
+use Rattle.at_print.specs.Papers.{Page}
+use Rattle.at_print.specs.Printers.{HasFailed, Prints}
+use Rattle.at_print.specs.declared.printer.Printer.{Printer}
+use Rattle.at_drive_text.specs.Driven.{Tells, news_text, sent_count}
 
 module _ {A C : Type 0} (S : C → ℕ → ℕ → List ℕ → Result (Unit {0}) CableFault → C → Type 0)
     (R : C → ℕ → ℕ → Result (Option (List ℕ)) CableFault → C → Type 0) where
-  and_one : (at n : ℕ) (ss : List (Step A)) (s : Step A) (d : Driving A) (c : C) (mid : Driving A) (between : C)
-      (d' : Driving A) (c' : C) (m : ℕ) (text : List ℕ) → Tells S R at n ss d c mid between m text
-      → Drives S R (at + length ss) s mid between d' c'
-      → Tells S R at n (ss ++ s ∷ []) d c d' c' (m + sent_count (slice_get (d'.log).sent (length (mid.log).sent)))
-      (text ++ news_text (at + length ss) m (marks_of mid.log) d'.log)
-  and_one at n [] s d c mid between d' c' m text (same, alike, count, none) last =
+  and_one : (at n : ℕ) (ss : List (Step A)) (s : Step A) (d : Nodes) (c : C) (mid : Nodes) (between : C) (d' : Nodes)
+      (l : Logged A) (c' : C) (m : ℕ) (text : List ℕ) → Tells S R at n ss d c mid between m text
+      → Drives S R (at + length ss) s (with_log mid no_log) between (with_log d' l) c'
+      → Tells S R at n (ss ++ s ∷ []) d c d' c' (m + sent_count (slice_get l.sent 0))
+      (text ++ news_text (at + length ss) m l)
+  and_one at n [] s d c mid between d' l c' m text (same, alike, count, none) last =
       let here : at + 0 ≡ at = omega arith in
-      let from_d : Drives S R (at + 0) s d c d' c' =
-      subst (λ b. Drives S R (at + 0) s d b d' c') alike
-      (subst (λ x. Drives S R (at + 0) s x between d' c') same last) in
-      let printed : text ++ news_text (at + 0) m (marks_of mid.log) d'.log
-      ≡ news_text at n (marks_of d.log) d'.log ++ [] =
-      ap (λ l. l ++ news_text (at + 0) m (marks_of mid.log) d'.log) none
-      ∙ (λ i. news_text (here i) (count i) (marks_of (same i).log) d'.log)
-      ∙ sym (append-nil (news_text at n (marks_of d.log) d'.log)) in
-      let counted : m + sent_count (slice_get (d'.log).sent (length (mid.log).sent))
-      ≡ n + sent_count (slice_get (d'.log).sent (length (d.log).sent)) =
-      (λ i. count i + sent_count (slice_get (d'.log).sent (length ((same i).log).sent))) in
-      (d', c', [], subst (λ i. Drives S R i s d c d' c') here from_d, (refl, refl, counted, refl), printed)
-  and_one at n (x ∷ ss) s d c mid between d' c' m text (next, after, rest, drives, tells, is) last =
+      let from_d : Drives S R (at + 0) s (with_log d no_log) c (with_log d' l) c' =
+      subst (λ b. Drives S R (at + 0) s (with_log d no_log) b (with_log d' l) c') alike
+      (subst (λ x. Drives S R (at + 0) s (with_log x no_log) between (with_log d' l) c') same last) in
+      let printed : text ++ news_text (at + 0) m l ≡ news_text at n l ++ [] =
+      ap (λ t. t ++ news_text (at + 0) m l) none ∙ (λ i. news_text (here i) (count i) l)
+      ∙ sym (append-nil (news_text at n l)) in
+      let counted : m + sent_count (slice_get l.sent 0) ≡ n + sent_count (slice_get l.sent 0) =
+      (λ i. count i + sent_count (slice_get l.sent 0)) in (
+        d',
+        l,
+        c',
+        [],
+        subst (λ i. Drives S R i s (with_log d no_log) c (with_log d' l) c') here from_d,
+        (refl, refl, counted, refl),
+        printed,
+      )
+  and_one at n (x ∷ ss) s d c mid between d' l c' m text (next, came, after, rest, drives, tells, is) last =
       let there : at + suc (length ss) ≡ at + 1 + length ss = omega arith in
-      let later = subst (λ i. Drives S R i s mid between d' c') there last in
-      let more = and_one (at + 1) (n + sent_count (slice_get (next.log).sent (length (d.log).sent))) ss s next after mid
-      between d' c' m rest tells later in
-      let first = news_text at n (marks_of d.log) next.log in
-      let news = λ (i : ℕ). news_text i m (marks_of mid.log) d'.log in
+      let later = subst (λ i. Drives S R i s (with_log mid no_log) between (with_log d' l) c') there last in
+      let more = and_one (at + 1) (n + sent_count (slice_get came.sent 0)) ss s next after mid between d' l c' m rest
+      tells later in
+      let first = news_text at n came in
+      let news = λ (i : ℕ). news_text i m l in
       let printed : text ++ news (at + suc (length ss)) ≡ first ++ (rest ++ news (at + 1 + length ss)) =
-      ap (λ l. l ++ news (at + suc (length ss))) is ∙ append_assoc first rest (news (at + suc (length ss)))
+      ap (λ t. t ++ news (at + suc (length ss))) is ∙ append_assoc first rest (news (at + suc (length ss)))
       ∙ ap (λ i. first ++ (rest ++ news i)) there in
-      (next, after, rest ++ news (at + 1 + length ss), drives, more, printed)
+      (next, came, after, rest ++ news (at + 1 + length ss), drives, more, printed)
 
   -- the step at a place follows those before it
-  pub next_told : (steps : List (Step A)) (at n : ℕ) (s : Step A) (d : Driving A) (c : C) (mid : Driving A)
-      (between : C) (d' : Driving A) (c' : C) (text : List ℕ) → at < length steps → s ≡ get_or steps at s
-      → Tells S R 0 0 (take at steps) d c mid between n text → Drives S R at s mid between d' c'
-      → Tells S R 0 0 (take (at + 1) steps) d c d' c'
-      (n + sent_count (slice_get (d'.log).sent (length (mid.log).sent)))
-      (text ++ news_text at n (marks_of mid.log) d'.log)
-  next_told steps at n s d c mid between d' c' text within is tells last =
+  pub next_told : (steps : List (Step A)) (at n : ℕ) (s : Step A) (d : Nodes) (c : C) (mid : Nodes) (between : C)
+      (d' : Nodes) (l : Logged A) (c' : C) (text : List ℕ) → at < length steps → s ≡ get_or steps at s
+      → Tells S R 0 0 (take at steps) d c mid between n text
+      → Drives S R at s (with_log mid no_log) between (with_log d' l) c'
+      → Tells S R 0 0 (take (at + 1) steps) d c d' c' (n + sent_count (slice_get l.sent 0)) (text ++ news_text at n l)
+  next_told steps at n s d c mid between d' l c' text within is tells last =
       let place : at ≡ 0 + length (take at steps) = omega (arith, length-take at steps) in
       let more : take (at + 1) steps ≡ take at steps ++ s ∷ [] =
       take_more steps at s within ∙ ap (λ x. take at steps ++ x ∷ []) (sym is) in
-      let after = n + sent_count (slice_get (d'.log).sent (length (mid.log).sent)) in
-      subst (λ i. Tells S R 0 0 (take (at + 1) steps) d c d' c' after (text ++ news_text i n (marks_of mid.log) d'.log))
-      (sym place)
-      (subst (λ l. Tells S R 0 0 l d c d' c' after
-      (text ++ news_text (0 + length (take at steps)) n (marks_of mid.log) d'.log)) (sym more)
-      (and_one 0 0 (take at steps) s d c mid between d' c' n text tells
-      (subst (λ i. Drives S R i s mid between d' c') place last)))
+      let after = n + sent_count (slice_get l.sent 0) in
+      subst (λ i. Tells S R 0 0 (take (at + 1) steps) d c d' c' after (text ++ news_text i n l)) (sym place)
+      (subst (λ ss. Tells S R 0 0 ss d c d' c' after (text ++ news_text (0 + length (take at steps)) n l)) (sym more)
+      (and_one 0 0 (take at steps) s d c mid between d' l c' n text tells
+      (subst (λ i. Drives S R i s (with_log mid no_log) between (with_log d' l) c') place last)))
 
   -- a cable that was not asked is left as it was
   pub left_alone : (o : Option (Step A)) (c : C) → IsLeft R o c c
@@ -108,5 +113,11 @@ numbers_from : {A : Type 0} (s : Setup A) (ns : List NodeSetup) → map node_num
 numbers_from s [] = refl
 numbers_from s (n ∷ ns) = ap (λ l. n.node ∷ l) (numbers_from s ns)
 
-pub begin_numbers : {A : Type 0} (s : Setup A) → map node_number (opening_drive s).nodes ≡ numbers_of s
+pub begin_numbers : {A : Type 0} (s : Setup A) → map node_number (opening_nodes_of s).nodes ≡ numbers_of s
 begin_numbers s = numbers_from s s.nodes
+
+-- ---- a printer that failed prints nothing more
+
+pub stays_failed : {W : Type 0} (page : W → Page) (a b : Printer W) (text : List ℕ) → Prints page a b text
+    → HasFailed a → HasFailed b
+stays_failed page a b text h failed = subst HasFailed (sym (h.stopped failed)) failed

@@ -1,28 +1,25 @@
--- What is printed of a drive: of each step what it added to the log. S and R say what may come of a send and of a
--- receive on the cable.
-use Rattle.std.specs.Prelude.{◌≡◌, ◌↔◌, ℕ, ◌+◌, ◌-◌, ◌^◌, ◌≤◌, ◌&&◌, nat_le, min, if◌then◌else◌, Bool, List, [], ◌∷◌}
-use Rattle.std.specs.Prelude.{◌++◌, codes, drop, length, slice_get, take, Option, Some, None, Result, Ok, Err, IsOk}
+-- What is printed of a drive: of each step what came of it. S and R say what may come of a send and of a receive on the
+-- cable.
+use Rattle.std.specs.Prelude.{◌≡◌, ◌↔◌, ◌⊎◌, ℕ, ◌+◌, ◌-◌, ◌^◌, ◌<◌, ◌&&◌, nat_le, min, if◌then◌else◌, Bool, List}
+use Rattle.std.specs.Prelude.{[], ◌∷◌, ◌++◌, codes, length, slice_get, take, Option, Some, None, Result, Ok, Err, IsOk}
 use Rattle.std.specs.Fmt.{decimal}
 use Rattle.std.specs.List.{flat_map}
 use Rattle.at_cable.specs.declared.fault.CableFault.{CableFault}
 use Rattle.at_ddp.specs.Datagrams.{Datagrams, Posted}
 use Rattle.at_event.specs.declared.report.Report.{Report}
 use Rattle.at_setup.specs.declared.setup.Setup.{Setup}
-use Rattle.at_drive.specs.Drives.{Drives, Driving, IsLeft, Logged, opening_drive}
+use Rattle.at_drive.specs.Drives.{Driven as Nodes, Drives, IsLeft, Logged, no_log, opening_nodes_of, with_log}
 use Rattle.at_drive.specs.declared.step.Step.{Step}
+use Rattle.at_drive_text.specs.declared.ending.Ending.{Ending}
+use Rattle.at_drive_text.specs.declared.ending.Ending.TheVariants as ending
 use Rattle.at_print.specs.Papers.{Page}
 use Rattle.at_print.specs.Printers.{HasFailed, Prints}
 use Rattle.at_print.specs.Reports.{datagram_line, event_line}
 use Rattle.at_print.specs.declared.printer.Printer.{Printer}
 use Rattle.at_print.specs.declared.status.Status.{Status}
 use Rattle.at_print.specs.declared.status.Status.TheVariants.{Done}
-use Rattle.at_drive_text.specs.declared.news.Marks.{Marks}
 
--- how far a log goes
-abbrev pub marks_of : {A : Type 0} → Logged A → Marks
-marks_of l = record { reports = length l.reports; sent = length l.sent; faults = length l.faults }
-
--- ---- what a step added
+-- ---- what came of a step
 
 -- the number of a datagram before which so many were sent, up to the largest of 64 bits
 abbrev pub number_of : ℕ → ℕ
@@ -50,52 +47,63 @@ sent_count (Some out) = length out.items
 abbrev pub fault_line : ℕ → List ℕ
 fault_line at = decimal at ++ codes " cable\n"
 
--- there is no more in a log than at these marks: nothing waited at a poll, which did not fail
-abbrev pub is_idle : {A : Type 0} → Marks → Logged A → Bool
-is_idle m l = nat_le (length l.reports) m.reports && nat_le (length l.faults) m.faults
+-- nothing waited at a poll, which did not fail
+abbrev pub is_idle : {A : Type 0} → Logged A → Bool
+is_idle l = nat_le (length l.reports) 0 && nat_le (length l.faults) 0
 
--- the report that a log has after these marks, what was sent with it, and each failed call; or that nothing waited
-abbrev pub news_text : {A : Type 0} → ℕ → ℕ → Marks → Logged A → List ℕ
-news_text at n m l =
-    report_part at (slice_get l.reports m.reports)
-    ++ (sent_part n (slice_get l.sent m.sent)
-    ++ (flat_map fault_line (drop m.faults l.faults)
-    ++ (if is_idle m l then decimal at ++ codes " idle\n" else [])))
+-- the report, what was sent with it, and each failed call; or that nothing waited
+abbrev pub news_text : {A : Type 0} → ℕ → ℕ → Logged A → List ℕ
+news_text at n l =
+    report_part at (slice_get l.reports 0)
+    ++ (sent_part n (slice_get l.sent 0)
+    ++ (flat_map fault_line l.faults ++ (if is_idle l then decimal at ++ codes " idle\n" else [])))
 
 -- ---- a whole drive
 
 -- These steps are driven, of which the first is at this place, and before which so many datagrams were sent. Of each
 -- this is printed.
 abbrev pub Tells : {A C : Type 0} → (C → ℕ → ℕ → List ℕ → Result (Unit {0}) CableFault → C → Type 0)
-    → (C → ℕ → ℕ → Result (Option (List ℕ)) CableFault → C → Type 0) → ℕ → ℕ → List (Step A) → Driving A → C
-    → Driving A → C → ℕ → List ℕ → Type 0
+    → (C → ℕ → ℕ → Result (Option (List ℕ)) CableFault → C → Type 0) → ℕ → ℕ → List (Step A) → Nodes → C
+    → Nodes → C → ℕ → List ℕ → Type 0
 Tells S R at n [] d c d' c' n' text = (d' ≡ d) × (c' ≡ c) × (n' ≡ n) × (text ≡ [])
 Tells {A} {C} S R at n (s ∷ ss) d c d' c' n' text =
-    (mid : Driving A) × (between : C) × (rest : List ℕ) × Drives S R at s d c mid between
-    × Tells S R (at + 1) (n + sent_count (slice_get (mid.log).sent (length (d.log).sent))) ss mid between d' c' n' rest
-    × (text ≡ news_text at n (marks_of d.log) mid.log ++ rest)
+    (mid : Nodes) × (l : Logged A) × (between : C) × (rest : List ℕ)
+    × Drives S R at s (with_log d no_log) c (with_log mid l) between
+    × Tells S R (at + 1) (n + sent_count (slice_get l.sent 0)) ss mid between d' c' n' rest
+    × (text ≡ news_text at n l ++ rest)
 
--- All steps were driven, and this is printed of them. Or memory ran out at a step, and it is printed of those before.
+-- All steps were driven, and this is printed of them. Or a write failed at a step, which is the last one then. Or
+-- there was no memory for a step, or for the opening, which counts as step 0, and this is printed of those before.
 abbrev pub TellsDrive : {A C : Type 0} → (C → ℕ → ℕ → List ℕ → Result (Unit {0}) CableFault → C → Type 0)
     → (C → ℕ → ℕ → Result (Option (List ℕ)) CableFault → C → Type 0) → Setup A → List (Step A) → C → C
-    → Result (Unit {0}) ℕ → List ℕ → Type 0
+    → Result (Unit {0}) Ending → List ℕ → Type 0
 TellsDrive {A} S R setup steps c c' (Ok u) text =
-    (d : Driving A) × (n : ℕ) × Tells S R 0 0 steps (opening_drive setup) c d c' n text
-TellsDrive {A} {C} S R setup steps c c' (Err at) text =
-    (d : Driving A) × (n : ℕ) × (mid : C) × (at ≤ length steps)
-    × Tells S R 0 0 (take at steps) (opening_drive setup) c d mid n text × IsLeft R (slice_get steps at) mid c'
+    (d : Nodes) × (n : ℕ) × Tells S R 0 0 steps (opening_nodes_of setup) c d c' n text
+TellsDrive {A} S R setup steps c c' (Err (ending.Unwritten at)) text =
+    (d : Nodes) × (n : ℕ) × (at < length steps)
+    × Tells S R 0 0 (take (at + 1) steps) (opening_nodes_of setup) c d c' n text
+TellsDrive {A} {C} S R setup steps c c' (Err (ending.NoMemory at)) text =
+    (d : Nodes) × (n : ℕ) × (mid : C) × ((at ≡ 0) ⊎ (at < length steps))
+    × Tells S R 0 0 (take at steps) (opening_nodes_of setup) c d mid n text × IsLeft R (slice_get steps at) mid c'
 
 -- the line of the step at which memory ran out
-abbrev pub drive_end : Result (Unit {0}) ℕ → List ℕ
+abbrev pub drive_end : Result (Unit {0}) Ending → List ℕ
 drive_end (Ok u) = []
-drive_end (Err at) = codes "stopped nomemory at " ++ (decimal at ++ codes "\n")
+drive_end (Err (ending.Unwritten at)) = []
+drive_end (Err (ending.NoMemory at)) = codes "stopped nomemory at " ++ (decimal at ++ codes "\n")
+
+-- the drive ended since a write failed
+abbrev pub IsUnwritten : Result (Unit {0}) Ending → Type 0
+IsUnwritten (Err (ending.Unwritten at)) = Unit {0}
+IsUnwritten other = ⊥
 
 -- how a drive ended, and what is printed of it
 pub record Driven {A C W : Type 0} (S : C → ℕ → ℕ → List ℕ → Result (Unit {0}) CableFault → C → Type 0)
     (R : C → ℕ → ℕ → Result (Option (List ℕ)) CableFault → C → Type 0) (setup : Setup A) (steps : List (Step A))
     (c c' : C) (page : W → Page) (status : Status) (old new : Printer W) : Type 0 where
-  pub result : Result (Unit {0}) ℕ
+  pub result : Result (Unit {0}) Ending
   pub text : List ℕ
   pub tells : TellsDrive S R setup steps c c' result text
   pub done : (status ≡ Done) ↔ (IsOk result × ¬ HasFailed new)
   pub printed : Prints page old new (text ++ drive_end result)
+  pub unwritten : IsUnwritten result → HasFailed new

@@ -1,15 +1,16 @@
 //! The drive of nodes over a cable: each step is driven and printed before the next.
-ghost use Rattle.std.specs.Prelude.{◌≡◌, ◌↔◌, true, List, ℕ, IsOk, map, slice_get};
+ghost use Rattle.std.specs.Prelude.{◌≡◌, ◌↔◌, ◌&&◌, nat_le, not, true, List, ℕ, IsOk, length, map, slice_get};
 ghost use Rattle.at_diagnostics.specs.Diagnostics.{TellsWrites};
 ghost use Rattle.at_diagnostics.specs.declared.diagnostics.Diagnostics.{Diagnostics as Told};
-ghost use Rattle.at_drive.specs.Drives.{logged, number_of as node_number, opening_drive};
+ghost use Rattle.at_drive.specs.Drives.{logged, number_of as node_number, opening_nodes_of};
 ghost use Rattle.at_drive.specs.Steps.{has_all, numbers_of};
 ghost use Rattle.at_print.specs.Printers.{HasFailed, Prints};
 ghost use Rattle.at_setup.specs.declared.setup.Setup.{Setup as Said};
-ghost use Rattle.at_drive_text.specs.Driven.{Driven, TellsDrive, drive_end};
+ghost use Rattle.at_drive_text.specs.Driven.{Driven, IsUnwritten, TellsDrive, drive_end};
 ghost use Rattle.at_drive_text.specs.Told.{TellsCable, TellsEnd, TellsRefusal, TellsStep};
 
-use crate::news::{Marks, is_first_failure, next_number, write_news};
+use crate::ending::Ending;
+use crate::news::{next_number, write_news};
 use at_cable::Cable;
 use at_diagnostics::Diagnostics;
 use at_drive::{Drive, Log, Step};
@@ -20,7 +21,8 @@ use std::alloc::Allocator;
 
 /// Drives the nodes of a setup over a cable, step by step, and prints what came of each step before the next is driven:
 /// the report, what was sent, a line for each call of the cable that failed, or that nothing waited. Why a node refused
-/// something, that a call of the cable failed, and why the drive ended before its last step is told to a person too.
+/// something, that a call of the cable failed, and why the drive ended before its last step is told to a person too. It
+/// ends once a write failed.
 pub fn drive_text<A: Allocator + Copy, C: Cable, W: Paper, E: Paper>(
     alloc: A,
     setup: &Setup<A>,
@@ -36,7 +38,7 @@ pub fn drive_text<A: Allocator + Copy, C: Cable, W: Paper, E: Paper>(
     end(driven, printer, diagnostics)
 }
 
-// The error is the place of the step for which there was no memory.
+// The error is why the drive ended before its last step.
 fn drive_each<A: Allocator + Copy, C: Cable, W: Paper, E: Paper>(
     alloc: A,
     setup: &Setup<A>,
@@ -44,15 +46,19 @@ fn drive_each<A: Allocator + Copy, C: Cable, W: Paper, E: Paper>(
     cable: &mut C,
     printer: &mut Printer<W>,
     diagnostics: &mut Diagnostics<'_, E>,
-) -> Result<(), usize>
+) -> Result<(), Ending>
     requires { has_all setup.now steps.now ≡ true }
-    ensures { (text : List ℕ) × TellsDrive C.sends C.receives setup.now steps.now cable.old cable.new result text
+    ensures told { (text : List ℕ)
+        × TellsDrive C.sends C.receives setup.now steps.now cable.old cable.new result text
         × Prints W.page printer.old printer.new text }
+    ensures unwritten { IsUnwritten result → HasFailed printer.new }
 {
     let Ok(mut drive) = Drive::open(alloc, setup) else {
-        return Err(0);
+        return Err(Ending::NoMemory(0));
     };
-    let driven = drive_steps(&mut drive, steps, cable, printer, diagnostics);
+    // What came of one step, in the room of the step before.
+    let mut log = Log::new(alloc);
+    let driven = drive_steps(&mut drive, &mut log, steps, cable, printer, diagnostics);
     // By this call. Wherever a drive ends without one, its end is proved anew.
     drop(drive);
     driven
@@ -60,28 +66,34 @@ fn drive_each<A: Allocator + Copy, C: Cable, W: Paper, E: Paper>(
 
 fn drive_steps<A: Allocator + Copy, C: Cable, W: Paper, E: Paper>(
     drive: &mut Drive<A>,
+    log: &mut Log<A>,
     steps: &[Step<A>],
     cable: &mut C,
     printer: &mut Printer<W>,
     diagnostics: &mut Diagnostics<'_, E>,
-) -> Result<(), usize>
+) -> Result<(), Ending>
     requires { (setup : Said A) × (map node_number drive.old.nodes ≡ numbers_of setup)
         × (has_all setup steps.now ≡ true) }
-    ensures { (setup : Said A) → drive.old ≡ opening_drive setup → (text : List ℕ)
+    ensures told { (setup : Said A) → drive.old ≡ opening_nodes_of setup → (text : List ℕ)
         × TellsDrive C.sends C.receives setup steps.now cable.old cable.new result text
         × Prints W.page printer.old printer.new text }
+    ensures unwritten { IsUnwritten result → HasFailed printer.new }
 {
     let mut number = 0usize;
+    let mut has_failed = false;
     for (at, step) in steps.iter().enumerate() {
-        let marks = Marks::of(drive.log());
-        if drive.step(cable, at, step).is_err() {
-            return Err(at);
+        log.clear();
+        if drive.step(cable, at, step, log).is_err() {
+            return Err(Ending::NoMemory(at));
         }
-        let log = drive.log();
-        write_news(printer, at, number, log, marks);
-        number = next_number(number, log, marks);
+        write_news(printer, at, number, log);
+        number = next_number(number, log);
         printer.flush();
-        tell_news(diagnostics, at, log, marks);
+        tell_news(diagnostics, at, log, has_failed);
+        has_failed = has_failed || !log.faults.is_empty();
+        if printer.has_failed() {
+            return Err(Ending::Unwritten(at));
+        }
     }
     Ok(())
 }
@@ -91,23 +103,29 @@ fn tell_news<A: Allocator, E: Paper>(
     diagnostics: &mut Diagnostics<'_, E>,
     at: usize,
     log: &Log<A>,
-    marks: Marks,
+    has_failed: bool,
 )
-    ensures { TellsStep E.page at marks (logged log.now) diagnostics.old diagnostics.new }
+    ensures { TellsStep E.page at has_failed (logged log.now) diagnostics.old diagnostics.new }
 {
-    tell_refusal(diagnostics, at, &log.reports, marks.reports);
-    tell_cable(diagnostics, at, is_first_failure(log, marks));
+    tell_refusal(diagnostics, at, &log.reports);
+    tell_cable(diagnostics, at, is_first(has_failed, &log.faults));
+}
+
+// Whether a call of the cable failed, and none before.
+fn is_first(has_failed: bool, faults: &[usize]) -> bool
+    ensures { result ≡ (not has_failed && nat_le 1 (length faults.now)) }
+{
+    !has_failed && faults.len() >= 1
 }
 
 fn tell_refusal<A: Allocator, E: Paper>(
     diagnostics: &mut Diagnostics<'_, E>,
     at: usize,
     reports: &[Report<A>],
-    place: usize,
 )
-    ensures { TellsRefusal E.page at (slice_get reports.now place) diagnostics.old diagnostics.new }
+    ensures { TellsRefusal E.page at (slice_get reports.now 0) diagnostics.old diagnostics.new }
 {
-    match reports.get(place) {
+    match reports.first() {
         Some(report) => diagnostics.tell_report(report, at, 0),
         None => {}
     }
@@ -123,7 +141,7 @@ fn tell_cable<E: Paper>(diagnostics: &mut Diagnostics<'_, E>, at: usize, has_fai
 
 // Tells how a drive ended, and why it stopped if it did.
 fn end<W: Paper, E: Paper>(
-    driven: Result<(), usize>,
+    driven: Result<(), Ending>,
     printer: &mut Printer<W>,
     diagnostics: &mut Diagnostics<'_, E>,
 ) -> Status
@@ -138,7 +156,7 @@ fn end<W: Paper, E: Paper>(
 }
 
 fn finish<W: Paper, E: Paper>(
-    driven: Result<(), usize>,
+    driven: Result<(), Ending>,
     printer: &mut Printer<W>,
     diagnostics: &mut Diagnostics<'_, E>,
 ) -> Status
@@ -148,7 +166,8 @@ fn finish<W: Paper, E: Paper>(
 {
     match driven {
         Ok(()) => printer.finish(Status::Done),
-        Err(at) => {
+        Err(Ending::Unwritten(_)) => printer.finish(Status::Failed),
+        Err(Ending::NoMemory(at)) => {
             writeln!(printer, "stopped nomemory at {at}");
             diagnostics.tell_undriven(at);
             printer.finish(Status::Failed)

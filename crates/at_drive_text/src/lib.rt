@@ -2,6 +2,7 @@
 #![tactic(auto)]
 
 mod drive;
+mod ending;
 mod fault;
 mod news;
 

@@ -6,7 +6,7 @@ use Rattle.at_drive_text.proofs.drive.tell_news.Goals as goal
 pub returns : goal.returns
 returns g c = (
   c.tell_refusal.new.diagnostics,
-  subst (λ xs. TellsRefusal g.E.Paper.page c.args.at (slice_get xs c.args.marks.reports) c.args.diagnostics.now
+  subst (λ xs. TellsRefusal g.E.Paper.page c.args.at (slice_get xs 0) c.args.diagnostics.now
       c.tell_refusal.new.diagnostics) c.deref.ensures.value c.tell_refusal.ensures,
-  rw c.is_first_failure.ensures at c.tell_cable.ensures,
+  rw (c.is_first.ensures, c.deref-2.ensures.value) at c.tell_cable.ensures,
 )

@@ -1,13 +1,13 @@
 use Rattle.std.proofs.Common.{ap, ◌∙◌}
-use Rattle.at_drive.specs.Drives.{Driving, Logged}
+use Rattle.at_drive.specs.Drives.{Driven, Driving, Logged}
 use Rattle.at_drive.proofs.stepping.Drive.arrive.Goals as goal
 
 pub returns-clause-driven : goal.returns-clause-driven
 returns-clause-driven g c =
     let with_log : Logged g.row.A.Denot → Driving g.row.A.Denot = λ l. record {
-      nodes = c.self.inside.nodes.items;
+      nodes = c.args.self.now.nodes;
       log = l;
-      failed = c.self.inside.failed;
+      failed = c.args.self.now.failed;
     } in
-    let same = ap with_log c.arrival.ensures.log ∙ c.self.view_is in
+    let same = ap with_log c.arrival.ensures.log in
     rw (c.of-received.ensures, c.in_ok-arrival.ensures.arrival, same) at c.play.ensures.driven
