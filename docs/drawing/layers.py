@@ -1,0 +1,209 @@
+"""The layers of the crates, and a picture of them. Who uses whom is read from crates.txt."""
+
+from collections.abc import Iterator
+from pathlib import Path
+from typing import NamedTuple
+
+from svg import INK, PALE, PAPER, SOFT, Picture, width_of
+
+
+class Layer(NamedTuple):
+    """A layer: its name, what it is for, and its crates."""
+
+    name: str
+    does: str
+    crates: str
+
+
+# Rows of layers that are side by side, the highest first. A crate uses only crates of its own layer
+# and of lower rows.
+ROWS = [
+    [Layer("program", "atnode play, udp, show", "atnode")],
+    [
+        Layer("play", "plays a schedule", "at_play"),
+        Layer("drive", "nodes over a cable or UDP", "at_drive at_drive_lines at_drive_text"),
+        Layer("C", "a node in a C program", "raw_box at_held at_c"),
+    ],
+    [
+        Layer("world", "nodes on one cable, and the headline", "at_world"),
+        Layer(
+            "text",
+            "schedules in, reports out",
+            "at_words at_faults at_call_words at_setup_lines at_schedule"
+            " at_print at_diagnostics at_show",
+        ),
+    ],
+    [
+        Layer(
+            "node",
+            "one event in, one report and its datagrams out",
+            "at_event at_name_socket at_stream_socket at_session at_node at_steps at_setup",
+        )
+    ],
+    [
+        Layer(
+            "cores",
+            "ATP, ZIP, NBP and ADSP, without clock or socket",
+            "at_table at_atp_requester at_atp_responder at_atp at_zip at_patterns at_nbp"
+            " at_adsp_end at_adsp_ends at_adsp",
+        )
+    ],
+    [
+        Layer(
+            "wire",
+            "datagrams, packets, cables",
+            "at_ddp at_atp_frame at_adsp_frame at_cable at_udp",
+        )
+    ],
+]
+BESIDE = Layer(
+    "tests",
+    "tests and examples",
+    "refusing at_core_tests at_cable_tests example_programs example_capture",
+)
+
+WIDTH, EDGE, BETWEEN, BELOW = 860, 20, 24, 26
+HEAD, LINE, SMALL = 26, 15, 11
+
+
+class Wrong(Exception):
+    """How crates.txt and the layers disagree."""
+
+
+def uses_in(text: str) -> dict[str, list[str]]:
+    """Each crate of crates.txt, with the crates of the repository that it uses."""
+    rows = [it.partition("#")[0].partition(":") for it in text.splitlines()]
+    found = {name.split()[0]: uses.split() for name, _, uses in rows if name.strip()}
+    return {name: [it for it in uses if it in found] for name, uses in found.items()}
+
+
+def height_in() -> dict[str, tuple[int, str]]:
+    """The row of each crate, counted from below, and the name of its layer."""
+    rows = [[BESIDE], *ROWS]
+    places = [(len(rows) - at, layer) for at, row in enumerate(rows) for layer in row]
+    return {crate: (at, layer.name) for at, layer in places for crate in layer.crates.split()}
+
+
+def check(uses: dict[str, list[str]]) -> None:
+    """Tests that each crate has one layer, and uses only what lies below."""
+    height = height_in()
+    listed = [it for row in [[BESIDE], *ROWS] for layer in row for it in layer.crates.split()]
+    if sorted(listed) != sorted(uses):
+        odd = {it for it in listed if listed.count(it) > 1} | set(listed) ^ set(uses)
+        where = "both in crates.txt and in one layer of docs/drawing/layers.py"
+        raise Wrong(f"not {where}: {' '.join(sorted(odd))}")
+    for name, below in uses.items():
+        for it in below:
+            if height[it][1] != height[name][1] and height[it][0] >= height[name][0]:
+                raise Wrong(f"{name} uses {it}, which docs/drawing/layers.py has no lower")
+
+
+def edges_of(uses: dict[str, list[str]]) -> list[tuple[str, str]]:
+    """Which layer uses which, but for what is so through another layer."""
+    height = height_in()
+    pairs = {(height[name][1], height[it][1]) for name, below in uses.items() for it in below}
+    direct = {(a, b) for a, b in pairs if a not in (b, BESIDE.name)}
+    through = {(a, b) for a, c in direct for _, b in direct if reaches(c, b, direct)}
+    return sorted(direct - through)
+
+
+def reaches(above: str, below: str, direct: set[tuple[str, str]]) -> bool:
+    """Whether a layer uses another one, maybe through others."""
+    return any(a == above and (b == below or reaches(b, below, direct)) for a, b in direct)
+
+
+def wrapped(crates: str, width: float) -> list[str]:
+    """The names of crates in lines that fit a width."""
+    lines = [""]
+    for name in crates.split():
+        if width_of(f"{lines[-1]} {name}", SMALL) > width:
+            lines.append("")
+        lines[-1] = f"{lines[-1]} {name}".strip()
+    return lines
+
+
+class Box(NamedTuple):
+    """A layer, and where it is drawn."""
+
+    layer: Layer
+    x: float
+    y: float
+    width: float
+    height: float
+
+
+def boxes() -> Iterator[Box]:
+    """Where each layer is drawn: the rows from above, and at last what lies beside them."""
+    y = 52.0
+    for row in [*ROWS, [BESIDE]]:
+        width = (WIDTH - 2 * EDGE - BETWEEN * (len(row) - 1)) / len(row)
+        lines = max(len(wrapped(it.crates, width - 24)) for it in row)
+        height = HEAD + LINE * lines + 10
+        for at, layer in enumerate(row):
+            yield Box(layer, EDGE + at * (width + BETWEEN), y, width, height)
+        y += height + BELOW
+
+
+def draw_box(picture: Picture, box: Box, fill: str) -> None:
+    """Draws a layer: its name, what it is for, and its crates."""
+    layer = box.layer
+    dashes = {"stroke_dasharray": "4 3"} if layer is BESIDE else {}
+    picture.box(box.x, box.y, box.width, box.height, fill, stroke=SOFT, rx=5, **dashes)
+    picture.text(box.x + 12, box.y + 18, layer.name, 13, INK, font_weight="bold")
+    after = box.x + 24 + width_of(layer.name, 13)
+    picture.text(after, box.y + 18, layer.does, SMALL, INK)
+    for at, line in enumerate(wrapped(layer.crates, box.width - 24)):
+        picture.text(box.x + 12, box.y + HEAD + 10 + LINE * at, line, SMALL, SOFT)
+
+
+def draw_arrow(picture: Picture, x: float, start: float, end: float) -> None:
+    """Draws an arrow that goes down."""
+    picture.line(x, start, x, end - 8, INK)
+    points = f"{x:.1f},{end:.1f} {x - 4:.1f},{end - 9:.1f} {x + 4:.1f},{end - 9:.1f}"
+    picture.shape("polygon", points=points, fill=INK)
+
+
+def middle(above: Box, below: Box) -> float:
+    """The middle of where two boxes are over each other."""
+    left, right = max(above.x, below.x), min(above.x + above.width, below.x + below.width)
+    return (left + right) / 2
+
+
+def draw_bus(picture: Picture, above: list[Box], below: list[Box]) -> None:
+    """Draws how each layer of a row uses each of the next row: through one line between them."""
+    tops, foot = [middle(it, it) for it in above], above[0].y + above[0].height
+    y, ends = foot + BELOW / 3, [middle(it, it) for it in below]
+    picture.line(min(tops + ends), y, max(tops + ends), y, INK)
+    for x in tops:
+        picture.line(x, foot, x, y, INK)
+    for x in ends:
+        draw_arrow(picture, x, y, below[0].y)
+
+
+def draw_uses(picture: Picture, placed: dict[str, Box], edges: list[tuple[str, str]]) -> None:
+    """Draws which layer uses which, each in the next row."""
+    for upper, lower in zip(ROWS, ROWS[1:]):
+        above, below = [placed[it.name] for it in upper], [placed[it.name] for it in lower]
+        pairs = [(a, b) for a in above for b in below if (a.layer.name, b.layer.name) in edges]
+        if len(pairs) == len(above) * len(below) and len(above) > 1 and len(below) > 1:
+            draw_bus(picture, above, below)
+            continue
+        for a, b in pairs:
+            draw_arrow(picture, middle(a, b), a.y + a.height, b.y)
+
+
+def draw_layers(top: Path) -> str:
+    """The picture of all layers."""
+    uses = uses_in((top / "crates.txt").read_text("utf-8"))
+    check(uses)
+    edges, placed = edges_of(uses), {it.layer.name: it for it in boxes()}
+    rows = [layer for row in [*ROWS, [BESIDE]] for layer in row]
+    told = [f"{it.name}, {it.does}: {', '.join(it.crates.split())}." for it in rows]
+    told += [f"{above} uses {below}." for above, below in edges]
+    picture = Picture("The layers of atnode", " ".join(told))
+    picture.text(EDGE, 32, "An arrow leads from a layer to one that it uses.", 12, SOFT)
+    draw_uses(picture, placed, edges)
+    for box in placed.values():
+        draw_box(picture, box, PAPER if box.layer is BESIDE else PALE)
+    last = placed[BESIDE.name]
+    return picture.svg(WIDTH, last.y + last.height + EDGE)
