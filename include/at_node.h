@@ -59,7 +59,8 @@ enum { AT_NODE_EVERYONE = 255 };
    No pointer is null, not even to no bytes, and no two of a call point into the same memory. The caller owns all of
    this memory. Nothing of it is kept after a call. Texts are bytes of any value, and end where their length says. */
 
-/* The number of this library, 2. It rises with each change of what is promised here. */
+/* The number of this interface, 2. It rises with each change of what is promised here. The version of the release is
+   another one. */
 uint32_t at_node_version(void);
 
 /* Opens a node. `setup` has the first lines of a schedule, as "net 10\nnode 5 zone Lab\n..", and `number`, 1 to 254,
