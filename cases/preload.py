@@ -6,12 +6,14 @@ The library is built by gcc of the file of its name beside this one, and is load
 import os
 import pathlib
 import shutil
+import socket
 import subprocess
 import sys
-from collections.abc import Callable
+from collections.abc import Callable, Iterable
 from typing import NamedTuple
 
 SECONDS = 60
+HOST = "127.0.0.1"
 HERE = pathlib.Path(__file__).resolve().parent
 STRICT = ["-std=c99", "-O1", "-Wall", "-Wextra", "-Wpedantic", "-Werror", "-shared", "-fPIC"]
 
@@ -75,6 +77,24 @@ def end_of(tests: list[Test]) -> int:
     results = [is_good(name, test) for name, test in tests]
     print(f"{results.count(True)} passed, {results.count(False)} failed")
     return int(not results or not all(results))
+
+
+def is_free(port: int) -> bool:
+    """Whether nobody is at a port."""
+    with socket.socket(socket.AF_INET, socket.SOCK_DGRAM) as one:
+        try:
+            one.bind((HOST, port))
+        except OSError:
+            return False
+        return True
+
+
+def free_port(nodes: Iterable[int]) -> int:
+    """A port P, so that nobody is at the ports of these nodes."""
+    for first in range(10_000 + os.getpid() % 100 * 64, 20_000, 64):
+        if all(is_free(first + node) for node in nodes):
+            return first
+    raise Wrong("no ports are free")
 
 
 def program_of(usage: str) -> str:

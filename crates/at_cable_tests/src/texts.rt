@@ -1,11 +1,11 @@
 //! What is printed and told of drives over a cable in memory, of which each call fails in turn.
-ghost use Rattle.std.specs.Prelude.{◌≡◌, true};
-ghost use Rattle.at_drive.specs.Steps.{has_all};
+ghost use Rattle.at_drive_lines.specs.Drafts.{BeginsSo};
+ghost use Rattle.at_schedule.specs.Schedules.{lines_in};
 
 use at_cable::{Cable, MemoryCable};
 use at_diagnostics::Diagnostics;
-use at_drive_lines::{DriveText, read_drive};
-use at_drive_text::drive_text;
+use at_drive_lines::{DriveHead, TextLines, read_head};
+use at_drive_text::drive_lines;
 use at_print::{Printer, Status};
 use std::alloc::{AllocError, Global};
 use std::process::Abort;
@@ -79,17 +79,18 @@ sent 1 5 0020CA71000A000A05018006039000000001000002034C6162064F6666696365
 fn printed_by<C: Cable>(
     rt: &impl Abort,
     alloc: Global,
-    drive: &DriveText,
+    head: &DriveHead,
+    text: &[u8],
     cable: &mut C,
 ) -> (Vec<u8>, Vec<u8>)
-    requires { has_all drive.now.setup drive.now.steps.items ≡ true }
+    requires { BeginsSo head.now.setup head.now.port (lines_in text.now) }
 {
     let mut printed = Vec::new(alloc);
     let mut told = Vec::new(alloc);
-    let status = drive_text(
+    let status = drive_lines(
         alloc,
-        &drive.setup,
-        drive.steps.as_slice(),
+        &head.setup,
+        &mut TextLines::of(text),
         cable,
         &mut Printer::new(&mut printed),
         &mut Diagnostics::new("a.txt", &mut told),
@@ -98,31 +99,33 @@ fn printed_by<C: Cable>(
     (printed, told)
 }
 
-fn read(rt: &impl Abort, alloc: Global, text: &[u8]) -> DriveText
-    ensures { has_all result.setup result.steps.items ≡ true }
+fn read(rt: &impl Abort, alloc: Global, text: &[u8]) -> DriveHead
+    ensures { BeginsSo result.setup result.port (lines_in text.now) }
 {
-    read_drive(alloc, text).expect(rt, "a fault")
+    read_head(alloc, &mut TextLines::of(text)).expect(rt, "a fault")
 }
 
 // What is printed and told if this call of the cable fails.
 fn printed_failing(
     rt: &impl Abort,
     alloc: Global,
-    drive: &DriveText,
+    head: &DriveHead,
+    text: &[u8],
     call: u64,
 ) -> Result<(Vec<u8>, Vec<u8>), AllocError>
-    requires { has_all drive.now.setup drive.now.steps.items ≡ true }
+    requires { BeginsSo head.now.setup head.now.port (lines_in text.now) }
 {
     let mut cable = MemoryCable::new(alloc, &[1, 5])?.failing_at(call);
-    Ok(printed_by(rt, alloc, drive, &mut cable))
+    Ok(printed_by(rt, alloc, head, text, &mut cable))
 }
 
 #[test]
 fn a_call_of_the_cable_that_fails_is_printed_after_its_event(rt: HostRuntime) -> Result<(), Fail> {
-    let drive = read(&rt, rt.alloc(), ZONES.as_bytes());
-    assert!(rt; drive.port == 20_000);
+    let text = ZONES.as_bytes();
+    let head = read(&rt, rt.alloc(), text);
+    assert!(rt; head.port == 20_000);
     for (call, printed, told) in ROWS.iter() {
-        let came = printed_failing(&rt, rt.alloc(), &drive, *call)?;
+        let came = printed_failing(&rt, rt.alloc(), &head, text, *call)?;
         assert!(rt; came.0.as_slice() == printed.as_bytes(), "call {call}");
         assert!(rt; came.1.as_slice() == told.as_bytes(), "call {call}");
     }

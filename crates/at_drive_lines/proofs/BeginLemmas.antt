@@ -103,7 +103,7 @@ has_place port d room = elim (cases_lt 15 (65535 - port)) [
 
 pub whole_drive : (A : Type 0) → ((d : Draft) (lines : List (List (List ℕ))) (s : Setup A) → IsDraft lines d
     → IsSetup lines s → s.nodes ≡ d.nodes) → (d : DriveDraft A) (lines : List (List (List ℕ)))
-    (b : HasBody A lines d) (s : Setup A) → IsSetup (b.net ∷ b.head) s → AreDrive lines s d.port d.steps.items
+    (b : HasBody A lines d) (s : Setup A) → IsSetup (b.net ∷ b.head) s → AreDrive lines s d.port b.steps
 whole_drive A same d lines b s setup =
     let nodes = same d.setup (b.net ∷ b.head) s b.draft setup in
     record {
@@ -116,8 +116,8 @@ whole_drive A same d lines b s setup =
       placed = b.placed;
       ports = ap (have_ports d.port) nodes ∙ b.ports;
       said = b.said;
-      stand = sym (stand_by s.nodes d.steps.items)
-          ∙ ap (λ ns. list_all (λ x. list_any (λ n. n.node == node_of x) ns) d.steps.items) nodes ∙ b.stand;
+      stand = sym (stand_by s.nodes b.steps)
+          ∙ ap (λ ns. list_all (λ x. list_any (λ n. n.node == node_of x) ns) b.steps) nodes ∙ b.stand;
     }
 
 -- ---- lines that go on
@@ -221,8 +221,8 @@ module _ (A : Type 0) (can_end : (most : ℕ) (d : Draft) (lines : List (List (L
         [],
         e.setup,
         d.port,
-        d.steps.items,
-        subst (λ l. AreDrive l e.setup d.port d.steps.items) (ap words_in (sym (append-nil lines)))
+        b.steps,
+        subst (λ l. AreDrive l e.setup d.port b.steps) (ap words_in (sym (append-nil lines)))
             (whole_drive A same d (words_in lines) b e.setup whole),
       )
 
@@ -232,8 +232,8 @@ module _ (A : Type 0) (can_end : (most : ℕ) (d : Draft) (lines : List (List (L
 
   from_stage : (st : Stage) → HasReadAt A st (words_in lines) d
       → ((net : List (List ℕ)) → IsDraft (net ∷ []) d.setup → (d.setup).nodes ≡ []) → BeginDrive A lines
-  from_stage Net (none, draft, early, no_steps) lone = from_nothing none
-  from_stage Port (net, is, draft, early, no_steps) lone = from_net net is draft (lone net draft)
+  from_stage Net (none, draft, early) lone = from_nothing none
+  from_stage Port (net, is, draft, early) lone = from_net net is draft (lone net draft)
   from_stage Body b lone = from_body (has_events d.setup) refl b
 
   pub begins : HasRead A (words_in lines) d → BeginDrive A lines

@@ -3,9 +3,8 @@ use Rattle.std.proofs.Common.{◌≡◌, ℕ, Bool, true, false, List, [], ◌�
 use Rattle.std.proofs.Common.{subst, ◌∙◌, append-nil, append_assoc, arith}
 use Rattle.std.proofs.lemmas.Bool.{and_parts, false≢true}
 use Rattle.std.proofs.lemmas.List.{length-append}
-use Rattle.std.proofs.lemmas.List.Elements.{All-nil, All-push}
 use Rattle.std.specs.Prelude.{◌==◌, ◌&&◌, codes}
-use Rattle.std.specs.List.{All, AllZip, list_all, list_any}
+use Rattle.std.specs.List.{AllZip, list_all, list_any}
 use Rattle.at_setup.specs.declared.setup.NodeSetup.{NodeSetup}
 use Rattle.at_setup.specs.declared.setup.Setup.{Setup}
 use Rattle.at_setup_lines.specs.Drafts.{Draft, IsDraft, IsDraftAt, Takes, has_events, is_event, setup_of}
@@ -15,9 +14,9 @@ use Rattle.at_setup_lines.specs.declared.draft.Stage.TheVariants.{Event, Local, 
 use Rattle.at_drive.specs.Steps.{node_of}
 use Rattle.at_drive.specs.declared.step.Step.{Step}
 use Rattle.at_drive_lines.specs.Drafts.{HasBody}
-use Rattle.at_drive_lines.specs.Says.{AreStep, IsStepHere, SaysPort, have_ports, leave_port}
+use Rattle.at_drive_lines.specs.Says.{AreStep, SaysPort, have_ports, leave_port}
 use Rattle.at_drive_lines.specs.declared.draft.DriveDraft.{DriveDraft}
-use Rattle.at_drive_lines.proofs.StepLemmas.{all_more, zip_more, zip_none}
+use Rattle.at_drive_lines.proofs.StepLemmas.{all_more, zip_more}
 
 -- ---- the first line says no node
 
@@ -77,9 +76,9 @@ event_setup A lines d is h =
 -- ---- lines
 
 pub port_taken : (A : Type 0) (lines : List (List (List ℕ))) (net line : List (List ℕ)) (d : DriveDraft A)
-    → lines ≡ net ∷ [] → IsDraft (net ∷ []) d.setup → has_events d.setup ≡ false → d.steps.items ≡ []
-    → SaysPort line d.port → HasBody A (lines ++ line ∷ []) d
-port_taken A lines net line d is draft early none says =
+    → lines ≡ net ∷ [] → IsDraft (net ∷ []) d.setup → has_events d.setup ≡ false → SaysPort line d.port
+    → HasBody A (lines ++ line ∷ []) d
+port_taken A lines net line d is draft early says =
     let nodes = no_nodes net d.setup draft in
     record {
       net = net;
@@ -91,23 +90,21 @@ port_taken A lines net line d is draft early none says =
       placed = says;
       ports = ap (have_ports d.port) nodes;
       room = ap (leave_port d.port) nodes;
-      said = subst (AllZip AreStep []) (sym none) tt;
-      stand = ap (list_all (λ x. list_any (λ n. n.node == node_of x) (d.setup).nodes)) none;
-      here = subst (All (IsStepHere (d.setup).net)) (sym none) (All-nil (IsStepHere (d.setup).net));
+      steps = [];
+      said = tt;
+      stand = refl;
       early = λ e. refl;
       late = λ l. absurd (false≢true (sym early ∙ l));
     }
 
 pub head_taken : (A : Type 0) (lines : List (List (List ℕ))) (line : List (List ℕ)) (old new : DriveDraft A)
-    → HasBody A lines old → new.port ≡ old.port → new.steps.items ≡ old.steps.items → has_events old.setup ≡ false
-    → has_events new.setup ≡ false → Takes old.setup line new.setup
+    → HasBody A lines old → new.port ≡ old.port → has_events old.setup ≡ false → has_events new.setup ≡ false
+    → Takes old.setup line new.setup
     → (have_ports new.port (new.setup).nodes && leave_port new.port (new.setup).nodes) ≡ true
     → HasBody A (lines ++ line ∷ []) new
-head_taken A lines line old new b port steps early after takes fits =
+head_taken A lines line old new b port early after takes fits =
     let both = and_parts (have_ports new.port (new.setup).nodes) (leave_port new.port (new.setup).nodes) fits in
     let nothing = b.early early in
-    let none = zip_none old.steps.items (subst (λ l. AllZip AreStep l old.steps.items) nothing b.said) in
-    let empty = steps ∙ none in
     record {
       net = b.net;
       port = b.port;
@@ -120,23 +117,21 @@ head_taken A lines line old new b port steps early after takes fits =
       placed = subst (SaysPort b.port) (sym port) b.placed;
       ports = both.0;
       room = both.1;
-      said = subst (AllZip AreStep []) (sym empty) tt;
-      stand = ap (list_all (λ x. list_any (λ n. n.node == node_of x) (new.setup).nodes)) empty;
-      here = subst (All (IsStepHere (new.setup).net)) (sym empty) (All-nil (IsStepHere (new.setup).net));
+      steps = [];
+      said = tt;
+      stand = refl;
       early = λ e. refl;
       late = λ l. absurd (false≢true (sym after ∙ l));
     }
 
 pub step_taken : (A : Type 0) (lines : List (List (List ℕ))) (line : List (List ℕ)) (x : Step A)
-    (old new : DriveDraft A) → HasBody A lines old → new.port ≡ old.port
-    → new.steps.items ≡ old.steps.items ++ x ∷ [] → has_events new.setup ≡ true
+    (old new : DriveDraft A) → HasBody A lines old → new.port ≡ old.port → has_events new.setup ≡ true
     → ((ls : List (List (List ℕ))) → IsDraft ls old.setup → IsDraft ls new.setup)
     → (new.setup).nodes ≡ (old.setup).nodes → AreStep line x
-    → list_any (λ n. n.node == node_of x) (new.setup).nodes ≡ true → (new.setup).net ≡ (old.setup).net
-    → IsStepHere (old.setup).net x → HasBody A (lines ++ line ∷ []) new
-step_taken A lines line x old new b port steps over goes nodes says stands net here =
+    → list_any (λ n. n.node == node_of x) (new.setup).nodes ≡ true → HasBody A (lines ++ line ∷ []) new
+step_taken A lines line x old new b port over goes nodes says stands =
     let tests : List NodeSetup → Step A → Bool = λ ns y. list_any (λ n. n.node == node_of y) ns in
-    let before = ap (λ ns. list_all (tests ns) old.steps.items) nodes ∙ b.stand in
+    let before = ap (λ ns. list_all (tests ns) b.steps) nodes ∙ b.stand in
     record {
       net = b.net;
       port = b.port;
@@ -148,13 +143,9 @@ step_taken A lines line x old new b port steps over goes nodes says stands net h
       placed = subst (SaysPort b.port) (sym port) b.placed;
       ports = (λ i. have_ports (port i) (nodes i)) ∙ b.ports;
       room = (λ i. leave_port (port i) (nodes i)) ∙ b.room;
-      said = subst (AllZip AreStep (b.last ++ line ∷ [])) (sym steps)
-          (zip_more b.last old.steps.items line x b.said says);
-      stand = ap (list_all (tests (new.setup).nodes)) steps
-          ∙ all_more (tests (new.setup).nodes) old.steps.items x before stands;
-      here = subst (All (IsStepHere (new.setup).net)) (sym steps)
-          (subst (λ n. All (IsStepHere n) (old.steps.items ++ x ∷ [])) (sym net)
-          (All-push (IsStepHere (old.setup).net) old.steps.items x b.here here));
+      steps = b.steps ++ x ∷ [];
+      said = zip_more b.last b.steps line x b.said says;
+      stand = all_more (tests (new.setup).nodes) b.steps x before stands;
       early = λ e. absurd (false≢true (sym e ∙ over));
       late = λ l. omega (arith, length-append b.last (line ∷ []));
     }

@@ -1,6 +1,9 @@
 mod BeginLemmas
 mod BodyLemmas
+pub mod LineLemmas
+mod NodeLineLemmas
 mod RefusalLemmas
-mod StepLemmas
+pub mod StepLemmas
+mod StepLineLemmas
 mod TakeLemmas
 mod TextLemmas

@@ -63,7 +63,7 @@ no_whole A setups drafts d lines b never s first steps t =
     let rest : b.head ++ b.last ≡ t.head ++ t.last = cc in
     let (head, last) = split b.head b.last t.head t.last rest
     (heads_plain b.head (drafts (b.net ∷ b.head) d.setup b.draft).1)
-    (starts_all b.last (zip_steps b.last d.steps.items b.said))
+    (starts_all b.last (zip_steps b.last b.steps b.said))
     (heads_plain t.head (setups (t.net ∷ t.head) s t.setup).1) (zip_steps t.last steps t.said) in
     never (b.net ∷ b.head) b.draft s (subst (λ l. IsSetup l s) (λ i. net i ∷ head i) t.setup)
 
@@ -91,7 +91,7 @@ module _ (A : Type 0) (setups : (lines : List (List (List ℕ))) (s : Setup A) �
     parted : (t.head ≡ b.head) × (t.last ≡ b.last ++ line ∷ more)
     parted = split b.head (b.last ++ line ∷ more) t.head t.last met.2
         (heads_plain b.head (drafts (b.net ∷ b.head) d.setup b.draft).1)
-        (starts_step b.last more line (zip_steps b.last d.steps.items b.said) is)
+        (starts_step b.last more line (zip_steps b.last b.steps b.said) is)
         (heads_plain t.head (setups (t.net ∷ t.head) s t.setup).1) (zip_steps t.last steps t.said)
 
     same_setup : IsSetup (b.net ∷ b.head) s
@@ -122,7 +122,7 @@ module _ (A : Type 0) (setups : (lines : List (List (List ℕ))) (s : Setup A) �
   module _ (plain : begins_step line ≡ false) where
     late_head : has_events d.setup ≡ true → ⊥
     late_head late =
-        let said = zip_steps b.last d.steps.items b.said in
+        let said = zip_steps b.last b.steps b.said in
         let parts = split b.head (b.last ++ line ∷ more) t.head t.last met.2
         (heads_plain b.head (drafts (b.net ∷ b.head) d.setup b.draft).1)
         (starts_late b.last more line said (b.late late))

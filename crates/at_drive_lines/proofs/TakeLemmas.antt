@@ -12,7 +12,7 @@ use Rattle.at_setup_lines.specs.SetupLines.{IsSetup}
 use Rattle.at_drive.specs.Steps.{node_of}
 use Rattle.at_drive.specs.declared.step.Step.{Step}
 use Rattle.at_drive_lines.specs.Drafts.{Adds, Bars, HasBody, HasRead, HasReadAt}
-use Rattle.at_drive_lines.specs.Says.{AreStep, IsStepHere, SaysPort, begins_step, have_ports, leave_port}
+use Rattle.at_drive_lines.specs.Says.{AreStep, SaysPort, begins_step, have_ports, leave_port}
 use Rattle.at_drive_lines.specs.declared.draft.DriveDraft.{DriveDraft}
 use Rattle.at_drive_lines.specs.declared.draft.Stage.TheVariants.{Body, Net, Port}
 use Rattle.at_drive_lines.proofs.BodyLemmas.{event_setup, head_taken, port_taken, step_taken}
@@ -23,35 +23,35 @@ module _ (A : Type 0) (old : DriveDraft A) (line : List (List ℕ)) where
 
   pub net_barred : old.stage ≡ Net → Refuses A old.setup line → Bars A old line
   net_barred stage never lines read more s port steps t =
-      let (none, draft, early, no_steps) = subst (λ st. HasReadAt A st lines old) stage read in
+      let (none, draft, early) = subst (λ st. HasReadAt A st lines old) stage read in
       let all : line ∷ more ≡ t.net ∷ t.port ∷ (t.head ++ t.last) = ap (λ l. l ++ line ∷ more) (sym none) ∙ t.parts in
       let same : t.net ≡ line = cc in
       never [] draft early (t.head, s, subst (λ l. IsSetup (l ∷ t.head) s) same t.setup)
 
-  pub net_adds : (new : DriveDraft A) → old.stage ≡ Net → new.stage ≡ Port → new.steps.items ≡ old.steps.items
-      → has_events new.setup ≡ false → Takes old.setup line new.setup → Adds A old line new
-  net_adds new stage after steps later takes lines read =
-      let (none, draft, early, no_steps) = subst (λ st. HasReadAt A st lines old) stage read in
+  pub net_adds : (new : DriveDraft A) → old.stage ≡ Net → new.stage ≡ Port → has_events new.setup ≡ false
+      → Takes old.setup line new.setup → Adds A old line new
+  net_adds new stage after later takes lines read =
+      let (none, draft, early) = subst (λ st. HasReadAt A st lines old) stage read in
       subst (λ st. HasReadAt A st (lines ++ line ∷ []) new) (sym after)
-      (line, ap (λ l. l ++ line ∷ []) none, takes [] draft, later, steps ∙ no_steps)
+      (line, ap (λ l. l ++ line ∷ []) none, takes [] draft, later)
 
   -- ---- the port
 
   pub port_barred : old.stage ≡ Port → ((p : ℕ) → ¬ SaysPort line p) → Bars A old line
   port_barred stage never lines read more s port steps t =
-      let (net, is, draft, early, no_steps) = subst (λ st. HasReadAt A st lines old) stage read in
+      let (net, is, draft, early) = subst (λ st. HasReadAt A st lines old) stage read in
       let all : net ∷ line ∷ more ≡ t.net ∷ t.port ∷ (t.head ++ t.last) =
       ap (λ l. l ++ line ∷ more) (sym is) ∙ t.parts in
       let same : t.port ≡ line = cc in
       never port (subst (λ l. SaysPort l port) same t.placed)
 
   pub port_adds : (new : DriveDraft A) → old.stage ≡ Port → new.stage ≡ Body → new.setup ≡ old.setup
-      → new.steps.items ≡ old.steps.items → SaysPort line new.port → Adds A old line new
-  port_adds new stage after setup steps says lines read =
-      let (net, is, draft, early, no_steps) = subst (λ st. HasReadAt A st lines old) stage read in
+      → SaysPort line new.port → Adds A old line new
+  port_adds new stage after setup says lines read =
+      let (net, is, draft, early) = subst (λ st. HasReadAt A st lines old) stage read in
       subst (λ st. HasReadAt A st (lines ++ line ∷ []) new) (sym after)
       (port_taken A lines net line new is (subst (IsDraft (net ∷ [])) (sym setup) draft) (ap has_events setup ∙ early)
-      (steps ∙ no_steps) says)
+      says)
 
   -- ---- the lines after it
 
@@ -59,26 +59,24 @@ module _ (A : Type 0) (old : DriveDraft A) (line : List (List ℕ)) where
   body_of lines stage read = subst (λ st. HasReadAt A st lines old) stage read
 
   pub head_adds : (new : DriveDraft A) → old.stage ≡ Body → new.stage ≡ Body → new.port ≡ old.port
-      → new.steps.items ≡ old.steps.items → has_events old.setup ≡ false → has_events new.setup ≡ false
-      → Takes old.setup line new.setup
+      → has_events old.setup ≡ false → has_events new.setup ≡ false → Takes old.setup line new.setup
       → (have_ports new.port (new.setup).nodes && leave_port new.port (new.setup).nodes) ≡ true → Adds A old line new
-  head_adds new stage after port steps early later takes fits lines read =
+  head_adds new stage after port early later takes fits lines read =
       subst (λ st. HasReadAt A st (lines ++ line ∷ []) new) (sym after)
-      (head_taken A lines line old new (body_of lines stage read) port steps early later takes fits)
+      (head_taken A lines line old new (body_of lines stage read) port early later takes fits)
 
   pub step_adds : (x : Step A) (new : DriveDraft A)
       → ((d : Draft) (lines : List (List (List ℕ))) (s : Setup A) → IsDraft lines d → IsSetup lines s
       → s.nodes ≡ d.nodes) → old.stage ≡ Body → new.stage ≡ Body → new.port ≡ old.port
-      → new.steps.items ≡ old.steps.items ++ x ∷ [] → has_events new.setup ≡ true
+      → has_events new.setup ≡ true
       → ((ls : List (List (List ℕ))) → IsDraft ls old.setup → IsDraft ls new.setup) → AreStep line x
-      → list_any (λ n. n.node == node_of x) (new.setup).nodes ≡ true → (new.setup).net ≡ (old.setup).net
-      → IsStepHere (old.setup).net x → Adds A old line new
-  step_adds x new same stage after port steps over goes says stands net here lines read =
+      → list_any (λ n. n.node == node_of x) (new.setup).nodes ≡ true → Adds A old line new
+  step_adds x new same stage after port over goes says stands lines read =
       let b = body_of lines stage read in
       let (s, nodes, setup) = event_setup A (b.net ∷ b.head) new.setup over (goes (b.net ∷ b.head) b.draft) in
       let kept = sym nodes ∙ same old.setup (b.net ∷ b.head) s b.draft setup in
       subst (λ st. HasReadAt A st (lines ++ line ∷ []) new) (sym after)
-      (step_taken A lines line x old new b port steps over goes kept says stands net here)
+      (step_taken A lines line x old new b port over goes kept says stands)
 
   module _ (setups : (lines : List (List (List ℕ))) (s : Setup A) → IsSetup lines s → HaveHeads lines)
       (drafts : (lines : List (List (List ℕ))) (d : Draft) → IsDraft lines d → HaveHeads lines)

@@ -1,12 +1,11 @@
 -- A line more of the text of a drive.
-use Rattle.std.proofs.Common.{◌≡◌, ℕ, ◌+◌, ◌-◌, ◌^◌, true, false, not, List, [], ◌∷◌, ◌++◌, length, inl}
+use Rattle.std.proofs.Common.{◌≡◌, ℕ, ◌+◌, ◌-◌, ◌^◌, true, false, not, List, [], ◌∷◌, ◌++◌, inl}
 use Rattle.std.proofs.Common.{inr, refl, sym, ap, subst, ◌∙◌, append-nil, append_assoc, arith, cond, map, min}
-use Rattle.std.proofs.Common.{Err, Result}
-use Rattle.std.proofs.lemmas.Bool.Decides.{nat_tests}
+use Rattle.std.proofs.Common.{Bool, Err, IfSome, None, Option, Result, Some}
 use Rattle.std.proofs.lemmas.List.{length-append}
-use Rattle.std.specs.Prelude.{◌==◌}
 use Rattle.std.specs.List.{AllZip}
 use Rattle.at_call_words.specs.Readings.{IfUnlawful}
+use Rattle.at_faults.specs.Reads.{IsOfRead}
 use Rattle.at_faults.specs.declared.fault.Fault.{Fault}
 use Rattle.at_faults.specs.declared.fault.Fault.TheVariants as fault
 use Rattle.at_faults.specs.declared.fault.LineFault.{LineFault}
@@ -17,13 +16,14 @@ use Rattle.at_setup.specs.declared.setup.Setup.{Setup}
 use Rattle.at_setup_lines.specs.FirstWords.{HasHead, HaveHeads}
 use Rattle.at_setup_lines.specs.SetupLines.{IsSetup}
 use Rattle.at_schedule.specs.Drafts.{number_after}
-use Rattle.at_schedule.specs.Schedules.{is_passed_over, lines_in}
+use Rattle.at_schedule.specs.Schedules.{is_passed_over}
 use Rattle.at_drive.specs.declared.step.Step.{Step}
-use Rattle.at_drive_lines.specs.Drafts.{Adds, Bars, BeginDrive, HasRead, IsDriveFault}
-use Rattle.at_drive_lines.specs.Drafts.{words_in}
+use Rattle.at_drive_lines.specs.Drafts.{Adds, Bars, BeginDrive, BeginsSo, HasRead, IsDriveFault, words_in}
+use Rattle.at_drive_lines.specs.Lines.{HasNext, HaveCome, IsLast}
 use Rattle.at_drive_lines.specs.Says.{AreDrive, AreStep}
 use Rattle.at_drive_lines.specs.declared.draft.DriveDraft.{DriveDraft}
 use Rattle.at_drive_lines.proofs.BeginLemmas.{words_append}
+use Rattle.at_drive_lines.proofs.LineLemmas.{all_come, come_on}
 
 -- ---- one line more
 
@@ -105,26 +105,26 @@ no_blank A setups d lines read more s port steps t =
 
 -- ---- the lines that are left
 
--- These lines were read, of which the draft was read, the others are in what is left of the text, and the number is
--- that of the next line.
-abbrev pub SoFar : (A : Type 0) → List ℕ → List ℕ → ℕ → DriveDraft A → Type 0
-SoFar A text rest number d =
-    (read : List (List ℕ)) × (lines_in text ≡ read ++ lines_in rest) × HasRead A (words_in read) d
-    × (number ≡ number_after read)
+-- These lines were read, of which the draft was read, the others are left, and the number is that of the next line.
+abbrev pub SoFar : (A : Type 0) → Option (List (List ℕ)) → Option (List (List ℕ)) → ℕ → DriveDraft A → Type 0
+SoFar A first now number d =
+    (read : List (List ℕ)) × HaveCome first read now × HasRead A (words_in read) d × (number ≡ number_after read)
 
-pub nothing_left : (rest : List ℕ) → (length rest == 0) ≡ true → rest ≡ []
-nothing_left [] h = refl
-nothing_left (c ∷ rest) h = absurd (grind (arith, nat_tests, h))
+pub numbered_next : (read : List (List ℕ)) (line : List ℕ) (number next : ℕ) → number ≡ number_after read
+    → next ≡ min (number + 1) (2 ^ 64 - 1) → next ≡ number_after (read ++ line ∷ [])
+numbered_next read line number next numbered one =
+    omega (arith, one, numbered, length-append read (line ∷ []))
 
-pub read_next : (A : Type 0) (text rest later line : List ℕ) (number next : ℕ) (old new : DriveDraft A)
-    → SoFar A text rest number old → lines_in rest ≡ line ∷ lines_in later → next ≡ min (number + 1) (2 ^ 64 - 1)
+pub read_next : (A : Type 0) (first now after : Option (List (List ℕ))) (line : List ℕ) (number next : ℕ)
+    (old new : DriveDraft A) → SoFar A first now number old → HasNext now line after
+    → next ≡ min (number + 1) (2 ^ 64 - 1)
     → ((lines : List (List ℕ)) → HasRead A (words_in lines) old → HasRead A (words_in (lines ++ line ∷ [])) new)
-    → SoFar A text later next new
-read_next A text rest later line number next old new (read, left, has, numbered) cut one taken = (
+    → SoFar A first after next new
+read_next A first now after line number next old new (read, come, has, numbered) more one taken = (
   read ++ line ∷ [],
-  left ∙ ap (λ l. read ++ l) cut ∙ sym (append_assoc read (line ∷ []) (lines_in later)),
+  come_on first read now line after come more,
   taken read has,
-  omega (arith, one, numbered, length-append read (line ∷ [])),
+  numbered_next read line number next numbered one,
 )
 
 -- what is told of a line that was refused
@@ -149,37 +149,53 @@ pub broken_of : {T : Type 0} (P Q : Type 0) (r : Result T LineFault) (why : Line
 broken_of P Q r (Unlawful rule) was h so = so (rw was at h)
 broken_of P Q r NoMemory was h so = tt
 
-pub at_fault : (A : Type 0) (text rest later line : List ℕ) (number : ℕ) (d : DriveDraft A) (why : LineFault)
-    (told : Fault) (so : SoFar A text rest number d) → lines_in rest ≡ line ∷ lines_in later → BeginDrive A so.0
-    → IfBroken why (¬ BeginDrive A (so.0 ++ line ∷ [])) → IsToldAs why number told
-    → IsDriveFault A (lines_in text) told
-at_fault A text rest later line number d (Unlawful rule) told (read, left, has, numbered) cut begins never (r, is) =
-    subst (IsDriveFault A (lines_in text)) (sym is) (inl (record {
+pub at_fault : (A : Type 0) (first now after : Option (List (List ℕ))) (may_fail : Bool) (line : List ℕ) (number : ℕ)
+    (d : DriveDraft A) (why : LineFault) (told : Fault) (so : SoFar A first now number d) → HasNext now line after
+    → BeginDrive A so.0 → IfBroken why (¬ BeginDrive A (so.0 ++ line ∷ [])) → IsToldAs why number told
+    → IsDriveFault A first may_fail told
+at_fault A None now after may_fail line number d (Unlawful rule) told so next begins never (r, is) =
+    subst (IsDriveFault A None may_fail) (sym is) tt
+at_fault A (Some lines) now after may_fail line number d (Unlawful rule) told (read, come, has, numbered) next begins
+    never (r, is) =
+    let (later, parts, left) = come in
+    let (rest, more, same) : HasNext (Some later) line after = subst (λ k. HasNext k line after) left next in
+    subst (IsDriveFault A (Some lines) may_fail) (sym is) (inl (record {
       before = read;
       line = line;
-      after = lines_in later;
-      parts = left ∙ ap (λ l. read ++ l) cut;
+      after = rest;
+      parts = parts ∙ ap (λ l. read ++ l) more;
       numbered = numbered;
       begins = begins;
       never = never;
     }))
-at_fault A text rest later line number d NoMemory told so cut begins never is =
-    subst (IsDriveFault A (lines_in text)) (sym is) tt
+at_fault A first now after may_fail line number d NoMemory told so next begins never is =
+    subst (IsDriveFault A first may_fail) (sym is) tt
 
--- all lines were read
-pub whole_text : (text rest : List ℕ) (read : List (List ℕ)) → rest ≡ [] → lines_in text ≡ read ++ lines_in rest
-    → lines_in text ≡ read
-whole_text text rest read none left = left ∙ ap (λ l. read ++ lines_in l) none ∙ append-nil read
-
-pub cut_short : (A : Type 0) (text rest : List ℕ) (number : ℕ) (d : DriveDraft A) (rule : Rule)
-    (so : SoFar A text rest number d) → rest ≡ [] → BeginDrive A so.0
+pub cut_short : (A : Type 0) (first now : Option (List (List ℕ))) (may_fail : Bool) (number : ℕ) (d : DriveDraft A)
+    (rule : Rule) (so : SoFar A first now number d) → IsLast now → BeginDrive A so.0
     → ((lines : List (List (List ℕ))) → HasRead A lines d → (s : Setup A) (port : ℕ) (steps : List (Step A))
-    → ¬ AreDrive lines s port steps) → IsDriveFault A (lines_in text) (fault.Line number rule)
-cut_short A text rest number d rule (read, left, has, numbered) none begins never =
-    let whole = whole_text text rest read none left in
+    → ¬ AreDrive lines s port steps) → IsDriveFault A first may_fail (fault.Line number rule)
+cut_short A None now may_fail number d rule so last begins never = tt
+cut_short A (Some lines) now may_fail number d rule (read, come, has, numbered) last begins never =
+    let whole : lines ≡ read = all_come (Some lines) read now come last in
     inr (record {
       numbered = numbered ∙ ap number_after (sym whole);
       begins = subst (BeginDrive A) (sym whole) begins;
       never = λ s port steps t. never (words_in read) has s port steps
           (subst (λ l. AreDrive (words_in l) s port steps) whole t);
     })
+
+-- a reading that failed is no fault of a line
+pub unread : (A : Type 0) (known : Option (List (List ℕ))) (may_fail : Bool) (why : Fault) → IsOfRead why
+    → may_fail ≡ true → IsDriveFault A known may_fail why
+unread A known may_fail (fault.Unreadable u) h may = (h, may)
+unread A known may_fail (fault.Line number rule) h may = absurd h
+unread A known may_fail fault.NoMemory h may = tt
+
+-- the lines that were read are all that were left
+pub said_of : (A : Type 0) (first now : Option (List (List ℕ))) (s : Setup A) (port : ℕ) (read : List (List ℕ))
+    → HaveCome first read now → IsLast now → ((steps : List (Step A)) × AreDrive (words_in read) s port steps)
+    → IfSome first (BeginsSo s port)
+said_of A None now s port read come last said = tt
+said_of A (Some lines) now s port read come last said =
+    subst (BeginsSo s port) (sym (all_come (Some lines) read now come last)) said

@@ -1,8 +1,10 @@
 -- What was read of the lines of a drive, and which line is at fault.
 use Rattle.std.specs.Prelude.{◌≡◌, ◌⊎◌, ◌<◌, ◌==◌, not, Bool, true, false, ℕ, List, [], ◌∷◌, ◌++◌, filter, length, map}
-use Rattle.std.specs.List.{All, AllZip, list_all, list_any}
+use Rattle.std.specs.Prelude.{IfSome, Option}
+use Rattle.std.specs.List.{AllZip, list_all, list_any}
 use Rattle.at_faults.specs.declared.fault.Fault.{Fault}
 use Rattle.at_faults.specs.declared.fault.Fault.TheVariants as fault
+use Rattle.at_faults.specs.Reads.{IsOfSystem}
 use Rattle.at_words.specs.Words.{words_of}
 use Rattle.at_setup.specs.declared.setup.Setup.{Setup}
 use Rattle.at_setup_lines.specs.Drafts.{IsDraft, has_events}
@@ -10,7 +12,7 @@ use Rattle.at_schedule.specs.Drafts.{number_after}
 use Rattle.at_schedule.specs.Schedules.{is_passed_over}
 use Rattle.at_drive.specs.Steps.{node_of}
 use Rattle.at_drive.specs.declared.step.Step.{Step}
-use Rattle.at_drive_lines.specs.Says.{AreDrive, AreStep, IsStepHere, SaysPort, have_ports, leave_port}
+use Rattle.at_drive_lines.specs.Says.{AreDrive, AreStep, SaysPort, have_ports, leave_port}
 use Rattle.at_drive_lines.specs.declared.draft.DriveDraft.{DriveDraft}
 use Rattle.at_drive_lines.specs.declared.draft.Stage.{Stage}
 use Rattle.at_drive_lines.specs.declared.draft.Stage.TheVariants.{Body, Net, Port}
@@ -47,16 +49,21 @@ pub record IsCutShort (A : Type 0) (lines : List (List ℕ)) (number : ℕ) : Ty
   pub never : (s : Setup A) (port : ℕ) (steps : List (Step A)) → ¬ AreDrive (words_in lines) s port steps
 
 -- The line at fault is the first one up to which no drive begins with the lines, or the one after the last if all
--- lines are no drive. A text that lies in memory can always be read.
-abbrev pub IsDriveFault : Type 0 → List (List ℕ) → Fault → Type 0
-IsDriveFault A lines (fault.Unreadable why) = ⊥
-IsDriveFault A lines (fault.Line number rule) = IsAtFault A lines number ⊎ IsCutShort A lines number
-IsDriveFault A lines fault.NoMemory = Unit {0}
+-- lines are no drive. That is said if the lines are known. They can't be read only if reading them may fail.
+abbrev pub IsDriveFault : Type 0 → Option (List (List ℕ)) → Bool → Fault → Type 0
+IsDriveFault A known may_fail (fault.Unreadable why) = IsOfSystem why × (may_fail ≡ true)
+IsDriveFault A known may_fail (fault.Line number rule) =
+    IfSome known (λ lines. IsAtFault A lines number ⊎ IsCutShort A lines number)
+IsDriveFault A known may_fail fault.NoMemory = Unit {0}
+
+-- these lines are a drive that begins so
+abbrev pub BeginsSo : {A : Type 0} → Setup A → ℕ → List (List ℕ) → Type 0
+BeginsSo {A} setup port lines = (steps : List (Step A)) × AreDrive (words_in lines) setup port steps
 
 -- ---- what was read
 
 -- The lines of the network and the port were read, those of the setup, and those of steps. A setup of which no step
--- was read may go on, and any router that has to follow finds a port. Steps name requesters of the setup's network.
+-- was read may go on, and any router that has to follow finds a port.
 pub record HasBody (A : Type 0) (lines : List (List (List ℕ))) (d : DriveDraft A) : Type 0 where
   pub net : List (List ℕ)
   pub port : List (List ℕ)
@@ -67,19 +74,18 @@ pub record HasBody (A : Type 0) (lines : List (List (List ℕ))) (d : DriveDraft
   pub placed : SaysPort port d.port
   pub ports : have_ports d.port (d.setup).nodes ≡ true
   pub room : leave_port d.port (d.setup).nodes ≡ true
-  pub said : AllZip AreStep last d.steps.items
-  pub stand : list_all (λ x. list_any (λ n. n.node == node_of x) (d.setup).nodes) d.steps.items ≡ true
-  pub here : All (IsStepHere (d.setup).net) d.steps.items
+  pub steps : List (Step A)
+  pub said : AllZip AreStep last steps
+  pub stand : list_all (λ x. list_any (λ n. n.node == node_of x) (d.setup).nodes) steps ≡ true
   pub early : has_events d.setup ≡ false → last ≡ []
   pub late : has_events d.setup ≡ true → 0 < length last
 
 -- at each stage, what the lines so far say
 abbrev pub HasReadAt : (A : Type 0) → Stage → List (List (List ℕ)) → DriveDraft A → Type 0
 HasReadAt A Net lines d =
-    (lines ≡ []) × IsDraft [] d.setup × (has_events d.setup ≡ false) × (d.steps.items ≡ [])
+    (lines ≡ []) × IsDraft [] d.setup × (has_events d.setup ≡ false)
 HasReadAt A Port lines d =
     (net : List (List ℕ)) × (lines ≡ net ∷ []) × IsDraft (net ∷ []) d.setup × (has_events d.setup ≡ false)
-    × (d.steps.items ≡ [])
 HasReadAt A Body lines d = HasBody A lines d
 
 -- this was read of these lines, and more lines may follow

@@ -1,17 +1,15 @@
 //! A drive of which some lines are read.
 ghost use Rattle.std.specs.Prelude.{◌≡◌, ◌∷◌, ◌++◌, [], List, ℕ, true, false, IfOk, OnErr, OnOk};
-ghost use Rattle.std.specs.List.{All};
 ghost use Rattle.at_call_words.specs.Readings.{IfUnlawful};
 ghost use Rattle.at_setup.specs.declared.setup.Setup.{Setup as Said};
 ghost use Rattle.at_drive.specs.declared.step.Step.{Step as Move};
 ghost use Rattle.at_words.specs.Words.{words_of};
 ghost use Rattle.at_drive_lines.specs.Drafts.{Adds, Bars, BeginDrive, HasRead, words_in};
-ghost use Rattle.at_drive_lines.specs.Says.{AreDrive, IsStepHere, is_step_word};
+ghost use Rattle.at_drive_lines.specs.Says.{AreDrive, is_step_word};
 
+use crate::head::DriveHead;
 use crate::ports::{port_of, rule_broken_by};
 use crate::step_line::{is_step_word, stands_among, step_of};
-use crate::text::DriveText;
-use at_drive::Step;
 use at_faults::{LineFault, Rule};
 use at_schedule::is_passed_over;
 use at_setup_lines::SetupDraft;
@@ -39,7 +37,6 @@ pub(crate) struct DriveDraft<A: Allocator> {
     stage: Stage,
     setup: SetupDraft<A>,
     port: u16,
-    steps: Vec<Step<A>, A>,
 }
 
 impl<A: Allocator + Copy> DriveDraft<A> {
@@ -52,7 +49,6 @@ impl<A: Allocator + Copy> DriveDraft<A> {
             stage: Stage::Net,
             setup: SetupDraft::new(alloc),
             port: 0,
-            steps: Vec::new(alloc),
         }
     }
 
@@ -159,16 +155,13 @@ impl<A: Allocator + Copy> DriveDraft<A> {
         if !stands_among(self.setup.nodes(), step.node()) {
             return Err(LineFault::Unlawful(Rule::NodeStands));
         }
-        self.steps.push(step)?;
         Ok(())
     }
 
     /// The drive, if the lines so far are one, or what is missing.
-    pub(crate) fn finish(self) -> Result<DriveText<A>, Rule>
-        ensures said { IfOk result (λ t. (lines : List (List (List ℕ))) → HasRead A lines self
-            → AreDrive lines t.setup t.port t.steps.items) }
-        ensures here { IfOk result (λ t. (lines : List (List (List ℕ))) → HasRead A lines self
-            → All (IsStepHere (t.setup).net) t.steps.items) }
+    pub(crate) fn finish(self) -> Result<DriveHead<A>, Rule>
+        ensures said { IfOk result (λ head. (lines : List (List (List ℕ))) → HasRead A lines self
+            → (steps : List (Move A)) × AreDrive lines head.setup head.port steps) }
         ensures only { OnErr result ((lines : List (List (List ℕ))) → HasRead A lines self
             → (s : Said A) (port : ℕ) (steps : List (Move A)) → ¬ AreDrive lines s port steps) }
     {
@@ -178,14 +171,13 @@ impl<A: Allocator + Copy> DriveDraft<A> {
             stage,
             setup,
             port,
-            steps,
             ..
         } = self;
         match stage {
             Stage::Net => Err(Rule::NoNet),
             Stage::Port => Err(Rule::NoPort),
             Stage::Body => match setup.finish() {
-                Ok(setup) => Ok(DriveText { setup, port, steps }),
+                Ok(setup) => Ok(DriveHead { setup, port }),
                 Err(rule) => Err(rule),
             },
         }

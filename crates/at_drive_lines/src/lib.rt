@@ -3,10 +3,14 @@
 #![tactic(auto)]
 
 mod draft;
+mod head;
+pub mod laws;
+mod lines;
 mod node_line;
 mod ports;
 mod step_line;
-mod text;
 
+pub use head::{DriveHead, read_head};
+pub use lines::{Lines, ReadLines, TextLines};
 pub use node_line::line_of_node;
-pub use text::{DriveText, read_drive};
+pub use step_line::step_in;

@@ -1,27 +1,29 @@
 //! Where the line of a node stands.
-ghost use Rattle.std.specs.Prelude.{◌↔◌, IfNone, IfSome, IsTrue};
-ghost use Rattle.at_schedule.specs.Schedules.{lines_in};
+ghost use Rattle.std.specs.Prelude.{◌≡◌, ◌↔◌, true, IfErr, IfNone, IfOk, IfSome, IsTrue};
+ghost use Rattle.at_faults.specs.Reads.{IsOfRead};
 ghost use Rattle.at_drive_lines.specs.NodeLines.{IsFirstLineOf, Names, NoneNames};
 
-use at_schedule::cut_line;
+use crate::lines::Lines;
+use at_faults::Fault;
 use at_words::{Words, node_number};
 
 /// The number of the first line, counted from 1, that begins with `node` and this node's number.
-pub fn line_of_node(text: &[u8], node: u8) -> Option<usize>
-    ensures found { IfSome result (IsFirstLineOf (lines_in text.now) node) }
-    ensures none { IfNone result (NoneNames (lines_in text.now) node) }
+pub fn line_of_node<L: Lines>(lines: &mut L, node: u8) -> Result<Option<usize>, Fault>
+    // Which lines are left is said if it is known.
+    ensures found { IfOk result
+        (λ found. IfSome found (λ number. IfSome (L.left lines.old) (λ all. IsFirstLineOf all node number))) }
+    ensures none { IfOk result
+        (λ found. IfNone found (IfSome (L.left lines.old) (λ all. NoneNames all node))) }
+    ensures failed { IfErr result (λ fault. IsOfRead fault × (L.may_fail ≡ true)) }
 {
     let mut number = 1usize;
-    let mut rest = text;
-    while !rest.is_empty() {
-        let (line, later) = cut_line(rest);
-        if names(line, node) {
-            return Some(number);
+    while lines.advance()? {
+        if names(lines.line(), node) {
+            return Ok(Some(number));
         }
         number = number.saturating_add(1);
-        rest = later;
     }
-    None
+    Ok(None)
 }
 
 fn names(line: &[u8], node: u8) -> bool

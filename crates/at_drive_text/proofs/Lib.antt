@@ -1,2 +1,3 @@
+mod CourseLemmas
 mod NewsLemmas
 mod TellsLemmas

@@ -1,14 +1,10 @@
 -- A drive is told one step further.
-use Rattle.std.proofs.Common.{◌≡◌, ℕ, suc, ◌+◌, ◌<◌, List, [], ◌∷◌, ◌++◌, length, take, get_or, Some, None, inl}
-use Rattle.std.proofs.Common.{Bool, true, false, Ok, Err, refl, sym, ap, subst, ◌∙◌, append-nil, append_assoc, arith}
+use Rattle.std.proofs.Common.{◌≡◌, ℕ, suc, ◌+◌, List, [], ◌∷◌, ◌++◌, length, Some, None, inl}
+use Rattle.std.proofs.Common.{true, false, Ok, Err, refl, sym, ap, subst, ◌∙◌, append-nil, append_assoc, arith}
 use Rattle.std.proofs.Common.{map}
 use Rattle.std.specs.Prelude.{Result, Option, OnErr, OnOk, slice_get}
-use Rattle.std.specs.List.{list_all}
 use Rattle.std.specs.Result.{is_err}
 use Rattle.std.proofs.lemmas.Bool.{true≢false}
-use Rattle.std.proofs.lemmas.List.Folds.{list_all_at}
-use Rattle.std.proofs.lemmas.List.{take_more, length-take}
-use Rattle.std.proofs.lemmas.Option.{slice_get-get_or}
 use Rattle.at_cable.specs.declared.fault.CableFault.{CableFault}
 use Rattle.at_drive.specs.Drives.{Driven as Nodes, Drives, IsLeft, Logged, no_log, number_of as node_number}
 use Rattle.at_drive.specs.Drives.{opening_nodes_of, with_log}
@@ -25,7 +21,7 @@ use Rattle.at_drive_text.specs.Driven.{Tells, news_text, sent_count}
 
 module _ {A C : Type 0} (S : C → ℕ → ℕ → List ℕ → Result (Unit {0}) CableFault → C → Type 0)
     (R : C → ℕ → ℕ → Result (Option (List ℕ)) CableFault → C → Type 0) where
-  and_one : (at n : ℕ) (ss : List (Step A)) (s : Step A) (d : Nodes) (c : C) (mid : Nodes) (between : C) (d' : Nodes)
+  pub and_one : (at n : ℕ) (ss : List (Step A)) (s : Step A) (d : Nodes) (c : C) (mid : Nodes) (between : C) (d' : Nodes)
       (l : Logged A) (c' : C) (m : ℕ) (text : List ℕ) → Tells S R at n ss d c mid between m text
       → Drives S R (at + length ss) s (with_log mid no_log) between (with_log d' l) c'
       → Tells S R at n (ss ++ s ∷ []) d c d' c' (m + sent_count (slice_get l.sent 0))
@@ -60,42 +56,12 @@ module _ {A C : Type 0} (S : C → ℕ → ℕ → List ℕ → Result (Unit {0}
       ∙ ap (λ i. first ++ (rest ++ news i)) there in
       (next, came, after, rest ++ news (at + 1 + length ss), drives, more, printed)
 
-  -- the step at a place follows those before it
-  pub next_told : (steps : List (Step A)) (at n : ℕ) (s : Step A) (d : Nodes) (c : C) (mid : Nodes) (between : C)
-      (d' : Nodes) (l : Logged A) (c' : C) (text : List ℕ) → at < length steps → s ≡ get_or steps at s
-      → Tells S R 0 0 (take at steps) d c mid between n text
-      → Drives S R at s (with_log mid no_log) between (with_log d' l) c'
-      → Tells S R 0 0 (take (at + 1) steps) d c d' c' (n + sent_count (slice_get l.sent 0)) (text ++ news_text at n l)
-  next_told steps at n s d c mid between d' l c' text within is tells last =
-      let place : at ≡ 0 + length (take at steps) = omega (arith, length-take at steps) in
-      let more : take (at + 1) steps ≡ take at steps ++ s ∷ [] =
-      take_more steps at s within ∙ ap (λ x. take at steps ++ x ∷ []) (sym is) in
-      let after = n + sent_count (slice_get l.sent 0) in
-      subst (λ i. Tells S R 0 0 (take (at + 1) steps) d c d' c' after (text ++ news_text i n l)) (sym place)
-      (subst (λ ss. Tells S R 0 0 ss d c d' c' after (text ++ news_text (0 + length (take at steps)) n l)) (sym more)
-      (and_one 0 0 (take at steps) s d c mid between d' l c' n text tells
-      (subst (λ i. Drives S R i s (with_log mid no_log) between (with_log d' l) c') place last)))
-
   -- a cable that was not asked is left as it was
   pub left_alone : (o : Option (Step A)) (c : C) → IsLeft R o c c
   left_alone None c = refl
   left_alone (Some (Call k call)) c = refl
   left_alone (Some (Timer k timer)) c = refl
   left_alone (Some (Poll k)) c = inl refl
-
-  pub left_at : (steps : List (Step A)) (at : ℕ) (s : Step A) (c c' : C) → at < length steps → s ≡ get_or steps at s
-      → IsLeft R (Some s) c c' → IsLeft R (slice_get steps at) c c'
-  left_at steps at s c c' within is left =
-      subst (λ o. IsLeft R o c c') (sym (slice_get-get_or steps at s within ∙ ap (λ x. Some x) (sym is))) left
-
--- a test that all entries of a list pass is passed by the one at an index
-pub all_pass : {X : Type 0} (p : X → Bool) (xs : List X) (i : ℕ) (x : X) → i < length xs → x ≡ get_or xs i x
-    → list_all p xs ≡ true → p x ≡ true
-all_pass p xs i x within is all = go (p (get_or xs i x)) refl
-  where
-    go : (b : Bool) → p (get_or xs i x) ≡ b → p x ≡ true
-    go true h = ap p is ∙ h
-    go false h = absurd (true≢false (sym all ∙ list_all_at p xs i x within h))
 
 -- what holds of an answer that is, or is not, an error
 pub if_err : {T E : Type 0} (r : Result T E) (P : Type 0) → is_err r ≡ true → OnErr r P → P

@@ -1,15 +1,21 @@
 -- What is printed of a drive: of each step what came of it. S and R say what may come of a send and of a receive on the
 -- cable.
-use Rattle.std.specs.Prelude.{◌≡◌, ◌↔◌, ◌⊎◌, ℕ, ◌+◌, ◌-◌, ◌^◌, ◌<◌, ◌&&◌, nat_le, min, if◌then◌else◌, Bool, List}
-use Rattle.std.specs.Prelude.{[], ◌∷◌, ◌++◌, codes, length, slice_get, take, Option, Some, None, Result, Ok, Err, IsOk}
+use Rattle.std.specs.Prelude.{◌≡◌, ◌↔◌, ◌⊎◌, ℕ, ◌+◌, ◌-◌, ◌^◌, ◌&&◌, nat_le, min, if◌then◌else◌, Bool, List}
+use Rattle.std.specs.Prelude.{[], ◌∷◌, ◌++◌, codes, length, slice_get, Option, Some, None, Result, Ok, Err, IfSome}
+use Rattle.std.specs.Prelude.{IsOk, false, true}
 use Rattle.std.specs.Fmt.{decimal}
-use Rattle.std.specs.List.{flat_map}
+use Rattle.std.specs.List.{All, flat_map}
 use Rattle.at_cable.specs.declared.fault.CableFault.{CableFault}
 use Rattle.at_ddp.specs.Datagrams.{Datagrams, Posted}
 use Rattle.at_event.specs.declared.report.Report.{Report}
 use Rattle.at_setup.specs.declared.setup.Setup.{Setup}
 use Rattle.at_drive.specs.Drives.{Driven as Nodes, Drives, IsLeft, Logged, no_log, opening_nodes_of, with_log}
+use Rattle.at_drive.specs.Steps.{has_all}
 use Rattle.at_drive.specs.declared.step.Step.{Step}
+use Rattle.at_drive_lines.specs.Drafts.{BeginsSo}
+use Rattle.at_drive_lines.specs.Says.{IsStepHere}
+use Rattle.at_drive_lines.specs.StepLines.{BeginSteps, MoreSteps, NextSays, SaySteps}
+use Rattle.at_diagnostics.specs.Stops.{IsOfReading, text_fault_line}
 use Rattle.at_drive_text.specs.declared.ending.Ending.{Ending}
 use Rattle.at_drive_text.specs.declared.ending.Ending.TheVariants as ending
 use Rattle.at_print.specs.Papers.{Page}
@@ -72,38 +78,80 @@ Tells {A} {C} S R at n (s ∷ ss) d c d' c' n' text =
     × Tells S R (at + 1) (n + sent_count (slice_get l.sent 0)) ss mid between d' c' n' rest
     × (text ≡ news_text at n l ++ rest)
 
--- All steps were driven, and this is printed of them. Or a write failed at a step, which is the last one then. Or
--- there was no memory for a step, or for the opening, which counts as step 0, and this is printed of those before.
-abbrev pub TellsDrive : {A C : Type 0} → (C → ℕ → ℕ → List ℕ → Result (Unit {0}) CableFault → C → Type 0)
-    → (C → ℕ → ℕ → Result (Option (List ℕ)) CableFault → C → Type 0) → Setup A → List (Step A) → C → C
-    → Result (Unit {0}) Ending → List ℕ → Type 0
-TellsDrive {A} S R setup steps c c' (Ok u) text =
-    (d : Nodes) × (n : ℕ) × Tells S R 0 0 steps (opening_nodes_of setup) c d c' n text
-TellsDrive {A} S R setup steps c c' (Err (ending.Unwritten at)) text =
-    (d : Nodes) × (n : ℕ) × (at < length steps)
-    × Tells S R 0 0 (take (at + 1) steps) (opening_nodes_of setup) c d c' n text
-TellsDrive {A} {C} S R setup steps c c' (Err (ending.NoMemory at)) text =
-    (d : Nodes) × (n : ℕ) × (mid : C) × ((at ≡ 0) ⊎ (at < length steps))
-    × Tells S R 0 0 (take at steps) (opening_nodes_of setup) c d mid n text × IsLeft R (slice_get steps at) mid c'
+-- The drive found no memory before the step at this place, or for it. That is the first step, or one that a line says, or
+-- a line could not be read. A step that was not driven leaves the cable as it was, but at a poll.
+pub record LacksMemory {A C : Type 0} (R : C → ℕ → ℕ → Result (Option (List ℕ)) CableFault → C → Type 0)
+    (known : Option (List (List ℕ))) (may_fail : Bool) (steps : List (Step A)) (at : ℕ) (c c' : C) : Type 0 where
+  pub counted : at ≡ length steps
+  pub begin : IfSome known (λ lines. BeginSteps lines steps)
+  pub there : (steps ≡ []) ⊎ ((may_fail ≡ true) ⊎ IfSome known (λ lines. MoreSteps lines steps))
+  pub next : Option (Step A)
+  pub says : IfSome next (λ s. IfSome known (λ lines. NextSays lines steps s))
+  pub left : IsLeft R next c c'
 
--- the line of the step at which memory ran out
+-- All steps that the lines say were driven, and this is printed of them. Or a write failed at a step, which is the last
+-- one then. Or there was no memory for a step. Or a line could not be read, or says no step any more.
+abbrev pub TellsDrive : {A C : Type 0} → (C → ℕ → ℕ → List ℕ → Result (Unit {0}) CableFault → C → Type 0)
+    → (C → ℕ → ℕ → Result (Option (List ℕ)) CableFault → C → Type 0) → Option (List (List ℕ)) → Bool
+    → List (Step A) → Nodes → C → C → Result (Unit {0}) Ending → List ℕ → Type 0
+TellsDrive {A} S R known may_fail steps start c c' (Ok u) text =
+    (d : Nodes) × (n : ℕ) × Tells S R 0 0 steps start c d c' n text × IfSome known (λ lines. SaySteps lines steps)
+TellsDrive {A} S R known may_fail steps start c c' (Err (ending.Unwritten at)) text =
+    (d : Nodes) × (n : ℕ) × Tells S R 0 0 steps start c d c' n text × (at + 1 ≡ length steps)
+    × IfSome known (λ lines. BeginSteps lines steps)
+TellsDrive {A} {C} S R known may_fail steps start c c' (Err (ending.NoMemory at)) text =
+    (d : Nodes) × (n : ℕ) × (mid : C) × Tells S R 0 0 steps start c d mid n text
+    × LacksMemory R known may_fail steps at mid c'
+TellsDrive {A} S R known may_fail steps start c c' (Err (ending.Unread fault)) text =
+    (d : Nodes) × (n : ℕ) × Tells S R 0 0 steps start c d c' n text × IsOfReading fault × (may_fail ≡ true)
+    × IfSome known (λ lines. BeginSteps lines steps)
+
+-- From these nodes on, steps of the setup's nodes and on its network were driven, and this was printed of them.
+pub record Goes {A C W : Type 0} (S : C → ℕ → ℕ → List ℕ → Result (Unit {0}) CableFault → C → Type 0)
+    (R : C → ℕ → ℕ → Result (Option (List ℕ)) CableFault → C → Type 0) (page : W → Page) (setup : Setup A)
+    (known : Option (List (List ℕ))) (may_fail : Bool) (start : Nodes) (c : C) (old : Printer W) (c' : C)
+    (new : Printer W) (result : Result (Unit {0}) Ending) : Type 0 where
+  pub steps : List (Step A)
+  pub text : List ℕ
+  pub tells : TellsDrive S R known may_fail steps start c c' result text
+  pub stand : has_all setup steps ≡ true
+  pub here : All (IsStepHere setup.net) steps
+  pub printed : Prints page old new text
+
+-- the lines were read before, and may be others now only if reading them may fail
+abbrev pub WasRead : {A : Type 0} → Setup A → Option (List (List ℕ)) → Bool → Type 0
+WasRead setup known may_fail =
+    may_fail ≡ false → (lines : List (List ℕ)) × (port : ℕ) × (known ≡ Some lines) × BeginsSo setup port lines
+
+-- the line of the step at which memory ran out, or that a line could not be read
 abbrev pub drive_end : Result (Unit {0}) Ending → List ℕ
 drive_end (Ok u) = []
 drive_end (Err (ending.Unwritten at)) = []
 drive_end (Err (ending.NoMemory at)) = codes "stopped nomemory at " ++ (decimal at ++ codes "\n")
+drive_end (Err (ending.Unread fault)) = text_fault_line fault
 
 -- the drive ended since a write failed
 abbrev pub IsUnwritten : Result (Unit {0}) Ending → Type 0
 IsUnwritten (Err (ending.Unwritten at)) = Unit {0}
 IsUnwritten other = ⊥
 
+-- a line could not be read before the step at this place
+abbrev pub IsUnread : ℕ → Ending → Type 0
+IsUnread at (ending.NoMemory place) = place ≡ at
+IsUnread at (ending.Unwritten place) = ⊥
+IsUnread at (ending.Unread fault) = IsOfReading fault
+
 -- how a drive ended, and what is printed of it
 pub record Driven {A C W : Type 0} (S : C → ℕ → ℕ → List ℕ → Result (Unit {0}) CableFault → C → Type 0)
-    (R : C → ℕ → ℕ → Result (Option (List ℕ)) CableFault → C → Type 0) (setup : Setup A) (steps : List (Step A))
-    (c c' : C) (page : W → Page) (status : Status) (old new : Printer W) : Type 0 where
+    (R : C → ℕ → ℕ → Result (Option (List ℕ)) CableFault → C → Type 0) (setup : Setup A)
+    (known : Option (List (List ℕ))) (may_fail : Bool) (c c' : C) (page : W → Page) (status : Status)
+    (old new : Printer W) : Type 0 where
   pub result : Result (Unit {0}) Ending
+  pub steps : List (Step A)
   pub text : List ℕ
-  pub tells : TellsDrive S R setup steps c c' result text
+  pub tells : TellsDrive S R known may_fail steps (opening_nodes_of setup) c c' result text
+  pub stand : has_all setup steps ≡ true
+  pub here : All (IsStepHere setup.net) steps
   pub done : (status ≡ Done) ↔ (IsOk result × ¬ HasFailed new)
   pub printed : Prints page old new (text ++ drive_end result)
   pub unwritten : IsUnwritten result → HasFailed new

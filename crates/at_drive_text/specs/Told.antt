@@ -1,8 +1,9 @@
 -- What a person is told of a drive.
 use Rattle.std.specs.Prelude.{◌≡◌, ◌&&◌, nat_le, not, ℕ, Bool, true, false, List, Option, Some, None, Result, Ok, Err}
 use Rattle.std.specs.Prelude.{length, slice_get}
-use Rattle.at_diagnostics.specs.Diagnostics.{TellsLine, TellsReport, file_of}
+use Rattle.at_diagnostics.specs.Diagnostics.{TellsLine, TellsReport, TellsStop, file_of}
 use Rattle.at_diagnostics.specs.Lines.{cable_told, undriven_told}
+use Rattle.at_diagnostics.specs.Stops.{stop_of}
 use Rattle.at_diagnostics.specs.declared.diagnostics.Diagnostics.{Diagnostics}
 use Rattle.at_drive.specs.Drives.{Logged}
 use Rattle.at_event.specs.declared.report.Report.{Report}
@@ -27,8 +28,9 @@ TellsStep {W = W} page at had_failed l old new =
     (mid : Diagnostics W) × TellsRefusal page at (slice_get l.reports 0) old mid
     × TellsCable page at (not had_failed && nat_le 1 (length l.faults)) mid new
 
--- that there was no memory for a step, if so
+-- that there was no memory for a step, or that a line could not be read, if so
 abbrev pub TellsEnd : {W : Type 0} → (W → Page) → Result (Unit {0}) Ending → Diagnostics W → Diagnostics W → Type 0
 TellsEnd page (Ok u) old new = new ≡ old
 TellsEnd page (Err (ending.Unwritten at)) old new = new ≡ old
 TellsEnd page (Err (ending.NoMemory at)) old new = TellsLine page (undriven_told (file_of old) at) old new
+TellsEnd page (Err (ending.Unread fault)) old new = TellsStop page (stop_of fault) old new

@@ -1,141 +1,105 @@
-//! The drive of nodes over a cable: each step is driven and printed before the next.
-ghost use Rattle.std.specs.Prelude.{◌≡◌, ◌↔◌, ◌&&◌, nat_le, not, true, List, ℕ, IsOk, length, map, slice_get};
+//! The drive of nodes over a cable: each step is read, driven and printed before the next.
+ghost use Rattle.std.specs.Prelude.{◌≡◌, ◌↔◌, ◌<◌, ◌^◌, false, true, List, ℕ, IfErr, IfSome, IsOk, Ok, map};
 ghost use Rattle.at_diagnostics.specs.Diagnostics.{TellsWrites};
 ghost use Rattle.at_diagnostics.specs.declared.diagnostics.Diagnostics.{Diagnostics as Told};
-ghost use Rattle.at_drive.specs.Drives.{logged, number_of as node_number, opening_nodes_of};
-ghost use Rattle.at_drive.specs.Steps.{has_all, numbers_of};
+ghost use Rattle.at_drive.specs.Drives.{number_of as node_number, opening_nodes_of};
+ghost use Rattle.at_drive.specs.Steps.{numbers_of};
+ghost use Rattle.at_drive_lines.specs.Lines.{HasNext, IsLast};
 ghost use Rattle.at_print.specs.Printers.{HasFailed, Prints};
-ghost use Rattle.at_setup.specs.declared.setup.Setup.{Setup as Said};
-ghost use Rattle.at_drive_text.specs.Driven.{Driven, IsUnwritten, TellsDrive, drive_end};
-ghost use Rattle.at_drive_text.specs.Told.{TellsCable, TellsEnd, TellsRefusal, TellsStep};
+ghost use Rattle.at_drive_text.specs.Courses.{IsGoing};
+ghost use Rattle.at_drive_text.specs.Driven.{Driven, Goes, IsUnread, IsUnwritten, WasRead, drive_end};
+ghost use Rattle.at_drive_text.specs.Told.{TellsEnd};
 
+use crate::course::Course;
 use crate::ending::Ending;
-use crate::news::{next_number, write_news};
 use at_cable::Cable;
-use at_diagnostics::Diagnostics;
-use at_drive::{Drive, Log, Step};
-use at_event::Report;
+use at_diagnostics::{Diagnostics, Stop, write_fault};
+use at_drive::Drive;
+use at_drive_lines::Lines;
+use at_drive_lines::laws::each_line_can_be_read;
+use at_faults::Fault;
 use at_print::{Paper, Printer, Status};
 use at_setup::Setup;
 use std::alloc::Allocator;
 
-/// Drives the nodes of a setup over a cable, step by step, and prints what came of each step before the next is driven:
-/// the report, what was sent, a line for each call of the cable that failed, or that nothing waited. Why a node refused
-/// something, that a call of the cable failed, and why the drive ended before its last step is told to a person too. It
-/// ends once a write failed.
-pub fn drive_text<A: Allocator + Copy, C: Cable, W: Paper, E: Paper>(
+/// Drives the nodes of a setup over a cable by the lines of a drive, which were read before. What came of each step is
+/// printed before the next is read: the report, what was sent, a line for each call of the cable that failed, or that
+/// nothing waited. Why a node refused something, that a call of the cable failed, and why the drive ended before its last
+/// step is told to a person too. It ends once a write failed.
+pub fn drive_lines<A: Allocator + Copy, L: Lines, C: Cable, W: Paper, E: Paper>(
     alloc: A,
     setup: &Setup<A>,
-    steps: &[Step<A>],
+    lines: &mut L,
     cable: &mut C,
     printer: &mut Printer<W>,
     diagnostics: &mut Diagnostics<'_, E>,
 ) -> Status
-    requires { has_all setup.now steps.now ≡ true }
-    ensures { Driven C.sends C.receives setup.now steps.now cable.old cable.new W.page result printer.old printer.new }
+    requires { WasRead setup.now (L.left lines.old) L.may_fail }
+    ensures { Driven C.sends C.receives setup.now (L.left lines.old) L.may_fail cable.old cable.new W.page result
+        printer.old printer.new }
 {
-    let driven = drive_each(alloc, setup, steps, cable, printer, diagnostics);
+    let driven = drive_opened(alloc, setup, lines, cable, printer, diagnostics);
     end(driven, printer, diagnostics)
 }
 
 // The error is why the drive ended before its last step.
-fn drive_each<A: Allocator + Copy, C: Cable, W: Paper, E: Paper>(
+fn drive_opened<A: Allocator + Copy, L: Lines, C: Cable, W: Paper, E: Paper>(
     alloc: A,
     setup: &Setup<A>,
-    steps: &[Step<A>],
+    lines: &mut L,
     cable: &mut C,
     printer: &mut Printer<W>,
     diagnostics: &mut Diagnostics<'_, E>,
 ) -> Result<(), Ending>
-    requires { has_all setup.now steps.now ≡ true }
-    ensures told { (text : List ℕ)
-        × TellsDrive C.sends C.receives setup.now steps.now cable.old cable.new result text
-        × Prints W.page printer.old printer.new text }
+    requires { WasRead setup.now (L.left lines.old) L.may_fail }
+    ensures goes { Goes C.sends C.receives W.page setup.now (L.left lines.old) L.may_fail (opening_nodes_of setup.now)
+        cable.old printer.old cable.new printer.new result }
     ensures unwritten { IsUnwritten result → HasFailed printer.new }
 {
     let Ok(mut drive) = Drive::open(alloc, setup) else {
         return Err(Ending::NoMemory(0));
     };
-    // What came of one step, in the room of the step before.
-    let mut log = Log::new(alloc);
-    let driven = drive_steps(&mut drive, &mut log, steps, cable, printer, diagnostics);
+    let mut course = Course::new(alloc, setup);
+    let driven = drive_each(&mut drive, &mut course, lines, cable, printer, diagnostics);
     // By this call. Wherever a drive ends without one, its end is proved anew.
     drop(drive);
     driven
 }
 
-fn drive_steps<A: Allocator + Copy, C: Cable, W: Paper, E: Paper>(
+fn drive_each<A: Allocator + Copy, L: Lines, C: Cable, W: Paper, E: Paper>(
     drive: &mut Drive<A>,
-    log: &mut Log<A>,
-    steps: &[Step<A>],
+    course: &mut Course<'_, A>,
+    lines: &mut L,
     cable: &mut C,
     printer: &mut Printer<W>,
     diagnostics: &mut Diagnostics<'_, E>,
 ) -> Result<(), Ending>
-    requires { (setup : Said A) × (map node_number drive.old.nodes ≡ numbers_of setup)
-        × (has_all setup steps.now ≡ true) }
-    ensures told { (setup : Said A) → drive.old ≡ opening_nodes_of setup → (text : List ℕ)
-        × TellsDrive C.sends C.receives setup steps.now cable.old cable.new result text
-        × Prints W.page printer.old printer.new text }
+    requires nodes { map node_number drive.old.nodes ≡ numbers_of course.old.setup.now }
+    requires begins { IsGoing course.old.setup.now 0 0 course.old }
+    requires read { WasRead course.old.setup.now (L.left lines.old) L.may_fail }
+    ensures goes { Goes C.sends C.receives W.page course.old.setup.now (L.left lines.old) L.may_fail drive.old cable.old
+        printer.old cable.new printer.new result }
     ensures unwritten { IsUnwritten result → HasFailed printer.new }
 {
-    let mut number = 0usize;
-    let mut has_failed = false;
-    for (at, step) in steps.iter().enumerate() {
-        log.clear();
-        if drive.step(cable, at, step, log).is_err() {
-            return Err(Ending::NoMemory(at));
-        }
-        write_news(printer, at, number, log);
-        number = next_number(number, log);
-        printer.flush();
-        tell_news(diagnostics, at, log, has_failed);
-        has_failed = has_failed || !log.faults.is_empty();
-        if printer.has_failed() {
-            return Err(Ending::Unwritten(at));
-        }
+    each_line_can_be_read::<A>();
+    while next_line(lines, course.at())? {
+        course.drive_line(drive, lines.line(), cable, printer, diagnostics)?;
     }
     Ok(())
 }
 
-// Tells why a node refused what it was asked, if it did, and that a call of the cable failed, the first time.
-fn tell_news<A: Allocator, E: Paper>(
-    diagnostics: &mut Diagnostics<'_, E>,
-    at: usize,
-    log: &Log<A>,
-    has_failed: bool,
-)
-    ensures { TellsStep E.page at has_failed (logged log.now) diagnostics.old diagnostics.new }
+// Reads the next line, before the step at this place. False if none is left.
+fn next_line<L: Lines>(lines: &mut L, at: usize) -> Result<bool, Ending>
+    ensures next { result ≡ Ok true → HasNext (L.left lines.old) (L.line lines.new) (L.left lines.new) }
+    ensures less { result ≡ Ok true → L.most lines.new < L.most lines.old }
+    ensures few { L.most lines.old < 2 ^ 64 }
+    ensures end { result ≡ Ok false → IsLast (L.left lines.old) }
+    ensures failed { IfErr result (λ ending. IsUnread at ending × (L.may_fail ≡ true)) }
 {
-    tell_refusal(diagnostics, at, &log.reports);
-    tell_cable(diagnostics, at, is_first(has_failed, &log.faults));
-}
-
-// Whether a call of the cable failed, and none before.
-fn is_first(has_failed: bool, faults: &[usize]) -> bool
-    ensures { result ≡ (not has_failed && nat_le 1 (length faults.now)) }
-{
-    !has_failed && faults.len() >= 1
-}
-
-fn tell_refusal<A: Allocator, E: Paper>(
-    diagnostics: &mut Diagnostics<'_, E>,
-    at: usize,
-    reports: &[Report<A>],
-)
-    ensures { TellsRefusal E.page at (slice_get reports.now 0) diagnostics.old diagnostics.new }
-{
-    match reports.first() {
-        Some(report) => diagnostics.tell_report(report, at, 0),
-        None => {}
-    }
-}
-
-fn tell_cable<E: Paper>(diagnostics: &mut Diagnostics<'_, E>, at: usize, has_failed: bool)
-    ensures { TellsCable E.page at has_failed diagnostics.old diagnostics.new }
-{
-    if has_failed {
-        diagnostics.tell_cable(at);
+    match lines.advance() {
+        Ok(more) => Ok(more),
+        Err(Fault::NoMemory) => Err(Ending::NoMemory(at)),
+        Err(fault) => Err(Ending::Unread(fault)),
     }
 }
 
@@ -170,6 +134,11 @@ fn finish<W: Paper, E: Paper>(
         Err(Ending::NoMemory(at)) => {
             writeln!(printer, "stopped nomemory at {at}");
             diagnostics.tell_undriven(at);
+            printer.finish(Status::Failed)
+        }
+        Err(Ending::Unread(fault)) => {
+            write_fault(printer, fault);
+            diagnostics.tell_stop(Stop::from(fault));
             printer.finish(Status::Failed)
         }
     }

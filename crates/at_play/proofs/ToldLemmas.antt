@@ -35,6 +35,8 @@ use Rattle.at_play.proofs.LineLemmas.{Adds, FirstLine, SaidSoFar, next_said, non
 use Rattle.std.specs.Prelude.{◌↔◌, IsErr, IsOk, Option}
 use Rattle.at_print.specs.declared.status.Status.{Status}
 use Rattle.at_print.specs.declared.status.Status.TheVariants.{Done, Failed}
+use Rattle.at_play.specs.declared.ending.Ending.{Ending}
+use Rattle.at_play.specs.declared.ending.Ending.TheVariants as ending
 use Rattle.at_diagnostics.specs.declared.stop.Stop.{Stop}
 use Rattle.at_diagnostics.specs.declared.stop.Stop.TheVariants as stop
 
@@ -128,8 +130,8 @@ unread_of (why.Unreadable u) s h is = subst (IsUnread 0) (sym is) tt
 unread_of (why.Line number rule) s h is = absurd h
 unread_of why.NoMemory s h is = subst (IsUnread 0) (sym is) refl
 
-pub not_read : (P : Why → Type 0) (told : List Bool) (r : Result (Unit {0}) Stop) (f : Why) (s : Stop) → r ≡ Err s
-    → s ≡ stop_of f → P f → IsNotRead P told told r []
+pub not_read : (P : Why → Type 0) (told : List Bool) (r : Result (Unit {0}) Ending) (f : Why) (s : Ending) → r ≡ Err s
+    → s ≡ ending.Stopped (stop_of f) → P f → IsNotRead P told told r []
 not_read P told r f s was is h = rw was ((f, h, is), refl, refl)
 
 -- a read that failed gave not all bytes
@@ -165,7 +167,8 @@ module _ (A : Type 0) {W : Type 0} (page : W → Page) (setup : Setup A) where
 
   -- a play that stops before its first event
   pub stops_first : (known : Option (List ℕ)) (a : Printer W) (x : List Bool) (s : Stop) → IsUnread 0 s
-      → (p : Played setup) × Prints page a a p.text × IsWhole A known (Err s) p × TellsRefusals x x p.reports
+      → (p : Played setup) × Prints page a a p.text × IsWhole A known (Err (ending.Stopped s)) p
+      × TellsRefusals x x p.reports
   stops_first known a x s unread = (
     opened A setup,
     Prints-nothing page a,
@@ -217,7 +220,7 @@ module _ (A : Type 0) {W : Type 0} (page : W → Page) (setup : Setup A) where
 
   -- where the play stops, and prints nothing more
   pub sofar_stopped : (known : Option (List ℕ)) (w : WorldState) (a b c : Printer W) (x y z : List Bool)
-      (r : Result (Unit {0}) Stop) (s : Stop) → r ≡ Err s → c ≡ b → z ≡ y → (before : Sofar A page setup w a b x y)
+      (r : Result (Unit {0}) Ending) (s : Stop) → r ≡ Err (ending.Stopped s) → c ≡ b → z ≡ y → (before : Sofar A page setup w a b x y)
       → StopsIn A known (before.0).events w s → IfSome known (λ text. BeginsWith text (before.0).events)
       → (p : Played setup) × Prints page a c p.text × IsWhole A known r p × TellsRefusals x z p.reports
   sofar_stopped known w a b c x y z r s is same also before stops begins = (
@@ -265,24 +268,28 @@ held_of A setup None bytes all read same h = tt
 held_of A setup (Some text) bytes all read same h = subst (λ t. HoldsSetup (Some t) setup) (same ∙ read) h
 
 pub whole_read : (A : Type 0) (setup : Setup A) (known : Option (List ℕ)) (bytes all : List ℕ)
-    (r : Result (Unit {0}) Stop) (p : Played setup) → IfSome known (λ text. all ≡ text) → bytes ≡ all
+    (r : Result (Unit {0}) Ending) (p : Played setup) → IfSome known (λ text. all ≡ text) → bytes ≡ all
     → IsWhole A (Some bytes) r p → IsWhole A known r p
 whole_read A setup None bytes all (Ok u) p read same h = tt
 whole_read A setup (Some text) bytes all (Ok u) p read same h =
     subst (λ t. SayAll (event_lines t) p.events) (same ∙ read) h
-whole_read A setup None bytes all (Err s) p read same h = (stops_unknown A bytes p.events p.world s h.0, tt)
-whole_read A setup (Some text) bytes all (Err s) p read same h =
+whole_read A setup None bytes all (Err (ending.Stopped s)) p read same h =
+    (stops_unknown A bytes p.events p.world s h.0, tt)
+whole_read A setup (Some text) bytes all (Err (ending.Stopped s)) p read same h =
     subst (λ t. StopsIn A (Some t) p.events p.world s × BeginsWith t p.events) (same ∙ read) h
+whole_read A setup None bytes all (Err ending.Unwritten) p read same h = tt
+whole_read A setup (Some text) bytes all (Err ending.Unwritten) p read same h =
+    subst (λ t. BeginsWith t p.events) (same ∙ read) h
 
 -- a play that is not done has failed
-failed_of : (status : Status) (r : Result (Unit {0}) Stop) (P : Type 0) → ((status ≡ Done) ↔ (IsOk r × P)) → IsErr r
+failed_of : (status : Status) (r : Result (Unit {0}) Ending) (P : Type 0) → ((status ≡ Done) ↔ (IsOk r × P)) → IsErr r
     → status ≡ Failed
 failed_of Done (Ok u) P h err = absurd (cc err)
 failed_of Done (Err s) P h err = absurd (cc (h.0 refl).0)
 failed_of Failed r P h err = refl
 
 -- and so has one that was too long
-pub too_long_fails : (known : Option (List ℕ)) (most : ℕ) (status : Status) (r : Result (Unit {0}) Stop) (P : Type 0)
+pub too_long_fails : (known : Option (List ℕ)) (most : ℕ) (status : Status) (r : Result (Unit {0}) Ending) (P : Type 0)
     → IfSome known (λ all. most < length all → IsErr r) → ((status ≡ Done) ↔ (IsOk r × P))
     → IfSome known (λ all. most < length all → status ≡ Failed)
 too_long_fails None most status r P h done = tt

@@ -22,18 +22,27 @@ use Rattle.at_print.specs.declared.printer.Printer.{Printer}
 use Rattle.at_print.specs.declared.status.Status.{Status}
 use Rattle.at_print.specs.declared.status.Status.TheVariants.{Done}
 use Rattle.at_faults.specs.declared.fault.Fault.{Fault}
+use Rattle.at_play.specs.declared.ending.Ending.{Ending}
+use Rattle.at_play.specs.declared.ending.Ending.TheVariants as ending
 use Rattle.at_diagnostics.specs.declared.stop.Stop.{Stop}
 use Rattle.at_diagnostics.specs.declared.stop.Stop.TheVariants as stop
 
 -- why a play ended, if it did so before its last event
-abbrev pub end_text : Result (Unit {0}) Stop → List ℕ
+abbrev pub end_text : Result (Unit {0}) Ending → List ℕ
 end_text (Ok u) = []
-end_text (Err s) = stop_line s
+end_text (Err (ending.Stopped s)) = stop_line s
+end_text (Err ending.Unwritten) = []
 
 -- what a person is told of that
-abbrev pub TellsEnd : {W : Type 0} → (W → Page) → Result (Unit {0}) Stop → Diagnostics W → Diagnostics W → Type 0
+abbrev pub TellsEnd : {W : Type 0} → (W → Page) → Result (Unit {0}) Ending → Diagnostics W → Diagnostics W → Type 0
 TellsEnd page (Ok u) old new = new ≡ old
-TellsEnd page (Err s) old new = TellsStop page s old new
+TellsEnd page (Err (ending.Stopped s)) old new = TellsStop page s old new
+TellsEnd page (Err ending.Unwritten) old new = new ≡ old
+
+-- a write failed
+abbrev pub IsUnwritten : Result (Unit {0}) Ending → Type 0
+IsUnwritten (Err ending.Unwritten) = Unit {0}
+IsUnwritten other = ⊥
 
 -- The setup is lawful, and each event was safe. If nothing was forged, the reports are a run of the machine, and
 -- exactly-once requests run once.
@@ -47,28 +56,34 @@ pub record Obeys {A : Type 0} (setup : Setup A) (p : Played setup) : Type 0 wher
 -- What a schedule's play prints of its events: what is told of those that were played. These are all of them unless it
 -- stopped, which is said if the schedule's text is known. The numbers of their refusals are told.
 abbrev pub PlaysText : (A : Type 0) → Option (List ℕ) → (Setup A → Type 0) → List Bool → List Bool
-    → Result (Unit {0}) Stop → List ℕ → Type 0
+    → Result (Unit {0}) Ending → List ℕ → Type 0
 PlaysText A known IsRead old new result text =
     (setup : Setup A) × IsRead setup × (p : Played setup) × Obeys setup p × (text ≡ p.text) × IsWhole A known result p
     × TellsRefusals old new p.reports
 
 -- no event was played, and nothing is told of any, since there is no schedule for such a reason
-abbrev pub IsNotRead : (Fault → Type 0) → List Bool → List Bool → Result (Unit {0}) Stop → List ℕ → Type 0
+abbrev pub IsNotRead : (Fault → Type 0) → List Bool → List Bool → Result (Unit {0}) Ending → List ℕ → Type 0
 IsNotRead IsReason old new (Ok u) text = ⊥
-IsNotRead IsReason old new (Err s) text = ((f : Fault) × IsReason f × (s ≡ stop_of f)) × (text ≡ []) × (new ≡ old)
+IsNotRead IsReason old new (Err e) text =
+    ((f : Fault) × IsReason f × (e ≡ ending.Stopped (stop_of f))) × (text ≡ []) × (new ≡ old)
 
 -- why there is no schedule: the bytes could not be read, or a line is at fault
 abbrev pub IsTextFault : Type 0 → Option (List ℕ) → Fault → Type 0
 IsTextFault A known f = IsOfBytes f ⊎ IsLineFault A known f
 
 -- an event was refused, or memory ran out; it is not the text that is at fault
-abbrev pub IsOfPlaying : Stop → Type 0
-IsOfPlaying (stop.Text f) = ⊥
-IsOfPlaying (stop.Event f at line which) = Unit {0}
+abbrev pub IsOfEvent : Stop → Type 0
+IsOfEvent (stop.Text f) = ⊥
+IsOfEvent (stop.Event f at line which) = Unit {0}
+
+-- so it is, or a write failed
+abbrev pub IsOfPlaying : Ending → Type 0
+IsOfPlaying (ending.Stopped s) = IsOfEvent s
+IsOfPlaying ending.Unwritten = Unit {0}
 
 -- Nothing if there is no schedule, and else this of the setup that the text says. The text is read to its end before
 -- the first event, so that no fault of it comes later.
-abbrev pub PlayText : Type 0 → Option (List ℕ) → List Bool → List Bool → Result (Unit {0}) Stop → List ℕ → Type 0
+abbrev pub PlayText : Type 0 → Option (List ℕ) → List Bool → List Bool → Result (Unit {0}) Ending → List ℕ → Type 0
 PlayText A known old new result text =
     IsNotRead (IsTextFault A known) old new result text
     ⊎ (PlaysText A known (HoldsSetup known) old new result text × IfErr result IsOfPlaying)
@@ -83,7 +98,7 @@ pub record Rewound {F : Type 0} (position : F → Option ℕ) (bytes : F → Opt
 -- The same of a file, which is read from its beginning on, and again. The setup is what the text said the first time,
 -- and the events are what it said the second time.
 abbrev pub FileText : Type 0 → {F : Type 0} → (F → Option (List ℕ)) → (F → Option ℕ) → (F → Option (List ℕ))
-    → List Bool → List Bool → Result (Unit {0}) Stop → List ℕ → Type 0
+    → List Bool → List Bool → Result (Unit {0}) Ending → List ℕ → Type 0
 FileText A remaining position bytes old new result text =
     IsNotRead IsOfBytes old new result text
     ⊎ ((first : Rewound position bytes) × (IsNotRead (IsTextFault A (remaining first.file)) old new result text
@@ -91,10 +106,11 @@ FileText A remaining position bytes old new result text =
     × PlaysText A (remaining again.file) (HoldsSetup (remaining first.file)) old new result text)))
 
 -- how a play ended, and what is printed of it: its events, and why it stopped if it did
-pub record Ended {W : Type 0} (IsText : Result (Unit {0}) Stop → List ℕ → Type 0) (page : W → Page)
+pub record Ended {W : Type 0} (IsText : Result (Unit {0}) Ending → List ℕ → Type 0) (page : W → Page)
     (status : Status) (old new : Printer W) : Type 0 where
-  pub result : Result (Unit {0}) Stop
+  pub result : Result (Unit {0}) Ending
   pub text : List ℕ
   pub plays : IsText result text
   pub done : (status ≡ Done) ↔ (IsOk result × ¬ HasFailed new)
   pub printed : Prints page old new (text ++ end_text result)
+  pub unwritten : IsUnwritten result → HasFailed new

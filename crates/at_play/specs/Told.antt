@@ -18,6 +18,8 @@ use Rattle.at_play.specs.Sent.{event_text}
 use Rattle.at_schedule.specs.Says.{IsEventHere, SayAll, Says}
 use Rattle.at_schedule.specs.Schedules.{event_lines, is_event_line}
 use Rattle.at_print.specs.declared.printer.Printer.{Printer}
+use Rattle.at_play.specs.declared.ending.Ending.{Ending}
+use Rattle.at_play.specs.declared.ending.Ending.TheVariants as ending
 use Rattle.at_diagnostics.specs.declared.stop.Stop.{Stop}
 use Rattle.at_diagnostics.specs.declared.stop.Stop.TheVariants as stop
 
@@ -93,7 +95,10 @@ StopsLine A line w (stop.Event (world.Refused r) at number which) =
     (at ≡ w.events) × (is_event_line line ≡ true) × ((e : Event A) × Refuses w e r × Says line e)
 
 -- The events are what the event lines say, if the schedule's text is known: what all of them say, or the first ones if
--- the play stopped.
-abbrev pub IsWhole : (A : Type 0) {setup : Setup A} → Option (List ℕ) → Result (Unit {0}) Stop → Played setup → Type 0
+-- the play stopped, or a write failed.
+abbrev pub IsWhole : (A : Type 0) {setup : Setup A} → Option (List ℕ) → Result (Unit {0}) Ending → Played setup
+    → Type 0
 IsWhole A known (Ok u) p = IfSome known (λ text. SayAll (event_lines text) p.events)
-IsWhole A known (Err s) p = StopsIn A known p.events p.world s × IfSome known (λ text. BeginsWith text p.events)
+IsWhole A known (Err (ending.Stopped s)) p =
+    StopsIn A known p.events p.world s × IfSome known (λ text. BeginsWith text p.events)
+IsWhole A known (Err ending.Unwritten) p = IfSome known (λ text. BeginsWith text p.events)

@@ -1,6 +1,7 @@
 //! The play of a schedule: it is looked through, played, and what comes of each event is printed.
 #![tactic(auto)]
 
+mod ending;
 mod playing;
 mod playing_text;
 mod program;

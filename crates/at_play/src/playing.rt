@@ -4,15 +4,16 @@ ghost use Rattle.std.specs.Io.BufRead.{DropsThrough, first_piece};
 ghost use Rattle.std.specs.Io.KnownBytes.{IsAtEnd};
 ghost use Rattle.at_diagnostics.specs.Diagnostics.{told_by};
 ghost use Rattle.at_diagnostics.specs.Stops.{IsUnread};
-ghost use Rattle.at_play.specs.Ends.{Obeys};
+ghost use Rattle.at_play.specs.Ends.{IsUnwritten, Obeys};
 ghost use Rattle.at_play.specs.Refusals.{TellsRefusals};
-ghost use Rattle.at_print.specs.Printers.{Prints};
+ghost use Rattle.at_print.specs.Printers.{HasFailed, Prints};
 ghost use Rattle.at_schedule.specs.Schedules.{is_event_line};
 ghost use Rattle.at_play.specs.Told.{IsStopped, IsWhole, Played, StopsLine, Tells, TellsLine};
 ghost use Rattle.at_setup.specs.Setups.{is_lawful};
 ghost use Rattle.at_setup.specs.declared.setup.Setup.{Setup as Said};
 ghost use Rattle.at_world.specs.Plays.{opening_world};
 
+use crate::ending::Ending;
 use crate::sent::write_sent;
 use at_diagnostics::{Diagnostics, Stop};
 use at_faults::{Fault, LineFault, Unreadable};
@@ -31,11 +32,12 @@ pub(crate) fn play_lines<A: Allocator + Copy, R: Read, W: Paper, E: Paper>(
     reader: &mut R,
     printer: &mut Printer<W>,
     diagnostics: &mut Diagnostics<'_, E>,
-) -> Result<(), Stop>
+) -> Result<(), Ending>
     requires { is_lawful setup.now ≡ true }
     ensures told { (p : Played setup.now) × Obeys setup.now p
         × Prints W.page printer.old printer.new p.text × IsWhole A (R.remaining reader.old) result p
         × TellsRefusals (told_by diagnostics.old) (told_by diagnostics.new) p.reports }
+    ensures unwritten { IsUnwritten result → HasFailed printer.new }
 {
     at_most_16_nodes_stand::<A>();
     steps_are_a_run::<A>();
@@ -49,13 +51,14 @@ fn play_all<A: Allocator + Copy, R: Read, W: Paper, E: Paper>(
     reader: &mut R,
     printer: &mut Printer<W>,
     diagnostics: &mut Diagnostics<'_, E>,
-) -> Result<(), Stop>
+) -> Result<(), Ending>
     ensures told { (p : Played setup.now)
         × Prints W.page printer.old printer.new p.text × IsWhole A (R.remaining reader.old) result p
         × TellsRefusals (told_by diagnostics.old) (told_by diagnostics.new) p.reports }
+    ensures unwritten { IsUnwritten result → HasFailed printer.new }
 {
     let Ok(mut world) = World::open(alloc, setup) else {
-        return Err(Stop::no_memory(0, 0));
+        return Err(Ending::Stopped(Stop::no_memory(0, 0)));
     };
     let played = play_in(alloc, &mut world, setup.net, reader, printer, diagnostics);
     // By this call. Wherever a world ends without one, its end is proved anew.
@@ -71,14 +74,15 @@ fn play_in<A: Allocator + Copy, R: Read, W: Paper, E: Paper>(
     reader: &mut R,
     printer: &mut Printer<W>,
     diagnostics: &mut Diagnostics<'_, E>,
-) -> Result<(), Stop>
+) -> Result<(), Ending>
     ensures told { (setup : Said A) → world.old ≡ opening_world setup → net ≡ setup.net → (p : Played setup)
         × Prints W.page printer.old printer.new p.text × IsWhole A (R.remaining reader.old) result p
         × TellsRefusals (told_by diagnostics.old) (told_by diagnostics.new) p.reports }
+    ensures unwritten { IsUnwritten result → HasFailed printer.new }
 {
     first_line();
     let Ok(mut lines) = BufReader::new(alloc, reader) else {
-        return Err(Stop::no_memory(0, 0));
+        return Err(Ending::Stopped(Stop::no_memory(0, 0)));
     };
     let mut line = Vec::new(alloc);
     let mut draft = Draft::new(alloc);
@@ -90,9 +94,12 @@ fn play_in<A: Allocator + Copy, R: Read, W: Paper, E: Paper>(
             return Ok(());
         }
         play_line(world, &mut draft, net, number, &line, printer, diagnostics)?;
+        if printer.has_failed() {
+            return Err(Ending::Unwritten);
+        }
     }
     // No text has so many lines.
-    Err(Stop::Text(Fault::Unreadable(Unreadable::Failed)))
+    Err(Ending::Stopped(Stop::Text(Fault::Unreadable(Unreadable::Failed))))
 }
 
 // Reads the line of this number into the room, before the event of this place. False if there is none.

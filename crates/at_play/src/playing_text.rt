@@ -1,16 +1,17 @@
 //! The play of a schedule that lies in memory: whatever its first reading took, its second takes too.
 ghost use Rattle.std.specs.Prelude.{◌≡◌, ◌∷◌, ◌++◌, [], true, IfErr, List, OnOk, Some, ℕ};
 ghost use Rattle.at_diagnostics.specs.Diagnostics.{told_by};
-ghost use Rattle.at_play.specs.Ends.{IsOfPlaying, Obeys};
+ghost use Rattle.at_play.specs.Ends.{IsOfEvent, IsOfPlaying, IsUnwritten, Obeys};
 ghost use Rattle.at_play.specs.Refusals.{TellsRefusals};
 ghost use Rattle.at_play.specs.Told.{IsWhole, Played, StopsLine, TellsLine};
-ghost use Rattle.at_print.specs.Printers.{Prints};
+ghost use Rattle.at_print.specs.Printers.{HasFailed, Prints};
 ghost use Rattle.at_schedule.specs.Drafts.{BeginSchedule, HoldsSetup, IsRead};
 ghost use Rattle.at_schedule.specs.Schedules.{is_event_line};
 ghost use Rattle.at_setup.specs.Setups.{is_lawful};
 ghost use Rattle.at_setup.specs.declared.setup.Setup.{Setup as Said};
 ghost use Rattle.at_world.specs.Plays.{opening_world};
 
+use crate::ending::Ending;
 use crate::playing::play_event;
 use at_diagnostics::{Diagnostics, Stop};
 use at_faults::LineFault;
@@ -27,13 +28,14 @@ pub(crate) fn play_bytes<A: Allocator + Copy, W: Paper, E: Paper>(
     text: &[u8],
     printer: &mut Printer<W>,
     diagnostics: &mut Diagnostics<'_, E>,
-) -> Result<(), Stop>
+) -> Result<(), Ending>
     requires lawful { is_lawful setup.now ≡ true }
     requires held { HoldsSetup (Some text.now) setup.now }
     ensures told { (p : Played setup.now) × Obeys setup.now p
         × Prints W.page printer.old printer.new p.text × IsWhole A (Some text.now) result p
         × TellsRefusals (told_by diagnostics.old) (told_by diagnostics.new) p.reports }
     ensures playing { IfErr result IsOfPlaying }
+    ensures unwritten { IsUnwritten result → HasFailed printer.new }
 {
     at_most_16_nodes_stand::<A>();
     steps_are_a_run::<A>();
@@ -47,15 +49,16 @@ fn play_each<A: Allocator + Copy, W: Paper, E: Paper>(
     text: &[u8],
     printer: &mut Printer<W>,
     diagnostics: &mut Diagnostics<'_, E>,
-) -> Result<(), Stop>
+) -> Result<(), Ending>
     requires { HoldsSetup (Some text.now) setup.now }
     ensures told { (p : Played setup.now)
         × Prints W.page printer.old printer.new p.text × IsWhole A (Some text.now) result p
         × TellsRefusals (told_by diagnostics.old) (told_by diagnostics.new) p.reports }
     ensures playing { IfErr result IsOfPlaying }
+    ensures unwritten { IsUnwritten result → HasFailed printer.new }
 {
     let Ok(mut world) = World::open(alloc, setup) else {
-        return Err(Stop::no_memory(0, 0));
+        return Err(Ending::Stopped(Stop::no_memory(0, 0)));
     };
     let played = play_in(alloc, &mut world, setup.net, text, printer, diagnostics);
     drop(world);
@@ -70,12 +73,13 @@ fn play_in<A: Allocator + Copy, W: Paper, E: Paper>(
     text: &[u8],
     printer: &mut Printer<W>,
     diagnostics: &mut Diagnostics<'_, E>,
-) -> Result<(), Stop>
+) -> Result<(), Ending>
     requires { (setup : Said A) × HoldsSetup (Some text.now) setup }
     ensures told { (setup : Said A) → world.old ≡ opening_world setup → net ≡ setup.net → (p : Played setup)
         × Prints W.page printer.old printer.new p.text × IsWhole A (Some text.now) result p
         × TellsRefusals (told_by diagnostics.old) (told_by diagnostics.new) p.reports }
     ensures playing { IfErr result IsOfPlaying }
+    ensures unwritten { IsUnwritten result → HasFailed printer.new }
 {
     let mut draft = Draft::new(alloc);
     let mut number = 0usize;
@@ -84,6 +88,9 @@ fn play_in<A: Allocator + Copy, W: Paper, E: Paper>(
         number = number.saturating_add(1);
         let (line, later) = cut_line(rest);
         take_line(world, &mut draft, net, number, line, printer, diagnostics)?;
+        if printer.has_failed() {
+            return Err(Ending::Unwritten);
+        }
         rest = later;
     }
     Ok(())
@@ -107,7 +114,7 @@ fn take_line<A: Allocator + Copy, W: Paper, E: Paper>(
     ensures stopped { IfErr result
         (λ stop. (printer.new ≡ printer.old) × ((told_by diagnostics.new) ≡ (told_by diagnostics.old))
         × StopsLine A line.now world.old stop) }
-    ensures playing { IfErr result IsOfPlaying }
+    ensures playing { IfErr result IsOfEvent }
 {
     match draft.take_line(net, line) {
         Ok(Some(event)) => play_event(world, &event, number, printer, diagnostics),

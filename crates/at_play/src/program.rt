@@ -2,12 +2,13 @@
 ghost use Rattle.std.specs.Prelude.{◌≡◌, ◌<◌, ◌↔◌, List, ℕ, length, IfSome, IsErr, IsOk};
 ghost use Rattle.at_diagnostics.specs.Diagnostics.{TellsWrites, told_by};
 ghost use Rattle.at_diagnostics.specs.declared.diagnostics.Diagnostics.{Diagnostics as Told};
-ghost use Rattle.at_play.specs.Ends.{Ended, FileText, PlayText, TellsEnd, end_text};
+ghost use Rattle.at_play.specs.Ends.{Ended, FileText, IsUnwritten, PlayText, TellsEnd, end_text};
 ghost use Rattle.at_print.specs.Printers.{HasFailed, Prints};
 
+use crate::ending::Ending;
 use crate::playing::play_lines;
 use crate::playing_text::play_bytes;
-use at_diagnostics::{Diagnostics, Stop, write_stop};
+use at_diagnostics::{Diagnostics, write_stop};
 use at_faults::{MAX_LEN, check_length, read_bytes};
 use at_print::{Paper, Printer, Status};
 use at_schedule::read_setup;
@@ -15,7 +16,7 @@ use std::alloc::Allocator;
 use std::io::{Read, Seek};
 
 /// Reads a schedule to its end, plays it, and prints what came of each event. Why a play ended before its last event is
-/// told to a person as well.
+/// told to a person as well. It ends once a write failed.
 pub fn play_text<A: Allocator + Copy, R: Read, W: Paper, E: Paper>(
     alloc: A,
     reader: &mut R,
@@ -56,11 +57,12 @@ fn play_stream<A: Allocator + Copy, R: Read, W: Paper, E: Paper>(
     reader: &mut R,
     printer: &mut Printer<W>,
     diagnostics: &mut Diagnostics<'_, E>,
-) -> Result<(), Stop>
+) -> Result<(), Ending>
     ensures too_long { IfSome (R.remaining reader.old) (λ all. MAX_LEN < length all → IsErr result) }
     ensures told { (text : List ℕ)
         × PlayText A (R.remaining reader.old) (told_by diagnostics.old) (told_by diagnostics.new) result text
         × Prints W.page printer.old printer.new text }
+    ensures unwritten { IsUnwritten result → HasFailed printer.new }
 {
     let bytes = read_bytes(alloc, reader)?;
     let setup = read_setup(alloc, &mut bytes.as_slice())?;
@@ -72,11 +74,12 @@ fn play_again<A: Allocator + Copy, F: Read + Seek, W: Paper, E: Paper>(
     file: &mut F,
     printer: &mut Printer<W>,
     diagnostics: &mut Diagnostics<'_, E>,
-) -> Result<(), Stop>
+) -> Result<(), Ending>
     ensures too_long { IfSome (F.remaining file.old) (λ all. MAX_LEN < length all → IsErr result) }
     ensures told { (text : List ℕ)
         × FileText A F.remaining F.stream_position F.stream_bytes (told_by diagnostics.old) (told_by diagnostics.new)
         result text × Prints W.page printer.old printer.new text }
+    ensures unwritten { IsUnwritten result → HasFailed printer.new }
 {
     check_length(file)?;
     file.rewind()?;
@@ -87,7 +90,7 @@ fn play_again<A: Allocator + Copy, F: Read + Seek, W: Paper, E: Paper>(
 
 // Tells how a play ended, and why it stopped if it did.
 fn end<W: Paper, E: Paper>(
-    played: Result<(), Stop>,
+    played: Result<(), Ending>,
     printer: &mut Printer<W>,
     diagnostics: &mut Diagnostics<'_, E>,
 ) -> Status
@@ -103,7 +106,7 @@ fn end<W: Paper, E: Paper>(
 }
 
 fn finish<W: Paper, E: Paper>(
-    played: Result<(), Stop>,
+    played: Result<(), Ending>,
     printer: &mut Printer<W>,
     diagnostics: &mut Diagnostics<'_, E>,
 ) -> Status
@@ -114,7 +117,8 @@ fn finish<W: Paper, E: Paper>(
 {
     match played {
         Ok(()) => printer.finish(Status::Done),
-        Err(stop) => {
+        Err(Ending::Unwritten) => printer.finish(Status::Failed),
+        Err(Ending::Stopped(stop)) => {
             write_stop(printer, stop);
             diagnostics.tell_stop(stop);
             printer.finish(Status::Failed)

@@ -1,25 +1,46 @@
-use Rattle.std.proofs.Common.{◌∷◌, ◌++◌, ◌∙◌, [], sym, ap, subst, append_assoc, arith}
-use Rattle.std.proofs.lemmas.List.{length-append}
-use Rattle.std.proofs.lemmas.List.Elements.{All-push}
-use Rattle.at_schedule.specs.Schedules.{lines_in}
-use Rattle.at_drive_lines.specs.NodeLines.{Names, NoneNames}
-use Rattle.at_drive_lines.proofs.TextLemmas.{nothing_left, whole_text}
+use Rattle.std.proofs.Common.{[], ◌∷◌, ◌++◌, ◌∙◌, Ok, refl, sym, ap, subst, arith}
+use Rattle.std.proofs.lemmas.List.Elements.{All-nil, All-push}
+use Rattle.at_drive_lines.specs.Lines.{HasNext}
+use Rattle.at_drive_lines.specs.NodeLines.{Names}
+use Rattle.at_drive_lines.proofs.LineLemmas.{come_on, none_come}
+use Rattle.at_drive_lines.proofs.NodeLineLemmas.{first_line_of, none_names}
+use Rattle.at_drive_lines.proofs.TextLemmas.{numbered_next}
 use Rattle.at_drive_lines.proofs.node_line.line_of_node.Goals as goal
 
-pub loop-rest-preserved : goal.loop-rest-preserved
-loop-rest-preserved c =
-    let (read, left, numbered, others) = c.loop-rest.invariant in
-    let line = c.cut_line.result.0.now in
-    let later = c.cut_line.result.1.now in (
+pub loop-lines-init : goal.loop-lines-init
+loop-lines-init g c = ([], none_come (g.L.Lines.left c.args.lines.now), refl, All-nil (λ l. ¬ Names c.args.node l))
+
+pub loop-lines-smaller : goal.loop-lines-smaller
+loop-lines-smaller g c = c.advance.ensures.less (c.in_ok-advance.was ∙ ap Ok c.if-branch.true)
+
+pub loop-lines-preserved : goal.loop-lines-preserved
+loop-lines-preserved g c =
+    let (read, come, numbered, others) = c.loop-lines.invariant in
+    let more = c.in_ok-advance.was ∙ ap Ok c.if-branch.true in
+    let line = c.line.result.now in
+    let now = g.L.Lines.left c.loop-lines.lines in
+    let after = g.L.Lines.left c.advance.new.self in (
       read ++ line ∷ [],
-      left ∙ ap (λ l. read ++ l) c.cut_line.ensures.cut ∙ sym (append_assoc read (line ∷ []) (lines_in later)),
-      let next = c.saturating_add-number.ensures in omega (arith, next, numbered, length-append read (line ∷ [])),
+      come_on (g.L.Lines.left c.args.lines.now) read now line after come
+          (subst (λ l. HasNext now l after) (sym c.line.ensures) (c.advance.ensures.next more)),
+      numbered_next read line c.loop-lines.number c.saturating_add-number.result numbered
+          c.saturating_add-number.ensures,
       All-push (λ l. ¬ Names c.args.node l) read line others (λ named. grind (arith, c.if-names.ensures.1 named)),
     )
 
+pub returns-then-names-clause-found : goal.returns-then-names-clause-found
+returns-then-names-clause-found g c =
+    let (read, come, numbered, others) = c.loop-lines.invariant in
+    let more = c.in_ok-advance.was ∙ ap Ok c.if-branch.true in
+    let now = g.L.Lines.left c.loop-lines.lines in
+    let after = g.L.Lines.left c.advance.new.self in
+    first_line_of (g.L.Lines.left c.args.lines.now) read now c.line.result.now after c.args.node c.loop-lines.number come
+    (subst (λ l. HasNext now l after) (sym c.line.ensures) (c.advance.ensures.next more)) numbered others
+    (c.if-names.ensures.0 refl)
+
 pub returns-clause-none : goal.returns-clause-none
-returns-clause-none c =
-    let (read, left, numbered, others) = c.loop-rest.invariant in
-    let rest = c.loop-rest.rest.now in
-    let none = nothing_left rest (sym c.is_empty.ensures ∙ c.loop-rest-test.false) in
-    subst (λ lines. NoneNames lines c.args.node) (sym (whole_text c.args.text.now rest read none left)) others
+returns-clause-none g c =
+    let (read, come, numbered, others) = c.loop-lines.invariant in
+    let none = c.in_ok-advance.was ∙ ap Ok c.if-branch.false in
+    none_names (g.L.Lines.left c.args.lines.now) read (g.L.Lines.left c.loop-lines.lines) c.args.node come
+    (c.advance.ensures.end none) others

@@ -3,11 +3,10 @@ use Rattle.at_diagnostics.specs.Diagnostics.{told_by}
 use Rattle.at_play.proofs.ToldLemmas.{stops_first}
 use Rattle.at_play.proofs.playing.play_all.Goals as goal
 
-pub returns-in_default : goal.returns-in_default
-returns-in_default g c = record {
-  told = stops_first g.row.A.Denot g.W.Paper.page c.args.setup.now (g.R.Read.remaining c.args.reader.now)
-      c.args.printer.now (told_by c.args.diagnostics.now) c.no_memory.result c.no_memory.ensures.unread;
-}
+pub returns-in_default-clause-told : goal.returns-in_default-clause-told
+returns-in_default-clause-told g c =
+    stops_first g.row.A.Denot g.W.Paper.page c.args.setup.now (g.R.Read.remaining c.args.reader.now) c.args.printer.now
+    (told_by c.args.diagnostics.now) c.no_memory.result c.no_memory.ensures.unread
 
-pub returns : goal.returns
-returns g c = record { told = c.play_in-played.ensures.told c.args.setup.now c.in-Ok.ensures refl }
+pub returns-clause-told : goal.returns-clause-told
+returns-clause-told g c = c.play_in-played.ensures.told c.args.setup.now c.in-Ok.ensures refl

@@ -25,4 +25,5 @@ returns g c =
         told.2,
         told.3,
       );
+      unwritten = c.play_all.ensures.unwritten;
     }

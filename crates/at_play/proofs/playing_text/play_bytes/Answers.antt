@@ -27,4 +27,5 @@ returns g c =
         told.3,
       );
       playing = c.play_each.ensures.playing;
+      unwritten = c.play_each.ensures.unwritten;
     }

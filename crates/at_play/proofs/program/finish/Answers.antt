@@ -1,5 +1,5 @@
 use Rattle.std.proofs.Common.{rules}
 use Rattle.at_play.proofs.program.finish.Goals as goal
 
-pub returns-in-Err-clause-done : goal.returns-in-Err-clause-done
-returns-in-Err-clause-done g c = search rules
+pub returns-in-Err-Stopped-clause-done : goal.returns-in-Err-Stopped-clause-done
+returns-in-Err-Stopped-clause-done g c = search rules

@@ -1,6 +1,7 @@
 use Rattle.std.proofs.Common.{subst, sym}
 use Rattle.at_diagnostics.specs.Diagnostics.{told_by}
 use Rattle.at_play.specs.Ends.{FileText}
+use Rattle.at_print.specs.Printers.{HasFailed}
 use Rattle.at_print.proofs.PrintLemmas.{Prints-trans}
 use Rattle.at_play.proofs.ToldLemmas.{too_long_fails}
 use Rattle.at_play.proofs.program.play_file.Goals as goal
@@ -17,6 +18,9 @@ returns-clause-ended g c =
       done = c.end.ensures.done;
       printed = Prints-trans g.W.Paper.page c.args.printer.now c.play_again-played.new.printer c.end.new.printer
           told.0 _ told.2 c.end.ensures.printed;
+      unwritten = λ is.
+          let failed = c.play_again-played.ensures.unwritten is in
+          subst HasFailed (sym (c.end.ensures.printed.stopped failed)) failed;
     }
 
 pub returns-clause-too_long : goal.returns-clause-too_long

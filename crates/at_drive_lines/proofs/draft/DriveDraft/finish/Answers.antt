@@ -1,6 +1,4 @@
-use Rattle.std.proofs.Common.{[], ◌∷◌, subst, sym}
-use Rattle.std.specs.List.{All}
-use Rattle.at_drive_lines.specs.Says.{IsStepHere}
+use Rattle.std.proofs.Common.{[], ◌∷◌}
 use Rattle.at_drive_lines.specs.contracts.draft.DriveDraft.finish.{A-type}
 use Rattle.at_drive_lines.proofs.BeginLemmas.{whole_drive}
 use Rattle.at_drive_lines.proofs.RefusalLemmas.{no_whole}
@@ -10,14 +8,11 @@ use Rattle.at_drive_lines.proofs.draft.DriveDraft.finish.Goals as goal
 pub returns-in-Ok-clause-said : goal.returns-in-Ok-clause-said
 returns-in-Ok-clause-said g c lines read =
     let A = A-type g.row.A in
-    let b = body_of A c.args.self [] lines c.in-Body.is read in
-    whole_drive A c.lines_say_one_setup.ensures.same c.args.self lines b c.in-Ok.setup
-    (c.in-Ok.ensures.said (b.net ∷ b.head) b.draft)
-
-pub returns-in-Ok-clause-here : goal.returns-in-Ok-clause-here
-returns-in-Ok-clause-here g c lines read =
-    let b = body_of (A-type g.row.A) c.args.self [] lines c.in-Body.is read in
-    subst (λ n. All (IsStepHere n) c.args.self.steps.items) (sym c.in-Ok.ensures.net) b.here
+    let b = body_of A c.args.self [] lines c.in-Body.is read in (
+      b.steps,
+      whole_drive A c.lines_say_one_setup.ensures.same c.args.self lines b c.in-Ok.setup
+          (c.in-Ok.ensures.said (b.net ∷ b.head) b.draft),
+    )
 
 pub returns-in-Err-clause-only : goal.returns-in-Err-clause-only
 returns-in-Err-clause-only g c lines read =

@@ -36,5 +36,5 @@ returns-in-None-clause-taken g c =
     let line = c.args.word.now ∷ words_of c.args.words.rest.now in
     let early = early_by c.in_default.field-0 (has_events old.setup) c.in_default.ensures.late in
     head_adds (A-type g.row.A) old line (record old { setup = c.take_line.new.self }) c.requires.stage c.requires.stage
-    refl refl early c.in_default.ensures.early c.in_default.ensures.taken
+    refl early c.in_default.ensures.early c.in_default.ensures.taken
     (sym (c.in-None.ensures ∙ ap (λ ns. have_ports old.port ns && leave_port old.port ns) c.nodes.ensures))

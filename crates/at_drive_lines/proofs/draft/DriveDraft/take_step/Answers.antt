@@ -1,9 +1,9 @@
-use Rattle.std.proofs.Common.{◌≡◌, ◌∷◌, ◌∙◌, ◌==◌, refl, subst, sym}
+use Rattle.std.proofs.Common.{◌≡◌, ◌∷◌, ◌∙◌, ◌==◌, refl, sym}
 use Rattle.std.specs.List.{list_any}
 use Rattle.at_drive.specs.Steps.{node_of}
 use Rattle.at_words.specs.Words.{words_of}
 use Rattle.at_drive_lines.specs.Drafts.{Bars}
-use Rattle.at_drive_lines.specs.Says.{IsStepHere, StepSays}
+use Rattle.at_drive_lines.specs.Says.{StepSays}
 use Rattle.at_drive_lines.specs.contracts.draft.DriveDraft.take_step.{A-type}
 use Rattle.at_drive_lines.proofs.RefusalLemmas.{nothing_if}
 use Rattle.at_drive_lines.proofs.TakeLemmas.{event_barred, stands_barred, step_adds, step_barred}
@@ -45,8 +45,6 @@ returns-clause-taken g c =
     ≡ list_any (λ n. n.node == c.node.result) c.nodes.result.now =
     (λ i. list_any (λ n. n.node == sym c.node.ensures i) (sym c.nodes.ensures i)) in
     step_adds (A-type g.row.A) old line c.in-Ok.step
-    (record old { setup = c.take_event.new.self; steps = c.push.new.self }) c.lines_say_one_setup.ensures.same
-    c.requires.stage c.requires.stage refl c.in_ok-push.ensures.items c.in_default.ensures.over
-    c.in_default.ensures.taken c.in-Ok.ensures.said
-    (same ∙ sym c.stands_among.ensures ∙ c.if-not-stands_among.false) c.take_event.ensures.net
-    (subst (λ n. IsStepHere n c.in-Ok.step) c.net.ensures c.in-Ok.ensures.here)
+    (record old { setup = c.take_event.new.self }) c.lines_say_one_setup.ensures.same c.requires.stage
+    c.requires.stage refl c.in_default.ensures.over c.in_default.ensures.taken c.in-Ok.ensures.said
+    (same ∙ sym c.stands_among.ensures ∙ c.if-not-stands_among.false)

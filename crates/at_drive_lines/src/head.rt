@@ -1,54 +1,48 @@
-//! The text of a drive.
-ghost use Rattle.std.specs.Prelude.{◌≡◌, true, IfErr, IfOk};
-ghost use Rattle.std.specs.List.{All};
-ghost use Rattle.at_drive.specs.Steps.{has_all};
+//! What the lines of a drive say before its steps.
+ghost use Rattle.std.specs.Prelude.{◌≡◌, true, IfErr, IfOk, IfSome};
 ghost use Rattle.at_faults.specs.declared.rule.Rule.{Rule as Told};
-ghost use Rattle.at_schedule.specs.Schedules.{lines_in};
 ghost use Rattle.at_setup.specs.Setups.{is_lawful};
-ghost use Rattle.at_drive_lines.specs.Drafts.{IsDriveFault, words_in};
-ghost use Rattle.at_drive_lines.specs.Says.{AreDrive, IsStepHere};
+ghost use Rattle.at_drive_lines.specs.Drafts.{BeginsSo, IsDriveFault};
 
 use crate::draft::DriveDraft;
-use at_drive::Step;
+use crate::lines::Lines;
 use at_faults::{Fault, LineFault, Rule};
-use at_schedule::{cut_line, fault_at};
+use at_schedule::fault_at;
 use at_setup::Setup;
 use at_setup_lines::laws::{each_draft_can_end, lines_say_one_setup};
 use at_words::Words;
 use std::alloc::{Allocator, Global};
 
-/// What the text of a drive says.
+/// What the lines of a drive say before its steps.
 #[derive(Drop)]
-pub struct DriveText<A: Allocator = Global> {
+pub struct DriveHead<A: Allocator = Global> {
     pub setup: Setup<A>,
     /// Node n is at this port + n.
     pub port: u16,
-    pub steps: Vec<Step<A>, A>,
 }
 
-/// Reads the lines of a drive, all of which have to be lawful. The requesters that steps name are on its network.
-pub fn read_drive<A: Allocator + Copy>(alloc: A, text: &[u8]) -> Result<DriveText<A>, Fault>
-    ensures said { IfOk result (λ t. AreDrive (words_in (lines_in text.now)) t.setup t.port t.steps.items) }
-    ensures lawful { IfOk result (λ t. is_lawful t.setup ≡ true) }
-    ensures stand { IfOk result (λ t. has_all t.setup t.steps.items ≡ true) }
-    ensures here { IfOk result (λ t. All (IsStepHere (t.setup).net) t.steps.items) }
-    ensures fault { IfErr result (IsDriveFault A (lines_in text.now)) }
+/// Reads all lines of a drive, which have to be lawful, and gives what they say before the steps. No step is kept.
+pub fn read_head<A: Allocator + Copy, L: Lines>(
+    alloc: A,
+    lines: &mut L,
+) -> Result<DriveHead<A>, Fault>
+    // Which lines are left is said if it is known.
+    ensures said { IfOk result (λ head. IfSome (L.left lines.old) (BeginsSo head.setup head.port)) }
+    ensures lawful { IfOk result (λ head. is_lawful head.setup ≡ true) }
+    ensures fault { IfErr result (IsDriveFault A (L.left lines.old) L.may_fail) }
 {
     each_draft_can_end::<A>();
     lines_say_one_setup::<A>();
     let mut draft = DriveDraft::new(alloc);
     let mut number = 1usize;
-    let mut rest = text;
-    while !rest.is_empty() {
-        let (line, later) = cut_line(rest);
-        if let Err(fault) = draft.take_line(line) {
-            return Err(fault_at(told(fault, line), number, line));
+    while lines.advance()? {
+        if let Err(fault) = draft.take_line(lines.line()) {
+            return Err(fault_at(told(fault, lines.line()), number, lines.line()));
         }
         number = number.saturating_add(1);
-        rest = later;
     }
     match draft.finish() {
-        Ok(drive) => Ok(drive),
+        Ok(head) => Ok(head),
         Err(rule) => Err(Fault::Line { number, rule }),
     }
 }

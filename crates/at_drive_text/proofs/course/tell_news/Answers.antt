@@ -1,7 +1,7 @@
 use Rattle.std.proofs.Common.{subst}
 use Rattle.std.specs.Prelude.{slice_get}
 use Rattle.at_drive_text.specs.Told.{TellsRefusal}
-use Rattle.at_drive_text.proofs.drive.tell_news.Goals as goal
+use Rattle.at_drive_text.proofs.course.tell_news.Goals as goal
 
 pub returns : goal.returns
 returns g c = (

@@ -1,0 +1,23 @@
+use Rattle.at_drive_text.specs.Driven.{drive_end}
+use Rattle.at_print.proofs.PrintLemmas.{Prints-trans}
+use Rattle.at_drive_text.proofs.TellsLemmas.{stays_failed}
+use Rattle.at_drive_text.proofs.drive.drive_lines.Goals as goal
+
+pub returns : goal.returns
+returns g c =
+    let went = c.drive_opened-driven.ensures.goes in
+    let driven = c.drive_opened-driven.result in
+    let between = c.drive_opened-driven.new.printer in
+    record {
+      result = driven;
+      steps = went.steps;
+      text = went.text;
+      tells = went.tells;
+      stand = went.stand;
+      here = went.here;
+      done = c.end.ensures.done;
+      printed = Prints-trans g.W.Paper.page c.args.printer.now between c.end.new.printer went.text (drive_end driven)
+          went.printed c.end.ensures.printed;
+      unwritten = λ is. stays_failed g.W.Paper.page between c.end.new.printer (drive_end driven) c.end.ensures.printed
+          (c.drive_opened-driven.ensures.unwritten is);
+    }
