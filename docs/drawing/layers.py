@@ -21,7 +21,7 @@ ROWS = [
     [Layer("program", "atnode play, udp, show", "atnode")],
     [
         Layer("play", "plays a schedule", "at_play"),
-        Layer("drive", "nodes over a cable or UDP", "at_drive at_drive_lines at_drive_text"),
+        Layer("drive", "nodes over a cable or UDP", "at_drive at_drive_lines at_drive_text at_udp_text"),
         Layer("C", "a node in a C program", "raw_box at_held at_c"),
     ],
     [

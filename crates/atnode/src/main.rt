@@ -5,7 +5,6 @@
 mod command_line;
 mod telling;
 mod udp;
-mod udp_lines;
 
 use at_diagnostics::Diagnostics;
 use at_play::{play_file, play_text};

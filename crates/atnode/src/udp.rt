@@ -1,9 +1,10 @@
 //! The drive of a schedule's nodes over UDP.
 use crate::telling::tell;
-use crate::udp_lines::{drive_file, drive_text};
 use crate::{STANDARD_INPUT, stop, unopened};
 use at_diagnostics::Diagnostics;
 use at_print::Printer;
+use at_udp::LocalSocket;
+use at_udp_text::{drive_file, drive_stream};
 use std::io::{BufWriter, Read, Seek, Write};
 use std::net::Net;
 use std::rt::Files;
@@ -39,8 +40,14 @@ fn udp_opened<R: Print + Net + AllocGlobal, F: Read + Seek, E: Write>(
         Ok(writer) => Printer::new(writer),
         Err(_) => return stop(rt, errors),
     };
-    let mut diagnostics = Diagnostics::new(name, errors);
-    Ok(drive_file(rt, file, &mut printer, &mut diagnostics).code())
+    let mut told = Diagnostics::new(name, errors);
+    Ok(drive_file::<LocalSocket, _, _, _, _, _>(
+        rt.alloc(),
+        rt,
+        file,
+        &mut printer,
+        &mut told,
+    ).code())
 }
 
 fn udp_from<R: Print + Net + AllocGlobal, I: Read, E: Write>(
@@ -53,6 +60,12 @@ fn udp_from<R: Print + Net + AllocGlobal, I: Read, E: Write>(
         Ok(writer) => Printer::new(writer),
         Err(_) => return stop(rt, errors),
     };
-    let mut diagnostics = Diagnostics::new(name, errors);
-    Ok(drive_text(rt, reader, &mut printer, &mut diagnostics).code())
+    let mut told = Diagnostics::new(name, errors);
+    Ok(drive_stream::<LocalSocket, _, _, _, _, _>(
+        rt.alloc(),
+        rt,
+        reader,
+        &mut printer,
+        &mut told,
+    ).code())
 }

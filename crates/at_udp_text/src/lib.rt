@@ -1,0 +1,7 @@
+//! A schedule whose nodes are driven over UDP, from its text to what is printed.
+#![tactic(auto)]
+
+mod driving;
+mod program;
+
+pub use program::{drive_file, drive_stream};

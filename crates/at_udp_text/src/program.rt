@@ -1,0 +1,138 @@
+//! The drive of a schedule, from its text to what is printed. The text is read for its faults before a socket is bound, and
+//! once more as it is driven.
+ghost use Rattle.std.specs.Prelude.{◌≡◌, IfErr, IfOk, IfSome, true};
+ghost use Rattle.at_drive_lines.specs.Drafts.{BeginsSo, IsDriveFault};
+ghost use Rattle.at_drive_lines.specs.Lines.{lines_of};
+ghost use Rattle.at_setup.specs.Setups.{is_lawful};
+ghost use Rattle.at_udp.specs.Sockets.{Receives, Sends};
+ghost use Rattle.at_udp_text.specs.Ends.{DrivesAgain, DrivesFile, DrivesFrom, DrivesStream, DrivesText};
+ghost use Rattle.at_udp_text.specs.Ends.{IsFileFault, IsHeadOf};
+
+use crate::driving::drive_nodes;
+use at_diagnostics::Diagnostics;
+use at_drive_lines::{DriveHead, ReadLines, TextLines, read_head};
+use at_drive_text::end_at_fault;
+use at_faults::{Fault, check_length, read_bytes};
+use at_print::{Paper, Printer, Status};
+use at_udp::Socket;
+use std::alloc::Allocator;
+use std::io::{BufReader, Read, Seek};
+use std::net::Net;
+
+/// Reads a schedule to its end, drives its nodes over UDP on this machine, and prints what came of each step.
+pub fn drive_stream<S: Socket, A: Allocator + Copy, N: Net, R: Read, W: Paper, E: Paper>(
+    alloc: A,
+    net: &N,
+    reader: &mut R,
+    printer: &mut Printer<W>,
+    diagnostics: &mut Diagnostics<'_, E>,
+) -> Status
+    // What the reader holds is said if it is known.
+    ensures { DrivesStream A S.binds (Sends S.sends) (Receives S.receives) (R.remaining reader.old) W.page result
+        printer.old printer.new }
+{
+    match read_bytes(alloc, reader) {
+        Ok(text) => drive_text::<S, A, N, W, E>(alloc, net, text.as_slice(), printer, diagnostics),
+        Err(fault) => end_at_fault(fault, printer, diagnostics),
+    }
+}
+
+fn drive_text<S: Socket, A: Allocator + Copy, N: Net, W: Paper, E: Paper>(
+    alloc: A,
+    net: &N,
+    text: &[u8],
+    printer: &mut Printer<W>,
+    diagnostics: &mut Diagnostics<'_, E>,
+) -> Status
+    ensures { DrivesText A S.binds (Sends S.sends) (Receives S.receives) text.now W.page result printer.old
+        printer.new }
+{
+    let mut lines = TextLines::of(text);
+    match read_head(alloc, &mut TextLines::of(text)) {
+        Ok(head) => {
+            drive_nodes::<S, A, N, _, W, E>(alloc, net, &head, &mut lines, printer, diagnostics)
+        }
+        Err(fault) => end_at_fault(fault, printer, diagnostics),
+    }
+}
+
+/// Drives the nodes of a schedule that can be read again from its beginning, as a file can: nothing of it is kept but its
+/// setup. It is read for its length, then for its faults, and last to be driven. One that changes meanwhile is reported
+/// as unreadable.
+pub fn drive_file<S: Socket, A: Allocator + Copy, N: Net, F: Read + Seek, W: Paper, E: Paper>(
+    alloc: A,
+    net: &N,
+    file: &mut F,
+    printer: &mut Printer<W>,
+    diagnostics: &mut Diagnostics<'_, E>,
+) -> Status
+    ensures { DrivesFile A S.binds (Sends S.sends) (Receives S.receives) F.remaining F.stream_position
+        F.stream_bytes W.page result printer.old printer.new }
+{
+    match head_of(alloc, file) {
+        Ok(head) => drive_again::<S, A, N, F, W, E>(alloc, net, &head, file, printer, diagnostics),
+        Err(fault) => end_at_fault(fault, printer, diagnostics),
+    }
+}
+
+// What the lines of a file say before its steps.
+fn head_of<A: Allocator + Copy, F: Read + Seek>(
+    alloc: A,
+    file: &mut F,
+) -> Result<DriveHead<A>, Fault>
+    ensures lawful { IfOk result (λ head. is_lawful head.setup ≡ true) }
+    ensures said { IfOk result
+        (λ head. IsHeadOf F.remaining F.stream_position F.stream_bytes head.setup head.port) }
+    ensures fault { IfErr result (IsFileFault A F.remaining F.stream_position F.stream_bytes) }
+{
+    check_length(file)?;
+    file.rewind()?;
+    head_from(alloc, file)
+}
+
+fn head_from<A: Allocator + Copy, R: Read>(alloc: A, reader: &mut R) -> Result<DriveHead<A>, Fault>
+    ensures lawful { IfOk result (λ head. is_lawful head.setup ≡ true) }
+    ensures said { IfOk result
+        (λ head. IfSome (lines_of (R.remaining reader.old)) (BeginsSo head.setup head.port)) }
+    ensures fault { IfErr result (IsDriveFault A (lines_of (R.remaining reader.old)) true) }
+{
+    let reader = BufReader::new(alloc, reader)?;
+    read_head(alloc, &mut ReadLines::of(alloc, reader))
+}
+
+fn drive_again<S: Socket, A: Allocator + Copy, N: Net, F: Read + Seek, W: Paper, E: Paper>(
+    alloc: A,
+    net: &N,
+    head: &DriveHead<A>,
+    file: &mut F,
+    printer: &mut Printer<W>,
+    diagnostics: &mut Diagnostics<'_, E>,
+) -> Status
+    ensures { DrivesAgain S.binds (Sends S.sends) (Receives S.receives) F.remaining F.stream_position
+        F.stream_bytes head.now.setup head.now.port W.page result printer.old printer.new }
+{
+    match file.rewind() {
+        Ok(()) => drive_from::<S, A, N, F, W, E>(alloc, net, head, file, printer, diagnostics),
+        Err(error) => end_at_fault(Fault::from(error), printer, diagnostics),
+    }
+}
+
+fn drive_from<S: Socket, A: Allocator + Copy, N: Net, R: Read, W: Paper, E: Paper>(
+    alloc: A,
+    net: &N,
+    head: &DriveHead<A>,
+    reader: &mut R,
+    printer: &mut Printer<W>,
+    diagnostics: &mut Diagnostics<'_, E>,
+) -> Status
+    ensures { DrivesFrom S.binds (Sends S.sends) (Receives S.receives) head.now.setup head.now.port
+        (lines_of (R.remaining reader.old)) W.page result printer.old printer.new }
+{
+    match BufReader::new(alloc, reader) {
+        Ok(reader) => {
+            let mut lines = ReadLines::of(alloc, reader);
+            drive_nodes::<S, A, N, _, W, E>(alloc, net, head, &mut lines, printer, diagnostics)
+        }
+        Err(_) => end_at_fault(Fault::NoMemory, printer, diagnostics),
+    }
+}
