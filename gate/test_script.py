@@ -19,7 +19,7 @@ TOP = Path(__file__).resolve().parents[1]
 sys.dont_write_bytecode = True
 # A path without rt, so that nothing can be proved or built.
 BARE = "/usr/bin:/bin"
-COMMANDS = ("prove", "lib")
+COMMANDS = ("prove", "lib", "install", "uninstall")
 NOTING = """#!/bin/sh
 printf '<%s>' "$@"
 exit 7
@@ -95,7 +95,7 @@ class Script(unittest.TestCase):
             self.assertEqual(self.run_script(line), (words, "", 7), line)
 
     def test_without_rt_and_a_program_a_run_says_what_is_missing(self):
-        for line in ("play lab", "show 00", *COMMANDS):
+        for line in ("play lab", "show 00", "prove", "lib", "install"):
             printed, told, status = self.run_script(line)
             self.assertEqual((printed, status), ("", 127), line)
             self.assertIn("the command rt is missing", told)

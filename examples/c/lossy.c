@@ -109,7 +109,7 @@ static void run(unsigned number) {
 }
 
 int main(int argc, char **argv) {
-    unsigned runs = argc == 2 ? (unsigned)strtoul(argv[1], NULL, 10) : RUNS;
+    unsigned runs = argc == 2 ? (unsigned)strtoul(argv[1], NULL, 10) : (unsigned)RUNS;
     weather.lost = 20;
     weather.repeated = 10;
     weather.delay = 500;
