@@ -1,6 +1,7 @@
 """A proved AppleTalk node in Python, over the shared library `libat_node.so.1`.
 
-`Node` is the node, and `Alarms` keeps time for it.
+`Node` is the node, `Alarms` keeps time for it, and `Station` (`at_node.station`) runs it on a cable
+(`at_node.udp`, `at_node.ltoudp`). `python3 -m at_node` has commands.
 """
 
 from .alarms import INTERVALS, Alarms

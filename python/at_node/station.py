@@ -1,0 +1,129 @@
+"""A node on a cable, with its clocks: it lives as long as `step` is called."""
+
+from __future__ import annotations
+
+import selectors
+import time
+from typing import Any, Callable, List, Mapping, Optional
+
+from .alarms import INTERVALS, Alarms
+from .cable import Cable
+from .node import Node
+from .report import Report
+
+# So many datagrams are taken before clocks and other files are looked at.
+MAX_AT_ONCE = 64
+# What a station does with a report of a datagram or a timer.
+Hear = Callable[[Report], None]
+
+
+def setup_of(
+    network: int,
+    number: int,
+    zone: Optional[str] = None,
+    router: Optional[int] = None,
+    rooms: int = 64,
+) -> str:
+    """The setup of one node. `zone` is a word, and is there where a router is. A node whose own
+    number is the router's is the router. Each end of a stream has `rooms` items of room in both
+    directions."""
+    lines = [f"net {network}"]
+    if router not in (None, number):
+        lines.append(f"node {router} router zone {zone}")
+    role = " router" if router == number else ""
+    place = f" zone {zone}" if router is not None else ""
+    lines.append(f"node {number}{role}{place} rooms {rooms} {rooms}")
+    return "\n".join(lines) + "\n"
+
+
+class Station:
+    """A node, its cable and its alarms. Nothing happens but in a call of a method."""
+
+    def __init__(
+        self,
+        node: Node,
+        cable: Cable,
+        hear: Hear = lambda report: None,
+        intervals: Mapping[str, float] = INTERVALS,
+    ) -> None:
+        """Node and cable stay the caller's. `hear` is called with what the node reports of each
+        datagram and timer, and may call the node by `call`."""
+        self.node, self.cable, self.hear = node, cable, hear
+        self._alarms = Alarms(intervals)
+        self._selector = selectors.PollSelector()
+        self._selector.register(cable, selectors.EVENT_READ)
+        self._listed: Optional[List[str]] = None
+
+    def watch(self, file: Any, ready: Callable[[], None]) -> None:
+        """Calls `ready` in each step in which there is something to read of a file."""
+        self._selector.register(file, selectors.EVENT_READ, ready)
+
+    def unwatch(self, file: Any) -> None:
+        """Ends that."""
+        self._selector.unregister(file)
+
+    def call(self, words: str) -> Report:
+        """Plays a call, and sends what comes of it. Raises as `Node.call` does."""
+        report = self.node.call(words)
+        self._settle()
+        return report
+
+    def timers(self) -> List[str]:
+        """The timers that have an alarm."""
+        return self._alarms.armed()
+
+    def step(self, until: Optional[float] = None) -> None:
+        """Waits for a datagram, a timer or a watched file, up to a time of `time.monotonic`, and
+        does what there is to do. Without a time it waits as long as nothing happens."""
+        for key, _ in self._selector.select(self._patience(until)):
+            if key.data is not None:
+                key.data()
+        self._receive()
+        self._fire()
+
+    def _patience(self, until: Optional[float]) -> Optional[float]:
+        if self.cable.has_more():
+            return 0
+        ends = [it for it in (until, self._alarms.first()) if it is not None]
+        return max(0.0, min(ends) - time.monotonic()) if ends else None
+
+    def _receive(self) -> None:
+        for _ in range(MAX_AT_ONCE):
+            before = self.cable.counts.received
+            more = self.cable.has_more()
+            datagram = self.cable.receive()
+            if datagram is not None:
+                self._take(datagram)
+            elif not more and self.cable.counts.received == before:
+                return
+
+    def _take(self, datagram: bytes) -> None:
+        report = self.node.receive(datagram)
+        if report.refusal is not None:
+            self.cable.counts.drop(f"refused: {report.refusal.sentence}")
+        self._settle()
+        self.hear(report)
+
+    def _fire(self) -> None:
+        now = time.monotonic()
+        for _ in range(MAX_AT_ONCE):
+            timer = self._alarms.fire(now)
+            if timer is None:
+                return
+            self._listed = None
+            report = self.node.timer(timer)
+            self._settle()
+            self.hear(report)
+
+    def _settle(self) -> None:
+        """Sends what the node has to send, and reads its timers."""
+        for to, datagram in self.node.datagrams():
+            self.cable.send(to, datagram)
+        listed = self.node.timers()
+        if listed != self._listed:
+            self._alarms.read(listed, time.monotonic())
+            self._listed = listed
+
+    def close(self) -> None:
+        """Stops waiting. Node and cable stay open."""
+        self._selector.close()

@@ -1,0 +1,359 @@
+"""LocalTalk over UDP: numbers, frames and errors."""
+
+import os
+import socket
+import subprocess
+import sys
+import threading
+import time
+import unittest
+from typing import Callable, List, Optional
+from unittest import mock
+
+from at_node import CableFault, NumberTaken, llap, ltoudp
+from at_node.llap import ACK, ENQ, LONG, RTS, SHORT, Frame
+from at_node.ltoudp import LtoudpCable, Wire
+from cables import LOOPBACK, Place, has_multicast, place, run
+from test_llap import LOOKUP, lookup
+
+HAS_MULTICAST = has_multicast()
+needs_multicast = unittest.skipUnless(HAS_MULTICAST, "this machine has no multicast at 127.0.0.1")
+
+
+def payloads(wire: Wire, seconds: float = 0.3) -> List[bytes]:
+    """What comes within some time."""
+    came = []
+    end = time.monotonic() + seconds
+    while time.monotonic() < end:
+        payload = wire.receive()
+        if payload is None:
+            time.sleep(0.002)
+        else:
+            came.append(payload)
+    return came
+
+
+@needs_multicast
+class Wires(unittest.TestCase):
+    def setUp(self) -> None:
+        self.wires: List[Wire] = []
+        self.other = self.wire()
+
+    def tearDown(self) -> None:
+        for wire in self.wires:
+            wire.close()
+
+    def wire(self) -> Wire:
+        self.wires.append(Wire(LOOPBACK))
+        return self.wires[-1]
+
+    def cable(self, number: int, router: Optional[int] = None) -> LtoudpCable:
+        return LtoudpCable(self.wire(), number, 10, router)
+
+    def frames(self, seconds: float = 0.2) -> List[Frame]:
+        """What the other wire hears."""
+        came = [self.other.frame_of(it) for it in payloads(self.other, seconds)]
+        return [it for it in came if it is not None]
+
+    def come(self, cable: LtoudpCable, frame: Frame) -> Optional[bytes]:
+        """What a cable makes of a frame of the other wire."""
+        self.other.send(frame)
+        end = time.monotonic() + 0.3
+        before = cable.counts.received
+        while cable.counts.received == before and time.monotonic() < end:
+            datagram = cable.receive()
+            if datagram is not None:
+                return datagram
+        return None
+
+    def test_a_payload_is_a_sender_and_a_frame(self) -> None:
+        wire = self.wire()
+        wire.send(Frame(7, 9, SHORT, b"abc"))
+        self.assertEqual(payloads(self.other), [wire.sender + b"\x07\x09\x01abc"])
+
+    def test_own_payloads_are_dropped(self) -> None:
+        cable = self.cable(7)
+        cable.send(9, LOOKUP)
+        time.sleep(0.05)
+        self.assertIsNone(cable.receive())
+        self.assertEqual(cable.counts.dropped, {"of our own": 1})
+
+    def test_a_datagram_for_the_same_network_leaves_short_and_of_network_0(self) -> None:
+        cable = self.cable(5)
+        cable.send(255, LOOKUP)
+        (frame,) = self.frames()
+        self.assertEqual(frame[:3], (255, 5, SHORT))
+        self.assertEqual(frame.data, llap.short_of(llap.with_network(LOOKUP, 10, 0)))
+
+    def test_with_a_router_the_network_stays(self) -> None:
+        cable = self.cable(5, router=1)
+        request = lookup("net 10\nnode 1 router zone Lab\nnode 5 zone Lab\n", 5)
+        cable.send(1, request)
+        (frame,) = self.frames()
+        self.assertEqual(frame, Frame(1, 5, SHORT, llap.short_of(request)))
+
+    def test_a_datagram_for_another_network_leaves_long_by_the_router(self) -> None:
+        cable = self.cable(5, router=1)
+        far = LOOKUP[:2] + b"\0\0\0\x0c" + LOOKUP[6:]
+        cable.send(7, far)
+        self.assertEqual(self.frames(), [Frame(1, 5, LONG, far)])
+
+    def test_a_short_datagram_comes_as_a_long_one(self) -> None:
+        cable = self.cable(7)
+        near = llap.with_network(LOOKUP, 10, 0)
+        for to in (7, 255):
+            datagram = self.come(cable, Frame(to, 9, SHORT, llap.short_of(near)))
+            wanted = LOOKUP[:2] + b"\0\0" + LOOKUP[4:8] + bytes([to, 9]) + LOOKUP[10:]
+            self.assertEqual(datagram, wanted)
+
+    def test_a_long_datagram_of_network_0_comes_as_one_of_the_network(self) -> None:
+        cable = self.cable(7)
+        near = llap.with_network(LOOKUP, 10, 0)
+        wanted = LOOKUP[:2] + b"\0\0" + LOOKUP[4:]
+        self.assertEqual(self.come(cable, Frame(255, 5, LONG, near)), wanted)
+
+    def test_what_is_no_datagram_of_ours_is_counted(self) -> None:
+        cable = self.cable(7)
+        bent = bytearray(LOOKUP)
+        bent[20] ^= 1
+        for frame, reason in (
+            (Frame(8, 9, SHORT, llap.short_of(LOOKUP)), "for another node"),
+            (Frame(7, 9, RTS, b""), "of another type"),
+            (Frame(7, 9, SHORT, b"\0\4abc"), "of a wrong length"),
+            (Frame(7, 9, LONG, b"\0\x0d"), "of a wrong length"),
+            (Frame(7, 9, LONG, bytes(bent)), "of a wrong sum"),
+            (Frame(7, 7, SHORT, llap.short_of(LOOKUP)), "under our own number"),
+        ):
+            before = cable.counts.dropped[reason]
+            self.assertIsNone(self.come(cable, frame))
+            self.assertEqual(cable.counts.dropped[reason], before + 1, reason)
+        self.assertEqual(cable.counts.dropped_in_all(), 6)
+
+    def test_a_payload_that_is_cut_short_is_counted(self) -> None:
+        cable = self.cable(7)
+        self.other._socket.sendto(b"abcd\x07\x09", (ltoudp.GROUP, ltoudp.PORT))
+        time.sleep(0.05)
+        self.assertIsNone(cable.receive())
+        self.assertEqual(cable.counts.line(), "received 1, sent 0, dropped 1: 1 cut short")
+
+    def test_what_goes_to_the_node_itself_comes_back(self) -> None:
+        cable = self.cable(7)
+        cable.send(7, LOOKUP)
+        self.assertTrue(cable.has_more())
+        self.assertEqual(cable.receive(), LOOKUP)
+        self.assertFalse(cable.has_more())
+        self.assertEqual(self.frames(), [])
+        cable.send(255, LOOKUP)
+        self.assertEqual(cable.receive(), LOOKUP)
+        self.assertEqual(len(self.frames()), 1)
+
+    def test_who_asks_for_our_number_gets_an_answer(self) -> None:
+        cable = self.cable(7)
+        self.assertIsNone(self.come(cable, Frame(7, 7, ENQ, b"")))
+        self.assertEqual(self.frames(), [Frame(7, 7, ACK, b"")])
+        self.assertIsNone(self.come(cable, Frame(8, 8, ENQ, b"")))
+        self.assertEqual(self.frames(), [])
+
+
+class Background:
+    """A cable that lives on a thread of its own until the end of a block."""
+
+    def __init__(self, cable: LtoudpCable) -> None:
+        self._cable, self._is_over = cable, threading.Event()
+        self._thread = threading.Thread(target=self._live)
+
+    def _live(self) -> None:
+        while not self._is_over.wait(0.002):
+            self._cable.receive()
+
+    def __enter__(self) -> None:
+        self._thread.start()
+
+    def __exit__(self, *_: object) -> None:
+        self._is_over.set()
+        self._thread.join()
+        self._cable.close()
+
+
+def taken(number: int) -> Background:
+    """A node that has this number."""
+    return Background(LtoudpCable(Wire(LOOPBACK), number, 10))
+
+
+@needs_multicast
+class Numbers(unittest.TestCase):
+    def setUp(self) -> None:
+        self.patch("PATIENCE", 0.04)
+
+    def patch(self, name: str, value: object) -> None:
+        """Gives a constant of the module another value for this test."""
+        patch = mock.patch.object(ltoudp, name, value)
+        patch.start()
+        self.addCleanup(patch.stop)
+
+    def take(self, wanted: Optional[int] = None, server: bool = False) -> int:
+        wire = Wire(LOOPBACK)
+        try:
+            return ltoudp.take_number(wire, wanted, server)
+        finally:
+            wire.close()
+
+    def test_a_free_number_is_asked_for_eight_times(self) -> None:
+        self.patch("PATIENCE", 0.2)
+        wire, other = Wire(LOOPBACK), Wire(LOOPBACK)
+        begun = time.monotonic()
+        self.assertFalse(ltoudp.is_taken(wire, 7))
+        self.assertAlmostEqual(time.monotonic() - begun, 1.6, delta=0.4)
+        frames = [other.frame_of(it) for it in payloads(other, 0.1)]
+        self.assertEqual(frames, [Frame(7, 7, ENQ, b"")] * 8)
+        wire.close()
+        other.close()
+
+    def test_a_taken_number_is_an_error_that_says_what_to_do(self) -> None:
+        with taken(7):
+            begun = time.monotonic()
+            with self.assertRaises(NumberTaken) as fault:
+                self.take(7)
+            self.assertLess(time.monotonic() - begun, 0.5)
+        self.assertEqual(
+            str(fault.exception), "node number 7 is taken: name another, or leave --node out"
+        )
+
+    def test_another_number_is_tried_where_none_is_fixed(self) -> None:
+        self.patch("USERS", range(7, 9))
+        with taken(7):
+            self.assertEqual({self.take() for _ in range(3)}, {8})
+
+    def test_no_number_is_left(self) -> None:
+        self.patch("USERS", range(7, 8))
+        with taken(7):
+            with self.assertRaises(NumberTaken) as fault:
+                self.take()
+        self.assertEqual(str(fault.exception), "all node numbers are taken")
+
+    def test_users_and_servers_have_numbers_of_their_own(self) -> None:
+        asked: List[int] = []
+
+        def is_taken(wire: object, number: int) -> bool:
+            asked.append(number)
+            return True
+
+        self.patch("is_taken", is_taken)
+        for server, wanted in ((False, range(1, 128)), (True, range(128, 255))):
+            asked.clear()
+            self.assertRaises(NumberTaken, self.take, None, server)
+            self.assertEqual(sorted(asked), list(wanted))
+
+    def both(self, use: Callable[[], int]) -> List[Optional[int]]:
+        """What two get that ask at once."""
+        numbers: List[Optional[int]] = []
+
+        def ask() -> None:
+            try:
+                numbers.append(use())
+            except NumberTaken:
+                numbers.append(None)
+
+        threads = [threading.Thread(target=ask) for _ in range(2)]
+        for thread in threads:
+            thread.start()
+        for thread in threads:
+            thread.join()
+        return numbers
+
+    def test_of_two_that_ask_at_once_one_gets_the_number(self) -> None:
+        numbers = self.both(lambda: self.take(7))
+        self.assertEqual(sorted(numbers, key=str), [7, None])
+
+    def test_of_two_that_ask_at_once_the_other_takes_the_next(self) -> None:
+        with mock.patch("random.shuffle", lambda numbers: None):
+            numbers = self.both(self.take)
+        self.assertEqual(sorted(numbers, key=str), [1, 2])
+
+    def test_join_gives_the_number_and_the_cable(self) -> None:
+        number, cable = ltoudp.join(10, 9, interface=LOOPBACK)
+        self.assertEqual(number, 9)
+        cable.send(9, LOOKUP)
+        self.assertEqual(cable.receive(), LOOKUP)
+        cable.close()
+
+
+@needs_multicast
+class Conversations(unittest.TestCase):
+    def test_two_nodes_find_each_other_and_themselves(self) -> None:
+        def cable(number: int) -> LtoudpCable:
+            return LtoudpCable(Wire(LOOPBACK), number, 10)
+
+        with place(cable(5), 5) as five, place(cable(7), 7) as seven:
+            for each in (five, seven):
+                each.station.call("register Me Stream 130")
+            five.station.call("find = Stream")
+            run([five, seven], lambda: five.kinds().count("finds") >= 2)
+            finds = five.station.call("finish 0").finds()
+            self.assertEqual({(it.object, it.node) for it in finds}, {("Me", 5), ("Me", 7)})
+
+    def test_nodes_of_other_networks_find_each_other_without_a_router(self) -> None:
+        five = Place(LtoudpCable(Wire(LOOPBACK), 5, 12), "net 12\nnode 5\n", 5)
+        with five, place(LtoudpCable(Wire(LOOPBACK), 7, 10), 7) as seven:
+            seven.station.call("register Printer LaserWriter 130")
+            five.station.call("find = LaserWriter")
+            run([five, seven], lambda: "finds" in five.kinds())
+            self.assertEqual(five.station.call("finish 0").finds()[0].node, 7)
+
+    def test_a_node_reads_the_zones_of_a_router(self) -> None:
+        def cable(number: int) -> LtoudpCable:
+            return LtoudpCable(Wire(LOOPBACK), number, 10, 1)
+
+        with place(cable(1), 1, router=1) as router, place(cable(5), 5, router=1) as five:
+            router.station.call("setzones Lab Office")
+            five.station.call("zones")
+            run([router, five], lambda: "zones" in five.kinds())
+            self.assertEqual(five.heard[-1].texts(), ["Lab", "Office"])
+
+
+class Errors(unittest.TestCase):
+    def told(self, command: str) -> str:
+        """What a wire says of its opening after a shell command, in a network of its own."""
+        program = (
+            "from at_node.ltoudp import Wire, take_number\n"
+            "from at_node import CableFault\n"
+            "import sys\n"
+            "try: take_number(Wire(*sys.argv[1:]), 7)\n"
+            "except CableFault as fault: print(fault.args[-1])\n"
+        )
+        words = ["unshare", "-n", "sh", "-c", command, "sh", sys.executable, "-c", program]
+        how = {"text": True, "stdout": subprocess.PIPE, "stderr": subprocess.DEVNULL}
+        try:
+            return str(subprocess.run(words, **how).stdout)  # type: ignore[call-overload]
+        except OSError:
+            return ""
+
+    def setUp(self) -> None:
+        if os.system("unshare -n true 2>/dev/null"):
+            self.skipTest("no network of its own can be made here")
+
+    def test_no_multicast_route_is_told_with_the_command_that_makes_one(self) -> None:
+        self.assertEqual(
+            self.told('ip link set lo up; "$@"'),
+            "there is no multicast route: run `ip route add 239.192.76.84 dev INTERFACE` as root,"
+            " or name an interface by --interface ADDRESS\n",
+        )
+
+    def test_an_address_of_no_interface_is_told(self) -> None:
+        self.assertIn("no interface has the address 10.1.1.1", self.told('"$@" 10.1.1.1'))
+
+    def test_what_is_no_address_is_told(self) -> None:
+        self.assertIn("nonsense is no address of an interface", self.told('"$@" nonsense'))
+
+    @needs_multicast
+    def test_a_port_that_is_not_shared_is_told(self) -> None:
+        with socket.socket(socket.AF_INET, socket.SOCK_DGRAM) as greedy:
+            greedy.bind(("", ltoudp.PORT))
+            with self.assertRaises(CableFault) as fault:
+                Wire(LOOPBACK)
+        told = str(fault.exception)
+        self.assertIn("port 1954 is in use by a program that does not share it", told)
+
+
+if __name__ == "__main__":
+    unittest.main()
