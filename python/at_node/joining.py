@@ -4,12 +4,13 @@ from __future__ import annotations
 
 import argparse
 import contextlib
+import random
 from typing import Any, Iterator, List, Tuple
 
 from . import ltoudp
 from .cable import Cable
 from .node import Node
-from .station import Station, setup_of
+from .station import Station, pass_numbers, setup_of
 from .udp import UdpCable
 from .words import word_of_text
 
@@ -18,6 +19,9 @@ ROOMS = 4_096
 # After so many seconds what is not acknowledged is sent again: cables of UDP are fast.
 RESEND = 0.25
 NETWORK = 10
+# A node begins at one of so many numbers of transactions, so that the answers to a program that was
+# here before are not taken for its own. It takes a third of a second at most.
+PASSED = 8_192
 
 
 def _number(first: int, last: int) -> Any:
@@ -81,6 +85,7 @@ def station_of(words: argparse.Namespace) -> Iterator[Tuple[int, Station]]:
     zone = None if words.zone is None else word_of_text(words.zone)
     try:
         with Node(setup_of(words.net, number, zone, words.router, words.rooms), number) as node:
+            pass_numbers(node, number, random.randrange(PASSED))
             station = Station(node, cable, intervals={"resend": words.resend})
             try:
                 yield number, station

@@ -13,6 +13,8 @@ from .report import Report
 
 # So many datagrams are taken before clocks and other files are looked at.
 MAX_AT_ONCE = 64
+# The socket of a node's service.
+SERVICE = 129
 # What a station does with a report of a datagram or a timer.
 Hear = Callable[[Report], None]
 
@@ -34,6 +36,20 @@ def setup_of(
     place = f" zone {zone}" if router is not None else ""
     lines.append(f"node {number}{role}{place} rooms {rooms} {rooms}")
     return "\n".join(lines) + "\n"
+
+
+def pass_numbers(node: Node, number: int, count: int) -> None:
+    """Lets node `number` pass over so many numbers of transactions, some 20,000 in a second.
+
+    Each node begins at 0. But whoever answered a request exactly once keeps the answer for half a
+    minute, and takes a request under the same number from the same node for a repeat. So a program
+    that may have been there before begins at random, before its node is on a cable.
+    """
+    for _ in range(count):
+        asked = node.call(f"ask {number} {SERVICE} 00000000 - 1 alo 0").number()
+        for _ in node.datagrams():
+            pass
+        node.timer(f"retry {asked}")
 
 
 class Station:

@@ -5,8 +5,8 @@ import time
 import unittest
 from typing import List, Optional
 
-from at_node import Refused, Report
-from at_node.station import setup_of
+from at_node import Node, Refused, Report
+from at_node.station import pass_numbers, setup_of
 from at_node.stream import Stream
 from at_node.udp import UdpCable
 from cables import MemoryCable, Place, free_first, place, run
@@ -18,6 +18,14 @@ class Setups(unittest.TestCase):
         wanted = "net 10\nnode 1 router zone Lab\nnode 5 zone Lab rooms 9 9\n"
         self.assertEqual(setup_of(10, 5, "Lab", 1, 9), wanted)
         self.assertEqual(setup_of(10, 1, "Lab", 1), "net 10\nnode 1 router zone Lab rooms 64 64\n")
+
+
+class Numbers(unittest.TestCase):
+    def test_a_node_passes_over_numbers_and_nothing_is_left(self) -> None:
+        with Node("net 10\nnode 5\n", 5) as node:
+            pass_numbers(node, 5, 70)
+            self.assertEqual((node.timers(), list(node.datagrams())), ([], []))
+            self.assertEqual(node.call("ask 7 129 00000000 - 1 xo 0").line, "begun 70")
 
 
 class Stations(unittest.TestCase):
