@@ -29,7 +29,9 @@ NODES = range(1, 17)
 PERCENT, PAUSE, ROWS, FLAT = 10, 0.004, 10, 0.05
 # The timers run ten times as fast as the book has them, so that more comes to pass.
 INTERVALS = {"retry": 0.2, "release": 3.0, "lookup": 0.15, "resend": 0.1, "probe": 3.0}
-KINDS = ["Stream", "LaserWriter", "Chat"]
+# A table keeps the room of its fullest moment, so few names let it be full early.
+KINDS, NAMES = ["Stream", "LaserWriter", "Chat"], 4
+FINISH = "finish "
 
 
 class Caller:
@@ -62,6 +64,8 @@ class Caller:
             self._lookups.append(report.number())
         elif report.kind in ("opening", "made"):
             self._ends.add(report.number())
+        elif report.kind == "closed":
+            self._call(f"close {report.number()}")
         elif report.kind in ("freed", "denied"):
             self._ends.discard(report.number())
 
@@ -73,8 +77,6 @@ class Caller:
             self._call(f"answer {node} {socket} {number} 00000000:{self._data(40)}")
         elif report.kind == "heard":
             self._call(f"read {report.number()} 64")
-        elif report.kind == "closed":
-            self._call(f"close {report.number()}")
 
     def _data(self, most: int) -> str:
         return self._chance.randbytes(self._chance.randint(1, most)).hex()
@@ -82,17 +84,19 @@ class Caller:
     def call_at_random(self) -> None:
         """Makes one of the calls that a user may make."""
         chance = self._chance
-        name = f"N{chance.randrange(20)} {chance.choice(KINDS)}"
+        name = f"N{chance.randrange(NAMES)} {chance.choice(KINDS)}"
         node, end = chance.choice(NODES), chance.choice([*self._ends, 1])
-        lookup = self._lookups.pop(0) if self._lookups else 0
-        self._call(chance.choice([
+        words = chance.choice([
             "zones", "localzones", "setzones Lab Office", f"find = {chance.choice(KINDS)}",
-            f"claim {name} 130", f"finish {lookup}", f"finish {lookup}", f"register {name} 130",
-            f"unregister {name}", f"connect {node} 130", "open 0", f"close {end}", f"reset {end}",
+            f"claim {name} 130", FINISH, FINISH, f"register {name} 130", f"unregister {name}",
+            f"connect {node} 130", "open 0", f"close {end}", f"reset {end}",
             f"write {end} {self._data(60)} end", f"write {end} {self._data(60)}",
             f"ask {node} 129 00000000 {self._data(60)} 1 alo 2",
             f"ask {node} 129 00000000 {self._data(60)} 2 xo 4",
-        ]))
+        ])
+        if words == FINISH:
+            words += str(self._lookups.pop(0) if self._lookups else 0)
+        self._call(words)
 
     def close(self) -> None:
         """Leaves the cable."""
