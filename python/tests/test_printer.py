@@ -139,7 +139,7 @@ class Answers(unittest.TestCase):
             for timer in self.five.node.timers():
                 if timer.startswith("retry"):
                     self.five.node.timer(timer)
-        self.assertNotIn("refused", self.seven.kinds())
+        self.assertEqual(self.seven.cable.counts.dropped_in_all(), 0)
 
     def test_a_client_that_falls_silent_is_given_up(self) -> None:
         self.open()

@@ -40,8 +40,9 @@ class Processes(unittest.TestCase):
         process.communicate(timeout=10)
 
     def run_(self, *words: str) -> Tuple[int, str, str]:
+        # An answer to the program before this one would be kept for 30 seconds.
         ran = self.start(*words)
-        output, errors = ran.communicate(timeout=60)
+        output, errors = ran.communicate(timeout=20)
         return ran.returncode, output, errors
 
     def print_a_job(self, seven: List[str], five: List[str]) -> None:
