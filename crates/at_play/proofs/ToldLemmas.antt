@@ -12,10 +12,12 @@ use Rattle.at_world.specs.Plays.{Follows}
 use Rattle.at_play.specs.Sent.{event_text}
 use Rattle.at_print.specs.Papers.{Page}
 use Rattle.at_print.specs.Printers.{Prints}
-use Rattle.at_diagnostics.specs.Stops.{IsUnread, stop_of}
+use Rattle.std.specs.Result.{IsErrAnd}
+use Rattle.std.proofs.lemmas.Result.{err_from_is_err_and}
+use Rattle.at_diagnostics.specs.Stops.{IsUnread, stop_line, stop_of}
 use Rattle.at_play.specs.Told.{BeginsWith, IsStopped, IsWhole, Played, StopsIn}
 use Rattle.at_play.specs.Told.{StopsLine, Tells, TellsLine, Told}
-use Rattle.at_play.specs.Ends.{IsNotRead}
+use Rattle.at_play.specs.Ends.{IsNotRead, IsUnplayed, IsUnreadable, end_text}
 use Rattle.at_faults.specs.Reads.{IsOfBytes, IsOfRead}
 use Rattle.at_faults.specs.declared.fault.Unreadable.TheVariants as unreadable
 use Rattle.at_faults.specs.declared.fault.Fault.{Fault as Why}
@@ -288,9 +290,22 @@ failed_of Done (Ok u) P h err = absurd (cc err)
 failed_of Done (Err s) P h err = absurd (cc (h.0 refl).0)
 failed_of Failed r P h err = refl
 
--- and so has one that was too long
-pub too_long_fails : (known : Option (List ℕ)) (most : ℕ) (status : Status) (r : Result (Unit {0}) Ending) (P : Type 0)
-    → IfSome known (λ all. most < length all → IsErr r) → ((status ≡ Done) ↔ (IsOk r × P))
-    → IfSome known (λ all. most < length all → status ≡ Failed)
-too_long_fails None most status r P h done = tt
-too_long_fails (Some all) most status r P h done = λ long. failed_of status r P done (h long)
+-- a schedule that was too long is not played, and nothing else is printed
+pub too_long_prints : {W : Type 0} (page : W → Page) (known : Option (List ℕ)) (most : ℕ) (status : Status)
+    (r : Result (Unit {0}) Ending) (P : Type 0) (old mid new : Printer W)
+    → IfSome known (λ all. most < length all → IsErrAnd r IsUnreadable × (mid ≡ old))
+    → ((status ≡ Done) ↔ (IsOk r × P)) → Prints page mid new (end_text r)
+    → IfSome known (λ all. most < length all → IsUnplayed page status old new)
+too_long_prints page None most status r P old mid new h done printed = tt
+too_long_prints page (Some all) most status r P old mid new h done printed = λ long.
+    let (is, same) = h long in
+    let (e, was, (f, of, stopped)) = err_from_is_err_and r is in
+    let failed = was ∙ ap Err stopped in (
+      failed_of status r P done (subst IsErr (sym failed) refl),
+      (
+        f,
+        of,
+        subst (λ p. Prints page p new (stop_line (stop_of f))) same
+            (subst (Prints page mid new) (ap end_text failed) printed),
+      ),
+    )

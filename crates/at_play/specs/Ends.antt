@@ -20,7 +20,7 @@ use Rattle.at_diagnostics.specs.declared.diagnostics.Diagnostics.{Diagnostics}
 use Rattle.at_play.specs.Told.{IsWhole, Played}
 use Rattle.at_print.specs.declared.printer.Printer.{Printer}
 use Rattle.at_print.specs.declared.status.Status.{Status}
-use Rattle.at_print.specs.declared.status.Status.TheVariants.{Done}
+use Rattle.at_print.specs.declared.status.Status.TheVariants.{Done, Failed}
 use Rattle.at_faults.specs.declared.fault.Fault.{Fault}
 use Rattle.at_play.specs.declared.ending.Ending.{Ending}
 use Rattle.at_play.specs.declared.ending.Ending.TheVariants as ending
@@ -70,6 +70,15 @@ IsNotRead IsReason old new (Err e) text =
 -- why there is no schedule: the bytes could not be read, or a line is at fault
 abbrev pub IsTextFault : Type 0 → Option (List ℕ) → Fault → Type 0
 IsTextFault A known f = IsOfBytes f ⊎ IsLineFault A known f
+
+-- the bytes of a schedule could not be read, or are too many, before any event
+abbrev pub IsUnreadable : Ending → Type 0
+IsUnreadable e = (f : Fault) × IsOfBytes f × (e ≡ ending.Stopped (stop_of f))
+
+-- no event was played, and what is printed is why
+abbrev pub IsUnplayed : {W : Type 0} → (W → Page) → Status → Printer W → Printer W → Type 0
+IsUnplayed page status old new =
+    (status ≡ Failed) × ((f : Fault) × IsOfBytes f × Prints page old new (stop_line (stop_of f)))
 
 -- an event was refused, or memory ran out; it is not the text that is at fault
 abbrev pub IsOfEvent : Stop → Type 0

@@ -1,8 +1,10 @@
 //! The play of a schedule, from its text to what is printed.
-ghost use Rattle.std.specs.Prelude.{◌≡◌, ◌<◌, ◌↔◌, List, ℕ, length, IfSome, IsErr, IsOk};
+ghost use Rattle.std.specs.Prelude.{◌≡◌, ◌<◌, ◌↔◌, List, ℕ, length, IfSome, IsOk};
 ghost use Rattle.at_diagnostics.specs.Diagnostics.{TellsWrites, told_by};
 ghost use Rattle.at_diagnostics.specs.declared.diagnostics.Diagnostics.{Diagnostics as Told};
-ghost use Rattle.at_play.specs.Ends.{Ended, FileText, IsUnwritten, PlayText, TellsEnd, end_text};
+ghost use Rattle.at_play.specs.Ends.{Ended, FileText, IsUnreadable, IsUnplayed, IsUnwritten, PlayText, TellsEnd};
+ghost use Rattle.at_play.specs.Ends.{end_text};
+ghost use Rattle.std.specs.Result.{IsErrAnd};
 ghost use Rattle.at_print.specs.Printers.{HasFailed, Prints};
 
 use crate::ending::Ending;
@@ -23,8 +25,9 @@ pub fn play_text<A: Allocator + Copy, R: Read, W: Paper, E: Paper>(
     printer: &mut Printer<W>,
     diagnostics: &mut Diagnostics<'_, E>,
 ) -> Status
-    // A schedule that is too long is not played. Said if it is known what the reader holds.
-    ensures too_long { IfSome (R.remaining reader.old) (λ all. MAX_LEN < length all → result ≡ Status.Failed) }
+    // A schedule that is too long is not played, and nothing else is printed. Said if it is known what the reader holds.
+    ensures too_long { IfSome (R.remaining reader.old)
+        (λ all. MAX_LEN < length all → IsUnplayed W.page result printer.old printer.new) }
     ensures printed { result ≡ Status.Done → ¬ HasFailed printer.new }
     ensures ended { Ended
         (PlayText A (R.remaining reader.old) (told_by diagnostics.old) (told_by diagnostics.new)) W.page result
@@ -43,7 +46,8 @@ pub fn play_file<A: Allocator + Copy, F: Read + Seek, W: Paper, E: Paper>(
     printer: &mut Printer<W>,
     diagnostics: &mut Diagnostics<'_, E>,
 ) -> Status
-    ensures too_long { IfSome (F.remaining file.old) (λ all. MAX_LEN < length all → result ≡ Status.Failed) }
+    ensures too_long { IfSome (F.remaining file.old)
+        (λ all. MAX_LEN < length all → IsUnplayed W.page result printer.old printer.new) }
     ensures printed { result ≡ Status.Done → ¬ HasFailed printer.new }
     ensures ended { Ended (FileText A F.remaining F.stream_position F.stream_bytes
         (told_by diagnostics.old) (told_by diagnostics.new)) W.page result printer.old printer.new }
@@ -58,7 +62,8 @@ fn play_stream<A: Allocator + Copy, R: Read, W: Paper, E: Paper>(
     printer: &mut Printer<W>,
     diagnostics: &mut Diagnostics<'_, E>,
 ) -> Result<(), Ending>
-    ensures too_long { IfSome (R.remaining reader.old) (λ all. MAX_LEN < length all → IsErr result) }
+    ensures too_long { IfSome (R.remaining reader.old)
+        (λ all. MAX_LEN < length all → IsErrAnd result IsUnreadable × (printer.new ≡ printer.old)) }
     ensures told { (text : List ℕ)
         × PlayText A (R.remaining reader.old) (told_by diagnostics.old) (told_by diagnostics.new) result text
         × Prints W.page printer.old printer.new text }
@@ -75,7 +80,8 @@ fn play_again<A: Allocator + Copy, F: Read + Seek, W: Paper, E: Paper>(
     printer: &mut Printer<W>,
     diagnostics: &mut Diagnostics<'_, E>,
 ) -> Result<(), Ending>
-    ensures too_long { IfSome (F.remaining file.old) (λ all. MAX_LEN < length all → IsErr result) }
+    ensures too_long { IfSome (F.remaining file.old)
+        (λ all. MAX_LEN < length all → IsErrAnd result IsUnreadable × (printer.new ≡ printer.old)) }
     ensures told { (text : List ℕ)
         × FileText A F.remaining F.stream_position F.stream_bytes (told_by diagnostics.old) (told_by diagnostics.new)
         result text × Prints W.page printer.old printer.new text }

@@ -1,18 +1,20 @@
 //! The drive of a schedule, from its text to what is printed. The text is read for its faults before a socket is bound, and
 //! once more as it is driven.
-ghost use Rattle.std.specs.Prelude.{◌≡◌, IfErr, IfOk, IfSome, true};
+ghost use Rattle.std.specs.Prelude.{◌≡◌, ◌<◌, IfErr, IfOk, IfSome, length, true};
+ghost use Rattle.std.specs.Result.{IsErrAnd};
+ghost use Rattle.at_faults.specs.Reads.{IsOfBytes};
 ghost use Rattle.at_drive_lines.specs.Drafts.{BeginsSo, IsDriveFault};
 ghost use Rattle.at_drive_lines.specs.Lines.{lines_of};
 ghost use Rattle.at_setup.specs.Setups.{is_lawful};
 ghost use Rattle.at_udp.specs.Sockets.{Receives, Sends};
 ghost use Rattle.at_udp_text.specs.Ends.{DrivesAgain, DrivesFile, DrivesFrom, DrivesStream, DrivesText};
-ghost use Rattle.at_udp_text.specs.Ends.{IsFileFault, IsHeadOf};
+ghost use Rattle.at_udp_text.specs.Ends.{IsFileFault, IsHeadOf, IsNotRead};
 
 use crate::driving::drive_nodes;
 use at_diagnostics::Diagnostics;
 use at_drive_lines::{DriveHead, ReadLines, TextLines, read_head};
 use at_drive_text::end_at_fault;
-use at_faults::{Fault, check_length, read_bytes};
+use at_faults::{Fault, MAX_LEN, check_length, read_bytes};
 use at_print::{Paper, Printer, Status};
 use at_udp::Socket;
 use std::alloc::Allocator;
@@ -27,9 +29,11 @@ pub fn drive_stream<S: Socket, A: Allocator + Copy, N: Net, R: Read, W: Paper, E
     printer: &mut Printer<W>,
     diagnostics: &mut Diagnostics<'_, E>,
 ) -> Status
-    // What the reader holds is said if it is known.
-    ensures { DrivesStream A S.binds (Sends S.sends) (Receives S.receives) (R.remaining reader.old) W.page result
-        printer.old printer.new }
+    // This and the next are said if it is known what the reader holds.
+    ensures too_long { IfSome (R.remaining reader.old)
+        (λ all. MAX_LEN < length all → IsNotRead IsOfBytes W.page result printer.old printer.new) }
+    ensures ended { DrivesStream A S.binds (Sends S.sends) (Receives S.receives) (R.remaining reader.old) W.page
+        result printer.old printer.new }
 {
     match read_bytes(alloc, reader) {
         Ok(text) => drive_text::<S, A, N, W, E>(alloc, net, text.as_slice(), printer, diagnostics),
@@ -66,7 +70,9 @@ pub fn drive_file<S: Socket, A: Allocator + Copy, N: Net, F: Read + Seek, W: Pap
     printer: &mut Printer<W>,
     diagnostics: &mut Diagnostics<'_, E>,
 ) -> Status
-    ensures { DrivesFile A S.binds (Sends S.sends) (Receives S.receives) F.remaining F.stream_position
+    ensures too_long { IfSome (F.remaining file.old)
+        (λ all. MAX_LEN < length all → IsNotRead IsOfBytes W.page result printer.old printer.new) }
+    ensures ended { DrivesFile A S.binds (Sends S.sends) (Receives S.receives) F.remaining F.stream_position
         F.stream_bytes W.page result printer.old printer.new }
 {
     match head_of(alloc, file) {
@@ -80,6 +86,7 @@ fn head_of<A: Allocator + Copy, F: Read + Seek>(
     alloc: A,
     file: &mut F,
 ) -> Result<DriveHead<A>, Fault>
+    ensures too_long { IfSome (F.remaining file.old) (λ all. MAX_LEN < length all → IsErrAnd result IsOfBytes) }
     ensures lawful { IfOk result (λ head. is_lawful head.setup ≡ true) }
     ensures said { IfOk result
         (λ head. IsHeadOf F.remaining F.stream_position F.stream_bytes head.setup head.port) }

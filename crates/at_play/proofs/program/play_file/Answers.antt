@@ -3,7 +3,7 @@ use Rattle.at_diagnostics.specs.Diagnostics.{told_by}
 use Rattle.at_play.specs.Ends.{FileText}
 use Rattle.at_print.specs.Printers.{HasFailed}
 use Rattle.at_print.proofs.PrintLemmas.{Prints-trans}
-use Rattle.at_play.proofs.ToldLemmas.{too_long_fails}
+use Rattle.at_play.proofs.ToldLemmas.{too_long_prints}
 use Rattle.at_play.proofs.program.play_file.Goals as goal
 
 pub returns-clause-ended : goal.returns-clause-ended
@@ -25,5 +25,6 @@ returns-clause-ended g c =
 
 pub returns-clause-too_long : goal.returns-clause-too_long
 returns-clause-too_long g c =
-    too_long_fails (g.F.Read.remaining c.args.file.now) _ c.end.result c.play_again-played.result _
-    c.play_again-played.ensures.too_long c.end.ensures.done
+    too_long_prints g.W.Paper.page (g.F.Read.remaining c.args.file.now) _ c.end.result c.play_again-played.result _
+    c.args.printer.now c.play_again-played.new.printer c.end.new.printer c.play_again-played.ensures.too_long
+    c.end.ensures.done c.end.ensures.printed

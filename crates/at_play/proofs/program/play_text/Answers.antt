@@ -3,7 +3,7 @@ use Rattle.at_diagnostics.specs.Diagnostics.{told_by}
 use Rattle.at_play.specs.Ends.{PlayText}
 use Rattle.at_print.specs.Printers.{HasFailed}
 use Rattle.at_print.proofs.PrintLemmas.{Prints-trans}
-use Rattle.at_play.proofs.ToldLemmas.{too_long_fails}
+use Rattle.at_play.proofs.ToldLemmas.{too_long_prints}
 use Rattle.at_play.proofs.program.play_text.Goals as goal
 
 pub returns-clause-ended : goal.returns-clause-ended
@@ -24,5 +24,6 @@ returns-clause-ended g c =
 
 pub returns-clause-too_long : goal.returns-clause-too_long
 returns-clause-too_long g c =
-    too_long_fails (g.R.Read.remaining c.args.reader.now) _ c.end.result c.play_stream-played.result _
-    c.play_stream-played.ensures.too_long c.end.ensures.done
+    too_long_prints g.W.Paper.page (g.R.Read.remaining c.args.reader.now) _ c.end.result c.play_stream-played.result _
+    c.args.printer.now c.play_stream-played.new.printer c.end.new.printer c.play_stream-played.ensures.too_long
+    c.end.ensures.done c.end.ensures.printed

@@ -3,8 +3,8 @@ use Rattle.at_udp.specs.Sockets.{Receives, Sends}
 use Rattle.at_udp_text.specs.Ends.{DrivesText}
 use Rattle.at_udp_text.proofs.program.drive_stream.Goals as goal
 
-pub returns-in-Ok : goal.returns-in-Ok
-returns-in-Ok g c =
+pub returns-in-Ok-clause-ended : goal.returns-in-Ok-clause-ended
+returns-in-Ok-clause-ended g c =
     inr (
       c.in-Ok.text.items,
       c.in-Ok.ensures.whole,
