@@ -17,8 +17,8 @@ use crate::places::{has_node, place_among};
 use crate::sending::send_all;
 use crate::step::Step;
 use at_cable::{Cable, CableFault};
-use at_ddp::Received;
 use at_node::{Input, Node};
+use at_packet::Packet;
 use at_setup::Setup;
 use at_steps::laws::safety::every_event_is_safe;
 use at_world::{opening_nodes, take};
@@ -203,12 +203,12 @@ impl<A: Allocator + Copy> Drive<A> {
         ensures failed { self.new.failed ≡ self.old.failed }
     {
         let arrival = log.arrival(self.alloc, at, bytes)?;
-        let received = Received::of(bytes);
+        let packet = Packet::of(bytes);
         self.play(
             cable,
             at,
             node,
-            &Input::Received(&received),
+            &Input::Received(&packet),
             Some(arrival),
             log,
         )

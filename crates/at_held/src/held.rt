@@ -16,9 +16,9 @@ use crate::sent::Sent;
 use crate::text::{line_of, sentence_of};
 use crate::timers::timer_lines;
 use crate::withheld::Withheld;
-use at_ddp::Received;
 use at_faults::LineFault;
 use at_node::{Input, Node, Report};
+use at_packet::Packet;
 use at_steps::laws::safety::every_event_is_safe;
 use std::alloc::{AllocError, Global};
 use std::marker::Model;
@@ -78,7 +78,7 @@ impl HeldNode {
     {
         every_event_is_safe::<Global>();
         self.limits();
-        let received = self.take(&Input::Received(&Received::of(bytes)));
+        let received = self.take(&Input::Received(&Packet::of(bytes)));
         self.limits();
         received
     }

@@ -4,16 +4,18 @@ ghost use Rattle.at_name_socket.specs.Carrying.{Carries, owner_by};
 ghost use Rattle.at_nbp.specs.Packets.{HasCount};
 
 use at_ddp::Address;
-use at_nbp::{Function, Packet, decode};
+use at_nbp::{Function, Packet};
+use at_packet::NbpPacket;
 
 /// The identifier that the packet at the front of a datagram's data carries, with the number of the node that drew it:
-/// (node, identifier). The datagram goes to `to`. There is none if no packet stands there. This needs no memory.
-pub fn carried(to: Address, bytes: &[u8]) -> Option<(u8, u8)>
-    ensures found { IfSome result (λ r. Carries to bytes.now r.0 r.1) }
-    ensures only { (node id : ℕ) → Carries to bytes.now node id → result ≡ Some (node, id) }
+/// (node, identifier). There is none if no packet is there. This needs no memory.
+pub fn carried(arrived: &NbpPacket<'_>) -> Option<(u8, u8)>
+    ensures found { IfSome result (λ r. Carries arrived.now.to arrived.now.data_ r.0 r.1) }
+    ensures only { (node id : ℕ) → Carries arrived.now.to arrived.now.data_ node id → result ≡ Some (node, id) }
 {
-    match decode(bytes) {
-        Ok((packet, _)) => Some((owner_of(to, &packet), packet.id)),
+    let to = arrived.datagram().to;
+    match arrived.packet() {
+        Ok(packet) => Some((owner_of(to, packet), packet.id)),
         Err(_) => None,
     }
 }

@@ -16,27 +16,28 @@ use crate::neighbour::Neighbour;
 use crate::socket::{EVERY_NODE, NAME_SOCKET, NameSocket};
 use crate::step::Heard;
 use at_ddp::{Address, Outbox, Pascal};
-use at_nbp::{Function, NbpFault, Packet, decode, relay};
+use at_nbp::{Function, NbpFault, Packet, relay};
+use at_packet::NbpPacket;
 use std::alloc::{AllocError, Allocator};
 
 impl<A: Allocator + Copy> NameSocket<A> {
-    /// Takes the data of a datagram. The packet at its front is what counts: bytes after it are ignored. A packet that
+    /// Takes a datagram. The packet at the front of its data is what counts: bytes after it are ignored. A packet that
     /// has no effect needs no memory.
-    pub fn receive(&mut self, bytes: &[u8], out: &mut Outbox<A>) -> Result<Heard, NbpFault>
-        ensures ok { IfOk result (λ h. (pushes : List (At × List ℕ)) × Hears self.old bytes.now h self.new pushes
+    pub fn hear(&mut self, arrived: &NbpPacket<'_>, out: &mut Outbox<A>) -> Result<Heard, NbpFault>
+        ensures ok { IfOk result (λ h. (pushes : List (At × List ℕ)) × Hears self.old arrived.now.data_ h self.new pushes
             × Sends out.old out.new pushes) }
-        ensures refused { (fault : Fault) → IsFirstFault fault bytes.now → IsErrOf result fault }
-        ensures fault { IfErr result (λ fault. fault ≢ NbpFault.NoMemory → IsFirstFault fault bytes.now) }
+        ensures refused { (fault : Fault) → IsFirstFault fault arrived.now.data_ → IsErrOf result fault }
+        ensures fault { IfErr result (λ fault. fault ≢ NbpFault.NoMemory → IsFirstFault fault arrived.now.data_) }
         ensures owed { IfErr result (λ fault. fault ≡ NbpFault.NoMemory → (h : Come) × (new : SocketState)
-            × (pushes : List (At × List ℕ)) × Hears self.old bytes.now h new pushes × (h ≢ Heard.Ignored)) }
+            × (pushes : List (At × List ℕ)) × Hears self.old arrived.now.data_ h new pushes × (h ≢ Heard.Ignored)) }
         ensures unchanged { OnErr result (self.new ≡ self.old) }
         ensures nothing_sent { OnErr result (Sends out.old out.new []) }
     {
-        let (packet, _) = decode(bytes)?;
+        let packet = arrived.packet()?;
         let heard = match packet.function {
-            Function::LookUp => self.answer(&packet, out)?,
-            Function::Reply => self.keep(&packet)?,
-            _ => self.relay(&packet, out)?,
+            Function::LookUp => self.answer(packet, out)?,
+            Function::Reply => self.keep(packet)?,
+            _ => self.relay(packet, out)?,
         };
         Ok(heard)
     }

@@ -1,5 +1,6 @@
 mod AddingLemmas
 mod AnsweringLemmas
+mod BodyLemmas
 mod CallDraws
 mod NumberLemmas
 mod DrawLemmas

@@ -82,8 +82,3 @@ pub conn_of : (d : Datagram) (node : ℕ) (draw : Draw) → d.kind ≡ adsp_kind
 conn_of d node draw its (inl (inl tid)) = let both : adsp_kind ≡ atp_kind = sym its ∙ tid.is_atp in absurd (cc)
 conn_of d node draw its (inl (inr id)) = let both : adsp_kind ≡ nbp_kind = sym its ∙ id.is_nbp in absurd (cc)
 conn_of d node draw its (inr c) = c
-
-pub one_of : (d : Datagram) (node : ℕ) (draw : Draw) → ((d.kind ≡ adsp_kind) → ⊥) → CarriesOne d node draw
-    ⊎ CarriesConn d node draw → CarriesOne d node draw
-one_of d node draw other (inl one) = one
-one_of d node draw other (inr c) = absurd (other c.is_adsp)

@@ -162,12 +162,16 @@ pub record CarriesConn (datagram : Datagram) (node : ℕ) (draw : Draw) : Type 0
 abbrev pub CarriesOne : Datagram → ℕ → Draw → Type 0
 CarriesOne datagram node draw = CarriesTid datagram node draw ⊎ CarriesLookup datagram node draw
 
+-- the datagram carries this number of the node
+abbrev pub CarriesNumber : Datagram → ℕ → Draw → Type 0
+CarriesNumber datagram node draw = CarriesOne datagram node draw ⊎ CarriesConn datagram node draw
+
 -- the bytes begin with a datagram that carries this number of the node
 pub record Carries (bytes : List ℕ) (node : ℕ) (draw : Draw) : Type 0 where
   pub datagram : Datagram
   pub rest : List ℕ
   pub begins : BeginsWith bytes datagram rest
-  pub number : CarriesOne datagram node draw ⊎ CarriesConn datagram node draw
+  pub number : CarriesNumber datagram node draw
 
 -- the identifier of an end, as a number that its node draws
 abbrev pub end_drawn : Option (ℕ × ℕ) → Option (ℕ × Draw)

@@ -1,6 +1,5 @@
 //! The part of a node that speaks ATP and ZIP. Each of its three sockets has a file of its own.
 ghost use Rattle.std.specs.Prelude.{◌≡◌, Option, None};
-ghost use Rattle.at_ddp.specs.Datagram.{content};
 ghost use Rattle.at_node.specs.AtpHearing.{HearsAtp};
 ghost use Rattle.at_node.specs.AtpParts.{opening};
 ghost use Rattle.at_event.specs.Outcomes.{Comes};
@@ -12,8 +11,9 @@ use crate::service_socket::SERVICE_SOCKET;
 use crate::zone_reading::ZoneReading;
 use crate::zone_socket::ZONE_SOCKET;
 use at_atp::{Requester, Responder};
-use at_ddp::{Datagram, Datagrams};
+use at_ddp::Datagrams;
 use at_event::{Report, Seat, Service};
+use at_packet::AtpPacket;
 use at_zip::Tables;
 use std::alloc::Allocator;
 use std::marker::Model;
@@ -68,22 +68,23 @@ impl<A: Allocator + Copy> AtpPart<A> {
         &mut self,
         seat: Seat,
         service: &mut S,
-        datagram: &Datagram<'_>,
+        packet: &AtpPacket<'_>,
         out: &mut Datagrams<A>,
     ) -> Report<A>
         ensures { (said : Said A)
-            × Comes (HearsAtp said seat self.old (content datagram.now)) self.old out.old.items result self.new
+            × Comes (HearsAtp said seat self.old packet.now) self.old out.old.items result self.new
             out.new.items
             × Serves S.serves result said service.old service.new }
     {
+        let datagram = packet.datagram();
         if datagram.to.socket == REQUESTER_SOCKET {
-            return self.hear_response(seat, datagram, out);
+            return self.hear_response(seat, packet, out);
         }
         if datagram.to.socket == SERVICE_SOCKET {
-            return self.hear_request(seat, service, datagram, out);
+            return self.hear_request(seat, service, packet, out);
         }
         if datagram.to.socket == ZONE_SOCKET {
-            return self.hear_zone_request(seat, datagram, out);
+            return self.hear_zone_request(seat, packet, out);
         }
         Report::Ignored
     }

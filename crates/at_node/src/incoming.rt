@@ -1,12 +1,12 @@
 //! A packet of ATP that came to a node, with who sent it and where the node stands.
 ghost use Rattle.std.specs.Prelude.{◌≡◌, IfOk, IfErr, IsOkAnd};
-ghost use Rattle.at_ddp.specs.Datagram.{content as written};
 ghost use Rattle.at_atp_frame.specs.Fault.{IsFirstFault};
 ghost use Rattle.at_atp_frame.specs.Frames.{Content, Spells, content};
 
 use at_atp::{AtpFault, Frame};
-use at_ddp::{Address, Datagram};
+use at_ddp::Address;
 use at_event::Seat;
+use at_packet::AtpPacket;
 
 // A packet that came to a socket of a node.
 #[derive(Clone, Copy)]
@@ -19,20 +19,18 @@ pub(crate) struct Incoming<'a> {
 }
 
 impl<'a> Incoming<'a> {
-    // The packet in a datagram that came to a node.
-    pub(crate) fn in_datagram(seat: Seat, datagram: &Datagram<'a>) -> Result<Incoming<'a>, AtpFault>
-        ensures seat { IfOk result (λ packet. packet.seat ≡ seat) }
-        ensures from { IfOk result (λ packet. packet.from ≡ (written datagram.now).from) }
-        ensures found { IfOk result (λ packet. Spells (written datagram.now).data_ (content packet.frame)) }
-        ensures only { (f : Content) → Spells (written datagram.now).data_ f
-            → IsOkAnd result (λ packet. content packet.frame ≡ f) }
-        ensures fault { IfErr result (λ fault. IsFirstFault fault (written datagram.now).data_) }
+    // The packet of a datagram that came to a node.
+    pub(crate) fn of(seat: Seat, packet: &AtpPacket<'a>) -> Result<Incoming<'a>, AtpFault>
+        ensures seat { IfOk result (λ p. p.seat ≡ seat) }
+        ensures from { IfOk result (λ p. p.from ≡ packet.now.from) }
+        ensures found { IfOk result (λ p. Spells packet.now.data_ (content p.frame)) }
+        ensures only { (f : Content) → Spells packet.now.data_ f
+            → IsOkAnd result (λ p. content p.frame ≡ f) }
+        ensures fault { IfErr result (λ fault. IsFirstFault fault packet.now.data_) }
     {
-        match at_atp::decode(datagram.data_) {
-            Ok(frame) => {
-                let from = datagram.from;
-                Ok(Incoming { seat, from, frame })
-            }
+        let from = packet.datagram().from;
+        match packet.frame() {
+            Ok(frame) => Ok(Incoming { seat, from, frame }),
             Err(fault) => Err(fault),
         }
     }

@@ -1,6 +1,5 @@
 //! The part of a node that speaks NBP: its socket for names, and what packets do there.
 ghost use Rattle.std.specs.Prelude.{◌≡◌, Option, false};
-ghost use Rattle.at_ddp.specs.Datagram.{content};
 ghost use Rattle.at_name_socket.specs.NameSockets.{opening};
 ghost use Rattle.at_name_socket.specs.declared.neighbour.Neighbour.{Neighbour as Known};
 ghost use Rattle.at_node.specs.NameHearing.{HearsNames, told_by};
@@ -8,9 +7,10 @@ ghost use Rattle.at_event.specs.Outcomes.{Comes};
 ghost use Rattle.at_event.specs.Services.{is_asked};
 
 use crate::node::refused;
-use at_ddp::{Datagram, Datagrams, Listed, NBP, Outbox, Pascal};
+use at_ddp::{Datagrams, Listed, NBP, Outbox, Pascal};
 use at_event::{Report, Seat};
 use at_name_socket::{Heard, NAME_SOCKET, NameSocket, Neighbour};
+use at_packet::NbpPacket;
 use std::alloc::Allocator;
 use std::marker::Model;
 
@@ -48,18 +48,19 @@ impl<A: Allocator + Copy> NamePart<A> {
     pub(crate) fn hear(
         &mut self,
         seat: Seat,
-        datagram: &Datagram<'_>,
+        packet: &NbpPacket<'_>,
         out: &mut Datagrams<A>,
     ) -> Report<A>
-        ensures comes { Comes (HearsNames seat self.old (content datagram.now)) self.old out.old.items result self.new
+        ensures comes { Comes (HearsNames seat self.old packet.now) self.old out.old.items result self.new
             out.new.items }
         ensures not_asked { is_asked result ≡ false }
     {
+        let datagram = packet.datagram();
         if datagram.to.socket != NAME_SOCKET {
             return Report::Ignored;
         }
         let mut outbox = Outbox::lent(self.alloc, out, seat.at(NAME_SOCKET), NBP);
-        let heard = self.socket.receive(datagram.data_, &mut outbox);
+        let heard = self.socket.hear(packet, &mut outbox);
         *out = outbox.into_list();
         match heard {
             Ok(heard) => told_by(heard),

@@ -1,14 +1,13 @@
 //! Numbers: which one an input draws, which a record or an end here holds, and which a datagram carries.
-ghost use Rattle.std.specs.Prelude.{◌≡◌, ◌↔◌, ℕ, Some, IfSome, option_map};
+ghost use Rattle.std.specs.Prelude.{◌≡◌, ◌↔◌, ◌||◌, ℕ, Some, IfSome, option_map, true};
 ghost use Rattle.std.specs.List.{Contains};
 ghost use Rattle.at_atp_frame.specs.Frames.{content};
 ghost use Rattle.at_atp_requester.specs.Requests.{next_number};
-ghost use Rattle.at_ddp.specs.Datagram.{content as written};
 ghost use Rattle.at_ddp.specs.Protocols.{atp_kind, nbp_kind, adsp_kind};
 ghost use Rattle.at_nbp.specs.Lookups.{next_id};
 ghost use Rattle.at_node.specs.AtpParts.{AtpState};
 ghost use Rattle.at_adsp_ends.specs.Tables.{next_id as next_end};
-ghost use Rattle.at_node.specs.Numbers.{Carries, CarriesConn, CarriesLookup, CarriesOne, CarriesTid, Draws};
+ghost use Rattle.at_node.specs.Numbers.{Carries, CarriesConn, CarriesLookup, CarriesNumber, CarriesTid, Draws};
 ghost use Rattle.at_node.specs.Numbers.{IsTold, draw_of, drawn_by, end_drawn, holds};
 ghost use Rattle.at_node.specs.Hearing.{HearsIt};
 ghost use Rattle.at_node.specs.Nodes.{NodeState};
@@ -16,6 +15,8 @@ ghost use Rattle.at_event.specs.Outcomes.{Outcome as Result};
 ghost use Rattle.at_node.specs.RequesterSocket.{AtRequester};
 ghost use Rattle.at_node.specs.declared.numbers.Draw.{Draw as Drawn};
 ghost use Rattle.at_node.specs.declared.numbers.Draw.TheVariants.{Conn, Lookup, Tid};
+ghost use Rattle.at_event.specs.Seats.{is_for_all, is_mine};
+ghost use Rattle.at_packet.specs.Bodies.{IsBody, datagram_of};
 ghost use Rattle.at_stream_socket.specs.Hearing.{Makes};
 ghost use Rattle.at_event.specs.declared.service.Reply.{Reply as Said};
 
@@ -25,9 +26,9 @@ use crate::node::Node;
 use crate::requester_socket::{REQUESTER_SOCKET, tid_of};
 use at_atp::MAX_DATA;
 use at_atp_frame::owner;
-use at_ddp::{ADSP, ATP, Datagram, NBP, Received};
 use at_event::{Call, Timer};
 use at_nbp::is_no_name;
+use at_packet::{AdspPacket, AtpPacket, Body, NbpPacket, Packet};
 use at_stream_socket::laws::requests_alone_make_ends;
 use std::alloc::{Allocator, Global};
 
@@ -48,7 +49,7 @@ pub enum Draw {
 pub enum Input<'a, A: Allocator = Global> {
     Call(&'a Call<A>),
     Timer(Timer),
-    Received(&'a Received<'a>),
+    Received(&'a Packet<'a>),
 }
 
 impl<A: Allocator + Copy> Node<A> {
@@ -61,7 +62,7 @@ impl<A: Allocator + Copy> Node<A> {
         match input {
             Input::Call(call) => self.draw_of_call(call),
             Input::Timer(_) => None,
-            Input::Received(received) => self.draw_of_received(received),
+            Input::Received(packet) => self.draw_of_received(packet),
         }
     }
 
@@ -112,49 +113,63 @@ impl<A: Allocator + Copy> Node<A> {
         }
     }
 
-    fn draw_of_received(&self, received: &Received<'_>) -> Option<Draw>
-        ensures found { IfSome result (IsTold A self.now received.now) }
-        ensures only { (draw : Drawn) → IsTold A self.now received.now draw → result ≡ Some draw }
+    fn draw_of_received(&self, packet: &Packet<'_>) -> Option<Draw>
+        ensures found { IfSome result (IsTold A self.now packet.now) }
+        ensures only { (draw : Drawn) → IsTold A self.now packet.now draw → result ≡ Some draw }
     {
-        match received.datagram() {
-            Ok(datagram) => self.draw_of_datagram(&datagram),
+        match packet.body() {
+            Ok(body) => self.draw_of_body(body),
             Err(_) => None,
         }
     }
 
     // A page that makes the next one be asked for draws a number, and so does a request for a connection that makes an
     // end. No other datagram does.
-    fn draw_of_datagram(&self, datagram: &Datagram<'_>) -> Option<Draw>
+    fn draw_of_body(&self, body: &Body<'_>) -> Option<Draw>
+        requires { IsBody body.now }
         ensures found { IfSome result (λ draw. (said : Said A) × (o : Result A NodeState)
-            × HearsIt said self.now (written datagram.now) o × (drawn_by o.report ≡ Some draw)) }
-        ensures only { (said : Said A) (o : Result A NodeState) → HearsIt said self.now (written datagram.now) o
+            × HearsIt said self.now (datagram_of body.now) o × (drawn_by o.report ≡ Some draw)) }
+        ensures only { (said : Said A) (o : Result A NodeState) → HearsIt said self.now (datagram_of body.now) o
             → (draw : Drawn) → drawn_by o.report ≡ Some draw → result ≡ Some draw }
     {
         requests_alone_make_ends();
+        let datagram = body.datagram();
         if !self.seat.is_for(datagram.kind, datagram.to) {
             return None;
         }
-        if datagram.kind == ADSP {
-            return self.draw_of_segment(datagram);
+        match body {
+            Body::Atp(packet) => self.draw_of_response(packet),
+            Body::Adsp(packet) => self.draw_of_segment(packet),
+            _ => None,
         }
-        if datagram.kind != ATP {
-            return None;
-        }
+    }
+
+    fn draw_of_response(&self, packet: &AtpPacket<'_>) -> Option<Draw>
+        requires protocol { packet.now.kind ≡ atp_kind }
+        requires mine { (is_for_all self.now.seat packet.now.kind packet.now.to || is_mine self.now.seat packet.now.to)
+            ≡ true }
+        ensures found { IfSome result (λ draw. (said : Said A) × (o : Result A NodeState)
+            × HearsIt said self.now packet.now o × (drawn_by o.report ≡ Some draw)) }
+        ensures only { (said : Said A) (o : Result A NodeState) → HearsIt said self.now packet.now o
+            → (draw : Drawn) → drawn_by o.report ≡ Some draw → result ≡ Some draw }
+    {
+        requests_alone_make_ends();
+        let datagram = packet.datagram();
         if datagram.to.socket != REQUESTER_SOCKET {
             return None;
         }
-        match Incoming::in_datagram(self.seat, datagram) {
+        match Incoming::of(self.seat, packet) {
             Ok(packet) => self.draw_of_packet(&packet),
             Err(_) => None,
         }
     }
 
-    fn draw_of_segment(&self, datagram: &Datagram<'_>) -> Option<Draw>
-        ensures found { IfSome result (λ draw. (id : ℕ) × Makes self.now.streams (written datagram.now) id
+    fn draw_of_segment(&self, packet: &AdspPacket<'_>) -> Option<Draw>
+        ensures found { IfSome result (λ draw. (id : ℕ) × Makes self.now.streams packet.now id
             × (draw ≡ Conn id)) }
-        ensures only { (id : ℕ) → Makes self.now.streams (written datagram.now) id → result ≡ Some (Conn id) }
+        ensures only { (id : ℕ) → Makes self.now.streams packet.now id → result ≡ Some (Conn id) }
     {
-        match self.streams.made_by(datagram) {
+        match self.streams.made_by(packet) {
             Some(id) => Some(Draw::Conn(id)),
             None => None,
         }
@@ -201,44 +216,39 @@ impl<A: Allocator + Copy> Node<A> {
 pub fn carried(bytes: &[u8]) -> [Option<(u8, Draw)>; 2]
     ensures { (node : ℕ) (draw : Drawn) → Contains result (Some (node, draw)) ↔ Carries bytes.now node draw }
 {
-    carried_in(&Received::of(bytes))
+    carried_in(&Packet::of(bytes))
 }
 
 /// The same of received bytes that were decoded before.
-pub fn carried_in(received: &Received<'_>) -> [Option<(u8, Draw)>; 2]
-    ensures { (node : ℕ) (draw : Drawn) → Contains result (Some (node, draw)) ↔ Carries received.now node draw }
+pub fn carried_in(packet: &Packet<'_>) -> [Option<(u8, Draw)>; 2]
+    ensures { (node : ℕ) (draw : Drawn) → Contains result (Some (node, draw)) ↔ Carries packet.now node draw }
 {
-    let Ok(datagram) = received.datagram() else {
-        return [None, None];
-    };
-    if datagram.kind == ADSP {
-        return ends_in(&datagram);
+    match packet.body() {
+        Ok(body) => numbers_in(body),
+        Err(_) => [None, None],
     }
-    [owned(&datagram), None]
 }
 
-// The number in a datagram of another protocol than ADSP, and the node that draws it.
-fn owned(datagram: &Datagram<'_>) -> Option<(u8, Draw)>
-    ensures found { IfSome result (λ r. CarriesOne (written datagram.now) r.0 r.1) }
-    ensures only { (node : ℕ) (draw : Drawn) → CarriesOne (written datagram.now) node draw
-        → result ≡ Some (node, draw) }
+// The numbers in the packet of a datagram, and the nodes that draw them.
+fn numbers_in(body: &Body<'_>) -> [Option<(u8, Draw)>; 2]
+    requires { IsBody body.now }
+    ensures { (node : ℕ) (draw : Drawn) → Contains result (Some (node, draw))
+        ↔ CarriesNumber (datagram_of body.now) node draw }
 {
-    if datagram.kind == ATP {
-        return tid_in(datagram);
+    match body {
+        Body::Atp(packet) => [tid_in(packet), None],
+        Body::Nbp(packet) => [lookup_in(packet), None],
+        Body::Adsp(packet) => ends_in(packet),
+        Body::Other(_) => [None, None],
     }
-    if datagram.kind == NBP {
-        return lookup_in(datagram);
-    }
-    None
 }
 
 // The identifiers in a datagram of ADSP, and the nodes that draw them.
-fn ends_in(datagram: &Datagram<'_>) -> [Option<(u8, Draw)>; 2]
-    requires { datagram.now.kind ≡ adsp_kind }
-    ensures { (node : ℕ) (draw : Drawn) → Contains result (Some (node, draw))
-        ↔ CarriesConn (written datagram.now) node draw }
+fn ends_in(packet: &AdspPacket<'_>) -> [Option<(u8, Draw)>; 2]
+    requires { packet.now.kind ≡ adsp_kind }
+    ensures { (node : ℕ) (draw : Drawn) → Contains result (Some (node, draw)) ↔ CarriesConn packet.now node draw }
 {
-    let (source, dest) = at_stream_socket::carried(datagram.from, datagram.to, datagram.data_);
+    let (source, dest) = at_stream_socket::carried(packet);
     [end_drawn(source), end_drawn(dest)]
 }
 
@@ -251,13 +261,13 @@ fn end_drawn(id: Option<(u8, u16)>) -> Option<(u8, Draw)>
 }
 
 // The transaction number in a datagram of ATP.
-fn tid_in(datagram: &Datagram<'_>) -> Option<(u8, Draw)>
-    requires { datagram.now.kind ≡ atp_kind }
-    ensures found { IfSome result (λ r. CarriesTid (written datagram.now) r.0 r.1) }
-    ensures only { (node : ℕ) (draw : Drawn) → CarriesTid (written datagram.now) node draw
-        → result ≡ Some (node, draw) }
+fn tid_in(packet: &AtpPacket<'_>) -> Option<(u8, Draw)>
+    requires { packet.now.kind ≡ atp_kind }
+    ensures found { IfSome result (λ r. CarriesTid packet.now r.0 r.1) }
+    ensures only { (node : ℕ) (draw : Drawn) → CarriesTid packet.now node draw → result ≡ Some (node, draw) }
 {
-    let Ok(frame) = at_atp::decode(datagram.data_) else {
+    let datagram = packet.datagram();
+    let Ok(frame) = packet.frame() else {
         return None;
     };
     let owner = owner(datagram.from, datagram.to, &frame);
@@ -265,12 +275,11 @@ fn tid_in(datagram: &Datagram<'_>) -> Option<(u8, Draw)>
 }
 
 // The identifier of a lookup in a datagram of NBP.
-fn lookup_in(datagram: &Datagram<'_>) -> Option<(u8, Draw)>
-    requires { datagram.now.kind ≡ nbp_kind }
-    ensures found { IfSome result (λ r. CarriesLookup (written datagram.now) r.0 r.1) }
-    ensures only { (node : ℕ) (draw : Drawn) → CarriesLookup (written datagram.now) node draw
-        → result ≡ Some (node, draw) }
+fn lookup_in(packet: &NbpPacket<'_>) -> Option<(u8, Draw)>
+    requires { packet.now.kind ≡ nbp_kind }
+    ensures found { IfSome result (λ r. CarriesLookup packet.now r.0 r.1) }
+    ensures only { (node : ℕ) (draw : Drawn) → CarriesLookup packet.now node draw → result ≡ Some (node, draw) }
 {
-    let (node, id) = at_name_socket::carried(datagram.to, datagram.data_)?;
+    let (node, id) = at_name_socket::carried(packet)?;
     Some((node, Draw::Lookup(id)))
 }

@@ -1,7 +1,6 @@
 //! The socket that asks: the transactions of the node itself, also those that read a zone table.
 ghost use Rattle.std.specs.Prelude.{◌≡◌, ◌≢◌, ◌↔◌, ℕ, ◌<◌, ◌≤◌, Bool, length, List, ◌++◌, ◌∷◌, [], map, None, Some};
 ghost use Rattle.std.specs.Prelude.{IfOk, IfErr, IfSome, IsOk, OnErr, IsErrOf, true, false};
-ghost use Rattle.at_ddp.specs.Datagram.{content as written};
 ghost use Rattle.at_ddp.specs.Protocols.{atp_kind};
 ghost use Rattle.at_atp_frame.specs.Frames.{Response, content, spelled, spelled_all};
 ghost use Rattle.at_atp_requester.specs.Requests.{Retried, next_number, beginning, begun, request_by};
@@ -18,8 +17,9 @@ use crate::atp_part::AtpPart;
 use crate::incoming::Incoming;
 use crate::node::refused;
 use at_atp::{AtpFault, Frame, Requester, Retry, Step};
-use at_ddp::{ATP, Address, Datagram, Datagrams, Outbox};
+use at_ddp::{ATP, Address, Datagrams, Outbox};
 use at_event::{Report, Seat};
+use at_packet::AtpPacket;
 use std::alloc::{AllocError, Allocator};
 
 /// The socket that asks, for the node's own transactions.
@@ -73,15 +73,15 @@ impl<A: Allocator + Copy> AtpPart<A> {
     pub(crate) fn hear_response(
         &mut self,
         seat: Seat,
-        datagram: &Datagram<'_>,
+        packet: &AtpPacket<'_>,
         out: &mut Datagrams<A>,
     ) -> Report<A>
         ensures comes { (said : Said A)
-            → Comes (HearsAt said seat self.old (written datagram.now) (Some RequesterSocket)) self.old out.old.items
+            → Comes (HearsAt said seat self.old packet.now (Some RequesterSocket)) self.old out.old.items
             result self.new out.new.items }
         ensures not_asked { is_asked result ≡ false }
     {
-        match Incoming::in_datagram(seat, datagram) {
+        match Incoming::of(seat, packet) {
             Ok(packet) => self.hear_at_requester(&packet, out),
             Err(fault) => refused(fault.number()),
         }

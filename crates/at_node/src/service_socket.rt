@@ -1,6 +1,5 @@
 //! The socket of the node's service: a new request is delivered to it, and answered at once or by a later call.
 ghost use Rattle.std.specs.Prelude.{◌≡◌, ◌++◌, [], map, find, None, Some, IfOk, OnOk, OnErr};
-ghost use Rattle.at_ddp.specs.Datagram.{content as written};
 ghost use Rattle.at_ddp.specs.Outbox.{Sends};
 ghost use Rattle.at_ddp.specs.Protocols.{atp_kind};
 ghost use Rattle.at_atp_frame.specs.Frames.{content, spelled_all};
@@ -20,8 +19,9 @@ use crate::incoming::Incoming;
 use crate::node::refused;
 use crate::responders::{answer, hear, release};
 use at_atp::{Frame, Key, Packet, Reception, Responder};
-use at_ddp::{ATP, Address, Bytes, Datagram, Datagrams, Outbox};
+use at_ddp::{ATP, Address, Bytes, Datagrams, Outbox};
 use at_event::{Reply, Report, Seat, Service};
+use at_packet::AtpPacket;
 use std::alloc::{AllocError, Allocator};
 
 /// The socket of the node's service.
@@ -58,15 +58,15 @@ impl<A: Allocator + Copy> AtpPart<A> {
         &mut self,
         seat: Seat,
         service: &mut S,
-        datagram: &Datagram<'_>,
+        packet: &AtpPacket<'_>,
         out: &mut Datagrams<A>,
     ) -> Report<A>
         ensures { (said : Said A)
-            × Comes (HearsAt said seat self.old (written datagram.now) (Some Heard.Service)) self.old out.old.items
+            × Comes (HearsAt said seat self.old packet.now (Some Heard.Service)) self.old out.old.items
             result self.new out.new.items
             × Serves S.serves result said service.old service.new }
     {
-        match Incoming::in_datagram(seat, datagram) {
+        match Incoming::of(seat, packet) {
             Ok(packet) => self.hear_at_service(service, &packet, out),
             Err(fault) => refused(fault.number()),
         }

@@ -1,6 +1,5 @@
 //! The zone list that a packet ends a reading with.
 ghost use Rattle.std.specs.Prelude.{◌≡◌, List, ℕ, Some, IfOk, IfSome, IsSome, OnErr, true};
-ghost use Rattle.at_ddp.specs.Datagram.{content as written};
 ghost use Rattle.at_atp_frame.specs.Frames.{content};
 ghost use Rattle.at_event.specs.Outcomes.{Outcome, takes_memory};
 ghost use Rattle.at_event.specs.declared.service.Reply.{Reply as Said};
@@ -14,8 +13,9 @@ use crate::atp_part::AtpPart;
 use crate::incoming::Incoming;
 use crate::requester_socket::REQUESTER_SOCKET;
 use at_atp::Frame;
-use at_ddp::{Datagram, Listed, Pascal};
+use at_ddp::{Listed, Pascal};
 use at_event::{Report, Seat};
+use at_packet::AtpPacket;
 use at_zip::{PageView, read_page};
 use std::alloc::{AllocError, Allocator};
 
@@ -24,18 +24,19 @@ impl<A: Allocator + Copy> AtpPart<A> {
     pub(crate) fn list_ended_by(
         &self,
         seat: Seat,
-        datagram: &Datagram<'_>,
+        packet: &AtpPacket<'_>,
     ) -> Result<Option<Listed<Pascal, A>>, AllocError>
         ensures ended { IfOk result (λ list. (said : Said A) (o : Outcome A AtpState)
-            → HearsAtp said seat self.now (written datagram.now) o → (which : Which) (names : List (List ℕ))
+            → HearsAtp said seat self.now packet.now o → (which : Which) (names : List (List ℕ))
             → o.report ≡ Report.Zones which names → list ≡ Some names) }
         ensures wanted { OnErr result ((said : Said A) → (o : Outcome A AtpState)
-            × HearsAtp said seat self.now (written datagram.now) o × (takes_memory o.report ≡ true)) }
+            × HearsAtp said seat self.now packet.now o × (takes_memory o.report ≡ true)) }
     {
+        let datagram = packet.datagram();
         if datagram.to.socket != REQUESTER_SOCKET {
             return Ok(None);
         }
-        match Incoming::in_datagram(seat, datagram) {
+        match Incoming::of(seat, packet) {
             Ok(packet) => self.list_in(&packet),
             Err(_) => Ok(None),
         }

@@ -1,7 +1,6 @@
 //! The zone socket, which only a router serves: it answers requests with pages of its tables.
 ghost use Rattle.std.specs.Prelude.{◌≡◌, ◌≤◌, ◌++◌, ◌∷◌, List, [], map, length, find, option_map, None, Some, false};
 ghost use Rattle.std.specs.Prelude.{IfOk, OnOk, OnErr};
-ghost use Rattle.at_ddp.specs.Datagram.{content as written};
 ghost use Rattle.at_ddp.specs.Datagrams.{Posted};
 ghost use Rattle.at_atp_frame.specs.Frames.{content, spelled_all};
 ghost use Rattle.at_atp_responder.specs.Records.{record_fault, is_key, after_answer, asked_for};
@@ -20,8 +19,9 @@ use crate::incoming::Incoming;
 use crate::node::refused;
 use crate::responders::{answer, hear, release};
 use at_atp::{AtpFault, Frame, Key, Packet, Reception, Responder};
-use at_ddp::{Address, Datagram, Datagrams, Pascal};
+use at_ddp::{Address, Datagrams, Pascal};
 use at_event::{NodeFault, Report, Seat};
+use at_packet::AtpPacket;
 use at_zip::{Which, Zones, page, read_request};
 use std::alloc::{AllocError, Allocator};
 
@@ -50,18 +50,18 @@ impl<A: Allocator + Copy> AtpPart<A> {
     pub(crate) fn hear_zone_request(
         &mut self,
         seat: Seat,
-        datagram: &Datagram<'_>,
+        packet: &AtpPacket<'_>,
         out: &mut Datagrams<A>,
     ) -> Report<A>
         ensures comes { (said : Said A)
-            → Comes (HearsAt said seat self.old (written datagram.now) (option_map ZoneSocket self.old.tables)) self.old
+            → Comes (HearsAt said seat self.old packet.now (option_map ZoneSocket self.old.tables)) self.old
             out.old.items result self.new out.new.items }
         ensures not_asked { is_asked result ≡ false }
     {
         if self.tables.is_none() {
             return Report::Ignored;
         }
-        match Incoming::in_datagram(seat, datagram) {
+        match Incoming::of(seat, packet) {
             Ok(packet) => self.serve_packet(&packet, out),
             Err(fault) => refused(fault.number()),
         }

@@ -4,19 +4,20 @@ ghost use Rattle.std.specs.List.{Contains};
 ghost use Rattle.at_adsp_frame.specs.Segments.{part};
 ghost use Rattle.at_stream_socket.specs.Carrying.{Carries, dest_of};
 
-use at_adsp_frame::{Body, decode};
-use at_ddp::Address;
+use at_adsp_frame::Body;
+use at_packet::AdspPacket;
 
-/// The identifiers of the sender and of the destination that the segment in a datagram's data carries, each with the
-/// number of the node that drew it: (node, identifier). There are none if the data is no segment. This needs no memory.
-pub fn carried(from: Address, to: Address, bytes: &[u8]) -> (Option<(u8, u16)>, Option<(u8, u16)>)
+/// The identifiers of the sender and of the destination that the segment in a datagram carries, each with the number of
+/// the node that drew it: (node, identifier). There are none if the data is no segment. This needs no memory.
+pub fn carried(packet: &AdspPacket<'_>) -> (Option<(u8, u16)>, Option<(u8, u16)>)
     ensures { (node id : ℕ) → Contains (result.0 ∷ result.1 ∷ []) (Some (node, id))
-        ↔ Carries from to bytes.now node id }
+        ↔ Carries packet.now.from packet.now.to packet.now.data_ node id }
 {
-    match decode(bytes) {
+    let datagram = packet.datagram();
+    match packet.segment() {
         Ok(segment) => (
-            numbered(from.node, segment.source),
-            numbered(to.node, dest_of(&segment.body)),
+            numbered(datagram.from.node, segment.source),
+            numbered(datagram.to.node, dest_of(&segment.body)),
         ),
         Err(_) => (None, None),
     }

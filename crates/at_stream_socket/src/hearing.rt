@@ -1,6 +1,5 @@
 //! What segments do at the socket for streams.
 ghost use Rattle.std.specs.Prelude.{◌≡◌, ◌≢◌, ℕ, IfSome, Some, false};
-ghost use Rattle.at_ddp.specs.Datagram.{content};
 ghost use Rattle.at_adsp_frame.specs.Fault.{number_of};
 ghost use Rattle.at_adsp_frame.specs.declared.fault.AdspFault.TheVariants.{NoMemory};
 ghost use Rattle.at_event.specs.Outcomes.{Comes, refused_as};
@@ -9,27 +8,24 @@ ghost use Rattle.at_stream_socket.specs.Hearing.{HearsStreams, Makes};
 
 use crate::socket::{STREAM_SOCKET, StreamSocket, told_by};
 use at_adsp_ends::laws::what_is_ignored_does_nothing;
-use at_adsp_frame::{AdspFault, decode};
-use at_ddp::{ADSP, Datagram, Datagrams, Outbox};
+use at_adsp_frame::AdspFault;
+use at_ddp::{ADSP, Datagrams, Outbox};
 use at_event::{Report, Seat};
+use at_packet::AdspPacket;
 use std::alloc::{AllocError, Allocator};
 
 impl<A: Allocator + Copy> StreamSocket<A> {
     /// Takes a datagram of ADSP that is for this node.
-    pub fn receive(
-        &mut self,
-        seat: Seat,
-        datagram: &Datagram<'_>,
-        out: &mut Datagrams<A>,
-    ) -> Report<A>
-        ensures comes { Comes (HearsStreams seat self.old (content datagram.now)) self.old out.old.items result self.new
+    pub fn hear(&mut self, seat: Seat, packet: &AdspPacket<'_>, out: &mut Datagrams<A>) -> Report<A>
+        ensures comes { Comes (HearsStreams seat self.old packet.now) self.old out.old.items result self.new
             out.new.items }
         ensures not_asked { is_asked result ≡ false }
     {
+        let datagram = packet.datagram();
         if datagram.to.socket != STREAM_SOCKET {
             return Report::Ignored;
         }
-        let segment = match decode(datagram.data_) {
+        let segment = match packet.segment() {
             Ok(segment) => segment,
             Err(fault) => return faulty(fault),
         };
@@ -45,14 +41,15 @@ impl<A: Allocator + Copy> StreamSocket<A> {
     }
 
     /// The identifier of the end that a datagram of ADSP for this node will make, if memory does not run out.
-    pub fn made_by(&self, datagram: &Datagram<'_>) -> Option<u16>
-        ensures found { IfSome result (λ id. Makes self.now (content datagram.now) id) }
-        ensures only { (id : ℕ) → Makes self.now (content datagram.now) id → result ≡ Some id }
+    pub fn made_by(&self, packet: &AdspPacket<'_>) -> Option<u16>
+        ensures found { IfSome result (λ id. Makes self.now packet.now id) }
+        ensures only { (id : ℕ) → Makes self.now packet.now id → result ≡ Some id }
     {
+        let datagram = packet.datagram();
         if datagram.to.socket != STREAM_SOCKET {
             return None;
         }
-        match decode(datagram.data_) {
+        match packet.segment() {
             Ok(segment) => self.ends.made_by(datagram.from, &segment),
             Err(_) => None,
         }

@@ -6,22 +6,22 @@ ghost use Rattle.at_world.specs.Draws.{is_no_later, last_of};
 ghost use Rattle.at_world.specs.Worlds.{is_in_time};
 
 use crate::draws::LastDraws;
-use at_ddp::Received;
 use at_node::{Draw, carried_in};
+use at_packet::Packet;
 use std::alloc::Allocator;
 
 /// Whether no event after this one drew a number that these bytes carry.
 pub(crate) fn is_fresh<A: Allocator + Copy>(
     last: &LastDraws<A>,
-    received: &Received<'_>,
+    packet: &Packet<'_>,
     event: u32,
 ) -> bool
-    ensures fresh { result ≡ true → (node : ℕ) (draw : Drawn) → Carries received.now node draw
+    ensures fresh { result ≡ true → (node : ℕ) (draw : Drawn) → Carries packet.now node draw
         → is_no_later (last_of last.now node draw) event ≡ true }
-    ensures stale { result ≡ false → (node : ℕ) × (draw : Drawn) × Carries received.now node draw
+    ensures stale { result ≡ false → (node : ℕ) × (draw : Drawn) × Carries packet.now node draw
         × (is_no_later (last_of last.now node draw) event ≡ false) }
 {
-    let [first, second] = carried_in(received);
+    let [first, second] = carried_in(packet);
     is_no_later(last, first, event) && is_no_later(last, second, event)
 }
 

@@ -16,8 +16,9 @@ use crate::places::{is_held, place_of};
 use crate::sent::SentList;
 use crate::taking::take;
 use crate::timely::is_fresh;
-use at_ddp::{Datagrams, Received};
+use at_ddp::Datagrams;
 use at_node::{Draw, Input, Node, Report};
+use at_packet::Packet;
 use at_setup::{Event, Fault, Refusal, Setup};
 use at_steps::laws::safety::every_event_is_safe;
 use std::alloc::{AllocError, Allocator};
@@ -128,7 +129,7 @@ impl<A: Allocator + Copy> World<A> {
             Event::Deliver { which, node } => self.deliver(*which, *node),
             Event::Timer { node, timer } => self.play(*node, &Input::Timer(*timer)),
             Event::Forge { node, bytes } => {
-                self.play(*node, &Input::Received(&Received::of(bytes.as_slice())))
+                self.play(*node, &Input::Received(&Packet::of(bytes.as_slice())))
             }
         }
     }
@@ -177,11 +178,11 @@ impl<A: Allocator + Copy> World<A> {
         let Some(place) = place_of(&self.nodes, node) else {
             return Err(Fault::Refused(Refusal::NotForNode));
         };
-        let received = Received::of(sent.bytes);
-        if !is_fresh(&self.last, &received, sent.event) {
+        let packet = Packet::of(sent.bytes);
+        if !is_fresh(&self.last, &packet, sent.event) {
             return Err(Fault::Refused(Refusal::Untimely));
         }
-        let input = Input::Received(&received);
+        let input = Input::Received(&packet);
         if draws_held(&self.nodes, place, node, &input) {
             return Err(Fault::Refused(Refusal::Untimely));
         }

@@ -1,7 +1,6 @@
 use Rattle.std.proofs.Common.{◌≡◌, ℕ, List, [], ◌∷◌, Option, Some, subst, sym}
 use Rattle.std.specs.Prelude.{◌↔◌}
 use Rattle.std.specs.List.{Contains}
-use Rattle.at_ddp.specs.Datagram.{content}
 use Rattle.at_node.specs.Numbers.{CarriesConn, end_drawn}
 use Rattle.at_node.specs.declared.numbers.Draw.{Draw}
 use Rattle.at_node.proofs.NumberLemmas.{end_found, end_stands}
@@ -9,7 +8,7 @@ use Rattle.at_node.proofs.numbers.ends_in.Goals as goal
 
 pub returns : goal.returns
 returns c node draw =
-    let d = content c.args.datagram.now in
+    let d = c.args.packet.now in
     let source = c.carried-source.result.0 in
     let dest = c.carried-source.result.1 in
     let all : ◌≡◌ {A = List (Option (ℕ × Draw))} (c.end_drawn.result ∷ c.end_drawn-2.result ∷ [])

@@ -1,7 +1,7 @@
-use Rattle.std.proofs.Common.{◌≡◌, ℕ, refl, sym, subst, ◌∙◌, arith}
+use Rattle.std.proofs.Common.{◌≡◌, ℕ, refl, sym, ap, subst, ◌∙◌, arith}
 use Rattle.std.specs.Prelude.{◌==◌, option_map, Some, None, false}
 use Rattle.std.proofs.lemmas.Bool.{eq-eqb, ne_eqb}
-use Rattle.at_ddp.specs.Datagram.{content}
+use Rattle.at_ddp.specs.Datagram.{Content}
 use Rattle.at_node.specs.AtpHearing.{HearsAt, HearsAtp, Requester, Service, Zones, atp_socket}
 use Rattle.at_node.specs.AtpParts.{AtpState}
 use Rattle.at_event.specs.Outcomes.{Comes}
@@ -32,44 +32,52 @@ for_nobody : (a : AtpState) (socket : ℕ) → (socket ≡ 128 → ⊥) → (soc
 for_nobody a socket x y z = rw (ne_eqb socket 128 x, ne_eqb socket 129 y, ne_eqb socket 6 z) refl
 
 pub returns : goal.returns
-returns g c = (
-  Later,
-  comes_ignored (HearsAtp Later c.args.seat c.args.self.now (content c.args.datagram.now)) c.args.self.now
-      c.args.out.now.items
-      (rw (for_nobody c.args.self.now (content c.args.datagram.now).to.socket c.if-datagram.false c.if-datagram-2.false
-      c.if-datagram-eq-ZONE_SOCKET.false) refl),
-  refl,
-)
+returns g c =
+    let d = c.args.packet.now in
+    let socket : d.to.socket ≡ c.datagram-datagram.result.to.socket = ap (λ (d : Content). d.to.socket) (sym c.datagram-datagram.ensures) in (
+      Later,
+      comes_ignored (HearsAtp Later c.args.seat c.args.self.now d) c.args.self.now c.args.out.now.items
+          (rw (for_nobody c.args.self.now d.to.socket (λ is. c.if-datagram.false (sym socket ∙ is))
+          (λ is. c.if-datagram-2.false (sym socket ∙ is))
+          (λ is. c.if-datagram-eq-ZONE_SOCKET.false (sym socket ∙ is))) refl),
+      refl,
+    )
 
 pub returns-then-datagram : goal.returns-then-datagram
-returns-then-datagram g c = (
-  Later,
-  subst (λ socket. Comes (HearsAt Later c.args.seat c.args.self.now (content c.args.datagram.now) socket)
-      c.args.self.now c.args.out.now.items c.hear_response.result c.hear_response.new.self
-      c.hear_response.new.out.items)
-      (sym (for_requester c.args.self.now (content c.args.datagram.now).to.socket c.if-datagram.true))
-      (c.hear_response.ensures.comes Later),
-  not_served _ c.hear_response.result Later c.args.service.now c.hear_response.ensures.not_asked,
-)
+returns-then-datagram g c =
+    let d = c.args.packet.now in
+    let socket : d.to.socket ≡ c.datagram-datagram.result.to.socket = ap (λ (d : Content). d.to.socket) (sym c.datagram-datagram.ensures) in (
+      Later,
+      subst (λ socket. Comes (HearsAt Later c.args.seat c.args.self.now d socket)
+          c.args.self.now c.args.out.now.items c.hear_response.result c.hear_response.new.self
+          c.hear_response.new.out.items)
+          (sym (for_requester c.args.self.now d.to.socket (socket ∙ c.if-datagram.true)))
+          (c.hear_response.ensures.comes Later),
+      not_served _ c.hear_response.result Later c.args.service.now c.hear_response.ensures.not_asked,
+    )
 
 pub returns-then-datagram-2 : goal.returns-then-datagram-2
 returns-then-datagram-2 g c =
-    let r = c.hear_request.ensures in (
+    let r = c.hear_request.ensures in
+    let d = c.args.packet.now in
+    let socket : d.to.socket ≡ c.datagram-datagram.result.to.socket = ap (λ (d : Content). d.to.socket) (sym c.datagram-datagram.ensures) in (
       r.0,
-      subst (λ socket. Comes (HearsAt r.0 c.args.seat c.args.self.now (content c.args.datagram.now) socket)
+      subst (λ socket. Comes (HearsAt r.0 c.args.seat c.args.self.now d socket)
           c.args.self.now c.args.out.now.items c.hear_request.result c.hear_request.new.self
           c.hear_request.new.out.items)
-          (sym (for_service c.args.self.now (content c.args.datagram.now).to.socket c.if-datagram-2.true)) r.1,
+          (sym (for_service c.args.self.now d.to.socket (socket ∙ c.if-datagram-2.true))) r.1,
       r.2,
     )
 
 pub returns-then-datagram-eq-ZONE_SOCKET : goal.returns-then-datagram-eq-ZONE_SOCKET
-returns-then-datagram-eq-ZONE_SOCKET g c = (
-  Later,
-  subst (λ socket. Comes (HearsAt Later c.args.seat c.args.self.now (content c.args.datagram.now) socket)
-      c.args.self.now c.args.out.now.items c.hear_zone_request.result c.hear_zone_request.new.self
-      c.hear_zone_request.new.out.items)
-      (sym (for_router c.args.self.now (content c.args.datagram.now).to.socket c.if-datagram-eq-ZONE_SOCKET.true))
-      (c.hear_zone_request.ensures.comes Later),
-  not_served _ c.hear_zone_request.result Later c.args.service.now c.hear_zone_request.ensures.not_asked,
-)
+returns-then-datagram-eq-ZONE_SOCKET g c =
+    let d = c.args.packet.now in
+    let socket : d.to.socket ≡ c.datagram-datagram.result.to.socket = ap (λ (d : Content). d.to.socket) (sym c.datagram-datagram.ensures) in (
+      Later,
+      subst (λ socket. Comes (HearsAt Later c.args.seat c.args.self.now d socket)
+          c.args.self.now c.args.out.now.items c.hear_zone_request.result c.hear_zone_request.new.self
+          c.hear_zone_request.new.out.items)
+          (sym (for_router c.args.self.now d.to.socket (socket ∙ c.if-datagram-eq-ZONE_SOCKET.true)))
+          (c.hear_zone_request.ensures.comes Later),
+      not_served _ c.hear_zone_request.result Later c.args.service.now c.hear_zone_request.ensures.not_asked,
+    )

@@ -1,5 +1,4 @@
 use Rattle.std.proofs.Common.{Some, inl, inr, refl, ◌∙◌}
-use Rattle.at_ddp.specs.Datagram.{content as written}
 use Rattle.at_atp_frame.specs.Frames.{content}
 use Rattle.at_node.specs.AtpHearing.{AtSocket, HearsAt, Service}
 use Rattle.at_event.specs.declared.service.Reply.TheVariants.{Later}
@@ -11,7 +10,7 @@ pub returns-in-Err : goal.returns-in-Err
 returns-in-Err g c =
     let number = atp_number c.in-Err.fault _ c.in-Err.ensures.fault in (
       Later,
-      comes_refused (HearsAt Later c.args.seat c.args.self.now (written c.args.datagram.now) (Some Service))
+      comes_refused (HearsAt Later c.args.seat c.args.self.now c.args.packet.now (Some Service))
           c.args.self.now c.args.out.now.items c.refused.result c.number.result number.0
           (c.number.ensures ∙ number.1) c.refused.ensures.report
           (inr (record {
@@ -28,9 +27,9 @@ pub returns-in-Ok : goal.returns-in-Ok
 returns-in-Ok g c =
     let r = c.hear_at_service.ensures in (
       r.0,
-      comes_wider (AtSocket r.0 c.args.seat c.args.self.now (c.args.datagram.now).from (Some Service)
+      comes_wider (AtSocket r.0 c.args.seat c.args.self.now (c.args.packet.now).from (Some Service)
           (content c.in-Ok.packet.frame))
-          (HearsAt r.0 c.args.seat c.args.self.now (written c.args.datagram.now) (Some Service)) c.args.self.now
+          (HearsAt r.0 c.args.seat c.args.self.now c.args.packet.now (Some Service)) c.args.self.now
           c.args.out.now.items c.hear_at_service.result c.hear_at_service.new.self c.hear_at_service.new.out.items
           (λ o p. inl (record { packet = content c.in-Ok.packet.frame; spelled = c.in-Ok.ensures.found; outcome = p }))
           (rw (c.in-Ok.ensures.seat, c.in-Ok.ensures.from) at r.1),

@@ -1,5 +1,4 @@
 use Rattle.std.proofs.Common.{Some, inl, inr, refl, ◌∙◌}
-use Rattle.at_ddp.specs.Datagram.{content as written}
 use Rattle.at_atp_frame.specs.Frames.{content}
 use Rattle.at_node.specs.AtpHearing.{AtSocket, HearsAt, Requester}
 use Rattle.at_event.specs.Outcomes.{Comes}
@@ -9,7 +8,7 @@ use Rattle.at_node.proofs.atp_part.AtpPart.hear_response.Goals as goal
 pub returns-in-Err-clause-comes : goal.returns-in-Err-clause-comes
 returns-in-Err-clause-comes g c = λ said.
     let number = atp_number c.in-Err.fault _ c.in-Err.ensures.fault in
-    comes_refused (HearsAt said c.args.seat c.args.self.now (written c.args.datagram.now) (Some Requester))
+    comes_refused (HearsAt said c.args.seat c.args.self.now c.args.packet.now (Some Requester))
     c.args.self.now c.args.out.now.items c.refused.result c.number.result number.0
     (c.number.ensures ∙ number.1) c.refused.ensures.report
     (inr (record {
@@ -26,9 +25,9 @@ returns-in-Ok-clause-comes g c = λ said.
     (content c.in-Ok.packet.frame)) c.args.self.now c.args.out.now.items c.hear_at_requester.result
     c.hear_at_requester.new.self c.hear_at_requester.new.out.items =
     c.hear_at_requester.ensures.comes said in
-    comes_wider (AtSocket said c.args.seat c.args.self.now (c.args.datagram.now).from (Some Requester)
+    comes_wider (AtSocket said c.args.seat c.args.self.now (c.args.packet.now).from (Some Requester)
     (content c.in-Ok.packet.frame))
-    (HearsAt said c.args.seat c.args.self.now (written c.args.datagram.now) (Some Requester)) c.args.self.now
+    (HearsAt said c.args.seat c.args.self.now c.args.packet.now (Some Requester)) c.args.self.now
     c.args.out.now.items c.hear_at_requester.result c.hear_at_requester.new.self c.hear_at_requester.new.out.items
     (λ o p. inl (record { packet = content c.in-Ok.packet.frame; spelled = c.in-Ok.ensures.found; outcome = p }))
     (rw (c.in-Ok.ensures.seat, c.in-Ok.ensures.from) at came)

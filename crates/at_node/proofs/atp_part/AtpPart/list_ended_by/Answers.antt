@@ -1,5 +1,5 @@
 use Rattle.std.proofs.Common.{◌≡◌, List, ℕ, Some, sym, ap, subst}
-use Rattle.at_ddp.specs.Datagram.{Content as Datagram, content as written}
+use Rattle.at_ddp.specs.Datagram.{Content as Datagram}
 use Rattle.at_ddp.specs.declared.address.Address.{Address}
 use Rattle.at_atp_frame.specs.Frames.{Content, content}
 use Rattle.at_zip.specs.declared.request.Which.{Which}
@@ -18,7 +18,7 @@ pub returns-in-Ok-clause-ended : goal.returns-in-Ok-clause-ended
 returns-in-Ok-clause-ended g c =
     let A = g.row.A.Denot in
     let now : AtpState = c.args.self.now in
-    let d : Datagram = written c.args.datagram.now in
+    let d : Datagram = c.args.packet.now in
     let p = c.in-Ok.packet in
     ok_implied c.list_in.result
     (λ list. (o : Outcome A AtpState) → AtRequester p.seat now p.from (content p.frame) o

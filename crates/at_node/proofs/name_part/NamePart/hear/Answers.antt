@@ -1,8 +1,8 @@
-use Rattle.std.proofs.Common.{◌≡◌, ◌∙◌, true, false, refl, subst}
+use Rattle.std.proofs.Common.{◌≡◌, ◌∙◌, true, false, ap, refl, subst, sym}
 use Rattle.std.specs.Prelude.{◌==◌}
 use Rattle.std.proofs.lemmas.Bool.{eq-eqb, ne_eqb}
 use Rattle.std.proofs.lemmas.List.{append-nil}
-use Rattle.at_ddp.specs.Datagram.{content}
+use Rattle.at_ddp.specs.Datagram.{Content, content}
 use Rattle.at_name_socket.specs.NameSockets.{SocketState}
 use Rattle.at_node.specs.NameHearing.{HearsNames, told_by}
 use Rattle.at_event.specs.Outcomes.{Comes}
@@ -13,17 +13,19 @@ use Rattle.at_node.proofs.name_part.NamePart.hear.Goals.{in-Ok, in-Err}
 
 pub returns-then-datagram-ne-NAME_SOCKET-clause-comes : goal.returns-then-datagram-ne-NAME_SOCKET-clause-comes
 returns-then-datagram-ne-NAME_SOCKET-clause-comes g c =
-    let d = content c.args.datagram.now in
-    let other : (d.to.socket == 2) ≡ false = ne_eqb d.to.socket 2 c.if-datagram-ne-NAME_SOCKET.true in
+    let d = c.args.packet.now in
+    let other : (d.to.socket == 2) ≡ false = ap (λ (d : Content). d.to.socket == 2) (sym c.datagram-datagram.ensures)
+    ∙ ne_eqb (content c.datagram-datagram.result).to.socket 2 c.if-datagram-ne-NAME_SOCKET.true in
     comes_ignored (HearsNames c.args.seat c.args.self.now d) c.args.self.now c.args.out.now.items (rw other refl)
 
 pub returns-clause-comes : goal.returns-clause-comes
 returns-clause-comes g c =
-    let d = content c.args.datagram.now in
+    let d = c.args.packet.now in
     let n = c.self.inside.socket in
     let s = c.args.seat in
     let items = c.args.out.now.items in
-    let its : (d.to.socket == 2) ≡ true = eq-eqb d.to.socket 2 c.if-datagram-ne-NAME_SOCKET.false in
+    let its : (d.to.socket == 2) ≡ true = ap (λ (d : Content). d.to.socket == 2) (sym c.datagram-datagram.ensures)
+    ∙ eq-eqb (content c.datagram-datagram.result).to.socket 2 c.if-datagram-ne-NAME_SOCKET.false in
     rw its
     (elim c.match-heard.branch [
       | in-Ok w ↦
@@ -31,15 +33,15 @@ returns-clause-comes g c =
           let one : c.match-heard.result ≡ told_by w.in-Ok.heard = w.result-is ∙ w.told_by.ensures.report in
           rw one
           (subst (λ (x : SocketState). Comes (HearsData {A = g.row.A.Denot} s x d.data_) x items
-          (told_by w.in-Ok.heard) c.receive-heard.new.self c.into_list.result.items) c.self.view_is
-          (heard_comes g.row.A.Denot s n d.data_ items w.in-Ok.heard c.receive-heard.new.self ok.0
-          c.lent-outbox.result c.receive-heard.new.out c.into_list.result.items ok.1 ok.2
+          (told_by w.in-Ok.heard) c.hear-heard.new.self c.into_list.result.items) c.self.view_is
+          (heard_comes g.row.A.Denot s n d.data_ items w.in-Ok.heard c.hear-heard.new.self ok.0
+          c.lent-outbox.result c.hear-heard.new.out c.into_list.result.items ok.1 ok.2
           c.lent-outbox.ensures.items (c.lent-outbox.ensures.from ∙ c.at.ensures) c.lent-outbox.ensures.kind
           c.into_list.ensures.items))
       | in-Err w ↦
           let e = w.in-Err.ensures in
           let nothing = e.nothing_sent in
-          let same : c.receive-heard.new.self ≡ c.args.self.now = e.unchanged ∙ c.self.view_is in
+          let same : c.hear-heard.new.self ≡ c.args.self.now = e.unchanged ∙ c.self.view_is in
           let stays : c.into_list.result.items ≡ items = c.into_list.ensures.items ∙ nothing.items
           ∙ append-nil c.lent-outbox.result.items ∙ c.lent-outbox.ensures.items in
           rw (w.result-is, same, stays)

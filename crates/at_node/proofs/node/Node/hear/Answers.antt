@@ -1,5 +1,5 @@
 use Rattle.std.proofs.Common.{inl, inr, refl, ◌∙◌}
-use Rattle.at_ddp.specs.Datagram.{content}
+use Rattle.at_packet.specs.Bodies.{datagram_of}
 use Rattle.at_node.specs.Hearing.{Hears, HearsIt}
 use Rattle.at_event.specs.declared.service.Reply.TheVariants.{Later}
 use Rattle.at_node.proofs.OutcomeLemmas.{ddp_number, comes_refused, comes_wider}
@@ -8,9 +8,9 @@ use Rattle.at_node.proofs.node.Node.hear.Goals as goal
 
 pub returns-in-Err : goal.returns-in-Err
 returns-in-Err g c =
-    let number = ddp_number c.in-Err.fault c.args.received.now c.in-Err.ensures.fault in (
+    let number = ddp_number c.in-Err.fault c.args.packet.now c.in-Err.ensures.fault in (
       Later,
-      comes_refused (Hears Later c.args.self.now c.args.received.now) c.args.self.now c.args.out.now.items
+      comes_refused (Hears Later c.args.self.now c.args.packet.now) c.args.self.now c.args.out.now.items
           c.refused.result c.number.result number.0 (c.number.ensures ∙ number.1) c.refused.ensures.report
           (inr (record {
             fault = c.in-Err.fault;
@@ -24,13 +24,13 @@ returns-in-Err g c =
 
 pub returns-in-Ok : goal.returns-in-Ok
 returns-in-Ok g c =
-    let r = c.hear_datagram.ensures in (
+    let r = c.hear_body.ensures in (
       r.0,
-      comes_wider (HearsIt r.0 c.args.self.now (content c.in-Ok.datagram))
-          (Hears r.0 c.args.self.now c.args.received.now) c.args.self.now c.args.out.now.items c.hear_datagram.result
-          c.hear_datagram.new.self c.hear_datagram.new.out.items
+      comes_wider (HearsIt r.0 c.args.self.now (datagram_of c.in-Ok.body.now))
+          (Hears r.0 c.args.self.now c.args.packet.now) c.args.self.now c.args.out.now.items c.hear_body.result
+          c.hear_body.new.self c.hear_body.new.out.items
           (λ o p. inl (record {
-            datagram = content c.in-Ok.datagram;
+            datagram = datagram_of c.in-Ok.body.now;
             rest = c.in-Ok.ensures.found.0;
             begins = c.in-Ok.ensures.found.1;
             outcome = p;

@@ -1,5 +1,4 @@
 use Rattle.std.proofs.Common.{◌≡◌, true, refl, subst}
-use Rattle.at_ddp.specs.Datagram.{content}
 use Rattle.at_event.specs.Outcomes.{Comes, Outcome, Through, takes_memory}
 use Rattle.at_event.specs.declared.service.Reply.{Reply}
 use Rattle.at_event.specs.declared.service.Reply.TheVariants.{Later}
@@ -20,7 +19,7 @@ returns-in-Err g c =
       streams = c.self.inside.streams;
       session = c.self.inside.session;
     } in
-    let d = content c.args.datagram.now in
+    let d = c.args.packet.now in
     let wanted = subst (λ (x : NodeState). (said : Reply g.row.A.Denot) → (o : Outcome g.row.A.Denot AtpState)
     × HearsAtp said x.seat x.atp d o × (takes_memory o.report ≡ true)) c.self.view_is c.in-Err.ensures.wanted
     Later in
@@ -43,7 +42,7 @@ returns g c =
       streams = c.self.inside.streams;
       session = c.keep_list.new.self;
     } in
-    let d = content c.args.datagram.now in
+    let d = c.args.packet.now in
     let r = c.hear-report.ensures in (
       r.0,
       subst (λ (n : NodeState). Comes (Through (over_atp n) (HearsAtp r.0 n.seat n.atp d)) n c.args.out.now.items

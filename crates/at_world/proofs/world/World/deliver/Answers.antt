@@ -72,8 +72,8 @@ returns-then-not-is_fresh-clause-not_played g c =
     let at = (goal.at.returns-then-not-is_fresh-clause-not_played g c).In-Some in
     let s = sent_there g (goal.at.returns-then-not-is_fresh-clause-not_played g c).After-get-sent in
     let stale = stale_there g.row.A.Denot c.args.self.now c.args.which c.args.node s.0 c.self.inside.last
-    c.of-received.result c.get-sent.result.event s.1 (ap (λ (w : WorldState). w.last) c.self.view_is)
-    (c.of-received.ensures ∙ s.4) s.2 (c.is_fresh.ensures.stale c.if-not-is_fresh.true) in (
+    c.of-packet.result c.get-sent.result.event s.1 (ap (λ (w : WorldState). w.last) c.self.view_is)
+    (c.of-packet.ensures ∙ s.4) s.2 (c.is_fresh.ensures.stale c.if-not-is_fresh.true) in (
       (
         for_it g.row.A.Denot c.args.self.now c.args.which c.args.node s.0 _ c.requires.runs s.1 (for_there g at s.0 s.3)
             (there g at),
@@ -92,13 +92,13 @@ returns-then-draws_held-clause-not_played g c =
     let at = (goal.at.returns-then-draws_held-clause-not_played g c).In-Some in
     let s = sent_there g (goal.at.returns-then-draws_held-clause-not_played g c).After-get-sent in
     let same = c.deref-2.ensures.value ∙ ap (λ (w : WorldState). w.nodes) c.self.view_is in
-    let held = subst (λ l. ¬ AreFree l c.args.node (λ n draw. DrawsHearing n c.of-received.result draw)) same
+    let held = subst (λ l. ¬ AreFree l c.args.node (λ n draw. DrawsHearing n c.of-packet.result draw)) same
     (c.draws_held.ensures.held c.if-draws_held.true) in (
       (
         for_it g.row.A.Denot c.args.self.now c.args.which c.args.node s.0 _ c.requires.runs s.1 (for_there g at s.0 s.3)
             (there g at),
-        held_there g.row.A.Denot c.args.self.now c.args.which c.args.node s.0 c.of-received.result s.1
-            (c.of-received.ensures ∙ s.4) held,
+        held_there g.row.A.Denot c.args.self.now c.args.which c.args.node s.0 c.of-packet.result s.1
+            (c.of-packet.ensures ∙ s.4) held,
       ),
       refl,
     )
@@ -130,23 +130,23 @@ returns-clause-played g c =
     let same = ap (λ (w : WorldState). w.nodes) c.self.view_is in
     let given = c.index_mut.result.now in
     let empty : c.replace-out.result.items ≡ [] = search rules in
-    let bytes = c.of-received.ensures ∙ s.4 in
-    let fresh = fresh_there c.args.self.now s.0 c.self.inside.last c.of-received.result c.get-sent.result.event
+    let bytes = c.of-packet.ensures ∙ s.4 in
+    let fresh = fresh_there c.args.self.now s.0 c.self.inside.last c.of-packet.result c.get-sent.result.event
     (ap (λ (w : WorldState). w.last) c.self.view_is) bytes s.2 (c.is_fresh.ensures.fresh c.if-not-is_fresh.false) in
     let free = subst (HeardFree c.args.self.now c.args.node) bytes
-    (subst (λ l. AreFree l c.args.node (λ n draw. DrawsHearing n c.of-received.result draw))
+    (subst (λ l. AreFree l c.args.node (λ n draw. DrawsHearing n c.of-packet.result draw))
     (c.deref-2.ensures.value ∙ same) (c.draws_held.ensures.free c.if-draws_held.false)) in
     let stands = node_stands c.args.self.now c.args.node c.self.inside.nodes.items c.in-Some.place given same f
     (c.index_mut.ensures.value ∙ f.at given) in
-    delivered g.row.A.Denot c.args.self.now c.args.which c.args.node s.0 c.of-received.result c.finish.new.self
+    delivered g.row.A.Denot c.args.self.now c.args.which c.args.node s.0 c.of-packet.result c.finish.new.self
     c.finish.result c.requires.runs s.1 (for_there g at s.0 s.3) fresh free bytes
-    (taken g.row.A.Denot c.args.self.now c.finish.new.self _ c.args.node (Receives c.of-received.result)
+    (taken g.row.A.Denot c.args.self.now c.finish.new.self _ c.args.node (Receives c.of-packet.result)
     c.take-report.result c.finish.result (λ is. record {
       node = given;
       stands = stands;
       after = c.take-report.new.node;
       out = c.take-report.new.out.items;
-      steps = subst (λ (ps : List Posted). Receives c.of-received.result given ps c.take-report.result
+      steps = subst (λ (ps : List Posted). Receives c.of-packet.result given ps c.take-report.result
           c.take-report.new.node c.take-report.new.out.items) empty c.take-report.ensures.takes;
       booked = recorded_by g.row.A.Denot c.args.self.now c.finish.new.self c.args.node c.in-Some.place
           c.take-report.result c.self.inside.nodes.items c.take-report.new.node c.self.inside.sent c.self.inside.last
@@ -158,11 +158,11 @@ returns-clause-not_played g c =
     let at = (goal.at.returns-clause-not_played g c).In-Some in
     let s = sent_there g (goal.at.returns-clause-not_played g c).After-get-sent in
     let same = ap (λ (w : WorldState). w.nodes) c.self.view_is in
-    let bytes = c.of-received.ensures ∙ s.4 in
-    let fresh = fresh_there c.args.self.now s.0 c.self.inside.last c.of-received.result c.get-sent.result.event
+    let bytes = c.of-packet.ensures ∙ s.4 in
+    let fresh = fresh_there c.args.self.now s.0 c.self.inside.last c.of-packet.result c.get-sent.result.event
     (ap (λ (w : WorldState). w.last) c.self.view_is) bytes s.2 (c.is_fresh.ensures.fresh c.if-not-is_fresh.false) in
     let free = subst (HeardFree c.args.self.now c.args.node) bytes
-    (subst (λ l. AreFree l c.args.node (λ n draw. DrawsHearing n c.of-received.result draw))
+    (subst (λ l. AreFree l c.args.node (λ n draw. DrawsHearing n c.of-packet.result draw))
     (c.deref-2.ensures.value ∙ same) (c.draws_held.ensures.free c.if-draws_held.false)) in
     not_delivered g.row.A.Denot c.args.self.now c.args.which c.args.node s.0 c.finish.new.self c.finish.result
     c.requires.runs s.1 (for_there g at s.0 s.3) (there g at) fresh free
