@@ -11,7 +11,7 @@ use Rattle.at_held.specs.Safety.{IsSafe}
 use Rattle.at_held.specs.declared.opening.OpenFault.{OpenFault}
 use Rattle.at_held.specs.declared.withheld.Withheld.{Withheld}
 use Rattle.at_steps.specs.Safety.{Place}
-use Rattle.at_world.specs.Worlds.{Receives}
+use Rattle.at_nodes.specs.Taking.{Receives}
 
 -- The node in the handle is there after the call too, and this is so of it before and after. If the handle has none,
 -- that is told, and it has none after the call.

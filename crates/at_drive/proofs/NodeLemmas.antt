@@ -9,8 +9,8 @@ use Rattle.at_ddp.proofs.TableLemmas.{Found, found_by}
 use Rattle.at_node.specs.Nodes.{NodeState}
 use Rattle.at_setup.specs.declared.setup.NodeSetup.{NodeSetup}
 use Rattle.at_setup.specs.declared.setup.Setup.{Setup}
-use Rattle.at_world.specs.Plays.{opening_node}
-use Rattle.at_world.specs.Worlds.{is_numbered}
+use Rattle.at_nodes.specs.Openings.{opening_node}
+use Rattle.at_nodes.specs.Nodes.{is_numbered}
 use Rattle.at_drive.specs.Drives.{number_of}
 use Rattle.at_drive.specs.Steps.{number_in, stands_in}
 

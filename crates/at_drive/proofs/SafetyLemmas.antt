@@ -16,8 +16,9 @@ use Rattle.at_node.specs.Nodes.{NodeState, called, timed}
 use Rattle.at_node.specs.declared.numbers.Input.{Input}
 use Rattle.at_node.specs.declared.numbers.Input.TheVariants as input
 use Rattle.at_steps.specs.Safety.{IsPlaceOf, IsPlaceOfCall, IsSafe as IsSafeOutcome, Place, number_told}
-use Rattle.at_world.specs.Safety.{AreWithin}
-use Rattle.at_world.specs.Worlds.{Takes, is_numbered}
+use Rattle.at_nodes.specs.Nodes.{AreWithin}
+use Rattle.at_nodes.specs.Taking.{Takes}
+use Rattle.at_nodes.specs.Nodes.{is_numbered}
 use Rattle.at_drive.specs.Safety.{IsSafe, place_wanted}
 
 -- the node that is found keeps to its limits, if all do

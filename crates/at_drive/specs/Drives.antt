@@ -9,8 +9,9 @@ use Rattle.at_event.specs.Outcomes.{IsStep}
 use Rattle.at_event.specs.declared.report.Report.{Report}
 use Rattle.at_node.specs.Nodes.{NodeState, called, timed}
 use Rattle.at_setup.specs.declared.setup.Setup.{Setup}
-use Rattle.at_world.specs.Plays.{opening_node}
-use Rattle.at_world.specs.Worlds.{Receives, is_numbered}
+use Rattle.at_nodes.specs.Openings.{opening_node}
+use Rattle.at_nodes.specs.Taking.{Receives}
+use Rattle.at_nodes.specs.Nodes.{is_numbered}
 use Rattle.at_steps.specs.Safety.{IsPlaceOf, IsPlaceOfCall, Place}
 use Rattle.at_drive.specs.Arrivals.{Came}
 use Rattle.at_drive.specs.Safety.{IsSafe}

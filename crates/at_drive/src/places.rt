@@ -3,10 +3,10 @@ ghost use Rattle.std.specs.Prelude.{◌≡◌, map, Some, true};
 ghost use Rattle.std.specs.List.{position_from};
 ghost use Rattle.at_drive.specs.Drives.{number_of};
 ghost use Rattle.at_drive.specs.Steps.{stands_in};
-ghost use Rattle.at_world.specs.Worlds.{is_numbered};
+ghost use Rattle.at_nodes.specs.Nodes.{is_numbered};
 
 use at_node::Node;
-use at_world::place_of;
+use at_nodes::place_of;
 use std::alloc::Allocator;
 
 /// The place of the node of this number, which stands among these.

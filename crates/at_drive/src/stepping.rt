@@ -3,8 +3,8 @@ ghost use Rattle.std.specs.Prelude.{◌≡◌, ◌⊎◌, ◌∷◌, [], List, �
 ghost use Rattle.std.specs.Prelude.{IsErr};
 ghost use Rattle.at_cable.specs.declared.fault.CableFault.{CableFault as Fault};
 ghost use Rattle.at_steps.specs.Safety.{IsPlaceOf};
-ghost use Rattle.at_world.specs.Safety.{AreWithin};
-ghost use Rattle.at_world.specs.Worlds.{Receives, Takes};
+ghost use Rattle.at_nodes.specs.Nodes.{AreWithin};
+ghost use Rattle.at_nodes.specs.Taking.{Receives, Takes};
 ghost use Rattle.at_drive.specs.Drives.{Drives, IsLeft, Plays, Polls, logged, most_bytes, noting, number_of};
 ghost use Rattle.at_drive.specs.Drives.{opening_nodes_of};
 ghost use Rattle.at_drive.specs.Logs.{news_of};
@@ -18,10 +18,10 @@ use crate::sending::send_all;
 use crate::step::Step;
 use at_cable::{Cable, CableFault};
 use at_node::{Input, Node};
+use at_nodes::{opening_nodes, take};
 use at_packet::Packet;
 use at_setup::Setup;
 use at_steps::laws::safety::every_event_is_safe;
-use at_world::{opening_nodes, take};
 use std::alloc::{AllocError, Allocator, Global};
 use std::marker::Model;
 
@@ -38,7 +38,7 @@ pub struct Drive<A: Allocator = Global> {
 
 impl<A: Allocator> Model for Drive<A> {
     ghost use Rattle.at_drive.specs.Drives.{Driven};
-    ghost use Rattle.at_world.specs.Safety.{AreWithin};
+    ghost use Rattle.at_nodes.specs.Nodes.{AreWithin};
 
     ghost Value = { Driven };
 

@@ -13,7 +13,7 @@ use Rattle.at_drive.specs.declared.step.Step.{Step}
 use Rattle.at_drive.specs.declared.step.Step.TheVariants.{Call, Timer, Poll}
 use Rattle.at_setup.specs.declared.setup.NodeSetup.{NodeSetup}
 use Rattle.at_setup.specs.declared.setup.Setup.{Setup}
-use Rattle.at_world.specs.Plays.{opening_node}
+use Rattle.at_nodes.specs.Openings.{opening_node}
 use Rattle.at_print.specs.Papers.{Page}
 use Rattle.at_print.specs.Printers.{HasFailed, Prints}
 use Rattle.at_print.specs.declared.printer.Printer.{Printer}

@@ -10,8 +10,8 @@ use Rattle.at_schedule.specs.Schedules.{lines_in}
 use Rattle.at_setup.specs.declared.setup.NodeSetup.{NodeSetup}
 use Rattle.at_setup.specs.declared.setup.Setup.{Setup}
 use Rattle.at_held.specs.Openings.{is_set_up, node_of}
-use Rattle.at_world.specs.Plays.{opening_node}
-use Rattle.at_world.specs.Worlds.{is_numbered}
+use Rattle.at_nodes.specs.Openings.{opening_node}
+use Rattle.at_nodes.specs.Nodes.{is_numbered}
 
 pub no_schedule : (text : List ℕ) (number : ℕ)
     → IsAtFault Global (lines_in text) number ⊎ IsCutShort Global (lines_in text) number

@@ -21,7 +21,7 @@ use Rattle.at_node.specs.Hearing.{Hears}
 use Rattle.at_node.specs.Limits.{IsWithin}
 use Rattle.at_node.specs.Nodes.{NodeState, called, timed}
 use Rattle.at_steps.specs.Safety.{IsPlaceOf, IsPlaceOfCall, IsSafe as IsSafeOutcome, Place, number_told}
-use Rattle.at_world.specs.Worlds.{Receives}
+use Rattle.at_nodes.specs.Taking.{Receives}
 
 -- what the layer below promises of each event of a node
 pub record SafetyLaws : Type 0 where

@@ -11,7 +11,7 @@ use Rattle.at_node.specs.Hearing.{Hears}
 use Rattle.at_node.specs.Nodes.{NodeState, called, timed}
 use Rattle.at_node.specs.declared.numbers.Input.{Input}
 use Rattle.at_node.specs.declared.numbers.Input.TheVariants as input
-use Rattle.at_world.specs.Worlds.{Takes}
+use Rattle.at_nodes.specs.Taking.{Takes}
 
 module _ (first before after : List Posted) (old new : NodeState) (r : Report Global) where
   behind_exactly : (o : Outcome Global NodeState) → Exactly o before r new after

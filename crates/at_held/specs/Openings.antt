@@ -7,8 +7,8 @@ use Rattle.at_held.specs.declared.opening.OpenFault.TheVariants as why
 use Rattle.at_node.specs.Nodes.{NodeState}
 use Rattle.at_schedule.specs.Drafts.{HoldsSetup}
 use Rattle.at_setup.specs.declared.setup.Setup.{Setup}
-use Rattle.at_world.specs.Plays.{opening_node}
-use Rattle.at_world.specs.Worlds.{is_numbered}
+use Rattle.at_nodes.specs.Openings.{opening_node}
+use Rattle.at_nodes.specs.Nodes.{is_numbered}
 
 -- the node of this number, if the setup has one, before anything happened
 abbrev pub node_of : Setup Global → ℕ → Option NodeState

@@ -7,7 +7,7 @@ ghost use Rattle.at_held.specs.Safety.{IsSafe};
 ghost use Rattle.at_node.specs.Limits.{IsWithin};
 ghost use Rattle.at_node.specs.Timers.{timers_of};
 ghost use Rattle.at_steps.specs.Safety.{IsPlaceOf, IsPlaceOfCall};
-ghost use Rattle.at_world.specs.Worlds.{Receives, Takes};
+ghost use Rattle.at_nodes.specs.Taking.{Receives, Takes};
 
 use crate::line::{Line, read_line};
 use crate::opening::{OpenFault, node_of};

@@ -1,13 +1,13 @@
 //! The opening of a node.
 ghost use Rattle.std.specs.Prelude.{◌≡◌, find, IfOk, IfErr, Some};
 ghost use Rattle.at_held.specs.Openings.{IsFault, IsFaultOf, IsNodeOf, is_set_up, node_of};
-ghost use Rattle.at_world.specs.Worlds.{is_numbered};
+ghost use Rattle.at_nodes.specs.Nodes.{is_numbered};
 
 use at_faults::Fault;
 use at_node::Node;
+use at_nodes::opening_nodes;
 use at_schedule::read_setup;
 use at_setup::Setup;
-use at_world::opening_nodes;
 use std::alloc::{AllocError, Global};
 
 /// Why no node is opened.

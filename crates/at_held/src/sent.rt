@@ -3,11 +3,11 @@ ghost use Rattle.std.specs.Prelude.{◌≡◌, ◌≢◌, ◌<◌, ◌∷◌, []
 ghost use Rattle.at_ddp.specs.Datagrams.{Posted};
 ghost use Rattle.at_held.specs.Waiting.{nothing_kept, waiting_of};
 ghost use Rattle.at_node.specs.Limits.{IsWithin};
-ghost use Rattle.at_world.specs.Worlds.{Takes};
+ghost use Rattle.at_nodes.specs.Taking.{Takes};
 
 use at_ddp::Datagrams;
 use at_node::{Input, Node, Report};
-use at_world::take;
+use at_nodes::take;
 use std::alloc::Global;
 use std::marker::Model;
 use std::mem;

@@ -9,7 +9,8 @@ use Rattle.at_node.specs.Nodes.{NodeState}
 use Rattle.at_event.specs.Outcomes.{Outcome, Outgoing, posted}
 use Rattle.at_world.specs.Cables.{Cable}
 use Rattle.at_world.specs.Sents.{SentDatagram, stamp}
-use Rattle.at_world.specs.Worlds.{WorldState, is_numbered, node_at, recorded}
+use Rattle.at_nodes.specs.Nodes.{is_numbered}
+use Rattle.at_world.specs.Worlds.{WorldState, node_at, recorded}
 use Rattle.at_ddp.specs.Tables.{replaced}
 use Rattle.at_world.proofs.Nodes.{at_after}
 

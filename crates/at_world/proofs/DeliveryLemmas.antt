@@ -19,8 +19,10 @@ use Rattle.at_setup.specs.declared.refusal.Refusal.TheVariants.{NoDatagram, NotF
 use Rattle.at_setup.specs.declared.refusal.Fault.{Fault}
 use Rattle.at_setup.specs.declared.refusal.Fault.TheVariants as fault
 use Rattle.at_world.specs.Worlds.{WorldState, is_over, node_at, node_refusal, refusal, refusal_at, delivery_refusal}
-use Rattle.at_world.specs.Worlds.{is_for, ComesInTime, DrawsFree, IsFresh, IsTimely, IsPlayable, is_numbered, PlaysAt}
-use Rattle.at_world.specs.Worlds.{Receives, PlaysDelivery, IsFault}
+use Rattle.at_nodes.specs.Nodes.{is_numbered}
+use Rattle.at_world.specs.Worlds.{is_for, ComesInTime, DrawsFree, IsFresh, IsTimely, IsPlayable, PlaysAt}
+use Rattle.at_nodes.specs.Taking.{Receives}
+use Rattle.at_world.specs.Worlds.{PlaysDelivery, IsFault}
 use Rattle.at_world.proofs.WorldLemmas.{node_stands, none_stands, one_stands}
 
 pub refused_at : (A : Type 0) (w : WorldState) (e : Event A) (r : Option Refusal) → is_over w ≡ false → refusal_at w e

@@ -13,7 +13,8 @@ use Rattle.at_setup.specs.declared.refusal.Refusal.TheVariants.{Limit, NoDatagra
 use Rattle.at_setup.specs.declared.refusal.Fault.{Fault}
 use Rattle.at_setup.specs.declared.refusal.Fault.TheVariants as fault
 use Rattle.at_world.specs.Worlds.{WorldState, is_over, DrawsFree, IsPlayable, IsNotTaken, IsFault, Plays, PlaysAt}
-use Rattle.at_world.specs.Worlds.{PlaysDelivery, Takes}
+use Rattle.at_nodes.specs.Taking.{Takes}
+use Rattle.at_world.specs.Worlds.{PlaysDelivery}
 use Rattle.at_world.proofs.DeliveryLemmas.{refused_at}
 use Rattle.at_world.proofs.WorldLemmas.{one_stands}
 

@@ -8,7 +8,8 @@ use Rattle.std.proofs.lemmas.Bool.{and_parts, false≢true, leb-true, ltb-true}
 use Rattle.std.proofs.lemmas.List.{length-map}
 use Rattle.at_setup.specs.declared.setup.NodeSetup.{NodeSetup}
 use Rattle.at_setup.specs.declared.setup.Setup.{Setup}
-use Rattle.at_world.specs.Plays.{opening_node, opening_world, router_of}
+use Rattle.at_nodes.specs.Openings.{opening_node, router_of}
+use Rattle.at_world.specs.Plays.{opening_world}
 use Rattle.at_setup.specs.Setups.{is_lawful_node, is_room, stands_once, has_router, are_in_zones, are_lawful_nodes}
 use Rattle.at_setup.specs.Setups.{is_lawful_table, is_lawful}
 

@@ -14,12 +14,8 @@ mod Nodes
 mod NotedLemmas
 mod Runs
 mod SafetyLemmas
-mod Seats
-mod Seeking
 mod SentLemmas
 mod Sessions
-mod SetupLemmas
-mod Staying
 mod Streams
 mod Tied
 mod TiedAtOpening

@@ -4,7 +4,7 @@ use Rattle.std.specs.Prelude.{find, ◌==◌}
 use Rattle.std.proofs.lemmas.Bool.{eqb-true}
 use Rattle.at_ddp.specs.Tables.{replaced}
 use Rattle.at_node.specs.Nodes.{NodeState}
-use Rattle.at_world.specs.Worlds.{is_numbered}
+use Rattle.at_nodes.specs.Nodes.{is_numbered}
 
 some_same : (a b : NodeState) → Some a ≡ Some b → a ≡ b
 some_same a b h = cc

@@ -6,6 +6,8 @@ use Rattle.at_ddp.specs.Datagrams.{Posted}
 use Rattle.std.proofs.lemmas.Bool.{true≢false}
 use Rattle.at_event.specs.Kinds.{reporter_of}
 use Rattle.at_event.specs.declared.event.Call.{Call}
+use Rattle.at_event.specs.declared.event.Timer.{Timer}
+use Rattle.at_event.specs.declared.service.Reply.{Reply}
 use Rattle.at_event.specs.declared.report.Report.{Report}
 use Rattle.at_event.specs.declared.report.Report.TheVariants.{NoMemory}
 use Rattle.at_node.specs.Hearing.{Hears}
@@ -30,7 +32,7 @@ use Rattle.at_world.proofs.Atp.Happenings.{Follows as FollowsAtp, call_follows, 
 use Rattle.at_world.proofs.Atp.Tables.{tables_follow}
 use Rattle.at_world.proofs.Atp.Tie.{Laws, AtpTie, Grown}
 use Rattle.at_world.proofs.CableTie.{cable_next}
-use Rattle.at_world.proofs.Seats.{KeepsSeat, call_keeps_seat, timer_keeps_seat, hearing_keeps_seat}
+use Rattle.at_nodes.specs.Nodes.{KeepsSeat}
 use Rattle.at_world.proofs.Atp.Coming.{comes}
 use Rattle.at_world.proofs.Names.Coming as names_coming
 use Rattle.at_world.proofs.Names.Happenings as named
@@ -50,12 +52,20 @@ abbrev pub Follow : (A : Type 0) (w : WorldState) (m : Machine) → Tied A w m �
 Follow A w m t e r w' = (m' : Machine) × Step m e r m' × (now : Tied A w' m')
     × Grown A m.cable (m.atp).tables (t.atp).history (now.atp).history e r × (m'.cable ≡ m.cable)
 
+-- a node stays at its seat
+pub record SeatLaws (A : Type 0) : Type 0 where
+  pub called : (n : NodeState) (call : Call A) → KeepsSeat n (called n call)
+  pub timed : (n : NodeState) (time : Timer) → KeepsSeat {A = A} n (timed n time)
+  pub heard : (said : Reply A) (n : NodeState) (bytes : List ℕ) (o : Outcome A NodeState) → Hears said n bytes o
+      → KeepsSeat n o
+
 -- what the layers below promise of each part
 pub record PartLaws (A : Type 0) : Type 0 where
   pub atp : Laws A
   pub names : NameLaws A
   pub streams : StreamLaws A
   pub sessions : SessionLaws A
+  pub seats : SeatLaws A
   pub drawn : (n : NodeState) (call : Call A) → drawn_by (called n call).report ≡ draw_of n call
   pub heard : (n : NodeState) (bytes : List ℕ) (draw : Draw) → IsTold A n bytes draw ↔ DrawsHearing n bytes draw
 
@@ -160,7 +170,7 @@ followed A laws w m (event.Call k call) r w' t sent playable both =
     let runs = still_runs {A = A} w (event.Call k call) playable.allowed in
     let p = both.0 in
     let n = p.node in
-    let seat = call_keeps_seat A n call in
+    let seat = (laws.seats).called n call in
     ⊎_elim
     (of_nothing A w m t (event.Call k call) n p.stands r p.after p.out w' p.booked laws runs)
     (of_good A w m t (event.Call k call) n p.stands r p.after p.out w' p.booked (called n call) seat (
@@ -176,7 +186,7 @@ followed A laws w m (event.Call k call) r w' t sent playable both =
 followed A laws w m (event.Timer k time) r w' t sent playable p =
     let runs = still_runs {A = A} w (event.Timer k time) playable.allowed in
     let n = p.node in
-    let seat = timer_keeps_seat A n time in
+    let seat = (laws.seats).timed n time in
     ⊎_elim
     (of_nothing A w m t (event.Timer k time) n p.stands r p.after p.out w' p.booked laws runs)
     (of_good A w m t (event.Timer k time) n p.stands r p.after p.out w' p.booked (timed n time) seat (
@@ -206,7 +216,7 @@ followed A laws w m (event.Deliver which k) r w' t sent playable d =
     ⊎_elim
     (of_nothing A w m t (event.Deliver which k) n p.stands r p.after p.out w' p.booked laws runs)
     (λ (x : (o : Outcome A NodeState) × Hears said n (d.datagram).bytes o × Its o r p.after p.out). let seat =
-    hearing_keeps_seat A said n (d.datagram).bytes x.0 x.1 in of_good A w m t
+    (laws.seats).heard said n (d.datagram).bytes x.0 x.1 in of_good A w m t
     (event.Deliver which k) n p.stands r p.after p.out w' p.booked x.0 seat (
       datagram_follows A laws.atp w m.cable m.atp t.cable t.atp k n p.stands which d.datagram c free said x.0
           (λ asked. later (ap is_asked (x.2).0 ∙ asked)) x.1 seat,

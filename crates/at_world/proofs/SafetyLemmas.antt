@@ -24,9 +24,12 @@ use Rattle.at_steps.specs.Safety.{IsPlaceOf, IsPlaceOfCall, IsReason, IsSafe as 
 use Rattle.at_steps.specs.Safety.{Place, Reason, number_told}
 use Rattle.at_world.specs.Draws.{noted}
 use Rattle.at_world.specs.Events.{node_of}
-use Rattle.at_world.specs.Safety.{AreWithin, HasNoEffect, IsSafe, KeepsLimits, Safely, Wants}
+use Rattle.at_nodes.specs.Nodes.{AreWithin}
+use Rattle.at_world.specs.Safety.{HasNoEffect, IsSafe, KeepsLimits, Safely, Wants}
 use Rattle.at_world.specs.Sents.{SentDatagram, stamp}
-use Rattle.at_world.specs.Worlds.{WorldState, IsPlayable, Plays, PlaysAt, Receives, is_numbered, is_over, node_at}
+use Rattle.at_nodes.specs.Taking.{Receives}
+use Rattle.at_nodes.specs.Nodes.{is_numbered}
+use Rattle.at_world.specs.Worlds.{WorldState, IsPlayable, Plays, PlaysAt, is_over, node_at}
 use Rattle.at_world.specs.Worlds.{recorded}
 use Rattle.at_setup.specs.declared.refusal.Fault.{Fault}
 use Rattle.at_world.proofs.Runs.{still_runs}

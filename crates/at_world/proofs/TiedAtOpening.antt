@@ -11,9 +11,10 @@ use Rattle.at_world.specs.Cables as cables
 use Rattle.at_world.specs.NameGuards as names
 use Rattle.at_world.specs.StreamGuards as streams
 use Rattle.at_world.specs.Machine.{opening_machine}
-use Rattle.at_world.specs.Plays.{opening_node, opening_world}
+use Rattle.at_nodes.specs.Openings.{opening_node}
+use Rattle.at_world.specs.Plays.{opening_world}
 use Rattle.at_setup.specs.Setups.{is_lawful_node, is_lawful}
-use Rattle.at_world.specs.Worlds.{is_numbered}
+use Rattle.at_nodes.specs.Nodes.{is_numbered}
 use Rattle.at_world.proofs.Atp.Opening.{atp_at_opening}
 use Rattle.at_world.proofs.Atp.Tie.{AtpTie}
 use Rattle.at_world.proofs.CableTie.{CableTie, SeatTie}

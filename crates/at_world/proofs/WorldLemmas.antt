@@ -19,7 +19,8 @@ use Rattle.at_world.specs.Sents.{SentDatagram}
 use Rattle.at_setup.specs.declared.refusal.Refusal.TheVariants.{NotForNode}
 use Rattle.at_setup.specs.declared.refusal.Fault.{Fault}
 use Rattle.at_setup.specs.declared.refusal.Fault.TheVariants as fault
-use Rattle.at_world.specs.Worlds.{WorldState, is_over, is_numbered, node_at, node_refusal, holds_some, recorded}
+use Rattle.at_nodes.specs.Nodes.{is_numbered, holds_some}
+use Rattle.at_world.specs.Worlds.{WorldState, is_over, node_at, node_refusal, recorded}
 use Rattle.at_world.specs.Worlds.{AreFree, PlaysAt, DrawsFree, IsNotTaken, with_event}
 
 -- ---- refusals

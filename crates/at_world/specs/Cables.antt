@@ -4,7 +4,7 @@ use Rattle.at_ddp.specs.declared.address.Address.{Address}
 use Rattle.at_event.specs.declared.report.Report.{Report}
 use Rattle.at_steps.specs.Acts as acts
 use Rattle.at_world.specs.Events.{act_of}
-use Rattle.at_world.specs.Plays.{router_of}
+use Rattle.at_nodes.specs.Openings.{router_of}
 use Rattle.at_setup.specs.declared.event.Event.{Event}
 use Rattle.at_setup.specs.declared.setup.Setup.{Setup}
 

@@ -1,15 +1,14 @@
 -- What is promised of every play, whatever comes to its nodes, forged bytes included. Out of memory and a refusal have
 -- no effect, a number that is told is that of a fault, and the nodes and the world keep to their limits.
 use Rattle.std.specs.Prelude.{◌≡◌, ℕ, ◌≤◌, List, [], ◌∷◌, length, slice_get, take, Some, Result, Ok, Err}
-use Rattle.std.specs.List.{AllByRecursion}
 use Rattle.at_event.specs.declared.report.Report.{Report}
 use Rattle.at_event.specs.declared.report.Report.TheVariants as report
-use Rattle.at_node.specs.Limits.{IsWithin}
 use Rattle.at_node.specs.Nodes.{NodeState}
 use Rattle.at_setup.specs.declared.event.Event.{Event}
 use Rattle.at_setup.specs.declared.event.Event.TheVariants as event
 use Rattle.at_setup.specs.declared.setup.Setup.{Setup}
 use Rattle.at_steps.specs.Safety.{IsPlaceOf, IsPlaceOfCall, IsReason, Place, number_told}
+use Rattle.at_nodes.specs.Nodes.{AreWithin}
 use Rattle.at_world.specs.Events.{node_of}
 use Rattle.at_world.specs.Plays.{opening_world}
 use Rattle.at_world.specs.Sents.{SentDatagram}
@@ -18,10 +17,6 @@ use Rattle.at_world.specs.declared.transcript.Transcript.{Transcript}
 use Rattle.at_world.specs.declared.transcript.PlayFault.{PlayFault}
 
 -- ---- limits
-
--- every node keeps to its limits
-abbrev pub AreWithin : List NodeState → Type 0
-AreWithin nodes = AllByRecursion IsWithin nodes
 
 -- at most 16 nodes stand, which keep to their limits; at most 200,000 events were played and 1,000,000 datagrams sent
 pub record KeepsLimits (w : WorldState) : Type 0 where

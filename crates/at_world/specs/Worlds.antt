@@ -1,22 +1,18 @@
 -- What a world is, which events it refuses, and what each event does to it.
 use Rattle.std.specs.Prelude.{◌≡◌, ℕ, ◌+◌, ◌==◌, ◌||◌, nat_le, nat_lt, if◌then◌else◌, Bool, true, false, List, [], ◌++◌}
 use Rattle.std.specs.Prelude.{length, map, find, slice_get, Option, Some, None}
-use Rattle.std.specs.List.{list_any}
 use Rattle.at_ddp.specs.Datagrams.{Posted}
 use Rattle.at_ddp.specs.Tables.{replaced}
 use Rattle.at_node.specs.declared.numbers.Draw.{Draw}
 use Rattle.at_node.specs.declared.numbers.Input.{Input}
-use Rattle.at_node.specs.declared.numbers.Input.TheVariants as input
 use Rattle.at_event.specs.declared.report.Report.{Report}
-use Rattle.at_event.specs.declared.service.Reply.{Reply}
-use Rattle.at_event.specs.declared.service.Reply.TheVariants as reply
 use Rattle.at_event.specs.Calls.{IsCall}
-use Rattle.at_node.specs.Numbers.{Carries, DrawsHearing, drawn_by, draw_of, holds}
+use Rattle.at_node.specs.Numbers.{Carries, DrawsHearing, drawn_by, draw_of}
 use Rattle.at_node.specs.Numbers.{Draws as DrawsFor}
-use Rattle.at_node.specs.Hearing.{Hears}
 use Rattle.at_node.specs.Nodes.{NodeState, called, timed}
-use Rattle.at_event.specs.Outcomes.{IsStep, Comes}
-use Rattle.at_event.specs.Services.{is_asked}
+use Rattle.at_event.specs.Outcomes.{IsStep}
+use Rattle.at_nodes.specs.Nodes.{holds_some, is_numbered}
+use Rattle.at_nodes.specs.Taking.{Receives}
 use Rattle.at_world.specs.Draws.{Draws, last_of, noted, is_no_later}
 use Rattle.at_world.specs.Sents.{SentDatagram, stamp}
 use Rattle.at_setup.specs.declared.event.Event.{Event}
@@ -32,9 +28,6 @@ pub record WorldState : Type 0 where
   pub last : Draws  -- the event of the last draw of each number of each node
   pub events : ℕ  -- how many were played
   pub failed : Bool  -- the world found no memory of its own
-
-abbrev pub is_numbered : ℕ → NodeState → Bool
-is_numbered k n = n.seat.number == k
 
 abbrev pub node_at : WorldState → ℕ → Option NodeState
 node_at w k = find (is_numbered k) w.nodes
@@ -71,11 +64,6 @@ refusal w e = if is_over w then Some refusals.Limit else refusal_at w e
 abbrev pub IsFresh : WorldState → SentDatagram → Type 0
 IsFresh w s =
     (node : ℕ) (draw : Draw) → Carries s.bytes node draw → is_no_later (last_of w.last node draw) s.event ≡ true
-
--- does some node hold a record or an end under this number of a node? not if there is no number
-abbrev pub holds_some : List NodeState → ℕ → Option Draw → Bool
-holds_some nodes k None = false
-holds_some nodes k (Some draw) = list_any (λ n. holds n k draw) nodes
 
 -- no node holds a record or an end under this number of a node
 abbrev pub IsFree : WorldState → ℕ → Draw → Type 0
@@ -151,17 +139,6 @@ pub record PlaysAt {A : Type 0} (w : WorldState) (k : ℕ)
   pub out : List Posted
   pub steps : S node [] r after out
   pub booked : w' ≡ recorded w k r after out
-
--- a node receives bytes, and its service leaves every answer for later
-abbrev pub Receives : {A : Type 0} → List ℕ → NodeState → List Posted → Report A → NodeState → List Posted → Type 0
-Receives {A} bytes n before r after out =
-    (said : Reply A) × Comes (Hears said n bytes) n before r after out × (is_asked r ≡ true → said ≡ reply.Later)
-
--- a node takes an input
-abbrev pub Takes : {A : Type 0} → Input A → NodeState → List Posted → Report A → NodeState → List Posted → Type 0
-Takes (input.Call call) n before r after out = IsStep (called n call.now) n before r after out
-Takes (input.Timer timer) n before r after out = IsStep (timed n timer) n before r after out
-Takes (input.Received bytes) n before r after out = Receives bytes.now n before r after out
 
 pub record PlaysDelivery {A : Type 0} (w : WorldState) (which k : ℕ) (r : Report A) (w' : WorldState) : Type 0 where
   pub datagram : SentDatagram

@@ -5,19 +5,20 @@ ghost use Rattle.at_world.specs.Draws.{noted};
 ghost use Rattle.std.specs.List.{position_from};
 ghost use Rattle.at_node.specs.Numbers.{Draws, drawn_by};
 ghost use Rattle.at_world.specs.Plays.{opening_world};
-ghost use Rattle.at_world.specs.Safety.{AreWithin, IsSafe};
+ghost use Rattle.at_nodes.specs.Nodes.{AreWithin};
+ghost use Rattle.at_world.specs.Safety.{IsSafe};
 ghost use Rattle.at_world.specs.Worlds.{AreFree, DrawsFree, IsNotTaken, IsPlayable, Plays, PlaysAt};
-ghost use Rattle.at_world.specs.Worlds.{PlaysDelivery, Takes, IsFault, Refuses, refusal, refusal_at, node_refusal};
-ghost use Rattle.at_world.specs.Worlds.{node_at, is_numbered, is_over, with_event};
+ghost use Rattle.at_nodes.specs.Taking.{Takes};
+ghost use Rattle.at_world.specs.Worlds.{PlaysDelivery, IsFault, Refuses, refusal, refusal_at, node_refusal};
+ghost use Rattle.at_nodes.specs.Nodes.{is_numbered};
+ghost use Rattle.at_world.specs.Worlds.{node_at, is_over, with_event};
 
 use crate::draws::LastDraws;
-use crate::opening::opening_nodes;
-use crate::places::{is_held, place_of};
 use crate::sent::SentList;
-use crate::taking::take;
 use crate::timely::is_fresh;
 use at_ddp::Datagrams;
 use at_node::{Draw, Input, Node, Report};
+use at_nodes::{is_held, opening_nodes, place_of, take};
 use at_packet::Packet;
 use at_setup::{Event, Fault, Refusal, Setup};
 use at_steps::laws::safety::every_event_is_safe;
@@ -46,7 +47,7 @@ pub struct World<A: Allocator> {
 
 impl<A: Allocator> Model for World<A> {
     ghost use Rattle.std.specs.Prelude.{◌≡◌, []};
-    ghost use Rattle.at_world.specs.Safety.{AreWithin};
+    ghost use Rattle.at_nodes.specs.Nodes.{AreWithin};
     ghost use Rattle.at_world.specs.Worlds.{WorldState};
 
     ghost Value = { WorldState };

@@ -14,9 +14,10 @@ use Rattle.at_setup.specs.declared.setup.NodeSetup.{NodeSetup}
 use Rattle.at_setup.specs.declared.setup.Setup.{Setup}
 use Rattle.at_world.specs.AtpGuards as atp
 use Rattle.at_world.specs.Cables as cables
-use Rattle.at_world.specs.Plays.{neighbours_of, router_of, opening_node, opening_world, rooms_of}
+use Rattle.at_nodes.specs.Openings.{neighbours_of, router_of, opening_node, rooms_of}
+use Rattle.at_world.specs.Plays.{opening_world}
 use Rattle.at_setup.specs.Setups.{is_lawful, tables_of}
-use Rattle.at_world.specs.Worlds.{is_numbered}
+use Rattle.at_nodes.specs.Nodes.{is_numbered}
 use Rattle.at_world.proofs.Atp.Places.{requester_of, requester_at, service_of, served_of, records_at}
 use Rattle.at_world.proofs.Atp.Tie.{IsReading, AtpTie}
 use Rattle.at_world.proofs.LawfulSetups.{Lawful, SetupLaws, lawful_has}

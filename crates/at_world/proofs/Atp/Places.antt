@@ -9,7 +9,7 @@ use Rattle.at_atp_requester.specs.Requests.{Requests, no_requests}
 use Rattle.at_ddp.specs.Tables.{replaced}
 use Rattle.at_node.specs.AtpParts.{asking, serving, zones_at}
 use Rattle.at_node.specs.Nodes.{NodeState}
-use Rattle.at_world.specs.Worlds.{is_numbered}
+use Rattle.at_nodes.specs.Nodes.{is_numbered}
 use Rattle.at_world.proofs.Nodes.{at_after}
 
 -- ---- the requester at an address: that of the node, at the socket that asks

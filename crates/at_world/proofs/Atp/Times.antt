@@ -17,7 +17,7 @@ use Rattle.at_node.specs.declared.numbers.Draw.{Draw}
 use Rattle.at_node.specs.declared.numbers.Draw.TheVariants.{Conn, Lookup, Tid}
 use Rattle.at_steps.specs.AtpHappenings.{HoldsNo, numbers_drawn}
 use Rattle.at_world.specs.Draws.{Draws, last_of, noted, is_no_later}
-use Rattle.at_world.specs.Worlds.{is_numbered, holds_some}
+use Rattle.at_nodes.specs.Nodes.{is_numbered, holds_some}
 use Rattle.at_world.proofs.NotedLemmas.{Noted, not_later, noted_now, stays_noted}
 use Rattle.at_world.proofs.Atp.Places.{service_of, served_of, records_at}
 

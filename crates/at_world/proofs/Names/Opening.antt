@@ -15,9 +15,10 @@ use Rattle.at_node.specs.Nodes.{NodeState}
 use Rattle.at_world.specs.Cables as cables
 use Rattle.at_world.specs.NameGuards as names
 use Rattle.at_world.specs.NameGuards.{no_names, zone_at}
-use Rattle.at_world.specs.Plays.{joined, neighbours_of, opening_node, opening_world, router_of}
+use Rattle.at_nodes.specs.Openings.{joined, neighbours_of, opening_node, router_of}
+use Rattle.at_world.specs.Plays.{opening_world}
 use Rattle.at_setup.specs.Setups.{are_in_zones, has_router, is_lawful, is_lawful_node, is_zone}
-use Rattle.at_world.specs.Worlds.{is_numbered}
+use Rattle.at_nodes.specs.Nodes.{is_numbered}
 use Rattle.at_setup.specs.declared.setup.NodeSetup.{NodeSetup}
 use Rattle.at_setup.specs.declared.setup.Setup.{Setup}
 use Rattle.at_world.proofs.LawfulSetups.{SetupLaws, lawful_has, node_fits, router_fits}

@@ -4,9 +4,10 @@ use Rattle.std.specs.Prelude.{find, ◌==◌}
 use Rattle.at_node.specs.Nodes.{NodeState}
 use Rattle.at_session.specs.Sessions.{new_session}
 use Rattle.at_world.specs.Cables as cables
-use Rattle.at_world.specs.Plays.{opening_node, opening_world}
+use Rattle.at_nodes.specs.Openings.{opening_node}
+use Rattle.at_world.specs.Plays.{opening_world}
 use Rattle.at_world.specs.SessionGuards as guards
-use Rattle.at_world.specs.Worlds.{is_numbered}
+use Rattle.at_nodes.specs.Nodes.{is_numbered}
 use Rattle.at_setup.specs.declared.setup.NodeSetup.{NodeSetup}
 use Rattle.at_setup.specs.declared.setup.Setup.{Setup}
 use Rattle.at_world.proofs.Sessions.Tie.{HasSession, SessionTie}

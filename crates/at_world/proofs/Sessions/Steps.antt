@@ -24,7 +24,8 @@ use Rattle.at_world.specs.Cables.{Cable}
 use Rattle.at_world.specs.Events.{act_of, node_of}
 use Rattle.at_world.specs.NameGuards.{NameMachine}
 use Rattle.at_world.specs.SessionGuards.{Sessions, Step, with_session}
-use Rattle.at_world.specs.Worlds.{WorldState, is_numbered, node_at, recorded}
+use Rattle.at_nodes.specs.Nodes.{is_numbered}
+use Rattle.at_world.specs.Worlds.{WorldState, node_at, recorded}
 use Rattle.at_setup.specs.declared.event.Event.{Event}
 use Rattle.at_setup.specs.declared.event.Event.TheVariants as event
 use Rattle.at_world.proofs.CableTie.{CableTie, found_after}

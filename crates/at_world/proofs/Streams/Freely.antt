@@ -14,7 +14,8 @@ use Rattle.at_node.specs.declared.numbers.Draw.TheVariants.{Conn}
 use Rattle.at_stream_socket.specs.Sockets.{streams_at}
 use Rattle.at_world.specs.Cables.{Cable}
 use Rattle.at_world.specs.StreamGuards.{StreamMachine}
-use Rattle.at_world.specs.Worlds.{WorldState, IsFree, is_numbered, node_at}
+use Rattle.at_nodes.specs.Nodes.{is_numbered}
+use Rattle.at_world.specs.Worlds.{WorldState, IsFree, node_at}
 use Rattle.at_world.proofs.CableTie.{Wire}
 use Rattle.at_world.proofs.Streams.Tie.{HasEnds, StreamLaws, StreamTie, is_nodes_socket}
 

@@ -23,7 +23,8 @@ use Rattle.at_world.specs.Cables.{Cable}
 use Rattle.at_world.specs.Events.{act_of, node_of}
 use Rattle.at_world.specs.StreamGuards.{StepBy, StreamMachine, next}
 use Rattle.at_world.specs.SessionGuards.{Sessions}
-use Rattle.at_world.specs.Worlds.{WorldState, is_numbered, node_at, recorded}
+use Rattle.at_nodes.specs.Nodes.{is_numbered}
+use Rattle.at_world.specs.Worlds.{WorldState, node_at, recorded}
 use Rattle.at_setup.specs.declared.event.Event.{Event}
 use Rattle.at_world.proofs.CableTie.{Wire, found_after, wire}
 use Rattle.at_world.proofs.Nodes.{at_after}

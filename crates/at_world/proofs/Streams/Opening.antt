@@ -13,10 +13,11 @@ use Rattle.at_adsp.specs.Network.{Setting}
 use Rattle.at_node.specs.Nodes.{NodeState}
 use Rattle.at_steps.specs.StreamHappenings.{is_streams_socket}
 use Rattle.at_world.specs.Cables as cables
-use Rattle.at_world.specs.Plays.{opening_node, opening_world, rooms_of}
+use Rattle.at_nodes.specs.Openings.{opening_node, rooms_of}
+use Rattle.at_world.specs.Plays.{opening_world}
 use Rattle.at_setup.specs.Setups.{is_lawful, is_lawful_node}
 use Rattle.at_world.specs.StreamGuards as guards
-use Rattle.at_world.specs.Worlds.{is_numbered}
+use Rattle.at_nodes.specs.Nodes.{is_numbered}
 use Rattle.at_setup.specs.declared.setup.NodeSetup.{NodeSetup}
 use Rattle.at_setup.specs.declared.setup.Setup.{Setup}
 use Rattle.at_world.proofs.LawfulSetups.{lawful_has, lawful_node}

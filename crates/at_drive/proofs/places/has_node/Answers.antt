@@ -1,7 +1,7 @@
 use Rattle.std.proofs.Common.{sym, ap, ◌∙◌}
 use Rattle.std.specs.Prelude.{is_some}
 use Rattle.at_ddp.proofs.TableLemmas.{found, not_found}
-use Rattle.at_world.specs.Worlds.{is_numbered}
+use Rattle.at_nodes.specs.Nodes.{is_numbered}
 use Rattle.at_drive.proofs.NodeLemmas.{stands_found}
 use Rattle.at_drive.proofs.places.has_node.Goals as goal
 

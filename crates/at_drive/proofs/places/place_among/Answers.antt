@@ -1,6 +1,6 @@
 use Rattle.std.proofs.Common.{sym, ◌∙◌}
 use Rattle.at_ddp.proofs.TableLemmas.{not_found}
-use Rattle.at_world.specs.Worlds.{is_numbered}
+use Rattle.at_nodes.specs.Nodes.{is_numbered}
 use Rattle.at_drive.proofs.NodeLemmas.{some_stands}
 use Rattle.at_drive.proofs.places.place_among.Goals as goal
 

@@ -106,6 +106,11 @@ returns g c s events reports w lawful =
       names = names;
       streams = streams;
       sessions = sessions;
+      seats = record {
+        called = c.a_node_keeps_its_seat.ensures.call;
+        timed = c.a_node_keeps_its_seat.ensures.timer;
+        heard = c.a_node_keeps_its_seat.ensures.bytes;
+      };
       drawn = draws.call;
       heard = draws.bytes;
     } in

@@ -1,7 +1,7 @@
 use Rattle.std.proofs.Common.{◌≡◌, ◌∙◌, Some, sym, ap, arith}
 use Rattle.at_ddp.proofs.TableLemmas.{found}
 use Rattle.at_node.specs.Nodes.{NodeState}
-use Rattle.at_world.specs.Worlds.{is_numbered}
+use Rattle.at_nodes.specs.Nodes.{is_numbered}
 use Rattle.at_world.proofs.WorldLemmas.{free_at, held_at}
 use Rattle.at_world.proofs.world.draws_held.Goals as goal
 

@@ -10,4 +10,4 @@ returns-clause-driven g c =
       failed = c.args.self.now.failed;
     } in
     let same = ap with_log c.arrival.ensures.log in
-    rw (c.of-received.ensures, c.in_ok-arrival.ensures.arrival, same) at c.play.ensures.driven
+    rw (c.of-packet.ensures, c.in_ok-arrival.ensures.arrival, same) at c.play.ensures.driven

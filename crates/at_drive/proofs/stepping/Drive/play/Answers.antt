@@ -5,8 +5,9 @@ use Rattle.at_ddp.specs.Datagrams.{Datagrams}
 use Rattle.at_ddp.specs.Tables.{replaced}
 use Rattle.at_node.specs.Limits.{IsWithin}
 use Rattle.at_node.specs.Nodes.{NodeState}
-use Rattle.at_world.specs.Safety.{AreWithin}
-use Rattle.at_world.specs.Worlds.{Takes, is_numbered}
+use Rattle.at_nodes.specs.Nodes.{AreWithin}
+use Rattle.at_nodes.specs.Taking.{Takes}
+use Rattle.at_nodes.specs.Nodes.{is_numbered}
 use Rattle.at_drive.specs.Drives.{Driven, Logged, logged, number_of}
 use Rattle.at_drive.specs.Logs.{news_of}
 use Rattle.at_drive.specs.Steps.{stands_in}

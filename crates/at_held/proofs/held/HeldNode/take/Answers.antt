@@ -1,5 +1,5 @@
 use Rattle.std.proofs.Common.{refl, subst}
-use Rattle.at_world.specs.Worlds.{Takes}
+use Rattle.at_nodes.specs.Taking.{Takes}
 use Rattle.at_held.specs.Held.{HeldState}
 use Rattle.at_held.specs.Waiting.{waiting_of}
 use Rattle.at_held.proofs.StepLemmas.{wants_none}

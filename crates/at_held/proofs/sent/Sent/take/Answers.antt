@@ -2,7 +2,7 @@ use Rattle.std.proofs.Common.{◌≡◌, ◌++◌, arith, drop, length, subst, s
 use Rattle.std.proofs.lemmas.Bool.Decides.{nat_tests}
 use Rattle.at_held.proofs.StepLemmas.{alone_waiting, behind_waiting}
 use Rattle.at_held.specs.Waiting.{Kept, waiting_of}
-use Rattle.at_world.specs.Worlds.{Takes}
+use Rattle.at_nodes.specs.Taking.{Takes}
 use Rattle.at_held.proofs.sent.Sent.take.Goals as goal
 
 -- The lists change places.

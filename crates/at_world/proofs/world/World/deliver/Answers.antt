@@ -6,9 +6,11 @@ use Rattle.at_ddp.proofs.Alls.{all_replaced}
 use Rattle.at_ddp.proofs.TableLemmas.{Found, found_by, none_by}
 use Rattle.at_node.specs.Limits.{IsWithin}
 use Rattle.at_node.specs.Numbers.{DrawsHearing}
-use Rattle.at_world.specs.Safety.{AreWithin}
+use Rattle.at_nodes.specs.Nodes.{AreWithin}
 use Rattle.at_world.specs.Sents.{SentDatagram}
-use Rattle.at_world.specs.Worlds.{AreFree, Receives, WorldState, is_for, is_numbered, node_at, node_refusal}
+use Rattle.at_nodes.specs.Taking.{Receives}
+use Rattle.at_nodes.specs.Nodes.{is_numbered}
+use Rattle.at_world.specs.Worlds.{AreFree, WorldState, is_for, node_at, node_refusal}
 use Rattle.at_setup.specs.declared.refusal.Fault.TheVariants as fault
 use Rattle.at_world.proofs.DeliveryLemmas.{HeardFree, delivered, for_it, for_same, fresh_there, held_there}
 use Rattle.at_world.proofs.DeliveryLemmas.{not_delivered, not_sent, stale_there}

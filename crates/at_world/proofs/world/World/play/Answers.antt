@@ -5,8 +5,10 @@ use Rattle.at_ddp.specs.Datagrams.{Posted}
 use Rattle.at_ddp.proofs.Alls.{all_replaced}
 use Rattle.at_ddp.proofs.TableLemmas.{Found, found_by, none_by}
 use Rattle.at_node.specs.Limits.{IsWithin}
-use Rattle.at_world.specs.Safety.{AreWithin}
-use Rattle.at_world.specs.Worlds.{WorldState, is_numbered, Takes}
+use Rattle.at_nodes.specs.Nodes.{AreWithin}
+use Rattle.at_nodes.specs.Nodes.{is_numbered}
+use Rattle.at_nodes.specs.Taking.{Takes}
+use Rattle.at_world.specs.Worlds.{WorldState}
 use Rattle.at_world.proofs.WorldLemmas.{all_free, if_ok, node_stands, none_stands, not_taken, one_stands, recorded_by}
 use Rattle.at_world.proofs.WorldLemmas.{some_held, taken}
 use Rattle.at_world.proofs.world.World.play.Given.{Over}

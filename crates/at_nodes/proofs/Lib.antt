@@ -1,0 +1,4 @@
+mod Seats
+mod Seeking
+mod SetupLemmas
+mod Staying

@@ -1,0 +1,46 @@
+-- A node that takes an input stays where it stands.
+use Rattle.std.proofs.Common.{◌≡◌, Bool, true, false, List, ap, ◌∙◌}
+use Rattle.std.specs.Prelude.{MatchBool}
+use Rattle.at_ddp.specs.Datagrams.{Posted}
+use Rattle.at_event.specs.Outcomes.{Comes, Exactly, IsStep, Outcome, takes_memory, wants_memory}
+use Rattle.at_event.specs.declared.report.Report.{Report}
+use Rattle.at_node.specs.Hearing.{Hears}
+use Rattle.at_node.specs.Nodes.{NodeState, called, timed}
+use Rattle.at_node.specs.declared.numbers.Input.{Input}
+use Rattle.at_node.specs.declared.numbers.Input.TheVariants as input
+use Rattle.at_nodes.specs.Taking.{Takes}
+use Rattle.at_nodes.specs.Nodes.{KeepsSeat}
+use Rattle.at_nodes.proofs.Seats.{call_keeps_seat, timer_keeps_seat, hearing_keeps_seat}
+
+exactly_stays : (A : Type 0) (o : Outcome A NodeState) (old new : NodeState) (before after : List Posted) (r : Report A)
+    → KeepsSeat old o → Exactly o before r new after → new.seat ≡ old.seat
+exactly_stays A o old new before after r keeps h = ap (λ (n : NodeState). n.seat) h.1 ∙ keeps
+
+step_stays : (A : Type 0) (o : Outcome A NodeState) (old new : NodeState) (before after : List Posted) (r : Report A)
+    → KeepsSeat old o → IsStep o old before r new after → new.seat ≡ old.seat
+step_stays A o old new before after r keeps = go (wants_memory r)
+  where
+    go : (b : Bool) → MatchBool b ((new ≡ old) × (after ≡ before) × (takes_memory o.report ≡ true))
+        (Exactly o before r new after) → new.seat ≡ old.seat
+    go true h = ap (λ (n : NodeState). n.seat) h.0
+    go false h = exactly_stays A o old new before after r keeps h
+
+coming_stays : (A : Type 0) (May : Outcome A NodeState → Type 0) (old new : NodeState) (before after : List Posted)
+    (r : Report A) → ((o : Outcome A NodeState) → May o → KeepsSeat old o) → Comes May old before r new after
+    → new.seat ≡ old.seat
+coming_stays A May old new before after r keeps = go (wants_memory r)
+  where
+    go : (b : Bool) → MatchBool b
+        ((new ≡ old) × (after ≡ before) × ((o : Outcome A NodeState) × May o × (takes_memory o.report ≡ true)))
+        ((o : Outcome A NodeState) × May o × Exactly o before r new after) → new.seat ≡ old.seat
+    go true h = ap (λ (n : NodeState). n.seat) h.0
+    go false h = exactly_stays A h.0 old new before after r (keeps h.0 h.1) h.2
+
+pub taking_stays : (A : Type 0) (i : Input A) (old new : NodeState) (before after : List Posted) (r : Report A)
+    → Takes i old before r new after → new.seat ≡ old.seat
+taking_stays A (input.Call call) old new before after r h =
+    step_stays A (called old call.now) old new before after r (call_keeps_seat A old call.now) h
+taking_stays A (input.Timer timer) old new before after r h =
+    step_stays A (timed old timer) old new before after r (timer_keeps_seat A old timer) h
+taking_stays A (input.Received bytes) old new before after r h =
+    coming_stays A (Hears h.0 old bytes.now) old new before after r (hearing_keeps_seat A h.0 old bytes.now) h.1

@@ -1,7 +1,0 @@
-use Rattle.std.proofs.Common.{◌≡◌, take}
-use Rattle.at_world.specs.Plays.{neighbours_of}
-use Rattle.at_world.proofs.opening.neighbours_of.Given as goal
-
--- the nodes so far are known, if they are in zones
-abbrev pub invariant-loop-n : goal.invariant-loop-n
-invariant-loop-n g l = l.neighbours.items ≡ neighbours_of (take l.n-index l.nodes)
