@@ -2,10 +2,12 @@
 
 from __future__ import annotations
 
+import hashlib
 import os
 import shutil
 import sys
 from importlib import machinery, util
+from pathlib import Path
 from typing import Any
 
 
@@ -27,3 +29,16 @@ def load() -> Any:
 def crates(rt: Any) -> dict[str, Any]:
     """The crates of the repository, by their names."""
     return {it.name: it for it in rt.rtlib.crates_below(os.getcwd())}
+
+
+def sum_of(rt: Any, crate: Any, known: dict[str, str]) -> str:
+    """A sum of the toolchain, and of what a crate and those below it are made of. The sums that are known are kept, since
+    many crates stand on the same ones."""
+    if crate.name not in known:
+        parts = [Path(rt.KIT, "KIT-ID").read_bytes(), repr(crate.said).encode()]
+        for folder in ("src", "specs", "proofs"):
+            for file in sorted(it for it in Path(crate.folder, folder).rglob("*") if it.is_file()):
+                parts += [str(file.relative_to(crate.folder)).encode(), file.read_bytes()]
+        parts += [sum_of(rt, dep, known).encode() for dep in crate.deps]
+        known[crate.name] = hashlib.sha256(repr(parts).encode()).hexdigest()
+    return known[crate.name]
