@@ -51,15 +51,15 @@ ROWS = [
     [
         Layer(
             "wire",
-            "datagrams, packets, cables",
-            "at_ddp at_atp_frame at_adsp_frame at_cable at_udp",
+            "datagrams, packets, cables, captures",
+            "at_ddp at_atp_frame at_adsp_frame at_cable at_udp at_pcap",
         )
     ],
 ]
 BESIDE = Layer(
     "tests",
     "tests and examples",
-    "refusing at_core_tests at_cable_tests example_programs example_capture",
+    "refusing at_core_tests at_cable_tests at_capture_tests example_programs example_capture",
 )
 
 WIDTH, EDGE, BETWEEN, BELOW = 860, 20, 24, 26

@@ -1,0 +1,5 @@
+pub mod Captures
+pub mod Faults
+pub mod Kept
+pub mod Orders
+pub mod Readings
