@@ -52,7 +52,7 @@ ROWS = [
         Layer(
             "wire",
             "datagrams, packets, cables, captures",
-            "at_ddp at_atp_frame at_adsp_frame at_cable at_udp at_pcap",
+            "at_ddp at_atp_frame at_adsp_frame at_cable at_udp at_pcap at_frames",
         )
     ],
 ]

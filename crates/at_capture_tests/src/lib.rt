@@ -1,8 +1,10 @@
-//! Tests of capture files, of what no clause says: written bytes against the format, readers that split the bytes, reads
-//! that fail, and memory that is refused.
+//! Tests of capture files and of frames, of what no clause says: written bytes against the formats, readers that split
+//! the bytes, reads that fail, and memory that is refused.
 #![tactic(auto)]
 
 #[cfg(test)]
 mod captures;
+#[cfg(test)]
+mod frames;
 #[cfg(test)]
 mod pieces;

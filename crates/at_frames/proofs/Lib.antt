@@ -1,0 +1,9 @@
+mod EtherTalkLemmas
+mod FrameLemmas
+mod IpLemmas
+mod LlapLemmas
+mod LlcLemmas
+mod PlaceLemmas
+mod ShortLemmas
+mod Steps
+mod TagLemmas

@@ -1,0 +1,11 @@
+pub mod Carried
+pub mod Carries
+pub mod Cooked
+pub mod Ethernet
+pub mod EtherTalk
+pub mod Frames
+pub mod Ip
+pub mod Llap
+pub mod Llc
+pub mod Short
+pub mod ShortFaults
