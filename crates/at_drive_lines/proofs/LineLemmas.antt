@@ -1,6 +1,6 @@
 -- The lines that were read of a text, and the steps among them.
 use Rattle.std.proofs.Common.{◌≡◌, ℕ, ◌<◌, length, true, false, List, [], ◌∷◌, ◌++◌, refl, sym, ap, subst, ◌∙◌, append-nil}
-use Rattle.std.proofs.Common.{append_assoc, cond, filter, map, IfSome, None, Option, Some}
+use Rattle.std.proofs.Common.{append_assoc, arith, cond, filter, map, IfSome, None, Option, Some}
 use Rattle.std.proofs.lemmas.List.{map-append}
 use Rattle.std.proofs.lemmas.List.Elements.{filter-append}
 use Rattle.std.specs.Io.BufRead.{DropsThrough, drop_through, first_piece}
@@ -37,6 +37,15 @@ line_comes law (Some text) new line is drops = (
   law text is.0 ∙ ap (λ l. l ∷ lines_in (drop_through 10 text)) (sym is.1),
   ap lines_of drops,
 )
+
+-- where bytes are left, a line is left
+pub some_left : ((rest : List ℕ) → 0 < length rest
+    → lines_in rest ≡ first_piece 10 rest ∷ lines_in (drop_through 10 rest)) → (known : Option (List ℕ))
+    → IfSome known (λ text. 0 < length text) → IfSome (lines_of known) (λ lines. 0 < length lines)
+some_left law None some = tt
+some_left law (Some text) some =
+    let parts = law text some in
+    let long = ap length parts in omega (arith, long)
 
 -- no line was read
 pub none_come : (first : Option (List (List ℕ))) → HaveCome first [] first

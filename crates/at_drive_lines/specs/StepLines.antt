@@ -52,6 +52,11 @@ MoreSteps lines steps =
     (said later : List (List (List ℕ))) × (line : List (List ℕ)) × (step_words lines ≡ said ++ line ∷ later)
     × AllZip AreStep said steps
 
+-- after the lines that say these steps another line is left
+abbrev pub LineLeft : {A : Type 0} → List (List ℕ) → List (Step A) → Type 0
+LineLeft lines steps =
+    (read later : List (List ℕ)) × (line : List ℕ) × (lines ≡ read ++ line ∷ later) × SaySteps read steps
+
 -- the first of them do, and the next one says this step
 abbrev pub NextSays : {A : Type 0} → List (List ℕ) → List (Step A) → Step A → Type 0
 NextSays lines steps s =

@@ -1,12 +1,13 @@
 //! The lines of a text, one after another.
-ghost use Rattle.std.specs.Prelude.{◌≡◌, ◌<◌, ◌^◌, Bool, List, ℕ, Option, Ok, Some, IfErr, false, length, true};
+ghost use Rattle.std.specs.Prelude.{◌≡◌, ◌<◌, ◌^◌, Bool, List, ℕ, Option, Err, Ok, Some, IfErr, IfSome, false, length};
+ghost use Rattle.std.specs.Prelude.{true};
 ghost use Rattle.at_faults.specs.Reads.{IsOfRead};
 ghost use Rattle.at_schedule.specs.Schedules.{lines_in};
 ghost use Rattle.at_drive_lines.specs.Lines.{HasNext, IsLast, lines_of};
 
 use at_faults::{Fault, Unreadable};
 use at_schedule::laws::first_line;
-use at_schedule::{cut_line, next_line};
+use at_schedule::{cut_line, read_line};
 use std::alloc::{AllocError, Allocator, Global};
 use std::io::{BufRead, BufReader, Read};
 
@@ -30,7 +31,9 @@ pub trait Lines {
         ensures less { result ≡ Ok true → most self.new < most self.old }
         ensures few { most self.old < 2 ^ 64 }
         ensures end { result ≡ Ok false → IsLast (left self.old) }
-        ensures failed { IfErr result (λ fault. IsOfRead fault × (may_fail ≡ true)) };
+        ensures failed { IfErr result (λ fault. IsOfRead fault × (may_fail ≡ true)) }
+        // Memory is missing only for a line that is left.
+        ensures memory { result ≡ Err Fault.NoMemory → IfSome (left self.old) (λ lines. 0 < length lines) };
 
     /// The line that was read last, without its line feed.
     fn line(&self) -> &[u8]
@@ -117,10 +120,7 @@ impl<B: BufRead, A: Allocator> Lines for ReadLines<B, A> {
             return Err(Fault::Unreadable(Unreadable::Failed));
         }
         self.turns -= 1;
-        match next_line(&mut self.reader, &mut self.room) {
-            Ok(more) => Ok(more),
-            Err(error) => Err(Fault::from(error)),
-        }
+        read_line(&mut self.reader, &mut self.room)
     }
 
     fn line(&self) -> &[u8] {

@@ -3,18 +3,18 @@ use Rattle.std.proofs.Common.{◌≡◌, ◌⊎◌, ℕ, ◌+◌, ◌<◌, ◌�
 use Rattle.std.proofs.Common.{refl, sym, ap, subst, ◌∙◌, arith, IfSome, None, Option, Some}
 use Rattle.std.proofs.lemmas.List.{length-append}
 use Rattle.std.proofs.lemmas.List.Elements.{All-nil, All-push}
-use Rattle.std.specs.Prelude.{Result, slice_get}
+use Rattle.std.specs.Prelude.{◌||◌, nat_le, Result, slice_get}
 use Rattle.std.specs.List.{All, AllZip}
 use Rattle.at_words.specs.Words.{words_of}
 use Rattle.at_cable.specs.declared.fault.CableFault.{CableFault}
 use Rattle.at_setup.specs.declared.setup.Setup.{Setup}
-use Rattle.at_drive.specs.Drives.{Driven as Nodes, Drives, no_log, with_log}
+use Rattle.at_drive.specs.Drives.{Driven as Nodes, Drives, IsLeft, no_log, with_log}
 use Rattle.at_drive.specs.Steps.{has_all, node_of, numbers_of, stands_in}
 use Rattle.at_drive.specs.declared.step.Step.{Step}
 use Rattle.at_drive_lines.specs.Drafts.{BeginsSo}
 use Rattle.at_drive_lines.specs.Lines.{HasNext, HaveCome, IsLast}
 use Rattle.at_drive_lines.specs.Says.{AreStep, IsStepHere}
-use Rattle.at_drive_lines.specs.StepLines.{BeginSteps, IsStepOf, IsUnfit, MoreSteps, NextSays, SaySteps}
+use Rattle.at_drive_lines.specs.StepLines.{BeginSteps, IsStepOf, IsUnfit, LineLeft, MoreSteps, NextSays, SaySteps}
 use Rattle.at_drive_lines.specs.StepLines.{is_step_line, step_words}
 use Rattle.at_drive_lines.proofs.LineLemmas.{all_come, come_on, next_comes, none_come, words_at, words_of_both}
 use Rattle.at_drive_lines.proofs.LineLemmas.{words_over}
@@ -24,8 +24,10 @@ use Rattle.at_print.specs.Printers.{Prints}
 use Rattle.at_print.specs.declared.printer.Printer.{Printer}
 use Rattle.at_print.proofs.PrintLemmas.{Prints-nothing, Prints-trans}
 use Rattle.at_drive_text.specs.Courses.{EndsLine, IsGoing, TellsLine}
-use Rattle.at_drive_text.specs.Driven.{Goes, IsUnread, Tells, WasRead, news_text, number_of}
-use Rattle.at_drive_text.specs.Driven.{sent_count}
+use Rattle.at_diagnostics.specs.declared.diagnostics.Diagnostics.{Diagnostics}
+use Rattle.at_drive_text.specs.Driven.{Goes, IsUnread, Place, Tells, WasRead, first_place, news_text, next_place}
+use Rattle.at_drive_text.specs.Driven.{number_of, sent_count}
+use Rattle.at_drive_text.specs.Told.{TellsStep}
 use Rattle.at_drive_text.specs.declared.course.Course.{Course}
 use Rattle.at_drive_text.specs.declared.ending.Ending.{Ending}
 use Rattle.at_drive_text.specs.declared.ending.Ending.TheVariants as ending
@@ -44,15 +46,35 @@ module _ {A : Type 0} (first : Option (List (List ℕ))) (read : List (List ℕ)
       go (Some lines) (later, is, left) =
           (step_words read, step_words later, ap step_words is ∙ words_of_both read later, said)
 
-  more_said : (line : List ℕ) (after : Option (List (List ℕ))) → HaveCome first read now → HasNext now line after
-      → is_step_line line ≡ true → SaySteps read steps → IfSome first (λ lines. MoreSteps lines steps)
-  more_said line after come next is said = go first come
+  more_said : (may_fail : Bool) (line : List ℕ) (after : Option (List (List ℕ))) → HaveCome first read now
+      → HasNext now line after → is_step_line line ≡ true → SaySteps read steps
+      → IfSome first (λ lines. MoreSteps lines steps ⊎ ((may_fail ≡ true) × LineLeft lines steps))
+  more_said may_fail line after come next is said = go first come
     where
-      go : (f : Option (List (List ℕ))) → HaveCome f read now → IfSome f (λ lines. MoreSteps lines steps)
+      go : (f : Option (List (List ℕ))) → HaveCome f read now
+          → IfSome f (λ lines. MoreSteps lines steps ⊎ ((may_fail ≡ true) × LineLeft lines steps))
       go None come = tt
       go (Some lines) come =
           let (later, parts) = next_comes lines read now line after come next in
+          inl
           (step_words read, step_words later, words_of line, ap step_words parts ∙ words_at read later line is, said)
+
+  some_left : (lines later : List (List ℕ)) → lines ≡ read ++ later → 0 < length later → SaySteps read steps
+      → LineLeft lines steps
+  some_left lines [] is some said = absurd (omega (arith, some))
+  some_left lines (line ∷ later) is some said = (read, later, line, is, said)
+
+  line_left : (may_fail : Bool) → may_fail ≡ true → HaveCome first read now
+      → IfSome now (λ lines. 0 < length lines) → SaySteps read steps
+      → IfSome first (λ lines. MoreSteps lines steps ⊎ ((may_fail ≡ true) × LineLeft lines steps))
+  line_left may_fail may come some said = go first come
+    where
+      go : (f : Option (List (List ℕ))) → HaveCome f read now
+          → IfSome f (λ lines. MoreSteps lines steps ⊎ ((may_fail ≡ true) × LineLeft lines steps))
+      go None come = tt
+      go (Some lines) (later, is, left) =
+          let more : 0 < length later = subst (λ k. IfSome k (λ ls. 0 < length ls)) left some in
+          inr (may, some_left lines later is more said)
 
   next_said : (line : List ℕ) (after : Option (List (List ℕ))) (next : Option (Step A)) → HaveCome first read now
       → HasNext now line after → is_step_line line ≡ true → SaySteps read steps
@@ -103,33 +125,42 @@ EachFits setup =
 
 -- ---- a drive so far
 
--- These steps were driven, which the lines so far say, and this is printed of them. The drive counted them, and what they
--- sent.
-pub record Sofar {A C W : Type 0} (S : C → ℕ → ℕ → List ℕ → Result (Unit {0}) CableFault → C → Type 0)
-    (R : C → ℕ → ℕ → Result (Option (List ℕ)) CableFault → C → Type 0) (page : W → Page) (setup : Setup A)
-    (first : Option (List (List ℕ))) (start : Nodes) (c : C) (old : Printer W) (now : Option (List (List ℕ)))
-    (o : Course A) (d : Nodes) (c' : C) (p : Printer W) : Type 0 where
+-- These steps were driven, which the lines so far say, and this is printed of them. The drive counted them, what they
+-- sent, and whether a call of the cable failed.
+pub record Sofar {A C W E : Type 0} (S : C → ℕ → ℕ → List ℕ → Result (Unit {0}) CableFault → C → Type 0)
+    (R : C → ℕ → ℕ → Result (Option (List ℕ)) CableFault → C → Type 0) (page : W → Page) (heard : E → Page)
+    (setup : Setup A) (first : Option (List (List ℕ))) (start : Place C E) (old : Printer W)
+    (now : Option (List (List ℕ))) (o : Course A) (d : Nodes) (c' : C) (p : Printer W) (x : Diagnostics E)
+    : Type 0 where
   pub steps : List (Step A)
   pub text : List ℕ
-  pub n : ℕ
-  pub tells : Tells S R 0 0 steps start c d c' n text
+  pub place : Place C E
+  pub tells : Tells S R heard 0 steps start place text
+  pub nodes : place.nodes ≡ d
+  pub cable : place.cable ≡ c'
+  pub told : place.told ≡ x
   pub read : List (List ℕ)
   pub come : HaveCome first read now
   pub said : SaySteps read steps
   pub stand : has_all setup steps ≡ true
   pub here : All (IsStepHere setup.net) steps
   pub printed : Prints page old p text
-  pub going : IsGoing setup (length steps) n o
+  pub going : IsGoing setup (length steps) place.sent place.has_failed o
 
-module _ {A C W : Type 0} (S : C → ℕ → ℕ → List ℕ → Result (Unit {0}) CableFault → C → Type 0)
-    (R : C → ℕ → ℕ → Result (Option (List ℕ)) CableFault → C → Type 0) (page : W → Page) (setup : Setup A)
-    (first : Option (List (List ℕ))) (start : Nodes) (c : C) (old : Printer W) where
-  pub nothing_driven : (o : Course A) → IsGoing setup 0 0 o → Sofar S R page setup first start c old first o start c old
-  nothing_driven o going = record {
+module _ {A C W E : Type 0} (S : C → ℕ → ℕ → List ℕ → Result (Unit {0}) CableFault → C → Type 0)
+    (R : C → ℕ → ℕ → Result (Option (List ℕ)) CableFault → C → Type 0) (page : W → Page) (heard : E → Page)
+    (setup : Setup A) (first : Option (List (List ℕ))) where
+  pub nothing_driven : (d : Nodes) (c : C) (x : Diagnostics E) (old : Printer W) (o : Course A)
+      → IsGoing setup 0 0 false o
+      → Sofar S R page heard setup first (first_place d c x) old first o d c old x
+  nothing_driven d c x old o going = record {
     steps = [];
     text = [];
-    n = 0;
-    tells = (refl, refl, refl, refl);
+    place = first_place d c x;
+    tells = (refl, refl);
+    nodes = refl;
+    cable = refl;
+    told = refl;
     read = [];
     come = none_come first;
     said = tt;
@@ -140,15 +171,14 @@ module _ {A C W : Type 0} (S : C → ℕ → ℕ → List ℕ → Result (Unit {
   }
 
   -- there was no memory for the opening
-  pub not_opened : (may_fail : Bool) → Goes S R page setup first may_fail start c old c old (Err (ending.NoMemory 0))
-  not_opened may_fail = record {
+  pub not_opened : (may_fail : Bool) (d : Nodes) (c : C) (x : Diagnostics E) (old : Printer W)
+      → Goes S R page heard setup first may_fail (first_place d c x) old c old x (Err (ending.NoMemory 0))
+  not_opened may_fail d c x old = record {
     steps = [];
     text = [];
+    place = first_place d c x;
     tells = (
-      start,
-      0,
-      c,
-      (refl, refl, refl, refl),
+      (refl, refl),
       record {
         counted = refl;
         begin = begin_said first [] first [] (none_come first) tt;
@@ -158,199 +188,228 @@ module _ {A C W : Type 0} (S : C → ℕ → ℕ → List ℕ → Result (Unit {
         left = refl;
       },
     );
+    told = refl;
     stand = refl;
     here = All-nil (IsStepHere setup.net);
     printed = Prints-nothing page old;
   }
 
-  module _ (now after : Option (List (List ℕ))) (line : List ℕ) (o : Course A) (d : Nodes) (b : C) (p : Printer W)
-      (o' : Course A) (d' : Nodes) (b' : C) (p' : Printer W) (so : Sofar S R page setup first start c old now o d b p)
-      (next : HasNext now line after) where
-    step_more : is_step_line line ≡ true → TellsLine S R page true line o d b p o' d' b' p'
-        → (more : Sofar S R page setup first start c old after o' d' b' p') × (o'.at ≡ o.at + 1)
-    step_more is (s, says, here, stands, t) =
-        let (same, at, number) = so.going in
-        let came = t.came in
-        let k = sent_count (slice_get came.sent 0) in
-        let text = news_text (length so.steps) so.n came in
-        let news : news_text o.at o.number came ≡ text =
-        (λ i. news_text (at i) (number i) came) ∙ news_from (length so.steps) so.n came in
-        let place : o.at ≡ 0 + length so.steps = omega (arith, at) in
-        let zero : 0 + length so.steps ≡ length so.steps = omega arith in (
+  module _ (start : Place C E) (old : Printer W) where
+    module _ (now after : Option (List (List ℕ))) (line : List ℕ) (o : Course A) (d : Nodes) (b : C) (p : Printer W)
+        (x : Diagnostics E) (o' : Course A) (d' : Nodes) (b' : C) (p' : Printer W) (x' : Diagnostics E)
+        (so : Sofar S R page heard setup first start old now o d b p x) (next : HasNext now line after) where
+      step_more : is_step_line line ≡ true → TellsLine S R page heard true line o d b p x o' d' b' p' x'
+          → (more : Sofar S R page heard setup first start old after o' d' b' p' x') × (o'.at ≡ o.at + 1)
+      step_more is (s, says, here, stands, t) =
+          let (same, at, number, failed) = so.going in
+          let came = t.came in
+          let q = so.place in
+          let k = sent_count (slice_get came.sent 0) in
+          let text = news_text (length so.steps) q.sent came in
+          let news : news_text o.at o.number came ≡ text =
+          (λ i. news_text (at i) (number i) came) ∙ news_from (length so.steps) q.sent came in
+          let spot : o.at ≡ 0 + length so.steps = omega (arith, at) in
+          let zero : 0 + length so.steps ≡ length so.steps = omega arith in
+          let from_place = subst (λ (e : Nodes). Drives S R o.at s (with_log e no_log) q.cable (with_log d' came) b')
+          (sym so.nodes) (subst (λ (e : C). Drives S R o.at s (with_log d no_log) e (with_log d' came) b')
+          (sym so.cable) t.drives) in
+          let told_on = subst (λ (e : Bool). TellsStep heard o.at e came q.told x') failed
+          (subst (λ (e : Diagnostics E). TellsStep heard o.at o.has_failed came e x') (sym so.told) t.told) in (
+            record {
+              steps = so.steps ++ s ∷ [];
+              text = so.text ++ text;
+              place = next_place q d' b' came x';
+              tells = subst (λ i. Tells S R heard 0 (so.steps ++ s ∷ []) start (next_place q d' b' came x')
+                  (so.text ++ news_text i q.sent came)) zero
+                  (and_one S R heard 0 so.steps s start q d' came b' x' so.text so.tells
+                  (subst (λ (i : ℕ). Drives S R i s (with_log q.nodes no_log) q.cable (with_log d' came) b') spot
+                  from_place)
+                  (subst (λ (i : ℕ). TellsStep heard i q.has_failed came q.told x') spot told_on));
+              nodes = refl;
+              cable = refl;
+              told = refl;
+              read = so.read ++ line ∷ [];
+              come = come_on first so.read now line after so.come next;
+              said = said_more so.read so.steps line s so.said is says;
+              stand = all_more (λ y. stands_in (numbers_of setup) (node_of y)) so.steps s so.stand
+                  (subst (λ e. IsStepOf e s) same stands);
+              here = All-push (IsStepHere setup.net) so.steps s so.here (subst (λ e. IsStepHere e.net s) same here);
+              printed = Prints-trans page old p p' so.text text so.printed
+                  (subst (Prints page p p') news t.printed);
+              going = (
+                ap (λ e. e.now) t.setup ∙ same,
+                omega (arith, t.at, at, length-append so.steps (s ∷ [])),
+                counted o.number q.sent k o'.number number t.number,
+                t.failed ∙ ap (λ e. e || nat_le 1 (length came.faults)) failed,
+              );
+            },
+            t.at,
+          )
+        where
+          counted : (m n k next : ℕ) → m ≡ number_of n → next ≡ number_of (m + k) → next ≡ number_of (n + k)
+          counted m n k next is more = omega (arith, is, more)
+
+      line_more : (e : Bool) → is_step_line line ≡ e → TellsLine S R page heard e line o d b p x o' d' b' p' x'
+          → Sofar S R page heard setup first start old after o' d' b' p' x'
+      line_more true is told = (step_more is told).0
+      line_more false is (same, alike, lies, prints, silent) = record {
+        steps = so.steps;
+        text = so.text;
+        place = so.place;
+        tells = so.tells;
+        nodes = so.nodes ∙ sym alike;
+        cable = so.cable ∙ sym lies;
+        told = so.told ∙ sym silent;
+        read = so.read ++ line ∷ [];
+        come = come_on first so.read now line after so.come next;
+        said = said_over so.read so.steps line so.said is;
+        stand = so.stand;
+        here = so.here;
+        printed = subst (λ e. Prints page old e so.text) (sym prints) so.printed;
+        going = subst (IsGoing setup (length so.steps) (so.place).sent (so.place).has_failed) (sym same) so.going;
+      }
+
+      pub sofar_line : TellsLine S R page heard (is_step_line line) line o d b p x o' d' b' p' x'
+          → Sofar S R page heard setup first start old after o' d' b' p' x'
+      sofar_line told = line_more (is_step_line line) refl told
+
+      -- ---- the drive ends at the line
+
+      no_longer : (may_fail : Bool) → WasRead setup first may_fail
+          → EachFits setup → (after_step : Bool) → (after_step ≡ true → ¬ (o.at ≡ 0)) → IsUnfit setup after_step line
+          → may_fail ≡ true
+      no_longer true was law after_step some unfit = refl
+      no_longer false was law after_step some unfit =
+          let (lines, port, known, begins) = was refl in
+          let come : HaveCome (Some lines) so.read now = subst (λ f. HaveCome f so.read now) known so.come in
+          let (later, parts) = next_comes lines so.read now line after come next in
+          absurd (law port lines so.read later line after_step begins parts
+          (λ is none. some is (so.going.1 ∙ ap length (none_driven so.read so.steps so.said none))) unfit)
+
+      pub sofar_ended : (may_fail : Bool) (e : Ending) → WasRead setup first may_fail
+          → EachFits setup → EndsLine S R page heard line o d b p x o' d' b' p' x' e
+          → Goes S R page heard setup first may_fail start old b' p' x' (Err e)
+      sofar_ended may_fail (ending.NoMemory at) was law (is, spot, printer, silent, (step, says, left)) = record {
+        steps = so.steps;
+        text = so.text;
+        place = so.place;
+        tells = (
+          so.tells,
           record {
-            steps = so.steps ++ s ∷ [];
-            text = so.text ++ text;
-            n = so.n + k;
-            tells = subst (λ i. Tells S R 0 0 (so.steps ++ s ∷ []) start c d' b' (so.n + k)
-                (so.text ++ news_text i so.n came)) zero
-                (and_one S R 0 0 so.steps s start c d b d' came b' so.n so.text so.tells
-                (subst (λ i. Drives S R i s (with_log d no_log) b (with_log d' came) b') place t.drives));
-            read = so.read ++ line ∷ [];
-            come = come_on first so.read now line after so.come next;
-            said = said_more so.read so.steps line s so.said is says;
-            stand = all_more (λ y. stands_in (numbers_of setup) (node_of y)) so.steps s so.stand
-                (subst (λ x. IsStepOf x s) same stands);
-            here = All-push (IsStepHere setup.net) so.steps s so.here (subst (λ x. IsStepHere x.net s) same here);
-            printed = Prints-trans page old p p' so.text text so.printed
-                (subst (Prints page p p') news t.printed);
-            going = (
-              ap (λ x. x.now) t.setup ∙ same,
-              omega (arith, t.at, at, length-append so.steps (s ∷ [])),
-              counted o.number so.n k o'.number number t.number,
-            );
+            counted = spot ∙ so.going.1;
+            begin = begin_said first so.read now so.steps so.come so.said;
+            there = inr (more_said first so.read now so.steps may_fail line after so.come next is so.said);
+            next = step;
+            says = next_said first so.read now so.steps line after step so.come next is so.said says;
+            left = subst (λ e. IsLeft R step e b') (sym so.cable) left;
           },
-          t.at,
-        )
-      where
-        counted : (m n k next : ℕ) → m ≡ number_of n → next ≡ number_of (m + k) → next ≡ number_of (n + k)
-        counted m n k next is more = omega (arith, is, more)
+        );
+        told = silent ∙ sym so.told;
+        stand = so.stand;
+        here = so.here;
+        printed = subst (λ e. Prints page old e so.text) (sym printer) so.printed;
+      }
+      sofar_ended may_fail (ending.Unwritten at) was law (is, spot, line_told, failed) =
+          let (more, one) = step_more is line_told in record {
+            steps = more.steps;
+            text = more.text;
+            place = more.place;
+            tells = (
+              more.tells,
+              sym more.cable,
+              ap (λ k. k + 1) spot ∙ sym one ∙ more.going.1,
+              begin_said first more.read after more.steps more.come more.said,
+            );
+            told = sym more.told;
+            stand = more.stand;
+            here = more.here;
+            printed = more.printed;
+          }
+      sofar_ended may_fail (ending.Unread fault) was law (reading, (after_step, some, unfit), cable, printer, silent) =
+          record {
+            steps = so.steps;
+            text = so.text;
+            place = so.place;
+            tells = (
+              so.tells,
+              cable ∙ sym so.cable,
+              reading,
+              no_longer may_fail was law after_step some (subst (λ e. IsUnfit e after_step line) so.going.0 unfit),
+              begin_said first so.read now so.steps so.come so.said,
+            );
+            told = silent ∙ sym so.told;
+            stand = so.stand;
+            here = so.here;
+            printed = subst (λ e. Prints page old e so.text) (sym printer) so.printed;
+          }
 
-    line_more : (e : Bool) → is_step_line line ≡ e → TellsLine S R page e line o d b p o' d' b' p'
-        → Sofar S R page setup first start c old after o' d' b' p'
-    line_more true is told = (step_more is told).0
-    line_more false is (same, nodes, cable, printer) = record {
-      steps = so.steps;
-      text = so.text;
-      n = so.n;
-      tells = subst (λ x. Tells S R 0 0 so.steps start c x b' so.n so.text) (sym nodes)
-          (subst (λ x. Tells S R 0 0 so.steps start c d x so.n so.text) (sym cable) so.tells);
-      read = so.read ++ line ∷ [];
-      come = come_on first so.read now line after so.come next;
-      said = said_over so.read so.steps line so.said is;
-      stand = so.stand;
-      here = so.here;
-      printed = subst (λ x. Prints page old x so.text) (sym printer) so.printed;
-      going = subst (IsGoing setup (length so.steps) so.n) (sym same) so.going;
-    }
+    -- ---- no line is left, or none can be read
 
-    pub sofar_line : TellsLine S R page (is_step_line line) line o d b p o' d' b' p'
-        → Sofar S R page setup first start c old after o' d' b' p'
-    sofar_line told = line_more (is_step_line line) refl told
+    module _ (now : Option (List (List ℕ))) (o : Course A) (d : Nodes) (b : C) (p : Printer W) (x : Diagnostics E)
+        (so : Sofar S R page heard setup first start old now o d b p x) (may_fail : Bool) where
+      pub sofar_done : IsLast now → Goes S R page heard setup first may_fail start old b p x (Ok tt)
+      sofar_done last = record {
+        steps = so.steps;
+        text = so.text;
+        place = so.place;
+        tells = (so.tells, sym so.cable, all_said first so.read now so.steps so.come last so.said);
+        told = sym so.told;
+        stand = so.stand;
+        here = so.here;
+        printed = so.printed;
+      }
 
-    -- ---- the drive ends at the line
-
-    no_longer : (may_fail : Bool) → WasRead setup first may_fail
-        → EachFits setup → (after_step : Bool) → (after_step ≡ true → ¬ (o.at ≡ 0)) → IsUnfit setup after_step line
-        → may_fail ≡ true
-    no_longer true was law after_step some unfit = refl
-    no_longer false was law after_step some unfit =
-        let (lines, port, known, begins) = was refl in
-        let come : HaveCome (Some lines) so.read now = subst (λ f. HaveCome f so.read now) known so.come in
-        let (later, parts) = next_comes lines so.read now line after come next in
-        absurd (law port lines so.read later line after_step begins parts
-        (λ is none. some is (so.going.1 ∙ ap length (none_driven so.read so.steps so.said none))) unfit)
-
-    pub sofar_ended : (may_fail : Bool) (e : Ending) → WasRead setup first may_fail
-        → EachFits setup → EndsLine S R page line o d b p o' d' b' p' e
-        → Goes S R page setup first may_fail start c old b' p' (Err e)
-    sofar_ended may_fail (ending.NoMemory at) was law (is, place, printer, (step, says, left)) = record {
-      steps = so.steps;
-      text = so.text;
-      tells = (
-        d,
-        so.n,
-        b,
-        so.tells,
-        record {
-          counted = place ∙ so.going.1;
-          begin = begin_said first so.read now so.steps so.come so.said;
-          there = inr (inr (more_said first so.read now so.steps line after so.come next is so.said));
-          next = step;
-          says = next_said first so.read now so.steps line after step so.come next is so.said says;
-          left = left;
-        },
-      );
-      stand = so.stand;
-      here = so.here;
-      printed = subst (λ x. Prints page old x so.text) (sym printer) so.printed;
-    }
-    sofar_ended may_fail (ending.Unwritten at) was law (is, place, told, failed) =
-        let (more, one) = step_more is told in record {
-          steps = more.steps;
-          text = more.text;
-          tells = (
-            d',
-            more.n,
-            more.tells,
-            ap (λ k. k + 1) place ∙ sym one ∙ more.going.1,
-            begin_said first more.read after more.steps more.come more.said,
-          );
-          stand = more.stand;
-          here = more.here;
-          printed = more.printed;
-        }
-    sofar_ended may_fail (ending.Unread fault) was law (reading, (after_step, some, unfit), cable, printer) = record {
-      steps = so.steps;
-      text = so.text;
-      tells = (
-        d,
-        so.n,
-        subst (λ x. Tells S R 0 0 so.steps start c d x so.n so.text) (sym cable) so.tells,
-        reading,
-        no_longer may_fail was law after_step some (subst (λ x. IsUnfit x after_step line) so.going.0 unfit),
-        begin_said first so.read now so.steps so.come so.said,
-      );
-      stand = so.stand;
-      here = so.here;
-      printed = subst (λ x. Prints page old x so.text) (sym printer) so.printed;
-    }
-
-  -- ---- no line is left, or none can be read
-
-  module _ (now : Option (List (List ℕ))) (o : Course A) (d : Nodes) (b : C) (p : Printer W)
-      (so : Sofar S R page setup first start c old now o d b p) (may_fail : Bool) where
-    pub sofar_done : IsLast now → Goes S R page setup first may_fail start c old b p (Ok tt)
-    sofar_done last = record {
-      steps = so.steps;
-      text = so.text;
-      tells = (d, so.n, so.tells, all_said first so.read now so.steps so.come last so.said);
-      stand = so.stand;
-      here = so.here;
-      printed = so.printed;
-    }
-
-    pub sofar_unread : (e : Ending) → IsUnread o.at e → may_fail ≡ true
-        → Goes S R page setup first may_fail start c old b p (Err e)
-    sofar_unread (ending.NoMemory at) place may = record {
-      steps = so.steps;
-      text = so.text;
-      tells = (
-        d,
-        so.n,
-        b,
-        so.tells,
-        record {
-          counted = place ∙ so.going.1;
-          begin = begin_said first so.read now so.steps so.come so.said;
-          there = inr (inl may);
-          next = None;
-          says = tt;
-          left = refl;
-        },
-      );
-      stand = so.stand;
-      here = so.here;
-      printed = so.printed;
-    }
-    sofar_unread (ending.Unwritten at) place may = absurd place
-    sofar_unread (ending.Unread fault) reading may = record {
-      steps = so.steps;
-      text = so.text;
-      tells = (d, so.n, so.tells, reading, may, begin_said first so.read now so.steps so.come so.said);
-      stand = so.stand;
-      here = so.here;
-      printed = so.printed;
-    }
+      pub sofar_unread : (e : Ending) → IsUnread now o.at e → may_fail ≡ true
+          → Goes S R page heard setup first may_fail start old b p x (Err e)
+      sofar_unread (ending.NoMemory at) (spot, some) may = record {
+        steps = so.steps;
+        text = so.text;
+        place = so.place;
+        tells = (
+          so.tells,
+          record {
+            counted = spot ∙ so.going.1;
+            begin = begin_said first so.read now so.steps so.come so.said;
+            there = inr (line_left first so.read now so.steps may_fail may so.come some so.said);
+            next = None;
+            says = tt;
+            left = sym so.cable;
+          },
+        );
+        told = sym so.told;
+        stand = so.stand;
+        here = so.here;
+        printed = so.printed;
+      }
+      sofar_unread (ending.Unwritten at) none may = absurd none
+      sofar_unread (ending.Unread fault) reading may = record {
+        steps = so.steps;
+        text = so.text;
+        place = so.place;
+        tells = (
+          so.tells,
+          sym so.cable,
+          reading,
+          may,
+          begin_said first so.read now so.steps so.come so.said,
+        );
+        told = sym so.told;
+        stand = so.stand;
+        here = so.here;
+        printed = so.printed;
+      }
 
 -- ---- counts
 
-pub at_grows : {A C W : Type 0} (S : C → ℕ → ℕ → List ℕ → Result (Unit {0}) CableFault → C → Type 0)
-    (R : C → ℕ → ℕ → Result (Option (List ℕ)) CableFault → C → Type 0) (page : W → Page) (e : Bool) (line : List ℕ)
-    (o : Course A) (d : Nodes) (c : C) (p : Printer W) (o' : Course A) (d' : Nodes) (c' : C) (p' : Printer W)
-    → TellsLine S R page e line o d c p o' d' c' p' → o'.at ≤ o.at + 1
-at_grows S R page true line o d c p o' d' c' p' (s, says, here, stands, t) = let one = t.at in omega (arith, one)
-at_grows S R page false line o d c p o' d' c' p' (same, nodes, cable, printer) =
-    let at : o'.at ≡ o.at = ap (λ x. x.at) same in omega (arith, at)
+pub at_grows : {A C W E : Type 0} (S : C → ℕ → ℕ → List ℕ → Result (Unit {0}) CableFault → C → Type 0)
+    (R : C → ℕ → ℕ → Result (Option (List ℕ)) CableFault → C → Type 0) (page : W → Page) (heard : E → Page) (e : Bool)
+    (line : List ℕ) (o : Course A) (d : Nodes) (c : C) (p : Printer W) (x : Diagnostics E) (o' : Course A) (d' : Nodes)
+    (c' : C) (p' : Printer W) (x' : Diagnostics E)
+    → TellsLine S R page heard e line o d c p x o' d' c' p' x' → o'.at ≤ o.at + 1
+at_grows S R page heard true line o d c p x o' d' c' p' x' (s, says, here, stands, t) =
+    let one = t.at in omega (arith, one)
+at_grows S R page heard false line o d c p x o' d' c' p' x' (same, nodes, cable, printer, told) =
+    let at : o'.at ≡ o.at = ap (λ e. e.at) same in omega (arith, at)
 
 pub bounded : {T : Type 0} (most : T → ℕ) (first now : T) → (now ≡ first) ⊎ (most first < 2 ^ 64)
     → most now < 2 ^ 64 → most first < 2 ^ 64

@@ -1,67 +1,63 @@
 -- A drive is told one step further.
-use Rattle.std.proofs.Common.{◌≡◌, ℕ, suc, ◌+◌, List, [], ◌∷◌, ◌++◌, length, Some, None, inl}
+use Rattle.std.proofs.Common.{◌≡◌, ℕ, suc, ◌+◌, List, [], ◌∷◌, ◌++◌, length}
 use Rattle.std.proofs.Common.{true, false, Ok, Err, refl, sym, ap, subst, ◌∙◌, append-nil, append_assoc, arith}
 use Rattle.std.proofs.Common.{map}
-use Rattle.std.specs.Prelude.{Result, Option, OnErr, OnOk, slice_get}
+use Rattle.std.specs.Prelude.{Result, Option, OnErr, OnOk}
 use Rattle.std.specs.Result.{is_err}
 use Rattle.std.proofs.lemmas.Bool.{true≢false}
 use Rattle.at_cable.specs.declared.fault.CableFault.{CableFault}
-use Rattle.at_drive.specs.Drives.{Driven as Nodes, Drives, IsLeft, Logged, no_log, number_of as node_number}
+use Rattle.at_drive.specs.Drives.{Driven as Nodes, Drives, Logged, no_log, number_of as node_number}
 use Rattle.at_drive.specs.Drives.{opening_nodes_of, with_log}
 use Rattle.at_drive.specs.Steps.{number_in, numbers_of}
 use Rattle.at_drive.specs.declared.step.Step.{Step}
-use Rattle.at_drive.specs.declared.step.Step.TheVariants.{Call, Timer, Poll}
 use Rattle.at_setup.specs.declared.setup.NodeSetup.{NodeSetup}
 use Rattle.at_setup.specs.declared.setup.Setup.{Setup}
 use Rattle.at_nodes.specs.Openings.{opening_node}
 use Rattle.at_print.specs.Papers.{Page}
 use Rattle.at_print.specs.Printers.{HasFailed, Prints}
 use Rattle.at_print.specs.declared.printer.Printer.{Printer}
-use Rattle.at_drive_text.specs.Driven.{Tells, news_text, sent_count}
+use Rattle.at_diagnostics.specs.declared.diagnostics.Diagnostics.{Diagnostics}
+use Rattle.at_drive_text.specs.Driven.{Place, Tells, news_text, next_place}
+use Rattle.at_drive_text.specs.Told.{TellsStep}
 
-module _ {A C : Type 0} (S : C → ℕ → ℕ → List ℕ → Result (Unit {0}) CableFault → C → Type 0)
-    (R : C → ℕ → ℕ → Result (Option (List ℕ)) CableFault → C → Type 0) where
-  pub and_one : (at n : ℕ) (ss : List (Step A)) (s : Step A) (d : Nodes) (c : C) (mid : Nodes) (between : C) (d' : Nodes)
-      (l : Logged A) (c' : C) (m : ℕ) (text : List ℕ) → Tells S R at n ss d c mid between m text
-      → Drives S R (at + length ss) s (with_log mid no_log) between (with_log d' l) c'
-      → Tells S R at n (ss ++ s ∷ []) d c d' c' (m + sent_count (slice_get l.sent 0))
-      (text ++ news_text (at + length ss) m l)
-  and_one at n [] s d c mid between d' l c' m text (same, alike, count, none) last =
+-- one step more, from the place that the steps before it left
+module _ {A C E : Type 0} (S : C → ℕ → ℕ → List ℕ → Result (Unit {0}) CableFault → C → Type 0)
+    (R : C → ℕ → ℕ → Result (Option (List ℕ)) CableFault → C → Type 0) (heard : E → Page) where
+  pub and_one : (at : ℕ) (ss : List (Step A)) (s : Step A) (p q : Place C E) (d : Nodes) (l : Logged A) (c : C)
+      (x : Diagnostics E) (text : List ℕ) → Tells S R heard at ss p q text
+      → Drives S R (at + length ss) s (with_log q.nodes no_log) q.cable (with_log d l) c
+      → TellsStep heard (at + length ss) q.has_failed l q.told x
+      → Tells S R heard at (ss ++ s ∷ []) p (next_place q d c l x) (text ++ news_text (at + length ss) q.sent l)
+  and_one at [] s p q d l c x text (same, none) last told =
       let here : at + 0 ≡ at = omega arith in
-      let from_d : Drives S R (at + 0) s (with_log d no_log) c (with_log d' l) c' =
-      subst (λ b. Drives S R (at + 0) s (with_log d no_log) b (with_log d' l) c') alike
-      (subst (λ x. Drives S R (at + 0) s (with_log x no_log) between (with_log d' l) c') same last) in
-      let printed : text ++ news_text (at + 0) m l ≡ news_text at n l ++ [] =
-      ap (λ t. t ++ news_text (at + 0) m l) none ∙ (λ i. news_text (here i) (count i) l)
-      ∙ sym (append-nil (news_text at n l)) in
-      let counted : m + sent_count (slice_get l.sent 0) ≡ n + sent_count (slice_get l.sent 0) =
-      (λ i. count i + sent_count (slice_get l.sent 0)) in (
-        d',
+      let from_p = subst (λ (i : ℕ). Drives S R i s (with_log p.nodes no_log) p.cable (with_log d l) c) here
+      (subst (λ (y : Place C E). Drives S R (at + 0) s (with_log y.nodes no_log) y.cable (with_log d l) c) same last) in
+      let told_p = subst (λ (i : ℕ). TellsStep heard i p.has_failed l p.told x) here
+      (subst (λ (y : Place C E). TellsStep heard (at + 0) y.has_failed l y.told x) same told) in
+      let printed : text ++ news_text (at + 0) q.sent l ≡ news_text at p.sent l ++ [] =
+      ap (λ t. t ++ news_text (at + 0) q.sent l) none
+      ∙ (λ i. news_text (here i) (same i).sent l) ∙ sym (append-nil (news_text at p.sent l)) in (
+        d,
         l,
-        c',
+        c,
+        x,
         [],
-        subst (λ i. Drives S R i s (with_log d no_log) c (with_log d' l) c') here from_d,
-        (refl, refl, counted, refl),
+        from_p,
+        told_p,
+        (ap (λ (y : Place C E). next_place y d c l x) same, refl),
         printed,
       )
-  and_one at n (x ∷ ss) s d c mid between d' l c' m text (next, came, after, rest, drives, tells, is) last =
+  and_one at (a ∷ ss) s p q d l c x text (mid, came, between, y, rest, drives, told, tells, is) last last_told =
       let there : at + suc (length ss) ≡ at + 1 + length ss = omega arith in
-      let later = subst (λ i. Drives S R i s (with_log mid no_log) between (with_log d' l) c') there last in
-      let more = and_one (at + 1) (n + sent_count (slice_get came.sent 0)) ss s next after mid between d' l c' m rest
-      tells later in
-      let first = news_text at n came in
-      let news = λ (i : ℕ). news_text i m l in
+      let later = subst (λ (i : ℕ). Drives S R i s (with_log q.nodes no_log) q.cable (with_log d l) c) there last in
+      let later_told = subst (λ (i : ℕ). TellsStep heard i q.has_failed l q.told x) there last_told in
+      let more = and_one (at + 1) ss s (next_place p mid between came y) q d l c x rest tells later later_told in
+      let first = news_text at p.sent came in
+      let news = λ (i : ℕ). news_text i q.sent l in
       let printed : text ++ news (at + suc (length ss)) ≡ first ++ (rest ++ news (at + 1 + length ss)) =
       ap (λ t. t ++ news (at + suc (length ss))) is ∙ append_assoc first rest (news (at + suc (length ss)))
       ∙ ap (λ i. first ++ (rest ++ news i)) there in
-      (next, came, after, rest ++ news (at + 1 + length ss), drives, more, printed)
-
-  -- a cable that was not asked is left as it was
-  pub left_alone : (o : Option (Step A)) (c : C) → IsLeft R o c c
-  left_alone None c = refl
-  left_alone (Some (Call k call)) c = refl
-  left_alone (Some (Timer k timer)) c = refl
-  left_alone (Some (Poll k)) c = inl refl
+      (mid, came, between, y, rest ++ news (at + 1 + length ss), drives, told, more, printed)
 
 -- what holds of an answer that is, or is not, an error
 pub if_err : {T E : Type 0} (r : Result T E) (P : Type 0) → is_err r ≡ true → OnErr r P → P

@@ -1,6 +1,6 @@
 -- What is printed of a drive: of each step what came of it. S and R say what may come of a send and of a receive on the
 -- cable.
-use Rattle.std.specs.Prelude.{◌≡◌, ◌↔◌, ◌⊎◌, ℕ, ◌+◌, ◌-◌, ◌^◌, ◌&&◌, nat_le, min, if◌then◌else◌, Bool, List}
+use Rattle.std.specs.Prelude.{◌≡◌, ◌↔◌, ◌⊎◌, ℕ, ◌+◌, ◌-◌, ◌^◌, ◌<◌, ◌&&◌, ◌||◌, nat_le, min, if◌then◌else◌, Bool, List}
 use Rattle.std.specs.Prelude.{[], ◌∷◌, ◌++◌, codes, length, slice_get, Option, Some, None, Result, Ok, Err, IfSome}
 use Rattle.std.specs.Prelude.{IsOk, false, true}
 use Rattle.std.specs.Fmt.{decimal}
@@ -14,8 +14,11 @@ use Rattle.at_drive.specs.Steps.{has_all}
 use Rattle.at_drive.specs.declared.step.Step.{Step}
 use Rattle.at_drive_lines.specs.Drafts.{BeginsSo}
 use Rattle.at_drive_lines.specs.Says.{IsStepHere}
-use Rattle.at_drive_lines.specs.StepLines.{BeginSteps, MoreSteps, NextSays, SaySteps}
+use Rattle.at_drive_lines.specs.StepLines.{BeginSteps, LineLeft, MoreSteps, NextSays, SaySteps}
+use Rattle.at_diagnostics.specs.Diagnostics.{TellsWrites}
 use Rattle.at_diagnostics.specs.Stops.{IsOfReading, text_fault_line}
+use Rattle.at_diagnostics.specs.declared.diagnostics.Diagnostics.{Diagnostics}
+use Rattle.at_drive_text.specs.Told.{TellsEnd, TellsStep}
 use Rattle.at_drive_text.specs.declared.ending.Ending.{Ending}
 use Rattle.at_drive_text.specs.declared.ending.Ending.TheVariants as ending
 use Rattle.at_print.specs.Papers.{Page}
@@ -66,54 +69,79 @@ news_text at n l =
 
 -- ---- a whole drive
 
--- These steps are driven, of which the first is at this place, and before which so many datagrams were sent. Of each
--- this is printed.
-abbrev pub Tells : {A C : Type 0} → (C → ℕ → ℕ → List ℕ → Result (Unit {0}) CableFault → C → Type 0)
-    → (C → ℕ → ℕ → Result (Option (List ℕ)) CableFault → C → Type 0) → ℕ → ℕ → List (Step A) → Nodes → C
-    → Nodes → C → ℕ → List ℕ → Type 0
-Tells S R at n [] d c d' c' n' text = (d' ≡ d) × (c' ≡ c) × (n' ≡ n) × (text ≡ [])
-Tells {A} {C} S R at n (s ∷ ss) d c d' c' n' text =
-    (mid : Nodes) × (l : Logged A) × (between : C) × (rest : List ℕ)
-    × Drives S R at s (with_log d no_log) c (with_log mid l) between
-    × Tells S R (at + 1) (n + sent_count (slice_get l.sent 0)) ss mid between d' c' n' rest
-    × (text ≡ news_text at n l ++ rest)
+-- how far a drive is: its nodes, the cable, how many datagrams were sent, whether a call of the cable failed, and what a
+-- person was told
+pub record Place (C E : Type 0) : Type 0 where
+  pub nodes : Nodes
+  pub cable : C
+  pub sent : ℕ
+  pub has_failed : Bool
+  pub told : Diagnostics E
+
+-- before any step
+abbrev pub first_place : {C E : Type 0} → Nodes → C → Diagnostics E → Place C E
+first_place d c x = record { nodes = d; cable = c; sent = 0; has_failed = false; told = x }
+
+-- after a step of which this came
+abbrev pub next_place : {A C E : Type 0} → Place C E → Nodes → C → Logged A → Diagnostics E → Place C E
+next_place p d c l x = record {
+  nodes = d;
+  cable = c;
+  sent = p.sent + sent_count (slice_get l.sent 0);
+  has_failed = p.has_failed || nat_le 1 (length l.faults);
+  told = x;
+}
+
+-- These steps are driven, of which the first is at this number. Of each this is printed, and told what has to be.
+abbrev pub Tells : {A C E : Type 0} → (C → ℕ → ℕ → List ℕ → Result (Unit {0}) CableFault → C → Type 0)
+    → (C → ℕ → ℕ → Result (Option (List ℕ)) CableFault → C → Type 0) → (E → Page) → ℕ → List (Step A) → Place C E
+    → Place C E → List ℕ → Type 0
+Tells S R heard at [] p p' text = (p' ≡ p) × (text ≡ [])
+Tells {A} {C} {E} S R heard at (s ∷ ss) p p' text =
+    (mid : Nodes) × (l : Logged A) × (between : C) × (x : Diagnostics E) × (rest : List ℕ)
+    × Drives S R at s (with_log p.nodes no_log) p.cable (with_log mid l) between
+    × TellsStep heard at p.has_failed l p.told x
+    × Tells S R heard (at + 1) ss (next_place p mid between l x) p' rest
+    × (text ≡ news_text at p.sent l ++ rest)
 
 -- The drive found no memory before the step at this place, or for it. That is the first step, or one that a line says, or
--- a line could not be read. A step that was not driven leaves the cable as it was, but at a poll.
+-- a line that is left could not be read. A step that was not driven leaves the cable as it was, but at a poll.
 pub record LacksMemory {A C : Type 0} (R : C → ℕ → ℕ → Result (Option (List ℕ)) CableFault → C → Type 0)
     (known : Option (List (List ℕ))) (may_fail : Bool) (steps : List (Step A)) (at : ℕ) (c c' : C) : Type 0 where
   pub counted : at ≡ length steps
   pub begin : IfSome known (λ lines. BeginSteps lines steps)
-  pub there : (steps ≡ []) ⊎ ((may_fail ≡ true) ⊎ IfSome known (λ lines. MoreSteps lines steps))
+  pub there : (steps ≡ []) ⊎ IfSome known
+      (λ lines. MoreSteps lines steps ⊎ ((may_fail ≡ true) × LineLeft lines steps))
   pub next : Option (Step A)
   pub says : IfSome next (λ s. IfSome known (λ lines. NextSays lines steps s))
   pub left : IsLeft R next c c'
 
 -- All steps that the lines say were driven, and this is printed of them. Or a write failed at a step, which is the last
 -- one then. Or there was no memory for a step. Or a line could not be read, or says no step any more.
-abbrev pub TellsDrive : {A C : Type 0} → (C → ℕ → ℕ → List ℕ → Result (Unit {0}) CableFault → C → Type 0)
-    → (C → ℕ → ℕ → Result (Option (List ℕ)) CableFault → C → Type 0) → Option (List (List ℕ)) → Bool
-    → List (Step A) → Nodes → C → C → Result (Unit {0}) Ending → List ℕ → Type 0
-TellsDrive {A} S R known may_fail steps start c c' (Ok u) text =
-    (d : Nodes) × (n : ℕ) × Tells S R 0 0 steps start c d c' n text × IfSome known (λ lines. SaySteps lines steps)
-TellsDrive {A} S R known may_fail steps start c c' (Err (ending.Unwritten at)) text =
-    (d : Nodes) × (n : ℕ) × Tells S R 0 0 steps start c d c' n text × (at + 1 ≡ length steps)
+abbrev pub TellsDrive : {A C E : Type 0} → (C → ℕ → ℕ → List ℕ → Result (Unit {0}) CableFault → C → Type 0)
+    → (C → ℕ → ℕ → Result (Option (List ℕ)) CableFault → C → Type 0) → (E → Page) → Option (List (List ℕ)) → Bool
+    → List (Step A) → Place C E → Place C E → C → Result (Unit {0}) Ending → List ℕ → Type 0
+TellsDrive S R heard known may_fail steps p p' c' (Ok u) text =
+    Tells S R heard 0 steps p p' text × (c' ≡ p'.cable) × IfSome known (λ lines. SaySteps lines steps)
+TellsDrive S R heard known may_fail steps p p' c' (Err (ending.Unwritten at)) text =
+    Tells S R heard 0 steps p p' text × (c' ≡ p'.cable) × (at + 1 ≡ length steps)
     × IfSome known (λ lines. BeginSteps lines steps)
-TellsDrive {A} {C} S R known may_fail steps start c c' (Err (ending.NoMemory at)) text =
-    (d : Nodes) × (n : ℕ) × (mid : C) × Tells S R 0 0 steps start c d mid n text
-    × LacksMemory R known may_fail steps at mid c'
-TellsDrive {A} S R known may_fail steps start c c' (Err (ending.Unread fault)) text =
-    (d : Nodes) × (n : ℕ) × Tells S R 0 0 steps start c d c' n text × IsOfReading fault × (may_fail ≡ true)
+TellsDrive S R heard known may_fail steps p p' c' (Err (ending.NoMemory at)) text =
+    Tells S R heard 0 steps p p' text × LacksMemory R known may_fail steps at p'.cable c'
+TellsDrive S R heard known may_fail steps p p' c' (Err (ending.Unread fault)) text =
+    Tells S R heard 0 steps p p' text × (c' ≡ p'.cable) × IsOfReading fault × (may_fail ≡ true)
     × IfSome known (λ lines. BeginSteps lines steps)
 
--- From these nodes on, steps of the setup's nodes and on its network were driven, and this was printed of them.
-pub record Goes {A C W : Type 0} (S : C → ℕ → ℕ → List ℕ → Result (Unit {0}) CableFault → C → Type 0)
-    (R : C → ℕ → ℕ → Result (Option (List ℕ)) CableFault → C → Type 0) (page : W → Page) (setup : Setup A)
-    (known : Option (List (List ℕ))) (may_fail : Bool) (start : Nodes) (c : C) (old : Printer W) (c' : C)
-    (new : Printer W) (result : Result (Unit {0}) Ending) : Type 0 where
+-- From this place on, steps of the setup's nodes and on its network were driven, and this was printed of them.
+pub record Goes {A C W E : Type 0} (S : C → ℕ → ℕ → List ℕ → Result (Unit {0}) CableFault → C → Type 0)
+    (R : C → ℕ → ℕ → Result (Option (List ℕ)) CableFault → C → Type 0) (page : W → Page) (heard : E → Page)
+    (setup : Setup A) (known : Option (List (List ℕ))) (may_fail : Bool) (p : Place C E) (old : Printer W) (c' : C)
+    (new : Printer W) (after : Diagnostics E) (result : Result (Unit {0}) Ending) : Type 0 where
   pub steps : List (Step A)
   pub text : List ℕ
-  pub tells : TellsDrive S R known may_fail steps start c c' result text
+  pub place : Place C E
+  pub tells : TellsDrive S R heard known may_fail steps p place c' result text
+  pub told : after ≡ place.told
   pub stand : has_all setup steps ≡ true
   pub here : All (IsStepHere setup.net) steps
   pub printed : Prints page old new text
@@ -135,21 +163,26 @@ abbrev pub IsUnwritten : Result (Unit {0}) Ending → Type 0
 IsUnwritten (Err (ending.Unwritten at)) = Unit {0}
 IsUnwritten other = ⊥
 
--- a line could not be read before the step at this place
-abbrev pub IsUnread : ℕ → Ending → Type 0
-IsUnread at (ending.NoMemory place) = place ≡ at
-IsUnread at (ending.Unwritten place) = ⊥
-IsUnread at (ending.Unread fault) = IsOfReading fault
+-- one of these lines could not be read before the step at this place
+abbrev pub IsUnread : Option (List (List ℕ)) → ℕ → Ending → Type 0
+IsUnread known at (ending.NoMemory place) = (place ≡ at) × IfSome known (λ lines. 0 < length lines)
+IsUnread known at (ending.Unwritten place) = ⊥
+IsUnread known at (ending.Unread fault) = IsOfReading fault
 
--- how a drive ended, and what is printed of it
-pub record Driven {A C W : Type 0} (S : C → ℕ → ℕ → List ℕ → Result (Unit {0}) CableFault → C → Type 0)
+-- How a drive ended, and what is printed of it. A person is told of the steps, then why it ended, then that something
+-- could not be written, and nothing else.
+pub record Driven {A C W E : Type 0} (S : C → ℕ → ℕ → List ℕ → Result (Unit {0}) CableFault → C → Type 0)
     (R : C → ℕ → ℕ → Result (Option (List ℕ)) CableFault → C → Type 0) (setup : Setup A)
-    (known : Option (List (List ℕ))) (may_fail : Bool) (c c' : C) (page : W → Page) (status : Status)
-    (old new : Printer W) : Type 0 where
+    (known : Option (List (List ℕ))) (may_fail : Bool) (c c' : C) (page : W → Page) (heard : E → Page)
+    (status : Status) (old new : Printer W) (before after : Diagnostics E) : Type 0 where
   pub result : Result (Unit {0}) Ending
   pub steps : List (Step A)
   pub text : List ℕ
-  pub tells : TellsDrive S R known may_fail steps (opening_nodes_of setup) c c' result text
+  pub place : Place C E
+  pub tells : TellsDrive S R heard known may_fail steps (first_place (opening_nodes_of setup) c before) place c' result text
+  pub late : Diagnostics E
+  pub ended : TellsEnd heard result place.told late
+  pub last : TellsWrites heard new late after
   pub stand : has_all setup steps ≡ true
   pub here : All (IsStepHere setup.net) steps
   pub done : (status ≡ Done) ↔ (IsOk result × ¬ HasFailed new)

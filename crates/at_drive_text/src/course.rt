@@ -1,6 +1,6 @@
 //! How far a drive is, and the step that it drives next.
-ghost use Rattle.std.specs.Prelude.{◌≡◌, ◌<◌, ◌+◌, ◌-◌, ◌^◌, ◌&&◌, nat_le, not, true, false, IfErr, OnOk, length, map};
-ghost use Rattle.std.specs.Prelude.{slice_get};
+ghost use Rattle.std.specs.Prelude.{◌≡◌, ◌<◌, ◌+◌, ◌-◌, ◌^◌, ◌&&◌, ◌||◌, nat_le, not, true, false, IfErr, OnOk, length};
+ghost use Rattle.std.specs.Prelude.{map, slice_get};
 ghost use Rattle.at_drive.specs.Drives.{logged, number_of as node_number};
 ghost use Rattle.at_drive.specs.Steps.{node_of, numbers_of, stands_in};
 ghost use Rattle.at_drive_lines.specs.StepLines.{is_step_line};
@@ -35,7 +35,7 @@ pub(crate) struct Course<'a, A: Allocator> {
 impl<'a, A: Allocator + Copy> Course<'a, A> {
     /// No step was driven, and no datagram was sent.
     pub(crate) fn new(alloc: A, setup: &'a Setup<A>) -> Course<'a, A>
-        ensures { IsGoing setup.now 0 0 result }
+        ensures { IsGoing setup.now 0 0 false result }
     {
         Course {
             alloc,
@@ -65,10 +65,11 @@ impl<'a, A: Allocator + Copy> Course<'a, A> {
     ) -> Result<(), Ending>
         requires nodes { map node_number drive.old.nodes ≡ numbers_of self.old.setup.now }
         requires room { self.old.at < 2 ^ 64 - 1 }
-        ensures told { OnOk result (TellsLine C.sends C.receives W.page (is_step_line line.now) line.now self.old drive.old
-            cable.old printer.old self.new drive.new cable.new printer.new) }
-        ensures ended { IfErr result (EndsLine C.sends C.receives W.page line.now self.old drive.old cable.old printer.old
-            self.new drive.new cable.new printer.new) }
+        ensures told { OnOk result (TellsLine C.sends C.receives W.page E.page (is_step_line line.now) line.now self.old
+            drive.old cable.old printer.old diagnostics.old self.new drive.new cable.new printer.new
+            diagnostics.new) }
+        ensures ended { IfErr result (EndsLine C.sends C.receives W.page E.page line.now self.old drive.old cable.old
+            printer.old diagnostics.old self.new drive.new cable.new printer.new diagnostics.new) }
         ensures nodes { map node_number drive.new.nodes ≡ map node_number drive.old.nodes }
     {
         match step_in(self.alloc, self.setup, self.at > 0, line) {
@@ -91,10 +92,10 @@ impl<'a, A: Allocator + Copy> Course<'a, A> {
     ) -> Result<(), Ending>
         requires stands { stands_in (map node_number drive.old.nodes) (node_of step.now) ≡ true }
         requires room { self.old.at < 2 ^ 64 - 1 }
-        ensures told { OnOk result (TellsStepOn C.sends C.receives W.page step.now self.old drive.old cable.old printer.old
-            self.new drive.new cable.new printer.new) }
-        ensures ended { IfErr result (EndsStep C.sends C.receives W.page step.now self.old drive.old cable.old printer.old
-            self.new drive.new cable.new printer.new) }
+        ensures told { OnOk result (TellsStepOn C.sends C.receives W.page E.page step.now self.old drive.old cable.old
+            printer.old diagnostics.old self.new drive.new cable.new printer.new diagnostics.new) }
+        ensures ended { IfErr result (EndsStep C.sends C.receives W.page E.page step.now self.old drive.old cable.old
+            printer.old diagnostics.old self.new drive.new cable.new printer.new diagnostics.new) }
         ensures nodes { map node_number drive.new.nodes ≡ map node_number drive.old.nodes }
     {
         let at = self.at;
@@ -118,12 +119,20 @@ impl<'a, A: Allocator + Copy> Course<'a, A> {
         ensures at { self.new.at ≡ self.old.at + 1 }
         ensures number { self.new.number
             ≡ number_of (self.old.number + sent_count (slice_get self.old.log.sent.items 0)) }
+        ensures failed { self.new.has_failed ≡ (self.old.has_failed || nat_le 1 (length self.old.log.faults.items)) }
         ensures setup { self.new.setup ≡ self.old.setup }
     {
         self.at += 1;
         self.number = next_number(self.number, &self.log);
-        self.has_failed = self.has_failed || !self.log.faults.is_empty();
+        self.has_failed = has_failed_by(self.has_failed, &self.log);
     }
+}
+
+// Whether a call of the cable failed before a step whose log this is, or at it.
+fn has_failed_by<A: Allocator>(before: bool, log: &Log<A>) -> bool
+    ensures { result ≡ (before || nat_le 1 (length log.now.faults.items)) }
+{
+    before || log.faults.len() >= 1
 }
 
 // Tells why a node refused what it was asked, if it did, and that a call of the cable failed, the first time.

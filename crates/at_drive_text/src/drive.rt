@@ -7,7 +7,7 @@ ghost use Rattle.at_drive.specs.Steps.{numbers_of};
 ghost use Rattle.at_drive_lines.specs.Lines.{HasNext, IsLast};
 ghost use Rattle.at_print.specs.Printers.{HasFailed, Prints};
 ghost use Rattle.at_drive_text.specs.Courses.{IsGoing};
-ghost use Rattle.at_drive_text.specs.Driven.{Driven, Goes, IsUnread, IsUnwritten, WasRead, drive_end};
+ghost use Rattle.at_drive_text.specs.Driven.{Driven, Goes, IsUnread, IsUnwritten, WasRead, drive_end, first_place};
 ghost use Rattle.at_drive_text.specs.Told.{TellsEnd};
 
 use crate::course::Course;
@@ -35,8 +35,8 @@ pub fn drive_lines<A: Allocator + Copy, L: Lines, C: Cable, W: Paper, E: Paper>(
     diagnostics: &mut Diagnostics<'_, E>,
 ) -> Status
     requires { WasRead setup.now (L.left lines.old) L.may_fail }
-    ensures { Driven C.sends C.receives setup.now (L.left lines.old) L.may_fail cable.old cable.new W.page result
-        printer.old printer.new }
+    ensures { Driven C.sends C.receives setup.now (L.left lines.old) L.may_fail cable.old cable.new W.page E.page result
+        printer.old printer.new diagnostics.old diagnostics.new }
 {
     let driven = drive_opened(alloc, setup, lines, cable, printer, diagnostics);
     end(driven, printer, diagnostics)
@@ -52,8 +52,9 @@ fn drive_opened<A: Allocator + Copy, L: Lines, C: Cable, W: Paper, E: Paper>(
     diagnostics: &mut Diagnostics<'_, E>,
 ) -> Result<(), Ending>
     requires { WasRead setup.now (L.left lines.old) L.may_fail }
-    ensures goes { Goes C.sends C.receives W.page setup.now (L.left lines.old) L.may_fail (opening_nodes_of setup.now)
-        cable.old printer.old cable.new printer.new result }
+    ensures goes { Goes C.sends C.receives W.page E.page setup.now (L.left lines.old) L.may_fail
+        (first_place (opening_nodes_of setup.now) cable.old diagnostics.old) printer.old cable.new printer.new
+        diagnostics.new result }
     ensures unwritten { IsUnwritten result → HasFailed printer.new }
 {
     let Ok(mut drive) = Drive::open(alloc, setup) else {
@@ -75,10 +76,10 @@ fn drive_each<A: Allocator + Copy, L: Lines, C: Cable, W: Paper, E: Paper>(
     diagnostics: &mut Diagnostics<'_, E>,
 ) -> Result<(), Ending>
     requires nodes { map node_number drive.old.nodes ≡ numbers_of course.old.setup.now }
-    requires begins { IsGoing course.old.setup.now 0 0 course.old }
+    requires begins { IsGoing course.old.setup.now 0 0 false course.old }
     requires read { WasRead course.old.setup.now (L.left lines.old) L.may_fail }
-    ensures goes { Goes C.sends C.receives W.page course.old.setup.now (L.left lines.old) L.may_fail drive.old cable.old
-        printer.old cable.new printer.new result }
+    ensures goes { Goes C.sends C.receives W.page E.page course.old.setup.now (L.left lines.old) L.may_fail
+        (first_place drive.old cable.old diagnostics.old) printer.old cable.new printer.new diagnostics.new result }
     ensures unwritten { IsUnwritten result → HasFailed printer.new }
 {
     each_line_can_be_read::<A>();
@@ -94,7 +95,7 @@ fn next_line<L: Lines>(lines: &mut L, at: usize) -> Result<bool, Ending>
     ensures less { result ≡ Ok true → L.most lines.new < L.most lines.old }
     ensures few { L.most lines.old < 2 ^ 64 }
     ensures end { result ≡ Ok false → IsLast (L.left lines.old) }
-    ensures failed { IfErr result (λ ending. IsUnread at ending × (L.may_fail ≡ true)) }
+    ensures failed { IfErr result (λ ending. IsUnread (L.left lines.old) at ending × (L.may_fail ≡ true)) }
 {
     match lines.advance() {
         Ok(more) => Ok(more),

@@ -40,8 +40,8 @@ pub fn end_at_line<D: Display + Drop, W: Paper, E: Paper>(
     ensures failed { result ≡ Status.Failed }
     ensures printed { Prints W.page printer.old printer.new
         (codes "fault " ++ (decimal number ++ codes "\n")) }
-    ensures told { (words : List ℕ) × (mid : Told E)
-        × TellsLine E.page (line_told (file_of diagnostics.old) number words) diagnostics.old mid
+    ensures told { (mid : Told E)
+        × ((words : List ℕ) × TellsLine E.page (line_told (file_of diagnostics.old) number words) diagnostics.old mid)
         × TellsWrites E.page printer.new mid diagnostics.new }
 {
     writeln!(printer, "fault {number}");

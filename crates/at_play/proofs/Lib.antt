@@ -1,5 +1,5 @@
 mod LineLemmas
-mod RefusalLemmas
+mod ReportLemmas
 mod SentLemmas
 mod TextLines
 mod ToldLemmas

@@ -1,6 +1,7 @@
 -- What is told of a play goes on by one event, and is told of the play that it follows.
-use Rattle.std.proofs.Common.{◌≡◌, ℕ, List, [], ◌∷◌, ◌++◌, length, Err, Result, Bool, true, false, ◌<◌, ◌≤◌, None, Some}
-use Rattle.std.proofs.Common.{Ok, IfErr, IfSome, refl, sym, ap, subst, ◌∙◌, append-nil}
+use Rattle.std.proofs.Common.{◌≡◌, ℕ, ◌+◌, List, [], ◌∷◌, ◌++◌, length, Err, Result, Bool, true, false, ◌<◌, ◌≤◌, None}
+use Rattle.std.proofs.Common.{Some, Ok, IfErr, IfSome, inl, inr, refl, sym, ap, subst, ◌∙◌, append-nil}
+use Rattle.std.proofs.lemmas.Bool.{true≢false}
 use Rattle.std.proofs.Common.{append_assoc}
 use Rattle.at_event.specs.declared.report.Report.{Report}
 use Rattle.at_setup.specs.declared.event.Event.{Event}
@@ -14,27 +15,29 @@ use Rattle.at_print.specs.Papers.{Page}
 use Rattle.at_print.specs.Printers.{Prints}
 use Rattle.std.specs.Result.{IsErrAnd}
 use Rattle.std.proofs.lemmas.Result.{err_from_is_err_and}
-use Rattle.at_diagnostics.specs.Stops.{IsUnread, stop_line, stop_of}
-use Rattle.at_play.specs.Told.{BeginsWith, IsStopped, IsWhole, Played, StopsIn}
-use Rattle.at_play.specs.Told.{StopsLine, Tells, TellsLine, Told}
-use Rattle.at_play.specs.Ends.{IsNotRead, IsUnplayed, IsUnreadable, end_text}
+use Rattle.at_diagnostics.specs.Diagnostics.{TellsReport}
+use Rattle.at_diagnostics.specs.Stops.{stop_line, stop_of}
+use Rattle.at_diagnostics.specs.declared.diagnostics.Diagnostics.{Diagnostics}
+use Rattle.at_play.specs.Told.{BeginsWith, IsStopped, IsUnreadIn, IsWhole, Played, StopsIn}
+use Rattle.at_play.specs.Told.{StopsLine, Tells, TellsLine, TellsReports, Told}
+use Rattle.at_play.specs.Ends.{IsNotRead, IsTooLong, IsUnplayed, IsUnreadable, end_text}
 use Rattle.at_faults.specs.Reads.{IsOfBytes, IsOfRead}
 use Rattle.at_faults.specs.declared.fault.Unreadable.TheVariants as unreadable
 use Rattle.at_faults.specs.declared.fault.Fault.{Fault as Why}
 use Rattle.at_faults.specs.declared.fault.Fault.TheVariants as why
 use Rattle.at_print.specs.declared.printer.Printer.{Printer}
-use Rattle.at_play.specs.Refusals.{TellsRefusals}
 use Rattle.at_print.proofs.PrintLemmas.{Prints-nothing, Prints-trans}
-use Rattle.at_play.proofs.RefusalLemmas.{none_told, tells_more}
 use Rattle.at_world.specs.Plays.{opening_world}
 use Rattle.at_setup.specs.declared.setup.Setup.{Setup}
 use Rattle.std.proofs.lemmas.List.Elements.{All-nil, All-push}
-use Rattle.std.specs.Io.BufRead.{DropsThrough, first_piece}
-use Rattle.at_schedule.specs.Drafts.{HoldsSetup, IsLineFault}
+use Rattle.at_setup_lines.specs.Drafts.{Draft}
+use Rattle.at_schedule.specs.Drafts.{HoldsSetup, IsLineFault, IsRead}
 use Rattle.at_schedule.specs.Says.{IsEventHere, SayAll, Says}
 use Rattle.at_schedule.specs.Schedules.{event_lines, is_event_line}
-use Rattle.at_play.proofs.LineLemmas.{Adds, FirstLine, SaidSoFar, next_said, none_said, reads_more}
-use Rattle.std.specs.Prelude.{◌↔◌, IsErr, IsOk, Option}
+use Rattle.at_play.proofs.LineLemmas.{Adds, Cuts, FirstLine, HasRead, breaks_off, left_some, line_left, next_said}
+use Rattle.at_play.proofs.LineLemmas.{none_said, read_more}
+use Rattle.at_play.proofs.ReportLemmas.{counted, not_failed, tells_more}
+use Rattle.std.specs.Prelude.{◌↔◌, codes, IsErr, IsOk, Option}
 use Rattle.at_print.specs.declared.status.Status.{Status}
 use Rattle.at_print.specs.declared.status.Status.TheVariants.{Done, Failed}
 use Rattle.at_play.specs.declared.ending.Ending.{Ending}
@@ -90,50 +93,48 @@ safely_told A w (e ∷ es) (r ∷ rs) w' text few h =
 safely_told A w [] (r ∷ rs) w' text few h = absurd h
 safely_told A w (e ∷ es) [] w' text few h = absurd h
 
-refused : (A : Type 0) (line : List ℕ) (w : WorldState) (e : Event A) (w' : WorldState) (f : Fault) (number : ℕ)
-    (which : Option ℕ) → is_event_line line ≡ true → Says line e → IsFault w e f w'
-    → StopsLine A line w (stop.Event f w.events number which)
-refused A line w e w' (fault.Refused r) number which event says h = (refl, event, (e, h.0, says))
-refused A line w e w' fault.NoMemory number which event says h = refl
+refused : (A : Type 0) (d : Draft) (line : List ℕ) (w : WorldState) (e : Event A) (w' : WorldState) (f : Fault)
+    (number : ℕ) (which : Option ℕ) → is_event_line line ≡ true → Says line e → IsFault w e f w'
+    → StopsLine A d line w (stop.Event f w.events number which)
+refused A d line w e w' (fault.Refused r) number which event says h = (refl, event, (e, h.0, says))
+refused A d line w e w' fault.NoMemory number which event says h = (refl, inr (event, (e, says, h.2)))
 
 -- if the event of a line was not played, the play stops
-pub stops_refused : (A : Type 0) (line : List ℕ) (w : WorldState) (e : Event A) (w' : WorldState) (s : Stop)
-    → is_event_line line ≡ true → Says line e → IsStopped w e w' s → StopsLine A line w s
-stops_refused A line w e w' s event says h = subst (StopsLine A line w) (sym h.says)
-    (refused A line w e w' h.fault h.line h.which event says h.faulty)
+pub stops_refused : (A : Type 0) (d : Draft) (line : List ℕ) (w : WorldState) (e : Event A) (w' : WorldState) (s : Stop)
+    → is_event_line line ≡ true → Says line e → IsStopped w e w' s → StopsLine A d line w s
+stops_refused A d line w e w' s event says h = subst (StopsLine A d line w) (sym h.says)
+    (refused A d line w e w' h.fault h.line h.which event says h.faulty)
 
 -- an event that a line says was not played
-pub stops_said : (A : Type 0) (line : List ℕ) (w w' : WorldState) (e : Event A) (r : Result (Unit {0}) Stop)
+pub stops_said : (A : Type 0) (d : Draft) (line : List ℕ) (w w' : WorldState) (e : Event A) (r : Result (Unit {0}) Stop)
     (P Q : Type 0) → (is_event_line line ≡ true) × Says line e → IfErr r (λ s. P × Q × IsStopped w e w' s)
-    → IfErr r (λ s. P × Q × StopsLine A line w s)
-stops_said A line w w' e (Ok u) P Q has h = tt
-stops_said A line w w' e (Err s) P Q has h = (h.0, h.1, stops_refused A line w e w' s has.0 has.1 h.2)
+    → IfErr r (λ s. P × Q × StopsLine A d line w s)
+stops_said A d line w w' e (Ok u) P Q has h = tt
+stops_said A d line w w' e (Err s) P Q has h = (h.0, h.1, stops_refused A d line w e w' s has.0 has.1 h.2)
 
--- a reading that fails before the first line is of no line
-pub stops_unread : (A : Type 0) (known : Option (List ℕ)) (es : List (Event A)) (w : WorldState) (at : ℕ) (s : Stop)
-    → at ≡ w.events → IsUnread at s → StopsIn A known es w s
-stops_unread A known es w at (stop.Text f) is h = h
-stops_unread A known es w at (stop.Event fault.NoMemory n number which) is h = h ∙ is
-stops_unread A known es w at (stop.Event (fault.Refused r) n number which) is h = absurd h
+-- a reading that fails where nothing more was read
+pub stops_unread : FirstLine → (A : Type 0) (first known : Option (List ℕ)) (es : List (Event A)) (d : Draft)
+    (w : WorldState) (at : ℕ) (s : Stop) → HasRead A first known es d → at ≡ w.events → IsUnreadIn known at s
+    → StopsIn A first true es w s
+stops_unread law A first known es d w at (stop.Text f) h is unread = (refl, inl unread)
+stops_unread law A first known es d w at (stop.Event fault.NoMemory n number which) h is unread =
+    (unread.0 ∙ is, inr (left_some law A first known es d h unread.1))
+stops_unread law A first known es d w at (stop.Event (fault.Refused r) n number which) h is unread = absurd unread
 
--- where the play of a line stops, the play stops
-pub stops_line : FirstLine
-    → (A : Type 0) (line : List ℕ) (first known : Option (List ℕ)) (es : List (Event A)) (w : WorldState) (s : Stop)
-    → SaidSoFar first known es → IfSome known (λ xs. (0 < length xs) × (line ≡ first_piece 10 xs))
-    → StopsLine A line w s → StopsIn A first es w s
-stops_line law A line first known es w (stop.Text f) said piece h = h
-stops_line law A line first known es w (stop.Event fault.NoMemory n number which) said piece h = h
-stops_line law A line first known es w (stop.Event (fault.Refused r) n number which) said piece h =
-    let e = h.2.0 in (h.0, (e, h.2.1, next_said law A first known es line e said piece h.1 h.2.2))
+-- where the play of a line stops, the play of a file stops
+pub stops_read : (A : Type 0) (first known after : Option (List ℕ)) (es : List (Event A)) (d : Draft) (line : List ℕ)
+    (w : WorldState) (s : Stop) → HasRead A first known es d → Cuts known line after → StopsLine A d line w s
+    → StopsIn A first true es w s
+stops_read A first known after es d line w (stop.Text f) h cuts stops =
+    (refl, inr (stops.0, breaks_off A first known after es d line h cuts stops.1))
+stops_read A first known after es d line w (stop.Event fault.NoMemory n number which) h cuts stops =
+    (stops.0, inr (line_left A first known after es d line h cuts))
+stops_read A first known after es d line w (stop.Event (fault.Refused r) n number which) h cuts stops =
+    let e = stops.2.0 in
+    (stops.0, (e, stops.2.1, next_said A first known after es d line h cuts e stops.1 stops.2.2))
 
--- a failed reading ends a play before its first event
-pub unread_of : (f : Why) (s : Stop) → IsOfRead f → s ≡ stop_of f → IsUnread 0 s
-unread_of (why.Unreadable u) s h is = subst (IsUnread 0) (sym is) tt
-unread_of (why.Line number rule) s h is = absurd h
-unread_of why.NoMemory s h is = subst (IsUnread 0) (sym is) refl
-
-pub not_read : (P : Why → Type 0) (told : List Bool) (r : Result (Unit {0}) Ending) (f : Why) (s : Ending) → r ≡ Err s
-    → s ≡ ending.Stopped (stop_of f) → P f → IsNotRead P told told r []
+pub not_read : {E : Type 0} (P : Why → Type 0) (told : Diagnostics E) (r : Result (Unit {0}) Ending) (f : Why)
+    (s : Ending) → r ≡ Err s → s ≡ ending.Stopped (stop_of f) → P f → IsNotRead P told told r []
 not_read P told r f s was is h = rw was ((f, h, is), refl, refl)
 
 -- a read that failed gave not all bytes
@@ -156,38 +157,56 @@ opened A setup = record {
   here = All-nil (IsEventHere setup.net);
 }
 
--- a play so far, at a world and a printer, and the refusals that were told
-abbrev pub Sofar : (A : Type 0) {W : Type 0} → (W → Page) → Setup A → WorldState → Printer W → Printer W
-    → List Bool → List Bool → Type 0
-Sofar A page setup w old new before after =
-    (p : Played setup) × (p.world ≡ w) × Prints page old new p.text × TellsRefusals before after p.reports
+-- a play so far, at a world and a printer, and what was told of its reports
+abbrev pub Sofar : (A : Type 0) {W E : Type 0} → (W → Page) → (E → Page) → Setup A → WorldState → Printer W → Printer W
+    → Diagnostics E → Diagnostics E → Type 0
+Sofar A page heard setup w old new before after =
+    (p : Played setup) × (p.world ≡ w) × Prints page old new p.text × TellsReports heard 0 p.reports before after
 
-module _ (A : Type 0) {W : Type 0} (page : W → Page) (setup : Setup A) where
-  abbrev pub sofar_opened : (w : WorldState) (a : Printer W) (x : List Bool) → w ≡ opening_world setup
-      → Sofar A page setup w a a x x
-  sofar_opened w a x is = (opened A setup, sym is, Prints-nothing page a, none_told A x)
+module _ (A : Type 0) {W E : Type 0} (page : W → Page) (heard : E → Page) (setup : Setup A) where
+  abbrev pub sofar_opened : (w : WorldState) (a : Printer W) (x : Diagnostics E) → w ≡ opening_world setup
+      → Sofar A page heard setup w a a x x
+  sofar_opened w a x is = (opened A setup, sym is, Prints-nothing page a, refl)
 
   -- a play that stops before its first event
-  pub stops_first : (known : Option (List ℕ)) (a : Printer W) (x : List Bool) (s : Stop) → IsUnread 0 s
-      → (p : Played setup) × Prints page a a p.text × IsWhole A known (Err (ending.Stopped s)) p
-      × TellsRefusals x x p.reports
-  stops_first known a x s unread = (
+  pub stops_first : (known : Option (List ℕ)) (may_fail : Bool) (a : Printer W) (x : Diagnostics E) (s : Stop)
+      (number : ℕ) (which : Option ℕ) → s ≡ stop.Event fault.NoMemory 0 number which
+      → (p : Played setup) × Prints page a a p.text × IsWhole A known may_fail (Err (ending.Stopped s)) p
+      × TellsReports heard 0 p.reports x x
+  stops_first known may_fail a x s number which is = (
     opened A setup,
     Prints-nothing page a,
-    (stops_unread A known [] (opening_world setup) 0 s refl unread, none_said A known),
-    none_told A x,
+    (subst (StopsIn A known may_fail [] (opening_world setup)) (sym is) (refl, inl refl), none_said A known),
+    refl,
   )
 
+  -- the world has counted its events, and has not failed
+  pub place_of : (w : WorldState) (a b : Printer W) (x y : Diagnostics E) (so : Sofar A page heard setup w a b x y)
+      → w.events ≡ 0 + length (so.0).reports
+  place_of w a b x y so =
+      let p = so.0 in
+      sym (ap (λ (v : WorldState). v.events) so.1)
+      ∙ counted A (opening_world setup) p.events p.reports p.world p.text p.told
+
+  pub fresh_at : (w : WorldState) (a b : Printer W) (x y : Diagnostics E) → Sofar A page heard setup w a b x y
+      → w.failed ≡ false
+  fresh_at w a b x y so =
+      let p = so.0 in
+      sym (ap (λ (v : WorldState). v.failed) so.1)
+      ∙ not_failed A (opening_world setup) p.events p.reports p.world p.text refl p.told
+
   -- one event more
-  told_on : (w w' : WorldState) (a b c : Printer W) (x y z : List Bool) (e : Event A)
-      (before : Sofar A page setup w a b x y) → IsEventHere setup.net e → Tells page w e w' b c y z
-      → (after : Sofar A page setup w' a c x z) × ((after.0).events ≡ (before.0).events ++ e ∷ [])
-  told_on w w' a b c x y z e before here t =
+  told_on : (number : ℕ) (w w' : WorldState) (a b c : Printer W) (x y z : Diagnostics E) (e : Event A)
+      (before : Sofar A page heard setup w a b x y) → IsEventHere setup.net e
+      → Tells page heard number w e w' b c y z
+      → (after : Sofar A page heard setup w' a c x z) × ((after.0).events ≡ (before.0).events ++ e ∷ [])
+  told_on number w w' a b c x y z e before here t =
       let p = before.0 in
       let more : List ℕ = event_text w.events t.report w'.sent (length w.sent) in
       let told = told_more A (opening_world setup) p.events p.reports w p.text e t.report w'
       (subst (λ v. Told (opening_world setup) p.events p.reports v p.text) before.1 p.told) t.playable t.plays
-      t.safe in (
+      t.safe in
+      let line = subst (λ at. TellsReport heard t.report at number y z) (place_of w a b x y before) t.told in (
         (
           record {
             events = p.events ++ e ∷ [];
@@ -199,57 +218,60 @@ module _ (A : Type 0) {W : Type 0} (page : W → Page) (setup : Setup A) where
           },
           refl,
           Prints-trans page a b c p.text more before.2 t.printed,
-          tells_more x y z p.reports t.report before.3 t.told,
+          tells_more heard 0 p.reports t.report number x y z before.3 line,
         ),
         refl,
       )
 
   -- one line more
-  pub sofar_line : (has_event : Bool) (line : List ℕ) (w w' : WorldState) (a b c : Printer W) (x y z : List Bool)
-      (before : Sofar A page setup w a b x y) → TellsLine A page setup.net has_event line w w' b c y z
-      → (after : Sofar A page setup w' a c x z) × Adds has_event line (before.0).events (after.0).events
-  sofar_line true line w w' a b c x y z before (e, says, here, t) = let after = told_on w w' a b c x y z e before here t in
-      (after.0, (e, says, after.1))
-  sofar_line false line w w' a b c x y z before h = (
+  pub sofar_line : (number : ℕ) (has_event : Bool) (line : List ℕ) (w w' : WorldState) (a b c : Printer W)
+      (x y z : Diagnostics E) (before : Sofar A page heard setup w a b x y)
+      → TellsLine A page heard setup.net number has_event line w w' b c y z
+      → (after : Sofar A page heard setup w' a c x z) × Adds has_event line (before.0).events (after.0).events
+  sofar_line number true line w w' a b c x y z before (e, says, here, t) =
+      let after = told_on number w w' a b c x y z e before here t in (after.0, (e, says, after.1))
+  sofar_line number false line w w' a b c x y z before h = (
     (
       before.0,
       before.1 ∙ sym h.0,
       subst (λ v. Prints page a v (before.0).text) (sym h.1) before.2,
-      subst (λ v. TellsRefusals x v (before.0).reports) (sym h.2) before.3,
+      subst (λ v. TellsReports heard 0 (before.0).reports x v) (sym h.2) before.3,
     ),
     refl,
   )
 
-  -- where the play stops, and prints nothing more
-  pub sofar_stopped : (known : Option (List ℕ)) (w : WorldState) (a b c : Printer W) (x y z : List Bool)
-      (r : Result (Unit {0}) Ending) (s : Stop) → r ≡ Err (ending.Stopped s) → c ≡ b → z ≡ y → (before : Sofar A page setup w a b x y)
-      → StopsIn A known (before.0).events w s → IfSome known (λ text. BeginsWith text (before.0).events)
-      → (p : Played setup) × Prints page a c p.text × IsWhole A known r p × TellsRefusals x z p.reports
-  sofar_stopped known w a b c x y z r s is same also before stops begins = (
+  -- where the play stops, and prints and tells nothing more
+  pub sofar_stopped : (known : Option (List ℕ)) (may_fail : Bool) (w : WorldState) (a b c : Printer W)
+      (x y z : Diagnostics E) (r : Result (Unit {0}) Ending) (s : Stop) → r ≡ Err (ending.Stopped s) → c ≡ b → z ≡ y
+      → (before : Sofar A page heard setup w a b x y) → StopsIn A known may_fail (before.0).events w s
+      → IfSome known (λ text. BeginsWith text (before.0).events)
+      → (p : Played setup) × Prints page a c p.text × IsWhole A known may_fail r p
+      × TellsReports heard 0 p.reports x z
+  sofar_stopped known may_fail w a b c x y z r s is same also before stops begins = (
     before.0,
     subst (λ v. Prints page a v (before.0).text) (sym same) before.2,
-    rw is (subst (λ v. StopsIn A known (before.0).events v s) (sym before.1) stops, begins),
-    subst (λ v. TellsRefusals x v (before.0).reports) (sym also) before.3,
+    rw is (subst (λ v. StopsIn A known may_fail (before.0).events v s) (sym before.1) stops, begins),
+    subst (λ v. TellsReports heard 0 (before.0).reports x v) (sym also) before.3,
   )
 
-  -- one line more of those that are known
-  pub line_played : FirstLine
-      → (line : List ℕ) (first known new : Option (List ℕ)) (w w' : WorldState) (a b c : Printer W)
-      (u v z : List Bool) (before : Sofar A page setup w a b u v) → SaidSoFar first known (before.0).events
-      → IfSome known (λ xs. (0 < length xs) × (line ≡ first_piece 10 xs)) → DropsThrough known new 10
-      → TellsLine A page setup.net (is_event_line line) line w w' b c v z
-      → (after : Sofar A page setup w' a c u z) × SaidSoFar first new (after.0).events
-  line_played law line first known new w w' a b c u v z before said piece drops told =
-      let after = sofar_line (is_event_line line) line w w' a b c u v z before told in (
-        after.0,
-        reads_more law A first known new (before.0).events ((after.0).0).events line said piece drops after.1,
+  -- one line more of those that are left
+  pub line_played : (number : ℕ) (line : List ℕ) (first known after : Option (List ℕ)) (d d' : Draft) (w w' : WorldState)
+      (a b c : Printer W) (u v z : Diagnostics E) (before : Sofar A page heard setup w a b u v)
+      → HasRead A first known (before.0).events d → Cuts known line after
+      → ((lines : List (List ℕ)) → IsRead A lines d → IsRead A (lines ++ line ∷ []) d')
+      → TellsLine A page heard setup.net number (is_event_line line) line w w' b c v z
+      → (later : Sofar A page heard setup w' a c u z) × HasRead A first after (later.0).events d'
+  line_played number line first known after d d' w w' a b c u v z before read cuts taken told =
+      let later = sofar_line number (is_event_line line) line w w' a b c u v z before told in (
+        later.0,
+        read_more A first known after (before.0).events d line read cuts ((later.0).0).events d' taken later.1,
       )
 
 -- what is known less says less
 stops_unknown : (A : Type 0) (text : List ℕ) (es : List (Event A)) (w : WorldState) (s : Stop)
-    → StopsIn A (Some text) es w s → StopsIn A None es w s
-stops_unknown A text es w (stop.Text f) h = h
-stops_unknown A text es w (stop.Event fault.NoMemory n number which) h = h
+    → StopsIn A (Some text) false es w s → StopsIn A None false es w s
+stops_unknown A text es w (stop.Text f) h = absurd (true≢false (sym h.0))
+stops_unknown A text es w (stop.Event fault.NoMemory n number which) h = (h.0, inr tt)
 stops_unknown A text es w (stop.Event (fault.Refused r) n number which) h = (h.0, (h.1.0, h.1.1, tt))
 
 -- a line of what was read is at fault in the text that is known
@@ -271,14 +293,14 @@ held_of A setup (Some text) bytes all read same h = subst (λ t. HoldsSetup (Som
 
 pub whole_read : (A : Type 0) (setup : Setup A) (known : Option (List ℕ)) (bytes all : List ℕ)
     (r : Result (Unit {0}) Ending) (p : Played setup) → IfSome known (λ text. all ≡ text) → bytes ≡ all
-    → IsWhole A (Some bytes) r p → IsWhole A known r p
+    → IsWhole A (Some bytes) false r p → IsWhole A known false r p
 whole_read A setup None bytes all (Ok u) p read same h = tt
 whole_read A setup (Some text) bytes all (Ok u) p read same h =
     subst (λ t. SayAll (event_lines t) p.events) (same ∙ read) h
 whole_read A setup None bytes all (Err (ending.Stopped s)) p read same h =
     (stops_unknown A bytes p.events p.world s h.0, tt)
 whole_read A setup (Some text) bytes all (Err (ending.Stopped s)) p read same h =
-    subst (λ t. StopsIn A (Some t) p.events p.world s × BeginsWith t p.events) (same ∙ read) h
+    subst (λ t. StopsIn A (Some t) false p.events p.world s × BeginsWith t p.events) (same ∙ read) h
 whole_read A setup None bytes all (Err ending.Unwritten) p read same h = tt
 whole_read A setup (Some text) bytes all (Err ending.Unwritten) p read same h =
     subst (λ t. BeginsWith t p.events) (same ∙ read) h
@@ -308,4 +330,26 @@ too_long_prints page (Some all) most status r P old mid new h done printed = λ 
         subst (λ p. Prints page p new (stop_line (stop_of f))) same
             (subst (Prints page mid new) (ap end_text failed) printed),
       ),
+    )
+
+-- what holds in any case
+pub whatever_is_known : {P : Type 0} (known : Option (List ℕ)) (most : ℕ) → P
+    → IfSome known (λ all. most < length all → P)
+whatever_is_known None most h = tt
+whatever_is_known (Some all) most h = λ long. h
+
+-- a file that was too long is not played, and nothing but `fault 0` is printed
+pub file_too_long : {W : Type 0} (page : W → Page) (known : Option (List ℕ)) (most : ℕ) (status : Status)
+    (r : Result (Unit {0}) Ending) (P : Type 0) (old mid new : Printer W)
+    → IfSome known (λ all. most < length all → IsErrAnd r IsTooLong × (mid ≡ old))
+    → ((status ≡ Done) ↔ (IsOk r × P)) → Prints page mid new (end_text r)
+    → IfSome known (λ all. most < length all → (status ≡ Failed) × Prints page old new (codes "fault 0\n"))
+file_too_long page None most status r P old mid new h done printed = tt
+file_too_long page (Some all) most status r P old mid new h done printed = λ long.
+    let (is, same) = h long in
+    let (e, was, (u, stopped)) = err_from_is_err_and r is in
+    let failed = was ∙ ap Err stopped in (
+      failed_of status r P done (subst IsErr (sym failed) refl),
+      subst (λ p. Prints page p new (codes "fault 0\n")) same
+          (subst (Prints page mid new) (ap end_text failed) printed),
     )

@@ -1,6 +1,6 @@
 -- How a play ends, and all that is printed of it.
-use Rattle.std.specs.Prelude.{◌≡◌, ◌↔◌, ◌⊎◌, ℕ, Bool, List, [], ◌++◌, Option, Some, Result, Ok, Err, IfErr, IfSome}
-use Rattle.std.specs.Prelude.{IsOk, true}
+use Rattle.std.specs.Prelude.{◌≡◌, ◌↔◌, ◌⊎◌, ℕ, Bool, List, [], ◌++◌, Option, Some, Result, Ok, Err, IfSome}
+use Rattle.std.specs.Prelude.{IsOk, false, true}
 use Rattle.std.specs.Io.KnownBytes.{Keeps}
 use Rattle.at_world.specs.Events.{NoForge}
 use Rattle.at_world.specs.ExactlyOnce.{AllLive, RunsOnce, onto}
@@ -13,11 +13,12 @@ use Rattle.at_schedule.specs.Drafts.{HoldsSetup, IsLineFault}
 use Rattle.at_faults.specs.Reads.{IsOfBytes}
 use Rattle.at_print.specs.Papers.{Page}
 use Rattle.at_print.specs.Printers.{HasFailed, Prints}
-use Rattle.at_play.specs.Refusals.{TellsRefusals}
-use Rattle.at_diagnostics.specs.Diagnostics.{TellsStop}
+use Rattle.at_diagnostics.specs.Diagnostics.{TellsStop, TellsWrites}
 use Rattle.at_diagnostics.specs.Stops.{stop_line, stop_of}
 use Rattle.at_diagnostics.specs.declared.diagnostics.Diagnostics.{Diagnostics}
-use Rattle.at_play.specs.Told.{IsWhole, Played}
+use Rattle.at_faults.specs.declared.fault.Unreadable.{Unreadable}
+use Rattle.at_faults.specs.declared.fault.Fault.TheVariants as why
+use Rattle.at_play.specs.Told.{IsWhole, Played, TellsReports}
 use Rattle.at_print.specs.declared.printer.Printer.{Printer}
 use Rattle.at_print.specs.declared.status.Status.{Status}
 use Rattle.at_print.specs.declared.status.Status.TheVariants.{Done, Failed}
@@ -54,15 +55,16 @@ pub record Obeys {A : Type 0} (setup : Setup A) (p : Played setup) : Type 0 wher
       → RunsOnce setup.net (tables_of setup) (p.world).sent (onto [] p.events p.reports)
 
 -- What a schedule's play prints of its events: what is told of those that were played. These are all of them unless it
--- stopped, which is said if the schedule's text is known. The numbers of their refusals are told.
-abbrev pub PlaysText : (A : Type 0) → Option (List ℕ) → (Setup A → Type 0) → List Bool → List Bool
-    → Result (Unit {0}) Ending → List ℕ → Type 0
-PlaysText A known IsRead old new result text =
-    (setup : Setup A) × IsRead setup × (p : Played setup) × Obeys setup p × (text ≡ p.text) × IsWhole A known result p
-    × TellsRefusals old new p.reports
+-- stopped, which is said if the schedule's text is known. To a person their refusals are told.
+abbrev pub PlaysText : (A : Type 0) {E : Type 0} → (E → Page) → Option (List ℕ) → Bool → (Setup A → Type 0)
+    → Diagnostics E → Diagnostics E → Result (Unit {0}) Ending → List ℕ → Type 0
+PlaysText A heard known may_fail IsRead old new result text =
+    (setup : Setup A) × IsRead setup × (p : Played setup) × Obeys setup p × (text ≡ p.text)
+    × IsWhole A known may_fail result p × TellsReports heard 0 p.reports old new
 
 -- no event was played, and nothing is told of any, since there is no schedule for such a reason
-abbrev pub IsNotRead : (Fault → Type 0) → List Bool → List Bool → Result (Unit {0}) Ending → List ℕ → Type 0
+abbrev pub IsNotRead : {E : Type 0} → (Fault → Type 0) → Diagnostics E → Diagnostics E → Result (Unit {0}) Ending
+    → List ℕ → Type 0
 IsNotRead IsReason old new (Ok u) text = ⊥
 IsNotRead IsReason old new (Err e) text =
     ((f : Fault) × IsReason f × (e ≡ ending.Stopped (stop_of f))) × (text ≡ []) × (new ≡ old)
@@ -80,22 +82,17 @@ abbrev pub IsUnplayed : {W : Type 0} → (W → Page) → Status → Printer W �
 IsUnplayed page status old new =
     (status ≡ Failed) × ((f : Fault) × IsOfBytes f × Prints page old new (stop_line (stop_of f)))
 
--- an event was refused, or memory ran out; it is not the text that is at fault
-abbrev pub IsOfEvent : Stop → Type 0
-IsOfEvent (stop.Text f) = ⊥
-IsOfEvent (stop.Event f at line which) = Unit {0}
-
--- so it is, or a write failed
-abbrev pub IsOfPlaying : Ending → Type 0
-IsOfPlaying (ending.Stopped s) = IsOfEvent s
-IsOfPlaying ending.Unwritten = Unit {0}
+-- a file was too long or could not be read to its end, before any event
+abbrev pub IsTooLong : Ending → Type 0
+IsTooLong e = (u : Unreadable) × (e ≡ ending.Stopped (stop.Text (why.Unreadable u)))
 
 -- Nothing if there is no schedule, and else this of the setup that the text says. The text is read to its end before
--- the first event, so that no fault of it comes later.
-abbrev pub PlayText : Type 0 → Option (List ℕ) → List Bool → List Bool → Result (Unit {0}) Ending → List ℕ → Type 0
-PlayText A known old new result text =
+-- the first event, so that no reading fails later.
+abbrev pub PlayText : (A : Type 0) {E : Type 0} → (E → Page) → Option (List ℕ) → Diagnostics E → Diagnostics E
+    → Result (Unit {0}) Ending → List ℕ → Type 0
+PlayText A heard known old new result text =
     IsNotRead (IsTextFault A known) old new result text
-    ⊎ (PlaysText A known (HoldsSetup known) old new result text × IfErr result IsOfPlaying)
+    ⊎ PlaysText A heard known false (HoldsSetup known) old new result text
 
 -- a file that was sent back to its beginning
 pub record Rewound {F : Type 0} (position : F → Option ℕ) (bytes : F → Option (List ℕ)) : Type 0 where
@@ -106,20 +103,26 @@ pub record Rewound {F : Type 0} (position : F → Option ℕ) (bytes : F → Opt
 
 -- The same of a file, which is read from its beginning on, and again. The setup is what the text said the first time,
 -- and the events are what it said the second time.
-abbrev pub FileText : Type 0 → {F : Type 0} → (F → Option (List ℕ)) → (F → Option ℕ) → (F → Option (List ℕ))
-    → List Bool → List Bool → Result (Unit {0}) Ending → List ℕ → Type 0
-FileText A remaining position bytes old new result text =
+abbrev pub FileText : (A : Type 0) {F E : Type 0} → (F → Option (List ℕ)) → (F → Option ℕ) → (F → Option (List ℕ))
+    → (E → Page) → Diagnostics E → Diagnostics E → Result (Unit {0}) Ending → List ℕ → Type 0
+FileText A remaining position bytes heard old new result text =
     IsNotRead IsOfBytes old new result text
     ⊎ ((first : Rewound position bytes) × (IsNotRead (IsTextFault A (remaining first.file)) old new result text
     ⊎ ((again : Rewound position bytes)
-    × PlaysText A (remaining again.file) (HoldsSetup (remaining first.file)) old new result text)))
+    × PlaysText A heard (remaining again.file) true (HoldsSetup (remaining first.file)) old new result text)))
 
--- how a play ended, and what is printed of it: its events, and why it stopped if it did
-pub record Ended {W : Type 0} (IsText : Result (Unit {0}) Ending → List ℕ → Type 0) (page : W → Page)
-    (status : Status) (old new : Printer W) : Type 0 where
+-- How a play ended, and what is printed of it: its events, and why it stopped if it did. A person is told of the events,
+-- then why it stopped, then that something could not be written, and nothing else.
+pub record Ended {W E : Type 0} (IsText : Diagnostics E → Result (Unit {0}) Ending → List ℕ → Type 0)
+    (page : W → Page) (heard : E → Page) (status : Status) (old new : Printer W) (after : Diagnostics E)
+    : Type 0 where
   pub result : Result (Unit {0}) Ending
   pub text : List ℕ
-  pub plays : IsText result text
+  pub mid : Diagnostics E
+  pub plays : IsText mid result text
   pub done : (status ≡ Done) ↔ (IsOk result × ¬ HasFailed new)
   pub printed : Prints page old new (text ++ end_text result)
   pub unwritten : IsUnwritten result → HasFailed new
+  pub late : Diagnostics E
+  pub stopped : TellsEnd heard result mid late
+  pub last : TellsWrites heard new late after

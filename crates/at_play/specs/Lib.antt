@@ -1,4 +1,3 @@
 pub mod Ends
-pub mod Refusals
 pub mod Sent
 pub mod Told

@@ -1,14 +1,12 @@
 //! The play of a schedule's events: each is read, played and printed before the next.
-ghost use Rattle.std.specs.Prelude.{◌≡◌, ◌<◌, false, true, length, IfErr, IfSome, OnOk, Ok};
+ghost use Rattle.std.specs.Prelude.{◌≡◌, ◌<◌, ◌∷◌, ◌++◌, [], List, ℕ, false, true, length, IfErr, IfSome, OnOk, Ok};
 ghost use Rattle.std.specs.Io.BufRead.{DropsThrough, first_piece};
 ghost use Rattle.std.specs.Io.KnownBytes.{IsAtEnd};
-ghost use Rattle.at_diagnostics.specs.Diagnostics.{told_by};
-ghost use Rattle.at_diagnostics.specs.Stops.{IsUnread};
 ghost use Rattle.at_play.specs.Ends.{IsUnwritten, Obeys};
-ghost use Rattle.at_play.specs.Refusals.{TellsRefusals};
 ghost use Rattle.at_print.specs.Printers.{HasFailed, Prints};
+ghost use Rattle.at_schedule.specs.Drafts.{IsRead};
 ghost use Rattle.at_schedule.specs.Schedules.{is_event_line};
-ghost use Rattle.at_play.specs.Told.{IsStopped, IsWhole, Played, StopsLine, Tells, TellsLine};
+ghost use Rattle.at_play.specs.Told.{IsStopped, IsUnreadIn, IsWhole, Played, StopsLine, Tells, TellsLine, TellsReports};
 ghost use Rattle.at_setup.specs.Setups.{is_lawful};
 ghost use Rattle.at_setup.specs.declared.setup.Setup.{Setup as Said};
 ghost use Rattle.at_world.specs.Plays.{opening_world};
@@ -19,7 +17,7 @@ use at_diagnostics::{Diagnostics, Stop};
 use at_faults::{Fault, LineFault, Unreadable};
 use at_print::{Paper, Printer, write_event};
 use at_schedule::laws::first_line;
-use at_schedule::{Draft, next_line};
+use at_schedule::{Draft, read_line};
 use at_world::laws::{at_most_16_nodes_stand, exactly_once_requests_run_once, steps_are_a_run};
 use at_world::{Event, Setup, World};
 use std::alloc::Allocator;
@@ -35,8 +33,8 @@ pub(crate) fn play_lines<A: Allocator + Copy, R: Read, W: Paper, E: Paper>(
 ) -> Result<(), Ending>
     requires { is_lawful setup.now ≡ true }
     ensures told { (p : Played setup.now) × Obeys setup.now p
-        × Prints W.page printer.old printer.new p.text × IsWhole A (R.remaining reader.old) result p
-        × TellsRefusals (told_by diagnostics.old) (told_by diagnostics.new) p.reports }
+        × Prints W.page printer.old printer.new p.text × IsWhole A (R.remaining reader.old) true result p
+        × TellsReports E.page 0 p.reports diagnostics.old diagnostics.new }
     ensures unwritten { IsUnwritten result → HasFailed printer.new }
 {
     at_most_16_nodes_stand::<A>();
@@ -53,8 +51,8 @@ fn play_all<A: Allocator + Copy, R: Read, W: Paper, E: Paper>(
     diagnostics: &mut Diagnostics<'_, E>,
 ) -> Result<(), Ending>
     ensures told { (p : Played setup.now)
-        × Prints W.page printer.old printer.new p.text × IsWhole A (R.remaining reader.old) result p
-        × TellsRefusals (told_by diagnostics.old) (told_by diagnostics.new) p.reports }
+        × Prints W.page printer.old printer.new p.text × IsWhole A (R.remaining reader.old) true result p
+        × TellsReports E.page 0 p.reports diagnostics.old diagnostics.new }
     ensures unwritten { IsUnwritten result → HasFailed printer.new }
 {
     let Ok(mut world) = World::open(alloc, setup) else {
@@ -76,8 +74,8 @@ fn play_in<A: Allocator + Copy, R: Read, W: Paper, E: Paper>(
     diagnostics: &mut Diagnostics<'_, E>,
 ) -> Result<(), Ending>
     ensures told { (setup : Said A) → world.old ≡ opening_world setup → net ≡ setup.net → (p : Played setup)
-        × Prints W.page printer.old printer.new p.text × IsWhole A (R.remaining reader.old) result p
-        × TellsRefusals (told_by diagnostics.old) (told_by diagnostics.new) p.reports }
+        × Prints W.page printer.old printer.new p.text × IsWhole A (R.remaining reader.old) true result p
+        × TellsReports E.page 0 p.reports diagnostics.old diagnostics.new }
     ensures unwritten { IsUnwritten result → HasFailed printer.new }
 {
     first_line();
@@ -89,7 +87,7 @@ fn play_in<A: Allocator + Copy, R: Read, W: Paper, E: Paper>(
     let mut number = 0usize;
     for _turn in 0..u64::MAX {
         number = number.saturating_add(1);
-        let more = read_line(&mut lines, &mut line, world.played(), number)?;
+        let more = next_line(&mut lines, &mut line, world.played(), number)?;
         if !more {
             return Ok(());
         }
@@ -103,7 +101,7 @@ fn play_in<A: Allocator + Copy, R: Read, W: Paper, E: Paper>(
 }
 
 // Reads the line of this number into the room, before the event of this place. False if there is none.
-fn read_line<A: Allocator, R: BufRead>(
+fn next_line<A: Allocator, R: BufRead>(
     reader: &mut R,
     room: &mut Vec<u8, A>,
     at: u32,
@@ -113,17 +111,17 @@ fn read_line<A: Allocator, R: BufRead>(
         (λ text. (0 < length text) × (room.new.items ≡ first_piece 10 text)) }
     ensures rest { OnOk result (DropsThrough (R.remaining reader.old) (R.remaining reader.new) 10) }
     ensures end { result ≡ Ok false → IsAtEnd (R.remaining reader.old) }
-    ensures unread { IfErr result (λ stop. IsUnread at stop) }
+    ensures unread { IfErr result (IsUnreadIn (R.remaining reader.old) at) }
 {
-    match next_line(reader, room).map_err(Fault::from) {
+    match read_line(reader, room) {
         Ok(more) => Ok(more),
         Err(Fault::NoMemory) => Err(Stop::no_memory(at, number)),
         Err(fault) => Err(Stop::Text(fault)),
     }
 }
 
-// Plays the event of a line, if it has one. The line was lawful when the setup was read.
-fn play_line<A: Allocator + Copy, W: Paper, E: Paper>(
+/// Plays the event of a line, if it has one. The line was lawful when the setup was read.
+pub(crate) fn play_line<A: Allocator + Copy, W: Paper, E: Paper>(
     world: &mut World<A>,
     draft: &mut Draft<A>,
     net: u16,
@@ -132,11 +130,13 @@ fn play_line<A: Allocator + Copy, W: Paper, E: Paper>(
     printer: &mut Printer<W>,
     diagnostics: &mut Diagnostics<'_, E>,
 ) -> Result<(), Stop>
-    ensures told { OnOk result (TellsLine A W.page net (is_event_line line.now) line.now world.old world.new
-        printer.old printer.new (told_by diagnostics.old) (told_by diagnostics.new)) }
+    ensures told { OnOk result (TellsLine A W.page E.page net number (is_event_line line.now) line.now world.old
+        world.new printer.old printer.new diagnostics.old diagnostics.new) }
+    ensures taken { OnOk result ((lines : List (List ℕ)) → IsRead A lines draft.old
+        → IsRead A (lines ++ line.now ∷ []) draft.new) }
     ensures stopped { IfErr result
-        (λ stop. (printer.new ≡ printer.old) × (told_by diagnostics.new ≡ told_by diagnostics.old)
-        × StopsLine A line.now world.old stop) }
+        (λ stop. (printer.new ≡ printer.old) × (diagnostics.new ≡ diagnostics.old)
+        × StopsLine A draft.old line.now world.old stop) }
 {
     match draft.take_line(net, line) {
         Ok(Some(event)) => play_event(world, &event, number, printer, diagnostics),
@@ -146,17 +146,17 @@ fn play_line<A: Allocator + Copy, W: Paper, E: Paper>(
     }
 }
 
-pub(crate) fn play_event<A: Allocator + Copy, W: Paper, E: Paper>(
+fn play_event<A: Allocator + Copy, W: Paper, E: Paper>(
     world: &mut World<A>,
     event: &Event<A>,
     line: usize,
     printer: &mut Printer<W>,
     diagnostics: &mut Diagnostics<'_, E>,
 ) -> Result<(), Stop>
-    ensures told { OnOk result (Tells W.page world.old event.now world.new printer.old printer.new
-        (told_by diagnostics.old) (told_by diagnostics.new)) }
+    ensures told { OnOk result (Tells W.page E.page line world.old event.now world.new printer.old printer.new
+        diagnostics.old diagnostics.new) }
     ensures stopped { IfErr result
-        (λ stop. (printer.new ≡ printer.old) × ((told_by diagnostics.new) ≡ (told_by diagnostics.old))
+        (λ stop. (printer.new ≡ printer.old) × (diagnostics.new ≡ diagnostics.old)
         × IsStopped world.old event.now world.new stop) }
 {
     let at = world.played();

@@ -1,8 +1,11 @@
 //! The play of a schedule, from its text to what is printed.
-ghost use Rattle.std.specs.Prelude.{◌≡◌, ◌<◌, ◌↔◌, List, ℕ, length, IfSome, IsOk};
-ghost use Rattle.at_diagnostics.specs.Diagnostics.{TellsWrites, told_by};
+ghost use Rattle.std.specs.Prelude.{◌≡◌, ◌<◌, ◌≤◌, ◌↔◌, List, ℕ, codes, length, IfErr, IfSome, IsOk, OnOk};
+ghost use Rattle.at_diagnostics.specs.Diagnostics.{TellsWrites};
 ghost use Rattle.at_diagnostics.specs.declared.diagnostics.Diagnostics.{Diagnostics as Told};
-ghost use Rattle.at_play.specs.Ends.{Ended, FileText, IsUnreadable, IsUnplayed, IsUnwritten, PlayText, TellsEnd};
+ghost use Rattle.at_faults.specs.Reads.{IsOfBytes};
+ghost use Rattle.at_faults.specs.declared.fault.Fault.TheVariants as why;
+ghost use Rattle.at_play.specs.Ends.{Ended, FileText, IsTooLong, IsUnreadable, IsUnplayed, IsUnwritten, PlayText};
+ghost use Rattle.at_play.specs.Ends.{TellsEnd};
 ghost use Rattle.at_play.specs.Ends.{end_text};
 ghost use Rattle.std.specs.Result.{IsErrAnd};
 ghost use Rattle.at_print.specs.Printers.{HasFailed, Prints};
@@ -11,7 +14,7 @@ use crate::ending::Ending;
 use crate::playing::play_lines;
 use crate::playing_text::play_bytes;
 use at_diagnostics::{Diagnostics, write_stop};
-use at_faults::{MAX_LEN, check_length, read_bytes};
+use at_faults::{Fault, MAX_LEN, Unreadable, check_length, read_bytes};
 use at_print::{Paper, Printer, Status};
 use at_schedule::read_setup;
 use std::alloc::Allocator;
@@ -29,9 +32,8 @@ pub fn play_text<A: Allocator + Copy, R: Read, W: Paper, E: Paper>(
     ensures too_long { IfSome (R.remaining reader.old)
         (λ all. MAX_LEN < length all → IsUnplayed W.page result printer.old printer.new) }
     ensures printed { result ≡ Status.Done → ¬ HasFailed printer.new }
-    ensures ended { Ended
-        (PlayText A (R.remaining reader.old) (told_by diagnostics.old) (told_by diagnostics.new)) W.page result
-        printer.old printer.new }
+    ensures ended { Ended (PlayText A E.page (R.remaining reader.old) diagnostics.old) W.page E.page result
+        printer.old printer.new diagnostics.new }
 {
     let played = play_stream(alloc, reader, printer, diagnostics);
     end(played, printer, diagnostics)
@@ -46,11 +48,12 @@ pub fn play_file<A: Allocator + Copy, F: Read + Seek, W: Paper, E: Paper>(
     printer: &mut Printer<W>,
     diagnostics: &mut Diagnostics<'_, E>,
 ) -> Status
-    ensures too_long { IfSome (F.remaining file.old)
-        (λ all. MAX_LEN < length all → IsUnplayed W.page result printer.old printer.new) }
+    // One that is too long is not played, and nothing but `fault 0` is printed. Said if it is known what the file holds.
+    ensures too_long { IfSome (F.remaining file.old) (λ all. MAX_LEN < length all
+        → (result ≡ Status.Failed) × Prints W.page printer.old printer.new (codes "fault 0\n")) }
     ensures printed { result ≡ Status.Done → ¬ HasFailed printer.new }
-    ensures ended { Ended (FileText A F.remaining F.stream_position F.stream_bytes
-        (told_by diagnostics.old) (told_by diagnostics.new)) W.page result printer.old printer.new }
+    ensures ended { Ended (FileText A F.remaining F.stream_position F.stream_bytes E.page diagnostics.old) W.page E.page
+        result printer.old printer.new diagnostics.new }
 {
     let played = play_again(alloc, file, printer, diagnostics);
     end(played, printer, diagnostics)
@@ -65,7 +68,7 @@ fn play_stream<A: Allocator + Copy, R: Read, W: Paper, E: Paper>(
     ensures too_long { IfSome (R.remaining reader.old)
         (λ all. MAX_LEN < length all → IsErrAnd result IsUnreadable × (printer.new ≡ printer.old)) }
     ensures told { (text : List ℕ)
-        × PlayText A (R.remaining reader.old) (told_by diagnostics.old) (told_by diagnostics.new) result text
+        × PlayText A E.page (R.remaining reader.old) diagnostics.old diagnostics.new result text
         × Prints W.page printer.old printer.new text }
     ensures unwritten { IsUnwritten result → HasFailed printer.new }
 {
@@ -81,17 +84,29 @@ fn play_again<A: Allocator + Copy, F: Read + Seek, W: Paper, E: Paper>(
     diagnostics: &mut Diagnostics<'_, E>,
 ) -> Result<(), Ending>
     ensures too_long { IfSome (F.remaining file.old)
-        (λ all. MAX_LEN < length all → IsErrAnd result IsUnreadable × (printer.new ≡ printer.old)) }
+        (λ all. MAX_LEN < length all → IsErrAnd result IsTooLong × (printer.new ≡ printer.old)) }
     ensures told { (text : List ℕ)
-        × FileText A F.remaining F.stream_position F.stream_bytes (told_by diagnostics.old) (told_by diagnostics.new)
-        result text × Prints W.page printer.old printer.new text }
+        × FileText A F.remaining F.stream_position F.stream_bytes E.page diagnostics.old diagnostics.new result text
+        × Prints W.page printer.old printer.new text }
     ensures unwritten { IsUnwritten result → HasFailed printer.new }
 {
-    check_length(file)?;
+    check_file(file)?;
     file.rewind()?;
     let setup = read_setup(alloc, file)?;
     file.rewind()?;
     play_lines(alloc, &setup, file, printer, diagnostics)
+}
+
+// Reads a file to its end, and tells whether this is too much for a schedule. That asks for no memory.
+fn check_file<F: Read>(file: &mut F) -> Result<(), Unreadable>
+    ensures fits { OnOk result (IfSome (F.remaining file.old) (λ all. length all ≤ MAX_LEN)) }
+    ensures fault { IfErr result (λ u. IsOfBytes (why.Unreadable u)) }
+{
+    match check_length(file) {
+        Ok(()) => Ok(()),
+        Err(Fault::Unreadable(why)) => Err(why),
+        Err(_) => Err(Unreadable::Failed),
+    }
 }
 
 // Tells how a play ended, and why it stopped if it did.
@@ -102,7 +117,6 @@ fn end<W: Paper, E: Paper>(
 ) -> Status
     ensures done { (result ≡ Status.Done) ↔ (IsOk played × ¬ HasFailed printer.new) }
     ensures printed { Prints W.page printer.old printer.new (end_text played) }
-    ensures told { told_by diagnostics.new ≡ told_by diagnostics.old }
     ensures said { (mid : Told E) × TellsEnd E.page played diagnostics.old mid
         × TellsWrites E.page printer.new mid diagnostics.new }
 {
@@ -118,7 +132,6 @@ fn finish<W: Paper, E: Paper>(
 ) -> Status
     ensures done { (result ≡ Status.Done) ↔ (IsOk played × ¬ HasFailed printer.new) }
     ensures printed { Prints W.page printer.old printer.new (end_text played) }
-    ensures told { told_by diagnostics.new ≡ told_by diagnostics.old }
     ensures said { TellsEnd E.page played diagnostics.old diagnostics.new }
 {
     match played {

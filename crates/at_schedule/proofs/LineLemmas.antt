@@ -6,7 +6,7 @@ use Rattle.std.proofs.Common.{◌+◌, ◌^◌, min}
 use Rattle.std.proofs.lemmas.List.{length-append}
 use Rattle.std.specs.Prelude.{Option}
 use Rattle.std.specs.Io.BufRead.{DropsThrough, drop_through, first_piece, take_through, strip_last}
-use Rattle.std.specs.Io.KnownBytes.{IsAtEnd}
+use Rattle.std.specs.Io.KnownBytes.{Consumes, IsAtEnd}
 use Rattle.at_faults.specs.declared.fault.Fault.{Fault}
 use Rattle.at_faults.specs.declared.fault.Fault.TheVariants as fault
 use Rattle.at_faults.specs.declared.fault.LineFault.{LineFault}
@@ -67,6 +67,14 @@ pub line_first : (rest : List ℕ) → 0 < length rest → lines_in rest
     ≡ first_piece 10 rest ∷ lines_in (drop_through 10 rest)
 line_first [] some = absurd (omega arith)
 line_first (c ∷ text) some = first_by (c == 10) c text refl
+
+-- where bytes are left after some, bytes were left before them
+pub left_before : (old new : Option (List ℕ)) (bytes : List ℕ) → Consumes old new bytes
+    → IfSome new (λ text. 0 < length text) → IfSome old (λ text. 0 < length text)
+left_before None new bytes consumed some = tt
+left_before (Some xs) None bytes consumed some = absurd consumed
+left_before (Some xs) (Some ys) bytes consumed some =
+    let long = ap length consumed in omega (arith, long, some, length-append bytes ys)
 
 -- ---- the lines that were read
 

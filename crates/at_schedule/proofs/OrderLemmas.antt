@@ -71,6 +71,17 @@ setup_after [] ys x h some setup = omega (arith, some)
 setup_after (l ∷ xs) ys x h some setup = setup_after_by (is_event_line l) l xs ys x refl h.0
     (setup_after xs ys x h.1) some setup
 
+-- before a line for the setup there is no event
+pub events_after : (xs ys : List (List ℕ)) (x : List ℕ) → AreInOrder (xs ++ x ∷ ys) → is_setup_line x ≡ true
+    → filter is_event_line xs ≡ []
+events_after xs ys x h setup = go (filter is_event_line xs) refl
+  where
+    go : (found : List (List ℕ)) → filter is_event_line xs ≡ found → filter is_event_line xs ≡ []
+    go [] none = none
+    go (l ∷ found) some =
+        let long : 0 < length (filter is_event_line xs) = rw some (omega arith) in
+        absurd (setup_after xs ys x h long setup)
+
 -- a line that is not for the setup may follow
 pub order_more : (xs : List (List ℕ)) (x : List ℕ) → AreInOrder xs → is_setup_line x ≡ false → AreInOrder (xs ++ x ∷ [])
 order_more [] x h is = (λ e. refl, tt)

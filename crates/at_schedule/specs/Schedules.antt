@@ -1,5 +1,5 @@
 -- The lines of a schedule, and which of them are events.
-use Rattle.std.specs.Prelude.{◌≡◌, ℕ, ◌==◌, ◌||◌, not, if◌then◌else◌, Bool, true, false, List, [], ◌∷◌}
+use Rattle.std.specs.Prelude.{◌≡◌, ◌⊎◌, ℕ, ◌==◌, ◌||◌, not, if◌then◌else◌, Bool, true, false, List, [], ◌∷◌}
 use Rattle.std.specs.Prelude.{codes, filter, map}
 use Rattle.std.specs.Str.{bytes_eq}
 use Rattle.at_words.specs.Words.{words_of}
@@ -47,3 +47,16 @@ AreInOrder (line ∷ lines) = (is_event_line line ≡ true → filter is_setup_l
 -- the lines of a schedule that are events, in their order
 abbrev pub event_lines : List ℕ → List (List ℕ)
 event_lines text = filter is_event_line (lines_in text)
+
+-- the first word of an event of which bytes or texts may be kept
+abbrev pub is_kept_word : List ℕ → Bool
+is_kept_word word = bytes_eq word (codes "call") || bytes_eq word (codes "forge")
+
+-- the words are for the setup, or begin such an event
+abbrev pub AreKept : List (List ℕ) → Type 0
+AreKept [] = ⊥
+AreKept (word ∷ words) = (is_event_word word ≡ false) ⊎ (is_kept_word word ≡ true)
+
+-- something of the line may be kept, which takes memory
+abbrev pub IsKept : List ℕ → Type 0
+IsKept line = (is_passed_over line ≡ false) × AreKept (words_of line)

@@ -1,12 +1,13 @@
 //! A schedule of which some lines are read.
-ghost use Rattle.std.specs.Prelude.{◌≡◌, ◌⊎◌, ◌↔◌, ◌++◌, ◌∷◌, [], List, ℕ, false, true, Some, IfOk, IfSome, OnErr, OnOk};
+ghost use Rattle.std.specs.Prelude.{◌≡◌, ◌≢◌, ◌⊎◌, ◌↔◌, ◌++◌, ◌∷◌, [], List, ℕ, false, true, Err, Some, IfOk, IfSome};
+ghost use Rattle.std.specs.Prelude.{OnErr, OnOk};
 ghost use Rattle.at_call_words.specs.Readings.{IfUnlawful, IsFoundInMemory};
 ghost use Rattle.at_setup_lines.specs.Drafts.{IsDraft, IsNoSetup, Refuses, Takes, has_events};
 ghost use Rattle.at_setup_lines.specs.SetupLines.{IsSetup};
 ghost use Rattle.at_setup.specs.declared.event.Event.{Event as Happening};
 ghost use Rattle.at_schedule.specs.Drafts.{BeginSchedule, IsRead};
 ghost use Rattle.at_schedule.specs.Says.{IsEventHere, Reads, SaysEvent, SaysFound};
-ghost use Rattle.at_schedule.specs.Schedules.{is_event_word, is_passed_over};
+ghost use Rattle.at_schedule.specs.Schedules.{IsKept, is_event_word, is_kept_word, is_passed_over};
 ghost use Rattle.at_words.specs.Words.{words_of};
 
 use crate::event_line::{call_event, delivery_event, forged_event, timer_event};
@@ -53,6 +54,8 @@ impl<A: Allocator + Copy> Draft<A> {
         ensures kept { OnErr result (self.new ≡ self.old) }
         ensures only { IfUnlawful result ((lines : List (List ℕ)) → IsRead A lines self.old
             → ¬ BeginSchedule A (lines ++ line.now ∷ [])) }
+        // A delivery, a timer, and a line that says nothing take none.
+        ensures memory { result ≡ Err LineFault.NoMemory → IsKept line.now }
     {
         lines_begin_with_known_words::<A>();
         if is_passed_over(line) {
@@ -86,6 +89,7 @@ impl<A: Allocator + Copy> Draft<A> {
         ensures kept { OnErr result (self.new ≡ self.old) }
         ensures only { IfUnlawful result
             (((e : Happening A) → ¬ SaysEvent word.now (words_of words.entry.rest.now) e) ⊎ IsNoSetup A self.old) }
+        ensures memory { result ≡ Err LineFault.NoMemory → is_kept_word word.now ≡ true }
     {
         let found = event_of(self.alloc, net, word, words);
         if found.is_err() {
@@ -100,6 +104,7 @@ impl<A: Allocator + Copy> Draft<A> {
             × ((lines : List (List (List ℕ))) → IsDraft lines self.old → IsDraft lines self.new)) }
         ensures kept { OnErr result (self.new ≡ self.old) }
         ensures only { IfUnlawful result (IsNoSetup A self.old) }
+        ensures memory { result ≢ Err LineFault.NoMemory }
     {
         if let Err(rule) = self.setup.take_event() {
             return Err(LineFault::Unlawful(rule));
@@ -136,6 +141,7 @@ fn event_of<A: Allocator + Copy>(
 ) -> Result<Option<Event<A>>, LineFault>
     ensures said { IsFoundInMemory result (SaysFound word.now (words_of words.entry.rest.now)) }
     ensures here { IfOk result (λ found. IfSome found (IsEventHere net)) }
+    ensures memory { result ≡ Err LineFault.NoMemory → is_kept_word word.now ≡ true }
 {
     if word == b"call".as_slice() {
         return call_event(alloc, net, words);

@@ -1,5 +1,5 @@
 //! The line of an event, after its first word.
-ghost use Rattle.std.specs.Prelude.{ℕ, codes, IfOk, IfSome, IsNone};
+ghost use Rattle.std.specs.Prelude.{◌≢◌, ℕ, codes, Err, IfOk, IfSome, IsNone};
 ghost use Rattle.at_call_words.specs.Readings.{IsFoundInMemory};
 ghost use Rattle.at_schedule.specs.Says.{DeliverSays, IsEventHere, SaysFound};
 ghost use Rattle.at_words.specs.Words.{words_of};
@@ -31,6 +31,7 @@ pub(crate) fn call_event<A: Allocator + Copy>(
 pub(crate) fn delivery_event<A: Allocator>(words: Words<'_>) -> Result<Option<Event<A>>, LineFault>
     ensures said { IsFoundInMemory result (SaysFound (codes "deliver") (words_of words.entry.rest.now)) }
     ensures here { (net : ℕ) → IfOk result (λ found. IfSome found (IsEventHere net)) }
+    ensures memory { result ≢ Err LineFault.NoMemory }
 {
     match delivery(words) {
         Some((which, node)) => Ok(Some(Event::Deliver { which, node })),
@@ -57,6 +58,7 @@ pub(crate) fn timer_event<A: Allocator>(
 ) -> Result<Option<Event<A>>, LineFault>
     ensures said { IsFoundInMemory result (SaysFound (codes "timer") (words_of words.entry.rest.now)) }
     ensures here { IfOk result (λ found. IfSome found (IsEventHere net)) }
+    ensures memory { result ≢ Err LineFault.NoMemory }
 {
     let node = words.next().ok_or(LineFault::Unlawful(Rule::Timer))?;
     let node = node_number(node).ok_or(LineFault::Unlawful(Rule::Timer))?;

@@ -5,9 +5,11 @@ mod cutting;
 mod draft;
 mod event_line;
 pub mod laws;
+mod reading;
 mod schedule;
 
 pub use at_faults::{Fault, LineFault, Rule, Unreadable};
 pub use cutting::cut_line;
 pub use draft::{Draft, is_passed_over};
-pub use schedule::{fault_at, next_line, read_setup};
+pub use reading::read_line;
+pub use schedule::{fault_at, read_setup};

@@ -56,7 +56,7 @@ fn end_at<A: Allocator + Copy>(draft: Draft<A>, number: usize) -> Result<Setup<A
 
 /// Reads the next line of a text into the room, in place of what is there, and without its line feed. False if there is
 /// none. The room grows to the longest line, and no other memory is asked for.
-pub fn next_line<A: Allocator, R: BufRead>(
+pub(crate) fn next_line<A: Allocator, R: BufRead>(
     reader: &mut R,
     room: &mut Vec<u8, A>,
 ) -> io::Result<bool>

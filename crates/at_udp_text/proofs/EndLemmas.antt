@@ -1,5 +1,5 @@
--- What was read of a file that was sent back to its beginning.
-use Rattle.std.proofs.Common.{ℕ, true, List, IfErr, IfOk, IfSome, Ok, Err, inr}
+-- What was read of a file that was sent back to its beginning, and what is too long.
+use Rattle.std.proofs.Common.{ℕ, ◌<◌, true, List, IfErr, IfOk, IfSome, None, Ok, Err, Some, inr, length}
 use Rattle.std.specs.Prelude.{Option, Result}
 use Rattle.at_faults.specs.declared.fault.Fault.{Fault}
 use Rattle.at_drive_lines.specs.Drafts.{BeginsSo, IsDriveFault}
@@ -20,3 +20,15 @@ module _ (A : Type 0) {F : Type 0} (remaining : F → Option (List ℕ)) (positi
       → IfErr r (λ f. IsFileFault A remaining position bytes f)
   fault_read (Ok head) why = tt
   fault_read (Err fault) why = inr (first, why)
+
+-- what follows for a text that is too long
+pub too_long : {P Q : Type 0} (known : Option (List ℕ)) (most : ℕ) → IfSome known (λ all. most < length all → P)
+    → (P → Q) → IfSome known (λ all. most < length all → Q)
+too_long None most h f = tt
+too_long (Some all) most h f = λ long. f (h long)
+
+-- what holds of any text
+pub in_any_case : {P : Type 0} (known : Option (List ℕ)) (most : ℕ) → P
+    → IfSome known (λ all. most < length all → P)
+in_any_case None most h = tt
+in_any_case (Some all) most h = λ long. h

@@ -7,6 +7,7 @@ use Rattle.std.specs.declared.io.Error.{Error}
 use Rattle.at_cable.specs.declared.fault.CableFault.{CableFault}
 use Rattle.at_faults.specs.Reads.{IsOfBytes}
 use Rattle.at_faults.specs.declared.fault.Fault.{Fault}
+use Rattle.at_faults.specs.declared.fault.Fault.TheVariants as fault
 use Rattle.at_setup.specs.Setups.{is_lawful}
 use Rattle.at_setup.specs.declared.setup.Setup.{Setup}
 use Rattle.at_schedule.specs.Schedules.{lines_in}
@@ -15,7 +16,10 @@ use Rattle.at_drive_lines.specs.Drafts.{BeginsSo, IsDriveFault}
 use Rattle.at_drive_lines.specs.Lines.{lines_of}
 use Rattle.at_drive_lines.specs.NodeLines.{IsFirstLineOf, NoneNames}
 use Rattle.at_drive_text.specs.Driven.{Driven}
-use Rattle.at_diagnostics.specs.Stops.{no_memory_line, text_fault_line}
+use Rattle.at_diagnostics.specs.Diagnostics.{TellsLine, TellsStop, TellsWrites, file_of}
+use Rattle.at_diagnostics.specs.Lines.{line_told}
+use Rattle.at_diagnostics.specs.Stops.{no_memory_line, stop_of, text_fault_line}
+use Rattle.at_diagnostics.specs.declared.diagnostics.Diagnostics.{Diagnostics}
 use Rattle.at_print.specs.Papers.{Page}
 use Rattle.at_print.specs.Printers.{Prints}
 use Rattle.at_print.specs.declared.printer.Printer.{Printer}
@@ -26,54 +30,77 @@ use Rattle.at_udp.specs.Sockets.{UdpState}
 use Rattle.at_udp.specs.declared.bind.BindFault.{BindFault}
 use Rattle.at_udp.specs.declared.bind.BindFault.TheVariants as unbound
 
--- nothing was driven, and this alone is printed
-abbrev pub Fails : {W : Type 0} → (W → Page) → Status → Printer W → Printer W → List ℕ → Type 0
-Fails page status old new text = (status ≡ Failed) × Prints page old new text
+-- Nothing was driven, and this alone is printed. A person is told why, and if it could not be written, and nothing else.
+abbrev pub Fails : {W E : Type 0} → (W → Page) → (E → Page) → (Diagnostics E → Diagnostics E → Type 0) → List ℕ
+    → Status → Printer W → Printer W → Diagnostics E → Diagnostics E → Type 0
+Fails {E = E} page heard TellsWhy text status old new before after =
+    (status ≡ Failed) × Prints page old new text
+    × ((mid : Diagnostics E) × TellsWhy before mid × TellsWrites heard new mid after)
 
 -- there is no drive, for such a reason
-abbrev pub IsNotRead : {W : Type 0} → (Fault → Type 0) → (W → Page) → Status → Printer W → Printer W → Type 0
-IsNotRead IsReason page status old new = (f : Fault) × IsReason f × Fails page status old new (text_fault_line f)
+abbrev pub IsNotRead : {W E : Type 0} → (Fault → Type 0) → (W → Page) → (E → Page) → Status → Printer W → Printer W
+    → Diagnostics E → Diagnostics E → Type 0
+IsNotRead IsReason page heard status old new before after =
+    (f : Fault) × IsReason f
+    × Fails page heard (TellsStop heard (stop_of f)) (text_fault_line f) status old new before after
+
+-- the bytes could not be read, or are too many
+abbrev pub IsUnreadable : Fault → Type 0
+IsUnreadable (fault.Unreadable why) = Unit {0}
+IsUnreadable (fault.Line number rule) = ⊥
+IsUnreadable fault.NoMemory = ⊥
 
 -- the number of the first line of a node, or 0 if no line names it, or none could be read
 abbrev pub IsLineOf : Option (List (List ℕ)) → Bool → ℕ → ℕ → Type 0
 IsLineOf known may_fail node number = IfSome known
     (λ lines. IsFirstLineOf lines node number ⊎ ((number ≡ 0) × (NoneNames lines node ⊎ (may_fail ≡ true))))
 
--- what is printed if a node has no socket: the node's line is at fault
-abbrev pub UnboundText : Option (List (List ℕ)) → Bool → BindFault → List ℕ → Type 0
-UnboundText known may_fail unbound.NoMemory text = text ≡ no_memory_line
-UnboundText known may_fail (unbound.NoSocket node port why) text =
-    (number : ℕ) × IsLineOf known may_fail node number × (text ≡ codes "fault " ++ (decimal number ++ codes "\n"))
+-- a person is told some reason for which this line is at fault
+abbrev pub TellsAt : {E : Type 0} → (E → Page) → ℕ → Diagnostics E → Diagnostics E → Type 0
+TellsAt heard number before after =
+    (words : List ℕ) × TellsLine heard (line_told (file_of before) number words) before after
+
+-- how a drive ends if a node has no socket: the node's line is at fault
+abbrev pub EndsUnbound : {W E : Type 0} → Option (List (List ℕ)) → Bool → BindFault → (W → Page) → (E → Page) → Status
+    → Printer W → Printer W → Diagnostics E → Diagnostics E → Type 0
+EndsUnbound known may_fail unbound.NoMemory page heard status old new before after =
+    Fails page heard (TellsStop heard (stop_of fault.NoMemory)) no_memory_line status old new before after
+EndsUnbound known may_fail (unbound.NoSocket node port why) page heard status old new before after =
+    (number : ℕ) × IsLineOf known may_fail node number
+    × Fails page heard (TellsAt heard number) (codes "fault " ++ (decimal number ++ codes "\n")) status old new before
+    after
 
 -- The nodes of a setup are at ports above this one. A node has no socket, or all have theirs and are driven by the lines.
-abbrev pub DrivesNodes : {A C W : Type 0} → (ℕ → Result C Error → Type 0)
+abbrev pub DrivesNodes : {A C W E : Type 0} → (ℕ → Result C Error → Type 0)
     → (UdpState C → ℕ → ℕ → List ℕ → Result (Unit {0}) CableFault → UdpState C → Type 0)
     → (UdpState C → ℕ → ℕ → Result (Option (List ℕ)) CableFault → UdpState C → Type 0) → Setup A → ℕ
-    → Option (List (List ℕ)) → Bool → (W → Page) → Status → Printer W → Printer W → Type 0
-DrivesNodes {C = C} B S R setup port known may_fail page status old new =
+    → Option (List (List ℕ)) → Bool → (W → Page) → (E → Page) → Status → Printer W → Printer W → Diagnostics E
+    → Diagnostics E → Type 0
+DrivesNodes {C = C} B S R setup port known may_fail page heard status old new before after =
     ((f : BindFault) × IsUnbound B port (numbers_of setup) f
-    × ((text : List ℕ) × UnboundText known may_fail f text × Fails page status old new text))
+    × EndsUnbound known may_fail f page heard status old new before after)
     ⊎ ((c c' : UdpState C) × IsBound B port (numbers_of setup) c
-    × Driven S R setup known may_fail c c' page status old new)
+    × Driven S R setup known may_fail c c' page heard status old new before after)
 
 -- a text is no drive, or it is one of a lawful setup, whose nodes are driven by its lines
-abbrev pub DrivesText : (A : Type 0) {C W : Type 0} → (ℕ → Result C Error → Type 0)
+abbrev pub DrivesText : (A : Type 0) {C W E : Type 0} → (ℕ → Result C Error → Type 0)
     → (UdpState C → ℕ → ℕ → List ℕ → Result (Unit {0}) CableFault → UdpState C → Type 0)
     → (UdpState C → ℕ → ℕ → Result (Option (List ℕ)) CableFault → UdpState C → Type 0) → List ℕ → (W → Page)
-    → Status → Printer W → Printer W → Type 0
-DrivesText A B S R text page status old new =
-    IsNotRead (IsDriveFault A (Some (lines_in text)) false) page status old new
+    → (E → Page) → Status → Printer W → Printer W → Diagnostics E → Diagnostics E → Type 0
+DrivesText A B S R text page heard status old new before after =
+    IsNotRead (IsDriveFault A (Some (lines_in text)) false) page heard status old new before after
     ⊎ ((setup : Setup A) × (port : ℕ) × (is_lawful setup ≡ true) × BeginsSo setup port (lines_in text)
-    × DrivesNodes B S R setup port (Some (lines_in text)) false page status old new)
+    × DrivesNodes B S R setup port (Some (lines_in text)) false page heard status old new before after)
 
 -- The bytes could not be read, or they are this text: what the reader held, if that is known.
-abbrev pub DrivesStream : (A : Type 0) {C W : Type 0} → (ℕ → Result C Error → Type 0)
+abbrev pub DrivesStream : (A : Type 0) {C W E : Type 0} → (ℕ → Result C Error → Type 0)
     → (UdpState C → ℕ → ℕ → List ℕ → Result (Unit {0}) CableFault → UdpState C → Type 0)
     → (UdpState C → ℕ → ℕ → Result (Option (List ℕ)) CableFault → UdpState C → Type 0) → Option (List ℕ)
-    → (W → Page) → Status → Printer W → Printer W → Type 0
-DrivesStream A B S R known page status old new =
-    IsNotRead IsOfBytes page status old new
-    ⊎ ((text : List ℕ) × IfSome known (λ all. text ≡ all) × DrivesText A B S R text page status old new)
+    → (W → Page) → (E → Page) → Status → Printer W → Printer W → Diagnostics E → Diagnostics E → Type 0
+DrivesStream A B S R known page heard status old new before after =
+    IsNotRead IsOfBytes page heard status old new before after
+    ⊎ ((text : List ℕ) × IfSome known (λ all. text ≡ all)
+    × DrivesText A B S R text page heard status old new before after)
 
 -- a file that was sent back to its beginning
 pub record Rewound {F : Type 0} (position : F → Option ℕ) (bytes : F → Option (List ℕ)) : Type 0 where
@@ -96,31 +123,35 @@ IsHeadOf remaining position bytes setup port =
     (first : Rewound position bytes) × IfSome (lines_of (remaining first.file)) (BeginsSo setup port)
 
 -- there was no memory to read these lines, or the nodes are driven by them
-abbrev pub DrivesFrom : {A C W : Type 0} → (ℕ → Result C Error → Type 0)
+abbrev pub DrivesFrom : {A C W E : Type 0} → (ℕ → Result C Error → Type 0)
     → (UdpState C → ℕ → ℕ → List ℕ → Result (Unit {0}) CableFault → UdpState C → Type 0)
     → (UdpState C → ℕ → ℕ → Result (Option (List ℕ)) CableFault → UdpState C → Type 0) → Setup A → ℕ
-    → Option (List (List ℕ)) → (W → Page) → Status → Printer W → Printer W → Type 0
-DrivesFrom B S R setup port known page status old new =
-    IsNotRead IsOfBytes page status old new ⊎ DrivesNodes B S R setup port known true page status old new
+    → Option (List (List ℕ)) → (W → Page) → (E → Page) → Status → Printer W → Printer W → Diagnostics E → Diagnostics E
+    → Type 0
+DrivesFrom B S R setup port known page heard status old new before after =
+    IsNotRead IsOfBytes page heard status old new before after
+    ⊎ DrivesNodes B S R setup port known true page heard status old new before after
 
 -- a file can't be sent back, or there was no memory to read it, or the nodes are driven by the lines that it has now
-abbrev pub DrivesAgain : {A C F W : Type 0} → (ℕ → Result C Error → Type 0)
+abbrev pub DrivesAgain : {A C F W E : Type 0} → (ℕ → Result C Error → Type 0)
     → (UdpState C → ℕ → ℕ → List ℕ → Result (Unit {0}) CableFault → UdpState C → Type 0)
     → (UdpState C → ℕ → ℕ → Result (Option (List ℕ)) CableFault → UdpState C → Type 0) → (F → Option (List ℕ))
-    → (F → Option ℕ) → (F → Option (List ℕ)) → Setup A → ℕ → (W → Page) → Status → Printer W → Printer W → Type 0
-DrivesAgain B S R remaining position bytes setup port page status old new =
-    IsNotRead IsOfBytes page status old new
+    → (F → Option ℕ) → (F → Option (List ℕ)) → Setup A → ℕ → (W → Page) → (E → Page) → Status → Printer W → Printer W
+    → Diagnostics E → Diagnostics E → Type 0
+DrivesAgain B S R remaining position bytes setup port page heard status old new before after =
+    IsNotRead IsOfBytes page heard status old new before after
     ⊎ ((again : Rewound position bytes)
-    × DrivesFrom B S R setup port (lines_of (remaining again.file)) page status old new)
+    × DrivesFrom B S R setup port (lines_of (remaining again.file)) page heard status old new before after)
 
 -- A file is no drive. Or it is one of a lawful setup, as its lines were when they were read for their faults, and it is
 -- read again to be driven.
-abbrev pub DrivesFile : (A : Type 0) {C F W : Type 0} → (ℕ → Result C Error → Type 0)
+abbrev pub DrivesFile : (A : Type 0) {C F W E : Type 0} → (ℕ → Result C Error → Type 0)
     → (UdpState C → ℕ → ℕ → List ℕ → Result (Unit {0}) CableFault → UdpState C → Type 0)
     → (UdpState C → ℕ → ℕ → Result (Option (List ℕ)) CableFault → UdpState C → Type 0) → (F → Option (List ℕ))
-    → (F → Option ℕ) → (F → Option (List ℕ)) → (W → Page) → Status → Printer W → Printer W → Type 0
-DrivesFile A B S R remaining position bytes page status old new =
-    IsNotRead (IsFileFault A remaining position bytes) page status old new
+    → (F → Option ℕ) → (F → Option (List ℕ)) → (W → Page) → (E → Page) → Status → Printer W → Printer W → Diagnostics E
+    → Diagnostics E → Type 0
+DrivesFile A B S R remaining position bytes page heard status old new before after =
+    IsNotRead (IsFileFault A remaining position bytes) page heard status old new before after
     ⊎ ((setup : Setup A) × (port : ℕ) × (is_lawful setup ≡ true)
     × IsHeadOf remaining position bytes setup port
-    × DrivesAgain B S R remaining position bytes setup port page status old new)
+    × DrivesAgain B S R remaining position bytes setup port page heard status old new before after)

@@ -1,10 +1,10 @@
 //! The nodes of a setup, their sockets, and the lines by which they are driven.
-ghost use Rattle.std.specs.Prelude.{◌≡◌, List, ℕ, IfErr, IfOk};
+ghost use Rattle.std.specs.Prelude.{◌≡◌, IfErr, IfOk};
 ghost use Rattle.at_drive.specs.Steps.{numbers_of};
 ghost use Rattle.at_drive_text.specs.Driven.{WasRead};
 ghost use Rattle.at_udp.specs.Binds.{IsBound, IsUnbound};
 ghost use Rattle.at_udp.specs.Sockets.{Receives, Sends};
-ghost use Rattle.at_udp_text.specs.Ends.{DrivesNodes, Fails, IsLineOf, UnboundText};
+ghost use Rattle.at_udp_text.specs.Ends.{DrivesNodes, EndsUnbound, IsLineOf};
 
 use at_diagnostics::Diagnostics;
 use at_drive_lines::{DriveHead, Lines, line_of_node};
@@ -27,7 +27,7 @@ pub(crate) fn drive_nodes<S: Socket, A: Allocator + Copy, N: Net, L: Lines, W: P
 ) -> Status
     requires { WasRead head.now.setup (L.left lines.old) L.may_fail }
     ensures { DrivesNodes S.binds (Sends S.sends) (Receives S.receives) head.now.setup head.now.port
-        (L.left lines.old) L.may_fail W.page result printer.old printer.new }
+        (L.left lines.old) L.may_fail W.page E.page result printer.old printer.new diagnostics.old diagnostics.new }
 {
     match cable_of::<S, A, N>(alloc, net, head) {
         Ok(mut cable) => drive_lines(alloc, &head.setup, lines, &mut cable, printer, diagnostics),
@@ -67,8 +67,8 @@ fn end_unbound<L: Lines, W: Paper, E: Paper>(
     printer: &mut Printer<W>,
     diagnostics: &mut Diagnostics<'_, E>,
 ) -> Status
-    ensures { (text : List ℕ) × UnboundText (L.left lines.old) L.may_fail fault text
-        × Fails W.page result printer.old printer.new text }
+    ensures { EndsUnbound (L.left lines.old) L.may_fail fault W.page E.page result printer.old printer.new
+        diagnostics.old diagnostics.new }
 {
     match fault {
         BindFault::NoMemory => end_at_fault(Fault::NoMemory, printer, diagnostics),

@@ -1,6 +1,6 @@
 //! The drive of a schedule, from its text to what is printed. The text is read for its faults before a socket is bound, and
 //! once more as it is driven.
-ghost use Rattle.std.specs.Prelude.{◌≡◌, ◌<◌, IfErr, IfOk, IfSome, length, true};
+ghost use Rattle.std.specs.Prelude.{◌≡◌, ◌<◌, ◌≤◌, IfErr, IfOk, IfSome, OnOk, length, true};
 ghost use Rattle.std.specs.Result.{IsErrAnd};
 ghost use Rattle.at_faults.specs.Reads.{IsOfBytes};
 ghost use Rattle.at_drive_lines.specs.Drafts.{BeginsSo, IsDriveFault};
@@ -8,13 +8,13 @@ ghost use Rattle.at_drive_lines.specs.Lines.{lines_of};
 ghost use Rattle.at_setup.specs.Setups.{is_lawful};
 ghost use Rattle.at_udp.specs.Sockets.{Receives, Sends};
 ghost use Rattle.at_udp_text.specs.Ends.{DrivesAgain, DrivesFile, DrivesFrom, DrivesStream, DrivesText};
-ghost use Rattle.at_udp_text.specs.Ends.{IsFileFault, IsHeadOf, IsNotRead};
+ghost use Rattle.at_udp_text.specs.Ends.{IsFileFault, IsHeadOf, IsNotRead, IsUnreadable};
 
 use crate::driving::drive_nodes;
 use at_diagnostics::Diagnostics;
 use at_drive_lines::{DriveHead, ReadLines, TextLines, read_head};
 use at_drive_text::end_at_fault;
-use at_faults::{Fault, MAX_LEN, check_length, read_bytes};
+use at_faults::{Fault, MAX_LEN, Unreadable, check_length, read_bytes};
 use at_print::{Paper, Printer, Status};
 use at_udp::Socket;
 use std::alloc::Allocator;
@@ -31,9 +31,10 @@ pub fn drive_stream<S: Socket, A: Allocator + Copy, N: Net, R: Read, W: Paper, E
 ) -> Status
     // This and the next are said if it is known what the reader holds.
     ensures too_long { IfSome (R.remaining reader.old)
-        (λ all. MAX_LEN < length all → IsNotRead IsOfBytes W.page result printer.old printer.new) }
-    ensures ended { DrivesStream A S.binds (Sends S.sends) (Receives S.receives) (R.remaining reader.old) W.page
-        result printer.old printer.new }
+        (λ all. MAX_LEN < length all → IsNotRead IsOfBytes W.page E.page result printer.old printer.new
+        diagnostics.old diagnostics.new) }
+    ensures ended { DrivesStream A S.binds (Sends S.sends) (Receives S.receives) (R.remaining reader.old) W.page E.page
+        result printer.old printer.new diagnostics.old diagnostics.new }
 {
     match read_bytes(alloc, reader) {
         Ok(text) => drive_text::<S, A, N, W, E>(alloc, net, text.as_slice(), printer, diagnostics),
@@ -48,8 +49,8 @@ fn drive_text<S: Socket, A: Allocator + Copy, N: Net, W: Paper, E: Paper>(
     printer: &mut Printer<W>,
     diagnostics: &mut Diagnostics<'_, E>,
 ) -> Status
-    ensures { DrivesText A S.binds (Sends S.sends) (Receives S.receives) text.now W.page result printer.old
-        printer.new }
+    ensures { DrivesText A S.binds (Sends S.sends) (Receives S.receives) text.now W.page E.page result printer.old
+        printer.new diagnostics.old diagnostics.new }
 {
     let mut lines = TextLines::of(text);
     match read_head(alloc, &mut TextLines::of(text)) {
@@ -70,10 +71,11 @@ pub fn drive_file<S: Socket, A: Allocator + Copy, N: Net, F: Read + Seek, W: Pap
     printer: &mut Printer<W>,
     diagnostics: &mut Diagnostics<'_, E>,
 ) -> Status
-    ensures too_long { IfSome (F.remaining file.old)
-        (λ all. MAX_LEN < length all → IsNotRead IsOfBytes W.page result printer.old printer.new) }
+    // Nothing but `fault 0` is printed of one that is too long. Said if it is known what the file holds.
+    ensures too_long { IfSome (F.remaining file.old) (λ all. MAX_LEN < length all
+        → IsNotRead IsUnreadable W.page E.page result printer.old printer.new diagnostics.old diagnostics.new) }
     ensures ended { DrivesFile A S.binds (Sends S.sends) (Receives S.receives) F.remaining F.stream_position
-        F.stream_bytes W.page result printer.old printer.new }
+        F.stream_bytes W.page E.page result printer.old printer.new diagnostics.old diagnostics.new }
 {
     match head_of(alloc, file) {
         Ok(head) => drive_again::<S, A, N, F, W, E>(alloc, net, &head, file, printer, diagnostics),
@@ -86,15 +88,28 @@ fn head_of<A: Allocator + Copy, F: Read + Seek>(
     alloc: A,
     file: &mut F,
 ) -> Result<DriveHead<A>, Fault>
-    ensures too_long { IfSome (F.remaining file.old) (λ all. MAX_LEN < length all → IsErrAnd result IsOfBytes) }
+    ensures too_long { IfSome (F.remaining file.old) (λ all. MAX_LEN < length all → IsErrAnd result IsUnreadable) }
     ensures lawful { IfOk result (λ head. is_lawful head.setup ≡ true) }
     ensures said { IfOk result
         (λ head. IsHeadOf F.remaining F.stream_position F.stream_bytes head.setup head.port) }
     ensures fault { IfErr result (IsFileFault A F.remaining F.stream_position F.stream_bytes) }
 {
-    check_length(file)?;
+    check_file(file)?;
     file.rewind()?;
     head_from(alloc, file)
+}
+
+// Reads a file to its end, and tells whether this is too much for a schedule. That asks for no memory.
+fn check_file<F: Read>(file: &mut F) -> Result<(), Fault>
+    ensures fits { OnOk result (IfSome (F.remaining file.old) (λ all. length all ≤ MAX_LEN)) }
+    ensures fault { IfErr result IsOfBytes }
+    ensures unreadable { IfErr result IsUnreadable }
+{
+    match check_length(file) {
+        Ok(()) => Ok(()),
+        Err(Fault::Unreadable(why)) => Err(Fault::Unreadable(why)),
+        Err(_) => Err(Fault::Unreadable(Unreadable::Failed)),
+    }
 }
 
 fn head_from<A: Allocator + Copy, R: Read>(alloc: A, reader: &mut R) -> Result<DriveHead<A>, Fault>
@@ -116,7 +131,8 @@ fn drive_again<S: Socket, A: Allocator + Copy, N: Net, F: Read + Seek, W: Paper,
     diagnostics: &mut Diagnostics<'_, E>,
 ) -> Status
     ensures { DrivesAgain S.binds (Sends S.sends) (Receives S.receives) F.remaining F.stream_position
-        F.stream_bytes head.now.setup head.now.port W.page result printer.old printer.new }
+        F.stream_bytes head.now.setup head.now.port W.page E.page result printer.old printer.new diagnostics.old
+        diagnostics.new }
 {
     match file.rewind() {
         Ok(()) => drive_from::<S, A, N, F, W, E>(alloc, net, head, file, printer, diagnostics),
@@ -133,7 +149,8 @@ fn drive_from<S: Socket, A: Allocator + Copy, N: Net, R: Read, W: Paper, E: Pape
     diagnostics: &mut Diagnostics<'_, E>,
 ) -> Status
     ensures { DrivesFrom S.binds (Sends S.sends) (Receives S.receives) head.now.setup head.now.port
-        (lines_of (R.remaining reader.old)) W.page result printer.old printer.new }
+        (lines_of (R.remaining reader.old)) W.page E.page result printer.old printer.new diagnostics.old
+        diagnostics.new }
 {
     match BufReader::new(alloc, reader) {
         Ok(reader) => {

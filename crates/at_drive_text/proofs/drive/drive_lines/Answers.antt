@@ -1,4 +1,6 @@
+use Rattle.std.proofs.Common.{subst}
 use Rattle.at_drive_text.specs.Driven.{drive_end}
+use Rattle.at_drive_text.specs.Told.{TellsEnd}
 use Rattle.at_print.proofs.PrintLemmas.{Prints-trans}
 use Rattle.at_drive_text.proofs.TellsLemmas.{stays_failed}
 use Rattle.at_drive_text.proofs.drive.drive_lines.Goals as goal
@@ -8,11 +10,16 @@ returns g c =
     let went = c.drive_opened-driven.ensures.goes in
     let driven = c.drive_opened-driven.result in
     let between = c.drive_opened-driven.new.printer in
+    let ended = c.end.ensures.told in
     record {
       result = driven;
       steps = went.steps;
       text = went.text;
+      place = went.place;
       tells = went.tells;
+      late = ended.0;
+      ended = subst (λ x. TellsEnd g.E.Paper.page driven x ended.0) went.told ended.1;
+      last = ended.2;
       stand = went.stand;
       here = went.here;
       done = c.end.ensures.done;

@@ -8,8 +8,9 @@ use Rattle.at_drive_text.proofs.drive.drive_opened.Goals as goal
 
 pub returns-in_default-clause-goes : goal.returns-in_default-clause-goes
 returns-in_default-clause-goes g c =
-    not_opened g.C.Cable.sends g.C.Cable.receives g.W.Paper.page c.args.setup.now (g.L.Lines.left c.args.lines.now)
-    (opening_nodes_of c.args.setup.now) c.args.cable.now c.args.printer.now g.L.Lines.may_fail
+    not_opened g.C.Cable.sends g.C.Cable.receives g.W.Paper.page g.E.Paper.page c.args.setup.now
+    (g.L.Lines.left c.args.lines.now) g.L.Lines.may_fail (opening_nodes_of c.args.setup.now) c.args.cable.now
+    c.args.diagnostics.now c.args.printer.now
 
 pub drive_each-driven-requires-clause-nodes : goal.drive_each-driven-requires-clause-nodes
 drive_each-driven-requires-clause-nodes g c = ap (λ (d : Nodes). map node_number d.nodes) c.in-Ok.ensures

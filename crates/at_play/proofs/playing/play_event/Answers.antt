@@ -1,6 +1,4 @@
 use Rattle.at_print.proofs.PrintLemmas.{Prints-trans}
-use Rattle.at_diagnostics.specs.Diagnostics.{told_by}
-use Rattle.at_play.proofs.RefusalLemmas.{told_one}
 use Rattle.at_play.proofs.playing.play_event.Goals as goal
 
 pub returns-in-Ok : goal.returns-in-Ok
@@ -16,8 +14,7 @@ returns-in-Ok g c =
         safe = c.in-Ok.ensures.safe;
         printed = Prints-trans g.W.Paper.page c.args.printer.now c.write_event.new.printer c.write_sent.new.printer
             _ _ line sent;
-        told = told_one c.in-Ok.report (told_by c.args.diagnostics.now) (told_by c.tell_report.new.self)
-            c.tell_report.ensures.told;
+        told = rw c.played-at.ensures at c.tell_report.ensures;
       };
       stopped = tt;
     }

@@ -1,18 +1,16 @@
 use Rattle.std.proofs.Common.{◌≡◌}
 use Rattle.std.specs.Io.Buffered.{reader_remaining}
-use Rattle.at_diagnostics.specs.Diagnostics.{told_by}
 use Rattle.at_setup.specs.declared.setup.Setup.{Setup}
 use Rattle.at_world.specs.Plays.{opening_world}
-use Rattle.at_play.proofs.LineLemmas.{SaidSoFar}
+use Rattle.at_play.proofs.LineLemmas.{HasRead}
 use Rattle.at_play.proofs.ToldLemmas.{Sofar}
 use Rattle.at_play.proofs.playing.play_in.Given as goal
 
--- the events so far were played and printed, and the first event lines say them; the others are in the lines that are
--- left
+-- the events so far were played, printed and told, and the lines that were read say them; the others are left
 abbrev pub invariant-loop-turn : goal.invariant-loop-turn
 invariant-loop-turn g l =
     (setup : Setup g.row.A.Denot) → l.fn.world ≡ opening_world setup → l.fn.net ≡ setup.net
-    → (so_far : Sofar g.row.A.Denot g.W.Paper.page setup l.world l.fn.printer l.printer (told_by l.fn.diagnostics)
-    (told_by l.diagnostics))
-    × SaidSoFar (g.R.Read.remaining l.fn.reader) (reader_remaining (λ r. g.R.Read.remaining r.now) l.lines)
-    (so_far.0).events
+    → (so_far : Sofar g.row.A.Denot g.W.Paper.page g.E.Paper.page setup l.world l.fn.printer l.printer l.fn.diagnostics
+    l.diagnostics)
+    × HasRead g.row.A.Denot (g.R.Read.remaining l.fn.reader) (reader_remaining (λ r. g.R.Read.remaining r.now) l.lines)
+    (so_far.0).events l.draft

@@ -26,6 +26,5 @@ returns g c =
         told.2,
         told.3,
       );
-      playing = c.play_each.ensures.playing;
       unwritten = c.play_each.ensures.unwritten;
     }

@@ -1,25 +1,32 @@
-use Rattle.std.proofs.Common.{inl, inr, refl, [], rules}
-use Rattle.at_diagnostics.specs.Diagnostics.{told_by}
-use Rattle.at_play.specs.Ends.{Rewound}
+use Rattle.std.proofs.Common.{inl, inr, refl, subst, sym, [], rules}
+use Rattle.std.specs.Result.{IsErrAnd}
+use Rattle.at_faults.specs.declared.fault.Fault.TheVariants as why
+use Rattle.at_play.specs.Ends.{IsTooLong, Rewound}
 use Rattle.std.proofs.lemmas.Result.{err_from_is_err_and}
 use Rattle.at_print.proofs.PrintLemmas.{Prints-nothing}
-use Rattle.at_play.proofs.ToldLemmas.{bytes_of_read, not_read}
+use Rattle.at_play.proofs.ToldLemmas.{bytes_of_read, not_read, whatever_is_known}
 use Rattle.at_play.proofs.program.play_again.Goals as goal
 
-pub returns-in_err-check_length-clause-told : goal.returns-in_err-check_length-clause-told
-returns-in_err-check_length-clause-told g c =
+pub returns-in_err-check_file-clause-told : goal.returns-in_err-check_file-clause-told
+returns-in_err-check_file-clause-told g c =
     let p = err_from_is_err_and c.from_residual.result c.from_residual.ensures.1 in (
       [],
-      inl (not_read _ (told_by c.args.diagnostics.now)
-          c.from_residual.result _ p.0 p.1 p.2 c.in_err-check_length.ensures.fault),
+      inl (not_read _ c.args.diagnostics.now c.from_residual.result (why.Unreadable c.in_err-check_file.field-0.0)
+          p.0 p.1 p.2 c.in_err-check_file.ensures.fault),
       Prints-nothing g.W.Paper.page c.args.printer.now,
     )
+
+pub returns-in_err-check_file-clause-too_long : goal.returns-in_err-check_file-clause-too_long
+returns-in_err-check_file-clause-too_long g c =
+    let p = err_from_is_err_and c.from_residual.result c.from_residual.ensures.1 in
+    whatever_is_known (g.F.Read.remaining c.args.file.now) 67108864
+    (subst (λ r. IsErrAnd r IsTooLong) (sym p.1) (c.in_err-check_file.field-0.0, p.2), refl)
 
 pub returns-in_err-rewind-clause-told : goal.returns-in_err-rewind-clause-told
 returns-in_err-rewind-clause-told g c =
     let p = err_from_is_err_and c.from_residual-in_err-rewind.result c.from_residual-in_err-rewind.ensures.1 in (
       [],
-      inl (not_read _ (told_by c.args.diagnostics.now)
+      inl (not_read _ c.args.diagnostics.now
           c.from_residual-in_err-rewind.result p.2.0 p.0 p.1 p.2.2 (bytes_of_read p.2.0 p.2.1)),
       Prints-nothing g.W.Paper.page c.args.printer.now,
     )
@@ -28,7 +35,7 @@ pub returns-in_err-rewind-2-clause-told : goal.returns-in_err-rewind-2-clause-to
 returns-in_err-rewind-2-clause-told g c =
     let p = err_from_is_err_and c.from_residual-in_err-rewind-2.result c.from_residual-in_err-rewind-2.ensures.1 in (
       [],
-      inl (not_read _ (told_by c.args.diagnostics.now)
+      inl (not_read _ c.args.diagnostics.now
           c.from_residual-in_err-rewind-2.result p.2.0 p.0 p.1 p.2.2 (bytes_of_read p.2.0 p.2.1)),
       Prints-nothing g.W.Paper.page c.args.printer.now,
     )
@@ -38,12 +45,12 @@ returns-in_err-setup-clause-told g c =
     let p = err_from_is_err_and c.from_residual-in_err-setup.result c.from_residual-in_err-setup.ensures.1 in
     let first : Rewound g.F.Seek.stream_position g.F.Seek.stream_bytes =
     record {
-      before = c.check_length.new.reader;
+      before = c.check_file.new.file;
       file = c.rewind.new.self;
       moved = c.in_ok-rewind.ensures.moves;
       kept = c.rewind.ensures.bytes;
     } in
-    let none = not_read _ (told_by c.args.diagnostics.now)
+    let none = not_read _ c.args.diagnostics.now
     c.from_residual-in_err-setup.result _ p.0 p.1 p.2 (inr c.in_err-setup.ensures.fault) in
     ([], inr (first, inl none), Prints-nothing g.W.Paper.page c.args.printer.now)
 
@@ -60,7 +67,7 @@ returns-clause-told g c =
     } in
     let first : Rewound g.F.Seek.stream_position g.F.Seek.stream_bytes =
     record {
-      before = c.check_length.new.reader;
+      before = c.check_file.new.file;
       file = c.rewind.new.self;
       moved = c.in_ok-rewind.ensures.moves;
       kept = c.rewind.ensures.bytes;

@@ -2,7 +2,6 @@ use Rattle.std.proofs.Common.{[], ◌∙◌, Some, inl, inr, refl, subst, sym}
 use Rattle.std.proofs.lemmas.Result.{err_from_is_err_and}
 use Rattle.at_schedule.specs.Drafts.{HoldsSetup}
 use Rattle.at_print.proofs.PrintLemmas.{Prints-nothing}
-use Rattle.at_diagnostics.specs.Diagnostics.{told_by}
 use Rattle.at_play.proofs.ToldLemmas.{fault_of, held_of, not_read, whole_read}
 use Rattle.at_play.proofs.program.play_stream.Goals as goal
 
@@ -20,7 +19,7 @@ returns-clause-told g c =
     let held = held_of g.row.A.Denot setup (g.R.Read.remaining c.args.reader.now) c.as_slice.result.now
     c.in_ok-bytes.bytes.items c.in_ok-bytes.ensures.whole c.as_slice.ensures.value c.in_ok-setup.ensures.said in (
       told.0.text,
-      inr ((setup, held, told.0, told.1, refl, whole, told.4), c.play_bytes.ensures.playing),
+      inr (setup, held, told.0, told.1, refl, whole, told.4),
       told.2,
     )
 
@@ -28,7 +27,7 @@ pub returns-in_err-bytes-clause-told : goal.returns-in_err-bytes-clause-told
 returns-in_err-bytes-clause-told g c =
     let p = err_from_is_err_and c.from_residual.result c.from_residual.ensures.1 in (
       [],
-      inl (not_read _ (told_by c.args.diagnostics.now)
+      inl (not_read _ c.args.diagnostics.now
           c.from_residual.result _ p.0 p.1 p.2 (inl c.in_err-bytes.ensures.fault)),
       Prints-nothing g.W.Paper.page c.args.printer.now,
     )
@@ -39,7 +38,7 @@ returns-in_err-setup-clause-told g c =
     let fault = fault_of g.row.A.Denot (g.R.Read.remaining c.args.reader.now) c.as_slice.result.now
     c.in_ok-bytes.bytes.items _ c.in_ok-bytes.ensures.whole c.as_slice.ensures.value c.in_err-setup.ensures.fault in (
       [],
-      inl (not_read _ (told_by c.args.diagnostics.now)
+      inl (not_read _ c.args.diagnostics.now
           c.from_residual-in_err-setup.result _ p.0 p.1 p.2 (inr fault)),
       Prints-nothing g.W.Paper.page c.args.printer.now,
     )

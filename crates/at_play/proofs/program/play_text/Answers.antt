@@ -1,6 +1,4 @@
 use Rattle.std.proofs.Common.{subst, sym}
-use Rattle.at_diagnostics.specs.Diagnostics.{told_by}
-use Rattle.at_play.specs.Ends.{PlayText}
 use Rattle.at_print.specs.Printers.{HasFailed}
 use Rattle.at_print.proofs.PrintLemmas.{Prints-trans}
 use Rattle.at_play.proofs.ToldLemmas.{too_long_prints}
@@ -12,14 +10,17 @@ returns-clause-ended g c =
     record {
       result = c.play_stream-played.result;
       text = told.0;
-      plays = subst (λ refusals. PlayText g.row.A.Denot (g.R.Read.remaining c.args.reader.now)
-          (told_by c.args.diagnostics.now) refusals c.play_stream-played.result told.0) (sym c.end.ensures.told) told.1;
+      mid = c.play_stream-played.new.diagnostics;
+      plays = told.1;
       done = c.end.ensures.done;
       printed = Prints-trans g.W.Paper.page c.args.printer.now c.play_stream-played.new.printer c.end.new.printer
           told.0 _ told.2 c.end.ensures.printed;
       unwritten = λ is.
           let failed = c.play_stream-played.ensures.unwritten is in
           subst HasFailed (sym (c.end.ensures.printed.stopped failed)) failed;
+      late = c.end.ensures.said.0;
+      stopped = c.end.ensures.said.1;
+      last = c.end.ensures.said.2;
     }
 
 pub returns-clause-too_long : goal.returns-clause-too_long

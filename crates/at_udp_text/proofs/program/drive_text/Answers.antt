@@ -14,6 +14,7 @@ returns-in-Ok g c =
       c.in-Ok.ensures.lawful,
       subst (λ text. BeginsSo head.setup head.port (lines_in text)) c.of.ensures c.in-Ok.ensures.said,
       subst (λ text. DrivesNodes g.S.Socket.binds (Sends g.S.Socket.sends) (Receives g.S.Socket.receives) head.setup
-          head.port (Some (lines_in text)) false g.W.Paper.page c.drive_nodes.result c.args.printer.now
-          c.drive_nodes.new.printer) c.of-lines.ensures c.drive_nodes.ensures,
+          head.port (Some (lines_in text)) false g.W.Paper.page g.E.Paper.page c.drive_nodes.result
+          c.args.printer.now c.drive_nodes.new.printer c.args.diagnostics.now c.drive_nodes.new.diagnostics)
+          c.of-lines.ensures c.drive_nodes.ensures,
     )

@@ -7,7 +7,7 @@ use Rattle.at_udp_text.proofs.program.head_of.Goals as goal
 -- the file as it was when its lines were read
 abbrev sent_back : (g : Over) (c : In_ok-rewind g) → Rewound g.F.Seek.stream_position g.F.Seek.stream_bytes
 sent_back g c = record {
-  before = c.check_length.new.reader;
+  before = c.check_file.new.file;
   file = c.rewind.new.self;
   moved = c.in_ok-rewind.ensures.moves;
   kept = c.rewind.ensures.bytes;

@@ -1,10 +1,13 @@
-use Rattle.std.proofs.Common.{◌≡◌, true, Ok, ap}
-use Rattle.at_drive_lines.proofs.LineLemmas.{line_comes}
+use Rattle.std.proofs.Common.{◌≡◌}
+use Rattle.at_drive_lines.proofs.LineLemmas.{line_comes, some_left}
 use Rattle.at_drive_lines.proofs.lines.ReadLinesLines.advance.Goals as goal
 
-pub returns-in-Ok-clause-next : goal.returns-in-Ok-clause-next
-returns-in-Ok-clause-next g c = λ some.
-    let is : c.in-Ok.more ≡ true = cc some in
+pub returns-clause-next : goal.returns-clause-next
+returns-clause-next g c = λ more.
     line_comes c.first_line.ensures (g.B.Read.remaining c.args.self.now.reader)
-    (g.B.Read.remaining c.next_line.new.reader) c.next_line.new.room.items (c.in-Ok.ensures.line (ap Ok is))
-    c.in-Ok.ensures.rest
+    (g.B.Read.remaining c.read_line.new.reader) c.read_line.new.room.items (c.read_line.ensures.line more)
+    (rw more at c.read_line.ensures.rest)
+
+pub returns-clause-memory : goal.returns-clause-memory
+returns-clause-memory g c = λ none. some_left c.first_line.ensures (g.B.Read.remaining c.args.self.now.reader)
+    (c.read_line.ensures.memory none)

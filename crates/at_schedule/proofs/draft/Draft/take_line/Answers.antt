@@ -1,9 +1,9 @@
-use Rattle.std.proofs.Common.{◌≡◌, ◌⊎◌, ℕ, true, Option, List, [], ◌∷◌, ◌++◌, sym, ap, subst, ◌∙◌}
+use Rattle.std.proofs.Common.{◌≡◌, ◌⊎◌, ℕ, true, Option, List, [], ◌∷◌, ◌++◌, inl, inr, sym, ap, subst, ◌∙◌}
 use Rattle.at_setup_lines.specs.Drafts.{IsDraft, IsNoSetup, Refuses, Takes, has_events}
 use Rattle.at_setup.specs.declared.event.Event.{Event}
 use Rattle.at_schedule.specs.Drafts.{BeginSchedule, IsRead}
 use Rattle.at_schedule.specs.Says.{AreEvent, SaysEvent}
-use Rattle.at_schedule.specs.Schedules.{are_event_words}
+use Rattle.at_schedule.specs.Schedules.{AreKept, are_event_words}
 use Rattle.at_schedule.specs.contracts.draft.Draft.take_line.{A-type}
 use Rattle.at_schedule.proofs.HeadLemmas.{no_word}
 use Rattle.at_schedule.proofs.ReadLemmas.{no_such_head, read_event, read_head, read_over, refused_event, refused_head}
@@ -77,3 +77,19 @@ returns-in-Err-clause-only g c =
     (λ why lines. refused_head A lines c.args.line.now c.in-Some.word.now ws c.args.self.now words
     (sym c.is_passed_over.ensures ∙ c.if-is_passed_over.false)
     (sym c.is_event_word.ensures ∙ c.if-is_event_word.false) why)
+
+pub returns-then-is_event_word-clause-memory : goal.returns-then-is_event_word-clause-memory
+returns-then-is_event_word-clause-memory g c = λ none.
+    let words : words_of c.args.line.now ≡ c.in-Some.word.now ∷ words_of c.next.new.self.rest.now =
+    ap words_of (sym c.of-words.ensures) ∙ c.in-Some.ensures.steps in (
+      sym c.is_passed_over.ensures ∙ c.if-is_passed_over.false,
+      subst AreKept (sym words) (inr (c.take_event.ensures.memory none)),
+    )
+
+pub returns-in-Err-clause-memory : goal.returns-in-Err-clause-memory
+returns-in-Err-clause-memory g c = λ none.
+    let words : words_of c.args.line.now ≡ c.in-Some.word.now ∷ words_of c.next.new.self.rest.now =
+    ap words_of (sym c.of-words.ensures) ∙ c.in-Some.ensures.steps in (
+      sym c.is_passed_over.ensures ∙ c.if-is_passed_over.false,
+      subst AreKept (sym words) (inl (sym c.is_event_word.ensures ∙ c.if-is_event_word.false)),
+    )
