@@ -41,7 +41,7 @@ def _check(parser: argparse.ArgumentParser, words: argparse.Namespace) -> None:
     """Refuses what does not go together. Ends the program with status 2."""
     check_words(parser, words)
     if words.command == "zones" and words.router is None:
-        parser.error("zones wants --router: a zone list is asked of a router")
+        parser.error("zones needs --router: a zone list is asked of a router")
     if words.command == "chat" and words.address is not None:
         try:
             commands.address_of(words.address)

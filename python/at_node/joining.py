@@ -66,9 +66,9 @@ def add_words(parser: argparse.ArgumentParser) -> None:
 def check_words(parser: argparse.ArgumentParser, words: argparse.Namespace) -> None:
     """Refuses what does not go together. Ends the program with status 2."""
     if words.udp is not None and words.node is None:
-        parser.error("--udp wants --node: nobody hands out numbers there")
+        parser.error("--udp needs --node: nobody hands out numbers there")
     if words.router is not None and words.zone is None:
-        parser.error("--router wants --zone: where a router is, each node has a zone")
+        parser.error("--router needs --zone: with a router, each node has a zone")
 
 
 def _join(words: argparse.Namespace) -> Tuple[int, Cable]:

@@ -97,7 +97,7 @@ class Live:
             (seconds,) = words[1:]
             self._until = time.monotonic() + float(seconds)
         except ValueError:
-            self._tell(f"`{line}` wants a number of seconds, as in `wait 1.5`")
+            self._tell(f"`{line}` takes a number of seconds, as in `wait 1.5`")
 
     def _call(self, line: str) -> None:
         try:

@@ -194,9 +194,9 @@ class Lines(unittest.TestCase):
 
     def test_what_does_not_go_together_is_told(self) -> None:
         cases: List[Tuple[List[str], str]] = [
-            (["names", "--udp", "47200"], "--udp wants --node"),
-            (["names", "--udp", "47200", "--node", "5", "--router", "1"], "--router wants --zone"),
-            (["zones", "--udp", "47200", "--node", "5"], "zones wants --router"),
+            (["names", "--udp", "47200"], "--udp needs --node"),
+            (["names", "--udp", "47200", "--node", "5", "--router", "1"], "--router needs --zone"),
+            (["zones", "--udp", "47200", "--node", "5"], "zones needs --router"),
             (["chat", "x", "--udp", "47200", "--node", "5"], "x is no address"),
             (["names", "--udp", "47200", "--node", "255"], "255 is not from 1 to 254"),
             (["live", "--udp", "1", "--ltoudp"], "not allowed with"),

@@ -59,12 +59,12 @@ class Lives(unittest.TestCase):
             self.assertEqual((good, printed), (False, ""))
             self.assertTrue(told.startswith(f"at_node: `{line}` is no call; "), told)
         for line in ("wait", "wait long", "wait 1 2"):
-            self.assertIn("wants a number of seconds", self.live([line])[2])
+            self.assertIn("takes a number of seconds", self.live([line])[2])
 
     def test_a_refusal_is_told_with_its_reason(self) -> None:
         good, _, told = self.live(["open 0", "listen on"])
         self.assertFalse(good)
-        self.assertIn("`open 0` was refused: the last lookup that ended found no such entry", told)
+        self.assertIn("`open 0` was refused: the last finished lookup has no such entry", told)
         self.assertIn("(refusal 62)", told)
 
     def test_repeats_are_printed_only_if_all_is_wanted(self) -> None:

@@ -26,7 +26,7 @@ ghost use Rattle.at_ddp.specs.declared.address.Address.{Address};
 pub use at_adsp_frame::laws::{what_is_written_fits, what_is_written_is_read};
 
 /// Segments may be lost, repeated or reordered, but none outlives an identifier that it carries. No identifier is drawn
-/// while an end that stands names it. Then ends that open are paired: each names the other's address and identifier,
+/// while an end that exists names it. Then ends that open are paired: each names the other's address and identifier,
 /// and one was made by listening at the address that the other asked. An end that has a peer was opened with it. The
 /// peer of one that listening made has it as its peer. Two ends with one peer are one. All this holds whatever comes
 /// from other addresses, whatever the numbers of segments are, and also of two ends at one address.
@@ -52,7 +52,7 @@ pub fn what_is_sent_is_lawful()
 {}
 
 /// Each happening leaves the ends as their users see them, or makes one without a peer, or opens one, which may have a
-/// peer then. The step of a segment tells which.
+/// peer then. The step of a segment says which.
 pub fn streams_change_by_one()
     ensures { (setting : Setting) (history : List Happening) (h : Happening) → AllTimely setting history
         → ChangesStreams setting (after setting history) h }
@@ -102,7 +102,7 @@ pub fn what_is_read_on_the_cable_begins_what_was_written()
         → AllByRecursion IsNoReset history → ReadsBeginnings (after (wire_numbered setting) history) }
 {}
 
-/// Where few segments are sent, each comes as near its end as the two laws above want it.
+/// Where few segments are sent, each comes as near its end as the two laws above require.
 pub fn few_segments_are_near()
     ensures { (setting : Setting) (history : List Happening) → HasWindows setting
         → AllTimely (wire_numbered setting) history

@@ -1,4 +1,4 @@
-//! Acknowledgements, and what goes because of them.
+//! Acknowledgements, and what is sent because of them.
 ghost use Rattle.std.specs.Prelude.{◌≡◌, ◌+◌, ◌*◌, ◌≤◌, ◌<◌, List, ◌++◌, [], length, take, OnOk, IsOk};
 ghost use Rattle.at_ddp.specs.Outbox.{Sends};
 ghost use Rattle.at_adsp_frame.specs.Segments.{Content};
@@ -96,7 +96,7 @@ impl<A: Allocator> End<A> {
         self.outgoing.advance();
     }
 
-    // Hears that the other end is there, and what it acknowledges.
+    // Sets the count of probe ticks back, and takes what the other end acknowledges.
     pub(crate) fn note_acknowledgement(&mut self, advance: Advance, out: &mut Outbox<A>)
         requires within { IsWithin self.old.sender advance.acks }
         requires room { HasRoomTo out.old self.old.asked (hearing wire self.old advance.window advance.acks).sent }

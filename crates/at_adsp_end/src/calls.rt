@@ -19,7 +19,7 @@ use at_ddp::Outbox;
 use std::alloc::{AllocError, Allocator};
 
 impl<A: Allocator> End<A> {
-    /// Closes this open end, and tells the other end. The error is out of memory.
+    /// Closes this open end, and sends a close advice. The error is out of memory.
     pub fn close(&mut self, out: &mut Outbox<A>) -> Result<Step, AllocError>
         ensures ok { IfOk result (λ step. IsOutcome (closed self.old (closing wire self.old)) self.old.asked step
             self.new out.old out.new) }
@@ -32,7 +32,7 @@ impl<A: Allocator> End<A> {
         Ok(Step::Closed(self.id))
     }
 
-    /// Drops all that this open end has queued, and tells the other end. The error is out of memory.
+    /// Drops all that this open end has queued, and sends a forward reset. The error is out of memory.
     pub fn reset(&mut self, out: &mut Outbox<A>) -> Result<(), AllocError>
         ensures ok { OnOk result (IsChange (resetting_now wire self.old) self.old.asked self.new out.old out.new) }
         ensures unchanged { OnErr result (self.new ≡ self.old) }
@@ -45,8 +45,8 @@ impl<A: Allocator> End<A> {
         Ok(())
     }
 
-    /// Takes a tick of a timer of this end, which is not closed. An end that never opened is not told of its last one,
-    /// by which it is freed. The error is out of memory.
+    /// Takes a tick of a timer of this end, which is not closed. On the fourth probe tick an open end closes; one that
+    /// never opened is freed by its table. The error is out of memory.
     pub fn tick(&mut self, tick: Tick, out: &mut Outbox<A>) -> Result<Step, AllocError>
         requires { self.old.phase ≢ Phase.Closed }
         ensures ok { IfOk result (λ step. IsOutcome (ticked wire self.old tick) self.old.asked step self.new out.old
@@ -126,8 +126,8 @@ impl<A: Allocator> End<A> {
         }
     }
 
-    /// Reads as many items as there are, and as fit, and returns how many. An open end that could take nothing, and now
-    /// can, says so to the other end. The error is out of memory.
+    /// Reads as many items as there are, and as fit, and returns how many. An open end whose receive room was full
+    /// sends an acknowledgement. The error is out of memory.
     pub fn read(&mut self, items: &mut [Item], out: &mut Outbox<A>) -> Result<usize, AllocError>
         ensures count { IfOk result (λ count. count ≡ length (take (length items.old) self.old.receiver.unread)) }
         ensures items { OnOk result (items.new ≡ take (length items.old) self.old.receiver.unread

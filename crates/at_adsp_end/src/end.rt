@@ -1,4 +1,4 @@
-//! One end of a stream: its state, how it is made, and what is asked of it. What changes it stands in the other files.
+//! One end of a stream: its state, how it is made, and what is asked of it. The other files have what changes it.
 ghost use Rattle.std.specs.Prelude.{◌≡◌, ◌&&◌, ◌||◌, not, IfOk, is_none};
 ghost use Rattle.at_ddp.specs.Address.{same_address};
 ghost use Rattle.at_adsp_end.specs.Calls.{heeds, is_last};
@@ -211,7 +211,8 @@ impl<A: Allocator> End<A> {
         }
     }
 
-    /// Whether this tick is the fourth probe tick without a word from the other end.
+    /// Whether this tick is the fourth probe tick without a segment from the other end. On the fourth probe tick an
+    /// open end closes; one that never opened is freed by its table.
     pub fn is_last(&self, tick: Tick) -> bool
         ensures { result ≡ is_last self.now tick }
     {

@@ -9,17 +9,17 @@ use thiserror::Error;
 #[derive(Clone, Copy, Debug, PartialEq, Eq, Error)]
 pub enum StreamFault {
     /// The node has 16 ends.
-    #[error("the node has 16 ends of streams already")]
+    #[error("the node already has 16 stream ends")]
     EndsFull,
     /// The end is not open: it may not write or reset its stream, nor read if it never opened. A closed end has no
     /// timers.
-    #[error("the end of the stream is not open")]
+    #[error("this end of the stream is not open")]
     NotOpen,
     /// No end has this connection identifier.
-    #[error("the node has no end of a stream with this identifier")]
+    #[error("the node has no stream end with this identifier")]
     NoSuchEnd,
     /// Something is to be written, and the send room is full.
-    #[error("the end of the stream has no room for more to send")]
+    #[error("the stream's send queue is full")]
     NoRoom,
     /// The connection was denied.
     #[error("the connection was denied")]

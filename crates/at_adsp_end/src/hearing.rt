@@ -165,7 +165,7 @@ impl<A: Allocator> End<A> {
         }
     }
 
-    // Acknowledges what came, if that is wanted.
+    // Acknowledges what came, if the segment asks for it.
     fn acknowledge_if(&self, ack: bool, out: &mut Outbox<A>)
         requires { HasRoomTo out.old self.now.asked (if_asked wire ack self.now) }
         ensures { SendsTo out.old out.new self.now.asked (if_asked wire ack self.now) }
@@ -185,7 +185,7 @@ impl<A: Allocator> End<A> {
         count
     }
 
-    // Closes this end. It sends nothing any more.
+    // Closes this end, which sends nothing from then on.
     pub(crate) fn shut(&mut self)
         ensures { self.new ≡ shut wire self.old }
     {

@@ -4,8 +4,8 @@ use at_ddp::Address;
 /// The end at the other side of a connection.
 #[derive(Clone, Copy, PartialEq, Eq)]
 pub struct Remote {
-    /// The socket where it stands.
+    /// The address of its socket.
     pub address: Address,
-    /// Its connection identifier there.
+    /// Its connection identifier.
     pub id: u16,
 }

@@ -77,7 +77,7 @@ impl<A: Allocator + Copy> Ends<A> {
         or_memory(end.tick(tick, out))
     }
 
-    /// Reads items of an end that is open or was: as many as there are and fit. Returns how many. What stands behind
+    /// Reads items of an end that is open or was: as many as there are and fit. Returns how many. What follows
     /// them stays.
     pub fn read(
         &mut self,
@@ -104,7 +104,7 @@ impl<A: Allocator + Copy> Ends<A> {
         or_memory(end.read(items, out))
     }
 
-    /// Drops all that an open end has queued for sending, and tells the other end to pass over it.
+    /// Drops all that an open end has queued for sending, and sends a forward reset.
     pub fn reset(&mut self, id: u16, out: &mut Outbox<A>) -> Result<(), StreamFault>
         ensures call { IsCalled (reset_at wire self.old (by_id self.old id)) result self.old self.new out.old out.new }
         ensures memory { IfOk (reset_at wire self.old (by_id self.old id)) (λ d.

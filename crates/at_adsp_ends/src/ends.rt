@@ -73,7 +73,7 @@ impl<A: Allocator + Copy> Ends<A> {
         self.listening = on;
     }
 
-    /// At most 16 ends stand, whose queues fit their rooms. The body only visits them.
+    /// There are at most 16 ends, whose queues fit their rooms. The body only visits them.
     pub fn limits(&self)
         ensures ends { AreEnds self.now }
         ensures queues { AllByRecursion FitsRooms self.now.ends }
@@ -82,7 +82,7 @@ impl<A: Allocator + Copy> Ends<A> {
         let _next = self.next;
     }
 
-    /// The identifier that the next end will get; none if 16 stand.
+    /// The identifier that the next end will get; none if there are 16.
     pub fn next_id(&self) -> Option<u16>
         ensures id { result ≡ next_id self.now }
         ensures none { (result ≡ None) ↔ (16 ≤ length self.now.ends) }

@@ -13,7 +13,7 @@ ghost use Rattle.at_adsp_ends.specs.Openings.{ignored};
 ghost use Rattle.at_adsp_ends.specs.Receiving.{received};
 ghost use Rattle.at_adsp_ends.specs.Tables.{EndTable, IsId, SendsFew, by_id, next_id};
 
-/// A table has no identifier to give only if 16 ends stand.
+/// A table has no identifier to give only if it has 16 ends.
 pub fn below_16_an_identifier_is_free()
     ensures { (t : EndTable) → IsId t.next → next_id t ≡ None → 16 ≤ length t.ends }
 {}

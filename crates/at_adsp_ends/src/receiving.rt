@@ -1,4 +1,4 @@
-//! Which end a segment is for. What opens a connection stands in `openings.rt`; all else is the end's own.
+//! Which end a segment is for. `openings.rt` has what opens a connection; all else is the end's own.
 ghost use Rattle.std.specs.Prelude.{◌≡◌, IsOk, None};
 ghost use Rattle.at_ddp.specs.Outbox.{HasRoomToSend};
 ghost use Rattle.at_adsp_frame.specs.Segments.{content};

@@ -15,10 +15,10 @@ pub enum AdspFault {
     #[error("the control code of an ADSP packet is over 8")]
     BadControl,
     /// An opening is of a version other than `0x0100`.
-    #[error("the packet opens an ADSP connection of a version other than 0100")]
+    #[error("the version of the ADSP connection to open is not 0100")]
     BadVersion,
     /// The attention bit is set: attention messages are not read.
-    #[error("the ADSP packet is of an attention message, and none is read")]
+    #[error("the ADSP packet is an attention message, which is not supported")]
     Attention,
     /// A segment has over 572 bytes of data.
     #[error("the ADSP packet has over 572 bytes of data")]

@@ -1,4 +1,4 @@
-//! Segments of the AppleTalk Data Stream Protocol (ADSP) as they stand on the wire.
+//! Segments of the AppleTalk Data Stream Protocol (ADSP) as they are on the wire.
 #![tactic(auto)]
 
 mod fault;

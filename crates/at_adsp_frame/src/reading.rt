@@ -1,4 +1,4 @@
-//! The reading of a segment. Its parts are tested in the order in which faults are told.
+//! The reading of a segment. Its parts are tested in the order in which faults are reported.
 ghost use Rattle.std.specs.Prelude.{◌≡◌, ◌<◌, ◌≤◌, ◌/◌, ◌%◌, List, ℕ, length, IfOk, IfErr, IsOkAnd};
 ghost use Rattle.at_adsp_frame.specs.Fault.{IsFirstFault, IsControlFault, IsOpeningFault, IsPartFault};
 ghost use Rattle.at_adsp_frame.specs.Openings.{SpellsOpening, read_dest};

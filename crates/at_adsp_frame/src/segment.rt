@@ -107,7 +107,7 @@ pub enum Body<'a> {
     Reset,
     /// Forward reset acknowledgement.
     ResetAck,
-    /// Retransmit advice: the sender wants all bytes from `next` on again.
+    /// Retransmit advice: the sender asks for all bytes from `next` on again.
     Advice,
 }
 

@@ -12,7 +12,7 @@ pub enum AtpFault {
     #[error("the ATP packet is under 8 bytes, so its header is cut short")]
     ShortAtp,
     /// A packet is no request, no response and no release.
-    #[error("the function bits name no ATP packet (00)")]
+    #[error("the function bits are 00, which is no ATP packet")]
     BadFunction,
     /// The place of a response is not 0 to 7.
     #[error("the sequence number of an ATP response is over 7")]
@@ -20,20 +20,20 @@ pub enum AtpFault {
     /// A packet has over 578 bytes of data, or an answer over 8 packets.
     #[error("a packet has over 578 bytes of data, or the answer has over 8 packets")]
     AtpTooLong,
-    /// There is no room: at most 32 transactions are open, and at most 64 records stand.
-    #[error("32 transactions are open already, or 64 requests are on record already")]
+    /// A node has at most 32 open transactions, and a socket at most 64 records.
+    #[error("the node already has 32 open transactions, or the socket already has 64 records")]
     Full,
-    /// No transaction with this number is open, or no record with this key stands.
-    #[error("no transaction of this number is open, or no request of this key is on record")]
+    /// No open transaction has this number, or no record has this key.
+    #[error("no open transaction has this number, or no record is kept of this request")]
     NoSuch,
     /// An answer has no packets.
     #[error("the answer has no packets")]
     EmptyAnswer,
     /// A request that waits for its answer was to expire.
-    #[error("the request cannot expire while it waits for its answer")]
+    #[error("a request that still waits for its answer cannot expire")]
     StillPending,
     /// A request was to be answered a second time.
-    #[error("the request was answered before, and a request is answered once")]
+    #[error("the request has already been answered")]
     Gone,
     /// No rule was broken, but memory ran out.
     #[error("out of memory")]

@@ -81,7 +81,7 @@ pub enum Frame<'a> {
         place: u8,
         /// Whether this is the last packet of the answer (EOM).
         eom: bool,
-        /// Whether the requester is to ask again for what it still wants (STS).
+        /// Whether the requester is to ask again for what it still lacks (STS).
         sts: bool,
         tid: u16,
         user: [u8; 4],

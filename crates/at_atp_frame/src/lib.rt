@@ -1,4 +1,4 @@
-//! Packets of the AppleTalk Transaction Protocol (ATP) as they stand on the wire.
+//! Packets of the AppleTalk Transaction Protocol (ATP) as they are on the wire.
 #![tactic(auto)]
 
 mod fault;

@@ -19,7 +19,7 @@ use at_table::Table;
 use std::alloc::{AllocError, Allocator};
 use std::marker::Model;
 
-/// How many records may stand at once.
+/// How many records a responder has at most.
 const RECORDS: usize = 64;
 
 /// The records in the order in which their requests came, each found by its key.

@@ -1,4 +1,4 @@
-//! The responder of a socket: what packets and timers do to its records. Answers stand in `answering.rt`.
+//! The responder of a socket: what packets and timers do to its records. `answering.rt` has the answers.
 ghost use Rattle.std.specs.Prelude.{◌≡◌, ◌≢◌, ◌↔◌, [], true, find, is_some, IfOk, IfErr, IfSome, OnOk, OnErr, IsOk};
 ghost use Rattle.std.specs.Prelude.{IsErrOf, None, Err, ◌<◌, length, slice_get};
 ghost use Rattle.std.specs.List.{list_any};
@@ -18,7 +18,7 @@ use at_ddp::{Address, Outbox};
 use std::alloc::{Allocator, Global};
 use std::marker::Model;
 
-/// The responder of a socket: a record for each request that came, with what became of it. At most 64 records stand.
+/// The responder of a socket: a record for each request that came, with what became of it. It has at most 64 records.
 #[derive(Drop)]
 pub struct Responder<A: Allocator = Global> {
     pub(crate) alloc: A,

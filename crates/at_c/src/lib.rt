@@ -19,10 +19,10 @@ use opening::opened;
 use status::{DONE, NOT_OPEN, handed_status, open_status, played_status, received_status};
 use std::alloc::Global;
 
-/// The number of this library, which rises with each change of what these functions promise.
+/// The number of this interface, which rises with each change of what these functions promise.
 const VERSION: u32 = 2;
 
-/// The number of this library.
+/// The number of this interface.
 #[unsafe(no_mangle)]
 pub extern "C" fn at_node_version() -> u32
     ensures { result ≡ 2 }

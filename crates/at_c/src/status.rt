@@ -1,4 +1,4 @@
-//! The numbers by which a program in C is told what came of a call.
+//! The status numbers that a program in C gets of a call.
 ghost use Rattle.std.specs.Prelude.{◌≡◌};
 ghost use Rattle.at_c.specs.Statuses.{handed_status, open_status, played_status, received_status, told_length};
 

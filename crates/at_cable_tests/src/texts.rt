@@ -1,4 +1,4 @@
-//! What is printed and told of drives over a cable in memory, of which each call fails in turn.
+//! What is printed, also on standard error, of drives over a cable in memory, of which each call fails in turn.
 ghost use Rattle.at_drive_lines.specs.Drafts.{BeginsSo};
 ghost use Rattle.at_schedule.specs.Schedules.{lines_in};
 

@@ -59,7 +59,7 @@ fn call_by<A: Allocator + Copy>(
 }
 
 // The call of another word, with the words after it. A function clears its locals as it begins. So each kind of call is
-// returned where it is read, and what it needs for itself stands in a function of its own.
+// returned where it is read, and what it needs for itself is in a function of its own.
 fn said_by<A: Allocator + Copy>(
     alloc: A,
     word: &[u8],

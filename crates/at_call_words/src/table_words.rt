@@ -13,7 +13,7 @@ use at_words::{Words, text};
 use at_zip::Which;
 use std::alloc::Allocator;
 
-/// `TEXT ..`. The node tells whether the texts are a zone table. A word that is no text breaks the rule.
+/// `TEXT ..`. The node checks whether the texts are a zone table. A word that is no text breaks the rule.
 pub(crate) fn set_zones<A: Allocator>(
     alloc: A,
     which: Which,

@@ -5,7 +5,7 @@ use at_adsp_frame::{Body, OpenKind, Segment};
 use at_ddp::{Address, Datagrams, Outbox};
 use std::process::Abort;
 
-/// The socket at which the ends stand.
+/// The address of all ends.
 const HERE: Address = Address {
     net: 10,
     node: 9,
@@ -17,21 +17,21 @@ const ROOMS: Rooms = Rooms {
     send: 1,
 };
 
-/// The other ends stand at so many nodes, under so many identifiers each.
+/// The other ends are at so many nodes, under so many identifiers each.
 const NODES: u32 = 3;
 
 const IDS: u32 = 6;
 
 const CALLS: u32 = 400;
 
-/// An end that stands.
+/// An end of the list.
 #[derive(Drop)]
 struct Plain {
     id: u16,
     remote: Option<Remote>,
 }
 
-/// The ends that stand, and the identifier to try next.
+/// The ends, and the identifier to try next.
 #[derive(Drop)]
 struct PlainEnds {
     next: u16,

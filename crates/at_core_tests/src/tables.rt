@@ -5,7 +5,7 @@ use crate::chance::following;
 use at_table::Table;
 use std::process::Abort;
 
-/// How many keys there are: some stand, and some do not.
+/// How many keys there are: some have an entry, and some do not.
 const KEYS: u16 = 48;
 
 const CALLS: u32 = 20_000;

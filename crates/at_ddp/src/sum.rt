@@ -19,7 +19,7 @@ pub(crate) fn add_to_sum(sum: u16, bytes: &[u8]) -> u16
     })
 }
 
-/// The checksum field for a running sum: 0 would mean that none was computed, so 0xFFFF stands for it.
+/// The checksum field for a running sum: 0 would mean that none was computed, so 0xFFFF is written.
 pub(crate) fn close_sum(sum: u16) -> u16
     ensures { result ≡ written_sum sum }
 {

@@ -1,4 +1,4 @@
-//! What a person is told, a line for each reason, as on standard error.
+//! The lines on standard error, one for each reason.
 ghost use Rattle.std.specs.Prelude.{◌≡◌, ◌≢◌, ◌↔◌, ◌⊎◌, ℕ, List, Some};
 ghost use Rattle.at_diagnostics.specs.Diagnostics.{HasTold, TellsLine, TellsReport, TellsStop, TellsWrites};
 ghost use Rattle.at_diagnostics.specs.Diagnostics.{file_of, printer_of, told_by};
@@ -40,8 +40,8 @@ impl<'a, W: Paper> Diagnostics<'a, W> {
         }
     }
 
-    /// Tells why a play ended, with the file's name, the number of the line and the rule. Nothing is told after a write
-    /// that failed.
+    /// Reports why a play ended, with the file's name, the number of the line and the rule. Nothing is reported after a
+    /// write that failed.
     pub fn tell_stop(&mut self, stop: Stop)
         ensures { TellsStop W.page stop self.old self.new }
     {
@@ -95,9 +95,9 @@ impl<'a, W: Paper> Diagnostics<'a, W> {
         );
     }
 
-    /// Tells why a node refused the event of this place, counted from 0, if it did. The event stands in the line of
-    /// this number, or 0 if that is not known. A number of a refusal is told once, the first time that it comes. A
-    /// number that no refusal has is not told.
+    /// Reports why a node refused the event of this place, counted from 0, if it did. The event is in the line of this
+    /// number, or 0 if that is not known. A number of a refusal is reported once, the first time that it comes. A
+    /// number that no refusal has is not reported.
     pub fn tell_report<A: Allocator>(&mut self, report: &Report<A>, at: usize, line: usize)
         ensures { TellsReport W.page report.now at line self.old self.new }
     {

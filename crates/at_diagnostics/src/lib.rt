@@ -1,4 +1,4 @@
-//! What a person is told on standard error, a line for each reason, and why a play ends before its last event.
+//! The lines on standard error, one for each reason, and why a play ends before its last event.
 #![tactic(auto)]
 
 mod diagnostics;

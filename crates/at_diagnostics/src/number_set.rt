@@ -1,4 +1,4 @@
-//! Which numbers of refusals were told.
+//! Which numbers of refusals were reported.
 ghost use Rattle.std.specs.Prelude.{◌≡◌, ◌↔◌, ◌⊎◌, ℕ, true};
 ghost use Rattle.at_diagnostics.specs.NumberSets.{HasNumber};
 

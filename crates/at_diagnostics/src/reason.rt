@@ -26,7 +26,7 @@ use at_nbp::NbpFault;
 use at_zip::ZipFault;
 use thiserror::Error;
 
-/// Why a node refuses an event, told by the sentence of the fault.
+/// Why a node refuses an event, as the sentence of the fault.
 #[derive(Clone, Copy, Debug, PartialEq, Eq, Error)]
 pub enum Reason {
     #[error(transparent)]

@@ -16,7 +16,7 @@ use std::io;
 pub enum Stop {
     /// There is no schedule.
     Text(Fault),
-    /// The event of this place, counted from 0, was not played. It stands in the line of this number, counted from 1;
+    /// The event of this place, counted from 0, was not played. It is in the line of this number, counted from 1;
     /// the number is 0 before any line was read. `which` is the datagram that was to be delivered.
     Event {
         fault: at_setup::Fault,

@@ -13,7 +13,7 @@ use at_cable::Cable;
 use at_setup::{NodeSetup, Setup};
 use std::alloc::Allocator;
 
-/// Whether the node of each of these steps stands in a setup, as a drive asks.
+/// Whether a setup has the node of each of these steps, as a drive requires.
 pub fn has_all<A: Allocator>(setup: &Setup<A>, steps: &[Step<A>]) -> bool
     ensures { result ≡ has_all setup.now steps.now }
 {

@@ -14,7 +14,7 @@ use std::mem;
 pub struct Log<A: Allocator = Global> {
     /// The report of each call, of each timer, and of each poll at which a datagram came.
     pub reports: Vec<Report<A>, A>,
-    /// What was sent with each of these reports. A datagram stands here whether or not its send failed.
+    /// What was sent with each of these reports. A datagram is listed whether or not its send failed.
     pub sent: Vec<Datagrams<A>, A>,
     /// What came at each poll at which a datagram came.
     pub arrived: Vec<Arrival<A>, A>,

@@ -1,4 +1,4 @@
-//! Where the node of a step stands.
+//! The place of the node of a step.
 ghost use Rattle.std.specs.Prelude.{◌≡◌, map, Some, true};
 ghost use Rattle.std.specs.List.{position_from};
 ghost use Rattle.at_drive.specs.Drives.{number_of};
@@ -9,7 +9,7 @@ use at_node::Node;
 use at_nodes::place_of;
 use std::alloc::Allocator;
 
-/// The place of the node of this number, which stands among these.
+/// The place of the node of this number, which is among these.
 pub(crate) fn place_among<A: Allocator + Copy>(nodes: &[Node<A>], number: u8) -> usize
     requires { stands_in (map number_of nodes.now) number ≡ true }
     ensures { position_from (is_numbered number) 0 nodes.now ≡ Some result }
@@ -20,7 +20,7 @@ pub(crate) fn place_among<A: Allocator + Copy>(nodes: &[Node<A>], number: u8) ->
     }
 }
 
-/// Whether the node of this number stands among these.
+/// Whether the node of this number is among these.
 pub(crate) fn has_node<A: Allocator + Copy>(nodes: &[Node<A>], number: u8) -> bool
     ensures { result ≡ stands_in (map number_of nodes.now) number }
 {

@@ -61,7 +61,7 @@ impl<A: Allocator + Copy> Drive<A> {
         })
     }
 
-    /// Whether a node of this number stands here, as a step asks of its own.
+    /// Whether there is a node of this number, as a step requires of its own.
     pub fn has(&self, number: u8) -> bool
         ensures { result ≡ stands_in (map number_of self.now.nodes) number }
     {

@@ -1,4 +1,4 @@
-//! Where the line of a node stands.
+//! The number of a node's line.
 ghost use Rattle.std.specs.Prelude.{◌≡◌, ◌↔◌, true, IfErr, IfNone, IfOk, IfSome, IsTrue};
 ghost use Rattle.at_faults.specs.Reads.{IsOfRead};
 ghost use Rattle.at_drive_lines.specs.NodeLines.{IsFirstLineOf, Names, NoneNames};

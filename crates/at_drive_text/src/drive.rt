@@ -24,8 +24,8 @@ use std::alloc::Allocator;
 
 /// Drives the nodes of a setup over a cable by the lines of a drive, which were read before. What came of each step is
 /// printed before the next is read: the report, what was sent, a line for each call of the cable that failed, or that
-/// nothing waited. Why a node refused something, that a call of the cable failed, and why the drive ended before its last
-/// step is told to a person too. It ends once a write failed.
+/// nothing waited. Why a node refused something, that a call of the cable failed, and why the drive ended before its
+/// last step is reported on standard error too. It ends once a write failed.
 pub fn drive_lines<A: Allocator + Copy, L: Lines, C: Cable, W: Paper, E: Paper>(
     alloc: A,
     setup: &Setup<A>,

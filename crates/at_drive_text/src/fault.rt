@@ -12,7 +12,7 @@ use at_faults::Fault;
 use at_print::{Paper, Printer, Status};
 use std::fmt::Display;
 
-/// Prints that there is no schedule, and tells why.
+/// Prints that there is no schedule, and reports why on standard error.
 pub fn end_at_fault<W: Paper, E: Paper>(
     fault: Fault,
     printer: &mut Printer<W>,
@@ -30,7 +30,7 @@ pub fn end_at_fault<W: Paper, E: Paper>(
     Status::Failed
 }
 
-/// Prints that the line of this number, counted from 1, is at fault, and tells this reason.
+/// Prints that the line of this number, counted from 1, is at fault, and reports this reason.
 pub fn end_at_line<D: Display + Drop, W: Paper, E: Paper>(
     number: usize,
     reason: D,

@@ -20,7 +20,7 @@ pub enum Call<A: Allocator = Global> {
     Zones {
         which: Which,
     },
-    /// Gives the router another zone table in the place of one: at most 1,024 names of 1 to 32 bytes.
+    /// Replaces one of the router's two zone tables by at most 1,024 names of 1 to 32 bytes.
     SetZones {
         which: Which,
         names: Listed<Pascal, A>,
@@ -65,7 +65,7 @@ pub enum Call<A: Allocator = Global> {
     Finish {
         id: u8,
     },
-    /// Registers a name for a socket, whoever has it elsewhere.
+    /// Registers a name for a socket, without a lookup.
     Register {
         object: Pascal,
         kind: Pascal,
@@ -76,7 +76,7 @@ pub enum Call<A: Allocator = Global> {
         object: Pascal,
         kind: Pascal,
     },
-    /// Asks for a connection with what was found: the address of an entry of the list that a lookup ended with last.
+    /// Asks for a connection with the address of an entry of what the last finished lookup found.
     Open {
         /// The place of the entry, from 0.
         index: u64,
@@ -101,7 +101,7 @@ pub enum Call<A: Allocator = Global> {
         id: u16,
         count: u16,
     },
-    /// Drops all that the end of a stream has queued for sending, and tells the other end to pass over it.
+    /// Drops all that the end of a stream has queued for sending, and sends a forward reset.
     Reset {
         id: u16,
     },

@@ -10,14 +10,14 @@ pub enum NodeFault {
     /// A zone table is set at a node that is not the router, or is read on a cable without one.
     #[error("this node is not the router, or the cable has none")]
     NoRouter,
-    /// The zone stands in no zone list that the node read last.
-    #[error("the zone stands in no zone list that the node read last")]
+    /// Neither zone list that the node read last has this zone.
+    #[error("neither zone list that the node read last has this zone")]
     ZoneNotListed,
     /// The last lookup that ended found no such entry.
-    #[error("the last lookup that ended found no such entry")]
+    #[error("the last finished lookup has no such entry")]
     NotFound,
     /// The node reads a zone list already.
-    #[error("the node reads a zone list already")]
+    #[error("the node is already reading a zone list")]
     StillReading,
 }
 

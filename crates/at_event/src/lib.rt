@@ -1,4 +1,4 @@
-//! What happens at a node of a cable: calls, timers and reports. Where a node stands, and what a service is.
+//! What happens at a node of a cable: calls, timers and reports. Where a node is, and what a service is.
 #![tactic(auto)]
 
 mod event;

@@ -25,7 +25,7 @@ pub enum Report<A: Allocator = Global> {
         user: [u8; 4],
         data_: Bytes<A>,
     },
-    /// The router has another zone table.
+    /// One of the router's two zone tables was replaced.
     TableSet,
     /// A zone was picked.
     Picked,

@@ -1,4 +1,4 @@
-//! Where a node stands on its cable, and which datagrams are for it.
+//! Where a node is on its cable, and which datagrams are for it.
 ghost use Rattle.std.specs.Prelude.{◌≡◌, ◌||◌};
 ghost use Rattle.at_event.specs.Seats.{at_socket, is_for_all, is_mine};
 
@@ -7,7 +7,7 @@ use at_ddp::{Address, NBP};
 /// The node number that means every node.
 const EVERY_NODE: u8 = 255;
 
-/// Where a node stands.
+/// Where a node is on its cable.
 #[derive(Clone, Copy)]
 pub struct Seat {
     /// The number of its network.

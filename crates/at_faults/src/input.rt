@@ -36,7 +36,7 @@ pub fn read_bytes<A: Allocator, R: Read>(alloc: A, reader: &mut R) -> Result<Vec
     Err(Fault::Unreadable(Unreadable::Failed))
 }
 
-/// Reads to the end, and tells whether this is too much for a schedule.
+/// Reads to the end, and returns whether this is too much for a schedule.
 pub fn check_length<R: Read>(reader: &mut R) -> Result<(), Fault>
     // This and the next are said if it is known what the reader holds.
     ensures fits { OnOk result (IfSome (R.remaining reader.old) (λ all. length all ≤ MAX_LEN)) }

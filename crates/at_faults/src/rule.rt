@@ -6,18 +6,18 @@ use std::error::Error;
 use std::fmt;
 use std::fmt::{Display, Formatter, Write};
 
-/// A rule on the lines of a schedule. Its text tells a person which rule a line breaks.
+/// A rule on the lines of a schedule. Its text says which rule a line breaks.
 #[derive(Clone, Copy, Debug, PartialEq, Eq)]
 pub enum Rule {
     /// Lines end with a line feed.
     CarriageReturn,
-    /// Words are parted by spaces.
+    /// Words are separated by spaces.
     Tab,
     /// An empty line has no bytes.
     SpacesAlone,
     /// The first word says what a line is.
     FirstWord,
-    /// The first word says what a line is, where nodes talk over sockets.
+    /// The first word says what a line of a drive is.
     DriveFirstWord,
     /// `net N`
     Net,
@@ -91,47 +91,47 @@ pub enum Rule {
     Probe,
     /// `net` comes before all other lines.
     NetFirst,
-    /// `net` stands once.
+    /// `net` may appear only once.
     NetOnce,
     /// `port` comes right after `net`.
     PortSecond,
-    /// `port` stands once.
+    /// `port` may appear only once.
     PortOnce,
     /// The port of a node is at most 65,535.
     PortOfNode,
-    /// The router that has to follow has a port too.
+    /// The router that must follow has a port too.
     PortOfRouter,
     /// Nodes come before the zone tables and the events.
     NodesFirst,
     /// Numbers of nodes differ.
     NodeOnce,
-    /// At most 16 nodes stand.
+    /// A cable has at most 16 nodes.
     SixteenNodes,
     /// All nodes are in zones, or none is.
     AllInZones,
     /// One node may be a router.
     OneRouter,
-    /// A router is in a zone.
+    /// A router must be in a zone.
     RouterInZone,
-    /// Nodes in zones have a router among them.
+    /// Nodes in zones must have a router among them.
     RouterMissing,
-    /// `zones` stands once, after the nodes and before the events.
+    /// `zones` may appear only once, after the nodes and before the events.
     ZonesOnce,
-    /// `zones` wants a router.
+    /// `zones` needs a router.
     ZonesOfRouter,
     /// A zone table has at most 1,024 names.
     ZonesFitTable,
     /// The table of all zones comes before the one of this cable's zones.
     ZonesFirst,
-    /// `local` stands once, after the nodes and before the events.
+    /// `local` may appear only once, after the nodes and before the events.
     LocalOnce,
-    /// `local` wants a router.
+    /// `local` needs a router.
     LocalOfRouter,
     /// A zone table has at most 1,024 names.
     LocalFitsTable,
-    /// The node of an event stands in the setup, where nodes talk over sockets.
+    /// The setup of a drive has the node of each event.
     NodeStands,
-    /// What the cable delivers is not written where nodes talk over sockets.
+    /// A drive has no lines that deliver or forge.
     PlayAlone,
     /// A schedule over sockets has a port.
     NoPort,
@@ -153,135 +153,137 @@ impl Display for Rule {
 impl Error for Rule {}
 
 impl Rule {
-    // What a person is told of a line that breaks the rule.
+    // The reason for a line that breaks the rule, as standard error has it.
     fn sentence(self) -> &'static str
         ensures { result.now ≡ sentence self }
     {
         match self {
             Rule::CarriageReturn =>
                 "the line ends with a carriage return; lines end with a line feed alone",
-            Rule::Tab => "the line has a tab; words are parted by spaces",
-            Rule::SpacesAlone => "the line has spaces alone; an empty line has no bytes at all",
+            Rule::Tab => "the line has a tab; words are separated by spaces",
+            Rule::SpacesAlone => "the line has only spaces; an empty line has no bytes",
             Rule::FirstWord => {
                 "a line begins with `net`, `node`, `zones`, `local`, `call`, `deliver`, `timer`, `forge` or `#`"
             }
             Rule::DriveFirstWord => {
                 "a line begins with `net`, `port`, `node`, `zones`, `local`, `call`, `timer`, `poll` or `#`"
             }
-            Rule::Net => "`net` wants a network's number, 1 to 65535, as in \"net 10\"",
-            Rule::Port => "`port` wants a number, 0 to 65535, as in \"port 47200\"",
+            Rule::Net => "`net` takes a network's number, 1 to 65535, as in \"net 10\"",
+            Rule::Port => "`port` takes a number, 0 to 65535, as in \"port 47200\"",
             Rule::Node => {
-                "`node` wants a number, 1 to 254, then `router`, `zone` and `rooms` if needed, \
+                "`node` takes a number, 1 to 254, then `router`, `zone` and `rooms` if needed, \
         as in \"node 1 router zone Lab\""
             }
-            Rule::Zones => "`zones` wants names of 1 to 32 bytes, as in \"zones Lab Office\"",
-            Rule::Local => "`local` wants names of 1 to 32 bytes, as in \"local Lab\"",
+            Rule::Zones => "`zones` takes names of 1 to 32 bytes, as in \"zones Lab Office\"",
+            Rule::Local => "`local` takes names of 1 to 32 bytes, as in \"local Lab\"",
             Rule::Call => {
-                "`call` wants a node and `zones`, `setzones`, `localzones`, `setlocal`, `ask`, `answer`, `pick`, \
+                "`call` takes a node and `zones`, `setzones`, `localzones`, `setlocal`, `ask`, `answer`, `pick`, \
         `find`, `claim`, `finish`, `register`, `unregister`, `open`, `listen`, `connect`, `write`, `read`, `reset` \
         or `close`, as in \"call 5 zones\""
             }
-            Rule::CallZones => "`zones` wants nothing after it in a call, as in \"call 5 zones\"",
+            Rule::CallZones => "`call N zones` takes no arguments, as in \"call 5 zones\"",
             Rule::SetZones =>
-                "`setzones` wants texts of at most 32 bytes, as in \"call 1 setzones Lab Office\"",
+                "`setzones` takes texts of at most 32 bytes, as in \"call 1 setzones Lab Office\"",
             Rule::CallLocalZones =>
-                "`localzones` wants nothing after it in a call, as in \"call 5 localzones\"",
+                "`call N localzones` takes no arguments, as in \"call 5 localzones\"",
             Rule::SetLocal =>
-                "`setlocal` wants texts of at most 32 bytes, as in \"call 1 setlocal Lab\"",
+                "`setlocal` takes texts of at most 32 bytes, as in \"call 1 setlocal Lab\"",
             Rule::Ask => {
-                "`ask` wants a node, a socket, user bytes, data, 1 to 8 packets, `alo` or `xo`, and retries, \
+                "`ask` takes a node, a socket, user bytes, data, 1 to 8 packets, `alo` or `xo`, and retries, \
         as in \"call 5 ask 7 129 00000000 AA 1 alo 3\""
             }
             Rule::Answer => {
-                "`answer` wants a node, a socket, a transaction's number and packets, \
+                "`answer` takes a node, a socket, a transaction's number and packets, \
         as in \"call 7 answer 5 128 0 00000000:BB\""
             }
-            Rule::Pick => "`pick` wants a zone of at most 32 bytes, as in \"call 5 pick Office\"",
+            Rule::Pick => "`pick` takes a zone of at most 32 bytes, as in \"call 5 pick Office\"",
             Rule::Find => {
-                "`find` wants an object, a type, and a zone if needed, of at most 32 bytes each, \
+                "`find` takes an object, a type, and a zone if needed, of at most 32 bytes each, \
         as in \"call 5 find = LaserWriter\""
             }
             Rule::Claim => {
-                "`claim` wants an object and a type of at most 32 bytes each, and a socket, 1 to 254, \
+                "`claim` takes an object and a type of at most 32 bytes each, and a socket, 1 to 254, \
         as in \"call 5 claim Printer LaserWriter 130\""
             }
             Rule::Finish =>
-                "`finish` wants a lookup's identifier, 0 to 255, as in \"call 5 finish 0\"",
+                "`finish` takes a lookup's identifier, 0 to 255, as in \"call 5 finish 0\"",
             Rule::Register => {
-                "`register` wants an object and a type of at most 32 bytes each, and a socket, 1 to 254, \
+                "`register` takes an object and a type of at most 32 bytes each, and a socket, 1 to 254, \
         as in \"call 7 register Printer LaserWriter 130\""
             }
             Rule::Unregister => {
-                "`unregister` wants an object and a type of at most 32 bytes each, \
+                "`unregister` takes an object and a type of at most 32 bytes each, \
         as in \"call 7 unregister Printer LaserWriter\""
             }
             Rule::Open =>
-                "`open` wants the place of what was found, from 0, as in \"call 5 open 0\"",
-            Rule::Listen => "`listen` wants `on` or `off`, as in \"call 7 listen on\"",
+                "`open` takes the index of a name that was found, from 0, as in \"call 5 open 0\"",
+            Rule::Listen => "`listen` takes `on` or `off`, as in \"call 7 listen on\"",
             Rule::Connect => {
-                "`connect` wants a node and a socket, 1 to 254 each, as in \"call 5 connect 7 130\""
+                "`connect` takes a node and a socket, 1 to 254 each, as in \"call 5 connect 7 130\""
             }
             Rule::Write => {
-                "`write` wants an end's identifier, 0 to 65535, and items, each pairs of hexadecimal digits, `-` for \
+                "`write` takes an end's identifier, 0 to 65535, and items, each pairs of hexadecimal digits, `-` for \
         no bytes, or `end`, as in \"call 5 write 1 6162 end\""
             }
             Rule::Read => {
-                "`read` wants an end's identifier and how many items, 0 to 65535 each, as in \"call 7 read 1 10\""
+                "`read` takes an end's identifier and a number of items, 0 to 65535 each, as in \"call 7 read 1 10\""
             }
             Rule::Reset =>
-                "`reset` wants an end's identifier, 0 to 65535, as in \"call 5 reset 1\"",
+                "`reset` takes an end's identifier, 0 to 65535, as in \"call 5 reset 1\"",
             Rule::Close =>
-                "`close` wants an end's identifier, 0 to 65535, as in \"call 5 close 1\"",
+                "`close` takes an end's identifier, 0 to 65535, as in \"call 5 close 1\"",
             Rule::Data => "data is pairs of hexadecimal digits, or `-` for no bytes",
             Rule::Deliver =>
-                "`deliver` wants a datagram's number and a node, as in \"deliver 0 1\"",
+                "`deliver` takes a datagram's number and a node, as in \"deliver 0 1\"",
             Rule::Forge => {
-                "`forge` wants a node and the bytes that come to it, as in \"forge 1 000D0000000A000A0105068003\""
+                "`forge` takes a node and the bytes that it receives, as in \"forge 1 000D0000000A000A0105068003\""
             }
-            Rule::Poll => "`poll` wants a node, as in \"poll 5\"",
+            Rule::Poll => "`poll` takes a node, as in \"poll 5\"",
             Rule::Timer => {
-                "`timer` wants a node and `retry`, `release`, `lookup`, `resend` or `probe`, as in \"timer 5 retry 0\""
+                "`timer` takes a node and `retry`, `release`, `lookup`, `resend` or `probe`, as in \"timer 5 retry 0\""
             }
             Rule::Retry =>
-                "`retry` wants a transaction's number, 0 to 65535, as in \"timer 5 retry 0\"",
+                "`retry` takes a transaction's number, 0 to 65535, as in \"timer 5 retry 0\"",
             Rule::Release => {
-                "`release` wants socket 6 or 129, and a request's node, socket and number, \
+                "`release` takes socket 6 or 129, and a request's node, socket and number, \
         as in \"timer 7 release 129 5 128 0\""
             }
             Rule::Lookup =>
-                "`lookup` wants a lookup's identifier, 0 to 255, as in \"timer 5 lookup 0\"",
+                "`lookup` takes a lookup's identifier, 0 to 255, as in \"timer 5 lookup 0\"",
             Rule::Resend =>
-                "`resend` wants an end's identifier, 0 to 65535, as in \"timer 5 resend 1\"",
+                "`resend` takes an end's identifier, 0 to 65535, as in \"timer 5 resend 1\"",
             Rule::Probe =>
-                "`probe` wants an end's identifier, 0 to 65535, as in \"timer 5 probe 1\"",
-            Rule::NetFirst => "`net` comes first, as in \"net 10\"",
-            Rule::NetOnce => "`net` stands once",
-            Rule::PortSecond => "`port` comes right after `net`, as in \"port 47200\"",
-            Rule::PortOnce => "`port` stands once, right after `net`",
+                "`probe` takes an end's identifier, 0 to 65535, as in \"timer 5 probe 1\"",
+            Rule::NetFirst => "`net` must come first, as in \"net 10\"",
+            Rule::NetOnce => "`net` may appear only once",
+            Rule::PortSecond => "`port` must come right after `net`, as in \"port 47200\"",
+            Rule::PortOnce => "`port` may appear only once, right after `net`",
             Rule::PortOfNode =>
-                "a node's port is that of `port` and its number more, and at most 65535",
+                "a node's port is `port` plus its number, and must be at most 65535",
             Rule::PortOfRouter => {
-                "the nodes have zones, so a router has to follow, and no port up to 65535 is left for it"
+                "the nodes have zones, so a router must follow, and no port up to 65535 is left for it"
             }
-            Rule::NodesFirst => "a `node` line comes before `zones`, `local` and the events",
-            Rule::NodeOnce => "a node of this number stands already",
+            Rule::NodesFirst => "a `node` line must come before `zones`, `local` and the events",
+            Rule::NodeOnce => "a node with this number already exists",
             Rule::SixteenNodes => "a cable has at most 16 nodes",
-            Rule::AllInZones => "either all nodes have a zone or none has",
+            Rule::AllInZones => "either all nodes must have a zone, or none",
             Rule::OneRouter => "a cable has at most one router",
-            Rule::RouterInZone => "a router has a zone, as in \"node 1 router zone Lab\"",
-            Rule::RouterMissing => "the nodes have zones, so one of the 16 is the router",
-            Rule::ZonesOnce => "`zones` stands once, after the nodes and before the events",
+            Rule::RouterInZone => "a router must have a zone, as in \"node 1 router zone Lab\"",
+            Rule::RouterMissing => "the nodes have zones, so one of the 16 must be the router",
+            Rule::ZonesOnce =>
+                "`zones` may appear only once, after the nodes and before the events",
             Rule::ZonesOfRouter =>
-                "`zones` wants a router among the nodes, as in \"node 1 router zone Lab\"",
+                "`zones` needs a router among the nodes, as in \"node 1 router zone Lab\"",
             Rule::ZonesFitTable => "`zones` has at most 1,024 names",
-            Rule::ZonesFirst => "`zones` comes before `local`",
-            Rule::LocalOnce => "`local` stands once, after the nodes and before the events",
+            Rule::ZonesFirst => "`zones` must come before `local`",
+            Rule::LocalOnce =>
+                "`local` may appear only once, after the nodes and before the events",
             Rule::LocalOfRouter =>
-                "`local` wants a router among the nodes, as in \"node 1 router zone Lab\"",
+                "`local` needs a router among the nodes, as in \"node 1 router zone Lab\"",
             Rule::LocalFitsTable => "`local` has at most 1,024 names",
-            Rule::NodeStands => "no node of this number stands in the setup",
+            Rule::NodeStands => "the setup has no node with this number",
             Rule::PlayAlone => {
-                "`deliver` and `forge` are for `play`; over sockets a node is polled, as in \"poll 5\""
+                "`deliver` and `forge` are only for `play`; over sockets a node is polled, as in \"poll 5\""
             }
             Rule::NoPort => "the schedule ends without a `port` line",
             Rule::NoNet => "the schedule ends without a `net` line",

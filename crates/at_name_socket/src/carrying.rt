@@ -1,4 +1,4 @@
-//! Whose identifier a packet of names carries. By it a packet is told that comes too late.
+//! Whose identifier a packet of names carries. By it a packet that comes too late is recognized.
 ghost use Rattle.std.specs.Prelude.{◌≡◌, ℕ, IfSome, Some, length};
 ghost use Rattle.at_name_socket.specs.Carrying.{Carries, owner_by};
 ghost use Rattle.at_nbp.specs.Packets.{HasCount};

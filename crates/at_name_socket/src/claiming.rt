@@ -56,7 +56,7 @@ impl<A: Allocator + Copy> NameSocket<A> {
         Ok(id)
     }
 
-    /// Closes a lookup. A claim registers its name, if none like it was found and none stands here.
+    /// Closes a lookup. A claim registers its name, if none like it was found and this node has none.
     pub fn finish(&mut self, id: u8) -> Result<Finished<A>, NbpFault>
         ensures ok { IfOk result (λ r. IsEnding (finish self.old id) r self.new) }
         ensures refuses { IfSome (finish_fault self.old id) (λ fault. result ≡ Err fault) }

@@ -74,7 +74,7 @@ impl<A: Allocator + Copy> NameSocket<A> {
         }
     }
 
-    /// At most 64 names stand, and at most 8 lookups are open. The body only visits them.
+    /// There are at most 64 names and 8 open lookups. The body only visits them.
     pub fn limits(&self)
         ensures names { AreNames self.now.table.names }
         ensures lookups { AreLookups self.now.lookups }

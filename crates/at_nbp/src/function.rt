@@ -1,4 +1,4 @@
-//! What a packet asks or answers, and the number that stands for it in bytes.
+//! What a packet asks or answers, and its number in bytes.
 ghost use Rattle.std.specs.Prelude.{◌≡◌, ◌≢◌, ℕ, IfSome};
 ghost use Rattle.at_nbp.specs.Lookups.{is_reply};
 ghost use Rattle.at_nbp.specs.Packets.{code};

@@ -18,7 +18,7 @@ pub fn what_is_written_is_read()
     ensures read { (p : Content) (rest : List ℕ) → IsLawful p → BeginsWith (spelling p ++ rest) p rest }
 {}
 
-/// Bytes begin with one packet at most: no spelling begins another, and no fault stands in a packet.
+/// Bytes begin with one packet at most: no spelling begins another, and no packet has a fault.
 pub fn one_packet_a_spelling()
     ensures packet { (input : List ℕ) (p q : Content) (rest other : List ℕ) → BeginsWith input p rest
         → BeginsWith input q other → (p ≡ q) × (rest ≡ other) }
@@ -29,7 +29,7 @@ pub fn one_packet_a_spelling()
 {}
 
 /// Packets may be lost, repeated or reordered, but no reply outlives the identifier that it carries. Then each find of
-/// an open lookup matches its pattern, and stood among the names of the node of its address, with that socket and
+/// an open lookup matches its pattern, and was one of the names of the node of its address, with that socket and
 /// enumerator, at some moment since the lookup began. The finds of a lookup differ from each other. No open lookup has
 /// the identifier of the next one.
 pub fn finds_stood_since_their_lookup_began()
@@ -51,7 +51,7 @@ pub fn a_table_with_one_name_more_is_computed()
         → new ≡ registered old object kind socket }
 {}
 
-/// All that is sent fits a datagram, and each name that stands is in range, if what is asked and registered is. If
+/// All that is sent fits a datagram, and each name of a node is in range, if what is asked and registered is. If
 /// lookups are asked at some addresses alone, replies go to these alone, and all else asks for these.
 pub fn what_is_sent_is_lawful()
     ensures lawful { (setting : Setting) (history : List Happening) → IsLawfulSetting setting

@@ -1,4 +1,4 @@
-//! A node's open lookups. One of them, with what it found, stands in `search.rt`.
+//! A node's open lookups. `search.rt` has one of them, with what it found.
 ghost use Rattle.std.specs.Prelude.{◌≡◌, ◌≢◌, ◌≤◌, ◌<◌, ◌+◌, ◌↔◌, ◌∷◌, [], length, find, slice_get, true};
 ghost use Rattle.std.specs.Prelude.{Some, None, Err, IfOk, IfErr, IfSome, OnOk, OnErr, IsOk, IsSome, IsErrOf};
 ghost use Rattle.std.specs.List.{list_any, position_from};

@@ -1,4 +1,4 @@
-//! The table of a node's own names. Its answers to lookups stand in `replies.rt`.
+//! The table of a node's own names. `replies.rt` has its answers to lookups.
 ghost use Rattle.std.specs.Prelude.{◌≡◌, ◌||◌, ◌<◌, ◌↔◌, [], ◌∷◌, length, find, is_some, option_map};
 ghost use Rattle.std.specs.Prelude.{IfSome, IfErr, OnOk, OnErr, IsOk, IsSome, Some, None, Err};
 ghost use Rattle.std.specs.List.{list_any, position_from};
@@ -32,7 +32,7 @@ pub struct Registered {
     pub enumerator: u8,
 }
 
-/// A node's own names, in the order in which they were registered. At most 64 stand.
+/// A node's own names, in the order in which they were registered. There are at most 64.
 #[derive(Drop)]
 pub struct Names<A: Allocator = Global> {
     pub(crate) alloc: A,
@@ -73,7 +73,7 @@ impl<A: Allocator + Copy> Names<A> {
         }
     }
 
-    /// At most 64 names stand. The body only visits them.
+    /// There are at most 64 names. The body only visits them.
     pub fn limits(&self)
         ensures { AreNames self.now.names }
     {

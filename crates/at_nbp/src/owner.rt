@@ -1,4 +1,4 @@
-//! Who has a name that was claimed. It stands apart from what holds it, which stays small.
+//! Who has a name that was claimed. It is a box of its own, so that what holds it stays small.
 ghost use Rattle.std.specs.Prelude.{◌≡◌, IfOk};
 
 use crate::find::Find;

@@ -14,7 +14,7 @@ use at_ddp::{Address, Outbox, Pascal};
 use std::alloc::{AllocError, Allocator};
 
 /// Relays a request that came to a router, which has one tuple: asks `to` the same by a LkUp. The zone of the node that
-/// asks stands for `*` and for an empty zone. The error is out of memory.
+/// asks replaces `*` and an empty zone. The error is out of memory.
 pub fn relay<A: Allocator + Copy>(
     alloc: A,
     packet: &Packet<'_>,

@@ -1,4 +1,4 @@
-//! A packet of ATP that came to a node, with who sent it and where the node stands.
+//! A packet of ATP that came to a node, with its sender and the seat of the node.
 ghost use Rattle.std.specs.Prelude.{◌≡◌, IfOk, IfErr, IsOkAnd};
 ghost use Rattle.at_atp_frame.specs.Fault.{IsFirstFault};
 ghost use Rattle.at_atp_frame.specs.Frames.{Content, Spells, content};

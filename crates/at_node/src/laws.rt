@@ -54,7 +54,7 @@ pub fn pages_are_served_and_taken<A: Allocator>()
     at_zip::laws::one_page_a_spelling();
 }
 
-/// The number that an event draws is the one that its report tells of.
+/// The number that an event draws is the one that its report has.
 pub fn what_is_drawn_is_told<A: Allocator>()
     ensures call { (n : NodeState) (call : Call A) → drawn_by (called n call).report ≡ draw_of n call }
     ensures timer { (n : NodeState) (time : Timer) → drawn_by (timed {A = A} n time).report ≡ None }

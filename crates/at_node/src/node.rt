@@ -46,7 +46,7 @@ impl<A: Allocator> Model for Node<A> {
 }
 
 impl<A: Allocator + Copy> Node<A> {
-    /// A node that stands at this seat, before anything happened.
+    /// A node at this seat, before anything happened.
     pub fn new(alloc: A, settings: Settings<A>) -> Node<A>
         requires { AreRooms settings.rooms }
         ensures { result ≡ opening settings.seat settings.zone settings.tables settings.neighbours settings.rooms }

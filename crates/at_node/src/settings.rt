@@ -7,7 +7,7 @@ use at_name_socket::Neighbour;
 use at_zip::Tables;
 use std::alloc::{Allocator, Global};
 
-/// What a node is made with: where it stands, and what it has from the beginning.
+/// What a node is made with: its seat, and what it has from the beginning.
 #[derive(Drop)]
 pub struct Settings<A: Allocator = Global> {
     /// Its network, its number and the router of its cable.

@@ -1,4 +1,4 @@
-//! A reading of a zone table that is open. What a page does to it stands in `page_taking.rt`.
+//! A reading of a zone table that is open. `page_taking.rt` has what a page does to it.
 ghost use Rattle.std.specs.Prelude.{◌≡◌, ◌+◌, ◌&&◌, ℕ, [], length, nat_lt, not, None, Some};
 ghost use Rattle.std.specs.Prelude.{IfSome, IsSome, true, false};
 ghost use Rattle.at_atp_frame.specs.Frames.{content};

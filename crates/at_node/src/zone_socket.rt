@@ -29,7 +29,7 @@ use std::alloc::{AllocError, Allocator};
 pub(crate) const ZONE_SOCKET: u8 = 6;
 
 impl<A: Allocator + Copy> AtpPart<A> {
-    // Gives the router another zone table in the place of one.
+    // Replaces one of the router's two zone tables.
     pub(crate) fn set_zones(&mut self, which: Which, names: &[Pascal]) -> Report<A>
         ensures { (items : List Posted) → IsStep (set_zones_called self.old self.old.tables which names.now) self.old
             items result self.new items }

@@ -7,7 +7,7 @@ use at_ddp::Datagrams;
 use at_node::{Deferring, Input, Node, Report};
 use std::alloc::Allocator;
 
-/// A node takes an input. What it sends goes to the end of the list. It stays where it stands, and keeps to its limits.
+/// A node takes an input. What it sends goes to the end of the list. It keeps its seat and its limits.
 /// Its service leaves every answer for later.
 pub fn take<A: Allocator + Copy>(
     node: &mut Node<A>,

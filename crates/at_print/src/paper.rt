@@ -6,7 +6,7 @@ use std::fmt::Display;
 use std::io;
 use std::io::Write;
 
-/// What a printer prints to: a writer, or what else takes bytes and tells of each write whether it failed.
+/// What a printer prints to: a writer, or what else takes bytes and reports whether a write failed.
 pub trait Paper {
     /// What is known of it.
     ghost page: { Self → Page };

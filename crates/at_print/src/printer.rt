@@ -57,7 +57,7 @@ impl<W: Paper> Printer<W> {
         self.writer
     }
 
-    /// Hands on what the writer still holds back.
+    /// Flushes the writer.
     pub fn flush(&mut self)
         ensures { Prints W.page self.old self.new [] }
     {

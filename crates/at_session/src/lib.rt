@@ -1,4 +1,4 @@
-//! What a node keeps of what its user was told: the zone lists, the zone that was picked, and what a lookup
+//! What a node keeps of its reports: the zone lists, the zone that was picked, and what a lookup
 //! found.
 #![tactic(auto)]
 

@@ -1,4 +1,4 @@
-//! What a node keeps of what its user was told, for the calls that refer to it.
+//! What a node keeps of its reports, for the calls that refer to them.
 ghost use Rattle.std.specs.Prelude.{◌≡◌, List, ℕ, Some, IfErr, OnOk, OnErr, true, false};
 ghost use Rattle.at_nbp.specs.declared.find.Find.{Find as Found};
 ghost use Rattle.at_nbp.specs.Names.{same_text as is_same_text};
@@ -14,8 +14,8 @@ use at_zip::Which;
 use std::alloc::{Allocator, Global};
 use std::marker::Model;
 
-/// What a node keeps of what its user was told: the zone list of each kind that was read last, the zone that was picked
-/// last, and what the last lookup found.
+/// What a node keeps of its reports: the zone list of each kind that was read last, the zone that was picked last, and
+/// what the last lookup found.
 #[derive(Drop)]
 pub struct Session<A: Allocator = Global> {
     all: Listed<Pascal, A>,
@@ -37,7 +37,7 @@ impl<A: Allocator> Model for Session<A> {
 }
 
 impl<A: Allocator + Copy> Session<A> {
-    /// A session whose user was told nothing yet. This needs no memory.
+    /// A session before any report. This needs no memory.
     pub fn new(alloc: A) -> Session<A>
         ensures { result ≡ new_session }
     {
@@ -49,7 +49,7 @@ impl<A: Allocator + Copy> Session<A> {
         }
     }
 
-    /// Picks a zone that stands in one of the zone lists, whatever the case of its letters a to z. Refuses any other.
+    /// Picks a zone of one of the zone lists, whatever the case of its letters a to z. Refuses any other.
     /// This needs no memory.
     pub fn pick(&mut self, zone: &Pascal) -> Result<(), NodeFault>
         ensures ok { OnOk result (self.new ≡ picking self.old zone.now) }
@@ -95,7 +95,7 @@ impl<A: Allocator + Copy> Session<A> {
         Some(find.address)
     }
 
-    /// Keeps the zone list that a report tells of; `list` is that list, if it tells of one. This needs no memory.
+    /// Keeps the zone list of a report; `list` is that list, if the report has one. This needs no memory.
     pub fn keep_list(&mut self, report: &Report<A>, list: Option<Listed<Pascal, A>>)
         requires { (which : Which) (names : List (List ℕ)) → report.now ≡ Report.Zones which names
             → list ≡ Some names }
@@ -109,7 +109,7 @@ impl<A: Allocator + Copy> Session<A> {
         }
     }
 
-    /// Keeps the finds that a report tells of; `finds` are these finds, if it tells of some. This needs no memory.
+    /// Keeps the finds of a report; `finds` are these finds, if the report has some. This needs no memory.
     pub fn keep_finds(&mut self, report: &Report<A>, finds: Option<Listed<Find, A>>)
         requires { (found : List Found) → report.now ≡ Report.Found found → finds ≡ Some found }
         ensures { self.new ≡ finds_kept self.old report.now }

@@ -1,4 +1,4 @@
-//! Which nodes may stand beside each other in a setup.
+//! Which nodes may be in one setup.
 ghost use Rattle.std.specs.Prelude.{◌≡◌, ◌&&◌, not, ◌++◌, ◌∷◌, [], true, is_none, IsNone, IsSome};
 ghost use Rattle.std.specs.List.{list_any};
 ghost use Rattle.at_setup.specs.Setups.{has_router};

@@ -1,7 +1,7 @@
 //! Why a word is no hexadecimal text.
 use thiserror::Error;
 
-/// The first reason why a word is no hexadecimal text, told by its sentence.
+/// The first reason why a word is no hexadecimal text, as its sentence.
 #[derive(Clone, Copy, Debug, PartialEq, Eq, Error)]
 pub(crate) enum HexReason {
     #[error("the word is empty; hexadecimal text is pairs of digits, or `-` for no bytes")]
@@ -12,9 +12,9 @@ pub(crate) enum HexReason {
     Colon,
     #[error("hexadecimal text has no spaces; give all digits as one word")]
     Space,
-    #[error("hexadecimal text has digits and the letters A to F alone")]
+    #[error("only the digits 0-9 and A-F are allowed")]
     Digit,
-    #[error("hexadecimal text has two digits for each byte, and this is an odd number of them")]
+    #[error("hexadecimal text has two digits for each byte, but the number of digits is odd")]
     Odd,
 }
 

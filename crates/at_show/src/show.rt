@@ -22,7 +22,7 @@ use std::fmt::Display;
 
 /// Prints the datagram that a word spells in hexadecimal digits, its header and its packet, or the number of the first
 /// refusal. What follows the datagram is counted only. The bytes are put into the room. Why a word or a datagram is
-/// refused is told to a person as well.
+/// refused is reported on standard error as well.
 pub fn show_text<A: Allocator, W: Paper, E: Paper>(
     word: &[u8],
     room: &mut Vec<u8, A>,

@@ -1,4 +1,4 @@
-//! The laws of a node's steps, a law for each kind of event and each protocol. Those of ATP stand here, the others in
+//! The laws of a node's steps, a law for each kind of event and each protocol. Those of ATP are here, the others in
 //! files of their own. The functions do nothing at run time.
 ghost use Rattle.std.specs.Prelude.{◌≡◌, ℕ, ◌==◌, List, Some, true, false};
 ghost use Rattle.at_ddp.specs.Datagram.{canonical};

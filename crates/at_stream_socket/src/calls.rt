@@ -66,7 +66,7 @@ impl<A: Allocator + Copy> StreamSocket<A> {
         }
     }
 
-    /// Drops all that an open end has queued for sending, and tells the other end to pass over it.
+    /// Drops all that an open end has queued for sending, and sends a forward reset.
     pub fn reset(&mut self, seat: Seat, id: u16, out: &mut Datagrams<A>) -> Report<A>
         ensures { IsStep (reset_called seat self.old id) self.old out.old.items result self.new out.new.items }
     {

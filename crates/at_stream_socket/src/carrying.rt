@@ -1,4 +1,4 @@
-//! Whose identifiers a segment carries. By them a segment is told that comes too late.
+//! Whose identifiers a segment carries. By them a segment that comes too late is recognized.
 ghost use Rattle.std.specs.Prelude.{◌≡◌, ◌↔◌, ◌∷◌, [], ℕ, Some, None, if◌then◌else◌, ◌==◌};
 ghost use Rattle.std.specs.List.{Contains};
 ghost use Rattle.at_adsp_frame.specs.Segments.{part};

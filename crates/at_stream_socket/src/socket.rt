@@ -44,7 +44,7 @@ impl<A: Allocator + Copy> StreamSocket<A> {
         }
     }
 
-    /// At most 16 ends stand, whose queues fit their rooms. The body only visits them.
+    /// There are at most 16 ends, whose queues fit their rooms. The body only visits them.
     pub fn limits(&self)
         ensures ends { AreEnds self.now }
         ensures queues { AllByRecursion FitsRooms self.now.ends }
@@ -52,7 +52,7 @@ impl<A: Allocator + Copy> StreamSocket<A> {
         self.ends.limits();
     }
 
-    /// The identifier that the next end will get; none if 16 stand. This needs no memory.
+    /// The identifier that the next end will get; none if there are 16. This needs no memory.
     pub fn next_id(&self) -> Option<u16>
         ensures { result ≡ next_id self.now }
     {

@@ -61,7 +61,7 @@ impl<K: Eq + Hash, V, A: Allocator> Table<K, V, A> {
         self.index.len()
     }
 
-    /// Where the entry with this key stands, from 0.
+    /// The place of the entry with this key, from 0.
     pub fn index_of(&self, key: &K) -> Option<usize>
         ensures first { result ≡ position_from (K.eq key.now) 0 self.now.keys }
         ensures keyed { (key_of : V → K) (test : V → Bool) → AreKeyed key_of self.now
@@ -73,7 +73,7 @@ impl<K: Eq + Hash, V, A: Allocator> Table<K, V, A> {
         self.index.get_index_of(key)
     }
 
-    /// The value that stands at an index.
+    /// The value at an index.
     pub fn at(&self, index: usize) -> &V
         requires { index < length self.now.items }
         ensures { slice_get self.now.items index ≡ Some result.now }
@@ -82,7 +82,7 @@ impl<K: Eq + Hash, V, A: Allocator> Table<K, V, A> {
         &self.slab[place]
     }
 
-    /// The value that stands at an index, to be changed under its key.
+    /// The value at an index, to be changed under its key.
     pub fn at_mut(&mut self, index: usize) -> &mut V
         requires { index < length self.old.items }
         ensures* writes_back { sem 𝓛 (lends_item K.row V.row A.row K.Hash A.Allocator self.entry index result) }

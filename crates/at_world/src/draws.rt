@@ -1,4 +1,4 @@
-//! Which event drew each number of each node last. By it a datagram is told that comes too late.
+//! Which event drew each number of each node last. By it a datagram that comes too late is recognized.
 ghost use Rattle.std.specs.Prelude.{◌≡◌, [], OnOk};
 ghost use Rattle.at_world.specs.Draws.{last_of, drawn_at};
 

@@ -20,7 +20,7 @@ pub fn what_is_written_is_read()
     ensures lawful { (table : List (List ℕ)) (start : ℕ) → IsTable table → IsLawful (page_of table start) }
 {}
 
-/// No bytes spell two requests or two pages, and no fault stands in a page.
+/// No bytes spell two requests or two pages, and no page has a fault.
 pub fn one_page_a_spelling()
     ensures request { (user : List ℕ) (w v : Which) (m n : ℕ) → RequestSpells user w m → RequestSpells user v n
         → (w ≡ v) × (m ≡ n) }

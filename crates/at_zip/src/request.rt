@@ -1,4 +1,4 @@
-//! Requests for a page, which stand in the user bytes of an ATP request.
+//! Requests for a page, which are in the user bytes of an ATP request.
 ghost use Rattle.std.specs.Prelude.{◌≡◌, ◌≤◌, ℕ, length, IfOk, IfErr};
 ghost use Rattle.at_zip.specs.Request.{RequestSpells, code_of, request_user};
 ghost use Rattle.at_zip.specs.declared.request.Which.{Which};

@@ -7,7 +7,7 @@ ghost use Rattle.std.specs.Box.Ownership.{box_owns};
 use std::alloc::Allocator;
 use std::marker::Model;
 
-/// A box whose pointer stands open. It owns what the box owned, so it has to be made into a box again.
+/// A box whose pointer is a public field. It owns what the box owned, so it has to be made into a box again.
 pub struct RawBox<T, A: Allocator> {
     pub pointer: *mut T,
     pub alloc: A,

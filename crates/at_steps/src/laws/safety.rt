@@ -12,7 +12,7 @@ ghost use Rattle.at_steps.specs.Safety.{IsPlaceOf, IsPlaceOfCall, IsSafe};
 use std::alloc::Allocator;
 
 /// Each event of a node that keeps to its limits is safe. If it is refused, it changes nothing and sends nothing. The
-/// number is that of a fault, and a full table is told of only if it is full. It sends at most 131,070 datagrams.
+/// number is that of a fault, and a full table is reported only if it is full. It sends at most 131,070 datagrams.
 pub fn every_event_is_safe<A: Allocator>()
     ensures call { (n : NodeState) (call : Call A) → IsWithin n → IsSafe IsPlaceOfCall n n (called n call) }
     ensures timer { (n : NodeState) (time : Timer) → IsWithin n → IsSafe {A = A} IsPlaceOfCall n n (timed n time) }

@@ -11,8 +11,8 @@ ghost use Rattle.at_steps.specs.SessionSteps.{IsStep};
 
 use std::alloc::Allocator;
 
-/// Each event of a node is a step of its user's session, which keeps what the user is told, and picks a zone that
-/// stands in the list that was read last.
+/// Each event of a node is a step of its user's session, which keeps what the node reports, and picks a zone of
+/// the list that was read last.
 pub fn an_event_is_a_step_of_the_session<A: Allocator>()
     ensures call { (n : NodeState) (call : Call A)
         → IsStep n.session (Calls call) (called n call).report (called n call).state.session }
