@@ -41,7 +41,7 @@ fn requester_here(net: u16, node: &[u8], socket: &[u8]) -> Option<Address>
     Some(Address { net, node, socket })
 }
 
-// The same, or `NET.NODE SOCKET`, with each number that a datagram can have. What came under such a number can be named.
+// The same, or `NET.NODE SOCKET`, with each number that a datagram can have. So whoever asked can be named.
 fn any_requester(net: u16, node: &[u8], socket: &[u8]) -> Option<Address>
     ensures { IsFound result (NameAny net node.now socket.now) }
 {

@@ -17,7 +17,8 @@ is_step_line line = if is_passed_over line then false else begins_step (words_of
 abbrev pub step_words : List (List ℕ) → List (List (List ℕ))
 step_words lines = map words_of (filter is_step_line lines)
 
--- A step line says the step that was read of it. Of any other line none was read, and after a step the line is passed over.
+-- A step line says the step that was read of it. Of any other line none was read, and after a step the line is passed
+-- over.
 abbrev pub ReadsStep : {A : Type 0} → Bool → List ℕ → Option (Step A) → Type 0
 ReadsStep after_step line None = (is_step_line line ≡ false) × (after_step ≡ true → is_passed_over line ≡ true)
 ReadsStep after_step line (Some s) = (is_step_line line ≡ true) × AreStep (words_of line) s
@@ -30,8 +31,8 @@ IsStepOf setup s = stands_in (numbers_of setup) (node_of s) ≡ true
 abbrev pub SaysNoStepOf : {A : Type 0} → Setup A → List ℕ → Type 0
 SaysNoStepOf {A} setup line = (s : Step A) → AreStep (words_of line) s → ¬ IsStepOf setup s
 
--- The line has no place in a drive of the setup: it is a step line and says no such step, or it comes after a step, is no
--- step line and is not passed over.
+-- The line has no place in a drive of the setup: it is a step line and says no such step, or it comes after a step, is
+-- no step line and is not passed over.
 abbrev pub IsUnfit : {A : Type 0} → Setup A → Bool → List ℕ → Type 0
 IsUnfit setup after_step line =
     ((is_step_line line ≡ true) × SaysNoStepOf setup line)

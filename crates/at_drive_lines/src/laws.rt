@@ -10,8 +10,8 @@ ghost use Rattle.at_drive_lines.specs.StepLines.{IsUnfit, SaySteps, step_words};
 use at_setup_lines::laws::lines_begin_with_known_words;
 use std::alloc::Allocator;
 
-/// A step line of a drive says a step that a node of its setup takes, and only such lines come after a step. So each line
-/// can be read once more.
+/// A step line of a drive says a step that a node of its setup takes, and only such lines come after a step. So each
+/// line can be read once more.
 pub fn each_line_can_be_read<A: Allocator>()
     ensures { (setup : Said A) (port : ℕ) (lines read later : List (List ℕ)) (line : List ℕ) (after_step : Bool)
         → BeginsSo setup port lines → lines ≡ read ++ line ∷ later → (after_step ≡ true → ¬ (step_words read ≡ []))

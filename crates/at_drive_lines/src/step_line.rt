@@ -16,8 +16,8 @@ use at_setup::{NodeSetup, Setup};
 use at_words::{Words, node_number};
 use std::alloc::Allocator;
 
-/// The step of a line of a drive whose setup was read before, if it says one. Its node is one of the setup. After a step no
-/// other line may follow.
+/// The step of a line of a drive whose setup was read before, if it says one. Its node is one of the setup. After a
+/// step no other line may follow.
 pub fn step_in<A: Allocator + Copy>(
     alloc: A,
     setup: &Setup<A>,
@@ -86,7 +86,7 @@ pub(crate) fn is_step_word(word: &[u8]) -> bool
     word == b"call".as_slice() || (word == b"timer".as_slice() || word == b"poll".as_slice())
 }
 
-/// Whether a node of this number stands among these.
+/// Whether a node of this number is among these.
 pub(crate) fn stands_among(nodes: &[NodeSetup], number: u8) -> bool
     ensures { result ≡ list_any (λ n. n.node == number) nodes.now }
 {

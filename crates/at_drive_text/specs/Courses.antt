@@ -1,5 +1,5 @@
--- What a line does to a drive, and how far the drive is after it. S and R say what may come of a send and of a receive on
--- the cable.
+-- What a line does to a drive, and how far the drive is after it. S and R say what may come of a send and of a receive
+-- on the cable.
 use Rattle.std.specs.Prelude.{◌≡◌, ℕ, ◌+◌, ◌||◌, nat_le, Bool, true, false, List, length, Option, Some, Result, IfSome}
 use Rattle.std.specs.Prelude.{slice_get}
 use Rattle.at_cable.specs.declared.fault.CableFault.{CableFault}
@@ -62,8 +62,8 @@ TellsLine {A} S R page heard true line o d c p x o' d' c' p' x' =
 TellsLine S R page heard false line o d c p x o' d' c' p' x' =
     (o' ≡ o) × (d' ≡ d) × (c' ≡ c) × (p' ≡ p) × (x' ≡ x)
 
--- Why a drive ended at a line. There was no memory to read its step, or to drive it; a write failed after it; or the line
--- has no place where it is.
+-- Why a drive ended at a line. There was no memory to read its step, or to drive it; a write failed after it; or the
+-- line has no place where it is.
 abbrev pub EndsLine : {A C W E : Type 0} → (C → ℕ → ℕ → List ℕ → Result (Unit {0}) CableFault → C → Type 0)
     → (C → ℕ → ℕ → Result (Option (List ℕ)) CableFault → C → Type 0) → (W → Page) → (E → Page)
     → List ℕ → Course A → Nodes → C → Printer W → Diagnostics E → Course A → Nodes → C → Printer W → Diagnostics E

@@ -1,6 +1,6 @@
 -- LocalTalk over UDP: frames of LLAP in UDP (RFC 768) in IPv4 (RFC 791).
-use Rattle.std.specs.Prelude.{ℕ, ◌+◌, ◌-◌, ◌*◌, ◌/◌, ◌%◌, ◌==◌, ◌&&◌, not, min, Bool, if◌then◌else◌, nat_le, nat_lt, List}
-use Rattle.std.specs.Prelude.{length, take, drop, slice_index, Result, Err}
+use Rattle.std.specs.Prelude.{ℕ, ◌+◌, ◌-◌, ◌*◌, ◌/◌, ◌%◌, ◌==◌, ◌&&◌, not, min, Bool, if◌then◌else◌, nat_le, nat_lt}
+use Rattle.std.specs.Prelude.{List, length, take, drop, slice_index, Result, Err}
 use Rattle.at_ddp.specs.Fault.{number_at}
 use Rattle.at_frames.specs.Carried.{Load}
 use Rattle.at_frames.specs.Llap.{in_llap}
@@ -24,8 +24,8 @@ is_whole_udp ip = (slice_index ip 9 == 17) && (number_at 6 ip % 16384 == 0)
 abbrev pub is_length : ℕ → ℕ → Bool
 is_length len most = nat_le 8 len && nat_le len most
 
--- What UDP tells, which has at most so many of these bytes: port 1954, then the identifier of the sender in 4 bytes, and
--- LLAP up to the length.
+-- What UDP carries, which has at most so many of these bytes: port 1954, then the identifier of the sender in 4 bytes,
+-- and LLAP up to the length.
 unfoldable pub in_udp : ℕ → List ℕ → Result Load Reason
 in_udp most udp =
     let len = number_at 4 udp in

@@ -24,8 +24,8 @@ impl<A: Allocator + Copy> NameSocket<A> {
     /// Takes a datagram. The packet at the front of its data is what counts: bytes after it are ignored. A packet that
     /// has no effect needs no memory.
     pub fn hear(&mut self, arrived: &NbpPacket<'_>, out: &mut Outbox<A>) -> Result<Heard, NbpFault>
-        ensures ok { IfOk result (λ h. (pushes : List (At × List ℕ)) × Hears self.old arrived.now.data_ h self.new pushes
-            × Sends out.old out.new pushes) }
+        ensures ok { IfOk result (λ h. (pushes : List (At × List ℕ))
+            × Hears self.old arrived.now.data_ h self.new pushes × Sends out.old out.new pushes) }
         ensures refused { (fault : Fault) → IsFirstFault fault arrived.now.data_ → IsErrOf result fault }
         ensures fault { IfErr result (λ fault. fault ≢ NbpFault.NoMemory → IsFirstFault fault arrived.now.data_) }
         ensures owed { IfErr result (λ fault. fault ≡ NbpFault.NoMemory → (h : Come) × (new : SocketState)

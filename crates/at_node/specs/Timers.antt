@@ -1,5 +1,5 @@
--- Which timers of a node would do something now (Inside AppleTalk, ATP, "Transactions", the retry and the release timer;
--- NBP, "Name lookup"; ADSP, "Maintaining the connection").
+-- Which timers of a node would do something now (Inside AppleTalk, ATP, "Transactions", the retry and the release
+-- timer; NBP, "Name lookup"; ADSP, "Maintaining the connection").
 use Rattle.std.specs.Prelude.{◌≡◌, ◌≢◌, ◌⊎◌, ◌+◌, ◌≤◌, ℕ, Bool, true, false, List, ◌++◌, length, map, filter_map}
 use Rattle.std.specs.Prelude.{option_map, [], Result, IsOk, OnErr, OnOk, Vec, vec_capacity, vec_len}
 use Rattle.at_atp_requester.specs.Requests.{Transaction}

@@ -1,5 +1,5 @@
-//! The nodes of a cable: those of a setup before anything happened, the place of a number among them, what they hold, and
-//! what one of them does with an input.
+//! The nodes of a cable: those of a setup before anything happened, the place of a number among them, what they hold,
+//! and what one of them does with an input.
 #![tactic(auto)]
 
 pub mod laws;

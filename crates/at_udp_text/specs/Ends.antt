@@ -30,7 +30,8 @@ use Rattle.at_udp.specs.Sockets.{UdpState}
 use Rattle.at_udp.specs.declared.bind.BindFault.{BindFault}
 use Rattle.at_udp.specs.declared.bind.BindFault.TheVariants as unbound
 
--- Nothing was driven, and this alone is printed. A person is told why, and if it could not be written, and nothing else.
+-- Nothing was driven, and only this is printed. Standard error has the reason, whether it could not be printed, and
+-- nothing else.
 abbrev pub Fails : {W E : Type 0} → (W → Page) → (E → Page) → (Diagnostics E → Diagnostics E → Type 0) → List ℕ
     → Status → Printer W → Printer W → Diagnostics E → Diagnostics E → Type 0
 Fails {E = E} page heard TellsWhy text status old new before after =
@@ -70,7 +71,8 @@ EndsUnbound known may_fail (unbound.NoSocket node port why) page heard status ol
     × Fails page heard (TellsAt heard number) (codes "fault " ++ (decimal number ++ codes "\n")) status old new before
     after
 
--- The nodes of a setup are at ports above this one. A node has no socket, or all have theirs and are driven by the lines.
+-- The nodes of a setup are at ports above this one. A node has no socket, or all have theirs and are driven by the
+-- lines.
 abbrev pub DrivesNodes : {A C W E : Type 0} → (ℕ → Result C Error → Type 0)
     → (UdpState C → ℕ → ℕ → List ℕ → Result (Unit {0}) CableFault → UdpState C → Type 0)
     → (UdpState C → ℕ → ℕ → Result (Option (List ℕ)) CableFault → UdpState C → Type 0) → Setup A → ℕ

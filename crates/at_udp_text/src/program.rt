@@ -1,5 +1,5 @@
-//! The drive of a schedule, from its text to what is printed. The text is read for its faults before a socket is bound, and
-//! once more as it is driven.
+//! The drive of a schedule, from its text to what is printed. The text is read for its faults before a socket is bound,
+//! and once more as it is driven.
 ghost use Rattle.std.specs.Prelude.{◌≡◌, ◌<◌, ◌≤◌, IfErr, IfOk, IfSome, OnOk, length, true};
 ghost use Rattle.std.specs.Result.{IsErrAnd};
 ghost use Rattle.at_faults.specs.Reads.{IsOfBytes};
@@ -61,9 +61,9 @@ fn drive_text<S: Socket, A: Allocator + Copy, N: Net, W: Paper, E: Paper>(
     }
 }
 
-/// Drives the nodes of a schedule that can be read again from its beginning, as a file can: nothing of it is kept but its
-/// setup. It is read for its length, then for its faults, and last to be driven. One that changes meanwhile is reported
-/// as unreadable.
+/// Drives the nodes of a schedule that can be read again from its beginning, as a file can. Only its setup is kept. It
+/// is read for its length, then for its faults, and last to be driven. One that changes meanwhile is reported as
+/// unreadable.
 pub fn drive_file<S: Socket, A: Allocator + Copy, N: Net, F: Read + Seek, W: Paper, E: Paper>(
     alloc: A,
     net: &N,

@@ -5,8 +5,8 @@ use Rattle.at_drive_text.specs.Driven.{first_place}
 use Rattle.at_drive_text.proofs.CourseLemmas.{Sofar}
 use Rattle.at_drive_text.proofs.drive.drive_each.Given as goal
 
--- the steps of the lines so far are driven, printed and told, the nodes keep their numbers, and no more steps than lines
--- were counted
+-- the steps of the lines so far are driven and printed, the nodes keep their numbers, and no more steps than lines were
+-- counted
 abbrev pub invariant-loop-course : goal.invariant-loop-course
 invariant-loop-course g l = record {
   so : Sofar g.C.Cable.sends g.C.Cable.receives g.W.Paper.page g.E.Paper.page l.fn.course.setup.now

@@ -23,23 +23,23 @@ pub returns-in_err-heard-in-LookUp-clause-owed : goal.returns-in_err-heard-in-Lo
 returns-in_err-heard-in-LookUp-clause-owed g c =
     let p = packet_content c.in_ok-packet.packet.now in
     let some = c.in_err-heard-in-LookUp.ensures.owed in
-    owed c.from_residual-in_err-heard-in-LookUp.result c.args.self.now (c.args.arrived.now).data_ c.in_ok-packet.ensures.found.0 p
-    c.in_ok-packet.ensures.found.1
+    owed c.from_residual-in_err-heard-in-LookUp.result c.args.self.now (c.args.arrived.now).data_
+    c.in_ok-packet.ensures.found.0 p c.in_ok-packet.ensures.found.1
     (subst (SomeStep c.args.self.now p) (sym c.in-LookUp.is) (some.0, c.args.self.now, some.1, (some.2, refl), some.3))
 
 pub returns-in_err-heard-in-Reply-clause-owed : goal.returns-in_err-heard-in-Reply-clause-owed
 returns-in_err-heard-in-Reply-clause-owed g c =
     let p = packet_content c.in_ok-packet.packet.now in
-    owed c.from_residual-in_err-heard-in-Reply.result c.args.self.now (c.args.arrived.now).data_ c.in_ok-packet.ensures.found.0 p
-    c.in_ok-packet.ensures.found.1
+    owed c.from_residual-in_err-heard-in-Reply.result c.args.self.now (c.args.arrived.now).data_
+    c.in_ok-packet.ensures.found.0 p c.in_ok-packet.ensures.found.1
     (subst (SomeStep c.args.self.now p) (sym c.in-Reply.is)
     (keeps_some c.args.self.now p (λ none. absurd (false≢true (c.in_err-heard-in-Reply.ensures.ignored none)))))
 
 pub returns-in_err-heard-in_default-clause-owed : goal.returns-in_err-heard-in_default-clause-owed
 returns-in_err-heard-in_default-clause-owed g c =
     let p = packet_content c.in_ok-packet.packet.now in
-    owed c.from_residual-in_err-heard-in_default.result c.args.self.now (c.args.arrived.now).data_ c.in_ok-packet.ensures.found.0 p
-    c.in_ok-packet.ensures.found.1
+    owed c.from_residual-in_err-heard-in_default.result c.args.self.now (c.args.arrived.now).data_
+    c.in_ok-packet.ensures.found.0 p c.in_ok-packet.ensures.found.1
     (relays_some c.args.self.now p p.function (λ is_lookup. c.in_default.not-LookUp is_lookup)
     (λ is_reply. c.in_default.not-Reply is_reply)
     (λ none. absurd (false≢true (c.in_err-heard-in_default.ensures.ignored none))))
