@@ -1,5 +1,6 @@
 //! The reading of a table page by page, up to the last one, which gives all names.
-ghost use Rattle.std.specs.Prelude.{◌≡◌, ◌↔◌, ◌+◌, ◌<◌, ◌⊎◌, ◌++◌, [], length, nat_lt, OnOk, IfErr, IfOk, IsErrOf};
+ghost use Rattle.std.specs.Prelude.{◌≡◌, ◌↔◌, ◌+◌, ◌<◌, ◌⊎◌, ◌++◌, [], length, nat_lt, OnErr, OnOk, IfErr, IfOk};
+ghost use Rattle.std.specs.Prelude.{IsErrOf};
 ghost use Rattle.at_zip.specs.Reading.{HasRoomFor, follows, kept, place_after};
 
 use crate::fault::ZipFault;
@@ -63,6 +64,7 @@ impl<A: Allocator + Copy> ZoneReader<A> {
             ↔ (1024 < length self.old.names + length page.now.names) }
         ensures no_other { IfErr result (λ fault. (fault ≡ ZipFault.TooManyZones) ⊎ (fault ≡ ZipFault.NoMemory)) }
         ensures same { self.new.names ≡ self.old.names }
+        ensures unchanged { OnErr result (self.new ≡ self.old) }
     {
         if self.is_too_long_with(page) {
             return Err(ZipFault::TooManyZones);
