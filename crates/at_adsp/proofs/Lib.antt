@@ -60,6 +60,8 @@ mod StrangeSegments
 mod StrangeWires
 mod Ours
 mod OurHistories
+mod Remotes
+mod TakenItems
 mod Members
 mod Opens
 mod Meets

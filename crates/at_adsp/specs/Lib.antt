@@ -5,6 +5,7 @@ pub mod Meetings
 pub mod Moving
 pub mod Nearness
 pub mod Network
+pub mod Numbered
 pub mod Orders
 pub mod Pairs
 pub mod Reading

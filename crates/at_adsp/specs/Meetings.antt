@@ -2,6 +2,7 @@
 -- AppleTalk, ADSP, "Opening a connection" and "Data flow").
 use Rattle.std.specs.Prelude.{◌≡◌, ◌⊎◌, ℕ, true, false, List, ◌++◌, find, Contains, Some, None}
 use Rattle.at_ddp.specs.declared.address.Address.{Address}
+use Rattle.at_adsp_end.specs.Ends.{EndState}
 use Rattle.at_adsp_end.specs.declared.item.Item.{Item}
 use Rattle.at_adsp.specs.Reading.{ReadsFrom}
 use Rattle.at_adsp.specs.Streams.{Stream, has_number, with_peer}
@@ -32,6 +33,16 @@ pub record OpensWith (all now : List Stream) (at : Address) (id : ℕ) : Type 0 
   pub made : Contains all peer
   pub may : MayHave all end peer
   pub becomes : now ≡ with_peer at id (Some peer.birth) all
+
+-- An end that opened names its peer, among all that were ever made. Its remote is the peer's address and identifier,
+-- which no end got since.
+pub record NamesPeer (all : List Stream) (at : Address) (e : EndState) : Type 0 where
+  pub end : Stream
+  pub newest : find (has_number at e.id) all ≡ Some end
+  pub peer : Stream
+  pub has : end.peer ≡ Some peer.birth
+  pub peer_newest : find (has_number peer.owner peer.id) all ≡ Some peer
+  pub names : e.remote ≡ Some (record { address = peer.owner; id = peer.id })
 
 -- All that was read so far of the newest end with this number, and then these items, reads from what was written at its
 -- peer.

@@ -1,10 +1,10 @@
 //! The laws of a network of ends of streams. The functions do nothing: each contract is a law.
-ghost use Rattle.std.specs.Prelude.{◌≡◌, ℕ, ◌+◌, ◌<◌, ◌≤◌, ◌^◌, true, List, ◌∷◌, length, Some, None, Ok};
+ghost use Rattle.std.specs.Prelude.{◌≡◌, ℕ, ◌+◌, ◌<◌, ◌≤◌, ◌^◌, true, List, [], ◌∷◌, length, Some, None, Ok};
 ghost use Rattle.std.specs.List.{AllByRecursion};
 ghost use Rattle.at_adsp.specs.Cables.{few_segments, wire_numbered};
 ghost use Rattle.at_adsp.specs.Connections.{ChangesStreams, streams};
 ghost use Rattle.at_adsp.specs.Lawfully.{IsInRange, IsLawfulSetting, IsLawfullySent};
-ghost use Rattle.at_adsp.specs.Meetings.{OpensWith, ReadsWith};
+ghost use Rattle.at_adsp.specs.Meetings.{NamesPeer, OpensWith, ReadsWith};
 ghost use Rattle.at_adsp.specs.Moving.{NeverMovesBack};
 ghost use Rattle.at_adsp.specs.Nearness.{AllNear, HasWindows};
 ghost use Rattle.at_ddp.specs.Posts.{AllSent, packet_at};
@@ -13,8 +13,9 @@ ghost use Rattle.at_adsp.specs.Network.{done};
 ghost use Rattle.at_adsp.specs.Orders.{IsNoReset, ReadsBeginnings, ReadsInOrder, whole_numbered};
 ghost use Rattle.at_adsp.specs.Pairs.{GivesPairs, HappensHere};
 ghost use Rattle.at_adsp.specs.Wires.{wired, wired_number, wired_outcome};
-ghost use Rattle.at_adsp_end.specs.Ends.{EndState, has_opened};
-ghost use Rattle.at_adsp_end.specs.Hearing.{Told, heard};
+ghost use Rattle.at_adsp.specs.Numbered.{numbered_within};
+ghost use Rattle.at_adsp_end.specs.Ends.{EndState, free, has_opened};
+ghost use Rattle.at_adsp_end.specs.Hearing.{Told, heard, rest, taken};
 ghost use Rattle.at_adsp_end.specs.Positions.{whole, wire};
 ghost use Rattle.at_adsp_end.specs.declared.step.Step.TheVariants.{Opened};
 ghost use Rattle.at_adsp_end.specs.declared.item.Item.{Item};
@@ -70,6 +71,15 @@ pub fn an_end_that_opens_has_a_peer()
         s.to id }
 {}
 
+/// Where all happens at our addresses, an end that opened names its peer. Its remote is the address and the identifier
+/// of that end, and no end got them since. All this holds of timely histories, whatever the numbers of segments are.
+pub fn an_end_that_opened_names_its_peer()
+    ensures { (setting : Setting) (history : List Happening) → AllTimely setting history
+        → AllByRecursion (HappensHere setting) history → (at : Address) (id : ℕ) (e : EndState)
+        → by_id ((after setting history).tables at) id ≡ Some e → has_opened e.phase ≡ true
+        → NamesPeer (streams (after setting history)) at e }
+{}
+
 /// What is read from an end that has a peer was written at the peer, in this order. Only a reset of the writer may be
 /// passed, with what was written before it. All this holds where segments are lost, repeated or reordered, whatever
 /// comes from other addresses, and also of ends that are closed or freed, and of two ends at one address. The numbers
@@ -120,6 +130,16 @@ pub fn what_is_read_reads_from_a_peer()
         (by_id ((after setting history).tables at) id) ≡ Ok d
         → ReadsInOrder (after setting (Reads at id count ∷ history))
         → ReadsWith (streams (after setting history)) at id d.answer }
+{}
+
+/// An end takes an item of a segment if and only if the item's number is not before the next that it expects, and lies
+/// within its free room. Of a segment that begins past the expected number it takes none.
+pub fn items_are_taken_by_their_numbers()
+    ensures taken { (e : EndState) (first : ℕ) (items : List Item) → first ≤ e.receiver.received
+        → taken e (rest items (whole.ahead first e.receiver.received))
+        ≡ numbered_within e.receiver.received (free e) first items }
+    ensures beyond { (e : EndState) (first : ℕ) (items : List Item) → e.receiver.received < first
+        → taken e (rest items (whole.ahead first e.receiver.received)) ≡ [] }
 {}
 
 /// Once it is known how far the numbers of a segment lie from those of an end, hearing it is the same with the numbers

@@ -2,6 +2,7 @@
 use Rattle.std.specs.Prelude.{◌≡◌, ◌↔◌, ◌⊎◌, ℕ, Bool, List, [], ◌++◌, Option, Some, Result, Ok, Err, IfSome}
 use Rattle.std.specs.Prelude.{IsOk, false, true}
 use Rattle.std.specs.Io.KnownBytes.{Keeps}
+use Rattle.at_world.specs.Agreements.{HasAgreeingRun}
 use Rattle.at_world.specs.Events.{NoForge}
 use Rattle.at_world.specs.ExactlyOnce.{AllLive, RunsOnce, onto}
 use Rattle.at_world.specs.Machine.{Machine, Run, opening_machine}
@@ -45,12 +46,13 @@ abbrev pub IsUnwritten : Result (Unit {0}) Ending → Type 0
 IsUnwritten (Err ending.Unwritten) = Unit {0}
 IsUnwritten other = ⊥
 
--- The setup is lawful, and each event was safe. If nothing was forged, the reports are a run of the machine, and
--- exactly-once requests run once.
+-- The setup is lawful, and each event was safe. If nothing was forged, the reports are a run of the machine, one that
+-- agrees with the worlds throughout, and exactly-once requests run once.
 pub record Obeys {A : Type 0} (setup : Setup A) (p : Played setup) : Type 0 where
   pub lawful : is_lawful setup ≡ true
   pub safe : Safely (opening_world setup) p.events p.reports p.world
   pub run : NoForge p.events → (m : Machine) × Run (opening_machine setup) p.events p.reports m
+  pub agrees : NoForge p.events → HasAgreeingRun setup p.events p.reports p.world
   pub once : NoForge p.events → AllLive setup.net (p.world).sent (onto [] p.events p.reports)
       → RunsOnce setup.net (tables_of setup) (p.world).sent (onto [] p.events p.reports)
 
@@ -111,8 +113,8 @@ FileText A remaining position bytes heard old new result text =
     ⊎ ((again : Rewound position bytes)
     × PlaysText A heard (remaining again.file) true (HoldsSetup (remaining first.file)) old new result text)))
 
--- How a play ended, and what is printed of it: its events, and why it stopped if it did. A person is told of the events,
--- then why it stopped, then that something could not be written, and nothing else.
+-- How a play ended, and what is printed of it: its events, and why it stopped if it did. A person is told of the
+-- events, then why it stopped, then that something could not be written, and nothing else.
 pub record Ended {W E : Type 0} (IsText : Diagnostics E → Result (Unit {0}) Ending → List ℕ → Type 0)
     (page : W → Page) (heard : E → Page) (status : Status) (old new : Printer W) (after : Diagnostics E)
     : Type 0 where

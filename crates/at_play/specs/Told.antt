@@ -1,6 +1,6 @@
 -- What is printed of a play: each event that was played, in its order.
-use Rattle.std.specs.Prelude.{◌≡◌, ◌⊎◌, ℕ, ◌+◌, ◌<◌, Bool, true, false, List, [], ◌∷◌, ◌++◌, filter, length, IfSome, Option}
-use Rattle.std.specs.Prelude.{Result, Ok, Err}
+use Rattle.std.specs.Prelude.{◌≡◌, ◌⊎◌, ℕ, ◌+◌, ◌<◌, Bool, true, false, List, [], ◌∷◌, ◌++◌, filter, length, IfSome}
+use Rattle.std.specs.Prelude.{Option, Result, Ok, Err}
 use Rattle.std.specs.List.{All}
 use Rattle.at_event.specs.declared.report.Report.{Report}
 use Rattle.at_faults.specs.Reads.{IsOfSystem}
@@ -123,8 +123,8 @@ IsFailedRead (why.Unreadable u) = IsOfSystem u
 IsFailedRead (why.Line number rule) = ⊥
 IsFailedRead why.NoMemory = ⊥
 
--- Why a play stopped in a world, after these events. A read failed, or a line is no longer one of a schedule, if reading
--- may fail. Or memory ran out, before the first event or where some is taken. Or the event of the next event line is
+-- Why a play stopped in a world, after these events. A read failed, or a line is no longer one of a schedule, if
+-- reading may fail. Or memory ran out, before the first event or where some is taken. Or the event of the next event line is
 -- refused so.
 abbrev pub StopsIn : (A : Type 0) → Option (List ℕ) → Bool → List (Event A) → WorldState → Stop → Type 0
 StopsIn A known may_fail es w (stop.Text f) =

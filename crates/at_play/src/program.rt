@@ -28,7 +28,7 @@ pub fn play_text<A: Allocator + Copy, R: Read, W: Paper, E: Paper>(
     printer: &mut Printer<W>,
     diagnostics: &mut Diagnostics<'_, E>,
 ) -> Status
-    // A schedule that is too long is not played, and nothing else is printed. Said if it is known what the reader holds.
+    // A schedule that is too long is not played, and nothing else is printed, if it is known what the reader holds.
     ensures too_long { IfSome (R.remaining reader.old)
         (λ all. MAX_LEN < length all → IsUnplayed W.page result printer.old printer.new) }
     ensures printed { result ≡ Status.Done → ¬ HasFailed printer.new }
@@ -48,7 +48,7 @@ pub fn play_file<A: Allocator + Copy, F: Read + Seek, W: Paper, E: Paper>(
     printer: &mut Printer<W>,
     diagnostics: &mut Diagnostics<'_, E>,
 ) -> Status
-    // One that is too long is not played, and nothing but `fault 0` is printed. Said if it is known what the file holds.
+    // One that is too long is not played, and nothing but `fault 0` is printed, if it is known what the file holds.
     ensures too_long { IfSome (F.remaining file.old) (λ all. MAX_LEN < length all
         → (result ≡ Status.Failed) × Prints W.page printer.old printer.new (codes "fault 0\n")) }
     ensures printed { result ≡ Status.Done → ¬ HasFailed printer.new }

@@ -8,6 +8,7 @@ pub mod Opening
 pub mod Places
 pub mod Readings
 pub mod ReadingSteps
+pub mod Serving
 pub mod Staying
 pub mod Steps
 pub mod Tables

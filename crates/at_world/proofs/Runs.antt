@@ -21,6 +21,7 @@ use Rattle.at_setup.specs.declared.event.Event.TheVariants as event
 use Rattle.at_setup.specs.declared.setup.Setup.{Setup}
 use Rattle.at_world.specs.declared.transcript.Transcript.{Transcript}
 use Rattle.at_world.specs.declared.transcript.PlayFault.{PlayFault}
+use Rattle.at_world.specs.Agreements.{AgreeThroughout, HasAgreeingRun, IsAgreedRun}
 use Rattle.at_world.specs.Cables.{Cable}
 use Rattle.at_world.specs.Events.{NoForge, act_of, is_forged, node_of}
 use Rattle.at_world.specs.Machine.{Machine, opening_machine, Step, Run, IsRun}
@@ -29,6 +30,7 @@ use Rattle.at_world.specs.Stories.{Tells, tables_by}
 use Rattle.at_world.specs.Worlds.{WorldState, DrawsFree, IsPlayable, Plays, is_over, node_at, recorded, refusal}
 use Rattle.at_world.specs.Worlds.{refusal_at}
 use Rattle.at_world.proofs.Atp.Happenings.{Follows as FollowsAtp, call_follows, datagram_follows, passed, timer_follows}
+use Rattle.at_world.proofs.Atp.Serving.{answers_its_request}
 use Rattle.at_world.proofs.Atp.Tables.{tables_follow}
 use Rattle.at_world.proofs.Atp.Tie.{Laws, AtpTie, Grown}
 use Rattle.at_world.proofs.CableTie.{cable_next}
@@ -43,6 +45,7 @@ use Rattle.at_world.proofs.Sessions.Steps.{Good as GoodSessions, SessionLaws}
 use Rattle.at_world.proofs.Streams.Coming as streams_coming
 use Rattle.at_world.proofs.Streams.Happenings as streamed
 use Rattle.at_world.proofs.Streams.Next.{Good as GoodStreams}
+use Rattle.at_world.proofs.Streams.Peers.{names_peers}
 use Rattle.at_world.proofs.Streams.Tie.{StreamLaws, StreamTie}
 use Rattle.at_world.proofs.Tied.{Tied}
 use Rattle.at_setup.specs.declared.refusal.Refusal.TheVariants.{Limit}
@@ -232,17 +235,18 @@ followed A laws w m (event.Forge k bytes) r w' t forged playable p = absurd (tru
 
 -- ---- all of them
 
--- a run of the machine, and the history that it made
-abbrev pub Ran : (A : Type 0) (w : WorldState) (m : Machine) → Tied A w m → List (Event A) → List (Report A)
-    → WorldState → Type 0
-Ran A w m t es rs w' = (m' : Machine) × Run m es rs m' × (now : Tied A w' m')
+-- a run of the machine, and the history that it made; it agrees with the worlds throughout
+abbrev pub Ran : (A : Type 0) (w : WorldState) (m : Machine) → Tied A w m → (es : List (Event A))
+    → (rs : List (Report A)) → (w' : WorldState) → Follows w es rs w' → Type 0
+Ran A w m t es rs w' follows = (m' : Machine) × (run : Run m es rs m') × (now : Tied A w' m')
     × Tells (m.cable).net (m.atp).tables (t.atp).history es rs (now.atp).history
+    × AgreeThroughout m w es rs m' w' run follows
 
 pub runs : (A : Type 0) → PartLaws A
     → (w : WorldState) (m : Machine) (es : List (Event A)) (rs : List (Report A)) (w' : WorldState) (t : Tied A w m)
-    → NoForge es → Follows w es rs w' → Ran A w m t es rs w'
+    → NoForge es → (follows : Follows w es rs w') → Ran A w m t es rs w' follows
 runs A laws w m [] [] w' t sent h = let same = subst (λ x. (now : Tied A x m) × ((now.atp).history ≡ (t.atp).history))
-    (sym h) (t, refl) in (m, refl, same.0, same.1)
+    (sym h) (t, refl) in (m, refl, same.0, same.1, tt)
 runs A laws w m (e ∷ es) (r ∷ rs) w' t sent h =
     let playable = h.1 in
     let one = followed A laws w m e r h.0 t sent.0 playable h.2 in
@@ -254,7 +258,9 @@ runs A laws w m (e ∷ es) (r ∷ rs) w' t sent h =
     (subst (λ tables. Tells (m.cable).net tables ((one.2).atp).history es rs ((rest.2).atp).history) table
     (subst (λ (c : Cable). Tells c.net ((one.0).atp).tables ((one.2).atp).history es rs ((rest.2).atp).history)
     one.4 rest.3)) in
-    (rest.0, (one.0, one.1, rest.1), rest.2, (grown.0, grown.2, grown.3, told))
+    let peers = names_peers A laws.streams h.0 one.0 one.2 in
+    let answers = answers_its_request A w m t e r h.0 one.0 one.2 grown in
+    (rest.0, (one.0, one.1, rest.1), rest.2, (grown.0, grown.2, grown.3, told), (peers, answers, rest.4))
 runs A laws w m [] (r ∷ rs) w' t sent h = absurd h
 runs A laws w m (e ∷ es) [] w' t sent h = absurd h
 
@@ -262,6 +268,19 @@ runs A laws w m (e ∷ es) [] w' t sent h = absurd h
 abbrev pub StepsRun : (A : Type 0) → Setup A → Type 0
 StepsRun A s = (events : List (Event A)) (reports : List (Report A)) (w : WorldState) → NoForge events
     → Follows (opening_world s) events reports w → (m : Machine) × Run (opening_machine s) events reports m
+
+-- what steps from the opening give is a run that agrees with the worlds
+abbrev pub StepsAgree : (A : Type 0) → Setup A → Type 0
+StepsAgree A s = (events : List (Event A)) (reports : List (Report A)) (w : WorldState) → NoForge events
+    → Follows (opening_world s) events reports w → HasAgreeingRun s events reports w
+
+pub play_agrees : (A : Type 0) (s : Setup A) (events : List (Event A))
+    (answer : Result (Transcript A) (PlayFault A)) → StepsAgree A s → IsPlay s events answer
+    → IsAgreedRun s events answer
+play_agrees A s events (Ok t) law h = λ sent. let played = h.1 in
+    (h.0, law events t.reports h.0 sent played.0, played.1)
+play_agrees A s events (Err f) law h = λ sent. let played = h.1 in
+    (h.0, law (take f.at events) f.transcript.reports h.0 sent played.0, played.1)
 
 pub play_runs : (A : Type 0) (s : Setup A) (events : List (Event A)) (answer : Result (Transcript A) (PlayFault A))
     → StepsRun A s → IsPlay s events answer → IsRun s events answer

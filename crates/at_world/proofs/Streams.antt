@@ -4,6 +4,8 @@ pub mod Freely
 pub mod Happenings
 pub mod Next
 pub mod Opening
+pub mod Peers
+pub mod Standing
 pub mod Steps
 pub mod Tie
 pub mod Times

@@ -1,3 +1,4 @@
+pub mod Agreements
 pub mod AtpGuards
 pub mod Cables
 pub mod Draws

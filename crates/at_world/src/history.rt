@@ -2,8 +2,8 @@
 ghost use Rattle.std.specs.Prelude.{◌≡◌, List, true};
 ghost use Rattle.at_event.specs.declared.report.Report.{Report};
 ghost use Rattle.at_atp.specs.Network.{Happening};
+ghost use Rattle.at_world.specs.Agreements.{HasAgreeingRun};
 ghost use Rattle.at_world.specs.Events.{NoForge};
-ghost use Rattle.at_world.specs.Machine.{Machine, Run, opening_machine};
 ghost use Rattle.at_world.specs.Plays.{Follows, opening_world};
 ghost use Rattle.at_setup.specs.Setups.{tables_of};
 ghost use Rattle.at_setup.specs.Setups.{is_lawful};
@@ -14,12 +14,12 @@ ghost use Rattle.at_setup.specs.declared.setup.Setup.{Setup};
 
 use std::alloc::Allocator;
 
-// The reports of a world that is stepped from its opening on are a run of the machine, and each event is one happening
-// in the network of requesters and responders.
+// The reports of a world that is stepped from its opening on are a run of the machine, which agrees with the worlds
+// throughout. Each event is one happening in the network of requesters and responders.
 pub(crate) fn steps_make_a_history<A: Allocator>()
     ensures { (s : Setup A) (events : List (Event A)) (reports : List (Report A)) (w : WorldState) → is_lawful s ≡ true
         → NoForge events → Follows (opening_world s) events reports w
-        → ((m : Machine) × Run (opening_machine s) events reports m)
+        → HasAgreeingRun s events reports w
         × ((history : List Happening) × IsHistory s.net (tables_of s) events reports w.sent history) }
 {
     at_steps::laws::a_call_is_a_happening_of_atp::<A>();
@@ -43,6 +43,7 @@ pub(crate) fn steps_make_a_history<A: Allocator>()
     at_steps::laws::streams::a_segment_carries_its_identifiers();
     at_steps::laws::streams::an_identifier_that_is_not_held_has_no_end();
     at_steps::laws::streams::what_is_read_reads_from_a_peer::<A>();
+    at_steps::laws::streams::an_end_that_opened_names_its_peer();
     at_atp::laws::what_is_sent_is_lawful::<A>();
     at_nodes::laws::a_node_keeps_its_seat::<A>();
     at_node::laws::what_is_sent_carries_its_number();

@@ -1,6 +1,7 @@
 //! Laws of worlds. The functions do nothing: each contract is a law.
 ghost use Rattle.std.specs.Prelude.{◌≡◌, ◌≤◌, List, [], length, true};
 ghost use Rattle.at_event.specs.declared.report.Report.{Report};
+ghost use Rattle.at_world.specs.Agreements.{HasAgreeingRun};
 ghost use Rattle.at_world.specs.ExactlyOnce.{AllLive, RunsOnce, onto};
 ghost use Rattle.at_world.specs.Events.{NoForge};
 ghost use Rattle.at_world.specs.Machine.{Machine, Run, opening_machine};
@@ -20,12 +21,16 @@ pub fn at_most_16_nodes_stand<A: Allocator>()
     ensures { (s : Setup A) → is_lawful s ≡ true → length (opening_world s).nodes ≤ 16 }
 {}
 
-/// The reports of a world that is stepped from its opening on are a run of the machine. All that it sends is spelled
-/// canonically.
+/// The reports of a world that is stepped from its opening on are a run of the machine. After each event the machine
+/// gives each end the peer that it has, and a page that was served to the request that came. All that the world sends
+/// is spelled canonically.
 pub fn steps_are_a_run<A: Allocator>()
     ensures machine { (s : Setup A) (events : List (Event A)) (reports : List (Report A)) (w : WorldState)
         → is_lawful s ≡ true → NoForge events → Follows (opening_world s) events reports w
         → (m : Machine) × Run (opening_machine s) events reports m }
+    ensures agrees { (s : Setup A) (events : List (Event A)) (reports : List (Report A)) (w : WorldState)
+        → is_lawful s ≡ true → NoForge events → Follows (opening_world s) events reports w
+        → HasAgreeingRun s events reports w }
     ensures sent { (s : Setup A) (events : List (Event A)) (reports : List (Report A)) (w : WorldState)
         → Follows (opening_world s) events reports w → AreCanonical w.sent }
 {

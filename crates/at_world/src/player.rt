@@ -1,5 +1,6 @@
 //! The play of a whole list of events, up to the first that is refused.
 ghost use Rattle.std.specs.Prelude.{◌≡◌, true, [], IfErr, ◌≤◌, length};
+ghost use Rattle.at_world.specs.Agreements.{IsAgreedRun};
 ghost use Rattle.at_world.specs.ExactlyOnce.{IsOnce};
 ghost use Rattle.at_world.specs.Machine.{IsRun};
 ghost use Rattle.at_world.specs.Plays.{IsPlay, SendsCanonically};
@@ -24,6 +25,7 @@ pub fn play<A: Allocator + Copy>(
     requires { is_lawful setup.now ≡ true }
     ensures follows { IsPlay setup.now events.now result }
     ensures machine { IsRun setup.now events.now result }
+    ensures agrees { IsAgreedRun setup.now events.now result }
     ensures once { IsOnce setup.now events.now result }
     ensures sent { SendsCanonically result }
     ensures safe { IsSafePlay setup.now events.now result }

@@ -3,10 +3,11 @@ ghost use Rattle.std.specs.Prelude.{◌≡◌, ◌≢◌, ◌∷◌, ℕ, ◌==�
 ghost use Rattle.at_ddp.specs.Datagram.{canonical};
 ghost use Rattle.at_ddp.specs.declared.address.Address.{Address};
 ghost use Rattle.at_adsp_frame.specs.Segments.{spelled};
-ghost use Rattle.at_adsp_ends.specs.Tables.{by_remote};
+ghost use Rattle.at_adsp_end.specs.Ends.{EndState, has_opened};
+ghost use Rattle.at_adsp_ends.specs.Tables.{by_id, by_remote};
 ghost use Rattle.at_adsp.specs.Lawfully.{IsLawfullySent};
 ghost use Rattle.at_adsp.specs.Connections.{streams};
-ghost use Rattle.at_adsp.specs.Meetings.{ReadsWith};
+ghost use Rattle.at_adsp.specs.Meetings.{NamesPeer, ReadsWith};
 ghost use Rattle.at_adsp.specs.Network.{Happening, NoneNames, Reads, Sent, Setting, after, dest_of, is_fresh};
 ghost use Rattle.at_ddp.specs.Posts.{packet_at};
 ghost use Rattle.at_ddp.specs.Protocols.{adsp_kind};
@@ -81,6 +82,16 @@ pub fn what_is_read_reads_from_a_peer<A: Allocator>()
         → ReadsWith (streams (after setting history)) (streams_at n.seat.net n.seat.number) id items }
 {
     at_adsp::laws::what_is_read_reads_from_a_peer();
+}
+
+/// An end of a node that opened names its peer: its remote is the address and the identifier of that end.
+pub fn an_end_that_opened_names_its_peer()
+    ensures { (setting : Setting) (history : List Happening) (n : NodeState) (id : ℕ) (e : EndState)
+        → Stands setting history n.seat.net n.seat.number n → by_id n.streams id ≡ Some e
+        → has_opened e.phase ≡ true
+        → NamesPeer (streams (after setting history)) (streams_at n.seat.net n.seat.number) e }
+{
+    at_adsp::laws::an_end_that_opened_names_its_peer();
 }
 
 /// A step of another protocol is one happening among ends of streams, which leaves all streams as they were.

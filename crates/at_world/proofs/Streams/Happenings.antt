@@ -32,6 +32,7 @@ use Rattle.at_world.proofs.CableTie.{CableTie, SeatTie}
 use Rattle.at_world.proofs.Streams.Coming.{Comes}
 use Rattle.at_world.proofs.Streams.Freely.{none_names}
 use Rattle.at_world.proofs.Streams.Next.{Good, good_next, moved}
+use Rattle.at_world.proofs.Streams.Standing as standing
 use Rattle.at_world.proofs.Streams.Steps.{ReadsAt, step_allows}
 use Rattle.at_world.proofs.Streams.Tie.{StreamLaws, StreamTie}
 use Rattle.at_world.proofs.Streams.Tie as tie
@@ -55,29 +56,14 @@ module _ (A : Type 0) (laws : StreamLaws A) (w : WorldState) (c : Cable) (ss : S
   told_there : HasSession c.net (ss (node_of e)) n
   told_there = st.sessions (node_of e) n stands
 
-  -- what holds of the node's place on the cable holds of its seat, and the other way
   at_seat : (P : ℕ → ℕ → Type 0) → P c.net (node_of e) → P n.seat.net n.seat.number
-  at_seat P p = subst (λ i. P i n.seat.number) (sym its.net) (subst (P c.net) (sym its.number) p)
+  at_seat = standing.at_seat w c ss m ct st t (node_of e) n stands
 
   at_place : (P : ℕ → ℕ → Type 0) → P n.seat.net n.seat.number → P c.net (node_of e)
-  at_place P p = subst (λ i. P i (node_of e)) its.net (subst (P n.seat.net) its.number p)
+  at_place = standing.at_place w c ss m ct st t (node_of e) n stands
 
   pub stands_there : Stands t.setting t.history n.seat.net n.seat.number n
-  stands_there =
-      let has = t.ends (node_of e) n stands in
-      at_seat (λ net k. Stands t.setting t.history net k n) (record {
-        lawful = t.lawful;
-        numbers = t.numbers;
-        ours = t.ours;
-        timely = t.timely;
-        in_range = t.in_range;
-        here = t.here;
-        small_net = ct.net;
-        some_number = has.some;
-        small_number = has.small;
-        stands = has.stands;
-        finds = let told = told_there in (told.fits).finds;
-      })
+  stands_there = standing.stands_there w c ss m ct st t (node_of e) n stands
 
   -- a number that is free in the world is no end's remote
   pub draws_free : (r : Report A) → ((id : ℕ) → drawn_by r ≡ Some (Conn id) → IsFree w (node_of e) (Conn id))

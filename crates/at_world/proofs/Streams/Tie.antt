@@ -7,14 +7,15 @@ use Rattle.at_ddp.specs.Address.{same_address}
 use Rattle.at_ddp.specs.Datagram.{canonical}
 use Rattle.at_ddp.specs.declared.address.Address.{Address}
 use Rattle.at_adsp_frame.specs.Segments.{spelled}
+use Rattle.at_adsp_end.specs.Ends.{EndState, has_opened}
 use Rattle.at_adsp_end.specs.Positions.{wire as wire_numbers}
 use Rattle.at_adsp_end.specs.declared.item.Item.{Item}
-use Rattle.at_adsp_ends.specs.Tables.{by_remote}
+use Rattle.at_adsp_ends.specs.Tables.{by_id, by_remote}
 use Rattle.at_adsp.specs.Cables.{few_segments, wire_numbered}
 use Rattle.at_adsp.specs.Connections.{streams}
 use Rattle.at_adsp.specs.Lawfully.{IsInRange, IsLawfulSetting, IsLawfullySent}
 use Rattle.at_adsp.specs.Nearness.{AllNear, HasWindows}
-use Rattle.at_adsp.specs.Meetings.{ReadsWith}
+use Rattle.at_adsp.specs.Meetings.{NamesPeer, ReadsWith}
 use Rattle.at_ddp.specs.Posts.{AllSent, packet_at}
 use Rattle.at_ddp.specs.Protocols.{adsp_kind}
 use Rattle.at_world.proofs.Entries.{Entries}
@@ -86,6 +87,9 @@ pub record StreamLaws (A : Type 0) : Type 0 where
       ≡ report.Read items
       → ReadsInOrder (after setting (Reads (streams_at n.seat.net n.seat.number) id count ∷ history))
       → ReadsWith (streams (after setting history)) (streams_at n.seat.net n.seat.number) id items
+  pub names : (setting : Setting) (history : List Happening) (n : NodeState) (id : ℕ) (e : EndState)
+      → Stands setting history n.seat.net n.seat.number n → by_id n.streams id ≡ Some e → has_opened e.phase ≡ true
+      → NamesPeer (streams (after setting history)) (streams_at n.seat.net n.seat.number) e
   pub in_order : (setting : Setting) (history : List Happening) → setting.numbers ≡ wire_numbers → HasWindows setting
       → AllTimely setting history → length (after setting history).sent ≤ few_segments
       → ReadsInOrder (after setting history)

@@ -18,6 +18,8 @@ returns g c =
           safe = safely_told A (opening_world setup) p.events p.reports p.world p.text few p.told;
           run = λ honest.
               c.steps_are_a_run.ensures.machine setup p.events p.reports p.world c.requires.lawful honest follows;
+          agrees = λ honest.
+              c.steps_are_a_run.ensures.agrees setup p.events p.reports p.world c.requires.lawful honest follows;
           once = λ honest.
               c.exactly_once_requests_run_once.ensures setup p.events p.reports p.world c.requires.lawful honest
               follows;

@@ -1,15 +1,12 @@
-use Rattle.std.proofs.Common.{◌≡◌, ℕ, zero, suc, List, [], ◌∷◌, map, Option, Some, None, ap, subst, ◌∙◌}
+use Rattle.std.proofs.Common.{ap, subst, ◌∙◌}
 use Rattle.std.specs.Prelude.{slice_get}
-use Rattle.at_ddp.specs.Posts.{packet_at}
-use Rattle.at_steps.specs.AtpHappenings.{atp_coding}
 use Rattle.at_setup.specs.Setups.{tables_of}
-use Rattle.at_world.proofs.Entries.{Entries}
-use Rattle.at_atp.specs.Network.{Sent, after}
+use Rattle.at_atp.specs.Network.{after}
 use Rattle.at_world.specs.Machine.{opening_machine}
 use Rattle.at_world.specs.Plays.{opening_world}
-use Rattle.at_world.specs.Stories.{Tells, posted_packet}
+use Rattle.at_world.specs.Stories.{Tells}
+use Rattle.at_world.proofs.Atp.Serving.{stands_at}
 use Rattle.at_world.proofs.Atp.Tie.{Laws}
-use Rattle.at_world.proofs.CableTie.{Wire, spelled_wire}
 use Rattle.at_world.proofs.LawfulSetups.{SetupLaws}
 use Rattle.at_world.proofs.Names.Tie.{NameLaws}
 use Rattle.at_world.proofs.Runs.{PartLaws, runs}
@@ -17,17 +14,6 @@ use Rattle.at_world.proofs.Sessions.Steps.{SessionLaws}
 use Rattle.at_world.proofs.Streams.Tie.{StreamLaws, read_in_order}
 use Rattle.at_world.proofs.TiedAtOpening.{tied_at_opening}
 use Rattle.at_world.proofs.history.steps_make_a_history.Goals as goal
-
--- each packet of the network stands at its place
-stands_at : (wires : List Wire) (sent : List (Option Sent)) (which : ℕ) (s : Sent) → Entries atp_coding wires sent
-    → packet_at sent which ≡ Some s → slice_get (map spelled_wire wires) which ≡ Some (posted_packet s)
-stands_at [] [] which s all is = absurd (cc)
-stands_at [] (y ∷ sent) which s all is = absurd all
-stands_at (x ∷ wires) [] which s all is = absurd all
-stands_at (x ∷ wires) (Some y ∷ sent) zero s all is = let same : y ≡ s = cc in ap (λ z. Some (spelled_wire z)) all.0
-    ∙ ap (λ (z : Sent). Some (posted_packet z)) same
-stands_at (x ∷ wires) (None ∷ sent) zero s all is = absurd (cc)
-stands_at (x ∷ wires) (y ∷ sent) (suc i) s all is = stands_at wires sent i s all.1 is
 
 pub returns : goal.returns
 returns g c s events reports w lawful =
@@ -94,6 +80,7 @@ returns g c s events reports w lawful =
       lawful_sent = c.what_is_sent_is_lawful-3.ensures;
       unheld = c.an_identifier_that_is_not_held_has_no_end.ensures;
       reads = c.what_is_read_reads_from_a_peer.ensures;
+      names = c.an_end_that_opened_names_its_peer.ensures;
       in_order = read_in_order c.what_is_read_on_the_cable_was_written_in_order.ensures
           c.few_segments_are_near.ensures;
     } in
@@ -120,7 +107,7 @@ returns g c s events reports w lawful =
     let now = ran.2 in
     let cable = now.cable in
     let atp = now.atp in (
-      (ran.0, ran.1),
+      record { follows = follows; machine = ran.0; run = ran.1; agree = ran.4 },
       (
         atp.history,
         record {

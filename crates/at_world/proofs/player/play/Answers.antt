@@ -1,6 +1,6 @@
 use Rattle.at_world.proofs.Canonical.{play_sends}
 use Rattle.at_world.proofs.Atp.Onces.{play_is_once}
-use Rattle.at_world.proofs.Runs.{play_runs}
+use Rattle.at_world.proofs.Runs.{play_agrees, play_runs}
 use Rattle.at_world.proofs.player.play.Goals as goal
 
 pub returns-clause-sent : goal.returns-clause-sent
@@ -10,6 +10,11 @@ returns-clause-sent g c = play_sends g.row.A.Denot c.args.setup.now c.args.event
 pub returns-clause-machine : goal.returns-clause-machine
 returns-clause-machine g c = play_runs g.row.A.Denot c.args.setup.now c.args.events.now c.play_all.result
     (λ events reports w. c.steps_are_a_run.ensures.machine c.args.setup.now events reports w c.requires)
+    c.play_all.ensures.follows
+
+pub returns-clause-agrees : goal.returns-clause-agrees
+returns-clause-agrees g c = play_agrees g.row.A.Denot c.args.setup.now c.args.events.now c.play_all.result
+    (λ events reports w. c.steps_are_a_run.ensures.agrees c.args.setup.now events reports w c.requires)
     c.play_all.ensures.follows
 
 pub returns-clause-once : goal.returns-clause-once
