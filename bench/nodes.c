@@ -28,10 +28,12 @@ enum { DATAGRAMS = 64, PASSES = 10000, HEADER = 13, AFTER_SUM = 4 };
 
 static const char setup[] = "net 10\nnode 1 router zone Lab\nnode 5 zone Lab\nzones Lab Office\n";
 
-/* A node, and its socket. */
+/* A node, its socket, and room for one datagram, with one byte more, which a datagram that is too long fills. The room
+   is cleared once, and used again for each datagram. */
 struct seat {
     at_node node;
     int socket;
+    uint8_t bytes[AT_NODE_MAX_DATAGRAM + 1];
 };
 
 static unsigned first_port;
@@ -146,12 +148,11 @@ static void close_seat(struct seat *seat) {
 
 /* Sends all that waits in a node. */
 static void send_all(struct seat *seat) {
-    uint8_t bytes[AT_NODE_MAX_DATAGRAM] = {0};
     uint8_t to = 0;
     size_t length = 0;
-    while (at_node_next_datagram(&seat->node, &to, bytes, sizeof bytes, &length) == AT_NODE_OK) {
+    while (at_node_next_datagram(&seat->node, &to, seat->bytes, sizeof seat->bytes, &length) == AT_NODE_OK) {
         struct sockaddr_in address = address_of(to);
-        ssize_t gone = sendto(seat->socket, bytes, length, 0, (const struct sockaddr *)&address, sizeof address);
+        ssize_t gone = sendto(seat->socket, seat->bytes, length, 0, (const struct sockaddr *)&address, sizeof address);
         if (gone != (ssize_t)length) fail("a datagram could not be sent");
         sent_count++;
     }
@@ -159,19 +160,18 @@ static void send_all(struct seat *seat) {
 
 /* Takes a datagram that waits at the socket, if one does, and sends what comes of it. */
 static void poll_once(struct seat *seat) {
-    uint8_t bytes[AT_NODE_MAX_DATAGRAM + 1] = {0};
-    ssize_t length = recv(seat->socket, bytes, sizeof bytes, MSG_DONTWAIT);
+    ssize_t length = recv(seat->socket, seat->bytes, sizeof seat->bytes, MSG_DONTWAIT);
     if (length < 0) {
         idle_count++;
         return;
     }
-    want(at_node_receive(&seat->node, bytes, (size_t)length));
+    want(at_node_receive(&seat->node, seat->bytes, (size_t)length));
     send_all(seat);
 }
 
 static void exchange(long rounds) {
     static const uint8_t call[] = "call zones";
-    struct seat router = {AT_NODE_NONE, -1}, asker = {AT_NODE_NONE, -1};
+    struct seat router = {AT_NODE_NONE, -1, {0}}, asker = {AT_NODE_NONE, -1, {0}};
     open_seat(&router, ROUTER);
     open_seat(&asker, ASKER);
     for (long i = 0; i < rounds; i++) {

@@ -100,7 +100,7 @@ pub extern "C" fn at_node_next_datagram(
     let Some(mut node) = handle.take(alloc) else {
         return NOT_OPEN;
     };
-    let next = node.next_datagram(alloc, room);
+    let next = node.next_datagram(room);
     handle.put(alloc, node);
     match next {
         Ok((number, count)) => {

@@ -113,14 +113,14 @@ impl HeldNode {
     }
 
     /// Copies out the datagram that waits for longest, and gives the node that it goes to and how long it is.
-    pub fn next_datagram(&mut self, alloc: Global, room: &mut [u8]) -> Result<(u8, usize), Withheld>
+    pub fn next_datagram(&mut self, room: &mut [u8]) -> Result<(u8, usize), Withheld>
         ensures { HandsDatagram self.old room.old result self.new room.new }
     {
         let Some((node, bytes)) = self.sent.first() else {
             return Err(Withheld::Missing);
         };
         let length = place(bytes, room)?;
-        self.sent.pass(alloc);
+        self.sent.pass();
         Ok((node, length))
     }
 

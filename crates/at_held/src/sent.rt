@@ -13,8 +13,9 @@ use std::marker::Model;
 use std::mem;
 
 /// The datagrams that a node sent and nobody took yet, in two lists. They are taken from the earlier one, and what is
-/// sent meanwhile goes to the later one. Once all of the earlier list are taken, its memory is freed, and the later one
-/// takes its place. So there is memory for at most twice as many datagrams as ever waited at once.
+/// sent meanwhile goes to the later one. Once all of the earlier list are taken, the two lists change places, and both
+/// keep their room. So there is memory for at most twice as many datagrams as ever waited at once, and a node that
+/// sends no more than before asks for none.
 #[derive(Drop)]
 pub(crate) struct Sent {
     earlier: Datagrams,
@@ -77,7 +78,7 @@ impl Sent {
     }
 
     /// The datagram that waits for longest is taken.
-    pub(crate) fn pass(&mut self, alloc: Global)
+    pub(crate) fn pass(&mut self)
         requires { 0 < length (waiting_of self.old) }
         ensures { waiting_of self.new ≡ drop 1 (waiting_of self.old) }
     {
@@ -85,8 +86,9 @@ impl Sent {
         if left > 1 {
             self.taken += 1;
         } else {
-            self.earlier = mem::replace(&mut self.later, Datagrams::new(alloc));
+            self.earlier.clear();
             self.taken = 0;
+            mem::swap(&mut self.earlier, &mut self.later);
         }
     }
 }

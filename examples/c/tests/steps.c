@@ -270,14 +270,22 @@ static long refuse_each(uint8_t number, const struct step *steps, int count, cha
     }
 }
 
-/* To listen, and to hear what opens an end, needs no memory. Each other packet and call lacks it in some run. */
+/* Whether a step needs no memory: to listen, to hear what opens an end, and to answer a segment. The answers go where
+   there is room already, since the node sent as much before. */
+static int needs_none(const struct step *step) {
+    static const char *const reports[] = {"opened 1", "again", "heard 1 3", "dropped 1"};
+    for (size_t i = 0; i < sizeof reports / sizeof *reports; i++) {
+        if (strcmp(step->report, reports[i]) == 0) return 1;
+    }
+    return strcmp(step->given, "call listen on") == 0;
+}
+
+/* Each packet and call lacks memory in some run, but for those that need none. */
 static void try_receptions(void) {
     char lacking[MAX_STEPS];
     refuse_each(1, receptions, RECEPTIONS, lacking);
     for (int i = 0; i < RECEPTIONS; i++) {
-        int listens = strcmp(receptions[i].given, "call listen on") == 0;
-        int is_free = listens || strcmp(receptions[i].report, "opened 1") == 0;
-        if (lacking[i] == is_free) fail("needs no memory, or needs some", &receptions[i]);
+        if (lacking[i] == needs_none(&receptions[i])) fail("needs no memory, or needs some", &receptions[i]);
     }
 }
 

@@ -17,8 +17,8 @@ returns-else-left-gt1 c =
     let later = c.self.inside.later.items in
     let few : length earlier ≤ taken + 1 = grind (arith, nat_tests, c.if-left-gt1.false, c.len.ensures) in
     let some = subst (λ w. 0 < length (waiting_of w)) (sym c.self.view_is) c.requires in
-    ap (λ (d : Content). d.items ++ (c.replace.new.dest).items) c.replace.ensures.value
-    ∙ ap (λ l. later ++ l) (ap (λ (d : Content). d.items) c.replace.ensures.after ∙ c.new.ensures)
+    ap (λ (d : Content). d.items ++ (c.swap.new.y).items) c.swap.ensures.x_after
+    ∙ ap (λ l. later ++ l) (ap (λ (d : Content). d.items) c.swap.ensures.y_after ∙ c.clear.ensures)
     ∙ append-nil later
     ∙ sym (turned earlier taken later c.self.invariant.0 c.self.invariant.1 few some)
     ∙ ap (λ w. drop 1 (waiting_of w)) c.self.view_is
