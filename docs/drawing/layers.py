@@ -30,7 +30,7 @@ ROWS = [
             "text",
             "schedules in, reports out",
             "at_words at_faults at_call_words at_setup_lines at_schedule"
-            " at_print at_diagnostics at_show",
+            " at_print at_diagnostics at_show at_capture",
         ),
     ],
     [

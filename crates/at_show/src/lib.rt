@@ -6,4 +6,4 @@ mod show;
 mod show_names;
 mod show_segment;
 
-pub use show::{show_bytes, show_text};
+pub use show::{show_bytes, show_data, show_first, show_refusal, show_text};

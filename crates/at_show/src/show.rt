@@ -90,8 +90,9 @@ fn show_fault<W: Paper, E: Paper>(
     Status::Failed
 }
 
-// The datagram with which the bytes begin.
-fn show_first<W: Paper, E: Paper>(
+/// Shows the datagram with which the bytes begin, and goes on: nothing is flushed. The status is `Failed` if it is
+/// refused.
+pub fn show_first<W: Paper, E: Paper>(
     bytes: &[u8],
     printer: &mut Printer<W>,
     diagnostics: &mut Diagnostics<'_, E>,
@@ -122,7 +123,9 @@ fn show_datagram<W: Paper, E: Paper>(
     show_data(datagram.kind, datagram.data_, printer, diagnostics)
 }
 
-fn show_data<W: Paper, E: Paper>(
+/// Shows the data of a datagram of this type: the lines of its packet, or the bytes. The status is `Failed` if the
+/// packet is refused.
+pub fn show_data<W: Paper, E: Paper>(
     kind: u8,
     bytes: &[u8],
     printer: &mut Printer<W>,
@@ -163,8 +166,8 @@ fn show_packet<W: Paper, E: Paper>(
     }
 }
 
-// The refusal's number, in the place of the line of what was refused.
-pub(crate) fn show_refusal<F: Display + Drop, W: Paper, E: Paper>(
+/// Prints the number of a refusal, in the place of the line of what was refused, and tells why.
+pub fn show_refusal<F: Display + Drop, W: Paper, E: Paper>(
     fault: F,
     number: Option<u8>,
     printer: &mut Printer<W>,

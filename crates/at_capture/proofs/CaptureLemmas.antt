@@ -1,0 +1,201 @@
+-- What is printed of the records of a capture, one after the other.
+use Rattle.std.proofs.Common.{◌≡◌, ◌⊎◌, inl, inr, ℕ, suc, List, [], ◌∷◌, ◌++◌, length, map, refl, sym, ap, subst}
+use Rattle.std.proofs.Common.{append_assoc, append-nil, Ok, Err}
+use Rattle.std.specs.Prelude.{◌↔◌, IsOk, Option, Result, IfErr, OnOk}
+use Rattle.std.proofs.lemmas.List.{length-append}
+use Rattle.at_capture.specs.Captures.{Adds, HasFrames, HasPrinted, IsUnprinted, PrintsFrame, PrintsNext}
+use Rattle.at_capture.specs.Captures.{TellsCapture, diagnostics_of, printer_of}
+use Rattle.at_capture.specs.Endings.{TellsEnding, ending_line}
+use Rattle.at_capture.specs.Tallies.{counted, end_line, tally_of}
+use Rattle.at_capture.specs.Frames.{Content, frame_of}
+use Rattle.at_capture.specs.Texts.{FramesText, Next, NoMore, TellsKinds}
+use Rattle.at_capture.specs.declared.capture_printer.CapturePrinter.{CapturePrinter}
+use Rattle.at_capture.specs.declared.tally.FrameKind.{FrameKind}
+use Rattle.at_capture.specs.declared.tally.Tally.{Tally}
+use Rattle.at_diagnostics.specs.Diagnostics.{TellsWrites}
+use Rattle.at_diagnostics.specs.declared.diagnostics.Diagnostics.{Diagnostics}
+use Rattle.at_pcap.specs.Captures.{Record}
+use Rattle.at_pcap.specs.Readings.{HoldsWhole, IsBegun, TakesAll, TellsBroken}
+use Rattle.at_pcap.specs.declared.file_header.FileHeader.{FileHeader}
+use Rattle.at_pcap.specs.declared.reader.CaptureError.{CaptureError}
+use Rattle.at_pcap.specs.declared.reader.CaptureError.TheVariants as broken
+use Rattle.at_print.specs.Papers.{Page}
+use Rattle.at_print.specs.Printers.{HasFailed, Prints}
+use Rattle.at_print.specs.declared.status.Status.{Status}
+use Rattle.at_print.specs.declared.status.Status.TheVariants.{Done}
+use Rattle.at_print.proofs.PrintLemmas.{Prints-nothing, Prints-trans}
+
+-- each frame of these records is added behind those so far
+adds_all : (h : FileHeader) (ps : List Record) (done : List Content)
+    → TakesAll Adds h done ps (done ++ map (frame_of h) ps)
+adds_all h [] done = sym (append-nil done)
+adds_all h (p ∷ ps) done = (
+  done ++ frame_of h p ∷ [],
+  refl,
+  subst (TakesAll Adds h (done ++ frame_of h p ∷ []) ps)
+      (append_assoc done (frame_of h p ∷ []) (map (frame_of h) ps)) (adds_all h ps (done ++ frame_of h p ∷ [])),
+)
+
+-- these frames were printed, behind others that were counted as these
+pub record Printed {W E : Type 0} (page : W → Page) (heard : E → Page) (kinds : List FrameKind) (frames : List Content)
+    (old new : CapturePrinter W E) : Type 0 where
+  pub more : List FrameKind
+  pub text : List ℕ
+  pub are : FramesText (length kinds) frames more text
+  pub prints : Prints page (printer_of old) (printer_of new) text
+  pub told : TellsKinds heard more (diagnostics_of old) (diagnostics_of new)
+  pub counts : HasPrinted (kinds ++ more) new
+  pub as_many : length more ≡ length frames
+
+-- the frames of what was read of a capture, which were printed
+pub record Told {W E : Type 0} (page : W → Page) (heard : E → Page) (known : Option (List ℕ))
+    (read : Result (Unit {0}) CaptureError) (old new : CapturePrinter W E) : Type 0 where
+  pub frames : List Content
+  pub has : HasFrames known frames read
+  pub printed : Printed page heard [] frames old new
+
+module _ {W E : Type 0} (page : W → Page) (heard : E → Page) where
+  -- what the printer does with a record
+  abbrev takes : CapturePrinter W E → FileHeader → Record → CapturePrinter W E → Type 0
+  takes old h p new = PrintsFrame page heard (frame_of h p) old new
+
+  nothing : (kinds : List FrameKind) (s : CapturePrinter W E) → HasPrinted kinds s → Printed page heard kinds [] s s
+  nothing kinds s counts = record {
+    more = [];
+    text = [];
+    are = NoMore (length kinds);
+    prints = Prints-nothing page (printer_of s);
+    told = refl;
+    counts = subst (λ l. HasPrinted l s) (sym (append-nil kinds)) counts;
+    as_many = refl;
+  }
+
+  one_more : (kinds : List FrameKind) (f : Content) (frames : List Content) (old mid new : CapturePrinter W E)
+      → (next : PrintsNext page heard kinds f old mid)
+      → Printed page heard (kinds ++ next.kind ∷ []) frames mid new → Printed page heard kinds (f ∷ frames) old new
+  one_more kinds f frames old mid new next rest = record {
+    more = next.kind ∷ rest.more;
+    text = next.text ++ rest.text;
+    are = Next (length kinds) f frames next.kind rest.more next.text rest.text next.is
+        (subst (λ n. FramesText n frames rest.more rest.text) (length-append kinds (next.kind ∷ [])) rest.are);
+    prints = Prints-trans page (printer_of old) (printer_of mid) (printer_of new) next.text rest.text next.printed
+        rest.prints;
+    told = (diagnostics_of mid, next.told, rest.told);
+    counts = subst (λ l. HasPrinted l new) (append_assoc kinds (next.kind ∷ []) rest.more) rest.counts;
+    as_many = ap suc rest.as_many;
+  }
+
+  printed_all : (h : FileHeader) (ps : List Record) (kinds : List FrameKind) (old new : CapturePrinter W E)
+      → HasPrinted kinds old → TakesAll takes h old ps new → Printed page heard kinds (map (frame_of h) ps) old new
+  printed_all h [] kinds old new counts taken =
+      subst (λ s. Printed page heard kinds [] old s) taken (nothing kinds old counts)
+  printed_all h (p ∷ ps) kinds old new counts taken =
+      let next = taken.1 kinds counts in
+      one_more kinds (frame_of h p) (map (frame_of h) ps) old taken.0 new next
+      (printed_all h ps (kinds ++ next.kind ∷ []) taken.0 new next.counts taken.2)
+
+  -- nothing more was printed
+  kept : (frames : List Content) (old mid new : CapturePrinter W E) → (new ≡ mid) ⊎ IsUnprinted mid new
+      → Printed page heard [] frames old mid → Printed page heard [] frames old new
+  kept frames old mid new (inl same) printed = subst (λ s. Printed page heard [] frames old s) (sym same) printed
+  kept frames old mid new (inr same) printed = record {
+    more = printed.more;
+    text = printed.text;
+    are = printed.are;
+    prints = subst (λ q. Prints page (printer_of old) q printed.text) (sym same.printer) printed.prints;
+    told = subst (TellsKinds heard printed.more (diagnostics_of old)) (sym same.diagnostics) printed.told;
+    counts = same.counts printed.more printed.counts;
+    as_many = printed.as_many;
+  }
+
+  begun : (known : Option (List ℕ)) (old new : CapturePrinter W E) → HasPrinted [] old → IsBegun takes known old new
+      → (frames : List Content) × IsBegun Adds known [] frames × Printed page heard [] frames old new
+  begun known old new counts (inl same) = ([], inl refl, kept [] old old new (inl same) (nothing [] old counts))
+  begun known old new counts (inr (first, h, ps, are, is, taken)) = (
+    map (frame_of h) ps,
+    inr (first, h, ps, are, is, adds_all h ps []),
+    printed_all h ps [] old new counts taken,
+  )
+
+  whole : (known : Option (List ℕ)) (old new : CapturePrinter W E) → HasPrinted [] old
+      → HoldsWhole takes known old new → Told page heard known (Ok tt) old new
+  whole known old new counts (all, h, ps, are, is, taken) = record {
+    frames = map (frame_of h) ps;
+    has = (all, h, ps, are, is, adds_all h ps []);
+    printed = printed_all h ps [] old new counts taken;
+  }
+
+  broken_off : (known : Option (List ℕ)) (old new : CapturePrinter W E) (e : CaptureError) → HasPrinted [] old
+      → TellsBroken takes IsUnprinted known old new e → Told page heard known (Err e) old new
+  broken_off known old new (broken.Fault fault at) counts (all, are, inl absent) = record {
+    frames = [];
+    has = (all, are, inl (record { fails = absent.fails; here = absent.here; none = refl }));
+    printed = kept [] old old new (inl absent.none) (nothing [] old counts);
+  }
+  broken_off known old new (broken.Fault fault at) counts (all, are, inr off) = record {
+    frames = map (frame_of off.file_header) off.records;
+    has = (
+      all,
+      are,
+      inr (record {
+        file_header = off.file_header;
+        records = off.records;
+        rest = off.rest;
+        is = off.is;
+        here = off.here;
+        taken = adds_all off.file_header off.records [];
+      }),
+    );
+    printed = printed_all off.file_header off.records [] old new counts off.taken;
+  }
+  broken_off known old new (broken.Unreadable why) counts tells =
+      let first = begun known old new counts tells in
+      record { frames = first.0; has = first.1; printed = first.2 }
+  broken_off known old new broken.NoMemory counts (mid, tells, same) =
+      let first = begun known old mid counts tells in
+      record {
+        frames = first.0;
+        has = (first.0, first.1, inl refl);
+        printed = kept first.0 old mid new same first.2;
+      }
+
+  -- the frames of what was read, however that ended
+  pub told_of : (known : Option (List ℕ)) (old new : CapturePrinter W E) (read : Result (Unit {0}) CaptureError)
+      → HasPrinted [] old → OnOk read (HoldsWhole takes known old new)
+      → IfErr read (TellsBroken takes IsUnprinted known old new) → Told page heard known read old new
+  told_of known old new (Ok tt) counts holds tells = whole known old new counts holds
+  told_of known old new (Err e) counts holds tells = broken_off known old new e counts tells
+
+  -- what was printed of a capture, from a new tally on, and then its last lines
+  pub tells_capture : (known : Option (List ℕ)) (status : Status) (old mid new : CapturePrinter W E) (t : Tally)
+      (read : Result (Unit {0}) CaptureError) → Told page heard known read (record old { tally = t }) mid
+      → ((status ≡ Done) ↔ (IsOk read × ¬ HasFailed (printer_of new)))
+      → Prints page (printer_of mid) (printer_of new) (ending_line mid.tally.frames read ++ end_line mid.tally)
+      → ((late : Diagnostics E) × TellsEnding heard read (diagnostics_of mid) late
+      × TellsWrites heard (printer_of new) late (diagnostics_of new))
+      → TellsCapture page heard known status old new
+  tells_capture known status old mid new t read told done last after =
+      let first = told.printed in
+      let tallied : Prints page (printer_of mid) (printer_of new)
+      (ending_line (counted (length first.more)) read ++ end_line (tally_of first.more)) =
+      subst (λ u. Prints page (printer_of mid) (printer_of new) (ending_line u.frames read ++ end_line u))
+      first.counts.tally last in
+      let ending : Prints page (printer_of mid) (printer_of new)
+      (ending_line (counted (length told.frames)) read ++ end_line (tally_of first.more)) =
+      subst (λ n. Prints page (printer_of mid) (printer_of new)
+      (ending_line (counted n) read ++ end_line (tally_of first.more))) first.as_many tallied in
+      record {
+        frames = told.frames;
+        read = read;
+        has = told.has;
+        kinds = first.more;
+        text = first.text;
+        are = first.are;
+        printed = Prints-trans page (printer_of old) (printer_of mid) (printer_of new) first.text _ first.prints ending;
+        done = done;
+        refused = diagnostics_of mid;
+        ended = after.0;
+        refusals = first.told;
+        ending = after.1;
+        writes = after.2;
+      }

@@ -1,0 +1,4 @@
+mod CaptureLemmas
+mod DatagramLemmas
+mod StationLemmas
+mod TallyLemmas

@@ -1,0 +1,70 @@
+-- Tallies with one frame more.
+use Rattle.std.proofs.Common.{◌≡◌, ℕ, ◌+◌, List, [], ◌∷◌, ◌++◌, Bool, length, refl, sym, ap, ◌∙◌, arith}
+use Rattle.std.specs.Prelude.{cond, count_by}
+use Rattle.std.proofs.lemmas.List.{length-append}
+use Rattle.std.proofs.lemmas.List.Sums.{sum_by_push}
+use Rattle.at_capture.specs.Tallies.{counted, is_datagram, is_other, is_refused, tally_of}
+use Rattle.at_capture.specs.declared.tally.FrameKind.{FrameKind}
+use Rattle.at_capture.specs.declared.tally.FrameKind.TheVariants.{Shown, Refused, Other}
+use Rattle.at_capture.specs.declared.tally.Tally.{Tally}
+
+-- a count that stops at the largest number
+pub one_more : (m n : ℕ) → m ≡ counted n → counted (m + 1) ≡ counted (n + 1)
+one_more m n is = omega arith
+
+tally_is : (a b c d e f g h : ℕ) → a ≡ e → b ≡ f → c ≡ g → d ≡ h
+    → ◌≡◌ {A = Tally} (record { frames = a; datagrams = b; refused = c; others = d })
+    (record { frames = e; datagrams = f; refused = g; others = h })
+tally_is a b c d e f g h p q r s = cc
+
+counted_more : (p : FrameKind → Bool) (kinds : List FrameKind) (k : FrameKind) (n : ℕ)
+    → n ≡ counted (count_by p kinds) → ◌≡◌ {A = ℕ} (cond (p k) 1 0) 1
+    → counted (n + 1) ≡ counted (count_by p (kinds ++ k ∷ []))
+counted_more p kinds k n is one = one_more n (count_by p kinds) is
+    ∙ ap counted (ap (λ m. count_by p kinds + m) (sym one) ∙ sym (sum_by_push (λ x. cond (p x) 1 0) kinds k))
+
+counted_same : (p : FrameKind → Bool) (kinds : List FrameKind) (k : FrameKind) (n : ℕ)
+    → n ≡ counted (count_by p kinds) → ◌≡◌ {A = ℕ} (cond (p k) 1 0) 0 → n ≡ counted (count_by p (kinds ++ k ∷ []))
+counted_same p kinds k n is none = is
+    ∙ ap counted (omega (arith, none, sum_by_push (λ x. cond (p x) 1 0) kinds k))
+
+frames_more : (kinds : List FrameKind) (k : FrameKind) (n : ℕ) → n ≡ counted (length kinds)
+    → counted (n + 1) ≡ counted (length (kinds ++ k ∷ []))
+frames_more kinds k n is = one_more n (length kinds) is ∙ ap counted (sym (length-append kinds (k ∷ [])))
+
+module _ (t : Tally) (kinds : List FrameKind) (is : t ≡ tally_of kinds) where
+  pub shown_more : ◌≡◌ {A = Tally} (record {
+    frames = counted (t.frames + 1);
+    datagrams = counted (t.datagrams + 1);
+    refused = t.refused;
+    others = t.others;
+  }) (tally_of (kinds ++ Shown ∷ []))
+  shown_more = tally_is _ _ _ _ _ _ _ _
+      (frames_more kinds Shown t.frames (ap (λ u. u.frames) is))
+      (counted_more is_datagram kinds Shown t.datagrams (ap (λ u. u.datagrams) is) refl)
+      (counted_same is_refused kinds Shown t.refused (ap (λ u. u.refused) is) refl)
+      (counted_same is_other kinds Shown t.others (ap (λ u. u.others) is) refl)
+
+  pub refused_more : ◌≡◌ {A = Tally} (record {
+    frames = counted (t.frames + 1);
+    datagrams = counted (t.datagrams + 1);
+    refused = counted (t.refused + 1);
+    others = t.others;
+  }) (tally_of (kinds ++ Refused ∷ []))
+  refused_more = tally_is _ _ _ _ _ _ _ _
+      (frames_more kinds Refused t.frames (ap (λ u. u.frames) is))
+      (counted_more is_datagram kinds Refused t.datagrams (ap (λ u. u.datagrams) is) refl)
+      (counted_more is_refused kinds Refused t.refused (ap (λ u. u.refused) is) refl)
+      (counted_same is_other kinds Refused t.others (ap (λ u. u.others) is) refl)
+
+  pub other_more : ◌≡◌ {A = Tally} (record {
+    frames = counted (t.frames + 1);
+    datagrams = t.datagrams;
+    refused = t.refused;
+    others = counted (t.others + 1);
+  }) (tally_of (kinds ++ Other ∷ []))
+  other_more = tally_is _ _ _ _ _ _ _ _
+      (frames_more kinds Other t.frames (ap (λ u. u.frames) is))
+      (counted_same is_datagram kinds Other t.datagrams (ap (λ u. u.datagrams) is) refl)
+      (counted_same is_refused kinds Other t.refused (ap (λ u. u.refused) is) refl)
+      (counted_more is_other kinds Other t.others (ap (λ u. u.others) is) refl)

@@ -1,0 +1,87 @@
+-- What is printed of a capture.
+use Rattle.std.specs.Prelude.{◌≡◌, ◌↔◌, ℕ, ◌+◌, List, [], ◌∷◌, ◌++◌, length, Option, Result, Ok, Err, IsOk}
+use Rattle.at_capture.specs.Endings.{TellsEnding, ending_line}
+use Rattle.at_capture.specs.Frames.{Content, frame_of}
+use Rattle.at_capture.specs.Tallies.{counted, end_line, tally_of}
+use Rattle.at_capture.specs.Texts.{FrameText, FramesText, TellsKind, TellsKinds}
+use Rattle.at_capture.specs.declared.capture_printer.CapturePrinter.{CapturePrinter}
+use Rattle.at_capture.specs.declared.tally.FrameKind.{FrameKind}
+use Rattle.at_diagnostics.specs.Diagnostics.{TellsWrites}
+use Rattle.at_diagnostics.specs.declared.diagnostics.Diagnostics.{Diagnostics}
+use Rattle.at_pcap.specs.Captures.{Record}
+use Rattle.at_pcap.specs.Readings.{HoldsWhole, TellsBroken}
+use Rattle.at_pcap.specs.declared.file_header.FileHeader.{FileHeader}
+use Rattle.at_pcap.specs.declared.reader.CaptureError.{CaptureError}
+use Rattle.at_print.specs.Papers.{Page}
+use Rattle.at_print.specs.Printers.{HasFailed, Prints}
+use Rattle.at_print.specs.declared.printer.Printer.{Printer}
+use Rattle.at_print.specs.declared.status.Status.{Status}
+use Rattle.at_print.specs.declared.status.Status.TheVariants.{Done}
+
+-- where it prints, and where it tells reasons
+abbrev pub printer_of : {W E : Type 0} → CapturePrinter W E → Printer W
+printer_of s = s.printer
+
+abbrev pub diagnostics_of : {W E : Type 0} → CapturePrinter W E → Diagnostics E
+diagnostics_of s = s.diagnostics
+
+-- ---- the frames of a file
+
+-- the frame of a record, behind those so far
+abbrev pub Adds : List Content → FileHeader → Record → List Content → Type 0
+Adds old h p new = new ≡ old ++ frame_of h p ∷ []
+
+-- the bytes, as far as they are known, have these frames up to their end, or up to this error
+abbrev pub HasFrames : Option (List ℕ) → List Content → Result (Unit {0}) CaptureError → Type 0
+HasFrames known frames (Ok u) = HoldsWhole Adds known [] frames
+HasFrames known frames (Err e) = TellsBroken Adds (λ old new. new ≡ old) known [] frames e
+
+-- ---- what is printed of a file
+
+-- Frames of the file were printed, line by line, and then why there are no more, and how many there were. The status
+-- says whether all was read and written. A person is told of the refusals, then of the ending, then of what could not
+-- be written, and nothing else.
+pub record TellsCapture {W E : Type 0} (page : W → Page) (heard : E → Page) (known : Option (List ℕ)) (status : Status)
+    (old new : CapturePrinter W E) : Type 0 where
+  pub frames : List Content
+  pub read : Result (Unit {0}) CaptureError
+  pub has : HasFrames known frames read
+  pub kinds : List FrameKind
+  pub text : List ℕ
+  pub are : FramesText 0 frames kinds text
+  pub printed : Prints page (printer_of old) (printer_of new)
+      (text ++ (ending_line (counted (length frames)) read ++ end_line (tally_of kinds)))
+  pub done : (status ≡ Done) ↔ (IsOk read × ¬ HasFailed (printer_of new))
+  pub refused : Diagnostics E
+  pub ended : Diagnostics E
+  pub refusals : TellsKinds heard kinds (diagnostics_of old) refused
+  pub ending : TellsEnding heard read refused ended
+  pub writes : TellsWrites heard (printer_of new) ended (diagnostics_of new)
+
+-- ---- the step of one frame
+
+-- so many frames were printed, counted as these
+pub record HasPrinted {W E : Type 0} (kinds : List FrameKind) (s : CapturePrinter W E) : Type 0 where
+  pub tally : s.tally ≡ tally_of kinds
+
+-- a frame is printed and counted, behind those that were
+pub record PrintsNext {W E : Type 0} (page : W → Page) (heard : E → Page) (kinds : List FrameKind) (f : Content)
+    (old new : CapturePrinter W E) : Type 0 where
+  pub kind : FrameKind
+  pub text : List ℕ
+  pub is : FrameText (counted (length kinds + 1)) f kind text
+  pub printed : Prints page (printer_of old) (printer_of new) text
+  pub told : TellsKind heard kind (diagnostics_of old) (diagnostics_of new)
+  pub counts : HasPrinted (kinds ++ kind ∷ []) new
+
+-- the same of any frames that were
+abbrev pub PrintsFrame : {W E : Type 0} → (W → Page) → (E → Page) → Content → CapturePrinter W E → CapturePrinter W E
+    → Type 0
+PrintsFrame page heard f old new =
+    (kinds : List FrameKind) → HasPrinted kinds old → PrintsNext page heard kinds f old new
+
+-- nothing is printed or counted
+pub record IsUnprinted {W E : Type 0} (old new : CapturePrinter W E) : Type 0 where
+  pub printer : printer_of new ≡ printer_of old
+  pub diagnostics : diagnostics_of new ≡ diagnostics_of old
+  pub counts : (kinds : List FrameKind) → HasPrinted kinds old → HasPrinted kinds new

@@ -1,0 +1,9 @@
+pub mod Captures
+pub mod Datagrams
+pub mod Endings
+pub mod FrameLines
+pub mod Frames
+pub mod Stations
+pub mod Tallies
+pub mod Texts
+pub mod Times

@@ -1,0 +1,51 @@
+//! How the reading of a capture ended.
+ghost use Rattle.std.specs.Prelude.{◌≡◌, ◌↔◌, IsOk, List, None, ℕ};
+ghost use Rattle.at_capture.specs.Endings.{TellsEnding, ending_line, fault_line};
+ghost use Rattle.at_diagnostics.specs.Diagnostics.{TellsLine};
+ghost use Rattle.at_diagnostics.specs.Lines.{reason_told};
+ghost use Rattle.at_print.specs.Printers.{Prints};
+
+use at_diagnostics::{Diagnostics, Stop};
+use at_faults::{Fault, Unreadable};
+use at_pcap::{CaptureError, CaptureFault};
+use at_print::{Paper, Printer, Status};
+
+/// Prints why a capture was not read to its end, and tells it to a person. So many frames were printed.
+pub(crate) fn write_ending<W: Paper, E: Paper>(
+    read: Result<(), CaptureError>,
+    frames: u64,
+    printer: &mut Printer<W>,
+    diagnostics: &mut Diagnostics<'_, E>,
+) -> Status
+    ensures done { (result ≡ Status.Done) ↔ IsOk read }
+    ensures printed { Prints W.page printer.old printer.new (ending_line frames read) }
+    ensures told { TellsEnding E.page read diagnostics.old diagnostics.new }
+{
+    match read {
+        Ok(()) => return Status::Done,
+        Err(CaptureError::Fault { fault, at }) => write_fault(fault, at, printer, diagnostics),
+        Err(CaptureError::Unreadable(error)) => {
+            printer.write_all(b"fault 0\n");
+            diagnostics.tell_stop(Stop::Text(Fault::Unreadable(Unreadable::from(error))));
+        }
+        Err(CaptureError::NoMemory) => {
+            writeln!(printer, "stopped nomemory at {frames}");
+            diagnostics.tell_stop(Stop::no_memory(0, 0));
+        }
+    }
+    Status::Failed
+}
+
+fn write_fault<W: Paper, E: Paper>(
+    fault: CaptureFault,
+    at: u64,
+    printer: &mut Printer<W>,
+    diagnostics: &mut Diagnostics<'_, E>,
+)
+    ensures printed { Prints W.page printer.old printer.new (fault_line fault at) }
+    ensures told { (reason : List ℕ)
+        × TellsLine E.page (reason_told reason None) diagnostics.old diagnostics.new }
+{
+    writeln!(printer, "fault {} at {at}", fault.number());
+    diagnostics.tell_refusal(CaptureError::Fault { fault, at }, None);
+}

@@ -1,0 +1,17 @@
+//! What `capture` prints of a capture: a line for each frame, and under it the datagram that the frame carries.
+#![tactic(auto)]
+
+mod capture_printer;
+mod datagram_lines;
+mod ending;
+mod frame;
+mod frame_lines;
+mod frames;
+mod stations;
+mod tally;
+mod time;
+
+pub use capture_printer::CapturePrinter;
+pub use frame::Frame;
+pub use tally::{FrameKind, Tally};
+pub use time::Time;

@@ -1,0 +1,93 @@
+//! How many frames there are of each kind.
+ghost use Rattle.std.specs.Prelude.{◌≡◌, ◌++◌, ◌∷◌, [], List};
+ghost use Rattle.at_capture.specs.Tallies.{end_line, kind_of, tally_of};
+ghost use Rattle.at_capture.specs.declared.tally.FrameKind.{FrameKind as Kind};
+ghost use Rattle.at_print.specs.Printers.{Prints};
+
+use at_print::{Paper, Printer, Status};
+
+/// What a frame is counted as.
+#[derive(Clone, Copy, Debug, PartialEq, Eq)]
+pub enum FrameKind {
+    /// It carries a datagram, which was shown whole.
+    Shown,
+    /// It carries a datagram, which was refused, or whose packet was.
+    Refused,
+    /// It carries no datagram.
+    Other,
+}
+
+/// How many frames there are, of each kind. A count stops at the largest number of 64 bits.
+#[derive(Clone, Copy, Debug, PartialEq, Eq)]
+pub struct Tally {
+    /// All frames.
+    pub frames: u64,
+    /// Those that carry a datagram.
+    pub datagrams: u64,
+    /// Those of them that were refused, or whose packet was.
+    pub refused: u64,
+    /// Those that carry no datagram.
+    pub others: u64,
+}
+
+impl Tally {
+    /// No frame yet.
+    pub(crate) fn new() -> Tally
+        ensures { result ≡ tally_of [] }
+    {
+        Tally {
+            frames: 0,
+            datagrams: 0,
+            refused: 0,
+            others: 0,
+        }
+    }
+
+    /// With one frame more.
+    pub(crate) fn with(self, kind: FrameKind) -> Tally
+        ensures { (kinds : List Kind) → self ≡ tally_of kinds → result ≡ tally_of (kinds ++ kind ∷ []) }
+    {
+        let frames = self.frames.saturating_add(1);
+        let datagrams = self.datagrams.saturating_add(1);
+        match kind {
+            FrameKind::Shown => Tally {
+                frames,
+                datagrams,
+                ..self
+            },
+            FrameKind::Refused => Tally {
+                frames,
+                datagrams,
+                refused: self.refused.saturating_add(1),
+                ..self
+            },
+            FrameKind::Other => Tally {
+                frames,
+                others: self.others.saturating_add(1),
+                ..self
+            },
+        }
+    }
+}
+
+/// What a frame is counted as whose datagram was shown with this status.
+pub(crate) fn kind_of(status: Status) -> FrameKind
+    ensures { result ≡ kind_of status }
+{
+    match status {
+        Status::Done => FrameKind::Shown,
+        Status::Failed => FrameKind::Refused,
+    }
+}
+
+/// The last line.
+pub(crate) fn write_tally<W: Paper>(printer: &mut Printer<W>, tally: Tally)
+    ensures { Prints W.page printer.old printer.new (end_line tally) }
+{
+    write!(
+        printer,
+        "frames {} datagrams {} ",
+        tally.frames, tally.datagrams
+    );
+    writeln!(printer, "refused {} other {}", tally.refused, tally.others);
+}
