@@ -18,7 +18,7 @@ class Layer(NamedTuple):
 # Rows of layers that are side by side, the highest first. A crate uses only crates of its own layer
 # and of lower rows.
 ROWS = [
-    [Layer("program", "atnode play, udp, show", "atnode")],
+    [Layer("program", "atnode play, udp, show, capture", "atnode")],
     [
         Layer("play", "plays a schedule", "at_play"),
         Layer("drive", "nodes over a cable or UDP", "at_drive at_drive_lines at_drive_text at_udp_text"),

@@ -12,6 +12,8 @@ pub enum Request<'a> {
     Udp(&'a str),
     /// To show the datagram that this word spells in hexadecimal digits.
     Show(&'a str),
+    /// To show the frames of this capture, or those of the standard input for `-`.
+    Capture(&'a str),
     /// Nothing that is known.
     Usage,
     /// The words could not be read, out of memory.
@@ -37,12 +39,18 @@ fn request_in<'a>(matches: &ArgMatches<'a>) -> Option<Request<'a>> {
     match matches.subcommand()? {
         ("play", play) => play.get_str("FILE").map(Request::Play),
         ("udp", udp) => udp.get_str("FILE").map(Request::Udp),
+        ("capture", capture) => capture.get_str("FILE").map(Request::Capture),
         (_, show) => show.get_str("HEX").map(Request::Show),
     }
 }
 
 // The subcommands, each with the name of its one word.
-const SUBCOMMANDS: [(&str, &str); 3] = [("play", "FILE"), ("udp", "FILE"), ("show", "HEX")];
+const SUBCOMMANDS: [(&str, &str); 4] = [
+    ("play", "FILE"),
+    ("udp", "FILE"),
+    ("show", "HEX"),
+    ("capture", "FILE"),
+];
 
 fn command_of<'a>(alloc: Global) -> Result<Command<'a>, AllocError> {
     let mut command = Command::new(alloc, "atnode");

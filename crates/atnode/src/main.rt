@@ -1,7 +1,8 @@
-//! Plays schedules of AppleTalk nodes on one cable, drives nodes over UDP, and shows datagrams: `atnode play FILE`,
-//! `atnode udp FILE`, `atnode show HEX`.
+//! Plays schedules of AppleTalk nodes on one cable, drives nodes over UDP, and shows datagrams and captures:
+//! `atnode play FILE`, `atnode udp FILE`, `atnode show HEX`, `atnode capture FILE`.
 #![tactic(auto)]
 
+mod capture;
 mod command_line;
 mod telling;
 mod udp;
@@ -10,6 +11,7 @@ use at_diagnostics::Diagnostics;
 use at_play::{play_file, play_text};
 use at_print::{Printer, Status};
 use at_show::show_text;
+use capture::capture_named;
 use command_line::{Request, request_of};
 use std::env::Env;
 use std::io::{BufWriter, ErrorKind, Read, Seek, Write};
@@ -46,6 +48,7 @@ fn run<R: Env + Files + Input + Print + Net + AllocGlobal, E: Write>(
         Request::Play(file) => play_named(rt, file, errors),
         Request::Udp(file) => udp_named(rt, file, errors),
         Request::Show(word) => show_word(rt, word, errors),
+        Request::Capture(file) => capture_named(rt, file, errors),
         Request::Usage => usage(rt, errors),
         Request::NoMemory => stop(rt, errors),
     }
