@@ -69,8 +69,8 @@ news_text at n l =
 
 -- ---- a whole drive
 
--- how far a drive is: its nodes, the cable, how many datagrams were sent, whether a call of the cable failed, and what a
--- person was told
+-- how far a drive is: its nodes, the cable, how many datagrams were sent, whether a call of the cable failed, and what
+-- a person was told
 pub record Place (C E : Type 0) : Type 0 where
   pub nodes : Nodes
   pub cable : C
@@ -104,8 +104,8 @@ Tells {A} {C} {E} S R heard at (s ∷ ss) p p' text =
     × Tells S R heard (at + 1) ss (next_place p mid between l x) p' rest
     × (text ≡ news_text at p.sent l ++ rest)
 
--- The drive found no memory before the step at this place, or for it. That is the first step, or one that a line says, or
--- a line that is left could not be read. A step that was not driven leaves the cable as it was, but at a poll.
+-- The drive found no memory before the step at this place, or for it. That is the first step, or one that a line says,
+-- or a line that is left could not be read. A step that was not driven leaves the cable as it was, but at a poll.
 pub record LacksMemory {A C : Type 0} (R : C → ℕ → ℕ → Result (Option (List ℕ)) CableFault → C → Type 0)
     (known : Option (List (List ℕ))) (may_fail : Bool) (steps : List (Step A)) (at : ℕ) (c c' : C) : Type 0 where
   pub counted : at ≡ length steps
@@ -179,7 +179,8 @@ pub record Driven {A C W E : Type 0} (S : C → ℕ → ℕ → List ℕ → Res
   pub steps : List (Step A)
   pub text : List ℕ
   pub place : Place C E
-  pub tells : TellsDrive S R heard known may_fail steps (first_place (opening_nodes_of setup) c before) place c' result text
+  pub tells : TellsDrive S R heard known may_fail steps (first_place (opening_nodes_of setup) c before) place c' result
+      text
   pub late : Diagnostics E
   pub ended : TellsEnd heard result place.told late
   pub last : TellsWrites heard new late after

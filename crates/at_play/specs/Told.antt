@@ -124,8 +124,8 @@ IsFailedRead (why.Line number rule) = ⊥
 IsFailedRead why.NoMemory = ⊥
 
 -- Why a play stopped in a world, after these events. A read failed, or a line is no longer one of a schedule, if
--- reading may fail. Or memory ran out, before the first event or where some is taken. Or the event of the next event line is
--- refused so.
+-- reading may fail. Or memory ran out, before the first event or where some is taken. Or the event of the next event
+-- line is refused so.
 abbrev pub StopsIn : (A : Type 0) → Option (List ℕ) → Bool → List (Event A) → WorldState → Stop → Type 0
 StopsIn A known may_fail es w (stop.Text f) =
     (may_fail ≡ true)
