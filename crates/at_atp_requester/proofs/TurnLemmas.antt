@@ -2,17 +2,19 @@
 use Rattle.std.proofs.Common.{◌≡◌, ℕ, ◌<◌, Bool, true, false, List, [], length, Option, Some, None, Result, Ok, Err}
 use Rattle.std.proofs.Common.{refl, sym, ap, ◌∙◌}
 use Rattle.std.specs.Prelude.{find, remove, IfOk, not, ◌&&◌}
+use Rattle.std.specs.List.{position_from}
 use Rattle.std.proofs.lemmas.Bool.{false≢true, and_parts, not-true}
 use Rattle.at_ddp.specs.declared.address.Address.{Address}
 use Rattle.at_atp_frame.specs.Packets.{Packet}
 use Rattle.at_atp_requester.specs.Answers.{Arrival, is_wanted, whole, with_part}
-use Rattle.at_atp_frame.specs.Frames.{Response}
+use Rattle.at_atp_frame.specs.Frames.{Content, Response}
 use Rattle.at_atp_requester.specs.Requests.{NumbersDiffer, Transaction, Requests, is_numbered, is_of, next_number}
 use Rattle.at_atp_requester.specs.Requests.{beginning, is_at_least_once}
 use Rattle.at_atp_requester.specs.Requests.{came, came_for, was_kept, is_finished, heard, finishes}
 use Rattle.at_atp_requester.specs.declared.step.Step.TheVariants.{Finished}
 use Rattle.at_atp_requester.proofs.AnswerLemmas.{wanted-within}
 use Rattle.at_ddp.specs.Tables.{without_first}
+use Rattle.at_ddp.proofs.TableLemmas as places
 use Rattle.at_ddp.proofs.TableLemmas.{Found}
 use Rattle.at_atp_requester.proofs.ClosingLemmas.{same_gone}
 
@@ -90,6 +92,29 @@ pub heard_end : (A : Type 0) (r : Requests) (from : Address) (place : ℕ) (eom 
       sent = [];
     }
 heard_end A r from place eom sts tid user bytes i f e = rw (f.first, e.wanted, e.is_whole, e.not_xo, f.gone_is) refl
+
+-- which transaction a packet ends, and what comes of it
+pub record EndsAt (A : Type 0) (r : Requests) (from : Address) (f : Content) (tid i : ℕ) : Type 0 where
+  pub found : Found (is_of tid from) r.standing i
+  pub packets : List Packet
+  pub came : heard {A = A} r from f
+      ≡ record {
+        step = Finished packets;
+        after = record { next = r.next; standing = remove r.standing i };
+        sent = [];
+      }
+
+pub ends_at : (A : Type 0) (r : Requests) (from : Address) (f : Content) (place : ℕ) (eom sts : Bool) (tid : ℕ)
+    (user bytes : List ℕ) (i : ℕ) → f ≡ Response place eom sts tid user bytes → finishes A r from f ≡ true
+    → position_from (is_of tid from) 0 r.standing ≡ Some i → EndsAt A r from f tid i
+ends_at A r from f place eom sts tid user bytes i is ends at =
+    let found = places.found (is_of tid from) r.standing i at in
+    let e = ended_at A r from place eom sts tid user bytes i found (sym (ap (finishes A r from) is) ∙ ends) in
+    record {
+      found = found;
+      packets = e.packets;
+      came = ap (heard r from) is ∙ heard_end A r from place eom sts tid user bytes i found e;
+    }
 
 -- a transaction that begins under a number that was drawn
 pub drawn_next : {E : Type 0} (r : Requests) (tid : ℕ) (o : Result Transaction E) (to : Address) (user : List ℕ)

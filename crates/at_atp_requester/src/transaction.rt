@@ -264,7 +264,7 @@ impl<A: Allocator + Copy> Transaction<A> {
     }
 
     // Takes the packet that completes the answer.
-    pub(crate) fn finish(
+    fn finish(
         &mut self,
         alloc: A,
         arriving: &Arriving<'_>,

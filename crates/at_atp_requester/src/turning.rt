@@ -1,4 +1,5 @@
-//! The turn from one transaction to the next, for a reader that asks for page after page: both happen, or neither.
+//! The end of a transaction whose answer was read by whoever asked, and the turn from it to the next one, for a reader
+//! that asks for page after page. Nothing of the answer is copied.
 ghost use Rattle.std.specs.Prelude.{◌≡◌, ◌∷◌, [], true, false, is_some, Some, IfSome, IfOk, OnErr};
 ghost use Rattle.std.specs.Prelude.{IsSome};
 ghost use Rattle.at_ddp.specs.Outbox.{Sends};
@@ -9,9 +10,8 @@ ghost use Rattle.at_atp_requester.specs.Requests.{finishes, has_number, heard, i
 use crate::numbers::next_of;
 use crate::requester::Requester;
 use crate::standing::{index_of, pass_on};
-use crate::step::Step;
 use crate::transaction::{Arriving, Question, Transaction};
-use at_atp_frame::{Frame, PACKET_LEN, send};
+use at_atp_frame::{Frame, send};
 use at_ddp::{Address, Outbox};
 use std::alloc::{AllocError, Allocator};
 
@@ -36,9 +36,21 @@ impl<A: Allocator + Copy> Requester<A> {
         }
     }
 
-    /// Takes a packet that ends an at-least-once transaction, and begins the next one. The next one asks the same
-    /// address for one packet, at least once and without data. Returns what came of the packet, and the new number. If
-    /// memory runs out, the packet is not taken either.
+    /// Takes a packet that ends an at-least-once transaction, and keeps nothing of the answer. Nothing is sent, and this
+    /// needs no memory.
+    pub fn close(&mut self, from: Address, frame: &Frame<'_>)
+        requires { finishes A self.old from (content frame.now) ≡ true }
+        ensures state { self.new ≡ (heard {A = A} self.old from (content frame.now)).after }
+        ensures silent { (heard {A = A} self.old from (content frame.now)).sent ≡ [] }
+    {
+        let (tid, _arriving) = answer_in(frame).unwrap();
+        let index = index_of(&self.standing, tid, from).unwrap();
+        drop(self.standing.remove(index));
+    }
+
+    /// Takes a packet that ends an at-least-once transaction, keeps nothing of the answer, and begins the next
+    /// transaction. That one asks the same address for one packet, at least once and without data. Returns its number.
+    /// If memory runs out, the packet is not taken either.
     pub fn turn(
         &mut self,
         from: Address,
@@ -46,31 +58,27 @@ impl<A: Allocator + Copy> Requester<A> {
         user: [u8; 4],
         retries: u8,
         out: &mut Outbox<A>,
-    ) -> Result<(Step<A>, u16), AllocError>
+    ) -> Result<u16, AllocError>
         requires { finishes A self.old from (content frame.now) ≡ true }
-        ensures step { IfOk result (λ r. r.0 ≡ (heard self.old from (content frame.now)).step) }
-        ensures drawn { IfOk result (λ r. next_number (heard {A = A} self.old from (content frame.now)).after
-            ≡ Some r.1) }
-        ensures state { IfOk result (λ r. self.new ≡ begun (heard {A = A} self.old from (content frame.now)).after
-            (beginning r.1 from user [] 1 false retries)) }
+        ensures drawn { IfOk result (λ tid. next_number (heard {A = A} self.old from (content frame.now)).after
+            ≡ Some tid) }
+        ensures state { IfOk result (λ tid. self.new ≡ begun (heard {A = A} self.old from (content frame.now)).after
+            (beginning tid from user [] 1 false retries)) }
 
         // An at-least-once transaction sends no release at its end.
-        ensures sent { IfOk result (λ r. Sends out.old out.new
-            ((from, spelled (request_by (beginning r.1 from user [] 1 false retries))) ∷ [])) }
+        ensures sent { IfOk result (λ tid. Sends out.old out.new
+            ((from, spelled (request_by (beginning tid from user [] 1 false retries))) ∷ [])) }
         ensures unchanged { OnErr result (self.new ≡ self.old) }
         ensures nothing_sent { OnErr result (Sends out.old out.new []) }
     {
-        let (tid, arriving) = answer_in(frame).unwrap();
-        let index = index_of(&self.standing, tid, from).unwrap();
-        let next = self.following(tid, from, user, retries)?;
+        let (ended, _arriving) = answer_in(frame).unwrap();
+        let index = index_of(&self.standing, ended, from).unwrap();
+        let next = self.following(ended, from, user, retries)?;
         self.standing.reserve()?;
-        out.room(1, PACKET_LEN)?;
-        let ended = self.standing.at_mut(index);
-        let step = ended.finish(self.alloc, &arriving, out)?;
-        send(out, from, &next.request()).unwrap();
+        send(out, from, &next.request())?;
         let number = pass_on(&mut self.standing, index, next);
         self.next = number.wrapping_add(1);
-        Ok((step, number))
+        Ok(number)
     }
 
     // The transaction that would begin if the open one of this number were closed.

@@ -1,5 +1,5 @@
 -- How a node reads a zone table, page by page (Inside AppleTalk, ZIP, "GetZoneList", "GetLocalZones").
-use Rattle.std.specs.Prelude.{MatchBool, ◌≡◌, ℕ, ◌+◌, ◌==◌, ◌&&◌, not, nat_lt, if◌then◌else◌, Bool, true, false, List}
+use Rattle.std.specs.Prelude.{MatchBool, ◌≡◌, ℕ, ◌+◌, ◌==◌, ◌&&◌, nat_lt, Bool, true, false, List}
 use Rattle.std.specs.Prelude.{[]}
 use Rattle.std.specs.Prelude.{◌++◌, length}
 use Rattle.std.specs.Prelude.{Option, Some, None, ◌⊎◌}
@@ -118,8 +118,3 @@ pub record HasPageFault {A : Type 0} (s : Seat) (a : AtpState) (h : Heard A) (p 
 abbrev pub ReadsPage : {A : Type 0} → Seat → AtpState → Heard A → Address → List (List ℕ) → Packet
     → Outcome A AtpState → Type 0
 ReadsPage s a h from names p o = HasPage s a h from names p o ⊎ HasPageFault s a h p o
-
--- the list that a reading with these names ends with by a page, if it does
-abbrev pub list_after : List (List ℕ) → pages.Page → Option (List (List ℕ))
-list_after names p =
-    if p.last && not (nat_lt 1024 (length names + length p.names)) then Some (names ++ p.names) else None

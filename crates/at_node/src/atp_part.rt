@@ -1,17 +1,18 @@
 //! The part of a node that speaks ATP and ZIP. Each of its three sockets has a file of its own.
-ghost use Rattle.std.specs.Prelude.{◌≡◌, Option, None};
+ghost use Rattle.std.specs.Prelude.{◌≡◌, List, ℕ, Option, None, Some};
 ghost use Rattle.at_node.specs.AtpHearing.{HearsAtp};
 ghost use Rattle.at_node.specs.AtpParts.{opening};
 ghost use Rattle.at_event.specs.Outcomes.{Comes};
 ghost use Rattle.at_event.specs.Services.{Serves};
 ghost use Rattle.at_event.specs.declared.service.Reply.{Reply as Said};
+ghost use Rattle.at_zip.specs.declared.request.Which.{Which as Table};
 
 use crate::requester_socket::REQUESTER_SOCKET;
 use crate::service_socket::SERVICE_SOCKET;
 use crate::zone_reading::ZoneReading;
 use crate::zone_socket::ZONE_SOCKET;
 use at_atp::{Requester, Responder};
-use at_ddp::Datagrams;
+use at_ddp::{Datagrams, Listed, Pascal};
 use at_event::{Report, Seat, Service};
 use at_packet::AtpPacket;
 use at_zip::Tables;
@@ -63,22 +64,25 @@ impl<A: Allocator + Copy> AtpPart<A> {
         }
     }
 
-    // Takes a datagram of ATP that is for this node.
+    // Takes a datagram of ATP that is for this node. If a reading ends with a zone list, this is copied into `list`.
     pub(crate) fn hear<S: Service<A>>(
         &mut self,
         seat: Seat,
         service: &mut S,
         packet: &AtpPacket<'_>,
+        list: &mut Option<Listed<Pascal, A>>,
         out: &mut Datagrams<A>,
     ) -> Report<A>
-        ensures { (said : Said A)
+        ensures heard { (said : Said A)
             × Comes (HearsAtp said seat self.old packet.now) self.old out.old.items result self.new
             out.new.items
             × Serves S.serves result said service.old service.new }
+        ensures listed { (which : Table) (names : List (List ℕ)) → result ≡ Report.Zones which names
+            → list.new ≡ Some names }
     {
         let datagram = packet.datagram();
         if datagram.to.socket == REQUESTER_SOCKET {
-            return self.hear_response(seat, packet, out);
+            return self.hear_response(seat, packet, list, out);
         }
         if datagram.to.socket == SERVICE_SOCKET {
             return self.hear_request(seat, service, packet, out);

@@ -12,7 +12,7 @@ use crate::node::{Node, refused};
 use at_ddp::Datagrams;
 use at_event::{Report, Service};
 use at_packet::{AtpPacket, Body, Packet};
-use std::alloc::{AllocError, Allocator};
+use std::alloc::Allocator;
 
 impl<A: Allocator + Copy> Node<A> {
     /// Takes received bytes. What the node sends goes to the end of the list. A new request for the service is
@@ -83,11 +83,8 @@ impl<A: Allocator + Copy> Node<A> {
             self.old out.old.items result self.new out.new.items
             × Serves S.serves result said service.old service.new }
     {
-        let list = match self.atp.list_ended_by(self.seat, packet) {
-            Ok(list) => list,
-            Err(AllocError) => return Report::NoMemory,
-        };
-        let report = self.atp.hear(self.seat, service, packet, out);
+        let mut list = None;
+        let report = self.atp.hear(self.seat, service, packet, &mut list, out);
         self.session.keep_list(&report, list);
         report
     }

@@ -16,7 +16,6 @@ mod service_socket;
 mod session;
 mod settings;
 mod timers;
-mod zone_list;
 mod zone_reading;
 mod zone_socket;
 

@@ -1,6 +1,8 @@
-//! What becomes of the page that a reading of a zone table asked for.
-ghost use Rattle.std.specs.Prelude.{◌≡◌, ◌+◌, ◌++◌, ◌∷◌, [], map, None, Some, IfOk};
+//! What becomes of the page that a reading of a zone table asked for. Whoever takes a list that a reading ends with gets
+//! two copies of it: one in the report, and one for the session.
+ghost use Rattle.std.specs.Prelude.{◌≡◌, ◌≢◌, ◌+◌, ◌≤◌, ◌++◌, ◌∷◌, [], List, ℕ, length, map, None, Some, IfOk};
 ghost use Rattle.std.specs.Prelude.{IfSome, IsSome, OnErr, true, false};
+ghost use Rattle.at_ddp.specs.Datagrams.{Posted};
 ghost use Rattle.at_ddp.specs.Protocols.{atp_kind};
 ghost use Rattle.at_atp_frame.specs.Frames.{content, spelled};
 ghost use Rattle.at_atp_requester.specs.Requests.{beginning, begun, finishes, heard, next_number, request_by};
@@ -14,14 +16,15 @@ ghost use Rattle.at_event.specs.declared.service.Reply.{Reply as Said};
 ghost use Rattle.at_zip.specs.Fault.{number_of as zip_number};
 ghost use Rattle.at_zip.specs.Reading.{HasRoomFor};
 ghost use Rattle.at_zip.specs.Request.{request_user};
+ghost use Rattle.at_zip.specs.declared.request.Which.{Which as Table};
 
 use crate::atp_part::AtpPart;
 use crate::incoming::Incoming;
 use crate::node::refused;
-use crate::requester_socket::{REQUESTER_SOCKET, hear};
+use crate::requester_socket::REQUESTER_SOCKET;
 use crate::zone_reading::{RETRIES, ZoneReading};
 use at_atp::Requester;
-use at_ddp::{ATP, Address, Datagrams, Outbox};
+use at_ddp::{ATP, Address, Datagrams, Listed, Outbox, Pascal};
 use at_event::Report;
 use at_zip::{PageView, Taken, ZipFault, read_page, request_user};
 use std::alloc::{AllocError, Allocator};
@@ -33,6 +36,7 @@ impl<A: Allocator + Copy> AtpPart<A> {
         packet: &Incoming<'_>,
         user: [u8; 4],
         bytes: &[u8],
+        list: &mut Option<Listed<Pascal, A>>,
         out: &mut Datagrams<A>,
     ) -> Report<A>
         requires page { is_page A self.old packet.now.from (content packet.now.frame) ≡ true }
@@ -43,10 +47,12 @@ impl<A: Allocator + Copy> AtpPart<A> {
             → Comes (AtSocket said packet.now.seat self.old packet.now.from (Some RequesterSocket)
             (content packet.now.frame)) self.old out.old.items result self.new out.new.items }
         ensures not_asked { is_asked result ≡ false }
+        ensures listed { (which : Table) (names : List (List ℕ)) → result ≡ Report.Zones which names
+            → list.new ≡ Some names }
     {
         match read_page(user, bytes) {
-            Ok(page) => self.hear_names(packet, &page, out),
-            Err(fault) => self.end_reading(packet, zone_fault(fault), out),
+            Ok(page) => self.hear_names(packet, &page, list, out),
+            Err(fault) => self.end_reading(packet, zone_fault(fault)),
         }
     }
 
@@ -55,6 +61,7 @@ impl<A: Allocator + Copy> AtpPart<A> {
         &mut self,
         packet: &Incoming<'_>,
         page: &PageView<'_>,
+        list: &mut Option<Listed<Pascal, A>>,
         out: &mut Datagrams<A>,
     ) -> Report<A>
         requires page { is_page A self.old packet.now.from (content packet.now.frame) ≡ true }
@@ -64,44 +71,50 @@ impl<A: Allocator + Copy> AtpPart<A> {
             (heard self.old.requester packet.now.from (content packet.now.frame)) packet.now.from
             (names_read self.old.reading) page.now) self.old out.old.items result self.new out.new.items }
         ensures not_asked { is_asked result ≡ false }
+        ensures listed { (which : Table) (names : List (List ℕ)) → result ≡ Report.Zones which names
+            → list.new ≡ Some names }
     {
         let Some(mut reading) = self.reading.take() else {
             unreachable!();
         };
         let fault = match reading.reader.room(page) {
-            Ok(()) if page.is_last() => return self.finish(packet, reading, page, out),
+            Ok(()) if page.is_last() => return self.finish(packet, reading, page, list),
             Ok(()) => return self.ask_on(packet, reading, page, out),
             Err(fault) => fault,
         };
         self.reading = Some(reading);
         match fault {
             ZipFault::NoMemory => Report::NoMemory,
-            fault => self.end_reading(packet, zone_fault(fault), out),
+            fault => self.end_reading(packet, zone_fault(fault)),
         }
     }
 
-    // Takes the packet with the last page of a reading, and tells all names.
+    // Takes the packet with the last page of a reading, and tells all names. They are copied before anything changes.
     fn finish(
         &mut self,
         packet: &Incoming<'_>,
         mut reading: ZoneReading<A>,
         page: &PageView<'_>,
-        out: &mut Datagrams<A>,
+        list: &mut Option<Listed<Pascal, A>>,
     ) -> Report<A>
         requires room { HasRoomFor reading.reader page.now }
         requires last { page.now.last ≡ true }
-        ensures step { let before = record self.old { reading = Some (reading_of reading) } in
-            IsStep (after_heard packet.now.seat before
+        requires finishes { finishes A self.old.requester packet.now.from (content packet.now.frame) ≡ true }
+        ensures step { let before = record self.old { reading = Some (reading_of reading) } in (items : List Posted)
+            → IsStep (after_heard packet.now.seat before
             (heard self.old.requester packet.now.from (content packet.now.frame))
-            (Report.Zones reading.which (reading.reader.names ++ page.now.names)) None) before out.old.items result
-            self.new out.new.items }
+            (Report.Zones reading.which (reading.reader.names ++ page.now.names)) None) before items result
+            self.new items }
         ensures not_asked { is_asked result ≡ false }
+        ensures listed { (which : Table) (names : List (List ℕ)) → result ≡ Report.Zones which names
+            → list.new ≡ Some names }
     {
-        let own = packet.seat.at(REQUESTER_SOCKET);
-        if let Err(AllocError) = hear(self.alloc, &mut self.requester, own, packet, out) {
+        let Ok(copy) = reading.reader.list_with(page) else {
             self.reading = Some(reading);
             return Report::NoMemory;
-        }
+        };
+        *list = Some(copy);
+        self.requester.close(packet.from, &packet.frame);
         self.reading = None;
         let which = reading.which;
         match reading.reader.take(page) {
@@ -128,6 +141,7 @@ impl<A: Allocator + Copy> AtpPart<A> {
             packet.now.from (reading.reader.names ++ page.now.names)) before out.old.items result self.new
             out.new.items }
         ensures not_asked { is_asked result ≡ false }
+        ensures no_list { (which : Table) (names : List (List ℕ)) → result ≢ Report.Zones which names }
     {
         let own = packet.seat.at(REQUESTER_SOCKET);
         let user = request_user(reading.which, reading.reader.after(page));
@@ -146,27 +160,17 @@ impl<A: Allocator + Copy> AtpPart<A> {
     }
 
     // The reading ends by its page, and this is told of it.
-    fn end_reading(
-        &mut self,
-        packet: &Incoming<'_>,
-        told: Report<A>,
-        out: &mut Datagrams<A>,
-    ) -> Report<A>
+    fn end_reading(&mut self, packet: &Incoming<'_>, told: Report<A>) -> Report<A>
+        requires finishes { finishes A self.old.requester packet.now.from (content packet.now.frame) ≡ true }
         requires some { wants_memory told ≡ false }
-        requires takes { takes_memory told ≡ true }
-        ensures step { IsStep (after_heard packet.now.seat self.old
-            (heard self.old.requester packet.now.from (content packet.now.frame)) told None) self.old out.old.items
-            result self.new out.new.items }
-        ensures not_asked { is_asked told ≡ false → is_asked result ≡ false }
+        ensures step { (items : List Posted) → IsStep (after_heard packet.now.seat self.old
+            (heard self.old.requester packet.now.from (content packet.now.frame)) told None) self.old items
+            result self.new items }
+        ensures told { result ≡ told }
     {
-        let own = packet.seat.at(REQUESTER_SOCKET);
-        match hear(self.alloc, &mut self.requester, own, packet, out) {
-            Ok(_) => {
-                self.reading = None;
-                told
-            }
-            Err(AllocError) => Report::NoMemory,
-        }
+        self.requester.close(packet.from, &packet.frame);
+        self.reading = None;
+        told
     }
 }
 
@@ -195,16 +199,14 @@ fn turn<A: Allocator + Copy>(
     let mut outbox = Outbox::lent(alloc, out, own, ATP);
     let turned = requester.turn(packet.from, &packet.frame, user, RETRIES, &mut outbox);
     *out = outbox.into_list();
-    match turned {
-        Ok((_, tid)) => Ok(tid),
-        Err(AllocError) => Err(AllocError),
-    }
+    turned
 }
 
 // The report of a page that is refused.
 fn zone_fault<A: Allocator>(fault: ZipFault) -> Report<A>
     ensures fault { IfSome (zip_number fault) (λ n. result ≡ Report.ZoneFault n) }
     ensures not_asked { is_asked result ≡ false }
+    ensures no_list { (which : Table) (names : List (List ℕ)) → result ≢ Report.Zones which names }
 {
     match fault.number() {
         Some(number) => Report::ZoneFault(number),

@@ -12,12 +12,13 @@ ghost use Rattle.at_node.specs.RequesterSocket.{ask_called, retry_fired, reporte
 ghost use Rattle.at_event.specs.Services.{is_asked};
 ghost use Rattle.at_node.specs.ZoneReading.{is_page};
 ghost use Rattle.at_event.specs.declared.service.Reply.{Reply as Said};
+ghost use Rattle.at_zip.specs.declared.request.Which.{Which as Table};
 
 use crate::atp_part::AtpPart;
 use crate::incoming::Incoming;
 use crate::node::refused;
 use at_atp::{AtpFault, Frame, Requester, Retry, Step};
-use at_ddp::{ATP, Address, Datagrams, Outbox};
+use at_ddp::{ATP, Address, Datagrams, Listed, Outbox, Pascal};
 use at_event::{Report, Seat};
 use at_packet::AtpPacket;
 use std::alloc::{AllocError, Allocator};
@@ -69,33 +70,43 @@ impl<A: Allocator + Copy> AtpPart<A> {
         }
     }
 
-    // Takes a datagram for the socket that asks.
+    // Takes a datagram for the socket that asks. If a reading ends with a zone list, this is copied into `list`.
     pub(crate) fn hear_response(
         &mut self,
         seat: Seat,
         packet: &AtpPacket<'_>,
+        list: &mut Option<Listed<Pascal, A>>,
         out: &mut Datagrams<A>,
     ) -> Report<A>
         ensures comes { (said : Said A)
             → Comes (HearsAt said seat self.old packet.now (Some RequesterSocket)) self.old out.old.items
             result self.new out.new.items }
         ensures not_asked { is_asked result ≡ false }
+        ensures listed { (which : Table) (names : List (List ℕ)) → result ≡ Report.Zones which names
+            → list.new ≡ Some names }
     {
         match Incoming::of(seat, packet) {
-            Ok(packet) => self.hear_at_requester(&packet, out),
+            Ok(packet) => self.hear_at_requester(&packet, list, out),
             Err(fault) => refused(fault.number()),
         }
     }
 
-    fn hear_at_requester(&mut self, packet: &Incoming<'_>, out: &mut Datagrams<A>) -> Report<A>
+    fn hear_at_requester(
+        &mut self,
+        packet: &Incoming<'_>,
+        list: &mut Option<Listed<Pascal, A>>,
+        out: &mut Datagrams<A>,
+    ) -> Report<A>
         ensures comes { (said : Said A)
             → Comes (AtSocket said packet.now.seat self.old packet.now.from (Some RequesterSocket)
             (content packet.now.frame)) self.old out.old.items result self.new out.new.items }
         ensures not_asked { is_asked result ≡ false }
+        ensures listed { (which : Table) (names : List (List ℕ)) → result ≡ Report.Zones which names
+            → list.new ≡ Some names }
     {
         match packet.frame {
             Frame::Response { user, data_, .. } if self.is_page(packet) => {
-                self.hear_page(packet, user, data_, out)
+                self.hear_page(packet, user, data_, list, out)
             }
             _ => self.hear_other(packet, out),
         }
@@ -108,6 +119,7 @@ impl<A: Allocator + Copy> AtpPart<A> {
             → Comes (AtSocket said packet.now.seat self.old packet.now.from (Some RequesterSocket)
             (content packet.now.frame)) self.old out.old.items result self.new out.new.items }
         ensures not_asked { is_asked result ≡ false }
+        ensures no_list { (which : Table) (names : List (List ℕ)) → result ≢ Report.Zones which names }
     {
         let own = packet.seat.at(REQUESTER_SOCKET);
         let Ok(step) = hear(self.alloc, &mut self.requester, own, packet, out) else {
@@ -186,7 +198,7 @@ fn retry<A: Allocator + Copy>(
 }
 
 // The requester takes a packet.
-pub(crate) fn hear<A: Allocator + Copy>(
+fn hear<A: Allocator + Copy>(
     alloc: A,
     requester: &mut Requester<A>,
     own: Address,
@@ -216,6 +228,7 @@ pub(crate) fn hear<A: Allocator + Copy>(
 fn reported_other<A: Allocator>(tid: u16, step: Step<A>) -> Report<A>
     ensures report { result ≡ reported_other tid step }
     ensures not_asked { is_asked result ≡ false }
+    ensures no_list { (which : Table) (names : List (List ℕ)) → result ≢ Report.Zones which names }
 {
     match step {
         Step::Ignored => Report::Ignored,

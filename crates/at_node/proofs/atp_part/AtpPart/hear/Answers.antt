@@ -6,6 +6,7 @@ use Rattle.at_node.specs.AtpHearing.{HearsAt, HearsAtp, Requester, Service, Zone
 use Rattle.at_node.specs.AtpParts.{AtpState}
 use Rattle.at_event.specs.Outcomes.{Comes}
 use Rattle.at_event.specs.declared.service.Reply.TheVariants.{Later}
+use Rattle.at_node.proofs.ListLemmas.{lists_at_asker}
 use Rattle.at_node.proofs.OutcomeLemmas.{comes_ignored}
 use Rattle.at_node.proofs.ResponderLemmas.{not_served}
 use Rattle.at_node.proofs.atp_part.AtpPart.hear.Goals as goal
@@ -19,10 +20,12 @@ for_service a socket e =
     ≡ false = ne_eqb socket 128 (λ f. let wrong : ◌≡◌ {A = ℕ} 129 128 = sym e ∙ f in omega arith) in
     rw (apart, eq-eqb socket 129 e) refl
 
+not_asker : (socket : ℕ) → socket ≡ 6 → (socket == 128) ≡ false
+not_asker socket e = ne_eqb socket 128 (λ f. let wrong : ◌≡◌ {A = ℕ} 6 128 = sym e ∙ f in omega arith)
+
 for_router : (a : AtpState) (socket : ℕ) → socket ≡ 6 → atp_socket a socket ≡ option_map Zones a.tables
 for_router a socket e =
-    let apart : (socket == 128)
-    ≡ false = ne_eqb socket 128 (λ f. let wrong : ◌≡◌ {A = ℕ} 6 128 = sym e ∙ f in omega arith) in
+    let apart = not_asker socket e in
     let other : (socket == 129)
     ≡ false = ne_eqb socket 129 (λ f. let wrong : ◌≡◌ {A = ℕ} 6 129 = sym e ∙ f in omega arith) in
     rw (apart, other, eq-eqb socket 6 e) refl
@@ -31,8 +34,8 @@ for_nobody : (a : AtpState) (socket : ℕ) → (socket ≡ 128 → ⊥) → (soc
     → atp_socket a socket ≡ None
 for_nobody a socket x y z = rw (ne_eqb socket 128 x, ne_eqb socket 129 y, ne_eqb socket 6 z) refl
 
-pub returns : goal.returns
-returns g c =
+pub returns-clause-heard : goal.returns-clause-heard
+returns-clause-heard g c =
     let d = c.args.packet.now in
     let socket : d.to.socket ≡ c.datagram-datagram.result.to.socket = ap (λ (d : Content). d.to.socket) (sym c.datagram-datagram.ensures) in (
       Later,
@@ -43,8 +46,8 @@ returns g c =
       refl,
     )
 
-pub returns-then-datagram : goal.returns-then-datagram
-returns-then-datagram g c =
+pub returns-then-datagram-clause-heard : goal.returns-then-datagram-clause-heard
+returns-then-datagram-clause-heard g c =
     let d = c.args.packet.now in
     let socket : d.to.socket ≡ c.datagram-datagram.result.to.socket = ap (λ (d : Content). d.to.socket) (sym c.datagram-datagram.ensures) in (
       Later,
@@ -56,8 +59,8 @@ returns-then-datagram g c =
       not_served _ c.hear_response.result Later c.args.service.now c.hear_response.ensures.not_asked,
     )
 
-pub returns-then-datagram-2 : goal.returns-then-datagram-2
-returns-then-datagram-2 g c =
+pub returns-then-datagram-2-clause-heard : goal.returns-then-datagram-2-clause-heard
+returns-then-datagram-2-clause-heard g c =
     let r = c.hear_request.ensures in
     let d = c.args.packet.now in
     let socket : d.to.socket ≡ c.datagram-datagram.result.to.socket = ap (λ (d : Content). d.to.socket) (sym c.datagram-datagram.ensures) in (
@@ -69,8 +72,8 @@ returns-then-datagram-2 g c =
       r.2,
     )
 
-pub returns-then-datagram-eq-ZONE_SOCKET : goal.returns-then-datagram-eq-ZONE_SOCKET
-returns-then-datagram-eq-ZONE_SOCKET g c =
+pub returns-then-datagram-eq-ZONE_SOCKET-clause-heard : goal.returns-then-datagram-eq-ZONE_SOCKET-clause-heard
+returns-then-datagram-eq-ZONE_SOCKET-clause-heard g c =
     let d = c.args.packet.now in
     let socket : d.to.socket ≡ c.datagram-datagram.result.to.socket = ap (λ (d : Content). d.to.socket) (sym c.datagram-datagram.ensures) in (
       Later,
@@ -81,3 +84,15 @@ returns-then-datagram-eq-ZONE_SOCKET g c =
           (c.hear_zone_request.ensures.comes Later),
       not_served _ c.hear_zone_request.result Later c.args.service.now c.hear_zone_request.ensures.not_asked,
     )
+
+pub returns-then-datagram-eq-ZONE_SOCKET-clause-listed : goal.returns-then-datagram-eq-ZONE_SOCKET-clause-listed
+returns-then-datagram-eq-ZONE_SOCKET-clause-listed g c = λ which names tells.
+    let d = c.args.packet.now in
+    let zones : d.to.socket ≡ 6 = ap (λ (d : Content). d.to.socket) (sym c.datagram-datagram.ensures)
+    ∙ c.if-datagram-eq-ZONE_SOCKET.true in
+    lists_at_asker g.row.A.Denot Later c.args.seat c.args.self.now d c.args.out.now.items
+    c.hear_zone_request.new.out.items c.hear_zone_request.result c.hear_zone_request.new.self
+    (subst (λ socket. Comes (HearsAt Later c.args.seat c.args.self.now d socket) c.args.self.now c.args.out.now.items
+    c.hear_zone_request.result c.hear_zone_request.new.self c.hear_zone_request.new.out.items)
+    (sym (for_router c.args.self.now d.to.socket zones)) (c.hear_zone_request.ensures.comes Later))
+    (not_asker d.to.socket zones) which names tells

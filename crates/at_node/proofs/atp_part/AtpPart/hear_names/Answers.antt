@@ -36,9 +36,9 @@ returns-in-Ok-clause-comes g c =
       service_responder = a.service_responder;
     }) ∙ c.self.view_is in
     ends_with_all c.args.packet.now.seat c.args.packet.now.from
-    (content c.args.packet.now.frame) c.args.page.now c.args.out.now.items c.finish.new.out.items c.finish.result
+    (content c.args.packet.now.frame) c.args.page.now c.args.out.now.items c.args.out.now.items c.finish.result
     c.finish.new.self _ c.args.self.now same c.in-Ok.ensures.ok.few
-    (sym c.is_last.ensures ∙ c.if-is_last.true) c.finish.ensures.step
+    (sym c.is_last.ensures ∙ c.if-is_last.true) (c.finish.ensures.step c.args.out.now.items)
 
 pub returns-in-NoMemory-clause-comes : goal.returns-in-NoMemory-clause-comes
 returns-in-NoMemory-clause-comes g c =
@@ -110,12 +110,12 @@ returns-in_default-fault-clause-comes g c =
           let told = when_some (zip.number_of c.in-Err.fault) 34 (λ n. c.zone_fault.result ≡ ZoneFault n)
           (ap zip.number_of too) c.zone_fault.ensures.fault in
           is_too_long c.args.packet.now.seat c.args.packet.now.from f c.args.page.now c.args.out.now.items
-          c.end_reading.new.out.items c.end_reading.result c.end_reading.new.self before c.args.self.now same
+          c.args.out.now.items c.end_reading.result c.end_reading.new.self before c.args.self.now same
           (subst (λ l. 1024 < length l + length c.args.page.now.names) (sym c.room.ensures.same)
           ((c.in-Err.ensures.too_many).0 (ap Err too)))
           (subst (λ (t : Report A). IsStep
           (after_heard c.args.packet.now.seat before (heard {A = A} before.requester c.args.packet.now.from f) t
           None) before c.args.out.now.items c.end_reading.result c.end_reading.new.self
-          c.end_reading.new.out.items) told c.end_reading.ensures.step)
+          c.args.out.now.items) told (c.end_reading.ensures.step c.args.out.now.items))
       | inr none ↦ absurd (c.in_default-fault.not-NoMemory none)
     ]

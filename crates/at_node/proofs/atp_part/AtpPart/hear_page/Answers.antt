@@ -29,10 +29,10 @@ returns-in-Err-clause-comes g c = λ said.
     let told = when_some (zip.number_of c.in-Err.fault) number.0
     (λ n. c.zone_fault.result ≡ ZoneFault n) number.1 c.zone_fault.ensures.fault in
     comes_fault said c.args.packet.now.seat now c.args.packet.now.from f c.requires.page c.args.out.now.items
-    c.end_reading.new.out.items c.end_reading.result c.end_reading.new.self c.in-Err.fault number.0
+    c.args.out.now.items c.end_reading.result c.end_reading.new.self c.in-Err.fault number.0
     (subst (λ (x : Packet). zip.IsFirstFault c.in-Err.fault x.user x.data_)
     (sym c.requires.packet) c.in-Err.ensures.fault) number.1
     (subst (λ (t : Report A). IsStep
     (after_heard c.args.packet.now.seat now (heard {A = A} now.requester c.args.packet.now.from f) t None) now
-    c.args.out.now.items c.end_reading.result c.end_reading.new.self c.end_reading.new.out.items) told
-    c.end_reading.ensures.step)
+    c.args.out.now.items c.end_reading.result c.end_reading.new.self c.args.out.now.items) told
+    (c.end_reading.ensures.step c.args.out.now.items))

@@ -1,29 +1,9 @@
-use Rattle.std.proofs.Common.{◌≡◌, true, refl, subst}
-use Rattle.at_event.specs.Outcomes.{Comes, Outcome, Through, takes_memory}
-use Rattle.at_event.specs.declared.service.Reply.{Reply}
-use Rattle.at_event.specs.declared.service.Reply.TheVariants.{Later}
+use Rattle.std.proofs.Common.{subst}
+use Rattle.at_event.specs.Outcomes.{Comes, Through}
 use Rattle.at_node.specs.AtpHearing.{HearsAtp}
-use Rattle.at_node.specs.AtpParts.{AtpState}
 use Rattle.at_node.specs.Nodes.{NodeState, over_atp}
 use Rattle.at_node.proofs.SessionLemmas.{heard_over}
 use Rattle.at_node.proofs.node.Node.hear_atp.Goals as goal
-
-pub returns-in-Err : goal.returns-in-Err
-returns-in-Err g c =
-    let n : NodeState = c.args.self.now in
-    let inside : NodeState =
-    record {
-      seat = c.self.inside.seat;
-      atp = c.self.inside.atp;
-      names = c.self.inside.names;
-      streams = c.self.inside.streams;
-      session = c.self.inside.session;
-    } in
-    let d = c.args.packet.now in
-    let wanted = subst (λ (x : NodeState). (said : Reply g.row.A.Denot) → (o : Outcome g.row.A.Denot AtpState)
-    × HearsAtp said x.seat x.atp d o × (takes_memory o.report ≡ true)) c.self.view_is c.in-Err.ensures.wanted
-    Later in
-    (Later, (refl, refl, (over_atp n wanted.0, (wanted.0, wanted.1, refl), wanted.2)), refl)
 
 pub returns : goal.returns
 returns g c =
@@ -43,7 +23,7 @@ returns g c =
       session = c.keep_list.new.self;
     } in
     let d = c.args.packet.now in
-    let r = c.hear-report.ensures in (
+    let r = c.hear-report.ensures.heard in (
       r.0,
       subst (λ (n : NodeState). Comes (Through (over_atp n) (HearsAtp r.0 n.seat n.atp d)) n c.args.out.now.items
           c.hear-report.result new c.hear-report.new.out.items) c.self.view_is
