@@ -4,7 +4,6 @@ ghost use Rattle.std.specs.Prelude.{false, None};
 
 use at_diagnostics::{Diagnostics, Stop, write_stop};
 use at_print::{Paper, Printer, Status};
-use std::fmt::Display;
 use std::io;
 use std::io::ErrorKind;
 
@@ -30,13 +29,11 @@ struct Unfailing {
 impl Paper for Unfailing {
     ghost page = { λ _. record { contents = None; has_failed = false } };
 
+    ghost settles = { λ before answer after. Unit {0} };
+
     fn put(&mut self, _bytes: &[u8]) -> io::Result<()> {
         self.count = self.count.saturating_add(1);
         Ok(())
-    }
-
-    fn put_text<D: Display + Drop>(&mut self, _text: D) -> io::Result<()> {
-        self.put(b"")
     }
 
     fn settle(&mut self) -> io::Result<()> {

@@ -27,7 +27,7 @@ judged Done P shows = shows.0 refl
 judged Failed P shows = λ sound. let done = shows.1 sound in cc
 
 -- what is told of a datagram is told of its frame
-pub told_as : {E : Type 0} (heard : E → Page) (s : Status) (old new : Diagnostics E) → TellsWhy heard s old new
-    → TellsKind heard (kind_of s) old new
-told_as heard Done old new tells = tells
-told_as heard Failed old new tells = tells
+pub told_as : {E : Type 0} (heard : E → Page) (IsText : List ℕ → Type 0) (s : Status) (old new : Diagnostics E)
+    → TellsWhy heard IsText s old new → TellsKind heard (kind_of s) old new
+told_as heard IsText Done old new tells = tells
+told_as heard IsText Failed old new (text, number, is, ends, told) = (number, told)

@@ -1,7 +1,7 @@
 -- How the reading of a capture ends.
 use Rattle.std.specs.Prelude.{◌≡◌, ℕ, List, [], ◌++◌, None, Result, Ok, Err, codes}
 use Rattle.std.specs.Fmt.{decimal}
-use Rattle.at_diagnostics.specs.Diagnostics.{TellsLine, file_of}
+use Rattle.at_diagnostics.specs.Diagnostics.{TellsReason, file_of}
 use Rattle.at_diagnostics.specs.Lines.{file_told, reason_told}
 use Rattle.at_diagnostics.specs.declared.diagnostics.Diagnostics.{Diagnostics}
 use Rattle.at_pcap.specs.Faults.{number_of}
@@ -26,8 +26,8 @@ abbrev pub TellsEnding : {E : Type 0} → (E → Page) → Result (Unit {0}) Cap
     → Type 0
 TellsEnding heard (Ok u) old new = new ≡ old
 TellsEnding heard (Err (broken.Fault fault at)) old new =
-    (reason : List ℕ) × TellsLine heard (reason_told reason None) old new
+    TellsReason heard (reason_told None) old new
 TellsEnding heard (Err (broken.Unreadable why)) old new =
-    (reason : List ℕ) × TellsLine heard (file_told (file_of old) reason) old new
+    TellsReason heard (file_told (file_of old)) old new
 TellsEnding heard (Err broken.NoMemory) old new =
-    (reason : List ℕ) × TellsLine heard (file_told (file_of old) reason) old new
+    TellsReason heard (file_told (file_of old)) old new

@@ -7,7 +7,7 @@ use Rattle.at_capture.specs.Frames.{Content}
 use Rattle.at_capture.specs.Tallies.{counted}
 use Rattle.at_capture.specs.declared.tally.FrameKind.{FrameKind}
 use Rattle.at_capture.specs.declared.tally.FrameKind.TheVariants.{Shown, Refused, Other}
-use Rattle.at_diagnostics.specs.Diagnostics.{TellsLine}
+use Rattle.at_diagnostics.specs.Diagnostics.{TellsReason}
 use Rattle.at_diagnostics.specs.Lines.{reason_told}
 use Rattle.at_diagnostics.specs.declared.diagnostics.Diagnostics.{Diagnostics}
 use Rattle.at_frames.specs.Carried.{Load}
@@ -41,7 +41,7 @@ pub data FramesText : ℕ → List Content → List FrameKind → List ℕ → T
 -- a person is told why a datagram is refused, and nothing else of a frame
 abbrev pub TellsKind : {E : Type 0} → (E → Page) → FrameKind → Diagnostics E → Diagnostics E → Type 0
 TellsKind heard Refused old new =
-    (reason : List ℕ) × (number : Option ℕ) × TellsLine heard (reason_told reason number) old new
+    (number : Option ℕ) × TellsReason heard (reason_told number) old new
 TellsKind heard kind old new = new ≡ old
 
 -- the same of frames that were counted as these

@@ -2,7 +2,7 @@
 ghost use Rattle.std.specs.Prelude.{◌≡◌, ◌↔◌, ◌++◌, IsOk};
 ghost use Rattle.at_diagnostics.specs.Diagnostics.{TellsWrites};
 ghost use Rattle.at_diagnostics.specs.declared.diagnostics.Diagnostics.{Diagnostics as Told};
-ghost use Rattle.at_print.specs.Printers.{HasFailed, Prints};
+ghost use Rattle.at_print.specs.Printers.{HasFailed, IsSettled, Prints};
 
 use crate::ending::write_ending;
 use crate::frame::Frame;
@@ -44,7 +44,8 @@ impl<'a, W: Paper, E: Paper> CapturePrinter<'a, W, E> {
     /// read to its end and printed, whatever was refused. A person is told why a datagram is refused, why the capture
     /// was not read to its end, and that something could not be written.
     pub fn print<A: Allocator, R: Read>(&mut self, alloc: A, reader: &mut R) -> Status
-        ensures { TellsCapture W.page E.page (R.remaining reader.old) result self.old self.new }
+        ensures told { TellsCapture W.page E.page (R.remaining reader.old) result self.old self.new }
+        ensures settled { IsSettled W.settles (printer_of self.new) }
     {
         self.tally = Tally::new();
         let read = read_capture(alloc, reader, self);
@@ -56,6 +57,7 @@ impl<'a, W: Paper, E: Paper> CapturePrinter<'a, W, E> {
         ensures done { (result ≡ Status.Done) ↔ (IsOk read × ¬ HasFailed (printer_of self.new)) }
         ensures printed { Prints W.page (printer_of self.old) (printer_of self.new)
             (ending_line self.old.tally.frames read ++ end_line self.old.tally) }
+        ensures settled { IsSettled W.settles (printer_of self.new) }
         ensures told { (mid : Told E) × TellsEnding E.page read (diagnostics_of self.old) mid
             × TellsWrites E.page (printer_of self.new) mid (diagnostics_of self.new) }
     {

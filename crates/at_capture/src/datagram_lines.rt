@@ -10,7 +10,7 @@ ghost use Rattle.at_show.specs.Told.{TellsWhy};
 use at_ddp::Datagram;
 use at_diagnostics::Diagnostics;
 use at_frames::{Header, SHORT_HEADER_LEN, decode_short};
-use at_print::{Paper, Printer, Status};
+use at_print::{Paper, Part, Printer, Status};
 use at_show::{show_data, show_first, show_refusal};
 
 /// Prints the datagram that begins these bytes, as `show` does. It returns `Done` if nothing of it was refused.
@@ -23,7 +23,7 @@ pub(crate) fn show_carried<W: Paper, E: Paper>(
     ensures done { (result ≡ Status.Done) ↔ IsSoundBy header bytes.now }
     ensures printed { (text : List ℕ) × DatagramText header bytes.now text
         × Prints W.page printer.old printer.new text }
-    ensures told { TellsWhy E.page result diagnostics.old diagnostics.new }
+    ensures told { TellsWhy E.page (DatagramText header bytes.now) result diagnostics.old diagnostics.new }
 {
     match header {
         Header::Long => show_first(bytes, printer, diagnostics),
@@ -42,7 +42,7 @@ fn show_short<W: Paper, E: Paper>(
     ensures done { (result ≡ Status.Done) ↔ IsSoundShort to from bytes.now }
     ensures printed { (text : List ℕ) × ShortText to from bytes.now text
         × Prints W.page printer.old printer.new text }
-    ensures told { TellsWhy E.page result diagnostics.old diagnostics.new }
+    ensures told { TellsWhy E.page (ShortText to from bytes.now) result diagnostics.old diagnostics.new }
 {
     match decode_short(to, from, bytes) {
         Ok((datagram, rest)) => show_datagram(&datagram, rest.len(), printer, diagnostics),
@@ -59,7 +59,7 @@ fn show_datagram<W: Paper, E: Paper>(
     ensures done { (result ≡ Status.Done) ↔ IsReadable datagram.now.kind datagram.now.data_.now }
     ensures printed { (text : List ℕ) × DataText datagram.now.kind datagram.now.data_.now text
         × Prints W.page printer.old printer.new (short_line (content datagram.now) rest ++ text) }
-    ensures told { TellsWhy E.page result diagnostics.old diagnostics.new }
+    ensures told { TellsWhy E.page (DataText datagram.now.kind datagram.now.data_.now) result diagnostics.old diagnostics.new }
 {
     write_short_header(printer, datagram, rest);
     show_data(datagram.kind, datagram.data_, printer, diagnostics)
@@ -71,10 +71,23 @@ fn write_short_header<W: Paper>(printer: &mut Printer<W>, datagram: &Datagram<'_
 {
     let len = SHORT_HEADER_LEN as u64 + datagram.data_.len() as u64;
     let (to, from) = (datagram.to, datagram.from);
-    write!(printer, "ddp short length {len} from {}.", from.node);
-    writeln!(
-        printer,
-        "{} to {}.{} type {} rest {rest}",
-        from.socket, to.node, to.socket, datagram.kind
-    );
+    printer.write_each(&[
+        Part::Text(b"ddp short length "),
+        Part::Number(len),
+        Part::Text(b" from "),
+        Part::Number(from.node as u64),
+        Part::Text(b"."),
+    ]);
+    printer.write_each(&[
+        Part::Number(from.socket as u64),
+        Part::Text(b" to "),
+        Part::Number(to.node as u64),
+        Part::Text(b"."),
+        Part::Number(to.socket as u64),
+        Part::Text(b" type "),
+        Part::Number(datagram.kind as u64),
+        Part::Text(b" rest "),
+        Part::Number(rest as u64),
+        Part::Text(b"\n"),
+    ]);
 }

@@ -1,14 +1,14 @@
 //! How the reading of a capture ended.
-ghost use Rattle.std.specs.Prelude.{◌≡◌, ◌↔◌, IsOk, List, None, ℕ};
+ghost use Rattle.std.specs.Prelude.{◌≡◌, ◌↔◌, IsOk, None};
 ghost use Rattle.at_capture.specs.Endings.{TellsEnding, ending_line, fault_line};
-ghost use Rattle.at_diagnostics.specs.Diagnostics.{TellsLine};
+ghost use Rattle.at_diagnostics.specs.Diagnostics.{TellsReason};
 ghost use Rattle.at_diagnostics.specs.Lines.{reason_told};
 ghost use Rattle.at_print.specs.Printers.{Prints};
 
 use at_diagnostics::{Diagnostics, Stop};
 use at_faults::{Fault, Unreadable};
 use at_pcap::{CaptureError, CaptureFault};
-use at_print::{Paper, Printer, Status};
+use at_print::{Paper, Part, Printer, Status};
 
 /// Prints why a capture was not read to its end, and tells it to a person. So many frames were printed.
 pub(crate) fn write_ending<W: Paper, E: Paper>(
@@ -29,7 +29,11 @@ pub(crate) fn write_ending<W: Paper, E: Paper>(
             diagnostics.tell_stop(Stop::Text(Fault::Unreadable(Unreadable::from(error))));
         }
         Err(CaptureError::NoMemory) => {
-            writeln!(printer, "stopped nomemory at {frames}");
+            printer.write_each(&[
+                Part::Text(b"stopped nomemory at "),
+                Part::Number(frames),
+                Part::Text(b"\n"),
+            ]);
             diagnostics.tell_stop(Stop::no_memory(0, 0));
         }
     }
@@ -43,9 +47,14 @@ fn write_fault<W: Paper, E: Paper>(
     diagnostics: &mut Diagnostics<'_, E>,
 )
     ensures printed { Prints W.page printer.old printer.new (fault_line fault at) }
-    ensures told { (reason : List ℕ)
-        × TellsLine E.page (reason_told reason None) diagnostics.old diagnostics.new }
+    ensures told { TellsReason E.page (reason_told None) diagnostics.old diagnostics.new }
 {
-    writeln!(printer, "fault {} at {at}", fault.number());
+    printer.write_each(&[
+        Part::Text(b"fault "),
+        Part::Number(fault.number() as u64),
+        Part::Text(b" at "),
+        Part::Number(at),
+        Part::Text(b"\n"),
+    ]);
     diagnostics.tell_refusal(CaptureError::Fault { fault, at }, None);
 }

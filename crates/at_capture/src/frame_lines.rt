@@ -7,7 +7,7 @@ ghost use Rattle.at_print.specs.Printers.{Prints};
 use crate::stations::write_station;
 use crate::time::{Time, write_time};
 use at_frames::{Carrier, Reason, Stations};
-use at_print::{Paper, Printer};
+use at_print::{Paper, Part, Printer};
 
 /// The line of a frame that carries a datagram.
 pub(crate) fn write_carried<W: Paper>(
@@ -43,7 +43,11 @@ pub(crate) fn write_other<W: Paper>(
 fn write_beginning<W: Paper>(printer: &mut Printer<W>, number: u64, time: Option<Time>)
     ensures { Prints W.page printer.old printer.new (beginning number time) }
 {
-    write!(printer, "frame {number} ");
+    printer.write_each(&[
+        Part::Text(b"frame "),
+        Part::Number(number),
+        Part::Text(b" "),
+    ]);
     write_time(printer, time);
     printer.write_all(b" ");
 }

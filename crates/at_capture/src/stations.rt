@@ -15,7 +15,7 @@ pub(crate) fn write_station<W: Paper>(printer: &mut Printer<W>, station: Station
 {
     match station {
         Station::Ethernet(address) => write_ethernet(printer, &address),
-        Station::Node(node) => write!(printer, "{node}"),
+        Station::Node(node) => printer.write_number(node as u64),
         Station::Unknown => printer.write_all(b"-"),
     }
 }

@@ -4,7 +4,7 @@ ghost use Rattle.at_capture.specs.Tallies.{end_line, kind_of, tally_of};
 ghost use Rattle.at_capture.specs.declared.tally.FrameKind.{FrameKind as Kind};
 ghost use Rattle.at_print.specs.Printers.{Prints};
 
-use at_print::{Paper, Printer, Status};
+use at_print::{Paper, Part, Printer, Status};
 
 /// What a frame is counted as.
 #[derive(Clone, Copy, Debug, PartialEq, Eq)]
@@ -84,10 +84,15 @@ pub(crate) fn kind_of(status: Status) -> FrameKind
 pub(crate) fn write_tally<W: Paper>(printer: &mut Printer<W>, tally: Tally)
     ensures { Prints W.page printer.old printer.new (end_line tally) }
 {
-    write!(
-        printer,
-        "frames {} datagrams {} ",
-        tally.frames, tally.datagrams
-    );
-    writeln!(printer, "refused {} other {}", tally.refused, tally.others);
+    printer.write_each(&[
+        Part::Text(b"frames "),
+        Part::Number(tally.frames),
+        Part::Text(b" datagrams "),
+        Part::Number(tally.datagrams),
+        Part::Text(b" refused "),
+        Part::Number(tally.refused),
+        Part::Text(b" other "),
+        Part::Number(tally.others),
+        Part::Text(b"\n"),
+    ]);
 }

@@ -41,7 +41,7 @@ pub(crate) fn write_time<W: Paper>(printer: &mut Printer<W>, time: Option<Time>)
 fn write_known<W: Paper>(printer: &mut Printer<W>, time: Time)
     ensures { Prints W.page printer.old printer.new (time_text (Some time)) }
 {
-    write!(printer, "{}", time.seconds);
+    printer.write_number(time.seconds);
     if time.digits != 0 {
         write_fraction(printer, time.fraction, time.digits);
     }

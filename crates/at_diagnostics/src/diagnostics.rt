@@ -1,27 +1,29 @@
 //! The lines on standard error, one for each reason.
 ghost use Rattle.std.specs.Prelude.{◌≡◌, ◌≢◌, ◌↔◌, ◌⊎◌, ℕ, List, Some};
-ghost use Rattle.at_diagnostics.specs.Diagnostics.{HasTold, TellsLine, TellsReport, TellsStop, TellsWrites};
+ghost use Rattle.at_diagnostics.specs.Diagnostics.{HasTold, TellsLine, TellsReason, TellsReport, TellsStop, TellsWrites};
 ghost use Rattle.at_diagnostics.specs.Diagnostics.{file_of, printer_of, told_by};
-ghost use Rattle.at_diagnostics.specs.Lines.{cable_told, event_told, file_told, line_told, reason_told, refusal_told};
-ghost use Rattle.at_diagnostics.specs.Lines.{refused_in_told, refused_told, stopped_told, text_told, undriven_told};
-ghost use Rattle.at_print.specs.Printers.{Prints};
+ghost use Rattle.at_diagnostics.specs.Lines.{IsOneLine, cable_named, cable_told, end_told, event_named, file_named};
+ghost use Rattle.at_diagnostics.specs.Lines.{file_told, line_named, line_told, named_in, reason_told, refusal_named};
+ghost use Rattle.at_diagnostics.specs.Lines.{refusal_of, refusal_told, refused_in_named, refused_named, stopped_told};
+ghost use Rattle.at_diagnostics.specs.Lines.{text_told, undriven_told};
+ghost use Rattle.at_print.specs.Printers.{HasFailed, Prints};
 ghost use Rattle.at_steps.specs.Safety.{number_of, Reason as Why};
 
 use crate::number_set::NumberSet;
 use crate::reason::Reason;
-use crate::sentence::{Sentence, reason_of, sentence_of};
+use crate::sentence::{reason_of, sentence_of};
 use crate::stop::Stop;
 use at_cable::CableFault;
 use at_event::Report;
 use at_faults::Fault;
-use at_print::{Paper, Printer};
+use at_print::{Paper, Part, Printer};
 use std::alloc::Allocator;
 use std::fmt::Display;
 
 /// A writer of reasons, and the name of the file that they are about.
 #[derive(Drop)]
 pub struct Diagnostics<'a, W> {
-    file: &'a str,
+    file: &'a [u8],
     printer: Printer<W>,
     // The numbers of the refusals that were told.
     refusals: NumberSet,
@@ -32,9 +34,11 @@ impl<'a, W: Paper> Diagnostics<'a, W> {
     pub fn new(file: &'a str, writer: W) -> Diagnostics<'a, W>
         ensures file { file_of result ≡ file.now }
         ensures untold { (n : ℕ) → ¬ HasTold result n }
+        ensures fresh { ¬ HasFailed (printer_of result) }
+        ensures writer { (printer_of result).writer ≡ writer }
     {
         Diagnostics {
-            file,
+            file: file.as_bytes(),
             printer: Printer::new(writer),
             refusals: NumberSet::new(),
         }
@@ -58,41 +62,76 @@ impl<'a, W: Paper> Diagnostics<'a, W> {
 
     // Tells why there is no schedule.
     fn tell_text(&mut self, fault: Fault)
-        ensures { (reason : List ℕ) × TellsLine W.page (text_told (file_of self.old) fault reason) self.old self.new }
+        ensures { TellsReason W.page (text_told (file_of self.old) fault) self.old self.new }
     {
         match fault {
             Fault::Line { number, rule } => self.tell_line(number, rule),
-            _ => self.tell_of_file(&sentence_of(fault)),
+            _ => self.tell_of_file(sentence_of(fault).words()),
+        }
+    }
+
+    fn tell_of_file(&mut self, reason: &[u8])
+        ensures { TellsLine W.page (file_told (file_of self.old) reason.now) self.old self.new }
+    {
+        self.name_file();
+        self.tell_end(reason, None);
+    }
+
+    fn name_file(&mut self)
+        ensures { TellsLine W.page (file_named (file_of self.old)) self.old self.new }
+    {
+        let file = self.file;
+        self.printer.write_each(&[Part::Text(b"atnode: "), Part::Text(file), Part::Text(b": ")]);
+    }
+
+    // The reason, with the number of the refusal if it has one, and the end of the line.
+    fn tell_end(&mut self, reason: &[u8], number: Option<u8>)
+        ensures { TellsLine W.page (end_told number reason.now) self.old self.new }
+    {
+        match number {
+            Some(number) => self.printer.write_each(&[
+                Part::Text(reason),
+                Part::Text(b" (refusal "),
+                Part::Number(number as u64),
+                Part::Text(b")\n"),
+            ]),
+            None => self
+                .printer
+                .write_each(&[Part::Text(reason), Part::Text(b"\n")]),
         }
     }
 
     // Tells why an event was not played, or that there was no memory for any line.
     fn tell_event(&mut self, fault: at_setup::Fault, at: u32, line: usize, which: Option<u64>)
-        ensures { (reason : List ℕ) × TellsLine W.page (stopped_told (file_of self.old) at line reason)
-            self.old self.new }
+        ensures { TellsReason W.page (stopped_told (file_of self.old) fault at line) self.old self.new }
+    {
+        self.name_event(at, line);
+        self.tell_end(reason_of(fault, which).words(), refusal_of(fault));
+    }
+
+    fn name_event(&mut self, at: u32, line: usize)
+        ensures { TellsLine W.page (event_named (file_of self.old) at line) self.old self.new }
     {
         if line == 0 {
-            self.tell_of_file(&sentence_of(fault));
+            self.name_file();
         } else {
-            self.tell_unplayed(at, line, &reason_of(fault, which));
+            self.name_event_in(at, line);
         }
     }
 
-    fn tell_of_file(&mut self, reason: &Sentence)
-        ensures { TellsLine W.page (file_told (file_of self.old) reason.now.bytes) self.old self.new }
+    fn name_event_in(&mut self, at: u32, line: usize)
+        ensures { TellsLine W.page (named_in (file_of self.old) at line) self.old self.new }
     {
         let file = self.file;
-        writeln!(self.printer, "atnode: {file}: {reason}");
-    }
-
-    fn tell_unplayed(&mut self, at: u32, line: usize, reason: &Sentence)
-        ensures { TellsLine W.page (event_told (file_of self.old) at line reason.now.bytes) self.old self.new }
-    {
-        let file = self.file;
-        writeln!(
-            self.printer,
-            "atnode: {file}:{line}: event {at} was not played: {reason}"
-        );
+        self.printer.write_each(&[
+            Part::Text(b"atnode: "),
+            Part::Text(file),
+            Part::Text(b":"),
+            Part::Number(line as u64),
+            Part::Text(b": event "),
+            Part::Number(at as u64),
+            Part::Text(b" was not played: "),
+        ]);
     }
 
     /// Reports why a node refused the event of this place, counted from 0, if it did. The event is in the line of this
@@ -111,7 +150,7 @@ impl<'a, W: Paper> Diagnostics<'a, W> {
         ensures told { (n : ℕ) → HasTold self.new n ↔ ((n ≡ number) ⊎ HasTold self.old n) }
         ensures once { HasTold self.old number → printer_of self.new ≡ printer_of self.old }
         ensures line { ¬ HasTold self.old number → (why : Why) → number_of why ≡ Some number
-            → (reason : List ℕ) × Prints W.page (printer_of self.old) (printer_of self.new)
+            → (reason : List ℕ) × IsOneLine reason × Prints W.page (printer_of self.old) (printer_of self.new)
             (refusal_told (file_of self.old) number at line reason) }
         ensures silent { ((why : Why) → number_of why ≢ Some number) → printer_of self.new ≡ printer_of self.old }
     {
@@ -124,56 +163,88 @@ impl<'a, W: Paper> Diagnostics<'a, W> {
         ensures file { file_of self.new ≡ file_of self.old }
         ensures told { told_by self.new ≡ told_by self.old }
         ensures line { (why : Why) → number_of why ≡ Some number
-            → (reason : List ℕ) × Prints W.page (printer_of self.old) (printer_of self.new)
+            → (reason : List ℕ) × IsOneLine reason × Prints W.page (printer_of self.old) (printer_of self.new)
             (refusal_told (file_of self.old) number at line reason) }
         ensures silent { ((why : Why) → number_of why ≢ Some number) → printer_of self.new ≡ printer_of self.old }
     {
         if let Some(reason) = Reason::of(number) {
-            self.tell_known(number, at, line, &sentence_of(reason));
+            self.tell_known(number, at, line, sentence_of(reason).words());
         }
     }
 
-    fn tell_known(&mut self, number: u8, at: usize, line: usize, reason: &Sentence)
-        ensures { TellsLine W.page (refusal_told (file_of self.old) number at line reason.now.bytes) self.old self.new }
+    fn tell_known(&mut self, number: u8, at: usize, line: usize, reason: &[u8])
+        ensures { TellsLine W.page (refusal_told (file_of self.old) number at line reason.now) self.old self.new }
+    {
+        self.name_refusal(at, line);
+        self.tell_end(reason, Some(number));
+    }
+
+    fn name_refusal(&mut self, at: usize, line: usize)
+        ensures { TellsLine W.page (refusal_named (file_of self.old) at line) self.old self.new }
     {
         if line == 0 {
-            self.tell_of_event(number, at, reason);
+            self.name_refused(at);
         } else {
-            self.tell_of_event_in(line, number, at, reason);
+            self.name_refused_in(at, line);
         }
     }
 
-    fn tell_of_event(&mut self, number: u8, at: usize, reason: &Sentence)
-        ensures { TellsLine W.page (refused_told (file_of self.old) number at reason.now.bytes) self.old self.new }
+    fn name_refused(&mut self, at: usize)
+        ensures { TellsLine W.page (refused_named (file_of self.old) at) self.old self.new }
     {
         let file = self.file;
-        writeln!(
-            self.printer,
-            "atnode: {file}: event {at} was refused: {reason} (refusal {number})"
-        );
+        self.printer.write_each(&[
+            Part::Text(b"atnode: "),
+            Part::Text(file),
+            Part::Text(b": event "),
+            Part::Number(at as u64),
+            Part::Text(b" was refused: "),
+        ]);
     }
 
-    fn tell_of_event_in(&mut self, line: usize, number: u8, at: usize, reason: &Sentence)
-        ensures { TellsLine W.page (refused_in_told (file_of self.old) line number at reason.now.bytes)
-            self.old self.new }
+    fn name_refused_in(&mut self, at: usize, line: usize)
+        ensures { TellsLine W.page (refused_in_named (file_of self.old) at line) self.old self.new }
     {
         let file = self.file;
-        writeln!(
-            self.printer,
-            "atnode: {file}:{line}: event {at} was refused: {reason} (refusal {number})"
-        );
+        self.printer.write_each(&[
+            Part::Text(b"atnode: "),
+            Part::Text(file),
+            Part::Text(b":"),
+            Part::Number(line as u64),
+            Part::Text(b": event "),
+            Part::Number(at as u64),
+            Part::Text(b" was refused: "),
+        ]);
     }
 
     /// Tells that a call of the cable failed at the event of this place, counted from 0.
     pub fn tell_cable(&mut self, at: usize)
-        ensures { (reason : List ℕ) × TellsLine W.page (cable_told (file_of self.old) at reason) self.old self.new }
+        ensures { TellsReason W.page (cable_told (file_of self.old) at) self.old self.new }
+    {
+        self.tell_cable_fault(at, sentence_of(CableFault).words());
+    }
+
+    fn tell_cable_fault(&mut self, at: usize, reason: &[u8])
+        ensures { TellsLine W.page (cable_told (file_of self.old) at reason.now) self.old self.new }
+    {
+        self.name_call(at);
+        self.printer.write_each(&[
+            Part::Text(reason),
+            Part::Text(b"; each call that fails has a line `cable`\n"),
+        ]);
+    }
+
+    fn name_call(&mut self, at: usize)
+        ensures { TellsLine W.page (cable_named (file_of self.old) at) self.old self.new }
     {
         let file = self.file;
-        let reason = sentence_of(CableFault);
-        writeln!(
-            self.printer,
-            "atnode: {file}: event {at}: {reason}; each call that fails has a line `cable`"
-        );
+        self.printer.write_each(&[
+            Part::Text(b"atnode: "),
+            Part::Text(file),
+            Part::Text(b": event "),
+            Part::Number(at as u64),
+            Part::Text(b": "),
+        ]);
     }
 
     /// Tells that there was no memory for the event of this place, counted from 0.
@@ -181,19 +252,40 @@ impl<'a, W: Paper> Diagnostics<'a, W> {
         ensures { TellsLine W.page (undriven_told (file_of self.old) at) self.old self.new }
     {
         let file = self.file;
-        writeln!(
-            self.printer,
-            "atnode: {file}: event {at} was not driven: out of memory"
-        );
+        self.printer.write_each(&[
+            Part::Text(b"atnode: "),
+            Part::Text(file),
+            Part::Text(b": event "),
+            Part::Number(at as u64),
+            Part::Text(b" was not driven: out of memory\n"),
+        ]);
     }
 
     /// Tells the reason for which the line of this number, counted from 1, is at fault.
     pub fn tell_line<D: Display + Drop>(&mut self, line: usize, reason: D)
-        ensures { (words : List ℕ) × TellsLine W.page (line_told (file_of self.old) line words) self.old self.new }
+        ensures { TellsReason W.page (line_told (file_of self.old) line) self.old self.new }
+    {
+        self.tell_of_line(line, sentence_of(reason).words());
+    }
+
+    fn tell_of_line(&mut self, line: usize, reason: &[u8])
+        ensures { TellsLine W.page (line_told (file_of self.old) line reason.now) self.old self.new }
+    {
+        self.name_line(line);
+        self.tell_end(reason, None);
+    }
+
+    fn name_line(&mut self, line: usize)
+        ensures { TellsLine W.page (line_named (file_of self.old) line) self.old self.new }
     {
         let file = self.file;
-        let reason = sentence_of(reason);
-        writeln!(self.printer, "atnode: {file}:{line}: {reason}");
+        self.printer.write_each(&[
+            Part::Text(b"atnode: "),
+            Part::Text(file),
+            Part::Text(b":"),
+            Part::Number(line as u64),
+            Part::Text(b": "),
+        ]);
     }
 
     /// Tells that some of what was printed could not be written, if so.
@@ -202,21 +294,29 @@ impl<'a, W: Paper> Diagnostics<'a, W> {
     {
         if printed.has_failed() {
             let file = self.file;
-            writeln!(
-                self.printer,
-                "atnode: {file}: standard output could not be written to its end"
-            );
+            self.printer.write_each(&[
+                Part::Text(b"atnode: "),
+                Part::Text(file),
+                Part::Text(b": standard output could not be written to its end\n"),
+            ]);
         }
     }
 
     /// Tells which rule a word, a datagram or its packet breaks, with the number of the refusal if it has one.
     pub fn tell_refusal<F: Display + Drop>(&mut self, fault: F, number: Option<u8>)
-        ensures { (reason : List ℕ) × TellsLine W.page (reason_told reason number) self.old self.new }
+        ensures { TellsReason W.page (reason_told number) self.old self.new }
     {
-        let reason = sentence_of(fault);
-        match number {
-            Some(number) => writeln!(self.printer, "atnode: {reason} (refusal {number})"),
-            None => writeln!(self.printer, "atnode: {reason}"),
-        }
+        self.printer.write_all(b"atnode: ");
+        self.tell_end(sentence_of(fault).words(), number);
+    }
+}
+
+// The number of the refusal for which an event was not played.
+fn refusal_of(fault: at_setup::Fault) -> Option<u8>
+    ensures { result ≡ refusal_of fault }
+{
+    match fault {
+        at_setup::Fault::Refused(refusal) => Some(refusal.number()),
+        at_setup::Fault::NoMemory => None,
     }
 }

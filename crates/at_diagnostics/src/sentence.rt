@@ -1,4 +1,6 @@
 //! Sentences of reasons. A line that has one is known but for its words, since no clause says how a fault is displayed.
+ghost use Rattle.at_diagnostics.specs.Lines.{IsOneLine};
+
 use arrayvec::ArrayString;
 use at_setup::Refusal;
 use std::fmt::{Display, Write};
@@ -7,32 +9,47 @@ use std::fmt::{Display, Write};
 const MAX_LEN: usize = 512;
 
 /// A reason in English, without a full stop.
-pub(crate) type Sentence = ArrayString<MAX_LEN>;
+#[derive(Drop)]
+pub(crate) struct Sentence {
+    text: ArrayString<MAX_LEN>,
+}
+
+impl Sentence {
+    /// What is printed of it. Each reason is one line; nothing would be printed of another.
+    pub(crate) fn words(&self) -> &[u8]
+        ensures { IsOneLine result.now }
+    {
+        one_line(self.text.as_str().as_bytes())
+    }
+}
+
+fn one_line(words: &[u8]) -> &[u8]
+    ensures { IsOneLine result.now }
+{
+    if words.contains(&b'\n') { &[] } else { words }
+}
 
 /// The sentence of a fault.
 pub(crate) fn sentence_of<F: Display + Drop>(fault: F) -> Sentence {
-    let mut sentence = Sentence::new();
-    let _whole = write!(sentence, "{fault}");
-    sentence
+    let mut text = ArrayString::new();
+    let _whole = write!(text, "{fault}");
+    Sentence { text }
 }
 
 /// Why an event was not played. A delivery may be untimely for what it carries, and for what it would draw.
 pub(crate) fn reason_of(fault: at_setup::Fault, which: Option<u64>) -> Sentence {
-    let mut sentence = Sentence::new();
+    let mut text = ArrayString::new();
     let _whole = match (fault, which) {
         (at_setup::Fault::Refused(Refusal::Untimely), Some(which)) => write!(
-            sentence,
+            text,
             "a number in datagram {which} has been drawn again since, \
-                or a node still holds a record or an end under the number that it would draw (refusal 72)"
+                or a node still holds a record or an end under the number that it would draw"
         ),
         (at_setup::Fault::Refused(Refusal::Untimely), None) => write!(
-            sentence,
-            "a node still holds a record or an end under the number that would be drawn (refusal 72)"
+            text,
+            "a node still holds a record or an end under the number that would be drawn"
         ),
-        (at_setup::Fault::Refused(refusal), _) => {
-            write!(sentence, "{refusal} (refusal {})", refusal.number())
-        }
-        (at_setup::Fault::NoMemory, _) => write!(sentence, "out of memory"),
+        (fault, _) => write!(text, "{fault}"),
     };
-    sentence
+    Sentence { text }
 }

@@ -8,7 +8,7 @@ ghost use Rattle.at_diagnostics.specs.declared.stop.Stop.TheVariants as stop;
 ghost use Rattle.at_setup.specs.declared.refusal.Fault.TheVariants as world;
 
 use at_faults::Fault;
-use at_print::{Paper, Printer};
+use at_print::{Paper, Part, Printer};
 use std::io;
 
 /// Why a play ends before its last event.
@@ -68,9 +68,19 @@ pub fn write_stop<W: Paper>(printer: &mut Printer<W>, stop: Stop)
         Stop::Text(fault) => write_fault(printer, fault),
         Stop::Event { fault, at, .. } => match fault {
             at_setup::Fault::Refused(refusal) => {
-                writeln!(printer, "stopped {} at {at}", refusal.number());
+                printer.write_each(&[
+                    Part::Text(b"stopped "),
+                    Part::Number(refusal.number() as u64),
+                    Part::Text(b" at "),
+                    Part::Number(at as u64),
+                    Part::Text(b"\n"),
+                ]);
             }
-            at_setup::Fault::NoMemory => writeln!(printer, "stopped nomemory at {at}"),
+            at_setup::Fault::NoMemory => printer.write_each(&[
+                Part::Text(b"stopped nomemory at "),
+                Part::Number(at as u64),
+                Part::Text(b"\n"),
+            ]),
         },
     }
 }
@@ -81,7 +91,11 @@ pub fn write_fault<W: Paper>(printer: &mut Printer<W>, fault: Fault)
 {
     match fault {
         Fault::Unreadable(_) => printer.write_all(b"fault 0\n"),
-        Fault::Line { number, .. } => writeln!(printer, "fault {number}"),
+        Fault::Line { number, .. } => printer.write_each(&[
+            Part::Text(b"fault "),
+            Part::Number(number as u64),
+            Part::Text(b"\n"),
+        ]),
         Fault::NoMemory => printer.write_all(b"stopped nomemory at 0\n"),
     }
 }

@@ -1,7 +1,7 @@
 -- What a person is told of a drive.
 use Rattle.std.specs.Prelude.{◌≡◌, ◌&&◌, nat_le, not, ℕ, Bool, true, false, List, Option, Some, None, Result, Ok, Err}
 use Rattle.std.specs.Prelude.{length, slice_get}
-use Rattle.at_diagnostics.specs.Diagnostics.{TellsLine, TellsReport, TellsStop, file_of}
+use Rattle.at_diagnostics.specs.Diagnostics.{TellsLine, TellsReason, TellsReport, TellsStop, file_of}
 use Rattle.at_diagnostics.specs.Lines.{cable_told, undriven_told}
 use Rattle.at_diagnostics.specs.Stops.{stop_of}
 use Rattle.at_diagnostics.specs.declared.diagnostics.Diagnostics.{Diagnostics}
@@ -19,7 +19,7 @@ TellsRefusal page at None old new = new ≡ old
 -- that a call of the cable failed at the step of this place, if it did and none failed before
 abbrev pub TellsCable : {W : Type 0} → (W → Page) → ℕ → Bool → Diagnostics W → Diagnostics W → Type 0
 TellsCable page at true old new =
-    (reason : List ℕ) × TellsLine page (cable_told (file_of old) at reason) old new
+    TellsReason page (cable_told (file_of old) at) old new
 TellsCable page at false old new = new ≡ old
 
 -- what is told of a step, if the cable had failed before or not: first of its report, and then of the cable

@@ -4,6 +4,7 @@ ghost use Rattle.std.specs.Prelude.{map, slice_get};
 ghost use Rattle.at_drive.specs.Drives.{logged, number_of as node_number};
 ghost use Rattle.at_drive.specs.Steps.{node_of, numbers_of, stands_in};
 ghost use Rattle.at_drive_lines.specs.StepLines.{is_step_line};
+ghost use Rattle.at_print.specs.Printers.{IsSettled};
 ghost use Rattle.at_drive_text.specs.Courses.{EndsLine, EndsStep, IsGoing, TellsLine, TellsStepOn};
 ghost use Rattle.at_drive_text.specs.Driven.{number_of, sent_count};
 ghost use Rattle.at_drive_text.specs.Told.{TellsCable, TellsRefusal, TellsStep};
@@ -94,6 +95,8 @@ impl<'a, A: Allocator + Copy> Course<'a, A> {
         requires room { self.old.at < 2 ^ 64 - 1 }
         ensures told { OnOk result (TellsStepOn C.sends C.receives W.page E.page step.now self.old drive.old cable.old
             printer.old diagnostics.old self.new drive.new cable.new printer.new diagnostics.new) }
+        // What a step prints is flushed before the next.
+        ensures settled { OnOk result (IsSettled W.settles printer.new) }
         ensures ended { IfErr result (EndsStep C.sends C.receives W.page E.page step.now self.old drive.old cable.old
             printer.old diagnostics.old self.new drive.new cable.new printer.new diagnostics.new) }
         ensures nodes { map node_number drive.new.nodes ≡ map node_number drive.old.nodes }

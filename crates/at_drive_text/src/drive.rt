@@ -5,7 +5,7 @@ ghost use Rattle.at_diagnostics.specs.declared.diagnostics.Diagnostics.{Diagnost
 ghost use Rattle.at_drive.specs.Drives.{number_of as node_number, opening_nodes_of};
 ghost use Rattle.at_drive.specs.Steps.{numbers_of};
 ghost use Rattle.at_drive_lines.specs.Lines.{HasNext, IsLast};
-ghost use Rattle.at_print.specs.Printers.{HasFailed, Prints};
+ghost use Rattle.at_print.specs.Printers.{HasFailed, IsSettled, Prints};
 ghost use Rattle.at_drive_text.specs.Courses.{IsGoing};
 ghost use Rattle.at_drive_text.specs.Driven.{Driven, Goes, IsUnread, IsUnwritten, WasRead, drive_end, first_place};
 ghost use Rattle.at_drive_text.specs.Told.{TellsEnd};
@@ -18,7 +18,7 @@ use at_drive::Drive;
 use at_drive_lines::Lines;
 use at_drive_lines::laws::each_line_can_be_read;
 use at_faults::Fault;
-use at_print::{Paper, Printer, Status};
+use at_print::{Paper, Part, Printer, Status};
 use at_setup::Setup;
 use std::alloc::Allocator;
 
@@ -35,8 +35,9 @@ pub fn drive_lines<A: Allocator + Copy, L: Lines, C: Cable, W: Paper, E: Paper>(
     diagnostics: &mut Diagnostics<'_, E>,
 ) -> Status
     requires { WasRead setup.now (L.left lines.old) L.may_fail }
-    ensures { Driven C.sends C.receives setup.now (L.left lines.old) L.may_fail cable.old cable.new W.page E.page result
-        printer.old printer.new diagnostics.old diagnostics.new }
+    ensures driven { Driven C.sends C.receives setup.now (L.left lines.old) L.may_fail cable.old cable.new W.page
+        E.page result printer.old printer.new diagnostics.old diagnostics.new }
+    ensures settled { IsSettled W.settles printer.new }
 {
     let driven = drive_opened(alloc, setup, lines, cable, printer, diagnostics);
     end(driven, printer, diagnostics)
@@ -112,6 +113,7 @@ fn end<W: Paper, E: Paper>(
 ) -> Status
     ensures done { (result ≡ Status.Done) ↔ (IsOk driven × ¬ HasFailed printer.new) }
     ensures printed { Prints W.page printer.old printer.new (drive_end driven) }
+    ensures settled { IsSettled W.settles printer.new }
     ensures told { (mid : Told E) × TellsEnd E.page driven diagnostics.old mid
         × TellsWrites E.page printer.new mid diagnostics.new }
 {
@@ -127,13 +129,18 @@ fn finish<W: Paper, E: Paper>(
 ) -> Status
     ensures done { (result ≡ Status.Done) ↔ (IsOk driven × ¬ HasFailed printer.new) }
     ensures printed { Prints W.page printer.old printer.new (drive_end driven) }
+    ensures settled { IsSettled W.settles printer.new }
     ensures told { TellsEnd E.page driven diagnostics.old diagnostics.new }
 {
     match driven {
         Ok(()) => printer.finish(Status::Done),
         Err(Ending::Unwritten(_)) => printer.finish(Status::Failed),
         Err(Ending::NoMemory(at)) => {
-            writeln!(printer, "stopped nomemory at {at}");
+            printer.write_each(&[
+                Part::Text(b"stopped nomemory at "),
+                Part::Number(at as u64),
+                Part::Text(b"\n"),
+            ]);
             diagnostics.tell_undriven(at);
             printer.finish(Status::Failed)
         }

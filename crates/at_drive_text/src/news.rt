@@ -10,7 +10,7 @@ ghost use Rattle.at_drive_text.specs.Driven.{report_part, sent_count, sent_part}
 use at_ddp::Datagrams;
 use at_drive::Log;
 use at_event::Report;
-use at_print::{Paper, Printer, write_datagram, write_event};
+use at_print::{Paper, Part, Printer, write_datagram, write_event};
 use std::alloc::Allocator;
 
 /// Prints what came of the step at this place, before which so many datagrams were sent.
@@ -96,13 +96,13 @@ fn write_faults<W: Paper>(printer: &mut Printer<W>, faults: &[usize])
 fn write_fault<W: Paper>(printer: &mut Printer<W>, at: usize)
     ensures { Prints W.page printer.old printer.new (fault_line at) }
 {
-    writeln!(printer, "{at} cable");
+    printer.write_each(&[Part::Number(at as u64), Part::Text(b" cable\n")]);
 }
 
 fn write_idle<W: Paper>(printer: &mut Printer<W>, at: usize, is_idle: bool)
     ensures { Prints W.page printer.old printer.new (if is_idle then decimal at ++ codes " idle\n" else []) }
 {
     if is_idle {
-        writeln!(printer, "{at} idle");
+        printer.write_each(&[Part::Number(at as u64), Part::Text(b" idle\n")]);
     }
 }

@@ -9,7 +9,6 @@ use at_diagnostics::Diagnostics;
 use at_print::{Paper, Printer};
 use at_show::show_bytes;
 use std::alloc::{AllocError, Global};
-use std::fmt::Display;
 use std::io;
 
 /// Copies out the lines of what these bytes are, as `show` prints them, and gives their length. Bytes that are refused
@@ -41,11 +40,9 @@ impl Paper for Unheard {
 
     ghost page = { λ _. record { contents = None; has_failed = false } };
 
-    fn put(&mut self, _bytes: &[u8]) -> io::Result<()> {
-        Ok(())
-    }
+    ghost settles = { λ before answer after. Unit {0} };
 
-    fn put_text<D: Display + Drop>(&mut self, _text: D) -> io::Result<()> {
+    fn put(&mut self, _bytes: &[u8]) -> io::Result<()> {
         Ok(())
     }
 

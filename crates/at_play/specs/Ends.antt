@@ -128,3 +128,13 @@ pub record Ended {W E : Type 0} (IsText : Diagnostics E → Result (Unit {0}) En
   pub late : Diagnostics E
   pub stopped : TellsEnd heard result mid late
   pub last : TellsWrites heard new late after
+
+-- A file that was opened and asked to go back to its beginning is played as a file, or, if it can't, as a text: what is
+-- left of it.
+abbrev pub PlaysOpened : (A : Type 0) {F W E : Type 0} → (F → Option (List ℕ)) → (F → Option ℕ)
+    → (F → Option (List ℕ)) → F → (W → Page) → (E → Page) → Status → Printer W → Printer W → Diagnostics E
+    → Diagnostics E → Type 0
+PlaysOpened A {F} remaining position bytes file page heard status old new before after =
+    (asked : F) × Keeps (bytes file) (bytes asked)
+    × (Ended (PlayText A heard (remaining asked) before) page heard status old new after
+    ⊎ Ended (FileText A remaining position bytes heard before) page heard status old new after)

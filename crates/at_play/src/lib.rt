@@ -7,5 +7,5 @@ mod playing_text;
 mod program;
 mod sent;
 
-pub use program::{play_file, play_text};
+pub use program::{play_file, play_opened, play_text};
 pub use sent::write_sent;

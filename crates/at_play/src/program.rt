@@ -5,10 +5,10 @@ ghost use Rattle.at_diagnostics.specs.declared.diagnostics.Diagnostics.{Diagnost
 ghost use Rattle.at_faults.specs.Reads.{IsOfBytes};
 ghost use Rattle.at_faults.specs.declared.fault.Fault.TheVariants as why;
 ghost use Rattle.at_play.specs.Ends.{Ended, FileText, IsTooLong, IsUnreadable, IsUnplayed, IsUnwritten, PlayText};
-ghost use Rattle.at_play.specs.Ends.{TellsEnd};
+ghost use Rattle.at_play.specs.Ends.{PlaysOpened, TellsEnd};
 ghost use Rattle.at_play.specs.Ends.{end_text};
 ghost use Rattle.std.specs.Result.{IsErrAnd};
-ghost use Rattle.at_print.specs.Printers.{HasFailed, Prints};
+ghost use Rattle.at_print.specs.Printers.{HasFailed, IsSettled, Prints};
 
 use crate::ending::Ending;
 use crate::playing::play_lines;
@@ -32,6 +32,7 @@ pub fn play_text<A: Allocator + Copy, R: Read, W: Paper, E: Paper>(
     ensures too_long { IfSome (R.remaining reader.old)
         (λ all. MAX_LEN < length all → IsUnplayed W.page result printer.old printer.new) }
     ensures printed { result ≡ Status.Done → ¬ HasFailed printer.new }
+    ensures settled { IsSettled W.settles printer.new }
     ensures ended { Ended (PlayText A E.page (R.remaining reader.old) diagnostics.old) W.page E.page result
         printer.old printer.new diagnostics.new }
 {
@@ -52,11 +53,30 @@ pub fn play_file<A: Allocator + Copy, F: Read + Seek, W: Paper, E: Paper>(
     ensures too_long { IfSome (F.remaining file.old) (λ all. MAX_LEN < length all
         → (result ≡ Status.Failed) × Prints W.page printer.old printer.new (codes "fault 0\n")) }
     ensures printed { result ≡ Status.Done → ¬ HasFailed printer.new }
+    ensures settled { IsSettled W.settles printer.new }
     ensures ended { Ended (FileText A F.remaining F.stream_position F.stream_bytes E.page diagnostics.old) W.page E.page
         result printer.old printer.new diagnostics.new }
 {
     let played = play_again(alloc, file, printer, diagnostics);
     end(played, printer, diagnostics)
+}
+
+/// Plays a file that was opened. A pipe has no beginning to go back to, and is read whole.
+pub fn play_opened<A: Allocator + Copy, F: Read + Seek, W: Paper, E: Paper>(
+    alloc: A,
+    file: &mut F,
+    printer: &mut Printer<W>,
+    diagnostics: &mut Diagnostics<'_, E>,
+) -> Status
+    ensures printed { result ≡ Status.Done → ¬ HasFailed printer.new }
+    ensures settled { IsSettled W.settles printer.new }
+    ensures ended { PlaysOpened A F.remaining F.stream_position F.stream_bytes file.old W.page E.page result
+        printer.old printer.new diagnostics.old diagnostics.new }
+{
+    match file.rewind() {
+        Ok(()) => play_file(alloc, file, printer, diagnostics),
+        Err(_) => play_text(alloc, file, printer, diagnostics),
+    }
 }
 
 fn play_stream<A: Allocator + Copy, R: Read, W: Paper, E: Paper>(
@@ -117,6 +137,7 @@ fn end<W: Paper, E: Paper>(
 ) -> Status
     ensures done { (result ≡ Status.Done) ↔ (IsOk played × ¬ HasFailed printer.new) }
     ensures printed { Prints W.page printer.old printer.new (end_text played) }
+    ensures settled { IsSettled W.settles printer.new }
     ensures said { (mid : Told E) × TellsEnd E.page played diagnostics.old mid
         × TellsWrites E.page printer.new mid diagnostics.new }
 {
@@ -132,6 +153,7 @@ fn finish<W: Paper, E: Paper>(
 ) -> Status
     ensures done { (result ≡ Status.Done) ↔ (IsOk played × ¬ HasFailed printer.new) }
     ensures printed { Prints W.page printer.old printer.new (end_text played) }
+    ensures settled { IsSettled W.settles printer.new }
     ensures said { TellsEnd E.page played diagnostics.old diagnostics.new }
 {
     match played {

@@ -11,10 +11,17 @@ use Rattle.std.specs.List.{concat}
 use Rattle.std.specs.Int.{from_bool}
 use Rattle.at_atp_frame.specs.Frames.{Request, Response}
 use Rattle.std.specs.Prelude.{codes}
+use Rattle.std.specs.List.{flat_map}
+use Rattle.std.proofs.lemmas.List.Concat.{flat_map-cons}
+use Rattle.at_print.specs.Parts.{followed, part_text, parts_text}
+use Rattle.at_print.specs.declared.part.Part.{Part}
 use Rattle.std.proofs.KnownBytes.{Appends-nil, Appends-trans}
 use Rattle.at_print.specs.declared.printer.Printer.{Printer}
 use Rattle.at_print.specs.Papers.{Page, Writes}
-use Rattle.at_print.specs.Printers.{HasFailed, Prints}
+use Rattle.at_print.specs.Printers.{HasFailed, IsSettled, Prints}
+use Rattle.std.specs.Prelude.{Result, Ok, Err}
+use Rattle.std.specs.Result.{is_err}
+use Rattle.std.specs.declared.io.Error.{Error}
 
 written : {W : Type 0} (page : W → Page) (a b c : Printer W) (xs ys : List ℕ) → Prints page b c ys
     → HasFailed b ⊎ Writes (page a.writer) (page b.writer) xs → HasFailed c
@@ -39,6 +46,13 @@ Prints-trans page a b c xs ys first second = record {
   written = written page a b c xs ys second first.written second.written;
   tied = λ tied. second.tied (first.tied tied);
 }
+
+-- as a flush left the paper, by whether it failed
+pub settled_by : {W : Type 0} (T : W → Result (Unit {0}) Error → W → Type 0) (before after : W)
+    (answer : Result (Unit {0}) Error) (failed : Bool) → failed ≡ is_err answer → T before answer after
+    → IsSettled T (record { writer = after; has_failed = failed })
+settled_by T before after (Ok u) failed is settles = inr (before, settles)
+settled_by T before after (Err e) failed is settles = inl is
 
 -- ---- a text that is printed piece by piece
 
@@ -159,3 +173,13 @@ module _ {W : Type 0} (page : W → Page) where
       let fields = rw (is, also) at p1 in
       Prints-eight a b c (codes "atp response place ") _ (codes " eom ") _ (codes " sts ") _
       (codes " id ") _ _ fields p2
+
+-- the text of parts is that of each of them
+followed_by : (text : List ℕ) (ps : List Part) → followed text ps ≡ text ++ flat_map part_text ps
+followed_by text [] = sym (append-nil text)
+followed_by text (p ∷ ps) =
+    ap (λ l. text ++ l) (followed_by (part_text p) ps ∙ sym (flat_map-cons part_text p ps))
+
+pub parts_each : (ps : List Part) → parts_text ps ≡ flat_map part_text ps
+parts_each [] = refl
+parts_each (p ∷ ps) = followed_by (part_text p) ps ∙ sym (flat_map-cons part_text p ps)

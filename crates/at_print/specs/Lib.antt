@@ -2,6 +2,7 @@ pub mod Items
 pub mod Lines
 pub mod NameLines
 pub mod Papers
+pub mod Parts
 pub mod Printers
 pub mod Reports
 pub mod Requesters

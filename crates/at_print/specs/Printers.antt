@@ -1,5 +1,6 @@
 -- What is known of a printer, and of what it prints.
-use Rattle.std.specs.Prelude.{◌≡◌, ℕ, List, ◌⊎◌, IsTrue, false}
+use Rattle.std.specs.Prelude.{◌≡◌, ℕ, List, ◌⊎◌, Result, Ok, IsTrue, false}
+use Rattle.std.specs.declared.io.Error.{Error}
 use Rattle.at_print.specs.Papers.{Page, Writes}
 use Rattle.at_print.specs.declared.printer.Printer.{Printer}
 
@@ -16,6 +17,11 @@ pub record Prints {W : Type 0} (page : W → Page) (old new : Printer W) (bytes 
   pub stopped : HasFailed old → new ≡ old
   pub written : HasFailed new ⊎ Writes (page old.writer) (page new.writer) bytes
   pub tied : IsTied page old → IsTied page new
+
+-- A write or a flush failed, or what the printer prints to is as a flush left it that did not fail. T says what may come
+-- of a flush.
+abbrev pub IsSettled : {W : Type 0} → (W → Result (Unit {0}) Error → W → Type 0) → Printer W → Type 0
+IsSettled {W} T printer = HasFailed printer ⊎ ((before : W) × T before (Ok tt) printer.writer)
 
 -- no write and no flush of any of these papers fails
 abbrev pub NeverFails : {W : Type 0} → (W → Page) → Type 0

@@ -9,6 +9,7 @@ ghost use Rattle.at_print.specs.Reports.{name_text};
 
 use crate::packet_lines::write_address;
 use crate::paper::Paper;
+use crate::part::Part;
 use crate::printer::Printer;
 use crate::text_words::write_text;
 use at_nbp::{Function, Packet, Tuple, Tuples};
@@ -20,7 +21,13 @@ pub fn write_names<W: Paper>(printer: &mut Printer<W>, packet: &Packet<'_>)
     printer.write_all(b"nbp ");
     write_function(printer, packet.function);
     let count = packet.tuples.unread();
-    writeln!(printer, " id {} count {}", packet.id, count);
+    printer.write_each(&[
+        Part::Text(b" id "),
+        Part::Number(packet.id as u64),
+        Part::Text(b" count "),
+        Part::Number(count as u64),
+        Part::Text(b"\n"),
+    ]);
     write_tuples(printer, &packet.tuples);
 }
 
@@ -50,7 +57,11 @@ fn write_tuple<W: Paper>(printer: &mut Printer<W>, tuple: &Tuple<'_>)
     write_name(printer, tuple.object, tuple.kind, tuple.zone);
     printer.write_all(b" ");
     write_address(printer, tuple.address);
-    writeln!(printer, " enumerator {}", tuple.enumerator);
+    printer.write_each(&[
+        Part::Text(b" enumerator "),
+        Part::Number(tuple.enumerator as u64),
+        Part::Text(b"\n"),
+    ]);
 }
 
 /// An object, a type and a zone.

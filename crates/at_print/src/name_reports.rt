@@ -6,6 +6,7 @@ ghost use Rattle.at_print.specs.Reports.{find_text, found_text};
 
 use crate::name_lines::write_name;
 use crate::paper::Paper;
+use crate::part::Part;
 use crate::piece::{HEAD, Piece};
 use crate::printer::Printer;
 use at_nbp::Find;
@@ -56,6 +57,12 @@ fn write_find<W: Paper>(printer: &mut Printer<W>, find: &Find)
         name.kind.bytes(),
         name.zone.bytes(),
     );
-    let (node, socket) = (find.address.node, find.address.socket);
-    write!(printer, ",{node},{socket},{}", find.enumerator);
+    printer.write_each(&[
+        Part::Text(b","),
+        Part::Number(find.address.node as u64),
+        Part::Text(b","),
+        Part::Number(find.address.socket as u64),
+        Part::Text(b","),
+        Part::Number(find.enumerator as u64),
+    ]);
 }

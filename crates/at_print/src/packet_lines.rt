@@ -7,6 +7,7 @@ ghost use Rattle.at_print.specs.Printers.{Prints};
 
 use crate::digits::write_hex;
 use crate::paper::Paper;
+use crate::part::Part;
 use crate::printer::Printer;
 use at_atp::Frame;
 use at_ddp::{Address, Datagram, HEADER_LEN};
@@ -16,13 +17,25 @@ pub fn write_header<W: Paper>(printer: &mut Printer<W>, datagram: &Datagram<'_>,
     ensures { Prints W.page printer.old printer.new (header_line (content datagram.now) rest) }
 {
     let len = HEADER_LEN as u64 + datagram.data_.len() as u64;
-    write!(printer, "ddp length {len} hops {} sum ", datagram.hops);
+    printer.write_each(&[
+        Part::Text(b"ddp length "),
+        Part::Number(len),
+        Part::Text(b" hops "),
+        Part::Number(datagram.hops as u64),
+        Part::Text(b" sum "),
+    ]);
     write_sum(printer, datagram.sum);
     printer.write_all(b" from ");
     write_address(printer, datagram.from);
     printer.write_all(b" to ");
     write_address(printer, datagram.to);
-    writeln!(printer, " type {} rest {rest}", datagram.kind);
+    printer.write_each(&[
+        Part::Text(b" type "),
+        Part::Number(datagram.kind as u64),
+        Part::Text(b" rest "),
+        Part::Number(rest as u64),
+        Part::Text(b"\n"),
+    ]);
 }
 
 // Four digits, or that no sum was computed.
@@ -39,11 +52,13 @@ fn write_sum<W: Paper>(printer: &mut Printer<W>, sum: u16)
 pub(crate) fn write_address<W: Paper>(printer: &mut Printer<W>, address: Address)
     ensures { Prints W.page printer.old printer.new (address_text address) }
 {
-    write!(
-        printer,
-        "{}.{}.{}",
-        address.net, address.node, address.socket
-    );
+    printer.write_each(&[
+        Part::Number(address.net as u64),
+        Part::Text(b"."),
+        Part::Number(address.node as u64),
+        Part::Text(b"."),
+        Part::Number(address.socket as u64),
+    ]);
 }
 
 /// The line of data that is not read.
@@ -70,7 +85,14 @@ pub fn write_frame<W: Paper>(printer: &mut Printer<W>, frame: &Frame<'_>)
         } => {
             printer.write_all(b"atp request mask ");
             write_hex(printer, &[*mask]);
-            write!(printer, " xo {} timer {timer} id {tid}", u8::from(*xo));
+            printer.write_each(&[
+                Part::Text(b" xo "),
+                Part::Number(u64::from(*xo)),
+                Part::Text(b" timer "),
+                Part::Number(*timer as u64),
+                Part::Text(b" id "),
+                Part::Number(*tid as u64),
+            ]);
             write_parts(printer, *user, data_);
         }
         Frame::Response {
@@ -81,15 +103,23 @@ pub fn write_frame<W: Paper>(printer: &mut Printer<W>, frame: &Frame<'_>)
             user,
             data_,
         } => {
-            write!(
-                printer,
-                "atp response place {place} eom {} sts {} id {tid}",
-                u8::from(*eom),
-                u8::from(*sts)
-            );
+            printer.write_each(&[
+                Part::Text(b"atp response place "),
+                Part::Number(*place as u64),
+                Part::Text(b" eom "),
+                Part::Number(u64::from(*eom)),
+                Part::Text(b" sts "),
+                Part::Number(u64::from(*sts)),
+                Part::Text(b" id "),
+                Part::Number(*tid as u64),
+            ]);
             write_parts(printer, *user, data_);
         }
-        Frame::Release { tid } => writeln!(printer, "atp release id {tid}"),
+        Frame::Release { tid } => printer.write_each(&[
+            Part::Text(b"atp release id "),
+            Part::Number(*tid as u64),
+            Part::Text(b"\n"),
+        ]),
     }
 }
 

@@ -1,10 +1,13 @@
 //! A writer that keeps in mind whether a write to it failed.
-ghost use Rattle.std.specs.Prelude.{◌≡◌, ◌↔◌, true, [], IfSome};
-ghost use Rattle.at_print.specs.Printers.{HasFailed, IsTied, Prints};
+ghost use Rattle.std.specs.Prelude.{◌≡◌, ◌↔◌, true, []};
+ghost use Rattle.std.specs.Fmt.{decimal};
+ghost use Rattle.at_print.specs.Parts.{part_text, parts_text};
+ghost use Rattle.at_print.specs.Printers.{HasFailed, IsSettled, Prints};
 
 use crate::paper::Paper;
+use crate::part::Part;
 use crate::status::Status;
-use std::fmt::Display;
+use itoa::Buffer;
 
 /// Prints to a writer up to the first write that fails, and nothing after that.
 #[derive(Drop)]
@@ -32,14 +35,29 @@ impl<W: Paper> Printer<W> {
         }
     }
 
-    /// What `write!` and `writeln!` call.
-    pub fn write_fmt<D: Display + Drop>(&mut self, text: D)
-        ensures stopped { HasFailed self.old → self.new ≡ self.old }
-        ensures tied { IsTied W.page self.old → IsTied W.page self.new }
-        ensures printed { IfSome (D.output text) (Prints W.page self.old self.new) }
+    /// Prints a number in decimal digits.
+    pub fn write_number(&mut self, number: u64)
+        ensures { Prints W.page self.old self.new (decimal number) }
     {
-        if !self.has_failed {
-            self.has_failed = self.writer.put_text(text).is_err();
+        let mut digits = Buffer::new();
+        self.write_all(digits.format(number).as_bytes());
+    }
+
+    /// Prints these parts, one after the other.
+    pub fn write_each(&mut self, parts: &[Part<'_>])
+        ensures { Prints W.page self.old self.new (parts_text parts.now) }
+    {
+        for part in parts {
+            self.write_part(*part);
+        }
+    }
+
+    fn write_part(&mut self, part: Part<'_>)
+        ensures { Prints W.page self.old self.new (part_text part.entry) }
+    {
+        match part {
+            Part::Text(bytes) => self.write_all(bytes),
+            Part::Number(number) => self.write_number(number),
         }
     }
 
@@ -59,7 +77,8 @@ impl<W: Paper> Printer<W> {
 
     /// Flushes the writer.
     pub fn flush(&mut self)
-        ensures { Prints W.page self.old self.new [] }
+        ensures printed { Prints W.page self.old self.new [] }
+        ensures settled { IsSettled W.settles self.new }
     {
         if !self.has_failed {
             self.has_failed = self.writer.settle().is_err();
@@ -69,6 +88,7 @@ impl<W: Paper> Printer<W> {
     /// Flushes, and hands on the status, or `Failed` if a write or the flush failed.
     pub fn finish(&mut self, status: Status) -> Status
         ensures printed { Prints W.page self.old self.new [] }
+        ensures settled { IsSettled W.settles self.new }
         ensures done { (result ≡ Status.Done) ↔ ((status ≡ Status.Done) × ¬ HasFailed self.new) }
     {
         self.flush();

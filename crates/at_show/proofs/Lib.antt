@@ -1,1 +1,1 @@
-mod ShownLemmas
+pub mod ShownLemmas

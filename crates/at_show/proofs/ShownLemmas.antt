@@ -1,9 +1,9 @@
 -- Words and bytes that are shown, if a reading of them is known.
 use Rattle.std.proofs.Common.{arith, ◌≡◌, ◌⊎◌, ◌<◌, ◌≤◌, ◌/◌, ◌∷◌, [], List, ℕ, Ok, length, refl, sym, ◌∙◌, ap, subst}
-use Rattle.std.proofs.Common.{inl, inr}
+use Rattle.std.proofs.Common.{inl, inr, None, ◌++◌, append_assoc}
 use Rattle.std.specs.Prelude.{Option}
 use Rattle.at_ddp.specs.Datagram.{Content, BeginsWith}
-use Rattle.at_diagnostics.specs.Diagnostics.{TellsLine}
+use Rattle.at_diagnostics.specs.Diagnostics.{TellsReason}
 use Rattle.at_diagnostics.specs.Lines.{reason_told}
 use Rattle.at_diagnostics.specs.declared.diagnostics.Diagnostics.{Diagnostics}
 use Rattle.at_print.specs.Papers.{Page}
@@ -11,8 +11,8 @@ use Rattle.at_print.specs.declared.status.Status.{Status}
 use Rattle.at_print.specs.declared.status.Status.TheVariants.{Done, Failed}
 use Rattle.at_show.specs.HexFaults.{fault_line}
 use Rattle.at_show.specs.Shown.{IsReadable, IsSound, Shows}
-use Rattle.at_show.specs.Texts.{WordText, NoHex, NoRoom}
-use Rattle.at_show.specs.Told.{TellsWhy}
+use Rattle.at_show.specs.Texts.{WordText, NoHex, NoRoom, refusal_line}
+use Rattle.at_show.specs.Told.{TellsRefusal, TellsWhy}
 use Rattle.at_words.specs.Hexes.{IsHex}
 use Rattle.at_words.specs.declared.hex_word.HexFault.{HexFault}
 use Rattle.at_words.specs.declared.hex_word.HexFault.TheVariants as fault
@@ -56,15 +56,56 @@ no_fault word room fault.NoHex none lacks shows fits = none refl shows.bytes sho
 no_fault word room fault.NoMemory none lacks shows fits = let short = lacks refl in omega (arith, short, fits)
 
 -- why something was refused
-pub tells_why : {W : Type 0} (page : W → Page) (status : Status) (number : Option ℕ) (old new : Diagnostics W)
-    → status ≡ Failed → ((reason : List ℕ) × TellsLine page (reason_told reason number) old new)
-    → TellsWhy page status old new
-tells_why page status number old new failed (reason, line) =
-    subst (λ s. TellsWhy page s old new) (sym failed) (reason, number, line)
+pub tells_why : {W : Type 0} (page : W → Page) (IsText : List ℕ → Type 0) (status : Status) (number : Option ℕ)
+    (old new : Diagnostics W) → status ≡ Failed → IsText (refusal_line number)
+    → TellsReason page (reason_told number) old new → TellsWhy page IsText status old new
+tells_why page IsText status number old new failed is told = subst (λ s. TellsWhy page IsText s old new) (sym failed) (
+  refusal_line number,
+  number,
+  is,
+  record { front = []; line = refusal_line number; whole = refl; is = inl refl },
+  told,
+)
+
+-- the same of a text that begins with more
+pub told_behind : {W : Type 0} (page : W → Page) (front : List ℕ) (IsEnd IsText : List ℕ → Type 0) (status : Status)
+    (old new : Diagnostics W) → ((text : List ℕ) → IsEnd text → IsText (front ++ text))
+    → TellsWhy page IsEnd status old new → TellsWhy page IsText status old new
+told_behind page front IsEnd IsText Done old new more same = same
+told_behind page front IsEnd IsText Failed old new more (text, number, is, ends, told) = (
+  front ++ text,
+  number,
+  more text is,
+  record {
+    front = front ++ ends.front;
+    line = ends.line;
+    whole = ap (λ l. front ++ l) ends.whole ∙ sym (append_assoc front ends.front ends.line);
+    is = ends.is;
+  },
+  told,
+)
+
+-- a word that spells no bytes has no number
+pub fault_told : {W : Type 0} (page : W → Page) (IsText : List ℕ → Type 0) (f : HexFault) (old new : Diagnostics W)
+    → IsText (fault_line f) → TellsReason page (reason_told None) old new → TellsRefusal page IsText old new
+fault_told page IsText fault.NoHex old new is told = (
+  fault_line fault.NoHex,
+  None,
+  is,
+  record { front = []; line = fault_line fault.NoHex; whole = refl; is = inr (refl, refl) },
+  told,
+)
+fault_told page IsText fault.NoMemory old new is told = (
+  fault_line fault.NoMemory,
+  None,
+  is,
+  record { front = []; line = fault_line fault.NoMemory; whole = refl; is = inl refl },
+  told,
+)
 
 -- nothing is told of what is shown, and one line of anything else
-pub told_in : {W : Type 0} (page : W → Page) (status : Status) (old new : Diagnostics W) (P : Type 0)
-    → (status ≡ Done → P) → TellsWhy page status old new
-    → (P × (new ≡ old)) ⊎ ((reason : List ℕ) × (number : Option ℕ) × TellsLine page (reason_told reason number) old new)
-told_in page Done old new P shows same = inl (shows refl, same)
-told_in page Failed old new P shows line = inr line
+pub told_in : {W : Type 0} (page : W → Page) (IsText : List ℕ → Type 0) (status : Status) (old new : Diagnostics W)
+    (P : Type 0) → (status ≡ Done → P) → TellsWhy page IsText status old new
+    → (P × (new ≡ old)) ⊎ TellsRefusal page IsText old new
+told_in page IsText Done old new P shows same = inl (shows refl, same)
+told_in page IsText Failed old new P shows line = inr line

@@ -1,21 +1,21 @@
 //! What `show` prints of a datagram that a word spells in hexadecimal digits.
-ghost use Rattle.std.specs.Prelude.{◌≡◌, ◌↔◌, ◌⊎◌, ◌≤◌, ◌/◌, ◌++◌, List, ℕ, Option, None, length, vec_capacity};
-ghost use Rattle.at_print.specs.Printers.{HasFailed, Prints};
+ghost use Rattle.std.specs.Prelude.{◌≡◌, ◌↔◌, ◌⊎◌, ◌≤◌, ◌/◌, ◌++◌, List, ℕ, None, length, vec_capacity};
+ghost use Rattle.at_print.specs.Printers.{HasFailed, IsSettled, Prints};
 ghost use Rattle.at_ddp.specs.Datagram.{content};
-ghost use Rattle.at_diagnostics.specs.Diagnostics.{TellsLine};
+ghost use Rattle.at_diagnostics.specs.Diagnostics.{TellsReason};
 ghost use Rattle.at_diagnostics.specs.Lines.{reason_told};
 ghost use Rattle.at_show.specs.HexFaults.{fault_line};
 ghost use Rattle.at_show.specs.Texts.{BytesText, DataText, PacketText, WordText, refusal_line};
 ghost use Rattle.at_print.specs.Lines.{header_line};
 ghost use Rattle.at_show.specs.Shown.{IsPacket, IsReadable, IsSound, Shows};
-ghost use Rattle.at_show.specs.Told.{TellsWhy};
+ghost use Rattle.at_show.specs.Told.{TellsRefusal, TellsWhy};
 
 use crate::hex_reason::HexReason;
 use crate::show_names::show_names;
 use crate::show_segment::show_segment;
 use at_ddp::{ADSP, ATP, Datagram, NBP};
 use at_diagnostics::Diagnostics;
-use at_print::{Paper, Printer, Status, write_frame, write_header, write_raw};
+use at_print::{Paper, Part, Printer, Status, write_frame, write_header, write_raw};
 use at_words::{HexFault, bytes_of};
 use std::alloc::Allocator;
 use std::fmt::Display;
@@ -35,9 +35,10 @@ pub fn show_text<A: Allocator, W: Paper, E: Paper>(
     // It fails only if the word is not to be shown, room was missing, or a write failed.
     ensures only { Shows word.now → length word.now / 2 ≤ vec_capacity room.old → ¬ HasFailed printer.new
         → result ≡ Status.Done }
+    ensures settled { IsSettled W.settles printer.new }
+    // The number that a person is told is the one that is printed.
     ensures told { (Shows word.now × (diagnostics.new ≡ diagnostics.old))
-        ⊎ ((reason : List ℕ) × (number : Option ℕ)
-        × TellsLine E.page (reason_told reason number) diagnostics.old diagnostics.new) }
+        ⊎ TellsRefusal E.page (WordText word.now (vec_capacity room.old)) diagnostics.old diagnostics.new }
     ensures silent { Shows word.now → length word.now / 2 ≤ vec_capacity room.old
         → diagnostics.new ≡ diagnostics.old }
 {
@@ -57,9 +58,9 @@ pub fn show_bytes<W: Paper, E: Paper>(
     // It fails only if the bytes are refused, or a write failed.
     ensures done { (result ≡ Status.Done) ↔ (IsSound bytes.now × ¬ HasFailed printer.new) }
     ensures printed { (text : List ℕ) × BytesText bytes.now text × Prints W.page printer.old printer.new text }
+    ensures settled { IsSettled W.settles printer.new }
     ensures told { (IsSound bytes.now × (diagnostics.new ≡ diagnostics.old))
-        ⊎ ((reason : List ℕ) × (number : Option ℕ)
-        × TellsLine E.page (reason_told reason number) diagnostics.old diagnostics.new) }
+        ⊎ TellsRefusal E.page (BytesText bytes.now) diagnostics.old diagnostics.new }
     ensures silent { IsSound bytes.now → diagnostics.new ≡ diagnostics.old }
 {
     let status = show_first(bytes, printer, diagnostics);
@@ -74,8 +75,7 @@ fn show_fault<W: Paper, E: Paper>(
 ) -> Status
     ensures failed { result ≡ Status.Failed }
     ensures printed { Prints W.page printer.old printer.new (fault_line fault) }
-    ensures told { (reason : List ℕ)
-        × TellsLine E.page (reason_told reason None) diagnostics.old diagnostics.new }
+    ensures told { TellsReason E.page (reason_told None) diagnostics.old diagnostics.new }
 {
     match fault {
         HexFault::NoHex => {
@@ -99,7 +99,7 @@ pub fn show_first<W: Paper, E: Paper>(
 ) -> Status
     ensures done { (result ≡ Status.Done) ↔ IsSound bytes.now }
     ensures printed { (text : List ℕ) × BytesText bytes.now text × Prints W.page printer.old printer.new text }
-    ensures told { TellsWhy E.page result diagnostics.old diagnostics.new }
+    ensures told { TellsWhy E.page (BytesText bytes.now) result diagnostics.old diagnostics.new }
 {
     match at_ddp::decode(bytes) {
         Ok((datagram, rest)) => show_datagram(&datagram, rest.len(), printer, diagnostics),
@@ -117,7 +117,7 @@ fn show_datagram<W: Paper, E: Paper>(
     ensures done { (result ≡ Status.Done) ↔ IsReadable datagram.now.kind datagram.now.data_.now }
     ensures printed { (text : List ℕ) × DataText datagram.now.kind datagram.now.data_.now text
         × Prints W.page printer.old printer.new (header_line (content datagram.now) rest ++ text) }
-    ensures told { TellsWhy E.page result diagnostics.old diagnostics.new }
+    ensures told { TellsWhy E.page (DataText datagram.now.kind datagram.now.data_.now) result diagnostics.old diagnostics.new }
 {
     write_header(printer, datagram, rest);
     show_data(datagram.kind, datagram.data_, printer, diagnostics)
@@ -134,7 +134,7 @@ pub fn show_data<W: Paper, E: Paper>(
     ensures done { (result ≡ Status.Done) ↔ IsReadable kind bytes.now }
     ensures printed { (text : List ℕ) × DataText kind bytes.now text
         × Prints W.page printer.old printer.new text }
-    ensures told { TellsWhy E.page result diagnostics.old diagnostics.new }
+    ensures told { TellsWhy E.page (DataText kind bytes.now) result diagnostics.old diagnostics.new }
 {
     if kind == NBP {
         show_names(bytes, printer, diagnostics)
@@ -155,7 +155,7 @@ fn show_packet<W: Paper, E: Paper>(
 ) -> Status
     ensures done { (result ≡ Status.Done) ↔ IsPacket bytes.now }
     ensures printed { (text : List ℕ) × PacketText bytes.now text × Prints W.page printer.old printer.new text }
-    ensures told { TellsWhy E.page result diagnostics.old diagnostics.new }
+    ensures told { TellsWhy E.page (PacketText bytes.now) result diagnostics.old diagnostics.new }
 {
     match at_atp::decode(bytes) {
         Ok(frame) => {
@@ -175,11 +175,14 @@ pub fn show_refusal<F: Display + Drop, W: Paper, E: Paper>(
 ) -> Status
     ensures failed { result ≡ Status.Failed }
     ensures printed { Prints W.page printer.old printer.new (refusal_line number) }
-    ensures told { (reason : List ℕ)
-        × TellsLine E.page (reason_told reason number) diagnostics.old diagnostics.new }
+    ensures told { TellsReason E.page (reason_told number) diagnostics.old diagnostics.new }
 {
     match number {
-        Some(number) => writeln!(printer, "refused {number}"),
+        Some(number) => printer.write_each(&[
+            Part::Text(b"refused "),
+            Part::Number(number as u64),
+            Part::Text(b"\n"),
+        ]),
         None => printer.write_all(b"stopped nomemory at 0\n"),
     }
     diagnostics.tell_refusal(fault, number);

@@ -17,7 +17,7 @@ pub(crate) fn show_names<W: Paper, E: Paper>(
 ) -> Status
     ensures done { (result ≡ Status.Done) ↔ IsNames bytes.now }
     ensures printed { (text : List ℕ) × NamesText bytes.now text × Prints W.page printer.old printer.new text }
-    ensures told { TellsWhy E.page result diagnostics.old diagnostics.new }
+    ensures told { TellsWhy E.page (NamesText bytes.now) result diagnostics.old diagnostics.new }
 {
     match at_nbp::decode(bytes) {
         Ok((packet, _)) => {

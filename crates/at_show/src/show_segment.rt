@@ -17,7 +17,7 @@ pub(crate) fn show_segment<W: Paper, E: Paper>(
 ) -> Status
     ensures done { (result ≡ Status.Done) ↔ IsSegment bytes.now }
     ensures printed { (text : List ℕ) × SegmentText bytes.now text × Prints W.page printer.old printer.new text }
-    ensures told { TellsWhy E.page result diagnostics.old diagnostics.new }
+    ensures told { TellsWhy E.page (SegmentText bytes.now) result diagnostics.old diagnostics.new }
 {
     match at_adsp_frame::decode(bytes) {
         Ok(segment) => {

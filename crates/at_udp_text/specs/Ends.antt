@@ -16,7 +16,7 @@ use Rattle.at_drive_lines.specs.Drafts.{BeginsSo, IsDriveFault}
 use Rattle.at_drive_lines.specs.Lines.{lines_of}
 use Rattle.at_drive_lines.specs.NodeLines.{IsFirstLineOf, NoneNames}
 use Rattle.at_drive_text.specs.Driven.{Driven}
-use Rattle.at_diagnostics.specs.Diagnostics.{TellsLine, TellsStop, TellsWrites, file_of}
+use Rattle.at_diagnostics.specs.Diagnostics.{TellsReason, TellsStop, TellsWrites, file_of}
 use Rattle.at_diagnostics.specs.Lines.{line_told}
 use Rattle.at_diagnostics.specs.Stops.{no_memory_line, stop_of, text_fault_line}
 use Rattle.at_diagnostics.specs.declared.diagnostics.Diagnostics.{Diagnostics}
@@ -58,8 +58,7 @@ IsLineOf known may_fail node number = IfSome known
 
 -- a person is told some reason for which this line is at fault
 abbrev pub TellsAt : {E : Type 0} → (E → Page) → ℕ → Diagnostics E → Diagnostics E → Type 0
-TellsAt heard number before after =
-    (words : List ℕ) × TellsLine heard (line_told (file_of before) number words) before after
+TellsAt heard number before after = TellsReason heard (line_told (file_of before) number) before after
 
 -- how a drive ends if a node has no socket: the node's line is at fault
 abbrev pub EndsUnbound : {W E : Type 0} → Option (List (List ℕ)) → Bool → BindFault → (W → Page) → (E → Page) → Status
@@ -157,3 +156,15 @@ DrivesFile A B S R remaining position bytes page heard status old new before aft
     ⊎ ((setup : Setup A) × (port : ℕ) × (is_lawful setup ≡ true)
     × IsHeadOf remaining position bytes setup port
     × DrivesAgain B S R remaining position bytes setup port page heard status old new before after)
+
+-- A file that was opened and asked to go back to its beginning is driven as a file, or, if it can't, as a text: what is
+-- left of it.
+abbrev pub DrivesOpened : (A : Type 0) {C F W E : Type 0} → (ℕ → Result C Error → Type 0)
+    → (UdpState C → ℕ → ℕ → List ℕ → Result (Unit {0}) CableFault → UdpState C → Type 0)
+    → (UdpState C → ℕ → ℕ → Result (Option (List ℕ)) CableFault → UdpState C → Type 0) → (F → Option (List ℕ))
+    → (F → Option ℕ) → (F → Option (List ℕ)) → F → (W → Page) → (E → Page) → Status → Printer W → Printer W
+    → Diagnostics E → Diagnostics E → Type 0
+DrivesOpened A {F = F} B S R remaining position bytes file page heard status old new before after =
+    (asked : F) × Keeps (bytes file) (bytes asked)
+    × (DrivesStream A B S R (remaining asked) page heard status old new before after
+    ⊎ DrivesFile A B S R remaining position bytes page heard status old new before after)

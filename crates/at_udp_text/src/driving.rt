@@ -2,6 +2,7 @@
 ghost use Rattle.std.specs.Prelude.{◌≡◌, IfErr, IfOk};
 ghost use Rattle.at_drive.specs.Steps.{numbers_of};
 ghost use Rattle.at_drive_text.specs.Driven.{WasRead};
+ghost use Rattle.at_print.specs.Printers.{IsSettled};
 ghost use Rattle.at_udp.specs.Binds.{IsBound, IsUnbound};
 ghost use Rattle.at_udp.specs.Sockets.{Receives, Sends};
 ghost use Rattle.at_udp_text.specs.Ends.{DrivesNodes, EndsUnbound, IsLineOf};
@@ -26,8 +27,9 @@ pub(crate) fn drive_nodes<S: Socket, A: Allocator + Copy, N: Net, L: Lines, W: P
     diagnostics: &mut Diagnostics<'_, E>,
 ) -> Status
     requires { WasRead head.now.setup (L.left lines.old) L.may_fail }
-    ensures { DrivesNodes S.binds (Sends S.sends) (Receives S.receives) head.now.setup head.now.port
+    ensures driven { DrivesNodes S.binds (Sends S.sends) (Receives S.receives) head.now.setup head.now.port
         (L.left lines.old) L.may_fail W.page E.page result printer.old printer.new diagnostics.old diagnostics.new }
+    ensures settled { IsSettled W.settles printer.new }
 {
     match cable_of::<S, A, N>(alloc, net, head) {
         Ok(mut cable) => drive_lines(alloc, &head.setup, lines, &mut cable, printer, diagnostics),
@@ -67,8 +69,9 @@ fn end_unbound<L: Lines, W: Paper, E: Paper>(
     printer: &mut Printer<W>,
     diagnostics: &mut Diagnostics<'_, E>,
 ) -> Status
-    ensures { EndsUnbound (L.left lines.old) L.may_fail fault W.page E.page result printer.old printer.new
+    ensures ended { EndsUnbound (L.left lines.old) L.may_fail fault W.page E.page result printer.old printer.new
         diagnostics.old diagnostics.new }
+    ensures settled { IsSettled W.settles printer.new }
 {
     match fault {
         BindFault::NoMemory => end_at_fault(Fault::NoMemory, printer, diagnostics),

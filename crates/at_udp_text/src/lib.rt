@@ -4,4 +4,4 @@
 mod driving;
 mod program;
 
-pub use program::{drive_file, drive_stream};
+pub use program::{drive_file, drive_opened, drive_stream};

@@ -5,9 +5,10 @@ ghost use Rattle.std.specs.Result.{IsErrAnd};
 ghost use Rattle.at_faults.specs.Reads.{IsOfBytes};
 ghost use Rattle.at_drive_lines.specs.Drafts.{BeginsSo, IsDriveFault};
 ghost use Rattle.at_drive_lines.specs.Lines.{lines_of};
+ghost use Rattle.at_print.specs.Printers.{IsSettled};
 ghost use Rattle.at_setup.specs.Setups.{is_lawful};
 ghost use Rattle.at_udp.specs.Sockets.{Receives, Sends};
-ghost use Rattle.at_udp_text.specs.Ends.{DrivesAgain, DrivesFile, DrivesFrom, DrivesStream, DrivesText};
+ghost use Rattle.at_udp_text.specs.Ends.{DrivesAgain, DrivesFile, DrivesFrom, DrivesOpened, DrivesStream, DrivesText};
 ghost use Rattle.at_udp_text.specs.Ends.{IsFileFault, IsHeadOf, IsNotRead, IsUnreadable};
 
 use crate::driving::drive_nodes;
@@ -35,6 +36,7 @@ pub fn drive_stream<S: Socket, A: Allocator + Copy, N: Net, R: Read, W: Paper, E
         diagnostics.old diagnostics.new) }
     ensures ended { DrivesStream A S.binds (Sends S.sends) (Receives S.receives) (R.remaining reader.old) W.page E.page
         result printer.old printer.new diagnostics.old diagnostics.new }
+    ensures settled { IsSettled W.settles printer.new }
 {
     match read_bytes(alloc, reader) {
         Ok(text) => drive_text::<S, A, N, W, E>(alloc, net, text.as_slice(), printer, diagnostics),
@@ -49,8 +51,9 @@ fn drive_text<S: Socket, A: Allocator + Copy, N: Net, W: Paper, E: Paper>(
     printer: &mut Printer<W>,
     diagnostics: &mut Diagnostics<'_, E>,
 ) -> Status
-    ensures { DrivesText A S.binds (Sends S.sends) (Receives S.receives) text.now W.page E.page result printer.old
-        printer.new diagnostics.old diagnostics.new }
+    ensures driven { DrivesText A S.binds (Sends S.sends) (Receives S.receives) text.now W.page E.page result
+        printer.old printer.new diagnostics.old diagnostics.new }
+    ensures settled { IsSettled W.settles printer.new }
 {
     let mut lines = TextLines::of(text);
     match read_head(alloc, &mut TextLines::of(text)) {
@@ -76,10 +79,29 @@ pub fn drive_file<S: Socket, A: Allocator + Copy, N: Net, F: Read + Seek, W: Pap
         → IsNotRead IsUnreadable W.page E.page result printer.old printer.new diagnostics.old diagnostics.new) }
     ensures ended { DrivesFile A S.binds (Sends S.sends) (Receives S.receives) F.remaining F.stream_position
         F.stream_bytes W.page E.page result printer.old printer.new diagnostics.old diagnostics.new }
+    ensures settled { IsSettled W.settles printer.new }
 {
     match head_of(alloc, file) {
         Ok(head) => drive_again::<S, A, N, F, W, E>(alloc, net, &head, file, printer, diagnostics),
         Err(fault) => end_at_fault(fault, printer, diagnostics),
+    }
+}
+
+/// Drives the nodes of a file that was opened. A pipe has no beginning to go back to, and is read whole.
+pub fn drive_opened<S: Socket, A: Allocator + Copy, N: Net, F: Read + Seek, W: Paper, E: Paper>(
+    alloc: A,
+    net: &N,
+    file: &mut F,
+    printer: &mut Printer<W>,
+    diagnostics: &mut Diagnostics<'_, E>,
+) -> Status
+    ensures ended { DrivesOpened A S.binds (Sends S.sends) (Receives S.receives) F.remaining F.stream_position
+        F.stream_bytes file.old W.page E.page result printer.old printer.new diagnostics.old diagnostics.new }
+    ensures settled { IsSettled W.settles printer.new }
+{
+    match file.rewind() {
+        Ok(()) => drive_file::<S, A, N, F, W, E>(alloc, net, file, printer, diagnostics),
+        Err(_) => drive_stream::<S, A, N, F, W, E>(alloc, net, file, printer, diagnostics),
     }
 }
 
@@ -130,9 +152,10 @@ fn drive_again<S: Socket, A: Allocator + Copy, N: Net, F: Read + Seek, W: Paper,
     printer: &mut Printer<W>,
     diagnostics: &mut Diagnostics<'_, E>,
 ) -> Status
-    ensures { DrivesAgain S.binds (Sends S.sends) (Receives S.receives) F.remaining F.stream_position
+    ensures driven { DrivesAgain S.binds (Sends S.sends) (Receives S.receives) F.remaining F.stream_position
         F.stream_bytes head.now.setup head.now.port W.page E.page result printer.old printer.new diagnostics.old
         diagnostics.new }
+    ensures settled { IsSettled W.settles printer.new }
 {
     match file.rewind() {
         Ok(()) => drive_from::<S, A, N, F, W, E>(alloc, net, head, file, printer, diagnostics),
@@ -148,9 +171,10 @@ fn drive_from<S: Socket, A: Allocator + Copy, N: Net, R: Read, W: Paper, E: Pape
     printer: &mut Printer<W>,
     diagnostics: &mut Diagnostics<'_, E>,
 ) -> Status
-    ensures { DrivesFrom S.binds (Sends S.sends) (Receives S.receives) head.now.setup head.now.port
+    ensures driven { DrivesFrom S.binds (Sends S.sends) (Receives S.receives) head.now.setup head.now.port
         (lines_of (R.remaining reader.old)) W.page E.page result printer.old printer.new diagnostics.old
         diagnostics.new }
+    ensures settled { IsSettled W.settles printer.new }
 {
     match BufReader::new(alloc, reader) {
         Ok(reader) => {

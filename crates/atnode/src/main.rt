@@ -8,7 +8,7 @@ mod telling;
 mod udp;
 
 use at_diagnostics::Diagnostics;
-use at_play::{play_file, play_text};
+use at_play::{play_opened, play_text};
 use at_print::{Printer, Status};
 use at_show::show_text;
 use capture::capture_named;
@@ -82,7 +82,7 @@ fn play_named<R: Files + Input + Print + AllocGlobal, E: Write>(
         return play_from(rt, STANDARD_INPUT, &mut rt.reader(), errors);
     }
     match fs::open(rt, file) {
-        Ok(mut opened) => play_opened(rt, file, &mut opened, errors),
+        Ok(mut opened) => play_file(rt, file, &mut opened, errors),
         Err(error) => unopened(rt, file, error, errors),
     }
 }
@@ -99,22 +99,18 @@ pub(crate) fn unopened<R: Print + AllocGlobal, E: Write>(
     Ok(Status::Failed.code())
 }
 
-// A pipe has no beginning to go back to, and is read whole.
-fn play_opened<R: Print + AllocGlobal, F: Read + Seek, E: Write>(
+fn play_file<R: Print + AllocGlobal, F: Read + Seek, E: Write>(
     rt: &R,
     name: &str,
     file: &mut F,
     errors: &mut E,
 ) -> io::Result<u8> {
-    if file.rewind().is_err() {
-        return play_from(rt, name, file, errors);
-    }
     let mut printer = match BufWriter::new(rt.alloc(), io::writer(rt)) {
         Ok(writer) => Printer::new(writer),
         Err(_) => return stop(rt, errors),
     };
     let mut diagnostics = Diagnostics::new(name, errors);
-    Ok(play_file(rt.alloc(), file, &mut printer, &mut diagnostics).code())
+    Ok(play_opened(rt.alloc(), file, &mut printer, &mut diagnostics).code())
 }
 
 fn play_from<R: Print + AllocGlobal, I: Read, E: Write>(
@@ -144,7 +140,10 @@ fn show_word<R: Print + AllocGlobal, E: Write>(
         Ok(writer) => Printer::new(writer),
         Err(_) => return stop(rt, errors),
     };
-    let mut room = Vec::new(rt.alloc());
+    // Two digits are a byte.
+    let Ok(mut room) = Vec::with_capacity(rt.alloc(), word.len() / 2) else {
+        return stop(rt, errors);
+    };
     let mut diagnostics = Diagnostics::new(word, errors);
     Ok(show_text(word.as_bytes(), &mut room, &mut printer, &mut diagnostics).code())
 }

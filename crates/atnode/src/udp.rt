@@ -4,7 +4,7 @@ use crate::{STANDARD_INPUT, stop, unopened};
 use at_diagnostics::Diagnostics;
 use at_print::Printer;
 use at_udp::LocalSocket;
-use at_udp_text::{drive_file, drive_stream};
+use at_udp_text::{drive_opened, drive_stream};
 use std::io::{BufWriter, Read, Seek, Write};
 use std::net::Net;
 use std::rt::Files;
@@ -26,22 +26,18 @@ pub(crate) fn udp_named<R: Files + Input + Print + Net + AllocGlobal, E: Write>(
     }
 }
 
-// A pipe has no beginning to go back to, and is read whole.
 fn udp_opened<R: Print + Net + AllocGlobal, F: Read + Seek, E: Write>(
     rt: &R,
     name: &str,
     file: &mut F,
     errors: &mut E,
 ) -> io::Result<u8> {
-    if file.rewind().is_err() {
-        return udp_from(rt, name, file, errors);
-    }
     let mut printer = match BufWriter::new(rt.alloc(), io::writer(rt)) {
         Ok(writer) => Printer::new(writer),
         Err(_) => return stop(rt, errors),
     };
     let mut told = Diagnostics::new(name, errors);
-    Ok(drive_file::<LocalSocket, _, _, _, _, _>(
+    Ok(drive_opened::<LocalSocket, _, _, _, _, _>(
         rt.alloc(),
         rt,
         file,

@@ -21,7 +21,8 @@ fn main(rt: HostRuntime) -> io::Result<()> {
             refused = refused.saturating_add(1);
         }
     }
-    writeln!(printer, "{refused} refused");
+    printer.write_number(refused);
+    printer.write_all(b" refused\n");
     printer.finish(Status::Done);
     Ok(())
 }

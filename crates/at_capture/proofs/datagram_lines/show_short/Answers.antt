@@ -1,10 +1,10 @@
 use Rattle.std.proofs.Common.{◌++◌, Some, length, subst, sym}
 use Rattle.at_capture.proofs.DatagramLemmas.{readable_in}
-use Rattle.at_capture.specs.Datagrams.{Begin, Stop, short_line}
+use Rattle.at_capture.specs.Datagrams.{Begin, ShortText, Stop, short_line}
 use Rattle.at_ddp.specs.Datagram.{content}
 use Rattle.at_frames.specs.ShortFaults.{number_of}
-use Rattle.at_show.specs.Texts.{refusal_line}
-use Rattle.at_show.specs.Told.{TellsWhy}
+use Rattle.at_show.specs.Texts.{DataText, refusal_line}
+use Rattle.at_show.proofs.ShownLemmas.{tells_why, told_behind}
 use Rattle.at_capture.proofs.datagram_lines.show_short.Goals as goal
 
 pub returns-in-Ok-clause-done : goal.returns-in-Ok-clause-done
@@ -43,6 +43,17 @@ returns-in-Err-clause-printed g c = (
 
 pub returns-in-Err-clause-told : goal.returns-in-Err-clause-told
 returns-in-Err-clause-told g c =
-    let told = c.show_refusal.ensures.told in
-    subst (λ s. TellsWhy g.E.Paper.page s c.args.diagnostics.now c.show_refusal.new.diagnostics)
-    (sym c.show_refusal.ensures.failed) (told.0, Some c.number.result, told.1)
+    let bytes = c.args.bytes.now in
+    tells_why g.E.Paper.page (ShortText c.args.to c.args.from bytes) c.show_refusal.result (Some c.number.result)
+    c.args.diagnostics.now c.show_refusal.new.diagnostics c.show_refusal.ensures.failed
+    (subst (λ n. ShortText c.args.to c.args.from bytes (refusal_line (Some n))) (sym c.number.ensures)
+    (Stop c.in-Err.fault c.in-Err.ensures.fault)) c.show_refusal.ensures.told
+
+pub returns-in-Ok-clause-told : goal.returns-in-Ok-clause-told
+returns-in-Ok-clause-told g c =
+    let d = content c.in-Ok.datagram in
+    let rest = c.in-Ok.rest.now in
+    told_behind g.E.Paper.page (short_line d (length rest)) (DataText d.kind d.data_)
+    (ShortText c.args.to c.args.from c.args.bytes.now) c.show_datagram.result c.args.diagnostics.now
+    c.show_datagram.new.diagnostics (λ text is. Begin d rest text c.in-Ok.ensures.found is)
+    c.show_datagram.ensures.told

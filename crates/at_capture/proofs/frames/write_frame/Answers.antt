@@ -1,6 +1,6 @@
 use Rattle.std.proofs.Common.{subst, sym, ◌++◌}
 use Rattle.at_capture.proofs.DatagramLemmas.{judged, told_as}
-use Rattle.at_capture.specs.Datagrams.{IsSoundBy}
+use Rattle.at_capture.specs.Datagrams.{DatagramText, IsSoundBy}
 use Rattle.at_capture.specs.FrameLines.{carried_line, other_line}
 use Rattle.at_capture.specs.Texts.{Carried, Empty, IsJudged, TellsKind}
 use Rattle.at_frames.specs.Carried.{load_of}
@@ -23,7 +23,8 @@ returns-in-Ok-clause-printed g c =
 pub returns-in-Ok-clause-told : goal.returns-in-Ok-clause-told
 returns-in-Ok-clause-told g c =
     subst (λ k. TellsKind g.E.Paper.page k c.args.diagnostics.now c.show_carried.new.diagnostics)
-    (sym c.kind_of.ensures) (told_as g.E.Paper.page c.show_carried.result c.args.diagnostics.now
+    (sym c.kind_of.ensures) (told_as g.E.Paper.page
+    (DatagramText c.in-Ok.carried.header c.in-Ok.carried.bytes.now) c.show_carried.result c.args.diagnostics.now
     c.show_carried.new.diagnostics c.show_carried.ensures.told)
 
 pub returns-in-Err-clause-printed : goal.returns-in-Err-clause-printed

@@ -5,8 +5,8 @@ use Rattle.at_print.proofs.PrintLemmas.{Prints-trans}
 use Rattle.at_drive_text.proofs.TellsLemmas.{stays_failed}
 use Rattle.at_drive_text.proofs.drive.drive_lines.Goals as goal
 
-pub returns : goal.returns
-returns g c =
+pub returns-clause-driven : goal.returns-clause-driven
+returns-clause-driven g c =
     let went = c.drive_opened-driven.ensures.goes in
     let driven = c.drive_opened-driven.result in
     let between = c.drive_opened-driven.new.printer in

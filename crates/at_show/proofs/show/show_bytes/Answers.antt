@@ -1,6 +1,7 @@
 use Rattle.std.proofs.Common.{append-nil, [], subst}
 use Rattle.at_print.specs.Printers.{Prints}
 use Rattle.at_show.specs.Shown.{IsSound}
+use Rattle.at_show.specs.Texts.{BytesText}
 use Rattle.at_print.proofs.PrintLemmas.{Prints-trans}
 use Rattle.at_show.proofs.ShownLemmas.{told_in}
 use Rattle.at_show.proofs.show.show_bytes.Goals as goal
@@ -23,7 +24,7 @@ returns-clause-printed g c =
 
 pub returns-clause-told : goal.returns-clause-told
 returns-clause-told g c =
-    told_in g.E.Paper.page c.show_first-status.result c.args.diagnostics.now c.show_first-status.new.diagnostics
+    told_in g.E.Paper.page (BytesText c.args.bytes.now) c.show_first-status.result c.args.diagnostics.now c.show_first-status.new.diagnostics
     (IsSound c.args.bytes.now) c.show_first-status.ensures.done.0 c.show_first-status.ensures.told
 
 pub returns-clause-silent : goal.returns-clause-silent

@@ -1,9 +1,9 @@
 use Rattle.at_ddp.specs.Datagram.{content}
 use Rattle.at_ddp.specs.Fault.{number_of}
 use Rattle.at_print.specs.Lines.{header_line}
-use Rattle.at_show.specs.Texts.{Begin, Stop, refusal_line}
-use Rattle.std.proofs.Common.{◌++◌, length}
-use Rattle.at_show.proofs.ShownLemmas.{readable_in, tells_why}
+use Rattle.at_show.specs.Texts.{BytesText, DataText, Begin, Stop, refusal_line}
+use Rattle.std.proofs.Common.{subst, sym, ◌++◌, length}
+use Rattle.at_show.proofs.ShownLemmas.{readable_in, tells_why, told_behind}
 use Rattle.at_show.proofs.show.show_first.Goals as goal
 
 pub returns-in-Ok-clause-done : goal.returns-in-Ok-clause-done
@@ -43,5 +43,15 @@ returns-in-Err-clause-printed g c = (
 
 pub returns-in-Err-clause-told : goal.returns-in-Err-clause-told
 returns-in-Err-clause-told g c =
-    tells_why g.E.Paper.page c.show_refusal.result c.number.result c.args.diagnostics.now c.show_refusal.new.diagnostics
-    c.show_refusal.ensures.failed c.show_refusal.ensures.told
+    tells_why g.E.Paper.page (BytesText c.args.bytes.now) c.show_refusal.result c.number.result c.args.diagnostics.now
+    c.show_refusal.new.diagnostics c.show_refusal.ensures.failed
+    (subst (λ n. BytesText c.args.bytes.now (refusal_line n)) (sym c.number.ensures)
+    (Stop c.in-Err.refusal c.in-Err.ensures.fault)) c.show_refusal.ensures.told
+
+pub returns-in-Ok-clause-told : goal.returns-in-Ok-clause-told
+returns-in-Ok-clause-told g c =
+    let d = content c.in-Ok.datagram in
+    let rest = c.in-Ok.rest.now in
+    told_behind g.E.Paper.page (header_line d (length rest)) (DataText d.kind d.data_) (BytesText c.args.bytes.now)
+    c.show_datagram.result c.args.diagnostics.now c.show_datagram.new.diagnostics
+    (λ text is. Begin d rest text c.in-Ok.ensures.found is) c.show_datagram.ensures.told

@@ -1,7 +1,8 @@
+use Rattle.std.proofs.Common.{subst, sym}
 use Rattle.at_atp_frame.specs.Frames.{content}
 use Rattle.at_atp_frame.specs.Fault.{number_of}
 use Rattle.at_print.specs.Lines.{packet_line}
-use Rattle.at_show.specs.Texts.{refusal_line, Read, Refused}
+use Rattle.at_show.specs.Texts.{PacketText, refusal_line, Read, Refused}
 use Rattle.at_show.proofs.ShownLemmas.{tells_why}
 use Rattle.at_show.proofs.show.show_packet.Goals as goal
 
@@ -19,5 +20,7 @@ returns-in-Err-clause-printed g c = (
 
 pub returns-in-Err-clause-told : goal.returns-in-Err-clause-told
 returns-in-Err-clause-told g c =
-    tells_why g.E.Paper.page c.show_refusal.result c.number.result c.args.diagnostics.now c.show_refusal.new.diagnostics
-    c.show_refusal.ensures.failed c.show_refusal.ensures.told
+    tells_why g.E.Paper.page (PacketText c.args.bytes.now) c.show_refusal.result c.number.result c.args.diagnostics.now
+    c.show_refusal.new.diagnostics c.show_refusal.ensures.failed
+    (subst (λ n. PacketText c.args.bytes.now (refusal_line n)) (sym c.number.ensures)
+    (Refused c.in-Err.fault c.in-Err.ensures.fault)) c.show_refusal.ensures.told

@@ -1,10 +1,10 @@
-use Rattle.std.proofs.Common.{ap, ◌∙◌, Err, None, inr, sym, subst, vec_capacity, append-nil, []}
+use Rattle.std.proofs.Common.{ap, ◌∙◌, Err, inr, sym, subst, vec_capacity, append-nil, []}
 use Rattle.at_print.specs.Printers.{Prints}
 use Rattle.at_show.specs.Shown.{IsSound, Shows}
 use Rattle.at_show.specs.HexFaults.{fault_line}
-use Rattle.at_show.specs.Texts.{BytesText, Spelled}
+use Rattle.at_show.specs.Texts.{BytesText, Spelled, WordText}
 use Rattle.at_print.proofs.PrintLemmas.{Prints-trans}
-use Rattle.at_show.proofs.ShownLemmas.{fault_text, no_fault, sound_in, told_in}
+use Rattle.at_show.proofs.ShownLemmas.{fault_text, fault_told, no_fault, sound_in, told_behind, told_in}
 use Rattle.at_show.proofs.show.show_text.Goals as goal
 use Rattle.at_show.proofs.show.show_text.Goals.{in-Ok, in-Err}
 
@@ -49,13 +49,25 @@ returns-clause-printed g c = elim c.match-bytes_of.branch [
 pub returns-clause-told : goal.returns-clause-told
 returns-clause-told g c = elim c.match-bytes_of.branch [
   | in-Ok w ↦
-      rw w.diagnostics-is (told_in g.E.Paper.page w.show_first-status.result c.args.diagnostics.now
-      w.show_first-status.new.diagnostics (Shows c.args.word.now) (λ done. record {
-        bytes = c.bytes_of.new.room.items;
+      let bytes = c.bytes_of.new.room.items in
+      let room = vec_capacity c.args.room.now in
+      let word = c.args.word.now in
+      let told = rw w.as_slice.ensures.value at w.show_first-status.ensures.told in
+      rw w.diagnostics-is (told_in g.E.Paper.page (WordText word room) w.show_first-status.result
+      c.args.diagnostics.now w.show_first-status.new.diagnostics (Shows word) (λ done. record {
+        bytes = bytes;
         written = w.in-Ok.ensures.found;
         sound = subst IsSound w.as_slice.ensures.value (w.show_first-status.ensures.done.0 done);
-      }) w.show_first-status.ensures.told)
-  | in-Err w ↦ let line = w.show_fault-status.ensures.told in rw w.diagnostics-is (inr (line.0, None, line.1))
+      }) (told_behind g.E.Paper.page [] (BytesText bytes) (WordText word room) w.show_first-status.result
+      c.args.diagnostics.now w.show_first-status.new.diagnostics
+      (λ text is. Spelled bytes text w.in-Ok.ensures.found is) told))
+  | in-Err w ↦
+      let fault = w.in-Err.fault in
+      rw w.diagnostics-is (inr (fault_told g.E.Paper.page (WordText c.args.word.now (vec_capacity c.args.room.now)) fault
+      c.args.diagnostics.now w.show_fault-status.new.diagnostics
+      (fault_text c.args.word.now (vec_capacity c.args.room.now) fault
+      (λ e. c.bytes_of.ensures.fault (w.in-Err.is ∙ ap Err e))
+      (λ e. c.bytes_of.ensures.memory (w.in-Err.is ∙ ap Err e))) w.show_fault-status.ensures.told))
 ]
 
 pub returns-clause-silent : goal.returns-clause-silent

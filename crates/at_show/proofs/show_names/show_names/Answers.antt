@@ -1,7 +1,8 @@
+use Rattle.std.proofs.Common.{subst, sym}
 use Rattle.at_nbp.specs.Fault.{number_of}
 use Rattle.at_nbp.specs.Packets.{packet_content}
 use Rattle.at_print.specs.NameLines.{names_lines}
-use Rattle.at_show.specs.Texts.{refusal_line, Named, Misnamed}
+use Rattle.at_show.specs.Texts.{NamesText, refusal_line, Named, Misnamed}
 use Rattle.at_show.proofs.ShownLemmas.{tells_why}
 use Rattle.at_show.proofs.show_names.show_names.Goals as goal
 
@@ -22,5 +23,7 @@ returns-in-Err-clause-printed g c = (
 
 pub returns-in-Err-clause-told : goal.returns-in-Err-clause-told
 returns-in-Err-clause-told g c =
-    tells_why g.E.Paper.page c.show_refusal.result c.number.result c.args.diagnostics.now c.show_refusal.new.diagnostics
-    c.show_refusal.ensures.failed c.show_refusal.ensures.told
+    tells_why g.E.Paper.page (NamesText c.args.bytes.now) c.show_refusal.result c.number.result c.args.diagnostics.now
+    c.show_refusal.new.diagnostics c.show_refusal.ensures.failed
+    (subst (λ n. NamesText c.args.bytes.now (refusal_line n)) (sym c.number.ensures)
+    (Misnamed c.in-Err.fault c.in-Err.ensures.fault)) c.show_refusal.ensures.told

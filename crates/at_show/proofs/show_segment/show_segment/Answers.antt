@@ -1,7 +1,8 @@
+use Rattle.std.proofs.Common.{subst, sym}
 use Rattle.at_adsp_frame.specs.Fault.{number_of}
 use Rattle.at_adsp_frame.specs.Segments.{content}
 use Rattle.at_print.specs.SegmentLines.{segment_line}
-use Rattle.at_show.specs.Texts.{refusal_line, Parsed, Unparsed}
+use Rattle.at_show.specs.Texts.{SegmentText, refusal_line, Parsed, Unparsed}
 use Rattle.at_show.proofs.ShownLemmas.{tells_why}
 use Rattle.at_show.proofs.show_segment.show_segment.Goals as goal
 
@@ -21,5 +22,7 @@ returns-in-Err-clause-printed g c = (
 
 pub returns-in-Err-clause-told : goal.returns-in-Err-clause-told
 returns-in-Err-clause-told g c =
-    tells_why g.E.Paper.page c.show_refusal.result c.number.result c.args.diagnostics.now c.show_refusal.new.diagnostics
-    c.show_refusal.ensures.failed c.show_refusal.ensures.told
+    tells_why g.E.Paper.page (SegmentText c.args.bytes.now) c.show_refusal.result c.number.result c.args.diagnostics.now
+    c.show_refusal.new.diagnostics c.show_refusal.ensures.failed
+    (subst (λ n. SegmentText c.args.bytes.now (refusal_line n)) (sym c.number.ensures)
+    (Unparsed c.in-Err.fault c.in-Err.ensures.fault)) c.show_refusal.ensures.told

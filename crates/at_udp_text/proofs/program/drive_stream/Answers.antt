@@ -12,7 +12,7 @@ returns-in-Ok-clause-ended g c =
       subst (λ text. DrivesText g.row.A.Denot g.S.Socket.binds (Sends g.S.Socket.sends)
           (Receives g.S.Socket.receives) text g.W.Paper.page g.E.Paper.page c.drive_text.result c.args.printer.now
           c.drive_text.new.printer c.args.diagnostics.now c.drive_text.new.diagnostics) c.as_slice.ensures.value
-          c.drive_text.ensures,
+          c.drive_text.ensures.driven,
     )
 
 pub returns-in-Err-clause-too_long : goal.returns-in-Err-clause-too_long

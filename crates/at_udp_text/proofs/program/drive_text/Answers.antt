@@ -5,8 +5,8 @@ use Rattle.at_udp.specs.Sockets.{Receives, Sends}
 use Rattle.at_udp_text.specs.Ends.{DrivesNodes}
 use Rattle.at_udp_text.proofs.program.drive_text.Goals as goal
 
-pub returns-in-Ok : goal.returns-in-Ok
-returns-in-Ok g c =
+pub returns-in-Ok-clause-driven : goal.returns-in-Ok-clause-driven
+returns-in-Ok-clause-driven g c =
     let head = c.in-Ok.head in
     inr (
       head.setup,
@@ -16,5 +16,5 @@ returns-in-Ok g c =
       subst (λ text. DrivesNodes g.S.Socket.binds (Sends g.S.Socket.sends) (Receives g.S.Socket.receives) head.setup
           head.port (Some (lines_in text)) false g.W.Paper.page g.E.Paper.page c.drive_nodes.result
           c.args.printer.now c.drive_nodes.new.printer c.args.diagnostics.now c.drive_nodes.new.diagnostics)
-          c.of-lines.ensures c.drive_nodes.ensures,
+          c.of-lines.ensures c.drive_nodes.ensures.driven,
     )

@@ -1,8 +1,8 @@
 use Rattle.at_capture.proofs.CaptureLemmas.{tells_capture, told_of}
 use Rattle.at_capture.proofs.capture_printer.CapturePrinter.print.Goals as goal
 
-pub returns : goal.returns
-returns g c =
+pub returns-clause-told : goal.returns-clause-told
+returns-clause-told g c =
     let page = g.W.Paper.page in
     let heard = g.E.Paper.page in
     let known = g.R.Read.remaining c.args.reader.now in

@@ -1,7 +1,7 @@
 use Rattle.std.proofs.Common.{◌≡◌, ◌≢◌, ◌⊎◌, ℕ, List, Some, ◌∙◌, inl, inr, sym, subst}
 use Rattle.std.specs.Prelude.{◌↔◌}
 use Rattle.at_diagnostics.specs.Diagnostics.{HasTold, file_of, printer_of}
-use Rattle.at_diagnostics.specs.Lines.{refusal_told}
+use Rattle.at_diagnostics.specs.Lines.{IsOneLine, refusal_told}
 use Rattle.at_diagnostics.specs.declared.diagnostics.Diagnostics.{Diagnostics}
 use Rattle.at_event.specs.declared.report.Report.{Report}
 use Rattle.at_event.specs.declared.report.Report.TheVariants.{Refused}
@@ -32,12 +32,12 @@ module _ {A W : Type 0} (page : W → Page) (r : Report A) (m at line : ℕ) (ol
   once h n other told = h (subst (HasTold old) (same_number n other) told)
 
   printed : (¬ HasTold old m → (why : Reason) → number_of why ≡ Some m → (reason : List ℕ)
-      × Prints page (printer_of old) (printer_of new) (refusal_told (file_of old) m at line reason))
+      × IsOneLine reason × Prints page (printer_of old) (printer_of new) (refusal_told (file_of old) m at line reason))
       → (n : ℕ) → r ≡ Refused n → ¬ HasTold old n → (why : Reason) → number_of why ≡ Some n → (reason : List ℕ)
-      × Prints page (printer_of old) (printer_of new) (refusal_told (file_of old) n at line reason)
+      × IsOneLine reason × Prints page (printer_of old) (printer_of new) (refusal_told (file_of old) n at line reason)
   printed h n other fresh why known =
       subst (λ k. ¬ HasTold old k → number_of why ≡ Some k → (reason : List ℕ)
-      × Prints page (printer_of old) (printer_of new) (refusal_told (file_of old) k at line reason))
+      × IsOneLine reason × Prints page (printer_of old) (printer_of new) (refusal_told (file_of old) k at line reason))
       (sym (same_number n other)) (λ first is_known. h first why is_known) fresh known
 
   unknown : (((why : Reason) → number_of why ≢ Some m) → printer_of new ≡ printer_of old) → (n : ℕ)
