@@ -40,7 +40,7 @@ CASES = load()
 def is_for_program(line):
     """Whether the program reads a command line: it has a command of it, and a word more."""
     words = line.split()
-    return len(words) > 1 and words[0] in ("play", "udp", "show", "capture")
+    return len(words) > 1 and words[0] in ("play", "record", "udp", "show", "capture")
 
 
 class Script(unittest.TestCase):
@@ -108,7 +108,7 @@ class Script(unittest.TestCase):
 
     def test_the_head_of_the_script_names_its_commands(self):
         head = re.findall(r"(?m)^#   \./atnode (\w+)", (TOP / "atnode").read_text())
-        self.assertEqual(head, ["play", "udp", "show", "capture", *COMMANDS])
+        self.assertEqual(head, ["play", "record", "udp", "show", "capture", *COMMANDS])
 
 
 if __name__ == "__main__":

@@ -18,9 +18,9 @@ class Layer(NamedTuple):
 # Rows of layers that are side by side, the highest first. A crate uses only crates of its own layer
 # and of lower rows.
 ROWS = [
-    [Layer("program", "atnode play, udp, show, capture", "atnode")],
+    [Layer("program", "atnode play, record, udp, show, capture", "atnode")],
     [
-        Layer("play", "plays a schedule", "at_play"),
+        Layer("play", "plays a schedule", "at_play at_record"),
         Layer("drive", "nodes over a cable or UDP", "at_drive at_drive_lines at_drive_text at_udp_text"),
         Layer("C", "a node in a C program", "raw_box at_held at_c"),
     ],
@@ -30,7 +30,7 @@ ROWS = [
             "text",
             "schedules in, reports out",
             "at_words at_faults at_call_words at_setup_lines at_schedule"
-            " at_print at_diagnostics at_show at_capture",
+            " at_print at_diagnostics at_show at_capture at_recording",
         ),
     ],
     [

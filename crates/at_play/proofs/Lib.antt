@@ -1,5 +1,5 @@
-mod LineLemmas
+pub mod LineLemmas
 mod ReportLemmas
 mod SentLemmas
-mod TextLines
-mod ToldLemmas
+pub mod TextLines
+pub mod ToldLemmas

@@ -8,6 +8,8 @@ use std::alloc::{AllocError, Global};
 pub enum Request<'a> {
     /// To play this file, or the standard input for `-`.
     Play(&'a str),
+    /// To play this file, or the standard input for `-`, and to write a capture of what it sends.
+    Record(&'a str),
     /// To drive this file's nodes over sockets, or those of the standard input for `-`.
     Udp(&'a str),
     /// To show the datagram that this word spells in hexadecimal digits.
@@ -38,6 +40,7 @@ fn asked_by<'a>(alloc: Global, words: &'a [String]) -> Result<Option<Request<'a>
 fn request_in<'a>(matches: &ArgMatches<'a>) -> Option<Request<'a>> {
     match matches.subcommand()? {
         ("play", play) => play.get_str("FILE").map(Request::Play),
+        ("record", record) => record.get_str("FILE").map(Request::Record),
         ("udp", udp) => udp.get_str("FILE").map(Request::Udp),
         ("capture", capture) => capture.get_str("FILE").map(Request::Capture),
         (_, show) => show.get_str("HEX").map(Request::Show),
@@ -45,8 +48,9 @@ fn request_in<'a>(matches: &ArgMatches<'a>) -> Option<Request<'a>> {
 }
 
 // The subcommands, each with the name of its one word.
-const SUBCOMMANDS: [(&str, &str); 4] = [
+const SUBCOMMANDS: [(&str, &str); 5] = [
     ("play", "FILE"),
+    ("record", "FILE"),
     ("udp", "FILE"),
     ("show", "HEX"),
     ("capture", "FILE"),

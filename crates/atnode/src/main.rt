@@ -1,9 +1,10 @@
-//! Plays schedules of AppleTalk nodes on one cable, drives nodes over UDP, and shows datagrams and captures:
-//! `atnode play FILE`, `atnode udp FILE`, `atnode show HEX`, `atnode capture FILE`.
+//! Plays and records schedules of AppleTalk nodes on one cable, drives nodes over UDP, and shows datagrams and
+//! captures: `atnode play FILE`, `atnode record FILE`, `atnode udp FILE`, `atnode show HEX`, `atnode capture FILE`.
 #![tactic(auto)]
 
 mod capture;
 mod command_line;
+mod record;
 mod telling;
 mod udp;
 
@@ -13,6 +14,7 @@ use at_print::{Printer, Status};
 use at_show::show_text;
 use capture::capture_named;
 use command_line::{Request, request_of};
+use record::record_named;
 use std::env::Env;
 use std::io::{BufWriter, ErrorKind, Read, Seek, Write};
 use std::net::Net;
@@ -46,6 +48,7 @@ fn run<R: Env + Files + Input + Print + Net + AllocGlobal, E: Write>(
     };
     match request_of(rt.alloc(), words.as_slice()) {
         Request::Play(file) => play_named(rt, file, errors),
+        Request::Record(file) => Ok(record_named(rt, file, errors)),
         Request::Udp(file) => udp_named(rt, file, errors),
         Request::Show(word) => show_word(rt, word, errors),
         Request::Capture(file) => capture_named(rt, file, errors),

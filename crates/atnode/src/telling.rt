@@ -8,12 +8,13 @@ const PAGE: &str =
     "atnode 0.1 plays schedules of AppleTalk nodes on one cable, drives nodes over UDP, and shows datagrams.
 
   atnode play FILE      plays a schedule, and prints what each event comes to
+  atnode record FILE    plays a schedule, and writes a capture of all that is sent
   atnode udp FILE       drives the nodes of a schedule over UDP on this machine, and prints the same
   atnode show HEX       shows a datagram, or tells the first rule that it breaks
   atnode capture FILE   shows each frame of a capture, and the datagram that it carries
 
 FILE is a schedule as text, one line for each event; `-` is standard input.
-For `capture` FILE is a classic pcap file, as tcpdump writes it.
+For `capture` FILE is a classic pcap file, as tcpdump writes it, or `record`.
 HEX is the bytes of a datagram as one word of hexadecimal digits, two for each byte; `-` is no bytes.
 
 For example:

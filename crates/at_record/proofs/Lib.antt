@@ -1,0 +1,2 @@
+mod PlayedLemmas
+mod SentLemmas

@@ -1,0 +1,69 @@
+use Rattle.std.proofs.Common.{◌≡◌, Err, Some, false, refl, ap, subst, sym, ◌∙◌}
+use Rattle.std.proofs.lemmas.Result.{err_from_is_err_and}
+use Rattle.at_setup.specs.declared.setup.Setup.{Setup}
+use Rattle.at_world.specs.Plays.{opening_world}
+use Rattle.at_play.proofs.LineLemmas.{HasRead, none_read, reads_all, reads_so_far}
+use Rattle.at_play.proofs.TextLines.{none_left, stops_text}
+use Rattle.at_play.proofs.ToldLemmas.{fresh_at, line_played}
+use Rattle.at_play.specs.Told.{StopsLine, TellsLine}
+use Rattle.at_record.specs.Ends.{PlaysEvents}
+use Rattle.at_record.specs.Unseen.{unseen, unseen_page}
+use Rattle.at_record.proofs.PlayedLemmas.{Unseen, opened, played_all, played_some}
+use Rattle.at_record.proofs.playing.play_in.Given.{Over}
+use Rattle.at_record.proofs.playing.play_in.Goals.{In_ok-play_line}
+use Rattle.at_schedule.specs.Schedules.{is_event_line}
+use Rattle.at_record.proofs.playing.play_in.Goals as goal
+
+pub loop-rest-init : goal.loop-rest-init
+loop-rest-init g c = λ setup is net. (
+  opened g.row.A.Denot g.E.Paper.page setup c.args.world.now c.args.diagnostics.now is,
+  none_read g.row.A.Denot (Some c.args.text.now) (Some c.args.text.now) c.new-draft.result refl c.new-draft.ensures,
+)
+
+-- the event of the line follows those before it
+played_on : (g : Over) (c : In_ok-play_line g) → (setup : Setup g.row.A.Denot)
+    → c.args.world.now ≡ opening_world setup → c.args.net ≡ setup.net
+    → (so_far : Unseen g.row.A.Denot g.E.Paper.page setup c.play_line.new.world c.args.diagnostics.now
+    c.play_line.new.diagnostics)
+    × HasRead g.row.A.Denot (Some c.args.text.now) (Some c.cut_line.result.1.now) (so_far.0).events
+    c.play_line.new.draft
+played_on g c = λ setup is net.
+    let before = c.loop-rest.invariant setup is net in
+    let line = c.cut_line.result.0.now in
+    line_played g.row.A.Denot unseen_page g.E.Paper.page setup c.saturating_add-number.result line
+    (Some c.args.text.now) (Some c.loop-rest.rest.now) (Some c.cut_line.result.1.now) c.loop-rest.draft
+    c.play_line.new.draft c.loop-rest.world c.play_line.new.world unseen unseen unseen c.args.diagnostics.now
+    c.loop-rest.diagnostics c.play_line.new.diagnostics before.0 before.1 c.cut_line.ensures.cut
+    c.in_ok-play_line.ensures.taken
+    (subst (λ n. TellsLine g.row.A.Denot unseen_page g.E.Paper.page n c.saturating_add-number.result
+    (is_event_line line) line c.loop-rest.world c.play_line.new.world unseen unseen c.loop-rest.diagnostics
+    c.play_line.new.diagnostics) net c.in_ok-play_line.ensures.told)
+
+pub loop-rest-preserved : goal.loop-rest-preserved
+loop-rest-preserved g c = played_on g (goal.at.loop-rest-preserved g c).In_ok-play_line
+
+pub returns : goal.returns
+returns g c = λ setup is net.
+    let before = c.loop-rest.invariant setup is net in
+    let end = none_left c.loop-rest.rest.now (sym c.is_empty.ensures ∙ c.loop-rest-test.false) in
+    played_all g.row.A.Denot g.E.Paper.page setup (Some c.args.text.now) c.loop-rest.world c.args.diagnostics.now
+    c.loop-rest.diagnostics before.0
+    (reads_all g.row.A.Denot (Some c.args.text.now) (Some c.loop-rest.rest.now) ((before.0).0).events _ before.1 end)
+
+pub returns-in_err-play_line : goal.returns-in_err-play_line
+returns-in_err-play_line g c = λ setup is net.
+    let A = g.row.A.Denot in
+    let text = Some c.args.text.now in
+    let p = err_from_is_err_and c.from_residual.result c.from_residual.ensures.1 in
+    let before = c.loop-rest.invariant setup is net in
+    let stopped = c.in_err-play_line.ensures.stopped in
+    let fresh = fresh_at A unseen_page g.E.Paper.page setup c.loop-rest.world unseen unseen c.args.diagnostics.now
+    c.loop-rest.diagnostics before.0 in
+    let stops = stops_text A c.requires.0 c.args.text.now c.loop-rest.rest.now c.cut_line.result.1.now
+    ((before.0).0).events c.loop-rest.draft c.cut_line.result.0.now c.requires.1 before.1 c.cut_line.ensures.cut
+    c.setup_comes_first.ensures c.loop-rest.world _ fresh stopped.2 in
+    subst (λ r. PlaysEvents A g.E.Paper.page text setup r c.play_line.new.world.sent c.args.diagnostics.now
+    c.play_line.new.diagnostics) (sym (p.1 ∙ ap Err p.2))
+    (played_some A g.E.Paper.page setup text c.loop-rest.world c.play_line.new.world.sent c.args.diagnostics.now
+    c.loop-rest.diagnostics c.play_line.new.diagnostics _ stopped.0 stopped.1 before.0 stops
+    (reads_so_far A text (Some c.loop-rest.rest.now) ((before.0).0).events _ before.1))

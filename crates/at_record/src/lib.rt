@@ -1,0 +1,8 @@
+//! The recording of a schedule: it is played, and a capture of all that its events sent is written.
+#![tactic(auto)]
+
+mod playing;
+mod program;
+mod records;
+
+pub use program::record_text;
