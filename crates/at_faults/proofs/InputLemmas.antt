@@ -14,20 +14,20 @@ all_read first last end bytes part n before read none over =
     (Consumes-trans first last end bytes (take n part) before read) over same
 
 -- if more was read than may be, there was more than may be
-pub much_read : (first last : Option (List ℕ)) (bytes : List ℕ) → Consumes first last bytes → 67108864 < length bytes
-    → IfSome first (λ all. 67108864 < length all)
-much_read None last bytes read much = tt
-much_read (Some all) None bytes read much = absurd read
-much_read (Some all) (Some left) bytes read much =
+pub much_read : (first last : Option (List ℕ)) (bytes : List ℕ) (most : ℕ) → Consumes first last bytes
+    → most < length bytes → IfSome first (λ all. most < length all)
+much_read None last bytes most read much = tt
+much_read (Some all) None bytes most read much = absurd read
+much_read (Some all) (Some left) bytes most read much =
     let same : length all ≡ length (bytes ++ left) = rw read refl in
     omega (arith, much, same, length-append bytes left)
 
 -- a read of more than is left of the most that may be read
-pub over_read : (first last end : Option (List ℕ)) (bytes part : List ℕ) (n : ℕ) → Consumes first last bytes
-    → Consumes last end (take n part) → n ≤ length part → 67108864 < length bytes + n
-    → IfSome first (λ all. 67108864 < length all)
-over_read first last end bytes part n before read fits much =
-    much_read first end (bytes ++ take n part) (Consumes-trans first last end bytes (take n part) before read)
+pub over_read : (first last end : Option (List ℕ)) (bytes part : List ℕ) (n most : ℕ) → Consumes first last bytes
+    → Consumes last end (take n part) → n ≤ length part → most < length bytes + n
+    → IfSome first (λ all. most < length all)
+over_read first last end bytes part n most before read fits much =
+    much_read first end (bytes ++ take n part) most (Consumes-trans first last end bytes (take n part) before read)
     (omega (arith, much, length-append bytes (take n part), length-take-le n part fits))
 
 -- so many bytes were read that this much of the most that may be read is left

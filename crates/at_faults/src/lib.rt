@@ -6,5 +6,5 @@ mod input;
 mod rule;
 
 pub use fault::{Fault, LineFault, Unreadable};
-pub use input::{MAX_LEN, check_length, read_bytes};
+pub use input::{MAX_LEN, check_length, read_at_most, read_bytes};
 pub use rule::Rule;

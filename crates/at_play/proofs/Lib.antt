@@ -1,3 +1,5 @@
+mod EventLists
+mod HeldLemmas
 pub mod LineLemmas
 mod ReportLemmas
 mod SentLemmas

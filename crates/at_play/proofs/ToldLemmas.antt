@@ -196,7 +196,7 @@ module _ (A : Type 0) {W E : Type 0} (page : W → Page) (heard : E → Page) (s
       ∙ not_failed A (opening_world setup) p.events p.reports p.world p.text refl p.told
 
   -- one event more
-  told_on : (number : ℕ) (w w' : WorldState) (a b c : Printer W) (x y z : Diagnostics E) (e : Event A)
+  pub told_on : (number : ℕ) (w w' : WorldState) (a b c : Printer W) (x y z : Diagnostics E) (e : Event A)
       (before : Sofar A page heard setup w a b x y) → IsEventHere setup.net e
       → Tells page heard number w e w' b c y z
       → (after : Sofar A page heard setup w' a c x z) × ((after.0).events ≡ (before.0).events ++ e ∷ [])

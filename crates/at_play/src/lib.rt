@@ -3,6 +3,8 @@
 
 mod ending;
 mod playing;
+mod playing_events;
+mod playing_held;
 mod playing_text;
 mod program;
 mod sent;

@@ -146,7 +146,7 @@ pub(crate) fn play_line<A: Allocator + Copy, W: Paper, E: Paper>(
     }
 }
 
-fn play_event<A: Allocator + Copy, W: Paper, E: Paper>(
+pub(crate) fn play_event<A: Allocator + Copy, W: Paper, E: Paper>(
     world: &mut World<A>,
     event: &Event<A>,
     line: usize,

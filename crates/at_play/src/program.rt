@@ -12,9 +12,9 @@ ghost use Rattle.at_print.specs.Printers.{HasFailed, IsSettled, Prints};
 
 use crate::ending::Ending;
 use crate::playing::play_lines;
-use crate::playing_text::play_bytes;
+use crate::playing_held::{SMALL, play_held};
 use at_diagnostics::{Diagnostics, write_stop};
-use at_faults::{Fault, MAX_LEN, Unreadable, check_length, read_bytes};
+use at_faults::{Fault, MAX_LEN, Unreadable, check_length, read_at_most, read_bytes};
 use at_print::{Paper, Printer, Status};
 use at_schedule::read_setup;
 use std::alloc::Allocator;
@@ -40,9 +40,9 @@ pub fn play_text<A: Allocator + Copy, R: Read, W: Paper, E: Paper>(
     end(played, printer, diagnostics)
 }
 
-/// Plays a schedule that can be read again from its beginning, as a file can: nothing of it is kept but its setup. It
-/// is read for its length, then for its faults, and last to be played. One that changes meanwhile is told as
-/// unreadable.
+/// Plays a schedule that can be read again from its beginning, as a file can. It is read for its length first. A small
+/// one is kept then, and read once more. Nothing of a larger one is kept but its setup: it is read for its faults, and
+/// last to be played. One that changes meanwhile is reported as unreadable.
 pub fn play_file<A: Allocator + Copy, F: Read + Seek, W: Paper, E: Paper>(
     alloc: A,
     file: &mut F,
@@ -93,8 +93,7 @@ fn play_stream<A: Allocator + Copy, R: Read, W: Paper, E: Paper>(
     ensures unwritten { IsUnwritten result → HasFailed printer.new }
 {
     let bytes = read_bytes(alloc, reader)?;
-    let setup = read_setup(alloc, &mut bytes.as_slice())?;
-    play_bytes(alloc, &setup, bytes.as_slice(), printer, diagnostics)
+    play_held(alloc, bytes.as_slice(), printer, diagnostics)
 }
 
 fn play_again<A: Allocator + Copy, F: Read + Seek, W: Paper, E: Paper>(
@@ -111,6 +110,30 @@ fn play_again<A: Allocator + Copy, F: Read + Seek, W: Paper, E: Paper>(
     ensures unwritten { IsUnwritten result → HasFailed printer.new }
 {
     check_file(file)?;
+    file.rewind()?;
+    match read_at_most(alloc, file, SMALL) {
+        Ok(bytes) => play_held(alloc, bytes.as_slice(), printer, diagnostics),
+        Err(fault) => {
+            if fault == Fault::Unreadable(Unreadable::TooLong) {
+                return play_twice_read(alloc, file, printer, diagnostics);
+            }
+            Err(Ending::from(fault))
+        }
+    }
+}
+
+// Plays a file of which nothing is kept but its setup.
+fn play_twice_read<A: Allocator + Copy, F: Read + Seek, W: Paper, E: Paper>(
+    alloc: A,
+    file: &mut F,
+    printer: &mut Printer<W>,
+    diagnostics: &mut Diagnostics<'_, E>,
+) -> Result<(), Ending>
+    ensures told { (text : List ℕ)
+        × FileText A F.remaining F.stream_position F.stream_bytes E.page diagnostics.old diagnostics.new result text
+        × Prints W.page printer.old printer.new text }
+    ensures unwritten { IsUnwritten result → HasFailed printer.new }
+{
     file.rewind()?;
     let setup = read_setup(alloc, file)?;
     file.rewind()?;

@@ -1,6 +1,6 @@
 -- With which lines a schedule begins.
 use Rattle.std.proofs.Common.{◌≡◌, ℕ, Bool, true, false, List, [], ◌∷◌, ◌++◌, map, inl, inr, refl, sym, subst, ◌∙◌}
-use Rattle.std.proofs.Common.{append-nil}
+use Rattle.std.proofs.Common.{◌⊎◌, ◌<◌, append-nil, arith}
 use Rattle.std.specs.Prelude.{codes}
 use Rattle.at_setup_lines.specs.Drafts.{Draft, has_events}
 use Rattle.at_setup_lines.specs.Endings.{CanEnd, IsEnding, router_line}
@@ -51,6 +51,10 @@ module _ (A : Type 0) (lines : List (List ℕ)) (d : Draft) (more : List (List �
   ended (inr (inr (k, few, router))) over whole read =
       with_line A lines (router_line k) d s refl refl (before_events (has_events d) d more [] _ refl over router)
       (subst (λ m. IsSetup (setup_words lines ++ map words_of m) s) router whole) read
+
+-- a router may have the number 254
+pub any_router : {P : Type 0} → (254 < 255) × ((15 < 254) ⊎ P)
+any_router = (omega arith, inl (omega arith))
 
 -- a schedule begins with the lines that were read
 pub begin_read : (A : Type 0) (lines : List (List ℕ)) (d : Draft) → CanEnd A 254 d (setup_words lines)

@@ -6,3 +6,4 @@ mod HeadLemmas
 mod LineLemmas
 mod OrderLemmas
 mod ReadLemmas
+mod WholeLemmas

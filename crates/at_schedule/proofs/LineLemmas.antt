@@ -141,7 +141,7 @@ none_held A (Some all) (Some rest) read d number rule is left end so_far begins 
           never (setup_words read) so_far.0 s (subst (λ l. IsSetup (setup_words l) s) whole setup);
     })
 
-none_begins : (A : Type 0) (first now : Option (List ℕ)) (read : List (List ℕ)) (line : List ℕ) (number : ℕ)
+pub none_begins : (A : Type 0) (first now : Option (List ℕ)) (read : List (List ℕ)) (line : List ℕ) (number : ℕ)
     (rule : Rule) → number ≡ number_after read → Left first now (read ++ line ∷ []) → BeginSchedule A read
     → ¬ BeginSchedule A (read ++ line ∷ []) → IsLineFault A first (fault.Line number rule)
 none_begins A None now read line number rule is left begins never = tt

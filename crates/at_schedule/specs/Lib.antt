@@ -1,3 +1,4 @@
 pub mod Drafts
 pub mod Says
 pub mod Schedules
+pub mod Wholes

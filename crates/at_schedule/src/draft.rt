@@ -1,6 +1,6 @@
 //! A schedule of which some lines are read.
 ghost use Rattle.std.specs.Prelude.{◌≡◌, ◌≢◌, ◌⊎◌, ◌↔◌, ◌++◌, ◌∷◌, [], List, ℕ, false, true, Err, Some, IfOk, IfSome};
-ghost use Rattle.std.specs.Prelude.{OnErr, OnOk};
+ghost use Rattle.std.specs.Prelude.{IsSome, OnErr, OnOk};
 ghost use Rattle.at_call_words.specs.Readings.{IfUnlawful, IsFoundInMemory};
 ghost use Rattle.at_setup_lines.specs.Drafts.{IsDraft, IsNoSetup, Refuses, Takes, has_events};
 ghost use Rattle.at_setup_lines.specs.SetupLines.{IsSetup};
@@ -45,6 +45,13 @@ impl<A: Allocator + Copy> Draft<A> {
         }
     }
 
+    /// The number of the network that the lines so far say; 0 if they say none yet.
+    pub fn net(&self) -> u16
+        ensures { result ≡ self.now.net }
+    {
+        self.setup.net()
+    }
+
     /// Takes one line more, and gives its event if it has one. A requester that it names is on network `net`.
     pub fn take_line(&mut self, net: u16, line: &[u8]) -> Result<Option<Event<A>>, LineFault>
         ensures reads { IfOk result (Reads line.now) }
@@ -54,6 +61,9 @@ impl<A: Allocator + Copy> Draft<A> {
         ensures kept { OnErr result (self.new ≡ self.old) }
         ensures only { IfUnlawful result ((lines : List (List ℕ)) → IsRead A lines self.old
             → ¬ BeginSchedule A (lines ++ line.now ∷ [])) }
+        // The network is set once events come.
+        ensures net { IfOk result (λ found. (has_events self.old ≡ true) ⊎ IsSome found
+            → self.new.net ≡ self.old.net) }
         // A delivery, a timer, and a line that says nothing take none.
         ensures memory { result ≡ Err LineFault.NoMemory → IsKept line.now }
     {
@@ -89,6 +99,7 @@ impl<A: Allocator + Copy> Draft<A> {
         ensures kept { OnErr result (self.new ≡ self.old) }
         ensures only { IfUnlawful result
             (((e : Happening A) → ¬ SaysEvent word.now (words_of words.entry.rest.now) e) ⊎ IsNoSetup A self.old) }
+        ensures net { self.new.net ≡ self.old.net }
         ensures memory { result ≡ Err LineFault.NoMemory → is_kept_word word.now ≡ true }
     {
         let found = event_of(self.alloc, net, word, words);
@@ -104,6 +115,7 @@ impl<A: Allocator + Copy> Draft<A> {
             × ((lines : List (List (List ℕ))) → IsDraft lines self.old → IsDraft lines self.new)) }
         ensures kept { OnErr result (self.new ≡ self.old) }
         ensures only { IfUnlawful result (IsNoSetup A self.old) }
+        ensures net { self.new.net ≡ self.old.net }
         ensures memory { result ≢ Err LineFault.NoMemory }
     {
         if let Err(rule) = self.setup.take_event() {
@@ -125,6 +137,7 @@ impl<A: Allocator + Copy> Draft<A> {
     /// The setup, if the lines so far are a schedule, or what is missing.
     pub(crate) fn finish(self) -> Result<Setup<A>, Rule>
         ensures said { IfOk result (λ s. (lines : List (List (List ℕ))) → IsDraft lines self → IsSetup lines s) }
+        ensures net { IfOk result (λ s. s.net ≡ self.net) }
         ensures only { OnErr result (IsNoSetup A self) }
     {
         self.setup.finish()

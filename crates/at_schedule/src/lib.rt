@@ -7,9 +7,11 @@ mod event_line;
 pub mod laws;
 mod reading;
 mod schedule;
+mod whole;
 
 pub use at_faults::{Fault, LineFault, Rule, Unreadable};
 pub use cutting::cut_line;
 pub use draft::{Draft, is_passed_over};
 pub use reading::read_line;
 pub use schedule::{fault_at, read_setup};
+pub use whole::{NumberedEvent, Schedule, read_schedule};

@@ -44,8 +44,9 @@ pub fn read_setup<A: Allocator + Copy, R: Read>(alloc: A, reader: &mut R) -> Res
 }
 
 // The setup of lines after which none comes, or what is missing at the line after the last.
-fn end_at<A: Allocator + Copy>(draft: Draft<A>, number: usize) -> Result<Setup<A>, Fault>
+pub(crate) fn end_at<A: Allocator + Copy>(draft: Draft<A>, number: usize) -> Result<Setup<A>, Fault>
     ensures said { IfOk result (λ s. (lines : List (List (List ℕ))) → IsDraft lines draft → IsSetup lines s) }
+    ensures net { IfOk result (λ s. s.net ≡ draft.net) }
     ensures only { IfErr result (λ fault. IsNoSetup A draft × ((rule : Told) × (fault ≡ Fault.Line number rule))) }
 {
     match draft.finish() {

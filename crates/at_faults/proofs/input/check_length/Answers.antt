@@ -18,7 +18,7 @@ pub returns-in-Ok-clause-long : goal.returns-in-Ok-clause-long
 returns-in-Ok-clause-long g c said =
     let before = c.loop.invariant in
     let read = c.in-Ok.ensures in
-    over_read _ _ _ before.0 c.read.new.buf c.in-Ok.len before.2 read.bytes.0 read.bound.0
+    over_read _ _ _ before.0 c.read.new.buf c.in-Ok.len 67108864 before.2 read.bytes.0 read.bound.0
     (omega (arith, c.if-len-left.true, before.1))
 
 pub loop-preserved : goal.loop-preserved

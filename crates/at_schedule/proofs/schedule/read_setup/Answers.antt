@@ -1,13 +1,10 @@
-use Rattle.std.proofs.Common.{ℕ, List, [], ◌∷◌, ◌++◌, ◌<◌, ◌⊎◌, inl, Ok, ap, subst, ◌∙◌, arith}
+use Rattle.std.proofs.Common.{ℕ, List, [], ◌∷◌, ◌++◌, Ok, ap, subst, ◌∙◌}
 use Rattle.at_schedule.specs.Drafts.{BeginSchedule, IsRead}
 use Rattle.at_schedule.specs.Schedules.{setup_words}
-use Rattle.at_schedule.proofs.EndLemmas.{begin_read}
+use Rattle.at_schedule.proofs.EndLemmas.{any_router, begin_read}
 use Rattle.at_schedule.proofs.LineLemmas.{broken_of, left_more, line_refused, numbered_more}
 use Rattle.at_schedule.proofs.LineLemmas.{setup_held, setup_lawful, setup_missed, told_of}
 use Rattle.at_schedule.proofs.schedule.read_setup.Goals as goal
-
-any_router : {P : Type 0} → (254 < 255) × ((15 < 254) ⊎ P)
-any_router = (omega arith, inl (omega arith))
 
 pub loop-turn-preserved : goal.loop-turn-preserved
 loop-turn-preserved g c =

@@ -3,8 +3,8 @@ use Rattle.std.specs.Io.KnownBytes.{Consumes}
 use Rattle.std.proofs.KnownBytes.{Consumes-kept, Consumes-trans}
 use Rattle.std.proofs.lemmas.Grind.{common_steps}
 use Rattle.at_faults.proofs.InputLemmas.{all_read, over_read}
-use Rattle.at_faults.proofs.input.read_bytes.Goals as goal
-use Rattle.at_faults.proofs.input.read_bytes.Goals.{in-Ok-2+in_ok-extend_from_slice-in-Ok-2, in-Err}
+use Rattle.at_faults.proofs.input.read_at_most.Goals as goal
+use Rattle.at_faults.proofs.input.read_at_most.Goals.{in-Ok-2+in_ok-extend_from_slice-in-Ok-2, in-Err}
 
 pub returns-in-Ok-eq0-clause-whole : goal.returns-in-Ok-eq0-clause-whole
 returns-in-Ok-eq0-clause-whole g c =
@@ -16,8 +16,8 @@ returns-in-Ok-eq0-clause-whole g c =
 pub returns-in-Ok-clause-long : goal.returns-in-Ok-clause-long
 returns-in-Ok-clause-long g c said =
     let read = c.in-Ok.ensures in
-    over_read _ _ _ c.loop.bytes.items c.read.new.buf c.in-Ok.len c.loop.invariant.taken read.bytes.0 read.bound.0
-    (omega (arith, c.if-len.true, c.loop.invariant.fits, c.len.ensures))
+    over_read _ _ _ c.loop.bytes.items c.read.new.buf c.in-Ok.len c.args.most c.loop.invariant.taken read.bytes.0 read.bound.0
+    (omega (arith, c.if-len-most.true, c.loop.invariant.fits, c.len.ensures))
 
 pub loop-preserved : goal.loop-preserved
 loop-preserved g c = elim c.match-read.branch [
