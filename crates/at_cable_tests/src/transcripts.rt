@@ -1,5 +1,5 @@
 //! A play of a list of events, whose transcript is whole, or goes up to the first event that is refused.
-use at_event::Call;
+use at_event::{Call, ZoneCall};
 use at_print::{Printer, write_event};
 use at_schedule::read_setup;
 use at_setup::Setup;
@@ -34,7 +34,7 @@ const SETUP: &[u8] = b"net 10\nnode 1 router zone Lab\nnode 5 zone Lab\nzones La
 const EVENTS: [Event; 4] = [
     Event::Call {
         node: 5,
-        call: Call::Zones { which: Which::All },
+        call: Call::Zones(ZoneCall::Read { which: Which::All }),
     },
     Event::Deliver { which: 0, node: 1 },
     Event::Deliver { which: 1, node: 5 },

@@ -6,6 +6,11 @@ use Rattle.std.specs.Str.{bytes_eq}
 use Rattle.at_adsp_end.specs.declared.item.Item.{Item}
 use Rattle.at_event.specs.declared.event.Call.{Call}
 use Rattle.at_event.specs.declared.event.Call.TheVariants as call
+use Rattle.at_event.specs.declared.calls.NameCall.TheVariants as name
+use Rattle.at_event.specs.declared.calls.SessionCall.TheVariants as session
+use Rattle.at_event.specs.declared.calls.StreamCall.TheVariants as stream
+use Rattle.at_event.specs.declared.calls.TransactionCall.TheVariants as transaction
+use Rattle.at_event.specs.declared.calls.ZoneCall.TheVariants as zone
 use Rattle.at_zip.specs.declared.request.Which.TheVariants as which
 use Rattle.at_faults.specs.declared.fault.LineFault.{LineFault}
 use Rattle.at_faults.specs.declared.fault.LineFault.TheVariants.{NoMemory, Unlawful}
@@ -53,28 +58,31 @@ of_kind : (word known : List ℕ) (ws : List (List ℕ)) → word ≡ known → 
 of_kind word known ws is said = subst (λ w. SaidBy w ws) (sym is) said
 
 pub kinds : {A : Type 0} (word : List ℕ) (ws : List (List ℕ)) (c : Call A) → SaysPlain word ws c → SaidBy word ws
-kinds word ws (call.Zones which.All) (is, said) = of_kind word (codes "zones") ws is said
-kinds word ws (call.Zones which.Local) (is, said) = of_kind word (codes "localzones") ws is said
-kinds word ws (call.SetZones which.All names) (is, said) = of_kind word (codes "setzones") ws is (names, said)
-kinds word ws (call.SetZones which.Local names) (is, said) = of_kind word (codes "setlocal") ws is (names, said)
-kinds word ws (call.Ask node socket user bytes wanted once retries) (is, said) =
+kinds word ws (call.Zones (zone.Read which.All)) (is, said) = of_kind word (codes "zones") ws is said
+kinds word ws (call.Zones (zone.Read which.Local)) (is, said) = of_kind word (codes "localzones") ws is said
+kinds word ws (call.Zones (zone.Set which.All names)) (is, said) = of_kind word (codes "setzones") ws is (names, said)
+kinds word ws (call.Zones (zone.Set which.Local names)) (is, said) = of_kind word (codes "setlocal") ws is (names, said)
+kinds word ws (call.Transactions (transaction.Ask node socket user bytes wanted once retries)) (is, said) =
     of_kind word (codes "ask") ws is (node, socket, user, bytes, wanted, once, retries, said)
-kinds word ws (call.Answer key packets) said = absurd said
-kinds word ws (call.Pick zone) (is, said) = of_kind word (codes "pick") ws is (zone, said)
-kinds word ws (call.Find object kind place) (is, said) = of_kind word (codes "find") ws is (object, kind, place, said)
-kinds word ws (call.Claim object kind socket) (is, said) =
+kinds word ws (call.Transactions (transaction.Answer key packets)) said = absurd said
+kinds word ws (call.Session (session.Pick zone)) (is, said) = of_kind word (codes "pick") ws is (zone, said)
+kinds word ws (call.Names (name.Find object kind place)) (is, said) =
+    of_kind word (codes "find") ws is (object, kind, place, said)
+kinds word ws (call.Names (name.Claim object kind socket)) (is, said) =
     of_kind word (codes "claim") ws is (object, kind, socket, said)
-kinds word ws (call.Finish id) (is, said) = of_kind word (codes "finish") ws is (id, said)
-kinds word ws (call.Register object kind socket) (is, said) =
+kinds word ws (call.Names (name.Finish id)) (is, said) = of_kind word (codes "finish") ws is (id, said)
+kinds word ws (call.Names (name.Register object kind socket)) (is, said) =
     of_kind word (codes "register") ws is (object, kind, socket, said)
-kinds word ws (call.Unregister object kind) (is, said) = of_kind word (codes "unregister") ws is (object, kind, said)
-kinds word ws (call.Open index) (is, said) = of_kind word (codes "open") ws is (index, said)
-kinds word ws (call.Listen on) (is, said) = of_kind word (codes "listen") ws is (on, said)
-kinds word ws (call.Connect node socket) (is, said) = of_kind word (codes "connect") ws is (node, socket, said)
-kinds word ws (call.Write id items) (is, said) = of_kind word (codes "write") ws is (id, items, said)
-kinds word ws (call.Read id count) (is, said) = of_kind word (codes "read") ws is (id, count, said)
-kinds word ws (call.Reset id) (is, said) = of_kind word (codes "reset") ws is (id, said)
-kinds word ws (call.Close id) (is, said) = of_kind word (codes "close") ws is (id, said)
+kinds word ws (call.Names (name.Unregister object kind)) (is, said) =
+    of_kind word (codes "unregister") ws is (object, kind, said)
+kinds word ws (call.Streams (stream.Open index)) (is, said) = of_kind word (codes "open") ws is (index, said)
+kinds word ws (call.Streams (stream.Listen on)) (is, said) = of_kind word (codes "listen") ws is (on, said)
+kinds word ws (call.Streams (stream.Connect node socket)) (is, said) =
+    of_kind word (codes "connect") ws is (node, socket, said)
+kinds word ws (call.Streams (stream.Write id items)) (is, said) = of_kind word (codes "write") ws is (id, items, said)
+kinds word ws (call.Streams (stream.Read id count)) (is, said) = of_kind word (codes "read") ws is (id, count, said)
+kinds word ws (call.Streams (stream.Reset id)) (is, said) = of_kind word (codes "reset") ws is (id, said)
+kinds word ws (call.Streams (stream.Close id)) (is, said) = of_kind word (codes "close") ws is (id, said)
 
 -- a reader gives nothing, and the words say no call
 pub no_call : {A : Type 0} (o : Option (Call A)) (word : List ℕ) (ws : List (List ℕ)) → o ≡ None → ¬ SaidBy word ws

@@ -3,6 +3,7 @@ use Rattle.std.proofs.Common.{◌≡◌, ◌≢◌, ℕ, List, [], ◌∷◌, Ok
 use Rattle.std.specs.Prelude.{codes, IfOk}
 use Rattle.at_event.specs.declared.event.Call.{Call}
 use Rattle.at_event.specs.declared.event.Call.TheVariants as call
+use Rattle.at_event.specs.declared.calls.TransactionCall.TheVariants as transaction
 use Rattle.at_event.specs.declared.event.Timer.{Timer}
 use Rattle.at_event.specs.declared.event.Timer.TheVariants as timer
 use Rattle.at_atp_responder.specs.declared.reception.Key.{Key}
@@ -18,18 +19,19 @@ use Rattle.at_call_words.specs.Timers.{AreTimer, AreTimerBy, IsTimerHere, SaysPl
 
 plain_call : {A : Type 0} (Names : Naming) (word : List ℕ) (ws : List (List ℕ)) (c : Call A) → SaysPlain word ws c
     → SaysCall Names word ws c
-plain_call Names word ws (call.Answer key packets) said = absurd said
+plain_call Names word ws (call.Transactions (transaction.Answer key packets)) said = absurd said
 plain_call Names word ws other said = said
 
 called_plainly : {A : Type 0} (Names : Naming) (word : List ℕ) (ws : List (List ℕ)) (c : Call A)
     → word ≢ codes "answer" → SaysCall Names word ws c → SaysPlain word ws c
-called_plainly Names word ws (call.Answer key packets) unlike said = unlike said.0
+called_plainly Names word ws (call.Transactions (transaction.Answer key packets)) unlike said = unlike said.0
 called_plainly Names word ws other unlike said = said
 
 pub plain_said : {A : Type 0} (Names : Naming) (word : List ℕ) (ws : List (List ℕ)) (r : Result (Call A) LineFault)
     → word ≢ codes "answer" → IsFoundInMemory r (SaysPlain word ws) → IsFoundInMemory r (SaysCall Names word ws)
 plain_said Names word ws (Ok c) unlike said = plain_call Names word ws c said
-plain_said Names word ws (Err (Unlawful rule)) unlike never = λ c said. never c (called_plainly Names word ws c unlike said)
+plain_said Names word ws (Err (Unlawful rule)) unlike never =
+    λ c said. never c (called_plainly Names word ws c unlike said)
 plain_said Names word ws (Err NoMemory) unlike said = tt
 
 plain_timer : (Names : Naming) (word : List ℕ) (ws : List (List ℕ)) (t : Timer) → SaysPlainTimer word ws t
@@ -56,18 +58,21 @@ at_net net key = record {
 }
 
 abbrev moved : {A : Type 0} → ℕ → Call A → Call A
-moved net (call.Answer key packets) = call.Answer (at_net net key) packets
+moved net (call.Transactions (transaction.Answer key packets)) =
+    call.Transactions (transaction.Answer (at_net net key) packets)
 moved net other = other
 
 moved_said : {A : Type 0} (net : ℕ) (word : List ℕ) (ws : List (List ℕ)) (c : Call A) → AreCall (word ∷ ws) c
     → SaysCall (NameHere net) word ws (moved net c)
-moved_said net word ws (call.Answer key packets) (is, (n, s, t, ps, parts, named, tid, all)) =
+moved_said net word ws (call.Transactions (transaction.Answer key packets))
+    (is, (n, s, t, ps, parts, named, tid, all)) =
     (is, (n, s, t, ps, parts, (refl, named), tid, all))
 moved_said net word ws other said = said
 
 here_said : {A : Type 0} (net : ℕ) (word : List ℕ) (ws : List (List ℕ)) (c : Call A)
     → SaysCall (NameHere net) word ws c → AreCall (word ∷ ws) c × IsHere net c
-here_said net word ws (call.Answer key packets) (is, (n, s, t, ps, parts, named, tid, all)) =
+here_said net word ws (call.Transactions (transaction.Answer key packets))
+    (is, (n, s, t, ps, parts, named, tid, all)) =
     ((is, (n, s, t, ps, parts, named.1, tid, all)), named.0)
 here_said net word ws other said = (said, tt)
 

@@ -6,6 +6,11 @@ use Rattle.at_adsp_end.specs.declared.item.Item.{Item}
 use Rattle.at_atp_responder.specs.declared.reception.Key.{Key}
 use Rattle.at_event.specs.declared.event.Call.{Call}
 use Rattle.at_event.specs.declared.event.Call.TheVariants as call
+use Rattle.at_event.specs.declared.calls.NameCall.TheVariants as name
+use Rattle.at_event.specs.declared.calls.SessionCall.TheVariants as session
+use Rattle.at_event.specs.declared.calls.StreamCall.TheVariants as stream
+use Rattle.at_event.specs.declared.calls.TransactionCall.TheVariants as transaction
+use Rattle.at_event.specs.declared.calls.ZoneCall.TheVariants as zone
 use Rattle.at_zip.specs.declared.request.Which.{Which}
 use Rattle.at_zip.specs.declared.request.Which.TheVariants as which
 use Rattle.at_call_words.specs.Items.{AreItems}
@@ -73,28 +78,33 @@ table_word which.Local = codes "setlocal"
 
 -- the word of a call that names no requester, and what the words after it say
 abbrev pub SaysPlain : {A : Type 0} → List ℕ → List (List ℕ) → Call A → Type 0
-SaysPlain word ws (call.Zones which) = (word ≡ list_word which) × (ws ≡ [])
-SaysPlain word ws (call.SetZones which names) = (word ≡ table_word which) × AllZip IsText ws names
-SaysPlain word ws (call.Ask node socket user bytes wanted exactly_once retries) =
+SaysPlain word ws (call.Zones (zone.Read which)) = (word ≡ list_word which) × (ws ≡ [])
+SaysPlain word ws (call.Zones (zone.Set which names)) = (word ≡ table_word which) × AllZip IsText ws names
+SaysPlain word ws (call.Transactions (transaction.Ask node socket user bytes wanted exactly_once retries)) =
     (word ≡ codes "ask") × AskSays ws node socket user bytes wanted exactly_once retries
-SaysPlain word ws (call.Answer key packets) = ⊥
-SaysPlain word ws (call.Pick zone) = (word ≡ codes "pick") × One IsText ws zone
-SaysPlain word ws (call.Find object kind place) = (word ≡ codes "find") × FindSays ws object kind place
-SaysPlain word ws (call.Claim object kind socket) = (word ≡ codes "claim") × SocketSays ws object kind socket
-SaysPlain word ws (call.Finish id) = (word ≡ codes "finish") × One IsByte ws id
-SaysPlain word ws (call.Register object kind socket) = (word ≡ codes "register") × SocketSays ws object kind socket
-SaysPlain word ws (call.Unregister object kind) = (word ≡ codes "unregister") × Two IsText IsText ws object kind
-SaysPlain word ws (call.Open index) = (word ≡ codes "open") × One IsCount ws index
-SaysPlain word ws (call.Listen on) = (word ≡ codes "listen") × One IsSwitch ws on
-SaysPlain word ws (call.Connect node socket) = (word ≡ codes "connect") × Two IsNode IsNode ws node socket
-SaysPlain word ws (call.Write id items) = (word ≡ codes "write") × WriteSays ws id items
-SaysPlain word ws (call.Read id count) = (word ≡ codes "read") × Two IsTwoBytes IsTwoBytes ws id count
-SaysPlain word ws (call.Reset id) = (word ≡ codes "reset") × One IsTwoBytes ws id
-SaysPlain word ws (call.Close id) = (word ≡ codes "close") × One IsTwoBytes ws id
+SaysPlain word ws (call.Transactions (transaction.Answer key packets)) = ⊥
+SaysPlain word ws (call.Session (session.Pick zone)) = (word ≡ codes "pick") × One IsText ws zone
+SaysPlain word ws (call.Names (name.Find object kind place)) = (word ≡ codes "find") × FindSays ws object kind place
+SaysPlain word ws (call.Names (name.Claim object kind socket)) =
+    (word ≡ codes "claim") × SocketSays ws object kind socket
+SaysPlain word ws (call.Names (name.Finish id)) = (word ≡ codes "finish") × One IsByte ws id
+SaysPlain word ws (call.Names (name.Register object kind socket)) =
+    (word ≡ codes "register") × SocketSays ws object kind socket
+SaysPlain word ws (call.Names (name.Unregister object kind)) =
+    (word ≡ codes "unregister") × Two IsText IsText ws object kind
+SaysPlain word ws (call.Streams (stream.Open index)) = (word ≡ codes "open") × One IsCount ws index
+SaysPlain word ws (call.Streams (stream.Listen on)) = (word ≡ codes "listen") × One IsSwitch ws on
+SaysPlain word ws (call.Streams (stream.Connect node socket)) =
+    (word ≡ codes "connect") × Two IsNode IsNode ws node socket
+SaysPlain word ws (call.Streams (stream.Write id items)) = (word ≡ codes "write") × WriteSays ws id items
+SaysPlain word ws (call.Streams (stream.Read id count)) = (word ≡ codes "read") × Two IsTwoBytes IsTwoBytes ws id count
+SaysPlain word ws (call.Streams (stream.Reset id)) = (word ≡ codes "reset") × One IsTwoBytes ws id
+SaysPlain word ws (call.Streams (stream.Close id)) = (word ≡ codes "close") × One IsTwoBytes ws id
 
 -- the same of each call, where requesters are named so
 abbrev pub SaysCall : {A : Type 0} → Naming → List ℕ → List (List ℕ) → Call A → Type 0
-SaysCall Names word ws (call.Answer key packets) = (word ≡ codes "answer") × AnswerSays Names ws key packets
+SaysCall Names word ws (call.Transactions (transaction.Answer key packets)) =
+    (word ≡ codes "answer") × AnswerSays Names ws key packets
 SaysCall Names word ws other = SaysPlain word ws other
 
 abbrev pub AreCallBy : {A : Type 0} → Naming → List (List ℕ) → Call A → Type 0
@@ -111,5 +121,5 @@ AreAnyCall net ws call = AreCallBy (NameAny net) ws call
 
 -- who asked for an answer is on this network
 abbrev pub IsHere : {A : Type 0} → ℕ → Call A → Type 0
-IsHere net (call.Answer key packets) = (key.from).net ≡ net
+IsHere net (call.Transactions (transaction.Answer key packets)) = (key.from).net ≡ net
 IsHere net other = Unit {0}

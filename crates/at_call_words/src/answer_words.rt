@@ -13,7 +13,7 @@ use crate::data_word::data_of;
 use crate::requester::{Requesters, requester};
 use at_atp::{Key, Packet};
 use at_ddp::Listed;
-use at_event::Call;
+use at_event::{Call, TransactionCall};
 use at_faults::{LineFault, Rule};
 use at_words::{Words, two_bytes, user_of};
 use std::alloc::Allocator;
@@ -56,10 +56,10 @@ pub(crate) fn answer<A: Allocator + Copy>(
 {
     let said = AnswerWords::of(requesters, net, words).ok_or(LineFault::Unlawful(Rule::Answer))?;
     let packets = packets_of(alloc, said.packets)?;
-    Ok(Call::Answer {
+    Ok(Call::Transactions(TransactionCall::Answer {
         key: said.key,
         packets,
-    })
+    }))
 }
 
 fn packets_of<A: Allocator + Copy>(

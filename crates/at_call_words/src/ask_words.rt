@@ -8,7 +8,7 @@ ghost use Rattle.at_words.specs.Readings.{IsFound};
 ghost use Rattle.at_words.specs.Words.{words_of};
 
 use crate::data_word::data_of;
-use at_event::{Call, PacketCount};
+use at_event::{Call, PacketCount, TransactionCall};
 use at_faults::{LineFault, Rule};
 use at_words::{Words, byte, node_number, user_of};
 use std::alloc::Allocator;
@@ -82,7 +82,7 @@ pub(crate) fn ask<A: Allocator>(alloc: A, words: Words<'_>) -> Result<Call<A>, L
         return Err(LineFault::Unlawful(Rule::Ask));
     };
     match data_of(alloc, said.data_) {
-        Ok(data_) => Ok(Call::Ask {
+        Ok(data_) => Ok(Call::Transactions(TransactionCall::Ask {
             node: said.node,
             socket: said.socket,
             user: said.user,
@@ -90,7 +90,7 @@ pub(crate) fn ask<A: Allocator>(alloc: A, words: Words<'_>) -> Result<Call<A>, L
             wanted: said.wanted,
             exactly_once: said.exactly_once,
             retries: said.retries,
-        }),
+        })),
         Err(fault) => Err(fault),
     }
 }

@@ -12,7 +12,7 @@ use crate::requester::Requesters;
 use crate::session_words::{open, pick};
 use crate::stream_words::{close, connect, listen, read, reset, write};
 use crate::table_words::set_zones;
-use at_event::Call;
+use at_event::{Call, ZoneCall};
 use at_faults::{LineFault, Rule};
 use at_words::{Words, is_word};
 use at_zip::Which;
@@ -129,7 +129,7 @@ fn zones<A: Allocator>(which: Which, rule: Rule, words: Words<'_>) -> Result<Cal
     ensures rule { IfErr result (λ fault. fault ≡ LineFault.Unlawful rule) }
 {
     words.end().ok_or(LineFault::Unlawful(rule))?;
-    Ok(Call::Zones { which })
+    Ok(Call::Zones(ZoneCall::Read { which }))
 }
 
 fn pick_call<A: Allocator>(words: Words<'_>) -> Result<Call<A>, LineFault>

@@ -8,7 +8,7 @@ ghost use Rattle.at_words.specs.Words.{words_of};
 
 use crate::words::{one, three, two};
 use at_ddp::Pascal;
-use at_event::Call;
+use at_event::{Call, NameCall};
 use at_words::{Words, byte, node_number, text};
 use std::alloc::Allocator;
 
@@ -19,7 +19,7 @@ pub(crate) fn find<A: Allocator>(mut words: Words<'_>) -> Option<Call<A>>
     let object = text(words.next()?)?;
     let kind = text(words.next()?)?;
     let zone = zone_of(words)?;
-    Some(Call::Find { object, kind, zone })
+    Some(Call::Names(NameCall::Find { object, kind, zone }))
 }
 
 // The zone that the last word says, if there is one.
@@ -39,11 +39,11 @@ pub(crate) fn claim<A: Allocator>(words: Words<'_>) -> Option<Call<A>>
     ensures { IsFound result (SaysPlain (codes "claim") (words_of words.entry.rest.now)) }
 {
     let (object, kind, socket) = socket_name(words)?;
-    Some(Call::Claim {
+    Some(Call::Names(NameCall::Claim {
         object,
         kind,
         socket,
-    })
+    }))
 }
 
 /// `ID`
@@ -51,7 +51,7 @@ pub(crate) fn finish<A: Allocator>(words: Words<'_>) -> Option<Call<A>>
     ensures { IsFound result (SaysPlain (codes "finish") (words_of words.entry.rest.now)) }
 {
     let id = byte(one(words)?)?;
-    Some(Call::Finish { id })
+    Some(Call::Names(NameCall::Finish { id }))
 }
 
 /// `TEXT TEXT SOCKET`
@@ -59,11 +59,11 @@ pub(crate) fn register<A: Allocator>(words: Words<'_>) -> Option<Call<A>>
     ensures { IsFound result (SaysPlain (codes "register") (words_of words.entry.rest.now)) }
 {
     let (object, kind, socket) = socket_name(words)?;
-    Some(Call::Register {
+    Some(Call::Names(NameCall::Register {
         object,
         kind,
         socket,
-    })
+    }))
 }
 
 // An object, a type and a socket.
@@ -86,5 +86,5 @@ pub(crate) fn unregister<A: Allocator>(words: Words<'_>) -> Option<Call<A>>
     let (object, kind) = two(words)?;
     let object = text(object)?;
     let kind = text(kind)?;
-    Some(Call::Unregister { object, kind })
+    Some(Call::Names(NameCall::Unregister { object, kind }))
 }

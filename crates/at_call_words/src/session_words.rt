@@ -5,7 +5,7 @@ ghost use Rattle.at_words.specs.Readings.{IsFound};
 ghost use Rattle.at_words.specs.Words.{words_of};
 
 use crate::words::one;
-use at_event::Call;
+use at_event::{Call, SessionCall, StreamCall};
 use at_words::{Words, number, text};
 use std::alloc::Allocator;
 
@@ -14,7 +14,7 @@ pub(crate) fn pick<A: Allocator>(words: Words<'_>) -> Option<Call<A>>
     ensures { IsFound result (SaysPlain (codes "pick") (words_of words.entry.rest.now)) }
 {
     let zone = text(one(words)?)?;
-    Some(Call::Pick { zone })
+    Some(Call::Session(SessionCall::Pick { zone }))
 }
 
 /// `I`
@@ -22,5 +22,5 @@ pub(crate) fn open<A: Allocator>(words: Words<'_>) -> Option<Call<A>>
     ensures { IsFound result (SaysPlain (codes "open") (words_of words.entry.rest.now)) }
 {
     let index = number(one(words)?)?;
-    Some(Call::Open { index })
+    Some(Call::Streams(StreamCall::Open { index }))
 }

@@ -7,7 +7,7 @@ ghost use Rattle.at_words.specs.Words.{words_of};
 
 use crate::item_words::items_of;
 use crate::words::{one, two};
-use at_event::Call;
+use at_event::{Call, StreamCall};
 use at_faults::{LineFault, Rule};
 use at_words::{Words, node_number, two_bytes};
 use std::alloc::Allocator;
@@ -17,7 +17,7 @@ pub(crate) fn listen<A: Allocator>(words: Words<'_>) -> Option<Call<A>>
     ensures { IsFound result (SaysPlain (codes "listen") (words_of words.entry.rest.now)) }
 {
     let on = is_on(one(words)?)?;
-    Some(Call::Listen { on })
+    Some(Call::Streams(StreamCall::Listen { on }))
 }
 
 fn is_on(word: &[u8]) -> Option<bool>
@@ -37,7 +37,7 @@ pub(crate) fn connect<A: Allocator>(words: Words<'_>) -> Option<Call<A>>
     let (node, socket) = two(words)?;
     let node = node_number(node)?;
     let socket = node_number(socket)?;
-    Some(Call::Connect { node, socket })
+    Some(Call::Streams(StreamCall::Connect { node, socket }))
 }
 
 /// `ID ITEM ..`
@@ -47,7 +47,7 @@ pub(crate) fn write<A: Allocator>(alloc: A, mut words: Words<'_>) -> Result<Call
     let id = words.next().ok_or(LineFault::Unlawful(Rule::Write))?;
     let id = two_bytes(id).ok_or(LineFault::Unlawful(Rule::Write))?;
     let items = items_of(alloc, words)?;
-    Ok(Call::Write { id, items })
+    Ok(Call::Streams(StreamCall::Write { id, items }))
 }
 
 /// `ID COUNT`
@@ -57,7 +57,7 @@ pub(crate) fn read<A: Allocator>(words: Words<'_>) -> Option<Call<A>>
     let (id, count) = two(words)?;
     let id = two_bytes(id)?;
     let count = two_bytes(count)?;
-    Some(Call::Read { id, count })
+    Some(Call::Streams(StreamCall::Read { id, count }))
 }
 
 /// `ID`
@@ -65,7 +65,7 @@ pub(crate) fn reset<A: Allocator>(words: Words<'_>) -> Option<Call<A>>
     ensures { IsFound result (SaysPlain (codes "reset") (words_of words.entry.rest.now)) }
 {
     let id = two_bytes(one(words)?)?;
-    Some(Call::Reset { id })
+    Some(Call::Streams(StreamCall::Reset { id }))
 }
 
 /// `ID`
@@ -73,5 +73,5 @@ pub(crate) fn close<A: Allocator>(words: Words<'_>) -> Option<Call<A>>
     ensures { IsFound result (SaysPlain (codes "close") (words_of words.entry.rest.now)) }
 {
     let id = two_bytes(one(words)?)?;
-    Some(Call::Close { id })
+    Some(Call::Streams(StreamCall::Close { id }))
 }

@@ -7,7 +7,7 @@ ghost use Rattle.at_words.specs.Texts.{IsText};
 ghost use Rattle.at_words.specs.Words.{words_of};
 
 use at_ddp::{Listed, Pascal};
-use at_event::Call;
+use at_event::{Call, ZoneCall};
 use at_faults::{LineFault, Rule};
 use at_words::{Words, text};
 use at_zip::Which;
@@ -24,7 +24,7 @@ pub(crate) fn set_zones<A: Allocator>(
     ensures rule { IfErr result (λ fault. (fault ≡ LineFault.NoMemory) ⊎ (fault ≡ LineFault.Unlawful rule)) }
 {
     let names = names_of(alloc, rule, words)?;
-    Ok(Call::SetZones { which, names })
+    Ok(Call::Zones(ZoneCall::Set { which, names }))
 }
 
 // The text of each word.

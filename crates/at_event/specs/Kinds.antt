@@ -1,8 +1,7 @@
 -- Of which protocol a call, a timer and a report are.
 use Rattle.at_event.specs.declared.event.Call.{Call}
-use Rattle.at_event.specs.declared.event.Call.TheVariants.{Zones, SetZones, Ask, Answer, Pick}
-use Rattle.at_event.specs.declared.event.Call.TheVariants.{Find, Claim, Finish, Register, Unregister}
-use Rattle.at_event.specs.declared.event.Call.TheVariants.{Open, Listen, Connect, Write, Read, Reset, Close}
+use Rattle.at_event.specs.declared.event.Call.TheVariants.{Transactions, Zones, Names, Streams}
+use Rattle.at_event.specs.declared.event.Call.TheVariants as protocol
 use Rattle.at_event.specs.declared.report.Report.{Report}
 use Rattle.at_event.specs.declared.report.Report.TheVariants as report
 use Rattle.at_event.specs.declared.event.Timer.{Timer}
@@ -17,23 +16,11 @@ pub data Kind : Type 0 where
   Adsp : Kind
 
 abbrev pub kind_of_call : {A : Type 0} → Call A → Kind
-kind_of_call (Zones which) = Atp
-kind_of_call (SetZones which names) = Atp
-kind_of_call (Ask node socket user bytes wanted xo retries) = Atp
-kind_of_call (Answer key packets) = Atp
-kind_of_call (Pick zone) = Session
-kind_of_call (Find object kind _) = Nbp
-kind_of_call (Claim object kind socket) = Nbp
-kind_of_call (Finish id) = Nbp
-kind_of_call (Register object kind socket) = Nbp
-kind_of_call (Unregister object kind) = Nbp
-kind_of_call (Open index) = Adsp
-kind_of_call (Listen on) = Adsp
-kind_of_call (Connect node socket) = Adsp
-kind_of_call (Write id items) = Adsp
-kind_of_call (Read id count) = Adsp
-kind_of_call (Reset id) = Adsp
-kind_of_call (Close id) = Adsp
+kind_of_call (Transactions call) = Atp
+kind_of_call (Zones call) = Atp
+kind_of_call (Names call) = Nbp
+kind_of_call (Streams call) = Adsp
+kind_of_call (protocol.Session call) = Session
 
 abbrev pub kind_of_timer : Timer → Kind
 kind_of_timer (timer.Retry tid) = Atp

@@ -1,6 +1,7 @@
 //! What happens at a node of a cable: calls, timers and reports. Where a node is, and what a service is.
 #![tactic(auto)]
 
+mod calls;
 mod event;
 mod fault;
 mod packet_count;
@@ -9,6 +10,7 @@ mod report;
 mod seat;
 mod service;
 
+pub use calls::{NameCall, SessionCall, StreamCall, TransactionCall, ZoneCall};
 pub use event::{Call, Timer};
 pub use fault::NodeFault;
 pub use packet_count::PacketCount;

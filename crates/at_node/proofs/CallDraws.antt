@@ -44,10 +44,17 @@ use Rattle.at_stream_socket.specs.Calls as calls
 use Rattle.at_stream_socket.specs.Sockets.{told_by as told_as}
 use Rattle.at_event.specs.Outcomes.{Outcome, idle, refused_as}
 use Rattle.at_event.specs.Seats.{at_socket}
+use Rattle.at_event.specs.declared.calls.NameCall.{NameCall}
+use Rattle.at_event.specs.declared.calls.NameCall.TheVariants.{Find, Claim, Finish, Register, Unregister}
+use Rattle.at_event.specs.declared.calls.SessionCall.TheVariants.{Pick}
+use Rattle.at_event.specs.declared.calls.StreamCall.{StreamCall}
+use Rattle.at_event.specs.declared.calls.StreamCall.TheVariants.{Open, Listen, Connect, Write, Read, Reset, Close}
+use Rattle.at_event.specs.declared.calls.TransactionCall.{TransactionCall}
+use Rattle.at_event.specs.declared.calls.TransactionCall.TheVariants.{Ask, Answer}
+use Rattle.at_event.specs.declared.calls.ZoneCall.{ZoneCall}
+use Rattle.at_event.specs.declared.calls.ZoneCall.TheVariants as zone
 use Rattle.at_event.specs.declared.event.Call.{Call}
-use Rattle.at_event.specs.declared.event.Call.TheVariants.{Zones, SetZones, Ask, Answer, Pick}
-use Rattle.at_event.specs.declared.event.Call.TheVariants.{Find, Claim, Finish, Register, Unregister}
-use Rattle.at_event.specs.declared.event.Call.TheVariants.{Open, Listen, Connect, Write, Read, Reset, Close}
+use Rattle.at_event.specs.declared.event.Call.TheVariants.{Transactions, Zones, Names, Streams, Session}
 use Rattle.at_event.specs.declared.report.Report.{Report}
 use Rattle.at_event.specs.declared.report.Report.TheVariants as report
 use Rattle.at_event.specs.declared.event.Timer.{Timer}
@@ -58,7 +65,7 @@ use Rattle.at_node.specs.AtpParts.{AtpState, Reading}
 use Rattle.at_node.specs.NameCalls.{asked_again, claimed_as, finished_as, found_as, refused_by, registered_as, told_of}
 use Rattle.at_node.specs.NameCalls.{unregistered_as}
 use Rattle.at_node.specs.Nodes.{NodeState, called, timed}
-use Rattle.at_node.specs.Numbers.{draw_of, drawn_by}
+use Rattle.at_node.specs.Numbers.{draw_of, drawn_by, name_draw, stream_draw, transaction_draw, zone_draw}
 use Rattle.at_node.specs.RequesterSocket.{after_retry, asked_as, retry_fired}
 use Rattle.at_node.specs.Responders.{expired, records_at}
 use Rattle.at_node.specs.ServiceSocket.{answered_with}
@@ -234,34 +241,47 @@ module _ (A : Type 0) where
   picks s zone true = refl
   picks s zone false = refl
 
-  pub call_draws : (n : NodeState) (call : Call A) → By (called n call) (draw_of n call)
-  call_draws n (Zones which) = reads n.seat n.atp which n.seat.router n.atp.reading
-  call_draws n (SetZones which names) = sets_zones n.seat n.atp n.atp.tables which names
-  call_draws n (Ask node socket user bytes wanted xo retries) =
+  transaction_draws : (n : NodeState) (c : TransactionCall A)
+      → By (called n (Transactions c)) (transaction_draw n c)
+  transaction_draws n (Ask node socket user bytes wanted xo retries) =
       asks n.seat n.atp (at_socket n.seat node socket) user bytes wanted xo retries (nat_lt 578 (length bytes))
-  call_draws n (Answer key packets) =
+  transaction_draws n (Answer key packets) =
       answers n.seat n.atp key packets (answer_fault n.atp.service_responder key packets)
-  call_draws n (Pick zone) = picks n.session zone (is_listed n.session zone)
-  call_draws n (Find object kind zone) =
-      finds n.seat n.names (pattern_asked n.session object kind zone) (next_id n.names.lookups)
-  call_draws n (Claim object kind socket) =
+
+  zone_draws : (n : NodeState) (c : ZoneCall A) → By (called n (Zones c)) (zone_draw n c)
+  zone_draws n (zone.Read which) = reads n.seat n.atp which n.seat.router n.atp.reading
+  zone_draws n (zone.Set which names) = sets_zones n.seat n.atp n.atp.tables which names
+
+  name_draws : (n : NodeState) (c : NameCall) → By (called n (Names c)) (name_draw n c)
+  name_draws n (Find object kind place) =
+      finds n.seat n.names (pattern_asked n.session object kind place) (next_id n.names.lookups)
+  name_draws n (Claim object kind socket) =
       claims n.seat n.names object kind socket (is_no_text object || is_no_text kind)
-  call_draws n (Finish id) = finishes n.seat n.names id (finish_fault n.names id)
-  call_draws n (Register object kind socket) =
+  name_draws n (Finish id) = finishes n.seat n.names id (finish_fault n.names id)
+  name_draws n (Register object kind socket) =
       registers n.seat n.names object kind socket (register_fault n.names.table.names object kind)
-  call_draws n (Unregister object kind) =
+  name_draws n (Unregister object kind) =
       unregisters n.seat n.names object kind (find (is_called object kind) n.names.table.names)
-  call_draws n (Open index) = opens n.seat n.streams (address_at n.session index)
-  call_draws n (Listen on) = refl
-  call_draws n (Connect node socket) =
+
+  stream_draws : (n : NodeState) (c : StreamCall A) → By (called n (Streams c)) (stream_draw n c)
+  stream_draws n (Open index) = opens n.seat n.streams (address_at n.session index)
+  stream_draws n (Listen on) = refl
+  stream_draws n (Connect node socket) =
       connects n.seat n.streams (at_socket n.seat node socket) (next_end n.streams)
-  call_draws n (Write id items) =
+  stream_draws n (Write id items) =
       plain n.seat n.streams report.Wrote (λ x. refl) (wrote wire n.streams items (by_id n.streams id))
-  call_draws n (Read id count) =
+  stream_draws n (Read id count) =
       plain n.seat n.streams report.Read (λ x. refl) (read_at wire n.streams count (by_id n.streams id))
-  call_draws n (Reset id) =
+  stream_draws n (Reset id) =
       plain n.seat n.streams (λ x. report.StreamReset) (λ x. refl) (reset_at wire n.streams (by_id n.streams id))
-  call_draws n (Close id) = closes n.seat n.streams (by_id n.streams id)
+  stream_draws n (Close id) = closes n.seat n.streams (by_id n.streams id)
+
+  pub call_draws : (n : NodeState) (call : Call A) → By (called n call) (draw_of n call)
+  call_draws n (Transactions call) = transaction_draws n call
+  call_draws n (Zones call) = zone_draws n call
+  call_draws n (Names call) = name_draws n call
+  call_draws n (Streams call) = stream_draws n call
+  call_draws n (Session (Pick zone)) = picks n.session zone (is_listed n.session zone)
 
   pub timer_draws : (n : NodeState) (time : Timer) → By (timed n time) None
   timer_draws n (timer.Retry tid) = retries_some n.seat n.atp tid (retried n.atp.requester tid)

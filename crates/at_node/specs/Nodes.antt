@@ -8,10 +8,18 @@ use Rattle.at_name_socket.specs.NameSockets as names
 use Rattle.at_name_socket.specs.NameSockets.{SocketState}
 use Rattle.at_name_socket.specs.declared.neighbour.Neighbour.{Neighbour}
 use Rattle.at_zip.specs.Tables.{Tables}
+use Rattle.at_event.specs.declared.calls.NameCall.{NameCall}
+use Rattle.at_event.specs.declared.calls.NameCall.TheVariants.{Find, Claim, Finish, Register, Unregister}
+use Rattle.at_event.specs.declared.calls.SessionCall.{SessionCall}
+use Rattle.at_event.specs.declared.calls.SessionCall.TheVariants.{Pick}
+use Rattle.at_event.specs.declared.calls.StreamCall.{StreamCall}
+use Rattle.at_event.specs.declared.calls.StreamCall.TheVariants.{Open, Listen, Connect, Write, Read, Reset, Close}
+use Rattle.at_event.specs.declared.calls.TransactionCall.{TransactionCall}
+use Rattle.at_event.specs.declared.calls.TransactionCall.TheVariants.{Ask, Answer}
+use Rattle.at_event.specs.declared.calls.ZoneCall.{ZoneCall}
+use Rattle.at_event.specs.declared.calls.ZoneCall.TheVariants as zone
 use Rattle.at_event.specs.declared.event.Call.{Call}
-use Rattle.at_event.specs.declared.event.Call.TheVariants.{Zones, SetZones, Ask, Answer, Pick}
-use Rattle.at_event.specs.declared.event.Call.TheVariants.{Find, Claim, Finish, Register, Unregister}
-use Rattle.at_event.specs.declared.event.Call.TheVariants.{Open, Listen, Connect, Write, Read, Reset, Close}
+use Rattle.at_event.specs.declared.event.Call.TheVariants.{Transactions, Zones, Names, Streams, Session}
 use Rattle.at_event.specs.declared.event.Timer.{Timer}
 use Rattle.at_event.specs.declared.event.Timer.TheVariants as timer
 use Rattle.at_event.specs.declared.seat.Seat.{Seat}
@@ -77,28 +85,45 @@ over_finish n o = record {
   out = o.out;
 }
 
-abbrev pub called : {A : Type 0} → NodeState → Call A → Outcome A NodeState
-called n (Zones which) = over (with_atp n) (zones_called n.seat n.atp which n.seat.router n.atp.reading)
-called n (SetZones which names) = over (with_atp n) (set_zones_called n.atp n.atp.tables which names)
-called n (Ask node socket user bytes wanted xo retries) =
-    over (with_atp n) (ask_called n.seat n.atp (at_socket n.seat node socket) user bytes wanted xo retries)
-called n (Answer key packets) = over (with_atp n) (answer_called n.seat n.atp key packets)
-called n (Pick zone) = over (with_session n) (pick_called n.session zone)
-called n (Find object kind zone) =
+-- what a call does to the part of its protocol
+abbrev pub transaction_called : {A : Type 0} → Seat → AtpState → TransactionCall A → Outcome A AtpState
+transaction_called s a (Ask node socket user bytes wanted xo retries) =
+    ask_called s a (at_socket s node socket) user bytes wanted xo retries
+transaction_called s a (Answer key packets) = answer_called s a key packets
+
+abbrev pub zone_called : {A : Type 0} → Seat → AtpState → ZoneCall A → Outcome A AtpState
+zone_called s a (zone.Read which) = zones_called s a which s.router a.reading
+zone_called s a (zone.Set which names) = set_zones_called a a.tables which names
+
+abbrev pub stream_called : {A : Type 0} → Seat → EndTable → SessionState → StreamCall A → Outcome A EndTable
+stream_called s t user (Open index) = open_called s t (address_at user index)
+stream_called s t user (Listen on) = listen_called t on
+stream_called s t user (Connect node socket) = connect_called s t (at_socket s node socket)
+stream_called s t user (Write id items) = write_called s t id items
+stream_called s t user (Read id count) = read_called s t id count
+stream_called s t user (Reset id) = reset_called s t id
+stream_called s t user (Close id) = close_called s t id
+
+abbrev pub session_called : {A : Type 0} → SessionState → SessionCall → Outcome A SessionState
+session_called user (Pick zone) = pick_called user zone
+
+-- the same for names, with what the session keeps
+abbrev pub name_called : {A : Type 0} → NodeState → NameCall → Outcome A NodeState
+name_called n (Find object kind zone) =
     over (with_names n) (find_called n.seat n.names (pattern_asked n.session object kind zone))
-called n (Claim object kind socket) = over (with_names n) (claim_called n.seat n.names object kind socket)
-called n (Finish id) = over_finish n (finish_called n.names id)
-called n (Register object kind socket) = over (with_names n) (register_called n.names object kind socket)
-called n (Unregister object kind) = over (with_names n) (unregister_called n.names object kind)
-called n (Open index) =
-    over (with_streams n) (open_called n.seat n.streams (address_at n.session index))
-called n (Listen on) = over (with_streams n) (listen_called n.streams on)
-called n (Connect node socket) =
-    over (with_streams n) (connect_called n.seat n.streams (at_socket n.seat node socket))
-called n (Write id items) = over (with_streams n) (write_called n.seat n.streams id items)
-called n (Read id count) = over (with_streams n) (read_called n.seat n.streams id count)
-called n (Reset id) = over (with_streams n) (reset_called n.seat n.streams id)
-called n (Close id) = over (with_streams n) (close_called n.seat n.streams id)
+name_called n (Claim object kind socket) =
+    over (with_names n) (claim_called n.seat n.names object kind socket)
+name_called n (Finish id) = over_finish n (finish_called n.names id)
+name_called n (Register object kind socket) =
+    over (with_names n) (register_called n.names object kind socket)
+name_called n (Unregister object kind) = over (with_names n) (unregister_called n.names object kind)
+
+abbrev pub called : {A : Type 0} → NodeState → Call A → Outcome A NodeState
+called n (Transactions call) = over (with_atp n) (transaction_called n.seat n.atp call)
+called n (Zones call) = over (with_atp n) (zone_called n.seat n.atp call)
+called n (Names call) = name_called n call
+called n (Streams call) = over (with_streams n) (stream_called n.seat n.streams n.session call)
+called n (Session call) = over (with_session n) (session_called n.session call)
 
 abbrev pub timed : {A : Type 0} → NodeState → Timer → Outcome A NodeState
 timed n (timer.Retry tid) = over (with_atp n) (retry_fired n.seat n.atp tid (retried n.atp.requester tid))

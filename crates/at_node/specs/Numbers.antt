@@ -22,8 +22,16 @@ use Rattle.at_stream_socket.specs.Carrying as streams
 use Rattle.at_stream_socket.specs.Hearing.{Makes}
 use Rattle.at_event.specs.Outcomes.{Outcome}
 use Rattle.at_event.specs.Seats.{is_mine}
+use Rattle.at_event.specs.declared.calls.NameCall.{NameCall}
+use Rattle.at_event.specs.declared.calls.NameCall.TheVariants.{Find, Claim}
+use Rattle.at_event.specs.declared.calls.StreamCall.{StreamCall}
+use Rattle.at_event.specs.declared.calls.StreamCall.TheVariants.{Open, Connect}
+use Rattle.at_event.specs.declared.calls.TransactionCall.{TransactionCall}
+use Rattle.at_event.specs.declared.calls.TransactionCall.TheVariants.{Ask, Answer}
+use Rattle.at_event.specs.declared.calls.ZoneCall.{ZoneCall}
+use Rattle.at_event.specs.declared.calls.ZoneCall.TheVariants as zone
 use Rattle.at_event.specs.declared.event.Call.{Call}
-use Rattle.at_event.specs.declared.event.Call.TheVariants.{Ask, Claim, Connect, Find, Open, Zones}
+use Rattle.at_event.specs.declared.event.Call.TheVariants.{Transactions, Zones, Names, Streams, Session}
 use Rattle.at_event.specs.declared.report.Report.{Report}
 use Rattle.at_event.specs.declared.report.Report.TheVariants as report
 use Rattle.at_event.specs.declared.service.Reply.{Reply}
@@ -57,14 +65,31 @@ next_conn n = option_map (λ id. Conn id) (next_end n.streams)
 -- The number that a call will draw, if memory does not run out: the next one, if the call begins a transaction, a
 -- lookup or an end. Refused are a zone table without a router or while one is read, a request of more than 578 bytes, a
 -- claim that names nothing, and a place where nothing was found.
+abbrev pub transaction_draw : {A : Type 0} → NodeState → TransactionCall A → Option Draw
+transaction_draw n (Ask node socket user bytes wanted xo retries) =
+    if nat_lt 578 (length bytes) then None else next_tid n
+transaction_draw n (Answer key packets) = None
+
+abbrev pub zone_draw : {A : Type 0} → NodeState → ZoneCall A → Option Draw
+zone_draw n (zone.Read which) = if is_none n.seat.router || is_some n.atp.reading then None else next_tid n
+zone_draw n (zone.Set which names) = None
+
+abbrev pub name_draw : NodeState → NameCall → Option Draw
+name_draw n (Find object kind _) = next_lookup n
+name_draw n (Claim object kind socket) = if is_no_text object || is_no_text kind then None else next_lookup n
+name_draw n other = None
+
+abbrev pub stream_draw : {A : Type 0} → NodeState → StreamCall A → Option Draw
+stream_draw n (Connect node socket) = next_conn n
+stream_draw n (Open index) = if is_none (address_at n.session index) then None else next_conn n
+stream_draw n other = None
+
 abbrev pub draw_of : {A : Type 0} → NodeState → Call A → Option Draw
-draw_of n (Zones which) = if is_none n.seat.router || is_some n.atp.reading then None else next_tid n
-draw_of n (Ask node socket user bytes wanted xo retries) = if nat_lt 578 (length bytes) then None else next_tid n
-draw_of n (Find object kind _) = next_lookup n
-draw_of n (Claim object kind socket) = if is_no_text object || is_no_text kind then None else next_lookup n
-draw_of n (Connect node socket) = next_conn n
-draw_of n (Open index) = if is_none (address_at n.session index) then None else next_conn n
-draw_of n other = None
+draw_of n (Transactions call) = transaction_draw n call
+draw_of n (Zones call) = zone_draw n call
+draw_of n (Names call) = name_draw n call
+draw_of n (Streams call) = stream_draw n call
+draw_of n (Session call) = None
 
 -- with a packet for this place, the answer to an open at-least-once transaction is whole
 pub record Completes (r : Requests) (from : Address) (tid place : ℕ) (part : Arrival) : Type 0 where

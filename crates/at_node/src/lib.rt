@@ -2,6 +2,7 @@
 #![tactic(auto)]
 
 mod atp_part;
+mod calls;
 mod hearing;
 mod incoming;
 pub mod laws;
@@ -19,7 +20,10 @@ mod timers;
 mod zone_reading;
 mod zone_socket;
 
-pub use at_event::{Call, Deferring, NodeFault, PacketCount, Reply, Report, Seat, Service, Timer};
+pub use at_event::{
+    Call, Deferring, NameCall, NodeFault, PacketCount, Reply, Report, Seat, Service, SessionCall,
+    StreamCall, Timer, TransactionCall, ZoneCall,
+};
 pub use node::Node;
 pub use numbers::{Draw, Input, carried, carried_in};
 pub use settings::Settings;

@@ -1,7 +1,6 @@
 //! A node: what it is made of, and the calls and timers that its user and its clock play.
-ghost use Rattle.std.specs.Prelude.{◌≡◌, ◌≢◌, ℕ, Option, false};
+ghost use Rattle.std.specs.Prelude.{◌≡◌, Option, false};
 ghost use Rattle.at_adsp_ends.specs.Tables.{AreRooms};
-ghost use Rattle.at_event.specs.Kinds.{Adsp, Atp, Nbp, kind_of_call};
 ghost use Rattle.at_node.specs.Limits.{IsWithin};
 ghost use Rattle.at_node.specs.Nodes.{opening, called, timed};
 ghost use Rattle.at_event.specs.Outcomes.{IsStep, refused_as};
@@ -9,7 +8,6 @@ ghost use Rattle.at_event.specs.Services.{is_asked};
 
 use crate::atp_part::AtpPart;
 use crate::name_part::NamePart;
-use crate::requester_socket::Question;
 use crate::settings::Settings;
 use at_adsp_ends::Tick;
 use at_atp::laws::at_most_64_records_stand;
@@ -100,101 +98,11 @@ impl<A: Allocator + Copy> Node<A> {
         ensures { IsStep (called self.old call.now) self.old out.old.items result self.new out.new.items }
     {
         match call {
-            Call::Zones { .. } | Call::SetZones { .. } | Call::Ask { .. } | Call::Answer { .. } => {
-                self.call_atp(call, out)
-            }
-            Call::Pick { zone } => self.pick(zone),
-            Call::Finish { id } => self.finish(*id),
-            Call::Open { .. }
-            | Call::Listen { .. }
-            | Call::Connect { .. }
-            | Call::Write { .. }
-            | Call::Read { .. }
-            | Call::Reset { .. }
-            | Call::Close { .. } => self.call_streams(call, out),
-            _ => self.call_names(call, out),
-        }
-    }
-
-    // Plays a call of the sockets for requests.
-    fn call_atp(&mut self, call: &Call<A>, out: &mut Datagrams<A>) -> Report<A>
-        requires { kind_of_call call.now ≡ Atp }
-        ensures { IsStep (called self.old call.now) self.old out.old.items result self.new out.new.items }
-    {
-        match call {
-            Call::Zones { which } => self.atp.read_zones(self.seat, *which, out),
-            Call::SetZones { which, names } => self.atp.set_zones(*which, names.as_slice()),
-            Call::Ask {
-                node,
-                socket,
-                user,
-                data_,
-                wanted,
-                exactly_once,
-                retries,
-            } => {
-                let question = Question {
-                    to: self.seat.there(*node, *socket),
-                    user: *user,
-                    bytes: data_.as_slice(),
-                    wanted: wanted.get(),
-                    exactly_once: *exactly_once,
-                    retries: *retries,
-                };
-                self.atp.ask(self.seat, &question, out)
-            }
-            Call::Answer { key, packets } => {
-                self.atp.answer(self.seat, *key, packets.as_slice(), out)
-            }
-            _ => unreachable!(),
-        }
-    }
-
-    // Plays a call of the socket for names, but the end of a lookup.
-    fn call_names(&mut self, call: &Call<A>, out: &mut Datagrams<A>) -> Report<A>
-        requires kind { kind_of_call call.now ≡ Nbp }
-        requires other { (id : ℕ) → call.now ≢ Call.Finish id }
-        ensures { IsStep (called self.old call.now) self.old out.old.items result self.new out.new.items }
-    {
-        match call {
-            Call::Find { object, kind, zone } => {
-                let pattern = self.session.pattern(object, kind, zone);
-                self.names.find(self.seat, pattern, out)
-            }
-            Call::Claim {
-                object,
-                kind,
-                socket,
-            } => self.names.claim(self.seat, object, kind, *socket, out),
-            Call::Register {
-                object,
-                kind,
-                socket,
-            } => self.names.register(object, kind, *socket),
-            Call::Unregister { object, kind } => self.names.unregister(object, kind),
-            _ => unreachable!(),
-        }
-    }
-
-    // Plays a call of the socket for streams.
-    fn call_streams(&mut self, call: &Call<A>, out: &mut Datagrams<A>) -> Report<A>
-        requires { kind_of_call call.now ≡ Adsp }
-        ensures { IsStep (called self.old call.now) self.old out.old.items result self.new out.new.items }
-    {
-        match call {
-            Call::Open { index } => self.open(*index, out),
-            Call::Listen { on } => self.streams.listen(*on),
-            Call::Connect { node, socket } => {
-                let to = self.seat.there(*node, *socket);
-                self.streams.connect(self.seat, to, out)
-            }
-            Call::Write { id, items } => {
-                self.streams.write(self.seat, *id, items.as_slice(), out)
-            }
-            Call::Read { id, count } => self.streams.read(self.seat, *id, *count, out),
-            Call::Reset { id } => self.streams.reset(self.seat, *id, out),
-            Call::Close { id } => self.streams.close(self.seat, *id, out),
-            _ => unreachable!(),
+            Call::Transactions(call) => self.call_transactions(call, out),
+            Call::Zones(call) => self.call_zones(call, out),
+            Call::Names(call) => self.call_names(call, out),
+            Call::Streams(call) => self.call_streams(call, out),
+            Call::Session(call) => self.call_session(call),
         }
     }
 

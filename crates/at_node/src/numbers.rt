@@ -24,10 +24,8 @@ use crate::incoming::Incoming;
 use crate::laws::what_is_drawn_is_told;
 use crate::node::Node;
 use crate::requester_socket::{REQUESTER_SOCKET, tid_of};
-use at_atp::MAX_DATA;
 use at_atp_frame::owner;
 use at_event::{Call, Timer};
-use at_nbp::is_no_name;
 use at_packet::{AdspPacket, AtpPacket, Body, NbpPacket, Packet};
 use at_stream_socket::laws::requests_alone_make_ends;
 use std::alloc::{Allocator, Global};
@@ -85,31 +83,11 @@ impl<A: Allocator + Copy> Node<A> {
         ensures { result ≡ draw_of self.now call.now }
     {
         match call {
-            Call::Zones { .. } => {
-                if self.seat.router.is_none() || self.atp.reading.is_some() {
-                    return None;
-                }
-                self.next_draw()
-            }
-            Call::Ask { data_, .. } => {
-                if data_.as_slice().len() > MAX_DATA {
-                    return None;
-                }
-                self.next_draw()
-            }
-            Call::Find { .. } => self.next_lookup(),
-            Call::Connect { .. } => self.next_end(),
-            Call::Open { index } => {
-                self.session.address_at(*index)?;
-                self.next_end()
-            }
-            Call::Claim { object, kind, .. } => {
-                if is_no_name(object, kind) {
-                    return None;
-                }
-                self.next_lookup()
-            }
-            _ => None,
+            Call::Transactions(call) => self.draw_of_transactions(call),
+            Call::Zones(call) => self.draw_of_zones(call),
+            Call::Names(call) => self.draw_of_names(call),
+            Call::Streams(call) => self.draw_of_streams(call),
+            Call::Session(_) => None,
         }
     }
 
@@ -189,21 +167,21 @@ impl<A: Allocator + Copy> Node<A> {
         }
     }
 
-    fn next_draw(&self) -> Option<Draw>
+    pub(crate) fn next_draw(&self) -> Option<Draw>
         ensures { result ≡ option_map (λ tid. Tid tid) (next_number self.now.atp.requester) }
     {
         let tid = self.atp.requester.next_number(None)?;
         Some(Draw::Tid(tid))
     }
 
-    fn next_end(&self) -> Option<Draw>
+    pub(crate) fn next_end(&self) -> Option<Draw>
         ensures { result ≡ option_map (λ id. Conn id) (next_end self.now.streams) }
     {
         let id = self.streams.next_id()?;
         Some(Draw::Conn(id))
     }
 
-    fn next_lookup(&self) -> Option<Draw>
+    pub(crate) fn next_lookup(&self) -> Option<Draw>
         ensures { result ≡ option_map (λ id. Lookup id) (next_id self.now.names.lookups) }
     {
         let id = self.names.socket.next_id()?;

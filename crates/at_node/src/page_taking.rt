@@ -1,5 +1,5 @@
-//! What becomes of the page that a reading of a zone table asked for. Whoever takes a list that a reading ends with gets
-//! two copies of it: one in the report, and one for the session.
+//! What becomes of the page that a reading of a zone table asked for. Whoever takes a list that a reading ends with
+//! gets two copies of it: one in the report, and one for the session.
 ghost use Rattle.std.specs.Prelude.{◌≡◌, ◌≢◌, ◌+◌, ◌≤◌, ◌++◌, ◌∷◌, [], List, ℕ, length, map, None, Some, IfOk};
 ghost use Rattle.std.specs.Prelude.{IfSome, IsSome, OnErr, true, false};
 ghost use Rattle.at_ddp.specs.Datagrams.{Posted};

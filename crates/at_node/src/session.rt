@@ -7,14 +7,15 @@ ghost use Rattle.at_node.specs.Nodes.{called};
 
 use crate::node::Node;
 use at_ddp::{Datagrams, Pascal};
-use at_event::{Call, NodeFault, Report};
+use at_event::{Call, NameCall, NodeFault, Report, SessionCall, StreamCall};
 use std::alloc::Allocator;
 
 impl<A: Allocator + Copy> Node<A> {
     // Picks a zone of a zone list that was read last.
     pub(crate) fn pick(&mut self, zone: &Pascal) -> Report<A>
         ensures { (sent : List Posted)
-            → IsStep (called {A = A} self.old (Call.Pick zone.now)) self.old sent result self.new sent }
+            → IsStep (called {A = A} self.old (Call.Session (SessionCall.Pick zone.now))) self.old sent result self.new
+            sent }
     {
         match self.session.pick(zone) {
             Ok(()) => Report::Picked,
@@ -25,7 +26,7 @@ impl<A: Allocator + Copy> Node<A> {
     // Ends a lookup. What it found is kept, unless it is a claim.
     pub(crate) fn finish(&mut self, id: u8) -> Report<A>
         ensures { (sent : List Posted)
-            → IsStep (called {A = A} self.old (Call.Finish id)) self.old sent result self.new sent }
+            → IsStep (called {A = A} self.old (Call.Names (NameCall.Finish id))) self.old sent result self.new sent }
     {
         let Ok(finds) = self.names.finds_told(id) else {
             return Report::NoMemory;
@@ -37,8 +38,8 @@ impl<A: Allocator + Copy> Node<A> {
 
     // Asks for a connection with what was found.
     pub(crate) fn open(&mut self, index: u64, out: &mut Datagrams<A>) -> Report<A>
-        ensures { IsStep (called {A = A} self.old (Call.Open index)) self.old out.old.items result self.new
-            out.new.items }
+        ensures { IsStep (called {A = A} self.old (Call.Streams (StreamCall.Open index))) self.old out.old.items result
+            self.new out.new.items }
     {
         match self.session.address_at(index) {
             Some(to) => self.streams.connect(self.seat, to, out),

@@ -21,8 +21,8 @@ use std::alloc::{AllocError, Allocator};
 impl<A: Allocator + Copy> Node<A> {
     /// Adds the timers that would do something now to the end of a list, each once: a retry for each open transaction;
     /// a release for each record of a request that was answered or released; a lookup for each that is open; a resend
-    /// for each end that has something to send again; and a probe for each end that is not closed. These are 200 at most.
-    /// The error is out of memory.
+    /// for each end that has something to send again; and a probe for each end that is not closed. These are at most
+    /// 200. The error is out of memory.
     pub fn timers(&self, timers: &mut Vec<Timer, A>) -> Result<(), AllocError>
         ensures list { OnOk result (timers.new.items ≡ timers.old.items ++ timers_of self.now) }
 

@@ -4,9 +4,9 @@ use Rattle.std.specs.Prelude.{MatchBool, ◌==◌, ◌||◌}
 use Rattle.at_ddp.specs.Datagram.{Content as Datagram}
 use Rattle.at_ddp.specs.Protocols.{atp_kind, nbp_kind, adsp_kind}
 use Rattle.at_event.specs.declared.event.Call.{Call}
-use Rattle.at_event.specs.declared.event.Call.TheVariants.{Zones, SetZones, Ask, Answer, Pick, Find, Claim, Finish}
-use Rattle.at_event.specs.declared.event.Call.TheVariants.{Register, Unregister, Open, Listen, Connect, Write, Read}
-use Rattle.at_event.specs.declared.event.Call.TheVariants.{Reset, Close}
+use Rattle.at_event.specs.declared.event.Call.TheVariants.{Transactions, Zones, Names, Streams, Session}
+use Rattle.at_event.specs.declared.calls.NameCall.{NameCall}
+use Rattle.at_event.specs.declared.calls.NameCall.TheVariants.{Find, Claim, Finish, Register, Unregister}
 use Rattle.at_event.specs.declared.report.Report.TheVariants as report
 use Rattle.at_event.specs.declared.event.Timer.{Timer}
 use Rattle.at_event.specs.declared.event.Timer.TheVariants as timer
@@ -15,35 +15,25 @@ use Rattle.at_node.specs.AtpHearing.{HearsAtp}
 use Rattle.at_node.specs.Hearing.{Hears, HearsIt, HearsMine}
 use Rattle.at_node.specs.NameHearing.{HearsNames}
 use Rattle.at_nodes.specs.Nodes.{KeepsSeat}
-use Rattle.at_node.specs.Nodes.{NodeState, over_atp, with_names, with_session, with_streams, called, timed}
+use Rattle.at_node.specs.Nodes.{NodeState, over_atp, with_names, with_streams, called, timed}
 use Rattle.at_event.specs.Outcomes.{Outcome, Over, Through, idle, over}
-use Rattle.at_node.specs.SessionCalls.{picked_as}
-use Rattle.at_session.specs.Sessions.{is_listed}
 use Rattle.at_stream_socket.specs.Hearing.{HearsStreams}
 use Rattle.at_event.specs.Seats.{is_for_all, is_mine}
 
+name_call_keeps_seat : (A : Type 0) (n : NodeState) (call : NameCall)
+    → KeepsSeat {A = A} n (called n (Names call))
+name_call_keeps_seat A n (Find object kind zone) = refl
+name_call_keeps_seat A n (Claim object kind socket) = refl
+name_call_keeps_seat A n (Finish id) = refl
+name_call_keeps_seat A n (Register object kind socket) = refl
+name_call_keeps_seat A n (Unregister object kind) = refl
+
 pub call_keeps_seat : (A : Type 0) (n : NodeState) (call : Call A) → KeepsSeat n (called n call)
-call_keeps_seat A n (Zones which) = refl
-call_keeps_seat A n (SetZones which names) = refl
-call_keeps_seat A n (Ask node socket user bytes wanted xo retries) = refl
-call_keeps_seat A n (Answer key packets) = refl
-call_keeps_seat A n (Pick zone) = picking (is_listed n.session zone)
-  where
-    picking : (b : Bool) → KeepsSeat {A = A} n (over (with_session n) (picked_as n.session zone b))
-    picking true = refl
-    picking false = refl
-call_keeps_seat A n (Find object kind _) = refl
-call_keeps_seat A n (Claim object kind socket) = refl
-call_keeps_seat A n (Finish id) = refl
-call_keeps_seat A n (Register object kind socket) = refl
-call_keeps_seat A n (Unregister object kind) = refl
-call_keeps_seat A n (Open index) = refl
-call_keeps_seat A n (Listen on) = refl
-call_keeps_seat A n (Connect node socket) = refl
-call_keeps_seat A n (Write id items) = refl
-call_keeps_seat A n (Read id count) = refl
-call_keeps_seat A n (Reset id) = refl
-call_keeps_seat A n (Close id) = refl
+call_keeps_seat A n (Transactions call) = refl
+call_keeps_seat A n (Zones call) = refl
+call_keeps_seat A n (Names call) = name_call_keeps_seat A n call
+call_keeps_seat A n (Streams call) = refl
+call_keeps_seat A n (Session call) = refl
 
 pub timer_keeps_seat : (A : Type 0) (n : NodeState) (time : Timer) → KeepsSeat {A = A} n (timed n time)
 timer_keeps_seat A n (timer.Retry tid) = refl

@@ -44,9 +44,9 @@ use Rattle.at_node.specs.ZoneReading.{AsksOn, ReadsPage, TakesPage, after_failin
 use Rattle.at_node.specs.ZoneReading.{page_transaction, reading_begins, table_read, zones_called}
 use Rattle.at_node.specs.ZoneSocket.{AtZones, at_zones, page_packet, set_zones_called, table_set, zone_taken}
 use Rattle.at_event.specs.declared.event.Call.{Call}
-use Rattle.at_event.specs.declared.event.Call.TheVariants.{Zones, SetZones, Ask, Answer, Pick, Find, Claim, Finish}
-use Rattle.at_event.specs.declared.event.Call.TheVariants.{Register, Unregister, Open, Listen, Connect, Write, Read}
-use Rattle.at_event.specs.declared.event.Call.TheVariants.{Reset, Close}
+use Rattle.at_event.specs.declared.event.Call.TheVariants.{Transactions, Zones, Names, Streams, Session}
+use Rattle.at_event.specs.declared.calls.TransactionCall.TheVariants.{Ask, Answer}
+use Rattle.at_event.specs.declared.calls.ZoneCall.TheVariants as zone
 use Rattle.at_event.specs.declared.report.Report.{Report}
 use Rattle.at_event.specs.declared.report.Report.TheVariants as report
 use Rattle.at_event.specs.declared.event.Timer.{Timer}
@@ -134,50 +134,40 @@ module _ (A : Type 0) (call : Call A) (a : AtpState) where
 
 pub call_of_atp : (A : Type 0) (n : NodeState) (call : Call A) → is_atp (kind_of_call call) ≡ true
     → ComesOfAtp A n (Calls call) (called n call)
-call_of_atp A n (Zones kind) h = record {
+call_of_atp A n (Zones (zone.Read kind)) h = record {
   part = zones_called n.seat n.atp kind n.seat.router n.atp.reading;
   kept = n.session;
   is = refl;
   keeps = refl;
-  its = reading_zones A (Zones kind) n.atp n.seat kind n.seat.router n.atp.reading;
+  its = reading_zones A (Zones (zone.Read kind)) n.atp n.seat kind n.seat.router n.atp.reading;
 }
-call_of_atp A n (SetZones kind names) h = record {
+call_of_atp A n (Zones (zone.Set kind names)) h = record {
   part = set_zones_called n.atp n.atp.tables kind names;
   kept = n.session;
   is = refl;
   keeps = refl;
-  its = setting_zones A (SetZones kind names) n.atp kind names n.atp.tables;
+  its = setting_zones A (Zones (zone.Set kind names)) n.atp kind names n.atp.tables;
 }
-call_of_atp A n (Ask node socket user bytes wanted xo retries) h = record {
+call_of_atp A n (Transactions (Ask node socket user bytes wanted xo retries)) h = record {
   part = ask_called n.seat n.atp (at_socket n.seat node socket) user bytes wanted xo retries;
   kept = n.session;
   is = refl;
   keeps = refl;
-  its = asking_bytes A (Ask node socket user bytes wanted xo retries) n.atp n.seat
+  its = asking_bytes A (Transactions (Ask node socket user bytes wanted xo retries)) n.atp n.seat
       (at_socket n.seat node socket) user bytes wanted xo retries (nat_lt 578 (length bytes));
 }
-call_of_atp A n (Answer key packets) h = record {
+call_of_atp A n (Transactions (Answer key packets)) h = record {
   part = answer_called n.seat n.atp key packets;
   kept = n.session;
   is = refl;
   keeps = refl;
-  its = answering A (Answer key packets) n.atp n.seat
+  its = answering A (Transactions (Answer key packets)) n.atp n.seat
       key packets
       (answer_fault n.atp.service_responder key packets);
 }
-call_of_atp A n (Pick zone) h = absurd (true≢false (sym h))
-call_of_atp A n (Find object kind _) h = absurd (true≢false (sym h))
-call_of_atp A n (Claim object kind socket) h = absurd (true≢false (sym h))
-call_of_atp A n (Finish id) h = absurd (true≢false (sym h))
-call_of_atp A n (Register object kind socket) h = absurd (true≢false (sym h))
-call_of_atp A n (Unregister object kind) h = absurd (true≢false (sym h))
-call_of_atp A n (Open index) h = absurd (true≢false (sym h))
-call_of_atp A n (Listen on) h = absurd (true≢false (sym h))
-call_of_atp A n (Connect node socket) h = absurd (true≢false (sym h))
-call_of_atp A n (Write id items) h = absurd (true≢false (sym h))
-call_of_atp A n (Read id count) h = absurd (true≢false (sym h))
-call_of_atp A n (Reset id) h = absurd (true≢false (sym h))
-call_of_atp A n (Close id) h = absurd (true≢false (sym h))
+call_of_atp A n (Session call) h = absurd (true≢false (sym h))
+call_of_atp A n (Names call) h = absurd (true≢false (sym h))
+call_of_atp A n (Streams call) h = absurd (true≢false (sym h))
 
 module _ (A : Type 0) (a : AtpState) where
   timer_refused : (time : Timer) (number : Option ℕ) → IsOfTransactions A (Fires time) (idle a (refused_as number))

@@ -28,9 +28,8 @@ use Rattle.at_event.specs.Kinds.{Kind, Nbp, Nobody, kind_of_call, kind_of_timer,
 use Rattle.at_node.specs.Nodes.{NodeState, with_names, called, timed}
 use Rattle.at_event.specs.Outcomes.{Outcome, idle, over, refused_as, sent_by}
 use Rattle.at_event.specs.declared.event.Call.{Call}
-use Rattle.at_event.specs.declared.event.Call.TheVariants.{Zones, SetZones, Ask, Answer, Pick, Find, Claim, Finish}
-use Rattle.at_event.specs.declared.event.Call.TheVariants.{Register, Unregister, Open, Listen, Connect, Write, Read}
-use Rattle.at_event.specs.declared.event.Call.TheVariants.{Reset, Close}
+use Rattle.at_event.specs.declared.event.Call.TheVariants.{Transactions, Zones, Names, Streams, Session}
+use Rattle.at_event.specs.declared.calls.NameCall.TheVariants.{Find, Claim, Finish, Register, Unregister}
 use Rattle.at_event.specs.declared.report.Report.{Report}
 use Rattle.at_event.specs.declared.report.Report.TheVariants as report
 use Rattle.at_event.specs.declared.event.Timer.{Timer}
@@ -109,62 +108,56 @@ module _ (A : Type 0) (call : Call A) (n : SocketState) where
   registering object kind socket (Some fault) = call_refused (number_of fault)
 
 unregistering : (A : Type 0) (n : SocketState) (object kind : List ℕ) (o : Option Registered)
-    → IsOfLookups A (Calls (Unregister object kind)) (unregistered_as n object kind o)
-unregistering A n object kind None = call_refused A (Unregister object kind) n (number_of NoSuchName)
+    → IsOfLookups A (Calls (Names (Unregister object kind))) (unregistered_as n object kind o)
+unregistering A n object kind None = call_refused A (Names (Unregister object kind)) n (number_of NoSuchName)
 unregistering A n object kind (Some name) = (tt, (tt, tt))
 
 pub call_of_names : (A : Type 0) (n : NodeState) (call : Call A) → is_nbp (kind_of_call call) ≡ true
     → ComesOfNames A n (Calls call) (called n call)
-call_of_names A n (Zones kind) h = absurd (true≢false (sym h))
-call_of_names A n (SetZones kind names) h = absurd (true≢false (sym h))
-call_of_names A n (Ask node socket user bytes wanted xo retries) h = absurd (true≢false (sym h))
-call_of_names A n (Answer key packets) h = absurd (true≢false (sym h))
-call_of_names A n (Pick zone) h = absurd (true≢false (sym h))
-call_of_names A n (Find object kind zone) h = record {
+call_of_names A n (Zones call) h = absurd (true≢false (sym h))
+call_of_names A n (Transactions call) h = absurd (true≢false (sym h))
+call_of_names A n (Session call) h = absurd (true≢false (sym h))
+call_of_names A n (Names (Find object kind zone)) h = record {
   part = find_called n.seat n.names (pattern_asked n.session object kind zone);
   kept = n.session;
   is = refl;
   keeps = refl;
-  its = found A (Find object kind zone) n.names n.seat (pattern_asked n.session object kind zone)
+  its = found A (Names (Find object kind zone)) n.names n.seat (pattern_asked n.session object kind zone)
       (lookups.next_id n.names.lookups);
 }
-call_of_names A n (Claim object kind socket) h = record {
+call_of_names A n (Names (Claim object kind socket)) h = record {
   part = claim_called n.seat n.names object kind socket;
   kept = n.session;
   is = refl;
   keeps = refl;
-  its = claiming A (Claim object kind socket) n.names n.seat object kind socket (is_no_text object || is_no_text kind);
+  its =
+      claiming A (Names (Claim object kind socket)) n.names n.seat object kind socket
+      (is_no_text object || is_no_text kind);
 }
-call_of_names A n (Finish id) h =
+call_of_names A n (Names (Finish id)) h =
     record {
       part = finish_called n.names id;
       kept = finds_kept n.session (finish_called {A = A} n.names id).report;
       is = refl;
       keeps = refl;
-      its = ended A (Finish id) n.names id (finish_fault n.names id);
+      its = ended A (Names (Finish id)) n.names id (finish_fault n.names id);
     }
-call_of_names A n (Register object kind socket) h = record {
+call_of_names A n (Names (Register object kind socket)) h = record {
   part = register_called n.names object kind socket;
   kept = n.session;
   is = refl;
   keeps = refl;
-  its = registering A (Register object kind socket) n.names object kind socket
+  its = registering A (Names (Register object kind socket)) n.names object kind socket
       (register_fault n.names.table.names object kind);
 }
-call_of_names A n (Unregister object kind) h = record {
+call_of_names A n (Names (Unregister object kind)) h = record {
   part = unregister_called n.names object kind;
   kept = n.session;
   is = refl;
   keeps = refl;
   its = unregistering A n.names object kind (find (is_called object kind) n.names.table.names);
 }
-call_of_names A n (Open index) h = absurd (true≢false (sym h))
-call_of_names A n (Listen on) h = absurd (true≢false (sym h))
-call_of_names A n (Connect node socket) h = absurd (true≢false (sym h))
-call_of_names A n (Write id items) h = absurd (true≢false (sym h))
-call_of_names A n (Read id count) h = absurd (true≢false (sym h))
-call_of_names A n (Reset id) h = absurd (true≢false (sym h))
-call_of_names A n (Close id) h = absurd (true≢false (sym h))
+call_of_names A n (Streams call) h = absurd (true≢false (sym h))
 
 asked : (A : Type 0) (s : Seat) (n : SocketState) (id : ℕ) (o : Option Search)
     → IsOfLookups A (Fires (timer.Lookup id)) (asked_again s n o)

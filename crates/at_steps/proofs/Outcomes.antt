@@ -10,9 +10,9 @@ use Rattle.at_event.specs.Kinds.{Kind, Adsp, Atp, Nbp, Nobody, Session, kind_of_
 use Rattle.at_event.specs.Outcomes.{Outcome, Outgoing, Over, Through, idle, over}
 use Rattle.at_event.specs.Seats.{is_for_all, is_mine}
 use Rattle.at_event.specs.declared.event.Call.{Call}
-use Rattle.at_event.specs.declared.event.Call.TheVariants.{Zones, SetZones, Ask, Answer, Pick, Find, Claim, Finish}
-use Rattle.at_event.specs.declared.event.Call.TheVariants.{Register, Unregister, Open, Listen, Connect, Write, Read}
-use Rattle.at_event.specs.declared.event.Call.TheVariants.{Reset, Close}
+use Rattle.at_event.specs.declared.event.Call.TheVariants.{Transactions, Zones, Names, Streams}
+use Rattle.at_event.specs.declared.event.Call.TheVariants as protocol
+use Rattle.at_event.specs.declared.calls.SessionCall.TheVariants.{Pick}
 use Rattle.at_event.specs.declared.report.Report.{Report}
 use Rattle.at_event.specs.declared.report.Report.TheVariants as report
 use Rattle.at_event.specs.declared.event.Timer.{Timer}
@@ -85,15 +85,15 @@ others_sent kind other apart (o ∷ out) h = (ap (λ k. k == other) h.0 ∙ apar
 
 module _ (A : Type 0) (n : NodeState) where
   pub call_comes : (call : Call A) → Comes A n (Calls call) (called n call) (kind_of_call call)
-  call_comes (Zones kind) = call_of_atp A n (Zones kind) refl
-  call_comes (SetZones kind names) = call_of_atp A n (SetZones kind names) refl
-  call_comes (Ask node socket user bytes wanted xo retries) =
-      call_of_atp A n (Ask node socket user bytes wanted xo retries) refl
-  call_comes (Answer key packets) = call_of_atp A n (Answer key packets) refl
-  call_comes (Pick zone) = picking_comes (is_listed n.session zone) refl
+  call_comes (Transactions call) = call_of_atp A n (Transactions call) refl
+  call_comes (Zones call) = call_of_atp A n (Zones call) refl
+  call_comes (Names call) = call_of_names A n (Names call) refl
+  call_comes (Streams call) = call_of_streams A n (Streams call) refl
+  call_comes (protocol.Session (Pick zone)) = picking_comes (is_listed n.session zone) refl
     where
       picking_comes : (b : Bool) → is_listed n.session zone ≡ b
-          → ComesOfNothing A n (Calls (Pick zone)) (over (with_session n) (picked_as n.session zone b))
+          → ComesOfNothing A n (Calls (protocol.Session (Pick zone)))
+          (over (with_session n) (picked_as n.session zone b))
       picking_comes true listed = record {
         report = report.Picked;
         kept = picking n.session zone;
@@ -112,18 +112,6 @@ module _ (A : Type 0) (n : NodeState) where
         said = tt;
         picks = tt;
       }
-  call_comes (Find object kind zone) = call_of_names A n (Find object kind zone) refl
-  call_comes (Claim object kind socket) = call_of_names A n (Claim object kind socket) refl
-  call_comes (Finish id) = call_of_names A n (Finish id) refl
-  call_comes (Register object kind socket) = call_of_names A n (Register object kind socket) refl
-  call_comes (Unregister object kind) = call_of_names A n (Unregister object kind) refl
-  call_comes (Open index) = call_of_streams A n (Open index) refl
-  call_comes (Listen on) = call_of_streams A n (Listen on) refl
-  call_comes (Connect node socket) = call_of_streams A n (Connect node socket) refl
-  call_comes (Write id items) = call_of_streams A n (Write id items) refl
-  call_comes (Read id count) = call_of_streams A n (Read id count) refl
-  call_comes (Reset id) = call_of_streams A n (Reset id) refl
-  call_comes (Close id) = call_of_streams A n (Close id) refl
 
   pub timer_comes : (time : Timer) → Comes A n (Fires time) (timed n time) (kind_of_timer time)
   timer_comes (timer.Retry tid) = timer_of_atp A n (timer.Retry tid) refl

@@ -26,9 +26,8 @@ use Rattle.at_event.specs.Kinds.{Kind, Adsp, Nobody, kind_of_call, kind_of_timer
 use Rattle.at_event.specs.Outcomes.{Outcome, idle, over, refused_as, sent_by}
 use Rattle.at_event.specs.Seats.{at_socket}
 use Rattle.at_event.specs.declared.event.Call.{Call}
-use Rattle.at_event.specs.declared.event.Call.TheVariants.{Zones, SetZones, Ask, Answer, Pick, Find, Claim, Finish}
-use Rattle.at_event.specs.declared.event.Call.TheVariants.{Register, Unregister, Open, Listen, Connect, Write, Read}
-use Rattle.at_event.specs.declared.event.Call.TheVariants.{Reset, Close}
+use Rattle.at_event.specs.declared.event.Call.TheVariants.{Transactions, Zones, Names, Streams, Session}
+use Rattle.at_event.specs.declared.calls.StreamCall.TheVariants.{Open, Listen, Connect, Write, Read, Reset, Close}
 use Rattle.at_event.specs.declared.report.Report.{Report}
 use Rattle.at_event.specs.declared.report.Report.TheVariants as report
 use Rattle.at_event.specs.declared.event.Timer.{Timer}
@@ -105,7 +104,7 @@ module _ (A : Type 0) (act : Act A) (t : EndTable) where
 
 -- an end is closed or freed
 closing : (A : Type 0) (t : EndTable) (id k : ℕ) (o : Option EndState) (d : Done Step) → closed_at wire t o ≡ Ok d
-    → MaySay A (Calls (Close k)) (told_by d.answer)
+    → MaySay A (Calls (Streams (Close k))) (told_by d.answer)
 closing A t id k None d is = absurd (cc)
 closing A t id k (Some e) d is = go (is_open e.phase) is
   where
@@ -114,10 +113,10 @@ closing A t id k (Some e) d is = go (is_open e.phase) is
 
     go : (b : Bool) → ◌≡◌ {A = Result (Done Step) StreamFault}
         (cond b (Ok (moved t (step.Closed e.id) (closing_ wire e).after (closing_ wire e).sent))
-        (Ok (freed t (step.Freed e.id) e))) (Ok d) → MaySay A (Calls (Close k)) (told_by d.answer)
-    go true h = subst (λ (x : Done Step). MaySay A (Calls (Close k)) (told_by x.answer))
+        (Ok (freed t (step.Freed e.id) e))) (Ok d) → MaySay A (Calls (Streams (Close k))) (told_by d.answer)
+    go true h = subst (λ (x : Done Step). MaySay A (Calls (Streams (Close k))) (told_by x.answer))
         (ok_same (moved t (step.Closed e.id) (closing_ wire e).after (closing_ wire e).sent) d h) (tt, tt)
-    go false h = subst (λ (x : Done Step). MaySay A (Calls (Close k)) (told_by x.answer))
+    go false h = subst (λ (x : Done Step). MaySay A (Calls (Streams (Close k))) (told_by x.answer))
         (ok_same (freed t (step.Freed e.id) e) d h) (tt, tt)
 
 -- the answers of a tick
@@ -163,30 +162,24 @@ connecting : (A : Type 0) (call : Call A) (s : Seat) (t : EndTable) (to : Addres
 connecting A call s t to = called_with A (Calls call) t s report.Opening (connected t to (next_id t)) (λ d is. (tt, tt))
 
 opening : (A : Type 0) (index : ℕ) (s : Seat) (t : EndTable) (o : Option Address)
-    → IsOfStreams A (Calls (Open index)) (open_called s t o)
+    → IsOfStreams A (Calls (Streams (Open index))) (open_called s t o)
 opening A index s t None = record { sends = tt; reports = tt; said = tt }
-opening A index s t (Some to) = connecting A (Open index) s t to
+opening A index s t (Some to) = connecting A (Streams (Open index)) s t to
 
 pub call_of_streams : (A : Type 0) (n : NodeState) (call : Call A) → is_adsp (kind_of_call call) ≡ true
     → ComesOfStreams A n (Calls call) (called n call)
-call_of_streams A n (Zones kind) h = absurd (true≢false (sym h))
-call_of_streams A n (SetZones kind names) h = absurd (true≢false (sym h))
-call_of_streams A n (Ask node socket user bytes wanted xo retries) h = absurd (true≢false (sym h))
-call_of_streams A n (Answer key packets) h = absurd (true≢false (sym h))
-call_of_streams A n (Pick zone) h = absurd (true≢false (sym h))
-call_of_streams A n (Find object kind _) h = absurd (true≢false (sym h))
-call_of_streams A n (Claim object kind socket) h = absurd (true≢false (sym h))
-call_of_streams A n (Finish id) h = absurd (true≢false (sym h))
-call_of_streams A n (Register object kind socket) h = absurd (true≢false (sym h))
-call_of_streams A n (Unregister object kind) h = absurd (true≢false (sym h))
-call_of_streams A n (Open index) h = record {
+call_of_streams A n (Zones call) h = absurd (true≢false (sym h))
+call_of_streams A n (Transactions call) h = absurd (true≢false (sym h))
+call_of_streams A n (Session call) h = absurd (true≢false (sym h))
+call_of_streams A n (Names call) h = absurd (true≢false (sym h))
+call_of_streams A n (Streams (Open index)) h = record {
   part = open_called n.seat n.streams (address_at n.session index);
   kept = n.session;
   is = refl;
   keeps = refl;
   its = opening A index n.seat n.streams (address_at n.session index);
 }
-call_of_streams A n (Listen on) h =
+call_of_streams A n (Streams (Listen on)) h =
     record {
       part = calls.listen_called n.streams on;
       kept = n.session;
@@ -194,43 +187,45 @@ call_of_streams A n (Listen on) h =
       keeps = refl;
       its = record { sends = tt; reports = tt; said = tt };
     }
-call_of_streams A n (Connect node socket) h = record {
+call_of_streams A n (Streams (Connect node socket)) h = record {
   part = calls.connect_called n.seat n.streams (at_socket n.seat node socket);
   kept = n.session;
   is = refl;
   keeps = refl;
-  its = connecting A (Connect node socket) n.seat n.streams (at_socket n.seat node socket);
+  its = connecting A (Streams (Connect node socket)) n.seat n.streams (at_socket n.seat node socket);
 }
-call_of_streams A n (Write id items) h = record {
+call_of_streams A n (Streams (Write id items)) h = record {
   part = calls.write_called n.seat n.streams id items;
   kept = n.session;
   is = refl;
   keeps = refl;
-  its = called_with A (Calls (Write id items)) n.streams n.seat report.Wrote
+  its = called_with A (Calls (Streams (Write id items))) n.streams n.seat report.Wrote
       (wrote wire n.streams items (by_id n.streams id)) (λ d is. (tt, tt));
 }
-call_of_streams A n (Read id count) h = record {
+call_of_streams A n (Streams (Read id count)) h = record {
   part = calls.read_called n.seat n.streams id count;
   kept = n.session;
   is = refl;
   keeps = refl;
-  its = called_with A (Calls (Read id count)) n.streams n.seat report.Read
+  its = called_with A (Calls (Streams (Read id count))) n.streams n.seat report.Read
       (read_at wire n.streams count (by_id n.streams id)) (λ d is. (tt, tt));
 }
-call_of_streams A n (Reset id) h = record {
+call_of_streams A n (Streams (Reset id)) h = record {
   part = calls.reset_called n.seat n.streams id;
   kept = n.session;
   is = refl;
   keeps = refl;
-  its = called_with A (Calls (Reset id)) n.streams n.seat (λ answer. report.StreamReset)
+  its = called_with A (Calls (Streams (Reset id))) n.streams n.seat (λ answer. report.StreamReset)
       (reset_at wire n.streams (by_id n.streams id)) (λ d is. (tt, tt));
 }
-call_of_streams A n (Close id) h = record {
+call_of_streams A n (Streams (Close id)) h = record {
   part = calls.close_called n.seat n.streams id;
   kept = n.session;
   is = refl;
   keeps = refl;
-  its = called_with A (Calls (Close id)) n.streams n.seat told_by (closed_at wire n.streams (by_id n.streams id))
+  its =
+      called_with A (Calls (Streams (Close id))) n.streams n.seat told_by
+      (closed_at wire n.streams (by_id n.streams id))
       (λ d is. closing A n.streams id id (by_id n.streams id) d is);
 }
 

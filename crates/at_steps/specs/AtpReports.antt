@@ -18,7 +18,9 @@ use Rattle.at_zip.specs.Request.{RequestSpells}
 use Rattle.at_zip.specs.Tables.{Tables, table_of}
 use Rattle.at_zip.specs.declared.request.Which.{Which}
 use Rattle.at_node.specs.AtpParts.{asking}
-use Rattle.at_event.specs.declared.event.Call.TheVariants.{Zones, Ask, Answer}
+use Rattle.at_event.specs.declared.event.Call.TheVariants.{Transactions, Zones}
+use Rattle.at_event.specs.declared.calls.TransactionCall.TheVariants.{Ask, Answer}
+use Rattle.at_event.specs.declared.calls.ZoneCall.TheVariants as zone
 use Rattle.at_event.specs.declared.report.Report.{Report}
 use Rattle.at_event.specs.declared.report.Report.TheVariants as report
 use Rattle.at_event.specs.declared.event.Timer.TheVariants as timer
@@ -52,13 +54,13 @@ handed_up_by sent act r key = false
 
 -- is this an exactly-once request?
 abbrev pub asks_once : {A : Type 0} → Act A → Bool
-asks_once (Calls (Ask k socket user bytes wanted xo retries)) = xo
+asks_once (Calls (Transactions (Ask k socket user bytes wanted xo retries))) = xo
 asks_once act = false
 
 -- how many packets does it ask for? one, if it reads a zone table
 abbrev pub asks_for : {A : Type 0} → Act A → ℕ
-asks_for (Calls (Ask k socket user bytes wanted xo retries)) = wanted
-asks_for (Calls (Zones which)) = 1
+asks_for (Calls (Transactions (Ask k socket user bytes wanted xo retries))) = wanted
+asks_for (Calls (Zones (zone.Read which))) = 1
 asks_for (Gets which) = 1
 asks_for act = 0
 
@@ -96,14 +98,14 @@ pub record IsPageAsked (tables : Option Tables) (n : Network) (which : ℕ) (pac
 -- a call gives an answer, or the router, which has these tables, answers what came by a page of one
 abbrev pub AnswersAs : {A : Type 0} → Option Tables → Network → Happening → Act A → Report A → Type 0
 AnswersAs tables n (Answers at key packets) act r =
-    (count : ℕ) × (act ≡ Calls (Answer key packets)) × (r ≡ report.Answered count)
+    (count : ℕ) × (act ≡ Calls (Transactions (Answer key packets))) × (r ≡ report.Answered count)
 AnswersAs tables n (Serves which packets) act r =
     (count : ℕ) × (act ≡ Gets which) × (r ≡ report.Served count) × IsPageAsked tables n which packets
 AnswersAs tables n h act r = Unit {0}
 
 -- an answer that is reported joins its transaction: that of a call, or the router's to what came
 abbrev pub Joins : {A : Type 0} → Network → Happening → Report A → Act A → Type 0
-Joins {A} n h (report.Answered count) (Calls (Answer key packets)) =
+Joins {A} n h (report.Answered count) (Calls (Transactions (Answer key packets))) =
     (done A n h).asked ≡ answered n.asked key.from key.tid packets
 Joins {A} n h (report.Served count) (Gets which) =
     (s : Sent) × (packet_at n.sent which ≡ Some s)

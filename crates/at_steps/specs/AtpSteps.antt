@@ -16,7 +16,9 @@ use Rattle.at_zip.specs.declared.request.Which.{Which}
 use Rattle.at_zip.specs.declared.fault.ZipFault.{ZipFault}
 use Rattle.at_node.specs.AtpParts.{AtpState, Reading, asking, serving, zones_at}
 use Rattle.at_node.specs.ZoneSocket.{page_packet}
-use Rattle.at_event.specs.declared.event.Call.TheVariants.{Zones, SetZones, Ask, Answer}
+use Rattle.at_event.specs.declared.event.Call.TheVariants.{Transactions, Zones}
+use Rattle.at_event.specs.declared.calls.TransactionCall.TheVariants.{Ask, Answer}
+use Rattle.at_event.specs.declared.calls.ZoneCall.TheVariants as zone
 use Rattle.at_event.specs.declared.report.Report.{Report}
 use Rattle.at_event.specs.declared.report.Report.TheVariants as report
 use Rattle.at_event.specs.declared.event.Timer.{Timer}
@@ -83,7 +85,7 @@ pub record BeginsAsking {A : Type 0} (net number : ℕ) (c : Change A) : Type 0 
   pub wanted : ℕ
   pub xo : Bool
   pub retries : ℕ
-  pub act : c.act ≡ Calls (Ask node socket user bytes wanted xo retries)
+  pub act : c.act ≡ Calls (Transactions (Ask node socket user bytes wanted xo retries))
   pub report : c.report ≡ report.Begun tid
   pub asked : c.now_asked
       ≡ new_transaction net number (record { net = net; node = node; socket = socket }) user bytes wanted xo tid
@@ -97,7 +99,7 @@ pub record BeginsReading {A : Type 0} (net number : ℕ) (router : Option ℕ) (
   pub tid : ℕ
   pub server : ℕ
   pub is_router : router ≡ Some server
-  pub act : c.act ≡ Calls (Zones which)
+  pub act : c.act ≡ Calls (Zones (zone.Read which))
   pub report : c.report ≡ report.Begun tid
   pub asked : c.now_asked ≡ page_asked net number (zones_at net server) which [] tid ∷ c.asked
   pub reading : c.now.reading ≡ Some (record { which = which; tid = tid; names = [] })
@@ -107,7 +109,7 @@ pub record SetsTable {A : Type 0} (c : Change A) : Type 0 where
   pub which : Which
   pub names : List (List ℕ)
   pub tables : Tables
-  pub act : c.act ≡ Calls (SetZones which names)
+  pub act : c.act ≡ Calls (Zones (zone.Set which names))
   pub report : c.report ≡ report.TableSet
   pub was : c.part.tables ≡ Some tables
   pub becomes : c.now.tables ≡ Some (with_table which names tables)
@@ -120,7 +122,7 @@ pub record GivesAnswer {A : Type 0} (net number : ℕ) (c : Change A) : Type 0 w
   pub key : Key
   pub packets : List Packet
   pub count : ℕ
-  pub act : c.act ≡ Calls (Answer key packets)
+  pub act : c.act ≡ Calls (Transactions (Answer key packets))
   pub report : c.report ≡ report.Answered count
   pub newest : Asked c.asked key.from key.tid (serving net number)
   pub few : count ≤ length packets

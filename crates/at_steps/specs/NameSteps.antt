@@ -11,7 +11,8 @@ use Rattle.at_name_socket.specs.Sockets as sockets
 use Rattle.at_name_socket.specs.Sockets.{Closes, Opens, Stays, changed, claim_of, open_at}
 use Rattle.at_name_socket.specs.declared.claim.Claim.{Claim as Claimed}
 use Rattle.at_session.specs.Sessions.{SessionState, pattern_asked}
-use Rattle.at_event.specs.declared.event.Call.TheVariants.{Claim, Find, Finish, Register, Unregister}
+use Rattle.at_event.specs.declared.event.Call.TheVariants.{Names}
+use Rattle.at_event.specs.declared.calls.NameCall.TheVariants.{Find, Claim, Finish, Register, Unregister}
 use Rattle.at_event.specs.declared.report.Report.{Report}
 use Rattle.at_event.specs.declared.report.Report.TheVariants as report
 use Rattle.at_event.specs.declared.event.Timer.TheVariants as timer
@@ -59,7 +60,7 @@ pub record BeginsLookup {A : Type 0} (c : Change A) : Type 0 where
   pub object : List ℕ
   pub kind : List ℕ
   pub zone : Option (List ℕ)
-  pub act : c.act ≡ Calls (Find object kind zone)
+  pub act : c.act ≡ Calls (Names (Find object kind zone))
   pub report : c.report ≡ report.Looking id
   pub table : c.now.table ≡ c.part.table
   pub lookups : Lookups c (Opens id (pattern_asked c.session object kind zone) None)
@@ -70,7 +71,7 @@ pub record BeginsClaim {A : Type 0} (c : Change A) : Type 0 where
   pub object : List ℕ
   pub kind : List ℕ
   pub socket : ℕ
-  pub act : c.act ≡ Calls (Claim object kind socket)
+  pub act : c.act ≡ Calls (Names (Claim object kind socket))
   pub report : c.report ≡ report.Looking id
   pub table : c.now.table ≡ c.part.table
   pub lookups : Lookups c (Opens id (any_pattern object kind)
@@ -80,7 +81,7 @@ pub record BeginsClaim {A : Type 0} (c : Change A) : Type 0 where
 pub record EndsLookup {A : Type 0} (c : Change A) : Type 0 where
   pub id : ℕ
   pub finds : List Found
-  pub act : c.act ≡ Calls (Finish id)
+  pub act : c.act ≡ Calls (Names (Finish id))
   pub report : c.report ≡ report.Found finds
   pub stands : IsOpen c.part id None finds
   pub table : c.now.table ≡ c.part.table
@@ -90,7 +91,7 @@ pub record EndsLookup {A : Type 0} (c : Change A) : Type 0 where
 pub record EndsClaim {A : Type 0} (c : Change A) : Type 0 where
   pub id : ℕ
   pub claim : Claimed
-  pub act : c.act ≡ Calls (Finish id)
+  pub act : c.act ≡ Calls (Names (Finish id))
   pub report : c.report ≡ report.Claimed
   pub stands : IsOpen c.part id (Some claim) []
   pub allowed : register_fault c.part.table.names claim.object claim.kind ≡ None
@@ -103,7 +104,7 @@ pub record LosesClaim {A : Type 0} (c : Change A) : Type 0 where
   pub claim : Claimed
   pub finds : List Found
   pub owner : Found
-  pub act : c.act ≡ Calls (Finish id)
+  pub act : c.act ≡ Calls (Names (Finish id))
   pub report : c.report ≡ report.Taken owner
   pub stands : IsOpen c.part id (Some claim) finds
   pub taken : taker c.part finds claim ≡ Some owner
@@ -115,7 +116,7 @@ pub record RegistersName {A : Type 0} (c : Change A) : Type 0 where
   pub object : List ℕ
   pub kind : List ℕ
   pub socket : ℕ
-  pub act : c.act ≡ Calls (Register object kind socket)
+  pub act : c.act ≡ Calls (Names (Register object kind socket))
   pub report : c.report ≡ report.Registered
   pub allowed : register_fault c.part.table.names object kind ≡ None
   pub table : IsRegistered object kind socket c.part.table c.now.table
@@ -126,7 +127,7 @@ pub record TakesAway {A : Type 0} (c : Change A) : Type 0 where
   pub object : List ℕ
   pub kind : List ℕ
   pub name : Registered
-  pub act : c.act ≡ Calls (Unregister object kind)
+  pub act : c.act ≡ Calls (Names (Unregister object kind))
   pub report : c.report ≡ report.Unregistered
   pub stood : find (is_called object kind) c.part.table.names ≡ Some name
   pub table : c.now.table ≡ record c.part.table {

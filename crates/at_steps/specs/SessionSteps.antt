@@ -2,7 +2,10 @@
 -- picked (Inside AppleTalk, ZIP, "GetZoneList", "GetLocalZones"; NBP, "Name lookup").
 use Rattle.std.specs.Prelude.{◌≡◌, ℕ, List, true}
 use Rattle.at_event.specs.Kinds.{Kind, Session, reporter_of}
-use Rattle.at_event.specs.declared.event.Call.TheVariants.{Finish, Pick}
+use Rattle.at_event.specs.declared.event.Call.TheVariants.{Names}
+use Rattle.at_event.specs.declared.event.Call.TheVariants as protocol
+use Rattle.at_event.specs.declared.calls.NameCall.TheVariants.{Finish}
+use Rattle.at_event.specs.declared.calls.SessionCall.TheVariants.{Pick}
 use Rattle.at_event.specs.declared.report.Report.{Report}
 use Rattle.at_event.specs.declared.report.Report.TheVariants as report
 use Rattle.at_session.specs.Sessions.{SessionState, finds_kept, is_listed, list_kept, picking}
@@ -16,14 +19,14 @@ pick_kept s zone other = s
 -- The session after a step with this report. It keeps the zone list that a datagram ends a reading with, what a lookup
 -- found that its user ends, and the zone that its user picks.
 abbrev pub after : {A : Type 0} → SessionState → Act A → Report A → SessionState
-after s (Calls (Pick zone)) r = pick_kept s zone r
-after s (Calls (Finish id)) r = finds_kept s r
+after s (Calls (protocol.Session (Pick zone))) r = pick_kept s zone r
+after s (Calls (Names (Finish id))) r = finds_kept s r
 after s (Gets which) r = list_kept s r
 after s act r = s
 
 -- a zone is picked by this call alone, and stands in a zone list that was read last
 abbrev pub Picks : {A : Type 0} → SessionState → Act A → Report A → Type 0
-Picks s (Calls (Pick zone)) report.Picked = is_listed s zone ≡ true
+Picks s (Calls (protocol.Session (Pick zone))) report.Picked = is_listed s zone ≡ true
 Picks s act r = ⊥
 
 -- so each report of a session tells this; the others are not its own

@@ -19,7 +19,8 @@ use Rattle.at_nbp.specs.declared.find.Find.{Find as Found}
 use Rattle.at_session.specs.Sessions.{SessionState, address_at}
 use Rattle.at_event.specs.Kinds.{reporter_of}
 use Rattle.at_event.specs.Outcomes.{Outcome}
-use Rattle.at_event.specs.declared.event.Call.TheVariants.{Close, Connect, Listen, Open, Read, Reset, Write}
+use Rattle.at_event.specs.declared.event.Call.TheVariants.{Streams}
+use Rattle.at_event.specs.declared.calls.StreamCall.TheVariants.{Open, Listen, Connect, Write, Read, Reset, Close}
 use Rattle.at_event.specs.declared.report.Report.{Report}
 use Rattle.at_event.specs.declared.report.Report.TheVariants as report
 use Rattle.at_event.specs.declared.event.Timer.TheVariants as timer
@@ -96,14 +97,14 @@ numbers_drawn event who other = []
 -- The happening of a call, a timer or a datagram at a socket, if it is of this protocol. Only what succeeds resets a
 -- stream.
 abbrev pub happening_of : {A : Type 0} → SessionState → Address → Act A → Report A → Option Happening
-happening_of s at (Calls (Open index)) r = option_map (Connects at) (address_at s index)
-happening_of s at (Calls (Connect node socket)) r =
+happening_of s at (Calls (Streams (Open index))) r = option_map (Connects at) (address_at s index)
+happening_of s at (Calls (Streams (Connect node socket))) r =
     Some (Connects at (record { net = at.net; node = node; socket = socket }))
-happening_of s at (Calls (Listen on)) r = Some (Listens at on)
-happening_of s at (Calls (Close id)) r = Some (Closes at id)
-happening_of s at (Calls (Write id items)) r = Some (Writes at id items)
-happening_of s at (Calls (Read id count)) r = Some (Reads at id count)
-happening_of s at (Calls (Reset id)) report.StreamReset = Some (Resets at id)
+happening_of s at (Calls (Streams (Listen on))) r = Some (Listens at on)
+happening_of s at (Calls (Streams (Close id))) r = Some (Closes at id)
+happening_of s at (Calls (Streams (Write id items))) r = Some (Writes at id items)
+happening_of s at (Calls (Streams (Read id count))) r = Some (Reads at id count)
+happening_of s at (Calls (Streams (Reset id))) report.StreamReset = Some (Resets at id)
 happening_of s at (Fires (timer.Resend id)) r = Some (Ticks at id Retransmit)
 happening_of s at (Fires (timer.Probe id)) r = Some (Ticks at id Probe)
 happening_of s at (Gets which) r = Some (Takes which)

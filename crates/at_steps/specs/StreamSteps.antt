@@ -9,7 +9,8 @@ use Rattle.at_adsp.specs.Meetings.{OpensWith}
 use Rattle.at_ddp.specs.Posts.{packet_at}
 use Rattle.at_adsp.specs.Network.{Sent}
 use Rattle.at_adsp.specs.Streams.{Stream, GaveUp, Read as ReadItems, Wrote as WroteItems, has_number, with_deed}
-use Rattle.at_event.specs.declared.event.Call.TheVariants.{Close, Connect, Listen, Open, Read, Reset, Write}
+use Rattle.at_event.specs.declared.event.Call.TheVariants.{Streams}
+use Rattle.at_event.specs.declared.calls.StreamCall.TheVariants.{Open, Listen, Connect, Write, Read, Reset, Close}
 use Rattle.at_event.specs.declared.report.Report.{Report}
 use Rattle.at_event.specs.declared.report.Report.TheVariants as report
 use Rattle.at_event.specs.declared.event.Timer.TheVariants as timer
@@ -21,9 +22,9 @@ use Rattle.at_steps.specs.Acts.{Act, Calls, Fires, Gets}
 abbrev pub is_plain : {A : Type 0} → Act A → Report A → Bool
 is_plain act (report.Refused number) = true
 is_plain act report.NoMemory = true
-is_plain (Calls (Listen on)) report.ListenSet = true
-is_plain (Calls (Close id)) (report.Closed it) = it == id
-is_plain (Calls (Close id)) (report.Freed it) = it == id
+is_plain (Calls (Streams (Listen on))) report.ListenSet = true
+is_plain (Calls (Streams (Close id))) (report.Closed it) = it == id
+is_plain (Calls (Streams (Close id))) (report.Freed it) = it == id
 is_plain (Fires (timer.Resend id)) report.Idle = true
 is_plain (Fires (timer.Resend id)) report.Again = true
 is_plain (Fires (timer.Probe id)) report.Again = true
@@ -72,8 +73,8 @@ pub record IsPlain {A : Type 0} (c : Change A) : Type 0 where
 
 -- the address that a call asks for a connection: one on this network, or that of what was found
 abbrev pub asked_by : {A : Type 0} → SessionState → ℕ → Act A → Option Address
-asked_by s net (Calls (Connect node socket)) = Some (record { net = net; node = node; socket = socket })
-asked_by s net (Calls (Open index)) = address_at s index
+asked_by s net (Calls (Streams (Connect node socket))) = Some (record { net = net; node = node; socket = socket })
+asked_by s net (Calls (Streams (Open index))) = address_at s index
 asked_by s net act = None
 
 -- the node's user asks for a connection, and an end is made
@@ -107,7 +108,7 @@ pub record Writes {A : Type 0} (c : Change A) : Type 0 where
   pub id : ℕ
   pub items : List Item
   pub count : ℕ
-  pub act : c.act ≡ Calls (Write id items)
+  pub act : c.act ≡ Calls (Streams (Write id items))
   pub report : c.report ≡ report.Wrote count
   pub stands : HasEnd c id
   pub fits : count ≤ length items
@@ -118,7 +119,7 @@ pub record Reads {A : Type 0} (c : Change A) : Type 0 where
   pub id : ℕ
   pub count : ℕ
   pub items : List Item
-  pub act : c.act ≡ Calls (Read id count)
+  pub act : c.act ≡ Calls (Streams (Read id count))
   pub report : c.report ≡ report.Read items
   pub stands : HasEnd c id
   pub fits : length items ≤ count
@@ -127,7 +128,7 @@ pub record Reads {A : Type 0} (c : Change A) : Type 0 where
 -- the user of an end resets its stream
 pub record Resets {A : Type 0} (c : Change A) : Type 0 where
   pub id : ℕ
-  pub act : c.act ≡ Calls (Reset id)
+  pub act : c.act ≡ Calls (Streams (Reset id))
   pub report : c.report ≡ report.StreamReset
   pub stands : HasEnd c id
   pub streams : c.now ≡ with_deed c.at id GaveUp c.part

@@ -14,7 +14,9 @@ use Rattle.at_zip.specs.declared.request.Which.{Which}
 use Rattle.at_node.specs.AtpParts.{asking, serving, zones_at}
 use Rattle.at_event.specs.Kinds.{Kind, Atp}
 use Rattle.at_event.specs.declared.event.Call.{Call}
-use Rattle.at_event.specs.declared.event.Call.TheVariants.{Zones, SetZones, Ask, Answer}
+use Rattle.at_event.specs.declared.event.Call.TheVariants.{Transactions, Zones}
+use Rattle.at_event.specs.declared.calls.TransactionCall.TheVariants.{Ask, Answer}
+use Rattle.at_event.specs.declared.calls.ZoneCall.TheVariants as zone
 use Rattle.at_event.specs.declared.report.Report.{Report}
 use Rattle.at_event.specs.declared.report.Report.TheVariants as report
 use Rattle.at_steps.specs.AtpSteps.{new_transaction, page_answer, page_asked}
@@ -158,19 +160,19 @@ pub record FailsReading (m : AtpMachine) (node : ℕ) (m' : AtpMachine) : Type 0
 
 -- a call begins this transaction, under this number
 abbrev pub Begins : {A : Type 0} → Cable → AtpMachine → ℕ → Call A → ℕ → AtpMachine → Type 0
-Begins c m node (Zones which) tid m' = BeginsReading c m node which tid m'
-Begins c m node (Ask k socket user bytes wanted xo retries) tid m' =
+Begins c m node (Zones (zone.Read which)) tid m' = BeginsReading c m node which tid m'
+Begins c m node (Transactions (Ask k socket user bytes wanted xo retries)) tid m' =
     BeginsAsking c m node (at_net c k socket) user bytes wanted xo tid m'
 Begins c m node call tid m' = ⊥
 
 -- a call gives the router a table
 abbrev pub Sets : {A : Type 0} → Cable → AtpMachine → ℕ → Call A → AtpMachine → Type 0
-Sets c m node (SetZones which names) m' = SetsTable c m node which names m'
+Sets c m node (Zones (zone.Set which names)) m' = SetsTable c m node which names m'
 Sets c m node call m' = ⊥
 
 -- a call gives this answer, and so many of its packets are sent
 abbrev pub Answers : {A : Type 0} → Cable → AtpMachine → ℕ → Call A → ℕ → AtpMachine → Type 0
-Answers c m node (Answer key packets) count m' = GivesAnswer c m node key.from key.tid packets count m'
+Answers c m node (Transactions (Answer key packets)) count m' = GivesAnswer c m node key.from key.tid packets count m'
 Answers c m node call count m' = ⊥
 
 -- the reports of this protocol, row by row

@@ -12,7 +12,8 @@ use Rattle.at_atp_responder.specs.declared.reception.Key.{Key}
 use Rattle.at_node.specs.AtpParts.{asking}
 use Rattle.at_zip.specs.Tables.{Tables, table_of}
 use Rattle.at_zip.specs.declared.request.Which.{Which}
-use Rattle.at_event.specs.declared.event.Call.TheVariants.{Answer}
+use Rattle.at_event.specs.declared.event.Call.TheVariants.{Transactions}
+use Rattle.at_event.specs.declared.calls.TransactionCall.TheVariants.{Answer}
 use Rattle.at_event.specs.declared.report.Report.{Report}
 use Rattle.at_event.specs.declared.report.Report.TheVariants as report
 use Rattle.at_steps.specs.AtpReports.{AsksFrom}
@@ -90,7 +91,7 @@ wanted_by net (x ∷ xs) key = if began_under net x.event x.report key then asks
 
 -- an answer was given to it: by a node's user, or by the router, which answers what came
 abbrev pub IsGivenBy : {A : Type 0} → List SentDatagram → Event A → Report A → Key → Type 0
-IsGivenBy sent (event.Call node (Answer k given)) (report.Answered count) key = same_key k key ≡ true
+IsGivenBy sent (event.Call node (Transactions (Answer k given))) (report.Answered count) key = same_key k key ≡ true
 IsGivenBy sent (event.Deliver which node) (report.Served count) key = CameFrom sent which key
 IsGivenBy sent e r key = ⊥
 
@@ -115,7 +116,7 @@ pub record IsPageFor (sent : List SentDatagram) (tables : Tables) (which : ℕ) 
 -- this answer was given to it: that of a node's user, or the page of a table that the router has
 abbrev pub GivesBy : {A : Type 0} → List SentDatagram → Tables → Event A → Report A → Key → List Packet
     → Type 0
-GivesBy sent tables (event.Call node (Answer k given)) (report.Answered count) key answer =
+GivesBy sent tables (event.Call node (Transactions (Answer k given))) (report.Answered count) key answer =
     (same_key k key ≡ true) × (given ≡ answer)
 GivesBy sent tables (event.Deliver which node) (report.Served count) key answer =
     IsPageFor sent tables which key answer

@@ -14,7 +14,8 @@ use Rattle.at_name_socket.specs.NameSockets.{any_pattern, names_of, own_zone}
 use Rattle.at_name_socket.specs.declared.claim.Claim.{Claim as Claimed}
 use Rattle.at_event.specs.Kinds.{Kind, Nbp}
 use Rattle.at_event.specs.declared.event.Call.{Call}
-use Rattle.at_event.specs.declared.event.Call.TheVariants.{Claim, Find, Finish, Register, Unregister}
+use Rattle.at_event.specs.declared.event.Call.TheVariants.{Names}
+use Rattle.at_event.specs.declared.calls.NameCall.TheVariants.{Find, Claim, Finish, Register, Unregister}
 use Rattle.at_event.specs.declared.report.Report.{Report}
 use Rattle.at_event.specs.declared.report.Report.TheVariants as report
 use Rattle.at_session.specs.Sessions.{pattern_asked}
@@ -153,9 +154,9 @@ pub record TakesAway (m : NameMachine) (node : ℕ) (object kind : List ℕ) (m'
 
 -- a call begins a lookup under this identifier, which asks in the zone that was picked if the call names none
 abbrev pub Begins : {A : Type 0} → Sessions → NameMachine → ℕ → Call A → ℕ → NameMachine → Type 0
-Begins ss m node (Find object kind wanted) id m' =
+Begins ss m node (Names (Find object kind wanted)) id m' =
     BeginsLookup m node id (pattern_asked (ss node) object kind wanted) None m'
-Begins ss m node (Claim object kind socket) id m' =
+Begins ss m node (Names (Claim object kind socket)) id m' =
     BeginsLookup m node id (any_pattern object kind)
     (Some (record { id = id; object = object; kind = kind; socket = socket })) m'
 Begins ss m node call id m' = ⊥
@@ -163,12 +164,12 @@ Begins ss m node call id m' = ⊥
 -- the reports of this protocol, row by row
 abbrev pub Says : {A : Type 0} → Sessions → NameMachine → Event A → Report A → NameMachine → Type 0
 Says ss m (event.Call node call) (report.Looking id) m' = Begins ss m node call id m'
-Says ss m (event.Call node (Finish id)) (report.Found finds) m' = EndsLookup m node id finds m'
-Says ss m (event.Call node (Finish id)) report.Claimed m' = EndsClaim m node id m'
-Says ss m (event.Call node (Finish id)) (report.Taken owner) m' = LosesClaim m node id owner m'
-Says ss m (event.Call node (Register object kind socket)) report.Registered m' =
+Says ss m (event.Call node (Names (Finish id))) (report.Found finds) m' = EndsLookup m node id finds m'
+Says ss m (event.Call node (Names (Finish id))) report.Claimed m' = EndsClaim m node id m'
+Says ss m (event.Call node (Names (Finish id))) (report.Taken owner) m' = LosesClaim m node id owner m'
+Says ss m (event.Call node (Names (Register object kind socket))) report.Registered m' =
     RegistersName m node object kind socket m'
-Says ss m (event.Call node (Unregister object kind)) report.Unregistered m' = TakesAway m node object kind m'
+Says ss m (event.Call node (Names (Unregister object kind))) report.Unregistered m' = TakesAway m node object kind m'
 Says ss m (event.Deliver which node) report.Relayed m' = m' ≡ next m
 Says ss m (event.Deliver which node) (report.Names count) m' = m' ≡ next m
 Says ss m (event.Deliver which node) (report.Finds count) m' = m' ≡ next m

@@ -11,7 +11,8 @@ use Rattle.at_ddp.specs.Posts.{packet_at}
 use Rattle.at_ddp.specs.Protocols.{atp_kind}
 use Rattle.at_atp.specs.Network.{Network, Sent, Happening, AllTimely, after, done}
 use Rattle.at_zip.specs.Tables.{Tables, with_table}
-use Rattle.at_event.specs.declared.event.Call.TheVariants.{SetZones}
+use Rattle.at_event.specs.declared.event.Call.TheVariants.{Zones}
+use Rattle.at_event.specs.declared.calls.ZoneCall.TheVariants as zone
 use Rattle.at_event.specs.declared.report.Report.{Report}
 use Rattle.at_steps.specs.AtpHappenings.{sets_table}
 use Rattle.at_steps.specs.AtpReports as reports
@@ -42,7 +43,7 @@ asks_for e = reports.asks_for (act_of e)
 
 -- these zone tables with the one that a call names; or as they are, if it names none
 abbrev pub with_named : {A : Type 0} → Event A → Tables → Tables
-with_named (event.Call node (SetZones which names)) tables = with_table which names tables
+with_named (event.Call node (Zones (zone.Set which names))) tables = with_table which names tables
 with_named e tables = tables
 
 -- the router's zone tables after an event with this report, if they were these before

@@ -7,7 +7,8 @@ use Rattle.at_adsp.specs.Connections.{begun}
 use Rattle.at_adsp.specs.Meetings.{OpensWith, ReadsWith}
 use Rattle.at_adsp.specs.Streams.{Stream, Deed, Wrote, Read as HasRead, GaveUp, has_number, with_deed}
 use Rattle.at_event.specs.Kinds.{Kind, Adsp}
-use Rattle.at_event.specs.declared.event.Call.TheVariants.{Open, Listen, Connect, Write, Read, Reset, Close}
+use Rattle.at_event.specs.declared.event.Call.TheVariants.{Streams}
+use Rattle.at_event.specs.declared.calls.StreamCall.TheVariants.{Open, Listen, Connect, Write, Read, Reset, Close}
 use Rattle.at_event.specs.declared.report.Report.{Report}
 use Rattle.at_event.specs.declared.report.Report.TheVariants as report
 use Rattle.at_stream_socket.specs.Sockets.{streams_at}
@@ -67,19 +68,19 @@ pub record ReadsEnd (c : Cable) (m : StreamMachine) (node id : ℕ) (items : Lis
 
 -- the reports of this protocol, row by row
 abbrev pub Says : {A : Type 0} → Cable → Sessions → StreamMachine → Event A → Report A → StreamMachine → Type 0
-Says c ss m (event.Call node (Connect to socket)) (report.Opening id) m' =
+Says c ss m (event.Call node (Streams (Connect to socket))) (report.Opening id) m' =
     MakesEnd c m node id false (at_net c to socket) m'
-Says c ss m (event.Call node (Open index)) (report.Opening id) m' = OpensFound c ss m node index id m'
+Says c ss m (event.Call node (Streams (Open index))) (report.Opening id) m' = OpensFound c ss m node index id m'
 Says c ss m (event.Deliver which node) (report.Made id) m' =
     (asked : Address) × MakesEnd c m node id true asked m'
 Says c ss m (event.Deliver which node) (report.Opened id) m' = OpensEnd c m node id m'
-Says c ss m (event.Call node (Write id items)) (report.Wrote count) m' =
+Says c ss m (event.Call node (Streams (Write id items))) (report.Wrote count) m' =
     Does c m node id (Wrote (take count items)) m'
-Says c ss m (event.Call node (Read id count)) (report.Read items) m' = ReadsEnd c m node id items m'
-Says c ss m (event.Call node (Reset id)) report.StreamReset m' = Does c m node id GaveUp m'
-Says c ss m (event.Call node (Listen on)) report.ListenSet m' = m' ≡ next m
-Says c ss m (event.Call node (Close id)) (report.Closed closed) m' = m' ≡ next m
-Says c ss m (event.Call node (Close id)) (report.Freed freed) m' = m' ≡ next m
+Says c ss m (event.Call node (Streams (Read id count))) (report.Read items) m' = ReadsEnd c m node id items m'
+Says c ss m (event.Call node (Streams (Reset id))) report.StreamReset m' = Does c m node id GaveUp m'
+Says c ss m (event.Call node (Streams (Listen on))) report.ListenSet m' = m' ≡ next m
+Says c ss m (event.Call node (Streams (Close id))) (report.Closed closed) m' = m' ≡ next m
+Says c ss m (event.Call node (Streams (Close id))) (report.Freed freed) m' = m' ≡ next m
 Says c ss m (event.Timer node time) (report.Closed id) m' = m' ≡ next m
 Says c ss m (event.Timer node time) (report.Freed id) m' = m' ≡ next m
 Says c ss m (event.Timer node time) report.Idle m' = m' ≡ next m

@@ -6,7 +6,9 @@ ghost use Rattle.at_event.specs.declared.service.Reply.TheVariants.{Now};
 use at_adsp_end::Rooms;
 use at_atp::{Key, Packet};
 use at_ddp::{Bytes, Datagrams, Listed};
-use at_node::{Call, Deferring, Node, PacketCount, Reply, Report, Seat, Service, Settings};
+use at_node::{
+    Call, Deferring, Node, PacketCount, Reply, Report, Seat, Service, Settings, TransactionCall,
+};
 use std::alloc::{AllocError, Global};
 use std::io;
 
@@ -102,7 +104,7 @@ fn ask<R: Print + AllocGlobal>(rt: &R, client: &mut Node, sent: &mut Datagrams) 
 
 // What the client asks. A node's service always has socket 129.
 fn request(alloc: Global) -> Result<Call, AllocError> {
-    Ok(Call::Ask {
+    Ok(Call::Transactions(TransactionCall::Ask {
         node: SERVER,
         socket: 129,
         user: [0; 4],
@@ -110,7 +112,7 @@ fn request(alloc: Global) -> Result<Call, AllocError> {
         wanted: PacketCount::new(1).unwrap(),
         exactly_once: true,
         retries: 3,
-    })
+    }))
 }
 
 // Hands each datagram to the node that it goes to. What the nodes send in return is the next list.

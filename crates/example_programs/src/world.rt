@@ -1,7 +1,7 @@
 //! A world of two nodes, stepped event by event: a request is lost, and the response to its retry comes late.
 use at_atp::{Key, Packet};
 use at_ddp::{Address, Bytes, Listed};
-use at_node::{Call, PacketCount, Report, Timer};
+use at_node::{Call, PacketCount, Report, Timer, TransactionCall};
 use at_world::{Event, NodeSetup, Setup, World};
 use std::alloc::{AllocError, Global};
 use std::io;
@@ -81,7 +81,7 @@ fn event(alloc: Global, number: u32) -> Result<Event, AllocError> {
 
 // Node 5 asks. A node asks from socket 128, and its service has socket 129.
 fn ask(alloc: Global) -> Result<Event, AllocError> {
-    let call = Call::Ask {
+    let call = TransactionCall::Ask {
         node: SERVER,
         socket: 129,
         user: [0; 4],
@@ -90,7 +90,7 @@ fn ask(alloc: Global) -> Result<Event, AllocError> {
         exactly_once: true,
         retries: 2,
     };
-    Ok(Event::Call { node: CLIENT, call })
+    Ok(called(CLIENT, call))
 }
 
 // Node 7 answers the request.
@@ -102,11 +102,18 @@ fn answer(alloc: Global) -> Result<Event, AllocError> {
         node: CLIENT,
         socket: 128,
     };
-    let call = Call::Answer {
+    let call = TransactionCall::Answer {
         key: Key { from, tid: TID },
         packets: Listed::from_vec(packets),
     };
-    Ok(Event::Call { node: SERVER, call })
+    Ok(called(SERVER, call))
+}
+
+fn called(node: u8, call: TransactionCall) -> Event {
+    Event::Call {
+        node,
+        call: Call::Transactions(call),
+    }
 }
 
 // Node 5's timer fires, as no answer has come.

@@ -30,7 +30,9 @@ use Rattle.at_event.specs.Seats.{at_socket}
 use Rattle.at_node.specs.ZoneReading.{reading_begins, zones_called, page_transaction}
 use Rattle.at_node.specs.ZoneSocket.{set_zones_called, table_set}
 use Rattle.at_node.specs.declared.numbers.Draw.TheVariants.{Tid}
-use Rattle.at_event.specs.declared.event.Call.TheVariants.{Zones, SetZones, Ask}
+use Rattle.at_event.specs.declared.event.Call.TheVariants.{Transactions, Zones}
+use Rattle.at_event.specs.declared.calls.TransactionCall.TheVariants.{Ask}
+use Rattle.at_event.specs.declared.calls.ZoneCall.TheVariants as zone
 use Rattle.at_event.specs.declared.report.Report.{Report}
 use Rattle.at_event.specs.declared.report.Report.TheVariants as report
 use Rattle.at_steps.specs.Acts.{Calls}
@@ -116,11 +118,12 @@ module _ (A : Type 0) (laws : CallLaws A) (history : List Happening) (n : NodeSt
   reading_begun : (kind : Which) (router : ℕ) → n.seat.router ≡ Some router → (drawn : Option ℕ)
       → next_number n.atp.requester ≡ drawn
       → DrawsFree A history n (over (with_atp n) (reading_begins {A = A} n.seat n.atp kind router drawn)).report
-      → IsIts A history n (Calls (Zones kind)) (over (with_atp n) (reading_begins n.seat n.atp kind router drawn))
+      → IsIts A history n (Calls (Zones (zone.Read kind)))
+      (over (with_atp n) (reading_begins n.seat n.atp kind router drawn))
   reading_begun kind router is None is_drawn free =
-      idle_happens A history n (Calls (Zones kind)) st (report.Refused 14) refl refl refl
+      idle_happens A history n (Calls (Zones (zone.Read kind))) st (report.Refused 14) refl refl refl
   reading_begun kind router is (Some tid) is_drawn free =
-      begun_happens A history n (Calls (Zones kind)) st (zones_at n.seat.net router)
+      begun_happens A history n (Calls (Zones (zone.Read kind))) st (zones_at n.seat.net router)
       (request_user kind 1) [] 1 false 3 tid
       (Some (record { which = kind; tid = tid; names = [] })) is_drawn (free tid refl)
       (record {
@@ -131,7 +134,7 @@ module _ (A : Type 0) (laws : CallLaws A) (history : List Happening) (n : NodeSt
       })
       refl (reading_is_open kind router tid)
       (begins_match A n.seat.net n.seat.number n.atp.tables (after A history) tid (zones_at n.seat.net router)
-      (request_user kind 1) [] 1 false 3 (Zones kind) refl refl (ap next_number st.requester ∙ is_drawn))
+      (request_user kind 1) [] 1 false 3 (Zones (zone.Read kind)) refl refl (ap next_number st.requester ∙ is_drawn))
       (Reads (record {
         which = kind;
         tid = tid;
@@ -145,20 +148,22 @@ module _ (A : Type 0) (laws : CallLaws A) (history : List Happening) (n : NodeSt
 
   pub zones_call : (kind : Which) (router : Option ℕ) (reading : Option Reading) → n.seat.router ≡ router
       → DrawsFree A history n (over (with_atp n) (zones_called {A = A} n.seat n.atp kind router reading)).report
-      → IsIts A history n (Calls (Zones kind)) (over (with_atp n) (zones_called n.seat n.atp kind router reading))
-  zones_call kind None reading is free = idle_happens A history n (Calls (Zones kind)) st
+      → IsIts A history n (Calls (Zones (zone.Read kind)))
+      (over (with_atp n) (zones_called n.seat n.atp kind router reading))
+  zones_call kind None reading is free = idle_happens A history n (Calls (Zones (zone.Read kind))) st
       (report.Refused 60) refl refl refl
   zones_call kind (Some router) (Some r) is free =
-      idle_happens A history n (Calls (Zones kind)) st (report.Refused 63) refl refl refl
+      idle_happens A history n (Calls (Zones (zone.Read kind))) st (report.Refused 63) refl refl refl
   zones_call kind (Some router) None is free = reading_begun kind router is (next_number n.atp.requester) refl free
 
   -- ---- the router's tables
 
   table_call : (kind : Which) (names : List (List ℕ)) (tables : Tables) → n.atp.tables ≡ Some tables
       → (fault : Option ZipFault) → table_fault names ≡ fault
-      → IsIts A history n (Calls (SetZones kind names)) (over (with_atp n) (table_set n.atp tables kind names fault))
+      → IsIts A history n (Calls (Zones (zone.Set kind names)))
+      (over (with_atp n) (table_set n.atp tables kind names fault))
   table_call kind names tables has None none =
-      table_happens A history n (Calls (SetZones kind names)) st (with_table kind names tables)
+      table_happens A history n (Calls (Zones (zone.Set kind names))) st (with_table kind names tables)
       (laws.sets kind names tables (laws.tables names none) (st.has_tables tables has)) refl
       (Sets (record {
         which = kind;
@@ -175,13 +180,15 @@ module _ (A : Type 0) (laws : CallLaws A) (history : List Happening) (n : NodeSt
   table_call kind names tables has (Some fault) is = refused (zip.number_of fault)
     where
       refused : (number : Option ℕ)
-          → IsIts A history n (Calls (SetZones kind names)) (over (with_atp n) (idle n.atp (refused_as number)))
-      refused None = idle_happens A history n (Calls (SetZones kind names)) st report.NoMemory refl refl refl
-      refused (Some k) = idle_happens A history n (Calls (SetZones kind names)) st (report.Refused k) refl refl refl
+          → IsIts A history n (Calls (Zones (zone.Set kind names))) (over (with_atp n) (idle n.atp (refused_as number)))
+      refused None = idle_happens A history n (Calls (Zones (zone.Set kind names))) st report.NoMemory refl refl refl
+      refused (Some k) =
+          idle_happens A history n (Calls (Zones (zone.Set kind names))) st (report.Refused k) refl refl refl
 
   pub set_zones_call : (kind : Which) (names : List (List ℕ)) (tables : Option Tables) → n.atp.tables ≡ tables
-      → IsIts A history n (Calls (SetZones kind names)) (over (with_atp n) (set_zones_called n.atp tables kind names))
-  set_zones_call kind names None has = idle_happens A history n (Calls (SetZones kind names)) st
+      → IsIts A history n (Calls (Zones (zone.Set kind names)))
+      (over (with_atp n) (set_zones_called n.atp tables kind names))
+  set_zones_call kind names None has = idle_happens A history n (Calls (Zones (zone.Set kind names))) st
       (report.Refused 60) refl refl refl
   set_zones_call kind names (Some tables) has = table_call kind names tables has (table_fault names) refl
 
@@ -199,18 +206,18 @@ module _ (A : Type 0) (laws : CallLaws A) (history : List Happening) (n : NodeSt
           ∙ laws.drawn n.atp.requester tid drawn))
 
   module _ (node socket : ℕ) (user bytes : List ℕ) (wanted : ℕ) (xo : Bool) (retries : ℕ)
-      (range : IsCall {A = A} (Ask node socket user bytes wanted xo retries)) where
+      (range : IsCall {A = A} (Transactions (Ask node socket user bytes wanted xo retries))) where
     asked_for : length bytes ≤ 578 → (drawn : Option ℕ) → next_number n.atp.requester ≡ drawn
         → DrawsFree A history n (over (with_atp n)
         (asked_as {A = A} n.seat n.atp (at_socket n.seat node socket) user bytes wanted xo retries drawn)).report →
-        IsIts A history n (Calls (Ask node socket user bytes wanted xo retries))
+        IsIts A history n (Calls (Transactions (Ask node socket user bytes wanted xo retries)))
         (over (with_atp n) (asked_as n.seat n.atp (at_socket n.seat node socket) user bytes wanted xo retries
         drawn))
     asked_for few None is_drawn free =
-        idle_happens A history n (Calls (Ask node socket user bytes wanted xo retries)) st
+        idle_happens A history n (Calls (Transactions (Ask node socket user bytes wanted xo retries))) st
         (report.Refused 14) refl refl refl
     asked_for few (Some tid) is_drawn free =
-        begun_happens A history n (Calls (Ask node socket user bytes wanted xo retries)) st
+        begun_happens A history n (Calls (Transactions (Ask node socket user bytes wanted xo retries))) st
         (at_socket n.seat node socket) user bytes wanted xo retries tid n.atp.reading is_drawn (free tid refl)
         (record {
           who_fits = asking_fits;
@@ -222,7 +229,8 @@ module _ (A : Type 0) (laws : CallLaws A) (history : List Happening) (n : NodeSt
         (beginning tid (at_socket n.seat node socket) user bytes wanted xo retries ∷ []) r.tid (st.is_open r is))
         (begins_match A n.seat.net n.seat.number n.atp.tables (after A history) tid
         (at_socket n.seat node socket) user bytes wanted xo retries
-        (Ask node socket user bytes wanted xo retries) refl refl (ap next_number st.requester ∙ is_drawn))
+        (Transactions (Ask node socket user bytes wanted xo retries)) refl refl
+        (ap next_number st.requester ∙ is_drawn))
         (Begins (record {
           tid = tid;
           node = node;
@@ -254,11 +262,12 @@ module _ (A : Type 0) (laws : CallLaws A) (history : List Happening) (n : NodeSt
         (cond b (idle {A = A} n.atp (report.Refused 13))
         (asked_as n.seat n.atp (at_socket n.seat node socket) user bytes wanted xo retries
         (next_number n.atp.requester)))).report →
-        IsIts A history n (Calls (Ask node socket user bytes wanted xo retries))
+        IsIts A history n (Calls (Transactions (Ask node socket user bytes wanted xo retries)))
         (over (with_atp n) (cond b (idle n.atp (report.Refused 13))
         (asked_as n.seat n.atp (at_socket n.seat node socket) user bytes wanted xo retries
         (next_number n.atp.requester))))
-    ask_call true e free = idle_happens A history n (Calls (Ask node socket user bytes wanted xo retries)) st
+    ask_call true e free =
+        idle_happens A history n (Calls (Transactions (Ask node socket user bytes wanted xo retries))) st
         (report.Refused 13) refl refl refl
     ask_call false e free = asked_for (few_bytes (length bytes) e) (next_number n.atp.requester) refl free
       where

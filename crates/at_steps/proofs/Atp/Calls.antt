@@ -24,9 +24,9 @@ use Rattle.at_node.specs.Nodes.{with_atp, NodeState, called}
 use Rattle.at_event.specs.Outcomes.{over, idle, refused_as}
 use Rattle.at_node.specs.ServiceSocket.{answered_with}
 use Rattle.at_event.specs.declared.event.Call.{Call}
-use Rattle.at_event.specs.declared.event.Call.TheVariants.{Zones, SetZones, Ask, Answer, Pick, Find, Claim, Finish}
-use Rattle.at_event.specs.declared.event.Call.TheVariants.{Register, Unregister, Open, Listen, Connect, Write, Read}
-use Rattle.at_event.specs.declared.event.Call.TheVariants.{Reset, Close}
+use Rattle.at_event.specs.declared.event.Call.TheVariants.{Transactions, Zones, Names, Streams, Session}
+use Rattle.at_event.specs.declared.calls.TransactionCall.TheVariants.{Ask, Answer}
+use Rattle.at_event.specs.declared.calls.ZoneCall.TheVariants as zone
 use Rattle.at_event.specs.declared.report.Report.TheVariants as report
 use Rattle.at_steps.specs.Acts.{Act, Calls, is_atp}
 use Rattle.at_steps.specs.AtpSteps as steps
@@ -75,7 +75,7 @@ module _ (A : Type 0) (laws : CallLaws A) (history : List Happening) (n : NodeSt
         packets_fit ps both.1 all.1,
       )
 
-  module _ (key : Key) (packets : List Packet) (range : IsCall {A = A} (Answer key packets)) where
+  module _ (key : Key) (packets : List Packet) (range : IsCall {A = A} (Transactions (Answer key packets))) where
     -- the socket of the node's service, its records after the answer, and what is sent
     abbrev here : Address
     here = serving n.seat.net n.seat.number
@@ -93,23 +93,24 @@ module _ (A : Type 0) (laws : CallLaws A) (history : List Happening) (n : NodeSt
         (ap (λ rs. answer_fault rs key packets) st.service ∙ free)
 
     answer_call : (fault : Option AtpFault) → answer_fault n.atp.service_responder key packets ≡ fault
-        → IsIts A history n (Calls (Answer key packets))
+        → IsIts A history n (Calls (Transactions (Answer key packets)))
         (over (with_atp n) (answered_with n.seat n.atp key packets fault))
-    answer_call (Some fault) is = refused_happens A history n (Calls (Answer key packets)) st (number_of fault)
+    answer_call (Some fault) is =
+        refused_happens A history n (Calls (Transactions (Answer key packets))) st (number_of fault)
     answer_call None is =
         let found = found_record n.atp.service_responder key packets is in
         let gives = laws.answers history st.timely in
         let held = ap (find (is_key key)) st.service ∙ found.0.1 in
         let asked : Asked (after A history).asked key.from key.tid here = gives.recorded here key found.0.0 held in
         let done_is = is_done is in
-        gave_happens A history n (Calls (Answer key packets)) st (network.Answers here key packets)
+        gave_happens A history n (Calls (Transactions (Answer key packets))) st (network.Answers here key packets)
         (report.Answered (length sent)) here key.from key.tid packets n.atp.zone_responder now sent
         tt (serving_fits, packets_fit packets found.1 range.1)
         (ap (λ (x : Network). x.event) done_is)
         (λ who. ap (λ (x : Network). x.requesters who) done_is)
         (λ at. ap (λ (x : Network). x.responders at) done_is
         ∙ ap (λ rs. put (after A history).responders here (after_answer rs key packets) at) st.service
-        ∙ with_service A history n (Calls (Answer key packets)) st now at)
+        ∙ with_service A history n (Calls (Transactions (Answer key packets))) st now at)
         (ap (λ (x : Network). x.sent) done_is
         ∙ ap (λ rs. (after A history).sent ++ stamped (after A history).event here
         (asked_for (find (is_key key) rs) key packets)) st.service)
@@ -131,22 +132,15 @@ module _ (A : Type 0) (laws : CallLaws A) (history : List Happening) (n : NodeSt
 
   pub call_happens : (call : Call A) → IsCall call → is_atp (kind_of_call call) ≡ true
       → DrawsFree A history n (called n call).report → IsIts A history n (Calls call) (called n call)
-  call_happens (Zones kind) range own free = zones_call A laws history n st kind n.seat.router n.atp.reading refl free
-  call_happens (SetZones kind names) range own free = set_zones_call A laws history n st kind names n.atp.tables refl
-  call_happens (Ask node socket user bytes wanted xo retries) range own free = ask_call A laws history n st node socket
+  call_happens (Zones (zone.Read kind)) range own free =
+      zones_call A laws history n st kind n.seat.router n.atp.reading refl free
+  call_happens (Zones (zone.Set kind names)) range own free =
+      set_zones_call A laws history n st kind names n.atp.tables refl
+  call_happens (Transactions (Ask node socket user bytes wanted xo retries)) range own free =
+      ask_call A laws history n st node socket
       user bytes wanted xo retries range (nat_lt 578 (length bytes)) refl free
-  call_happens (Answer key packets) range own free =
+  call_happens (Transactions (Answer key packets)) range own free =
       answer_call key packets range (answer_fault n.atp.service_responder key packets) refl
-  call_happens (Pick zone) range own free = absurd (cc)
-  call_happens (Find object kind _) range own free = absurd (cc)
-  call_happens (Claim object kind socket) range own free = absurd (cc)
-  call_happens (Finish id) range own free = absurd (cc)
-  call_happens (Register object kind socket) range own free = absurd (cc)
-  call_happens (Unregister object kind) range own free = absurd (cc)
-  call_happens (Open index) range own free = absurd (cc)
-  call_happens (Listen on) range own free = absurd (cc)
-  call_happens (Connect node socket) range own free = absurd (cc)
-  call_happens (Write id items) range own free = absurd (cc)
-  call_happens (Read id count) range own free = absurd (cc)
-  call_happens (Reset id) range own free = absurd (cc)
-  call_happens (Close id) range own free = absurd (cc)
+  call_happens (Session call) range own free = absurd (cc)
+  call_happens (Names call) range own free = absurd (cc)
+  call_happens (Streams call) range own free = absurd (cc)

@@ -22,7 +22,8 @@ use Rattle.at_zip.specs.Tables.{Tables}
 use Rattle.at_node.specs.AtpParts.{asking}
 use Rattle.at_node.specs.Responders.{released_report}
 use Rattle.at_event.specs.declared.event.Call.{Call}
-use Rattle.at_event.specs.declared.event.Call.TheVariants.{Answer}
+use Rattle.at_event.specs.declared.event.Call.TheVariants.{Transactions}
+use Rattle.at_event.specs.declared.calls.TransactionCall.TheVariants.{Answer}
 use Rattle.at_event.specs.declared.report.Report.{Report}
 use Rattle.at_event.specs.declared.report.Report.TheVariants as report
 use Rattle.at_event.specs.declared.event.Timer.TheVariants as timer
@@ -101,7 +102,7 @@ module _ (A : Type 0) (net number : ℕ) (tables : Option Tables) (n : Network) 
 
   pub answers_match : (at : Address) (key : Key) (packets : List Packet) (count : ℕ)
       → (done A n (Answers at key packets)).asked ≡ answered n.asked key.from key.tid packets
-      → Matches {A = A} net number tables n (Answers at key packets) (Calls (Answer key packets))
+      → Matches {A = A} net number tables n (Answers at key packets) (Calls (Transactions (Answer key packets)))
       (report.Answered count)
   answers_match at key packets count joins =
       record {

@@ -28,9 +28,8 @@ use Rattle.at_session.specs.Sessions.{SessionState, finds_kept, pattern_asked, z
 use Rattle.at_node.specs.Nodes.{NodeState, called, with_names}
 use Rattle.at_event.specs.Outcomes.{over}
 use Rattle.at_event.specs.declared.event.Call.{Call}
-use Rattle.at_event.specs.declared.event.Call.TheVariants.{Zones, SetZones, Ask, Answer, Pick, Find, Claim, Finish}
-use Rattle.at_event.specs.declared.event.Call.TheVariants.{Register, Unregister, Open, Listen, Connect, Write, Read}
-use Rattle.at_event.specs.declared.event.Call.TheVariants.{Reset, Close}
+use Rattle.at_event.specs.declared.event.Call.TheVariants.{Transactions, Zones, Names, Streams, Session}
+use Rattle.at_event.specs.declared.calls.NameCall.TheVariants.{Find, Claim, Finish, Register, Unregister}
 use Rattle.at_event.specs.declared.report.Report.TheVariants as report
 use Rattle.at_steps.specs.Acts.{Calls, is_nbp}
 use Rattle.at_steps.specs.NameHappenings.{Stands}
@@ -75,16 +74,16 @@ module _ (A : Type 0) (laws : CallLaws A) (setting : Setting) (history : List Ha
 
   finding : (object kind : List ℕ) (zone : Option (List ℕ)) → IsString object → IsString kind → IsZone zone
       → (o : Option ℕ) → next_id n.names.lookups ≡ o
-      → IsIts A setting history n (Calls (Find object kind zone))
+      → IsIts A setting history n (Calls (Names (Find object kind zone)))
       (over (with_names n) (found_as n.seat n.names (pattern_asked n.session object kind zone) o))
-  finding object kind zone object_fits kind_fits fits None e = refusing (Find object kind zone) LookupsFull
+  finding object kind zone object_fits kind_fits fits None e = refusing (Names (Find object kind zone)) LookupsFull
   finding object kind zone object_fits kind_fits fits (Some id) e =
       let h = laws.looks (after setting history) (names_of n.seat.net n.seat.number) n.names id
       (pattern_asked n.session object kind zone) lawful
       (record { object = object_fits; kind = kind_fits; zone = zone_fits n.session zone st.picked fits }) e in
       let i = h.is in
       let b = i.becomes in (
-        moved A setting history n st (Calls (Find object kind zone)) (report.Looking id)
+        moved A setting history n st (Calls (Names (Find object kind zone))) (report.Looking id)
             (record n.names {
               lookups = lookups.begun n.names.lookups
                   (beginning id (pattern_asked n.session object kind zone));
@@ -106,15 +105,16 @@ module _ (A : Type 0) (laws : CallLaws A) (setting : Setting) (history : List Ha
 
   claiming : (object kind : List ℕ) (socket : ℕ) → IsString object → IsString kind → socket < 256 → (o : Option ℕ)
       → next_id n.names.lookups ≡ o
-      → IsIts A setting history n (Calls (Claim object kind socket))
+      → IsIts A setting history n (Calls (Names (Claim object kind socket)))
       (over (with_names n) (claimed_as n.seat n.names object kind socket o))
-  claiming object kind socket object_fits kind_fits fits None e = refusing (Claim object kind socket) LookupsFull
+  claiming object kind socket object_fits kind_fits fits None e =
+      refusing (Names (Claim object kind socket)) LookupsFull
   claiming object kind socket object_fits kind_fits fits (Some id) e =
       let h = laws.claims (after setting history) (names_of n.seat.net n.seat.number) n.names id object kind socket
       lawful object_fits kind_fits fits e in
       let i = h.is in
       let b = i.becomes in (
-        moved A setting history n st (Calls (Claim object kind socket)) (report.Looking id)
+        moved A setting history n st (Calls (Names (Claim object kind socket))) (report.Looking id)
             (claim_begun n.names id object kind socket)
             (Opens id (any_pattern object kind)
             (Some (record { id = id; object = object; kind = kind; socket = socket })))
@@ -133,10 +133,11 @@ module _ (A : Type 0) (laws : CallLaws A) (setting : Setting) (history : List Ha
       )
 
   claiming_name : (object kind : List ℕ) (socket : ℕ) → IsString object → IsString kind → socket < 256 → (b : Bool)
-      → IsIts A setting history n (Calls (Claim object kind socket))
+      → IsIts A setting history n (Calls (Names (Claim object kind socket)))
       (over (with_names n) (cond b (refused_by n.names EmptyName)
       (claimed_as n.seat n.names object kind socket (next_id n.names.lookups))))
-  claiming_name object kind socket object_fits kind_fits fits true = refusing (Claim object kind socket) EmptyName
+  claiming_name object kind socket object_fits kind_fits fits true =
+      refusing (Names (Claim object kind socket)) EmptyName
   claiming_name object kind socket object_fits kind_fits fits false =
       claiming object kind socket object_fits kind_fits fits (next_id n.names.lookups) refl
 
@@ -150,7 +151,7 @@ module _ (A : Type 0) (laws : CallLaws A) (setting : Setting) (history : List Ha
     by_taker : (search : Search) → search_of n.names.lookups id ≡ Some search → (claim : Claimed) → claim_of n.names id
         ≡ Some claim → (t : Option Found) → taker n.names search.finds claim ≡ t → claim_fault n.names claim t ≡ None
         → Closed (claim_ended {A = A} n.names id claim t).state
-        → StepTo A n (Calls (Finish id)) (claim_ended {A = A} n.names id claim t).state
+        → StepTo A n (Calls (Names (Finish id))) (claim_ended {A = A} n.names id claim t).state
         (told_of (claim_ended {A = A} n.names id claim t).finished)
     by_taker search e claim is (Some f) has free closed =
         HasLost (record {
@@ -185,7 +186,7 @@ module _ (A : Type 0) (laws : CallLaws A) (setting : Setting) (history : List Ha
     by_claim : (search : Search) → search_of n.names.lookups id ≡ Some search → (y : Option Claimed)
         → claim_of n.names id ≡ y → fault_of n.names (Some search) y ≡ None
         → Closed (ended {A = A} n.names id search.finds y).state
-        → StepTo A n (Calls (Finish id)) (ended {A = A} n.names id search.finds y).state
+        → StepTo A n (Calls (Names (Finish id))) (ended {A = A} n.names id search.finds y).state
         (told_of (ended {A = A} n.names id search.finds y).finished)
     by_claim search e None is free closed =
         Finds (record {
@@ -202,19 +203,19 @@ module _ (A : Type 0) (laws : CallLaws A) (setting : Setting) (history : List Ha
 
     by_search : (x : Option Search) → search_of n.names.lookups id ≡ x → fault_of n.names x (claim_of n.names id) ≡ None
         → Closed (ending {A = A} n.names id x).state
-        → StepTo A n (Calls (Finish id)) (ending {A = A} n.names id x).state
+        → StepTo A n (Calls (Names (Finish id))) (ending {A = A} n.names id x).state
         (told_of (ending {A = A} n.names id x).finished)
     by_search None e free closed = absurd (cc)
     by_search (Some search) e free closed = by_claim search e (claim_of n.names id) refl free closed
 
     finishing : (fault : Option NbpFault) → finish_fault n.names id ≡ fault
-        → IsIts A setting history n (Calls (Finish id)) (over (with_names n) (finished_as n.names id fault))
-    finishing (Some fault) e = refusing (Finish id) fault
+        → IsIts A setting history n (Calls (Names (Finish id))) (over (with_names n) (finished_as n.names id fault))
+    finishing (Some fault) e = refusing (Names (Finish id)) fault
     finishing None e =
         let h = laws.finishes (after setting history) (names_of n.seat.net n.seat.number) n.names id lawful e in
         let i = h.is in
         let b = i.becomes in (
-          moved A setting history n st (Calls (Finish id)) (told_of (finish {A = A} n.names id).finished)
+          moved A setting history n st (Calls (Names (Finish id))) (told_of (finish {A = A} n.names id).finished)
               (finish {A = A} n.names id).state (Closes id) [] h
               (λ now is. draws_none (after setting history).event (names_of n.seat.net n.seat.number)
               (drawn_by (told_of (finish {A = A} n.names id).finished)) (after setting history).begun now
@@ -226,16 +227,16 @@ module _ (A : Type 0) (laws : CallLaws A) (setting : Setting) (history : List Ha
 
   registering : (object kind : List ℕ) (socket : ℕ) → IsString object → IsString kind → socket < 256
       → (fault : Option NbpFault) → register_fault n.names.table.names object kind ≡ fault
-      → IsIts A setting history n (Calls (Register object kind socket))
+      → IsIts A setting history n (Calls (Names (Register object kind socket)))
       (over (with_names n) (registered_as n.names object kind socket fault))
   registering object kind socket object_fits kind_fits fits (Some fault) e =
-      refusing (Register object kind socket) fault
+      refusing (Names (Register object kind socket)) fault
   registering object kind socket object_fits kind_fits fits None e =
       let h = laws.registers (after setting history) (names_of n.seat.net n.seat.number) n.names object kind socket
       lawful object_fits kind_fits fits e in
       let i = h.is in
       let b = i.becomes in (
-        moved A setting history n st (Calls (Register object kind socket)) report.Registered
+        moved A setting history n st (Calls (Names (Register object kind socket))) report.Registered
             (record n.names { table = registered n.names.table object kind socket }) Stays [] h (λ now is. is),
         Registers (record {
           object = object;
@@ -250,14 +251,14 @@ module _ (A : Type 0) (laws : CallLaws A) (setting : Setting) (history : List Ha
       )
 
   unregistering : (object kind : List ℕ) (o : Option Registered) → find (is_called object kind) n.names.table.names ≡ o
-      → IsIts A setting history n (Calls (Unregister object kind))
+      → IsIts A setting history n (Calls (Names (Unregister object kind)))
       (over (with_names n) (unregistered_as n.names object kind o))
-  unregistering object kind None e = refusing (Unregister object kind) NoSuchName
+  unregistering object kind None e = refusing (Names (Unregister object kind)) NoSuchName
   unregistering object kind (Some name) e =
       let h = laws.unregisters (after setting history) (names_of n.seat.net n.seat.number) n.names object kind lawful in
       let i = h.is in
       let b = i.becomes in (
-        moved A setting history n st (Calls (Unregister object kind)) report.Unregistered
+        moved A setting history n st (Calls (Names (Unregister object kind))) report.Unregistered
             (without_name n.names object kind) Stays [] h (λ now is. is),
         Unregisters (record {
           object = object;
@@ -273,26 +274,18 @@ module _ (A : Type 0) (laws : CallLaws A) (setting : Setting) (history : List Ha
 
   pub call_happens : (call : Call A) → IsCall call → is_nbp (kind_of_call call) ≡ true
       → IsIts A setting history n (Calls call) (called n call)
-  call_happens (Zones kind) range its = absurd (cc)
-  call_happens (SetZones kind names) range its = absurd (cc)
-  call_happens (Ask node socket user bytes wanted xo retries) range its = absurd (cc)
-  call_happens (Answer key packets) range its = absurd (cc)
-  call_happens (Pick zone) range its = absurd (cc)
-  call_happens (Find object kind zone) range its =
+  call_happens (Zones call) range its = absurd (cc)
+  call_happens (Transactions call) range its = absurd (cc)
+  call_happens (Session call) range its = absurd (cc)
+  call_happens (Names (Find object kind zone)) range its =
       finding object kind zone range.0 range.1 range.2 (next_id n.names.lookups) refl
-  call_happens (Claim object kind socket) range its = claiming_name object kind socket range.0 range.1 range.2
+  call_happens (Names (Claim object kind socket)) range its = claiming_name object kind socket range.0 range.1 range.2
       (is_no_text object || is_no_text kind)
-  call_happens (Finish id) range its =
-      keeping A setting history n (Calls (Finish id)) (over (with_names n) (finish_called n.names id))
+  call_happens (Names (Finish id)) range its =
+      keeping A setting history n (Calls (Names (Finish id))) (over (with_names n) (finish_called n.names id))
       (finds_kept n.session (finish_called {A = A} n.names id).report) (finishing id (finish_fault n.names id) refl)
-  call_happens (Register object kind socket) range its = registering object kind socket range.0 range.1 range.2
+  call_happens (Names (Register object kind socket)) range its = registering object kind socket range.0 range.1 range.2
       (register_fault n.names.table.names object kind) refl
-  call_happens (Unregister object kind) range its =
+  call_happens (Names (Unregister object kind)) range its =
       unregistering object kind (find (is_called object kind) n.names.table.names) refl
-  call_happens (Open index) range its = absurd (cc)
-  call_happens (Listen on) range its = absurd (cc)
-  call_happens (Connect node socket) range its = absurd (cc)
-  call_happens (Write id items) range its = absurd (cc)
-  call_happens (Read id count) range its = absurd (cc)
-  call_happens (Reset id) range its = absurd (cc)
-  call_happens (Close id) range its = absurd (cc)
+  call_happens (Streams call) range its = absurd (cc)

@@ -9,7 +9,12 @@ use Rattle.at_adsp_end.specs.declared.tick.Tick.TheVariants as tick
 use Rattle.at_event.specs.Outcomes.{Outcome, Over, Through, idle, over}
 use Rattle.at_event.specs.Seats.{at_socket, is_for_all, is_mine}
 use Rattle.at_event.specs.declared.event.Call.{Call}
-use Rattle.at_event.specs.declared.event.Call.TheVariants as call
+use Rattle.at_event.specs.declared.event.Call.TheVariants.{Transactions, Zones, Names, Streams, Session}
+use Rattle.at_event.specs.declared.calls.NameCall.TheVariants.{Find, Claim, Finish, Register, Unregister}
+use Rattle.at_event.specs.declared.calls.SessionCall.TheVariants.{Pick}
+use Rattle.at_event.specs.declared.calls.StreamCall.TheVariants.{Open, Listen, Connect, Write, Read, Reset, Close}
+use Rattle.at_event.specs.declared.calls.TransactionCall.TheVariants.{Ask, Answer}
+use Rattle.at_event.specs.declared.calls.ZoneCall.TheVariants as zone
 use Rattle.at_event.specs.declared.report.Report.TheVariants as report
 use Rattle.at_event.specs.declared.event.Timer.{Timer}
 use Rattle.at_event.specs.declared.event.Timer.TheVariants as timer
@@ -84,54 +89,54 @@ module _ (A : Type 0) (laws : Laws) (n : NodeState) (within : IsWithin n) where
   }
 
   pub call_safe : (c : Call A) → Calling n (called n c)
-  call_safe (call.Zones kind) =
+  call_safe (Zones (zone.Read kind)) =
       of_atp (zones_called n.seat n.atp kind n.seat.router n.atp.reading)
       (requests.zones_safe A n laws.numbers kind n.seat.router n.atp.reading)
-  call_safe (call.SetZones kind names) =
+  call_safe (Zones (zone.Set kind names)) =
       of_atp (set_zones_called n.atp n.atp.tables kind names)
       (records.set_zones_safe A n IsPlaceOfCall kind names n.atp.tables)
-  call_safe (call.Ask node socket user bytes wanted xo retries) =
+  call_safe (Transactions (Ask node socket user bytes wanted xo retries)) =
       let to = at_socket n.seat node socket in
       of_atp (ask_called n.seat n.atp to user bytes wanted xo retries)
       (requests.ask_safe A n laws.numbers to user bytes wanted xo retries (nat_lt 578 (length bytes)))
-  call_safe (call.Answer key packets) =
+  call_safe (Transactions (Answer key packets)) =
       of_atp (answer_called n.seat n.atp key packets)
       (records.answer_safe A n IsPlaceOfCall laws.records key packets
       (answer_fault n.atp.service_responder key packets) refl)
-  call_safe (call.Pick zone) =
+  call_safe (Session (Pick zone)) =
       through A IsPlaceOfCall n (with_session n) n.session (pick_called n.session zone) refl
       (pick_safe zone (is_listed n.session zone))
-  call_safe (call.Find object kind zone) =
+  call_safe (Names (Find object kind zone)) =
       let pattern = pattern_asked n.session object kind zone in
       of_names (find_called n.seat n.names pattern) (names.find_safe A n IsPlaceOfCall laws.names within pattern)
-  call_safe (call.Claim object kind socket) =
+  call_safe (Names (Claim object kind socket)) =
       of_names (claim_called n.seat n.names object kind socket)
       (names.claim_safe A n IsPlaceOfCall laws.names within object kind socket)
-  call_safe (call.Finish id) =
+  call_safe (Names (Finish id)) =
       of_finish (finish_called n.names id) (names.finish_safe A n IsPlaceOfCall laws.names within id)
-  call_safe (call.Register object kind socket) =
+  call_safe (Names (Register object kind socket)) =
       of_names (register_called n.names object kind socket)
       (names.register_safe A n IsPlaceOfCall laws.names within object kind socket)
-  call_safe (call.Unregister object kind) =
+  call_safe (Names (Unregister object kind)) =
       of_names (unregister_called n.names object kind)
       (names.unregister_safe A n IsPlaceOfCall laws.names within object kind)
-  call_safe (call.Open index) =
+  call_safe (Streams (Open index)) =
       let to = address_at n.session index in
       of_streams (open_called n.seat n.streams to) (streams.open_safe A n IsPlaceOfCall laws.streams within to)
-  call_safe (call.Listen on) =
+  call_safe (Streams (Listen on)) =
       of_streams (listen_called n.streams on) (streams.listen_safe A n IsPlaceOfCall laws.streams within on)
-  call_safe (call.Connect node socket) =
+  call_safe (Streams (Connect node socket)) =
       let to = at_socket n.seat node socket in
       of_streams (connect_called n.seat n.streams to) (streams.connect_safe A n IsPlaceOfCall laws.streams within to)
-  call_safe (call.Write id items) =
+  call_safe (Streams (Write id items)) =
       of_streams (write_called n.seat n.streams id items)
       (streams.write_safe A n IsPlaceOfCall laws.streams within id items)
-  call_safe (call.Read id count) =
+  call_safe (Streams (Read id count)) =
       of_streams (read_called n.seat n.streams id count)
       (streams.read_safe A n IsPlaceOfCall laws.streams within id count)
-  call_safe (call.Reset id) =
+  call_safe (Streams (Reset id)) =
       of_streams (reset_called n.seat n.streams id) (streams.reset_safe A n IsPlaceOfCall laws.streams within id)
-  call_safe (call.Close id) =
+  call_safe (Streams (Close id)) =
       of_streams (close_called n.seat n.streams id) (streams.close_safe A n IsPlaceOfCall laws.streams within id)
 
   pub timer_safe : (time : Timer) → Calling n (timed n time)

@@ -29,9 +29,8 @@ use Rattle.at_event.specs.Kinds.{kind_of_call}
 use Rattle.at_event.specs.Outcomes.{over, refused_as}
 use Rattle.at_event.specs.Seats.{at_socket}
 use Rattle.at_event.specs.declared.event.Call.{Call}
-use Rattle.at_event.specs.declared.event.Call.TheVariants.{Zones, SetZones, Ask, Answer, Pick, Find, Claim, Finish}
-use Rattle.at_event.specs.declared.event.Call.TheVariants.{Register, Unregister, Open, Listen, Connect, Write, Read}
-use Rattle.at_event.specs.declared.event.Call.TheVariants.{Reset, Close}
+use Rattle.at_event.specs.declared.event.Call.TheVariants.{Transactions, Zones, Names, Streams, Session}
+use Rattle.at_event.specs.declared.calls.StreamCall.TheVariants.{Open, Listen, Connect, Write, Read, Reset, Close}
 use Rattle.at_event.specs.declared.report.Report.{Report}
 use Rattle.at_event.specs.declared.report.Report.TheVariants as report
 use Rattle.at_node.specs.Numbers.{drawn_by}
@@ -117,21 +116,21 @@ module _ (A : Type 0) (changes : AllChange) (paired : AllPaired) (setting : Sett
   opening : (index : ℕ) (f : Option Found) → slice_get n.session.finds index ≡ f
       → ((id : ℕ) → drawn_by {A = A} (open_called n.seat n.streams (option_map (λ (x : Found). x.address) f)).report
       ≡ Some (Conn id) → NoneNames old at id)
-      → IsIts A setting history n (Calls (Open index))
+      → IsIts A setting history n (Calls (Streams (Open index)))
       (over (with_streams n) (open_called n.seat n.streams (option_map (λ (x : Found). x.address) f)))
-  opening index None is free = refused A setting history n st paired (Calls (Open index)) (Some 62)
+  opening index None is free = refused A setting history n st paired (Calls (Streams (Open index))) (Some 62)
   opening index (Some f) is free =
       let openable = all_at (IsOpenable n.seat.net) n.session.finds index f st.finds is in
       let asks : address_at n.session index ≡ Some f.address = ap (option_map (λ (x : Found). x.address)) is in
-      connecting (Calls (Open index)) f.address asks (fits A setting history n st, openable.1) openable.0
+      connecting (Calls (Streams (Open index))) f.address asks (fits A setting history n st, openable.1) openable.0
       (inl (ap (option_map (Connects at)) asks)) (connects_in_time f.address free)
 
   -- ---- calls of ends
 
   write_step : (id : ℕ) (items : List Item) (now : Network) (r : Result (Done ℕ) StreamFault)
       → wrote wire n.streams items (by_id n.streams id) ≡ r → AfterCall old now at id (wrote_first items) r
-      → StepTo (Calls (Write id items)) (sockets.called n.seat n.streams report.Wrote r).report now
-  write_step id items now (Err fault) e same = refusing (Calls (Write id items)) fault now same
+      → StepTo (Calls (Streams (Write id items))) (sockets.called n.seat n.streams report.Wrote r).report now
+  write_step id items now (Err fault) e same = refusing (Calls (Streams (Write id items))) fault now same
   write_step id items now (Ok d) e is =
       let ok = wrote_ok n.streams id items d e in
       HasWritten (record {
@@ -141,20 +140,21 @@ module _ (A : Type 0) (changes : AllChange) (paired : AllPaired) (setting : Sett
         act = refl;
         report = refl;
         stands = has_end A setting history n st paired
-            (changed A setting history n st (Calls (Write id items)) (report.Wrote d.answer) (streams now)) id refl refl
+            (changed A setting history n st (Calls (Streams (Write id items))) (report.Wrote d.answer) (streams now))
+            id refl refl
             ok.0;
         fits = ok.1;
         streams = is;
       })
 
   writing_ : (id : ℕ) (items : List Item) → AllByRecursion IsItem items
-      → IsIts A setting history n (Calls (Write id items)) (called n (Write id items))
+      → IsIts A setting history n (Calls (Streams (Write id items))) (called n (Streams (Write id items)))
   writing_ id items in_range =
       let r = wrote wire n.streams items (by_id n.streams id) in
       let same : wrote setting.numbers (old.tables at) items (by_id (old.tables at) id)
       ≡ r = λ i. wrote (st.numbers i) (st.stands i) items (by_id (st.stands i) id) in
       let h : Happening = Writes at id items in
-      calling h (Calls (Write id items)) report.Wrote (wrote_first items) r
+      calling h (Calls (Streams (Write id items))) report.Wrote (wrote_first items) r
       (ap (calls_with (wrote_first items) setting old at) same) tt (fits A setting history n st, in_range) here
       (inl refl)
       (write_step id items (done setting old h) r refl
@@ -163,8 +163,8 @@ module _ (A : Type 0) (changes : AllChange) (paired : AllPaired) (setting : Sett
 
   read_step : (id count : ℕ) (now : Network) (r : Result (Done (List Item)) StreamFault)
       → read_at wire n.streams count (by_id n.streams id) ≡ r → AfterCall old now at id deeds.Read r
-      → StepTo (Calls (Read id count)) (sockets.called n.seat n.streams report.Read r).report now
-  read_step id count now (Err fault) e same = refusing (Calls (Read id count)) fault now same
+      → StepTo (Calls (Streams (Read id count))) (sockets.called n.seat n.streams report.Read r).report now
+  read_step id count now (Err fault) e same = refusing (Calls (Streams (Read id count))) fault now same
   read_step id count now (Ok d) e is =
       let ok = read_ok n.streams id count d e in
       HasRead (record {
@@ -174,44 +174,48 @@ module _ (A : Type 0) (changes : AllChange) (paired : AllPaired) (setting : Sett
         act = refl;
         report = refl;
         stands = has_end A setting history n st paired
-            (changed A setting history n st (Calls (Read id count)) (report.Read d.answer) (streams now)) id refl refl
+            (changed A setting history n st (Calls (Streams (Read id count))) (report.Read d.answer) (streams now)) id
+            refl refl
             ok.0;
         fits = ok.1;
         streams = is;
       })
 
-  reading_ : (id count : ℕ) → IsIts A setting history n (Calls (Read id count)) (called n (Read id count))
+  reading_ : (id count : ℕ)
+      → IsIts A setting history n (Calls (Streams (Read id count))) (called n (Streams (Read id count)))
   reading_ id count =
       let r = read_at wire n.streams count (by_id n.streams id) in
       let same : read_at setting.numbers (old.tables at) count (by_id (old.tables at) id)
       ≡ r = λ i. read_at (st.numbers i) (st.stands i) count (by_id (st.stands i) id) in
       let h : Happening = Reads at id count in
-      calling h (Calls (Read id count)) report.Read deeds.Read r (ap (calls_with deeds.Read setting old at) same) tt
+      calling h (Calls (Streams (Read id count))) report.Read deeds.Read r
+      (ap (calls_with deeds.Read setting old at) same) tt
       (fits A setting history n st) here (inl refl)
       (read_step id count (done setting old h) r refl
       (subst (AfterCall old (done setting old h) at id deeds.Read) same (changes setting history h st.timely)))
 
   -- a reset that is refused is none
-  resetting : (id : ℕ) → IsIts A setting history n (Calls (Reset id)) (called n (Reset id))
+  resetting : (id : ℕ) → IsIts A setting history n (Calls (Streams (Reset id))) (called n (Streams (Reset id)))
   resetting id = go (reset_at wire n.streams (by_id n.streams id)) refl
     where
       go : (r : Result (Done (Unit {0})) StreamFault) → reset_at wire n.streams (by_id n.streams id) ≡ r
-          → IsIts A setting history n (Calls (Reset id))
+          → IsIts A setting history n (Calls (Streams (Reset id)))
           (over (with_streams n) (sockets.called {X = Unit {0}} n.seat n.streams (λ answer. report.StreamReset) r))
-      go (Err fault) e = refused A setting history n st paired (Calls (Reset id)) (number_of fault)
+      go (Err fault) e = refused A setting history n st paired (Calls (Streams (Reset id))) (number_of fault)
       go (Ok d) e =
           let same : reset_at setting.numbers (old.tables at) (by_id (old.tables at) id)
           ≡ Ok d = (λ i. reset_at (st.numbers i) (st.stands i) (by_id (st.stands i) id)) ∙ e in
           let h : Happening = Resets at id in
           let found = reset_ok n.streams id d e in
-          calling {X = Unit {0}} h (Calls (Reset id)) (λ answer. report.StreamReset) gave_up (Ok d)
+          calling {X = Unit {0}} h (Calls (Streams (Reset id))) (λ answer. report.StreamReset) gave_up (Ok d)
           (ap (calls_with gave_up setting old at) same) tt (fits A setting history n st) here (inl refl)
           (HasReset (record {
             id = id;
             act = refl;
             report = refl;
             stands = has_end A setting history n st paired
-                (changed A setting history n st (Calls (Reset id)) report.StreamReset (streams (done setting old h)))
+                (changed A setting history n st (Calls (Streams (Reset id))) report.StreamReset (streams (done setting
+                old h)))
                 id refl refl found;
             streams = subst (AfterCall old (done setting old h) at id gave_up) same
                 (changes setting history h st.timely);
@@ -219,57 +223,52 @@ module _ (A : Type 0) (changes : AllChange) (paired : AllPaired) (setting : Sett
 
   -- an end is closed or freed
   close_step : (id : ℕ) (now : Network) (o : Option EndState) → by_id n.streams id ≡ o → streams now ≡ streams old
-      → StepTo (Calls (Close id)) (sockets.called n.seat n.streams told_by (closed_at wire n.streams o)).report now
-  close_step id now None e same = refusing (Calls (Close id)) NoSuchEnd now same
+      → StepTo (Calls (Streams (Close id)))
+      (sockets.called n.seat n.streams told_by (closed_at wire n.streams o)).report now
+  close_step id now None e same = refusing (Calls (Streams (Close id))) NoSuchEnd now same
   close_step id now (Some x) e same = go (is_open x.phase)
     where
-      go : (b : Bool) → StepTo (Calls (Close id))
+      go : (b : Bool) → StepTo (Calls (Streams (Close id)))
           (sockets.called n.seat n.streams told_by
           (cond b (Ok (moved n.streams (step.Closed x.id) (closing wire x).after (closing wire x).sent))
           (Ok (freed n.streams (step.Freed x.id) x)))).report now
-      go true = plain_step A setting history n st paired (Calls (Close id)) (report.Closed x.id) (streams now)
+      go true = plain_step A setting history n st paired (Calls (Streams (Close id))) (report.Closed x.id) (streams now)
           (found_id n.streams id x e) (finds_it n.streams (has_id id) x e) same
-      go false = plain_step A setting history n st paired (Calls (Close id)) (report.Freed x.id) (streams now)
+      go false = plain_step A setting history n st paired (Calls (Streams (Close id))) (report.Freed x.id) (streams now)
           (found_id n.streams id x e) (finds_it n.streams (has_id id) x e) same
 
-  closing_ : (id : ℕ) → IsIts A setting history n (Calls (Close id)) (called n (Close id))
+  closing_ : (id : ℕ) → IsIts A setting history n (Calls (Streams (Close id))) (called n (Streams (Close id)))
   closing_ id =
       let r = closed_at wire n.streams (by_id n.streams id) in
       let same : closed_at setting.numbers (old.tables at) (by_id (old.tables at) id)
       ≡ r = λ i. closed_at (st.numbers i) (st.stands i) (by_id (st.stands i) id) in
       let h : Happening = Closes at id in
-      calling h (Calls (Close id)) told_by (λ answer. Nothing) r (ap (calls setting old at) same) tt
+      calling h (Calls (Streams (Close id))) told_by (λ answer. Nothing) r (ap (calls setting old at) same) tt
       (fits A setting history n st) here (inl refl)
       (close_step id (done setting old h) (by_id n.streams id) refl (changes setting history h st.timely))
 
-  listening : (on : Bool) → IsIts A setting history n (Calls (Listen on)) (called n (Listen on))
+  listening : (on : Bool) → IsIts A setting history n (Calls (Streams (Listen on))) (called n (Streams (Listen on)))
   listening on =
-      happens A setting history n st (Calls (Listen on)) (sockets.listen_called n.streams on)
+      happens A setting history n st (Calls (Streams (Listen on))) (sockets.listen_called n.streams on)
       (Listens at on) tt tt here (inl refl) (becomes_listening old at n.streams on st.stands)
-      (plain_step A setting history n st paired (Calls (Listen on)) report.ListenSet
+      (plain_step A setting history n st paired (Calls (Streams (Listen on))) report.ListenSet
       (streams (done setting old (Listens at on))) refl tt (changes setting history (Listens at on) st.timely))
 
   pub call_happens : (call : Call A) → IsCall call → is_adsp (kind_of_call call) ≡ true
       → ((id : ℕ) → drawn_by (called n call).report ≡ Some (Conn id) → NoneNames old at id)
       → IsIts A setting history n (Calls call) (called n call)
-  call_happens (Zones kind) range its free = absurd (true≢false (sym its))
-  call_happens (SetZones kind names) range its free = absurd (true≢false (sym its))
-  call_happens (Ask node socket user bytes wanted xo retries) range its free = absurd (true≢false (sym its))
-  call_happens (Answer key packets) range its free = absurd (true≢false (sym its))
-  call_happens (Pick zone) range its free = absurd (true≢false (sym its))
-  call_happens (Find object kind _) range its free = absurd (true≢false (sym its))
-  call_happens (Claim object kind socket) range its free = absurd (true≢false (sym its))
-  call_happens (Finish id) range its free = absurd (true≢false (sym its))
-  call_happens (Register object kind socket) range its free = absurd (true≢false (sym its))
-  call_happens (Unregister object kind) range its free = absurd (true≢false (sym its))
-  call_happens (Open index) range its free = opening index (slice_get n.session.finds index) refl free
-  call_happens (Listen on) range its free = listening on
-  call_happens (Connect node socket) range its free =
+  call_happens (Zones call) range its free = absurd (true≢false (sym its))
+  call_happens (Transactions call) range its free = absurd (true≢false (sym its))
+  call_happens (Session call) range its free = absurd (true≢false (sym its))
+  call_happens (Names call) range its free = absurd (true≢false (sym its))
+  call_happens (Streams (Open index)) range its free = opening index (slice_get n.session.finds index) refl free
+  call_happens (Streams (Listen on)) range its free = listening on
+  call_happens (Streams (Connect node socket)) range its free =
       let to = at_socket n.seat node socket in
-      connecting (Calls (Connect node socket)) to refl
+      connecting (Calls (Streams (Connect node socket))) to refl
       (fits A setting history n st, record { net = st.small_net; node = range.0; socket = range.1 }) refl
       (inl refl) (connects_in_time to free)
-  call_happens (Write id items) range its free = writing_ id items range.1
-  call_happens (Read id count) range its free = reading_ id count
-  call_happens (Reset id) range its free = resetting id
-  call_happens (Close id) range its free = closing_ id
+  call_happens (Streams (Write id items)) range its free = writing_ id items range.1
+  call_happens (Streams (Read id count)) range its free = reading_ id count
+  call_happens (Streams (Reset id)) range its free = resetting id
+  call_happens (Streams (Close id)) range its free = closing_ id

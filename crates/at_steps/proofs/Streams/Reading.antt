@@ -14,7 +14,8 @@ use Rattle.at_adsp.specs.Network.{AllTimely, Happening, Reads, Setting, after}
 use Rattle.at_adsp.specs.Orders.{ReadsInOrder}
 use Rattle.at_adsp.specs.Pairs.{HappensHere}
 use Rattle.at_event.specs.Outcomes.{refused_as}
-use Rattle.at_event.specs.declared.event.Call.TheVariants.{Read}
+use Rattle.at_event.specs.declared.event.Call.TheVariants.{Streams}
+use Rattle.at_event.specs.declared.calls.StreamCall.TheVariants.{Read}
 use Rattle.at_event.specs.declared.report.Report.{Report}
 use Rattle.at_event.specs.declared.report.Report.TheVariants as report
 use Rattle.at_node.specs.Nodes.{NodeState, called}
@@ -43,7 +44,7 @@ no_read A (Some k) items h = absurd (cc)
 
 pub read_with : (A : Type 0) → ReadsFromPeer
     → (setting : Setting) (history : List Happening) (n : NodeState) (id count : ℕ) (items : List Item)
-    → Stands setting history n.seat.net n.seat.number n → (called {A = A} n (Read id count)).report
+    → Stands setting history n.seat.net n.seat.number n → (called {A = A} n (Streams (Read id count))).report
     ≡ report.Read items →
     ReadsInOrder (after setting (Reads (streams_at n.seat.net n.seat.number) id count ∷ history))
     → ReadsWith (streams (after setting history)) (streams_at n.seat.net n.seat.number) id items

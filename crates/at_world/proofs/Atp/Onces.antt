@@ -16,7 +16,8 @@ use Rattle.at_atp_frame.specs.Packets.{Packet}
 use Rattle.at_atp.specs.Transactions.{Transaction, transaction_of, answered}
 use Rattle.at_atp_responder.specs.declared.reception.Key.{Key}
 use Rattle.at_node.specs.AtpParts.{asking}
-use Rattle.at_event.specs.declared.event.Call.TheVariants.{Answer}
+use Rattle.at_event.specs.declared.event.Call.TheVariants.{Transactions}
+use Rattle.at_event.specs.declared.calls.TransactionCall.TheVariants.{Answer}
 use Rattle.at_event.specs.declared.report.Report.{Report}
 use Rattle.at_event.specs.declared.report.Report.TheVariants as report
 use Rattle.at_world.specs.ExactlyOnce.{Played, onto, since, is_once, CameFrom, HandsUpBy, IsGivenBy, IsPageFor, GivesBy}
@@ -76,8 +77,9 @@ module _ (A : Type 0) (laws : OnceLaws A) (net : ℕ) (tables : Tables) (sent : 
   step_gives e r now n (Answers at k packets) key answer within ok m g =
       let gives = m.answers_as in
       subst (λ x. GivesBy sent now x r key answer)
-      (sym (called_at e (Answer k packets) gives.1))
-      (subst (λ x. GivesBy sent now (event.Call (node_of e) (Answer k packets)) x key answer) (sym gives.2) g)
+      (sym (called_at e (Transactions (Answer k packets)) gives.1))
+      (subst (λ x. GivesBy sent now (event.Call (node_of e) (Transactions (Answer k packets))) x key answer) (sym
+      gives.2) g)
   step_gives e r now n (Serves which packets) key answer within ok m g =
       let gives = m.answers_as in
       let is = delivered_at e which gives.1 in
@@ -122,12 +124,12 @@ module _ (A : Type 0) (laws : OnceLaws A) (net : ℕ) (tables : Tables) (sent : 
   joins_it : (e : Event A) (r : Report A) (n : Network) (h : Happening) (key : Key) → Within sent n
       → AllSent IsLawfullySent n.sent → reports.Joins n h r (act_of e) → IsGivenBy sent e r key →
       (packets : List Packet) × ((done A n h).asked ≡ answered n.asked key.from key.tid packets)
-  joins_it (event.Call node (Answer k packets)) (report.Answered count) n h key within ok j g =
+  joins_it (event.Call node (Transactions (Answer k packets))) (report.Answered count) n h key within ok j g =
       let both = and_parts (same_address k.from key.from) (k.tid == key.tid) g in
       let from = same_address-true k.from key.from both.0 in
       let number = eqb-true k.tid key.tid both.1 in
       (packets, j ∙ (λ i. answered n.asked (from i) (number i) packets))
-  joins_it (event.Call node (Answer k packets)) r n h key within ok j g = absurd g
+  joins_it (event.Call node (Transactions (Answer k packets))) r n h key within ok j g = absurd g
   joins_it (event.Call node call) r n h key within ok j g = absurd g
   joins_it (event.Deliver which node) (report.Served count) n h key within ok j g =
       let s = j.0 in

@@ -12,6 +12,7 @@ use Rattle.at_zip.specs.declared.request.Which.{Which}
 use Rattle.at_node.specs.AtpParts.{Reading as ZoneReading, asking, zones_at}
 use Rattle.at_node.specs.Nodes.{NodeState}
 use Rattle.at_event.specs.declared.event.Call.TheVariants.{Zones}
+use Rattle.at_event.specs.declared.calls.ZoneCall.TheVariants as zone
 use Rattle.at_event.specs.declared.report.Report.{Report}
 use Rattle.at_event.specs.declared.report.Report.TheVariants as report
 use Rattle.at_steps.specs.AtpHappenings.{sets_table}
@@ -170,8 +171,10 @@ module _ (A : Type 0) (laws : Laws A) (w : WorldState) (cable : Cable) (m : AtpM
       readings = record { node = node_of e; which = s.which; since = length m.past } ∷ m.readings
 
       allows : Allows cable m e r (moved m m.tables (new ∷ m.asked) readings)
-      allows = so_at A cable m (moved m m.tables (new ∷ m.asked) readings) e (event.Call (node_of e) (Zones s.which)) r
-          (report.Begun s.tid) (called_at e (Zones s.which) s.act) s.report
+      allows =
+          so_at A cable m (moved m m.tables (new ∷ m.asked) readings) e
+          (event.Call (node_of e) (Zones (zone.Read s.which))) r
+          (report.Begun s.tid) (called_at e (Zones (zone.Read s.which)) s.act) s.report
           (tt, record { router = s.server; is_router = is_router; becomes = refl })
 
   -- a page came that is not the last

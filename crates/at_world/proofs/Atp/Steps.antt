@@ -11,7 +11,9 @@ use Rattle.at_zip.specs.declared.request.Which.{Which}
 use Rattle.at_node.specs.AtpParts.{AtpState, asking, zones_at}
 use Rattle.at_node.specs.Nodes.{NodeState}
 use Rattle.at_event.specs.Kinds.{reporter_of}
-use Rattle.at_event.specs.declared.event.Call.TheVariants.{SetZones, Ask, Answer}
+use Rattle.at_event.specs.declared.event.Call.TheVariants.{Transactions, Zones}
+use Rattle.at_event.specs.declared.calls.TransactionCall.TheVariants.{Ask, Answer}
+use Rattle.at_event.specs.declared.calls.ZoneCall.TheVariants as zone
 use Rattle.at_event.specs.declared.report.Report.{Report}
 use Rattle.at_event.specs.declared.report.Report.TheVariants as report
 use Rattle.at_steps.specs.AtpHappenings.{sets_table}
@@ -105,8 +107,8 @@ module _ (A : Type 0) (laws : Laws A) (w : WorldState) (cable : Cable) (m : AtpM
 
       allows : Allows cable m e r (moved m tables m.asked m.readings)
       allows = so_at A cable m (moved m tables m.asked m.readings) e
-          (event.Call (node_of e) (SetZones s.which s.names)) r report.TableSet
-          (called_at e (SetZones s.which s.names) s.act) s.report
+          (event.Call (node_of e) (Zones (zone.Set s.which s.names))) r report.TableSet
+          (called_at e (Zones (zone.Set s.which s.names)) s.act) s.report
           (tt, record { is_router = whole.1; is_table = s.is_table; becomes = refl })
 
   -- ---- answers
@@ -116,13 +118,14 @@ module _ (A : Type 0) (laws : Laws A) (w : WorldState) (cable : Cable) (m : AtpM
   answers_step ts s =
       goes_by A laws w cable m wires e n x r t stands keeps (answered m.asked s.key.from s.key.tid s.packets) ts s.asked
       s.reading (ap sets_table s.report)
-      (λ read server is. joined_stays m.tables m.asked s.key.from s.key.tid s.packets (asking cable.net (node_of e)) read.tid
+      (λ read server is. joined_stays m.tables m.asked s.key.from s.key.tid s.packets (asking cable.net (node_of e))
+      read.tid
       (zones_at cable.net server) (elsewhere server))
       (λ j tid server apart. joined_stays m.tables m.asked s.key.from s.key.tid s.packets (asking cable.net j) tid
       (zones_at cable.net server) (elsewhere server))
       (so_at A cable m (moved m m.tables (answered m.asked s.key.from s.key.tid s.packets) m.readings) e
-      (event.Call (node_of e) (Answer s.key s.packets)) r (report.Answered s.count)
-      (called_at e (Answer s.key s.packets) s.act) s.report
+      (event.Call (node_of e) (Transactions (Answer s.key s.packets))) r (report.Answered s.count)
+      (called_at e (Transactions (Answer s.key s.packets)) s.act) s.report
       (tt, record { asked = s.newest; few = s.few; becomes = refl }))
     where
       -- what asked the service did not ask a router for its zones
@@ -184,8 +187,9 @@ module _ (A : Type 0) (laws : Laws A) (w : WorldState) (cable : Cable) (m : AtpM
       goes_by A laws w cable m wires e n x r t stands keeps (new ∷ m.asked) ts s.asked s.reading
       (ap sets_table s.report) mine (still_theirs A laws w cable m wires e n x r t stands keeps new refl)
       (so_at A cable m (moved m m.tables (new ∷ m.asked) m.readings) e
-      (event.Call (node_of e) (Ask s.node s.socket s.user s.bytes s.wanted s.xo s.retries)) r (report.Begun s.tid)
-      (called_at e (Ask s.node s.socket s.user s.bytes s.wanted s.xo s.retries) s.act) s.report
+      (event.Call (node_of e) (Transactions (Ask s.node s.socket s.user s.bytes s.wanted s.xo s.retries))) r
+      (report.Begun s.tid)
+      (called_at e (Transactions (Ask s.node s.socket s.user s.bytes s.wanted s.xo s.retries)) s.act) s.report
       (tt, record { becomes = refl }))
     where
       new : Transaction

@@ -1,7 +1,9 @@
 -- The machine's zone tables after a step are those that the event and its report say.
 use Rattle.std.proofs.Common.{◌≡◌, refl, ap}
 use Rattle.at_event.specs.Kinds.{Kind, Nobody, Session, Atp, Nbp, Adsp, reporter_of}
-use Rattle.at_event.specs.declared.event.Call.TheVariants.{Zones, SetZones, Ask, Answer}
+use Rattle.at_event.specs.declared.event.Call.TheVariants.{Transactions, Zones}
+use Rattle.at_event.specs.declared.calls.TransactionCall.TheVariants.{Ask, Answer}
+use Rattle.at_event.specs.declared.calls.ZoneCall.TheVariants as zone
 use Rattle.at_event.specs.declared.report.Report.{Report}
 use Rattle.at_event.specs.declared.report.Report.TheVariants as report
 use Rattle.at_world.specs.AtpGuards.{AtpMachine, Says, StepBy}
@@ -18,13 +20,13 @@ kept_of e = ap (λ (m : AtpMachine). m.tables) e
 
 says_tables : {A : Type 0} (c : Cable) (m : AtpMachine) (e : Event A) (r : Report A) (m' : AtpMachine) → Says c m e r m'
     → AreTablesBy m e r m'
-says_tables c m (event.Call node (Zones which)) (report.Begun tid) m' h = kept_of h.becomes
-says_tables c m (event.Call node (Ask k socket user bytes wanted xo retries)) (report.Begun tid) m' h =
+says_tables c m (event.Call node (Zones (zone.Read which))) (report.Begun tid) m' h = kept_of h.becomes
+says_tables c m (event.Call node (Transactions (Ask k socket user bytes wanted xo retries))) (report.Begun tid) m' h =
     kept_of h.becomes
 says_tables c m (event.Call node call) (report.Begun tid) m' h = absurd h
-says_tables c m (event.Call node (Answer key packets)) (report.Answered count) m' h = kept_of h.becomes
+says_tables c m (event.Call node (Transactions (Answer key packets))) (report.Answered count) m' h = kept_of h.becomes
 says_tables c m (event.Call node call) (report.Answered count) m' h = absurd h
-says_tables c m (event.Call node (SetZones which names)) report.TableSet m' h = kept_of h.becomes
+says_tables c m (event.Call node (Zones (zone.Set which names))) report.TableSet m' h = kept_of h.becomes
 says_tables c m (event.Call node call) report.TableSet m' h = absurd h
 says_tables c m (event.Deliver which node) (report.Begun tid) m' h = kept_of h.becomes
 says_tables c m (event.Deliver which node) (report.Served count) m' h = kept_of h.becomes

@@ -20,7 +20,8 @@ use Rattle.at_name_socket.specs.declared.claim.Claim.{Claim as Claimed}
 use Rattle.at_node.specs.Numbers.{drawn_by}
 use Rattle.at_session.specs.Sessions.{pattern_asked}
 use Rattle.at_node.specs.Nodes.{NodeState}
-use Rattle.at_event.specs.declared.event.Call.TheVariants.{Claim, Find, Finish, Register, Unregister}
+use Rattle.at_event.specs.declared.event.Call.TheVariants.{Names}
+use Rattle.at_event.specs.declared.calls.NameCall.TheVariants.{Find, Claim, Finish, Register, Unregister}
 use Rattle.at_event.specs.declared.report.Report.{Report}
 use Rattle.at_event.specs.declared.report.Report.TheVariants as report
 use Rattle.at_steps.specs.NameSteps as steps
@@ -179,8 +180,8 @@ module _ (A : Type 0) (laws : NameLaws A) (w : WorldState) (c : Cable) (ss : Ses
     change = Opens s.id (pattern_asked n.session s.object s.kind s.zone) None;
     allows = so_at A ss m (moved m m.names (node_of e)
         (Opens s.id (pattern_asked n.session s.object s.kind s.zone) None)) e
-        (event.Call (node_of e) (Find s.object s.kind s.zone)) r (report.Looking s.id)
-        (called_at e (Find s.object s.kind s.zone) s.act) s.report
+        (event.Call (node_of e) (Names (Find s.object s.kind s.zone))) r (report.Looking s.id)
+        (called_at e (Names (Find s.object s.kind s.zone)) s.act) s.report
         (record {
           becomes = λ i. next
               (record m {
@@ -206,8 +207,8 @@ module _ (A : Type 0) (laws : NameLaws A) (w : WorldState) (c : Cable) (ss : Ses
         names = m.names;
         change = Opens s.id (any_pattern s.object s.kind) (Some claim);
         allows = so_at A ss m (moved m m.names (node_of e) (Opens s.id (any_pattern s.object s.kind) (Some claim))) e
-            (event.Call (node_of e) (Claim s.object s.kind s.socket)) r (report.Looking s.id)
-            (called_at e (Claim s.object s.kind s.socket) s.act) s.report
+            (event.Call (node_of e) (Names (Claim s.object s.kind s.socket))) r (report.Looking s.id)
+            (called_at e (Names (Claim s.object s.kind s.socket)) s.act) s.report
             (record { becomes = refl });
         tables = same_names s.table;
         opened = s.lookups;
@@ -225,8 +226,9 @@ module _ (A : Type 0) (laws : NameLaws A) (w : WorldState) (c : Cable) (ss : Ses
       record {
         names = m.names;
         change = Closes s.id;
-        allows = so_at A ss m (moved m m.names (node_of e) (Closes s.id)) e (event.Call (node_of e) (Finish s.id)) r
-            (report.Found s.finds) (called_at e (Finish s.id) s.act) s.report
+        allows =
+            so_at A ss m (moved m m.names (node_of e) (Closes s.id)) e (event.Call (node_of e) (Names (Finish s.id))) r
+            (report.Found s.finds) (called_at e (Names (Finish s.id)) s.act) s.report
             (record { lookup = o.lookup; stands = o.stands; claims = o.claims; tells = o.tells; becomes = refl });
         tables = same_names s.table;
         opened = s.lookups;
@@ -241,7 +243,8 @@ module _ (A : Type 0) (laws : NameLaws A) (w : WorldState) (c : Cable) (ss : Ses
         names = named.names;
         change = Closes s.id;
         allows = so_at A ss m (moved m named.names (node_of e) (Closes s.id)) e
-            (event.Call (node_of e) (Finish s.id)) r report.Claimed (called_at e (Finish s.id) s.act) s.report
+            (event.Call (node_of e) (Names (Finish s.id))) r report.Claimed (called_at e (Names (Finish s.id)) s.act)
+            s.report
             (record {
               lookup = o.lookup;
               stands = o.stands;
@@ -265,8 +268,9 @@ module _ (A : Type 0) (laws : NameLaws A) (w : WorldState) (c : Cable) (ss : Ses
       record {
         names = m.names;
         change = Closes s.id;
-        allows = so_at A ss m (moved m m.names (node_of e) (Closes s.id)) e (event.Call (node_of e) (Finish s.id)) r
-            (report.Taken s.owner) (called_at e (Finish s.id) s.act) s.report
+        allows =
+            so_at A ss m (moved m m.names (node_of e) (Closes s.id)) e (event.Call (node_of e) (Names (Finish s.id))) r
+            (report.Taken s.owner) (called_at e (Names (Finish s.id)) s.act) s.report
             (record {
               lookup = o.lookup;
               stands = o.stands;
@@ -287,8 +291,8 @@ module _ (A : Type 0) (laws : NameLaws A) (w : WorldState) (c : Cable) (ss : Ses
         names = named.names;
         change = Stays;
         allows = so_at A ss m (moved m named.names (node_of e) Stays) e
-            (event.Call (node_of e) (Register s.object s.kind s.socket)) r report.Registered
-            (called_at e (Register s.object s.kind s.socket) s.act) s.report
+            (event.Call (node_of e) (Names (Register s.object s.kind s.socket))) r report.Registered
+            (called_at e (Names (Register s.object s.kind s.socket)) s.act) s.report
             (record {
               allowed = ap (λ (y : Table). register_fault y.names s.object s.kind) (sym own_names) ∙ s.allowed;
               table = x.names.table;
@@ -311,8 +315,8 @@ module _ (A : Type 0) (laws : NameLaws A) (w : WorldState) (c : Cable) (ss : Ses
         names = named.names;
         change = Stays;
         allows = so_at A ss m (moved m named.names (node_of e) Stays) e
-            (event.Call (node_of e) (Unregister s.object s.kind)) r report.Unregistered
-            (called_at e (Unregister s.object s.kind) s.act) s.report
+            (event.Call (node_of e) (Names (Unregister s.object s.kind))) r report.Unregistered
+            (called_at e (Names (Unregister s.object s.kind)) s.act) s.report
             (record {
               name = s.name;
               stood = ap (λ (y : Table). find (is_called s.object s.kind) y.names) (sym own_names) ∙ s.stood;

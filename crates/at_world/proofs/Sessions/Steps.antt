@@ -8,7 +8,9 @@ use Rattle.at_name_socket.specs.NameSockets.{SocketState}
 use Rattle.at_event.specs.Calls.{IsCall}
 use Rattle.at_event.specs.Outcomes.{Outcome, posted}
 use Rattle.at_event.specs.declared.event.Call.{Call}
-use Rattle.at_event.specs.declared.event.Call.TheVariants.{Finish, Pick}
+use Rattle.at_event.specs.declared.event.Call.TheVariants.{Names, Session}
+use Rattle.at_event.specs.declared.calls.NameCall.TheVariants.{Finish}
+use Rattle.at_event.specs.declared.calls.SessionCall.TheVariants.{Pick}
 use Rattle.at_event.specs.declared.report.Report.{Report}
 use Rattle.at_event.specs.declared.report.Report.TheVariants as report
 use Rattle.at_event.specs.declared.event.Timer.{Timer}
@@ -45,8 +47,8 @@ pub record SessionLaws (A : Type 0) : Type 0 where
 
 -- out of memory, a session stays
 pub nothing_steps : (A : Type 0) (s : SessionState) (act : Act A) → IsStep s act report.NoMemory s
-nothing_steps A s (Calls (Pick zone)) = record { becomes = refl; picks = tt }
-nothing_steps A s (Calls (Finish id)) = record { becomes = refl; picks = tt }
+nothing_steps A s (Calls (Session (Pick zone))) = record { becomes = refl; picks = tt }
+nothing_steps A s (Calls (Names (Finish id))) = record { becomes = refl; picks = tt }
 nothing_steps A s (Gets which) = record { becomes = refl; picks = tt }
 nothing_steps A s act = record { becomes = refl; picks = tt }
 
@@ -57,14 +59,15 @@ module _ (A : Type 0) (net : ℕ) (s : SessionState) (f : Fits net s) where
   list_fits (report.Zones which names) = record { picked = f.picked; finds = f.finds }
   list_fits r = f
 
-  pick_fits : (zone : List ℕ) (r : Report A) → IsCall {A = A} (Pick zone) → Fits net (pick_kept s zone r)
+  pick_fits : (zone : List ℕ) (r : Report A) → IsCall {A = A} (Session (Pick zone)) → Fits net (pick_kept s zone r)
   pick_fits zone report.Picked range = record { picked = range; finds = f.finds }
   pick_fits zone r range = f
 
-  call_fits : (call : Call A) (r : Report A) → IsCall call → ((id : ℕ) → call ≡ Finish id → Fits net (finds_kept s r))
+  call_fits : (call : Call A) (r : Report A) → IsCall call
+      → ((id : ℕ) → call ≡ Names (Finish id) → Fits net (finds_kept s r))
       → Fits net (after s (Calls call) r)
-  call_fits (Pick zone) r range ends = pick_fits zone r range
-  call_fits (Finish id) r range ends = ends id refl
+  call_fits (Session (Pick zone)) r range ends = pick_fits zone r range
+  call_fits (Names (Finish id)) r range ends = ends id refl
   call_fits call r range ends = f
 
 -- ---- the tie after a step of one node
@@ -122,11 +125,11 @@ module _ (A : Type 0) (laws : SessionLaws A) (named : NameLaws A) (w : WorldStat
         part = n.names;
         now = now;
         session = n.session;
-        act = Calls (Finish id);
+        act = Calls (Names (Finish id));
         report = r;
       }) → Fits c.net (finds_kept n.session r)
   found_fits id (report.Found finds) now (names.Finds s) =
-      let e : Event A = event.Call k (Finish id) in
+      let e : Event A = event.Call k (Names (Finish id)) in
       let same : s.finds ≡ finds = cc in
       let looked = looked_up A named w c ss m ct.wires e n n (report.Found finds) t stands
       (let has = st.sessions k n stands in has.same) s.id None s.finds s.stands in
@@ -143,13 +146,14 @@ module _ (A : Type 0) (laws : SessionLaws A) (named : NameLaws A) (w : WorldStat
   found_fits id (report.Found finds) now (names.Unregisters s) = let told = s.report in absurd (cc)
   found_fits id r now step = fits
 
-  ended_fits : (call : Call A) → IsCall call → (id : ℕ) → call ≡ Finish id
+  ended_fits : (call : Call A) → IsCall call → (id : ℕ) → call ≡ Names (Finish id)
       → Fits c.net (finds_kept n.session (called n call).report)
   ended_fits call range id is =
-      let at = stands_there A named w c ss m ct st t (event.Call k (Finish id)) n stands in
-      let happens = named.called t.setting t.history n (Finish id) at (subst IsCall is range) refl in
+      let at = stands_there A named w c ss m ct st t (event.Call k (Names (Finish id))) n stands in
+      let happens = named.called t.setting t.history n (Names (Finish id)) at (subst IsCall is range) refl in
       subst (λ (x : Call A). Fits c.net (finds_kept n.session (called n x).report)) (sym is)
-      (found_fits id (called {A = A} n (Finish id)).report (called {A = A} n (Finish id)).state.names happens.1)
+      (found_fits id (called {A = A} n (Names (Finish id))).report (called {A = A} n (Names (Finish id))).state.names
+      happens.1)
 
   pub call_follows : (call : Call A) → IsCall call → (called n call).state.seat ≡ n.seat
       → Good A w c ss (event.Call k call) n (called n call) st stands

@@ -6,7 +6,8 @@ use Rattle.at_event.specs.Calls.{IsCall}
 use Rattle.at_event.specs.Kinds.{Kind, Adsp, kind_of_call, kind_of_timer, reporter_of}
 use Rattle.at_event.specs.Outcomes.{Outcome}
 use Rattle.at_event.specs.declared.event.Call.{Call}
-use Rattle.at_event.specs.declared.event.Call.TheVariants.{Read}
+use Rattle.at_event.specs.declared.event.Call.TheVariants.{Streams}
+use Rattle.at_event.specs.declared.calls.StreamCall.TheVariants.{Read}
 use Rattle.at_event.specs.declared.report.Report.{Report}
 use Rattle.at_event.specs.declared.report.Report.TheVariants as report
 use Rattle.at_event.specs.declared.event.Timer.{Timer}
@@ -109,8 +110,8 @@ module _ (A : Type 0) (laws : StreamLaws A) (w : WorldState) (c : Cable) (ss : S
       reads : ReadsAt A w c m ct t (event.Call k call) n (called n call)
       reads id count items is told order =
           let its = ct.seats k n stands in
-          let call_is : call ≡ Read id count = same_call k call (Read id count) is in
-          let told' : (called n (Read id count)).report
+          let call_is : call ≡ Streams (Read id count) = same_call k call (Streams (Read id count)) is in
+          let told' : (called n (Streams (Read id count))).report
           ≡ report.Read items = subst (λ (x : Call A). (called n x).report ≡ report.Read items) call_is told in
           let at : streams_at n.seat.net n.seat.number
           ≡ streams_at c.net k = λ i. streams_at (its.net i) (its.number i) in

@@ -25,7 +25,8 @@ use Rattle.at_adsp_ends.specs.Tables as ends
 use Rattle.at_adsp_ends.specs.Tables.{Done, EndTable, by_id}
 use Rattle.at_event.specs.Kinds.{reporter_of}
 use Rattle.at_event.specs.Outcomes.{Outcome}
-use Rattle.at_event.specs.declared.event.Call.TheVariants.{Close, Connect, Listen, Open, Read, Reset, Write}
+use Rattle.at_event.specs.declared.event.Call.TheVariants.{Streams}
+use Rattle.at_event.specs.declared.calls.StreamCall.TheVariants.{Open, Listen, Connect, Write, Read, Reset, Close}
 use Rattle.at_event.specs.declared.report.Report.{Report}
 use Rattle.at_event.specs.declared.report.Report.TheVariants as report
 use Rattle.at_event.specs.declared.event.Timer.TheVariants as timer
@@ -67,9 +68,9 @@ plainly A c ss m (event.Timer node time) (report.Refused number) h = refl
 plainly A c ss m (event.Timer node time) report.NoMemory h = refl
 plainly A c ss m (event.Forge node bytes) (report.Refused number) h = refl
 plainly A c ss m (event.Forge node bytes) report.NoMemory h = refl
-plainly A c ss m (event.Call node (Listen on)) report.ListenSet h = refl
-plainly A c ss m (event.Call node (Close id)) (report.Closed it) h = refl
-plainly A c ss m (event.Call node (Close id)) (report.Freed it) h = refl
+plainly A c ss m (event.Call node (Streams (Listen on))) report.ListenSet h = refl
+plainly A c ss m (event.Call node (Streams (Close id))) (report.Closed it) h = refl
+plainly A c ss m (event.Call node (Streams (Close id))) (report.Freed it) h = refl
 plainly A c ss m (event.Timer node (timer.Resend id)) report.Idle h = refl
 plainly A c ss m (event.Timer node (timer.Resend id)) report.Again h = refl
 plainly A c ss m (event.Timer node (timer.Probe id)) report.Again h = refl
@@ -90,9 +91,10 @@ plainly A c ss m e r h = absurd (false≢true h)
 asks_allowed : (A : Type 0) (c : Cable) (ss : Sessions) (m m' : StreamMachine) (e : Event A) (id : ℕ) (asked : Address)
     → asked_by (ss (node_of e)) c.net (act_of e) ≡ Some asked → MakesEnd c m (node_of e) id false asked m'
     → Allows c ss m e (report.Opening id) m'
-asks_allowed A c ss m m' (event.Call node (Connect to socket)) id asked is makes = let same : at_net c to socket
+asks_allowed A c ss m m' (event.Call node (Streams (Connect to socket))) id asked is makes =
+    let same : at_net c to socket
     ≡ asked = cc in subst (λ (a : Address). MakesEnd c m node id false a m') (sym same) makes
-asks_allowed A c ss m m' (event.Call node (Open index)) id asked is makes =
+asks_allowed A c ss m m' (event.Call node (Streams (Open index))) id asked is makes =
     record { asked = asked; found = is; makes = makes }
 asks_allowed A c ss m m' e id asked is makes = absurd (cc)
 
@@ -147,7 +149,8 @@ few_sent w runs = go (nat_le 200000 w.events) (nat_lt 868928 (length w.sent)) re
 -- what this event reads reads from a peer, once all that was read was written in order
 abbrev pub ReadsAt : (A : Type 0) (w : WorldState) (c : Cable) (m : StreamMachine) (ct : CableTie w c)
     → StreamTie w c ct.wires m → Event A → NodeState → Outcome A NodeState → Type 0
-ReadsAt A w c m ct t e n o = (id count : ℕ) (items : List Item) → e ≡ event.Call (node_of e) (Read id count) → o.report
+ReadsAt A w c m ct t e n o =
+    (id count : ℕ) (items : List Item) → e ≡ event.Call (node_of e) (Streams (Read id count)) → o.report
     ≡ report.Read items → ReadsInOrder (after t.setting (Reads (streams_at c.net (node_of e)) id count ∷ t.history))
     → ReadsWith (streams (after t.setting t.history)) (streams_at c.net (node_of e)) id items
 
@@ -216,14 +219,15 @@ module _ (A : Type 0) (laws : StreamLaws A) (w : WorldState) (c : Cable) (ss : S
 
   writes_step : steps.Writes its_change → Row
   writes_step s =
-      so_at A c ss m (moved m now) e (event.Call (node_of e) (Write s.id s.items)) o.report (report.Wrote s.count)
-      (called_at e (Write s.id s.items) s.act) s.report
+      so_at A c ss m (moved m now) e (event.Call (node_of e) (Streams (Write s.id s.items))) o.report
+      (report.Wrote s.count)
+      (called_at e (Streams (Write s.id s.items)) s.act) s.report
       (does s.id (Wrote (take s.count s.items)) s.stands s.streams)
 
   resets_step : steps.Resets its_change → Row
   resets_step s =
-      so_at A c ss m (moved m now) e (event.Call (node_of e) (Reset s.id)) o.report report.StreamReset
-      (called_at e (Reset s.id) s.act) s.report
+      so_at A c ss m (moved m now) e (event.Call (node_of e) (Streams (Reset s.id))) o.report report.StreamReset
+      (called_at e (Streams (Reset s.id)) s.act) s.report
       (does s.id GaveUp s.stands s.streams)
 
   -- what is read is in order: few segments were sent, and a read sends one at most
@@ -240,10 +244,10 @@ module _ (A : Type 0) (laws : StreamLaws A) (w : WorldState) (c : Cable) (ss : S
 
   reads_step : steps.Reads its_change → Row
   reads_step s =
-      let called_ = called_at e (Read s.id s.count) s.act in
+      let called_ = called_at e (Streams (Read s.id s.count)) s.act in
       let with_peer : ReadsWith old at s.id s.items =
       its_reads s.id s.count s.items called_ s.report (in_order s.id s.count) in
-      so_at A c ss m (moved m now) e (event.Call (node_of e) (Read s.id s.count)) o.report
+      so_at A c ss m (moved m now) e (event.Call (node_of e) (Streams (Read s.id s.count))) o.report
       (report.Read s.items) called_ s.report
       (record {
         reads = subst (λ ss. ReadsWith ss at s.id s.items) (sym same) with_peer;

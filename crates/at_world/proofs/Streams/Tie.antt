@@ -25,7 +25,8 @@ use Rattle.at_event.specs.Calls.{IsCall}
 use Rattle.at_event.specs.Kinds.{kind_of_call, kind_of_timer}
 use Rattle.at_event.specs.Outcomes.{Outcome}
 use Rattle.at_event.specs.declared.event.Call.{Call}
-use Rattle.at_event.specs.declared.event.Call.TheVariants.{Read}
+use Rattle.at_event.specs.declared.event.Call.TheVariants.{Streams}
+use Rattle.at_event.specs.declared.calls.StreamCall.TheVariants.{Read}
 use Rattle.at_event.specs.declared.report.Report.TheVariants as report
 use Rattle.at_event.specs.declared.report.Report.{Report}
 use Rattle.at_event.specs.declared.event.Timer.{Timer}
@@ -83,7 +84,7 @@ pub record StreamLaws (A : Type 0) : Type 0 where
   pub unheld : (n : NodeState) (k id : ℕ) (at : Address) → holds n k (Conn id) ≡ false → at.node ≡ k
       → by_remote n.streams (record { address = at; id = id }) ≡ None
   pub reads : (setting : Setting) (history : List Happening) (n : NodeState) (id count : ℕ) (items : List Item)
-      → Stands setting history n.seat.net n.seat.number n → (node_called {A = A} n (Read id count)).report
+      → Stands setting history n.seat.net n.seat.number n → (node_called {A = A} n (Streams (Read id count))).report
       ≡ report.Read items
       → ReadsInOrder (after setting (Reads (streams_at n.seat.net n.seat.number) id count ∷ history))
       → ReadsWith (streams (after setting history)) (streams_at n.seat.net n.seat.number) id items

@@ -1,10 +1,16 @@
 use Rattle.std.proofs.Common.{[], Some, inl, inr, refl, subst, sym}
-use Rattle.at_schedule.specs.Says.{SayAll}
+use Rattle.std.specs.List.{All}
+use Rattle.at_schedule.specs.Says.{IsEventHere, SayAll}
 use Rattle.at_schedule.specs.Schedules.{event_lines}
 use Rattle.at_schedule.specs.Wholes.{events_of}
 use Rattle.at_print.proofs.PrintLemmas.{Prints-nothing}
 use Rattle.at_play.proofs.ToldLemmas.{not_read}
 use Rattle.at_play.proofs.playing_held.play_small.Goals as goal
+
+pub play_events-requires-clause-here : goal.play_events-requires-clause-here
+play_events-requires-clause-here g c =
+    subst (λ es. All (IsEventHere c.in-Ok.schedule.setup.net) (events_of es)) (sym c.as_slice.ensures)
+    c.in-Ok.ensures.here
 
 pub returns-in-Ok-clause-told : goal.returns-in-Ok-clause-told
 returns-in-Ok-clause-told g c =

@@ -3,7 +3,8 @@ use Rattle.at_node.specs.NameCalls.{register_called, unregister_called}
 use Rattle.at_node.specs.Nodes.{NodeState, called, with_names}
 use Rattle.at_event.specs.Outcomes.{IsStep}
 use Rattle.at_event.specs.declared.event.Call.{Call}
-use Rattle.at_event.specs.declared.event.Call.TheVariants.{Register, Unregister}
+use Rattle.at_event.specs.declared.event.Call.TheVariants.{Names}
+use Rattle.at_event.specs.declared.calls.NameCall.TheVariants.{Register, Unregister}
 use Rattle.at_node.proofs.OutcomeLemmas.{step_over}
 use Rattle.at_node.proofs.node.Node.call_names.Goals as goal
 
@@ -11,24 +12,24 @@ pub returns-in-Register : goal.returns-in-Register
 returns-in-Register g c =
     let inside : NodeState =
     record {
-      seat = c.self.inside.seat;
-      atp = c.self.inside.atp;
-      names = c.self.inside.names;
-      streams = c.self.inside.streams;
-      session = c.self.inside.session;
+      seat = c.self-in-Register.inside.seat;
+      atp = c.self-in-Register.inside.atp;
+      names = c.self-in-Register.inside.names;
+      streams = c.self-in-Register.inside.streams;
+      session = c.self-in-Register.inside.session;
     } in
     let new : NodeState = record {
-      seat = c.self.inside.seat;
-      atp = c.self.inside.atp;
+      seat = c.self-in-Register.inside.seat;
+      atp = c.self-in-Register.inside.atp;
       names = c.register.new.self;
-      streams = c.self.inside.streams;
-      session = c.self.inside.session;
+      streams = c.self-in-Register.inside.streams;
+      session = c.self-in-Register.inside.session;
     } in
     let items = c.args.out.now.items in
     let i = c.in-Register in
-    let call : Call g.row.A.Denot = Register i.object i.kind i.socket in
+    let call : Call g.row.A.Denot = Names (Register i.object i.kind i.socket) in
     rw i.is
-    (subst (λ (n : NodeState). IsStep (called n call) n items c.register.result new items) c.self.view_is
+    (subst (λ (n : NodeState). IsStep (called n call) n items c.register.result new items) c.self-in-Register.view_is
     (step_over (with_names inside) inside inside.names refl items c.register.result c.register.new.self items
     (register_called inside.names i.object i.kind i.socket) (c.register.ensures items)))
 
@@ -36,23 +37,23 @@ pub returns-in-Unregister : goal.returns-in-Unregister
 returns-in-Unregister g c =
     let inside : NodeState =
     record {
-      seat = c.self.inside.seat;
-      atp = c.self.inside.atp;
-      names = c.self.inside.names;
-      streams = c.self.inside.streams;
-      session = c.self.inside.session;
+      seat = c.self-in-Unregister.inside.seat;
+      atp = c.self-in-Unregister.inside.atp;
+      names = c.self-in-Unregister.inside.names;
+      streams = c.self-in-Unregister.inside.streams;
+      session = c.self-in-Unregister.inside.session;
     } in
     let new : NodeState = record {
-      seat = c.self.inside.seat;
-      atp = c.self.inside.atp;
+      seat = c.self-in-Unregister.inside.seat;
+      atp = c.self-in-Unregister.inside.atp;
       names = c.unregister.new.self;
-      streams = c.self.inside.streams;
-      session = c.self.inside.session;
+      streams = c.self-in-Unregister.inside.streams;
+      session = c.self-in-Unregister.inside.session;
     } in
     let items = c.args.out.now.items in
     let i = c.in-Unregister in
-    let call : Call g.row.A.Denot = Unregister i.object i.kind in
+    let call : Call g.row.A.Denot = Names (Unregister i.object i.kind) in
     rw i.is
-    (subst (λ (n : NodeState). IsStep (called n call) n items c.unregister.result new items) c.self.view_is
+    (subst (λ (n : NodeState). IsStep (called n call) n items c.unregister.result new items) c.self-in-Unregister.view_is
     (step_over (with_names inside) inside inside.names refl items c.unregister.result c.unregister.new.self items
     (unregister_called inside.names i.object i.kind) (c.unregister.ensures items)))

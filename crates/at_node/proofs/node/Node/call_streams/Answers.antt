@@ -1,7 +1,8 @@
 use Rattle.std.proofs.Common.{refl, subst}
 use Rattle.at_event.specs.Outcomes.{IsStep}
 use Rattle.at_event.specs.declared.event.Call.{Call}
-use Rattle.at_event.specs.declared.event.Call.TheVariants.{Listen}
+use Rattle.at_event.specs.declared.event.Call.TheVariants.{Streams}
+use Rattle.at_event.specs.declared.calls.StreamCall.TheVariants.{Listen}
 use Rattle.at_node.specs.Nodes.{NodeState, called, with_streams}
 use Rattle.at_stream_socket.specs.Calls.{listen_called}
 use Rattle.at_node.proofs.OutcomeLemmas.{step_over}
@@ -25,7 +26,7 @@ returns-in-Listen g c =
       session = c.self.inside.session;
     } in
     let items = c.args.out.now.items in
-    let call : Call g.row.A.Denot = Listen c.in-Listen.on in
+    let call : Call g.row.A.Denot = Streams (Listen c.in-Listen.on) in
     rw c.in-Listen.is
     (subst (λ (n : NodeState). IsStep (called n call) n items c.listen.result new items) c.self.view_is
     (step_over (with_streams inside) inside inside.streams refl items c.listen.result c.listen.new.self items
