@@ -29,7 +29,7 @@ ROWS = [
         Layer(
             "text",
             "schedules in, reports out",
-            "at_words at_faults at_call_words at_setup_lines at_schedule"
+            "at_opened at_words at_faults at_call_words at_setup_lines at_schedule"
             " at_print at_diagnostics at_show at_capture at_recording",
         ),
     ],

@@ -1,7 +1,8 @@
 -- How a play ends, and all that is printed of it.
-use Rattle.std.specs.Prelude.{◌≡◌, ◌↔◌, ◌⊎◌, ℕ, Bool, List, [], ◌++◌, Option, Some, Result, Ok, Err, IfSome}
-use Rattle.std.specs.Prelude.{IsOk, false, true}
-use Rattle.std.specs.Io.KnownBytes.{Keeps}
+use Rattle.std.specs.Prelude.{◌≡◌, ◌↔◌, ◌⊎◌, ◌<◌, ◌≤◌, ℕ, Bool, List, [], ◌++◌, length, Option, Result, Ok, Err}
+use Rattle.std.specs.Prelude.{IfSome, IsOk, codes, false, true}
+use Rattle.std.specs.declared.io.Error.{Error}
+use Rattle.at_opened.specs.Rewinds.{Rewound}
 use Rattle.at_world.specs.Agreements.{HasAgreeingRun}
 use Rattle.at_world.specs.Events.{NoForge}
 use Rattle.at_world.specs.ExactlyOnce.{AllLive, RunsOnce, onto}
@@ -26,7 +27,6 @@ use Rattle.at_print.specs.declared.status.Status.TheVariants.{Done, Failed}
 use Rattle.at_faults.specs.declared.fault.Fault.{Fault}
 use Rattle.at_play.specs.declared.ending.Ending.{Ending}
 use Rattle.at_play.specs.declared.ending.Ending.TheVariants as ending
-use Rattle.at_diagnostics.specs.declared.stop.Stop.{Stop}
 use Rattle.at_diagnostics.specs.declared.stop.Stop.TheVariants as stop
 
 -- why a play ended, if it did so before its last event
@@ -84,6 +84,10 @@ abbrev pub IsUnplayed : {W : Type 0} → (W → Page) → Status → Printer W �
 IsUnplayed page status old new =
     (status ≡ Failed) × ((f : Fault) × IsOfBytes f × Prints page old new (stop_line (stop_of f)))
 
+-- the same of a file, of which nothing but this is printed
+abbrev pub IsRejected : {W : Type 0} → (W → Page) → Status → Printer W → Printer W → Type 0
+IsRejected page status old new = (status ≡ Failed) × Prints page old new (codes "fault 0\n")
+
 -- a file was too long or could not be read to its end, before any event
 abbrev pub IsTooLong : Ending → Type 0
 IsTooLong e = (u : Unreadable) × (e ≡ ending.Stopped (stop.Text (why.Unreadable u)))
@@ -96,22 +100,35 @@ PlayText A heard known old new result text =
     IsNotRead (IsTextFault A known) old new result text
     ⊎ PlaysText A heard known false (HoldsSetup known) old new result text
 
--- a file that was sent back to its beginning
-pub record Rewound {F : Type 0} (position : F → Option ℕ) (bytes : F → Option (List ℕ)) : Type 0 where
-  pub before : F
-  pub file : F
-  pub moved : IfSome (position before) (λ at. position file ≡ Some 0)
-  pub kept : Keeps (bytes before) (bytes file)
+-- how many bytes a schedule has at most
+abbrev pub longest : ℕ
+longest = 67108864
 
--- The same of a file, which is read from its beginning on, and again. The setup is what the text said the first time,
--- and the events are what it said the second time.
-abbrev pub FileText : (A : Type 0) {F E : Type 0} → (F → Option (List ℕ)) → (F → Option ℕ) → (F → Option (List ℕ))
+-- how many bytes a file has at most that is held after it was read once
+abbrev pub small : ℕ
+small = 524288
+
+-- The same of a file that is read from its beginning on, and again. The setup is what the text said the first time, and
+-- the events are what it said the second time. B says what may come of sending the file back.
+abbrev pub ReadTwice : (A : Type 0) {F E : Type 0} → (F → Option (List ℕ)) → (F → Result (Unit {0}) Error → F → Type 0)
     → (E → Page) → Diagnostics E → Diagnostics E → Result (Unit {0}) Ending → List ℕ → Type 0
-FileText A remaining position bytes heard old new result text =
+ReadTwice A remaining B heard old new result text =
     IsNotRead IsOfBytes old new result text
-    ⊎ ((first : Rewound position bytes) × (IsNotRead (IsTextFault A (remaining first.file)) old new result text
-    ⊎ ((again : Rewound position bytes)
+    ⊎ ((first : Rewound B) × (IsNotRead (IsTextFault A (remaining first.file)) old new result text
+    ⊎ ((again : Rewound B)
     × PlaysText A heard (remaining again.file) true (HoldsSetup (remaining first.file)) old new result text)))
+
+-- A small file is played as the text that it has after it was sent back: no reading fails after its first event. Only a
+-- larger one is read twice. Which one it is, is said if it is known what the file holds.
+abbrev pub FileText : (A : Type 0) {F E : Type 0} → (F → Option (List ℕ)) → (F → Result (Unit {0}) Error → F → Type 0)
+    → (E → Page) → Diagnostics E → Diagnostics E → Result (Unit {0}) Ending → List ℕ → Type 0
+FileText A remaining B heard old new result text =
+    IsNotRead IsOfBytes old new result text
+    ⊎ ((held : Rewound B)
+    × ((IfSome (remaining held.file) (λ all. length all ≤ small)
+    × PlayText A heard (remaining held.file) old new result text)
+    ⊎ (IfSome (remaining held.file) (λ all. small < length all)
+    × ReadTwice A remaining B heard old new result text)))
 
 -- How a play ended, and what is printed of it: its events, and why it stopped if it did. A person is told of the
 -- events, then why it stopped, then that something could not be written, and nothing else.
@@ -129,12 +146,34 @@ pub record Ended {W E : Type 0} (IsText : Diagnostics E → Result (Unit {0}) En
   pub stopped : TellsEnd heard result mid late
   pub last : TellsWrites heard new late after
 
--- A file that was opened and asked to go back to its beginning is played as a file, or, if it can't, as a text: what is
--- left of it.
-abbrev pub PlaysOpened : (A : Type 0) {F W E : Type 0} → (F → Option (List ℕ)) → (F → Option ℕ)
-    → (F → Option (List ℕ)) → F → (W → Page) → (E → Page) → Status → Printer W → Printer W → Diagnostics E
-    → Diagnostics E → Type 0
-PlaysOpened A {F} remaining position bytes file page heard status old new before after =
-    (asked : F) × Keeps (bytes file) (bytes asked)
-    × (Ended (PlayText A heard (remaining asked) before) page heard status old new after
-    ⊎ Ended (FileText A remaining position bytes heard before) page heard status old new after)
+-- A stream is played as the text that it holds, if it is known what that is. One that is too long is not played.
+abbrev pub PlaysStream : (A : Type 0) {W E : Type 0} → Option (List ℕ) → (W → Page) → (E → Page) → Status → Printer W
+    → Printer W → Diagnostics E → Diagnostics E → Type 0
+PlaysStream A known page heard status old new before after =
+    IfSome known (λ all. longest < length all → IsUnplayed page status old new)
+    × Ended (PlayText A heard known before) page heard status old new after
+
+-- a file is played so, and not if it is too long
+abbrev pub PlaysFile : (A : Type 0) {F W E : Type 0} → (F → Option (List ℕ))
+    → (F → Result (Unit {0}) Error → F → Type 0) → F → (W → Page) → (E → Page) → Status → Printer W → Printer W
+    → Diagnostics E → Diagnostics E → Type 0
+PlaysFile A remaining B file page heard status old new before after =
+    IfSome (remaining file) (λ all. longest < length all → IsRejected page status old new)
+    × Ended (FileText A remaining B heard before) page heard status old new after
+
+-- what was sent back is a file if it went, and a stream of what is left of it if not
+abbrev pub PlaysSentBack : (A : Type 0) {F W E : Type 0} → (F → Option (List ℕ))
+    → (F → Result (Unit {0}) Error → F → Type 0) → Result (Unit {0}) Error → F → (W → Page) → (E → Page) → Status
+    → Printer W → Printer W → Diagnostics E → Diagnostics E → Type 0
+PlaysSentBack A remaining B (Ok u) file page heard status old new before after =
+    PlaysFile A remaining B file page heard status old new before after
+PlaysSentBack A remaining B (Err why) file page heard status old new before after =
+    PlaysStream A (remaining file) page heard status old new before after
+
+-- What was opened is sent back to its beginning first. What came of that decides how it is played.
+abbrev pub PlaysOpened : (A : Type 0) {F W E : Type 0} → (F → Option (List ℕ))
+    → (F → Result (Unit {0}) Error → F → Type 0) → F → (W → Page) → (E → Page) → Status → Printer W → Printer W
+    → Diagnostics E → Diagnostics E → Type 0
+PlaysOpened A {F} remaining B file page heard status old new before after =
+    (answer : Result (Unit {0}) Error) × (asked : F) × B file answer asked
+    × PlaysSentBack A remaining B answer asked page heard status old new before after

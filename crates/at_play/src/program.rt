@@ -1,12 +1,11 @@
 //! The play of a schedule, from its text to what is printed.
-ghost use Rattle.std.specs.Prelude.{◌≡◌, ◌<◌, ◌≤◌, ◌↔◌, List, ℕ, codes, length, IfErr, IfSome, IsOk, OnOk};
+ghost use Rattle.std.specs.Prelude.{◌≡◌, ◌<◌, ◌≤◌, ◌↔◌, List, ℕ, length, IfErr, IfSome, IsOk, OnOk};
 ghost use Rattle.at_diagnostics.specs.Diagnostics.{TellsWrites};
 ghost use Rattle.at_diagnostics.specs.declared.diagnostics.Diagnostics.{Diagnostics as Told};
 ghost use Rattle.at_faults.specs.Reads.{IsOfBytes};
 ghost use Rattle.at_faults.specs.declared.fault.Fault.TheVariants as why;
-ghost use Rattle.at_play.specs.Ends.{Ended, FileText, IsTooLong, IsUnreadable, IsUnplayed, IsUnwritten, PlayText};
-ghost use Rattle.at_play.specs.Ends.{PlaysOpened, TellsEnd};
-ghost use Rattle.at_play.specs.Ends.{end_text};
+ghost use Rattle.at_play.specs.Ends.{Ended, FileText, IsRejected, IsTooLong, IsUnreadable, IsUnplayed, IsUnwritten};
+ghost use Rattle.at_play.specs.Ends.{PlayText, PlaysOpened, ReadTwice, TellsEnd, end_text};
 ghost use Rattle.std.specs.Result.{IsErrAnd};
 ghost use Rattle.at_print.specs.Printers.{HasFailed, IsSettled, Prints};
 
@@ -15,10 +14,11 @@ use crate::playing::play_lines;
 use crate::playing_held::{SMALL, play_held};
 use at_diagnostics::{Diagnostics, write_stop};
 use at_faults::{Fault, MAX_LEN, Unreadable, check_length, read_at_most, read_bytes};
+use at_opened::Opened;
 use at_print::{Paper, Printer, Status};
 use at_schedule::read_setup;
 use std::alloc::Allocator;
-use std::io::{Read, Seek};
+use std::io::Read;
 
 /// Reads a schedule to its end, plays it, and prints what came of each event. Why a play ended before its last event is
 /// told to a person as well. It ends once a write failed.
@@ -43,26 +43,26 @@ pub fn play_text<A: Allocator + Copy, R: Read, W: Paper, E: Paper>(
 /// Plays a schedule that can be read again from its beginning, as a file can. It is read for its length first. A small
 /// one is kept then, and read once more. Nothing of a larger one is kept but its setup: it is read for its faults, and
 /// last to be played. One that changes meanwhile is reported as unreadable.
-pub fn play_file<A: Allocator + Copy, F: Read + Seek, W: Paper, E: Paper>(
+pub fn play_file<A: Allocator + Copy, F: Opened, W: Paper, E: Paper>(
     alloc: A,
     file: &mut F,
     printer: &mut Printer<W>,
     diagnostics: &mut Diagnostics<'_, E>,
 ) -> Status
     // One that is too long is not played, and nothing but `fault 0` is printed, if it is known what the file holds.
-    ensures too_long { IfSome (F.remaining file.old) (λ all. MAX_LEN < length all
-        → (result ≡ Status.Failed) × Prints W.page printer.old printer.new (codes "fault 0\n")) }
+    ensures too_long { IfSome (F.remaining file.old)
+        (λ all. MAX_LEN < length all → IsRejected W.page result printer.old printer.new) }
     ensures printed { result ≡ Status.Done → ¬ HasFailed printer.new }
     ensures settled { IsSettled W.settles printer.new }
-    ensures ended { Ended (FileText A F.remaining F.stream_position F.stream_bytes E.page diagnostics.old) W.page E.page
-        result printer.old printer.new diagnostics.new }
+    ensures ended { Ended (FileText A F.remaining F.goes_back E.page diagnostics.old) W.page E.page result
+        printer.old printer.new diagnostics.new }
 {
     let played = play_again(alloc, file, printer, diagnostics);
     end(played, printer, diagnostics)
 }
 
 /// Plays a file that was opened. A pipe has no beginning to go back to, and is read whole.
-pub fn play_opened<A: Allocator + Copy, F: Read + Seek, W: Paper, E: Paper>(
+pub fn play_opened<A: Allocator + Copy, F: Opened, W: Paper, E: Paper>(
     alloc: A,
     file: &mut F,
     printer: &mut Printer<W>,
@@ -70,10 +70,10 @@ pub fn play_opened<A: Allocator + Copy, F: Read + Seek, W: Paper, E: Paper>(
 ) -> Status
     ensures printed { result ≡ Status.Done → ¬ HasFailed printer.new }
     ensures settled { IsSettled W.settles printer.new }
-    ensures ended { PlaysOpened A F.remaining F.stream_position F.stream_bytes file.old W.page E.page result
-        printer.old printer.new diagnostics.old diagnostics.new }
+    ensures ended { PlaysOpened A F.remaining F.goes_back file.old W.page E.page result printer.old printer.new
+        diagnostics.old diagnostics.new }
 {
-    match file.rewind() {
+    match file.send_back() {
         Ok(()) => play_file(alloc, file, printer, diagnostics),
         Err(_) => play_text(alloc, file, printer, diagnostics),
     }
@@ -96,7 +96,7 @@ fn play_stream<A: Allocator + Copy, R: Read, W: Paper, E: Paper>(
     play_held(alloc, bytes.as_slice(), printer, diagnostics)
 }
 
-fn play_again<A: Allocator + Copy, F: Read + Seek, W: Paper, E: Paper>(
+fn play_again<A: Allocator + Copy, F: Opened, W: Paper, E: Paper>(
     alloc: A,
     file: &mut F,
     printer: &mut Printer<W>,
@@ -105,38 +105,38 @@ fn play_again<A: Allocator + Copy, F: Read + Seek, W: Paper, E: Paper>(
     ensures too_long { IfSome (F.remaining file.old)
         (λ all. MAX_LEN < length all → IsErrAnd result IsTooLong × (printer.new ≡ printer.old)) }
     ensures told { (text : List ℕ)
-        × FileText A F.remaining F.stream_position F.stream_bytes E.page diagnostics.old diagnostics.new result text
+        × FileText A F.remaining F.goes_back E.page diagnostics.old diagnostics.new result text
         × Prints W.page printer.old printer.new text }
     ensures unwritten { IsUnwritten result → HasFailed printer.new }
 {
     check_file(file)?;
-    file.rewind()?;
+    file.send_back()?;
     match read_at_most(alloc, file, SMALL) {
         Ok(bytes) => play_held(alloc, bytes.as_slice(), printer, diagnostics),
-        Err(fault) => {
-            if fault == Fault::Unreadable(Unreadable::TooLong) {
-                return play_twice_read(alloc, file, printer, diagnostics);
+        Err(fault) => match fault {
+            Fault::Unreadable(Unreadable::TooLong) => {
+                play_twice_read(alloc, file, printer, diagnostics)
             }
-            Err(Ending::from(fault))
-        }
+            _ => Err(Ending::from(fault)),
+        },
     }
 }
 
 // Plays a file of which nothing is kept but its setup.
-fn play_twice_read<A: Allocator + Copy, F: Read + Seek, W: Paper, E: Paper>(
+fn play_twice_read<A: Allocator + Copy, F: Opened, W: Paper, E: Paper>(
     alloc: A,
     file: &mut F,
     printer: &mut Printer<W>,
     diagnostics: &mut Diagnostics<'_, E>,
 ) -> Result<(), Ending>
     ensures told { (text : List ℕ)
-        × FileText A F.remaining F.stream_position F.stream_bytes E.page diagnostics.old diagnostics.new result text
+        × ReadTwice A F.remaining F.goes_back E.page diagnostics.old diagnostics.new result text
         × Prints W.page printer.old printer.new text }
     ensures unwritten { IsUnwritten result → HasFailed printer.new }
 {
-    file.rewind()?;
+    file.send_back()?;
     let setup = read_setup(alloc, file)?;
-    file.rewind()?;
+    file.send_back()?;
     play_lines(alloc, &setup, file, printer, diagnostics)
 }
 

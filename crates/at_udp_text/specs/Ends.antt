@@ -1,10 +1,11 @@
 -- How a drive over UDP ends, and what is printed of it. B says what may come of binding a socket at a port. S and R say
--- what may come of a send and of a receive on a cable of such sockets.
-use Rattle.std.specs.Prelude.{◌≡◌, ◌⊎◌, ℕ, Bool, true, false, List, ◌++◌, Option, Some, Result, IfSome, codes}
+-- what may come of a send and of a receive on a cable of such sockets, and K of sending a file back to its beginning.
+use Rattle.std.specs.Prelude.{◌≡◌, ◌⊎◌, ◌<◌, ℕ, Bool, true, false, List, ◌++◌, length, Option, Some, Result, Ok, Err}
+use Rattle.std.specs.Prelude.{IfSome, codes}
 use Rattle.std.specs.Fmt.{decimal}
-use Rattle.std.specs.Io.KnownBytes.{Keeps}
 use Rattle.std.specs.declared.io.Error.{Error}
 use Rattle.at_cable.specs.declared.fault.CableFault.{CableFault}
+use Rattle.at_opened.specs.Rewinds.{Rewound}
 use Rattle.at_faults.specs.Reads.{IsOfBytes}
 use Rattle.at_faults.specs.declared.fault.Fault.{Fault}
 use Rattle.at_faults.specs.declared.fault.Fault.TheVariants as fault
@@ -103,25 +104,17 @@ DrivesStream A B S R known page heard status old new before after =
     ⊎ ((text : List ℕ) × IfSome known (λ all. text ≡ all)
     × DrivesText A B S R text page heard status old new before after)
 
--- a file that was sent back to its beginning
-pub record Rewound {F : Type 0} (position : F → Option ℕ) (bytes : F → Option (List ℕ)) : Type 0 where
-  pub before : F
-  pub file : F
-  pub moved : IfSome (position before) (λ at. position file ≡ Some 0)
-  pub kept : Keeps (bytes before) (bytes file)
-
 -- why the lines of a file are no drive: its bytes could not be read, or a line is at fault after it was sent back
-abbrev pub IsFileFault : Type 0 → {F : Type 0} → (F → Option (List ℕ)) → (F → Option ℕ) → (F → Option (List ℕ))
+abbrev pub IsFileFault : Type 0 → {F : Type 0} → (F → Option (List ℕ)) → (F → Result (Unit {0}) Error → F → Type 0)
     → Fault → Type 0
-IsFileFault A remaining position bytes f =
-    IsOfBytes f
-    ⊎ ((first : Rewound position bytes) × IsDriveFault A (lines_of (remaining first.file)) true f)
+IsFileFault A remaining K f =
+    IsOfBytes f ⊎ ((first : Rewound K) × IsDriveFault A (lines_of (remaining first.file)) true f)
 
 -- a file that was sent back has the lines of a drive that begins so
-abbrev pub IsHeadOf : {A F : Type 0} → (F → Option (List ℕ)) → (F → Option ℕ) → (F → Option (List ℕ)) → Setup A → ℕ
-    → Type 0
-IsHeadOf remaining position bytes setup port =
-    (first : Rewound position bytes) × IfSome (lines_of (remaining first.file)) (BeginsSo setup port)
+abbrev pub IsHeadOf : {A F : Type 0} → (F → Option (List ℕ)) → (F → Result (Unit {0}) Error → F → Type 0) → Setup A
+    → ℕ → Type 0
+IsHeadOf remaining K setup port =
+    (first : Rewound K) × IfSome (lines_of (remaining first.file)) (BeginsSo setup port)
 
 -- there was no memory to read these lines, or the nodes are driven by them
 abbrev pub DrivesFrom : {A C W E : Type 0} → (ℕ → Result C Error → Type 0)
@@ -137,11 +130,11 @@ DrivesFrom B S R setup port known page heard status old new before after =
 abbrev pub DrivesAgain : {A C F W E : Type 0} → (ℕ → Result C Error → Type 0)
     → (UdpState C → ℕ → ℕ → List ℕ → Result (Unit {0}) CableFault → UdpState C → Type 0)
     → (UdpState C → ℕ → ℕ → Result (Option (List ℕ)) CableFault → UdpState C → Type 0) → (F → Option (List ℕ))
-    → (F → Option ℕ) → (F → Option (List ℕ)) → Setup A → ℕ → (W → Page) → (E → Page) → Status → Printer W → Printer W
-    → Diagnostics E → Diagnostics E → Type 0
-DrivesAgain B S R remaining position bytes setup port page heard status old new before after =
+    → (F → Result (Unit {0}) Error → F → Type 0) → Setup A → ℕ → (W → Page) → (E → Page) → Status → Printer W
+    → Printer W → Diagnostics E → Diagnostics E → Type 0
+DrivesAgain B S R remaining K setup port page heard status old new before after =
     IsNotRead IsOfBytes page heard status old new before after
-    ⊎ ((again : Rewound position bytes)
+    ⊎ ((again : Rewound K)
     × DrivesFrom B S R setup port (lines_of (remaining again.file)) page heard status old new before after)
 
 -- A file is no drive. Or it is one of a lawful setup, as its lines were when they were read for their faults, and it is
@@ -149,22 +142,42 @@ DrivesAgain B S R remaining position bytes setup port page heard status old new 
 abbrev pub DrivesFile : (A : Type 0) {C F W E : Type 0} → (ℕ → Result C Error → Type 0)
     → (UdpState C → ℕ → ℕ → List ℕ → Result (Unit {0}) CableFault → UdpState C → Type 0)
     → (UdpState C → ℕ → ℕ → Result (Option (List ℕ)) CableFault → UdpState C → Type 0) → (F → Option (List ℕ))
-    → (F → Option ℕ) → (F → Option (List ℕ)) → (W → Page) → (E → Page) → Status → Printer W → Printer W → Diagnostics E
-    → Diagnostics E → Type 0
-DrivesFile A B S R remaining position bytes page heard status old new before after =
-    IsNotRead (IsFileFault A remaining position bytes) page heard status old new before after
-    ⊎ ((setup : Setup A) × (port : ℕ) × (is_lawful setup ≡ true)
-    × IsHeadOf remaining position bytes setup port
-    × DrivesAgain B S R remaining position bytes setup port page heard status old new before after)
+    → (F → Result (Unit {0}) Error → F → Type 0) → (W → Page) → (E → Page) → Status → Printer W → Printer W
+    → Diagnostics E → Diagnostics E → Type 0
+DrivesFile A B S R remaining K page heard status old new before after =
+    IsNotRead (IsFileFault A remaining K) page heard status old new before after
+    ⊎ ((setup : Setup A) × (port : ℕ) × (is_lawful setup ≡ true) × IsHeadOf remaining K setup port
+    × DrivesAgain B S R remaining K setup port page heard status old new before after)
 
--- A file that was opened and asked to go back to its beginning is driven as a file, or, if it can't, as a text: what is
--- left of it.
+-- how many bytes a schedule has at most
+abbrev pub longest : ℕ
+longest = 67108864
+
+-- if it is known that there are more bytes, nothing is driven, for such a reason
+abbrev pub IsRejected : {W E : Type 0} → Option (List ℕ) → (Fault → Type 0) → (W → Page) → (E → Page) → Status
+    → Printer W → Printer W → Diagnostics E → Diagnostics E → Type 0
+IsRejected known IsReason page heard status old new before after =
+    IfSome known (λ all. longest < length all → IsNotRead IsReason page heard status old new before after)
+
+-- what was sent back is driven as a file if it went, and as a stream of what is left of it if not
+abbrev pub DrivesSentBack : (A : Type 0) {C F W E : Type 0} → (ℕ → Result C Error → Type 0)
+    → (UdpState C → ℕ → ℕ → List ℕ → Result (Unit {0}) CableFault → UdpState C → Type 0)
+    → (UdpState C → ℕ → ℕ → Result (Option (List ℕ)) CableFault → UdpState C → Type 0) → (F → Option (List ℕ))
+    → (F → Result (Unit {0}) Error → F → Type 0) → Result (Unit {0}) Error → F → (W → Page) → (E → Page) → Status
+    → Printer W → Printer W → Diagnostics E → Diagnostics E → Type 0
+DrivesSentBack A B S R remaining K (Ok u) file page heard status old new before after =
+    IsRejected (remaining file) IsUnreadable page heard status old new before after
+    × DrivesFile A B S R remaining K page heard status old new before after
+DrivesSentBack A B S R remaining K (Err why) file page heard status old new before after =
+    IsRejected (remaining file) IsOfBytes page heard status old new before after
+    × DrivesStream A B S R (remaining file) page heard status old new before after
+
+-- What was opened is sent back to its beginning first. What came of that decides how it is driven.
 abbrev pub DrivesOpened : (A : Type 0) {C F W E : Type 0} → (ℕ → Result C Error → Type 0)
     → (UdpState C → ℕ → ℕ → List ℕ → Result (Unit {0}) CableFault → UdpState C → Type 0)
     → (UdpState C → ℕ → ℕ → Result (Option (List ℕ)) CableFault → UdpState C → Type 0) → (F → Option (List ℕ))
-    → (F → Option ℕ) → (F → Option (List ℕ)) → F → (W → Page) → (E → Page) → Status → Printer W → Printer W
+    → (F → Result (Unit {0}) Error → F → Type 0) → F → (W → Page) → (E → Page) → Status → Printer W → Printer W
     → Diagnostics E → Diagnostics E → Type 0
-DrivesOpened A {F = F} B S R remaining position bytes file page heard status old new before after =
-    (asked : F) × Keeps (bytes file) (bytes asked)
-    × (DrivesStream A B S R (remaining asked) page heard status old new before after
-    ⊎ DrivesFile A B S R remaining position bytes page heard status old new before after)
+DrivesOpened A {F = F} B S R remaining K file page heard status old new before after =
+    (answer : Result (Unit {0}) Error) × (asked : F) × K file answer asked
+    × DrivesSentBack A B S R remaining K answer asked page heard status old new before after

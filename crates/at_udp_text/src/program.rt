@@ -16,10 +16,11 @@ use at_diagnostics::Diagnostics;
 use at_drive_lines::{DriveHead, ReadLines, TextLines, read_head};
 use at_drive_text::end_at_fault;
 use at_faults::{Fault, MAX_LEN, Unreadable, check_length, read_bytes};
+use at_opened::Opened;
 use at_print::{Paper, Printer, Status};
 use at_udp::Socket;
 use std::alloc::Allocator;
-use std::io::{BufReader, Read, Seek};
+use std::io::{BufReader, Read};
 use std::net::Net;
 
 /// Reads a schedule to its end, drives its nodes over UDP on this machine, and prints what came of each step.
@@ -67,7 +68,7 @@ fn drive_text<S: Socket, A: Allocator + Copy, N: Net, W: Paper, E: Paper>(
 /// Drives the nodes of a schedule that can be read again from its beginning, as a file can. Only its setup is kept. It
 /// is read for its length, then for its faults, and last to be driven. One that changes meanwhile is reported as
 /// unreadable.
-pub fn drive_file<S: Socket, A: Allocator + Copy, N: Net, F: Read + Seek, W: Paper, E: Paper>(
+pub fn drive_file<S: Socket, A: Allocator + Copy, N: Net, F: Opened, W: Paper, E: Paper>(
     alloc: A,
     net: &N,
     file: &mut F,
@@ -77,8 +78,8 @@ pub fn drive_file<S: Socket, A: Allocator + Copy, N: Net, F: Read + Seek, W: Pap
     // Nothing but `fault 0` is printed of one that is too long. Said if it is known what the file holds.
     ensures too_long { IfSome (F.remaining file.old) (λ all. MAX_LEN < length all
         → IsNotRead IsUnreadable W.page E.page result printer.old printer.new diagnostics.old diagnostics.new) }
-    ensures ended { DrivesFile A S.binds (Sends S.sends) (Receives S.receives) F.remaining F.stream_position
-        F.stream_bytes W.page E.page result printer.old printer.new diagnostics.old diagnostics.new }
+    ensures ended { DrivesFile A S.binds (Sends S.sends) (Receives S.receives) F.remaining F.goes_back W.page
+        E.page result printer.old printer.new diagnostics.old diagnostics.new }
     ensures settled { IsSettled W.settles printer.new }
 {
     match head_of(alloc, file) {
@@ -88,36 +89,33 @@ pub fn drive_file<S: Socket, A: Allocator + Copy, N: Net, F: Read + Seek, W: Pap
 }
 
 /// Drives the nodes of a file that was opened. A pipe has no beginning to go back to, and is read whole.
-pub fn drive_opened<S: Socket, A: Allocator + Copy, N: Net, F: Read + Seek, W: Paper, E: Paper>(
+pub fn drive_opened<S: Socket, A: Allocator + Copy, N: Net, F: Opened, W: Paper, E: Paper>(
     alloc: A,
     net: &N,
     file: &mut F,
     printer: &mut Printer<W>,
     diagnostics: &mut Diagnostics<'_, E>,
 ) -> Status
-    ensures ended { DrivesOpened A S.binds (Sends S.sends) (Receives S.receives) F.remaining F.stream_position
-        F.stream_bytes file.old W.page E.page result printer.old printer.new diagnostics.old diagnostics.new }
+    ensures ended { DrivesOpened A S.binds (Sends S.sends) (Receives S.receives) F.remaining F.goes_back file.old
+        W.page E.page result printer.old printer.new diagnostics.old diagnostics.new }
     ensures settled { IsSettled W.settles printer.new }
 {
-    match file.rewind() {
+    match file.send_back() {
         Ok(()) => drive_file::<S, A, N, F, W, E>(alloc, net, file, printer, diagnostics),
         Err(_) => drive_stream::<S, A, N, F, W, E>(alloc, net, file, printer, diagnostics),
     }
 }
 
 // What the lines of a file say before its steps.
-fn head_of<A: Allocator + Copy, F: Read + Seek>(
-    alloc: A,
-    file: &mut F,
-) -> Result<DriveHead<A>, Fault>
+fn head_of<A: Allocator + Copy, F: Opened>(alloc: A, file: &mut F) -> Result<DriveHead<A>, Fault>
     ensures too_long { IfSome (F.remaining file.old) (λ all. MAX_LEN < length all → IsErrAnd result IsUnreadable) }
     ensures lawful { IfOk result (λ head. is_lawful head.setup ≡ true) }
     ensures said { IfOk result
-        (λ head. IsHeadOf F.remaining F.stream_position F.stream_bytes head.setup head.port) }
-    ensures fault { IfErr result (IsFileFault A F.remaining F.stream_position F.stream_bytes) }
+        (λ head. IsHeadOf F.remaining F.goes_back head.setup head.port) }
+    ensures fault { IfErr result (IsFileFault A F.remaining F.goes_back) }
 {
     check_file(file)?;
-    file.rewind()?;
+    file.send_back()?;
     head_from(alloc, file)
 }
 
@@ -144,7 +142,7 @@ fn head_from<A: Allocator + Copy, R: Read>(alloc: A, reader: &mut R) -> Result<D
     read_head(alloc, &mut ReadLines::of(alloc, reader))
 }
 
-fn drive_again<S: Socket, A: Allocator + Copy, N: Net, F: Read + Seek, W: Paper, E: Paper>(
+fn drive_again<S: Socket, A: Allocator + Copy, N: Net, F: Opened, W: Paper, E: Paper>(
     alloc: A,
     net: &N,
     head: &DriveHead<A>,
@@ -152,12 +150,11 @@ fn drive_again<S: Socket, A: Allocator + Copy, N: Net, F: Read + Seek, W: Paper,
     printer: &mut Printer<W>,
     diagnostics: &mut Diagnostics<'_, E>,
 ) -> Status
-    ensures driven { DrivesAgain S.binds (Sends S.sends) (Receives S.receives) F.remaining F.stream_position
-        F.stream_bytes head.now.setup head.now.port W.page E.page result printer.old printer.new diagnostics.old
-        diagnostics.new }
+    ensures driven { DrivesAgain S.binds (Sends S.sends) (Receives S.receives) F.remaining F.goes_back
+        head.now.setup head.now.port W.page E.page result printer.old printer.new diagnostics.old diagnostics.new }
     ensures settled { IsSettled W.settles printer.new }
 {
-    match file.rewind() {
+    match file.send_back() {
         Ok(()) => drive_from::<S, A, N, F, W, E>(alloc, net, head, file, printer, diagnostics),
         Err(error) => end_at_fault(Fault::from(error), printer, diagnostics),
     }

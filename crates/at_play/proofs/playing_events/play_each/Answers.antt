@@ -1,4 +1,4 @@
-use Rattle.std.proofs.Common.{None, refl}
+use Rattle.std.proofs.Common.{None}
 use Rattle.at_schedule.specs.Wholes.{events_of}
 use Rattle.at_play.proofs.EventLists.{ends_unopened}
 use Rattle.at_play.proofs.playing_events.play_each.Goals as goal

@@ -1,4 +1,4 @@
-use Rattle.std.proofs.Common.{[], Some, inl, inr, refl}
+use Rattle.std.proofs.Common.{[], inl, inr, refl}
 use Rattle.std.proofs.lemmas.Result.{err_from_is_err_and}
 use Rattle.at_print.proofs.PrintLemmas.{Prints-nothing}
 use Rattle.at_play.proofs.ToldLemmas.{not_read}

@@ -1,4 +1,4 @@
-use Rattle.std.proofs.Common.{[], Some, inl, inr, refl, subst, sym}
+use Rattle.std.proofs.Common.{[], inl, inr, refl, subst, sym}
 use Rattle.std.specs.List.{All}
 use Rattle.at_schedule.specs.Says.{IsEventHere, SayAll}
 use Rattle.at_schedule.specs.Schedules.{event_lines}

@@ -1,12 +1,24 @@
-use Rattle.std.proofs.Common.{inl, inr, refl, subst, sym, [], rules}
+use Rattle.std.proofs.Common.{◌≡◌, ◌≤◌, ◌∙◌, ap, inl, inr, length, refl, subst, sym, []}
+use Rattle.at_faults.specs.declared.fault.Unreadable.TheVariants.{TooLong}
 use Rattle.std.specs.Result.{IsErrAnd}
 use Rattle.at_faults.specs.declared.fault.Fault.TheVariants as why
-use Rattle.at_play.specs.Ends.{IsTooLong, Rewound}
+use Rattle.at_opened.specs.Rewinds.{Rewound}
+use Rattle.at_play.specs.Ends.{IsTooLong}
 use Rattle.std.proofs.lemmas.Result.{err_from_is_err_and}
 use Rattle.at_print.proofs.PrintLemmas.{Prints-nothing}
-use Rattle.at_play.proofs.HeldLemmas.{file_held, play_known}
+use Rattle.at_play.proofs.HeldLemmas.{fits_known, play_known}
 use Rattle.at_play.proofs.ToldLemmas.{bytes_of_read, not_read, whatever_is_known}
+use Rattle.at_play.proofs.program.play_again.Given.{Over}
+use Rattle.at_play.proofs.program.play_again.Goals.{In_ok-send_back}
 use Rattle.at_play.proofs.program.play_again.Goals as goal
+
+-- the file as it was when it was read to be held
+abbrev sent_back : (g : Over) (c : In_ok-send_back g) → Rewound g.F.Opened.goes_back
+sent_back g c = record {
+  before = c.check_file.new.file;
+  file = c.send_back.new.self;
+  went = c.in_ok-send_back.ensures.went;
+}
 
 pub returns-in_err-check_file-clause-told : goal.returns-in_err-check_file-clause-told
 returns-in_err-check_file-clause-told g c =
@@ -26,33 +38,42 @@ returns-in_err-check_file-clause-too_long g c =
 pub returns-in-Ok-clause-told : goal.returns-in-Ok-clause-told
 returns-in-Ok-clause-told g c =
     let told = c.play_held.ensures.told in
-    let first : Rewound g.F.Seek.stream_position g.F.Seek.stream_bytes =
-    record {
-      before = c.check_file.new.file;
-      file = c.rewind.new.self;
-      moved = c.in_ok-rewind.ensures.moves;
-      kept = c.rewind.ensures.bytes;
-    } in (
+    let first = sent_back g (goal.at.returns-in-Ok-clause-told g c).In_ok-send_back in
+    let known = g.F.Read.remaining first.file in (
       told.0,
-      file_held g.row.A.Denot g.F.Read.remaining g.F.Seek.stream_position g.F.Seek.stream_bytes g.E.Paper.page first
-          c.args.diagnostics.now c.play_held.new.diagnostics c.play_held.result told.0
-          (play_known g.row.A.Denot g.E.Paper.page (g.F.Read.remaining c.rewind.new.self) c.as_slice.result.now
-          c.in-Ok.bytes.items c.args.diagnostics.now c.play_held.new.diagnostics c.play_held.result told.0
-          c.in-Ok.ensures.whole c.as_slice.ensures.value told.1),
+      inr (
+        first,
+        inl (
+          fits_known known c.in-Ok.bytes.items 524288 c.in-Ok.ensures.whole
+              (subst (λ n. n ≤ 524288) (sym c.as_slice.ensures.len ∙ ap length c.as_slice.ensures.value)
+              c.in-Ok.ensures.fits),
+          play_known g.row.A.Denot g.E.Paper.page known c.as_slice.result.now c.in-Ok.bytes.items
+              c.args.diagnostics.now c.play_held.new.diagnostics c.play_held.result told.0 c.in-Ok.ensures.whole
+              c.as_slice.ensures.value told.1,
+        ),
+      ),
       told.2,
     )
 
-pub returns-in_err-rewind-clause-told : goal.returns-in_err-rewind-clause-told
-returns-in_err-rewind-clause-told g c =
-    let p = err_from_is_err_and c.from_residual-in_err-rewind.result c.from_residual-in_err-rewind.ensures.1 in (
+pub returns-in-Unreadable-TooLong-clause-told : goal.returns-in-Unreadable-TooLong-clause-told
+returns-in-Unreadable-TooLong-clause-told g c =
+    let told = c.play_twice_read.ensures.told in
+    let first = sent_back g (goal.at.returns-in-Unreadable-TooLong-clause-told g c).In_ok-send_back in
+    let long : c.in-Err.fault ≡ why.Unreadable TooLong = c.in-Unreadable-TooLong.is
+    ∙ ap why.Unreadable (rw c.in-Unreadable-TooLong.is at c.in-Unreadable-TooLong.field-0-is) in
+    (told.0, inr (first, inr (c.in-Err.ensures.long long, told.1)), told.2)
+
+pub returns-in_err-send_back-clause-told : goal.returns-in_err-send_back-clause-told
+returns-in_err-send_back-clause-told g c =
+    let p = err_from_is_err_and c.from_residual-in_err-send_back.result c.from_residual-in_err-send_back.ensures.1 in (
       [],
       inl (not_read _ c.args.diagnostics.now
-          c.from_residual-in_err-rewind.result p.2.0 p.0 p.1 p.2.2 (bytes_of_read p.2.0 p.2.1)),
+          c.from_residual-in_err-send_back.result p.2.0 p.0 p.1 p.2.2 (bytes_of_read p.2.0 p.2.1)),
       Prints-nothing g.W.Paper.page c.args.printer.now,
     )
 
-pub returns-else-eq-clause-told : goal.returns-else-eq-clause-told
-returns-else-eq-clause-told g c = (
+pub returns-in_default-clause-told : goal.returns-in_default-clause-told
+returns-in_default-clause-told g c = (
   [],
   inl (not_read _ c.args.diagnostics.now _ c.in-Err.fault c.from.result refl c.from.ensures c.in-Err.ensures.fault),
   Prints-nothing g.W.Paper.page c.args.printer.now,

@@ -1,8 +1,18 @@
-use Rattle.std.proofs.Common.{inl, inr}
+use Rattle.std.proofs.Common.{Ok}
 use Rattle.at_play.proofs.program.play_opened.Goals as goal
 
 pub returns-in-Ok-clause-ended : goal.returns-in-Ok-clause-ended
-returns-in-Ok-clause-ended g c = (c.rewind.new.self, c.rewind.ensures.bytes, inr c.play_file.ensures.ended)
+returns-in-Ok-clause-ended g c = (
+  Ok tt,
+  c.send_back.new.self,
+  c.in-Ok.ensures.went,
+  (c.play_file.ensures.too_long, c.play_file.ensures.ended),
+)
 
 pub returns-in-Err-clause-ended : goal.returns-in-Err-clause-ended
-returns-in-Err-clause-ended g c = (c.rewind.new.self, c.rewind.ensures.bytes, inl c.play_text.ensures.ended)
+returns-in-Err-clause-ended g c = (
+  _,
+  c.send_back.new.self,
+  c.in-Err.ensures.went,
+  (c.play_text.ensures.too_long, c.play_text.ensures.ended),
+)
