@@ -3,3 +3,4 @@ pub mod Lines
 pub mod NumberSets
 pub mod Reasons
 pub mod Stops
+pub mod Unopened

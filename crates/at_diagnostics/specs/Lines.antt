@@ -34,15 +34,16 @@ line_named file line = codes "atnode: " ++ (file ++ (codes ":" ++ (decimal line 
 abbrev pub line_told : List ℕ → ℕ → List ℕ → List ℕ
 line_told file line reason = line_named file line ++ end_told None reason
 
--- what the line of an event begins with that was not played, by its place and its line
-abbrev pub named_in : List ℕ → ℕ → ℕ → List ℕ
-named_in file at line =
-    codes "atnode: " ++ (file ++ (codes ":" ++ (decimal line ++ (codes ": event " ++ (decimal at
-    ++ codes " was not played: ")))))
+-- what a line about an event begins with, by its place and its line; if no line is known, none is told
+abbrev pub place_named : List ℕ → ℕ → ℕ → List ℕ
+place_named file at line =
+    if line == 0 then codes "atnode: " ++ (file ++ (codes ": event " ++ decimal at))
+    else codes "atnode: " ++ (file ++ (codes ":" ++ (decimal line ++ (codes ": event " ++ decimal at))))
 
--- the same, or that of a file before any line was read
+-- what the line of an event begins with that was not played, or that of a file before any line was read
 abbrev pub event_named : List ℕ → ℕ → ℕ → List ℕ
-event_named file at line = if line == 0 then file_named file else named_in file at line
+event_named file at line =
+    if line == 0 then file_named file else place_named file at line ++ codes " was not played: "
 
 -- the number of the refusal for which an event was not played; want of memory has none
 abbrev pub refusal_of : WorldFault → Option ℕ
@@ -64,20 +65,9 @@ abbrev pub stop_told : List ℕ → Stop → List ℕ → List ℕ
 stop_told file (stop.Text fault) reason = text_told file fault reason
 stop_told file (stop.Event fault at line which) reason = stopped_told file fault at line reason
 
--- what the line of an event begins with that a node refused, by its place
-abbrev pub refused_named : List ℕ → ℕ → List ℕ
-refused_named file at =
-    codes "atnode: " ++ (file ++ (codes ": event " ++ (decimal at ++ codes " was refused: ")))
-
--- the same of an event in a line
-abbrev pub refused_in_named : List ℕ → ℕ → ℕ → List ℕ
-refused_in_named file at line =
-    codes "atnode: " ++ (file ++ (codes ":" ++ (decimal line ++ (codes ": event " ++ (decimal at
-    ++ codes " was refused: ")))))
-
--- if no line is known, none is told
+-- what the line of an event begins with that a node refused
 abbrev pub refusal_named : List ℕ → ℕ → ℕ → List ℕ
-refusal_named file at line = if line == 0 then refused_named file at else refused_in_named file at line
+refusal_named file at line = place_named file at line ++ codes " was refused: "
 
 -- why a node refused an event, with the number of the refusal
 abbrev pub refusal_told : List ℕ → ℕ → ℕ → ℕ → List ℕ → List ℕ
@@ -85,7 +75,7 @@ refusal_told file number at line reason = refusal_named file at line ++ end_told
 
 -- what the line begins with that a call of the cable failed at an event
 abbrev pub cable_named : List ℕ → ℕ → List ℕ
-cable_named file at = codes "atnode: " ++ (file ++ (codes ": event " ++ (decimal at ++ codes ": ")))
+cable_named file at = place_named file at 0 ++ codes ": "
 
 abbrev pub cable_told : List ℕ → ℕ → List ℕ → List ℕ
 cable_told file at reason =
@@ -93,8 +83,7 @@ cable_told file at reason =
 
 -- that there was no memory to drive an event
 abbrev pub undriven_told : List ℕ → ℕ → List ℕ
-undriven_told file at =
-    codes "atnode: " ++ (file ++ (codes ": event " ++ (decimal at ++ codes " was not driven: out of memory\n")))
+undriven_told file at = place_named file at 0 ++ codes " was not driven: out of memory\n"
 
 -- that some of what was printed could not be written
 abbrev pub unwritten_told : List ℕ → List ℕ
@@ -103,3 +92,11 @@ unwritten_told file = codes "atnode: " ++ (file ++ codes ": standard output coul
 -- why a word, a datagram or its packet is refused, with the number of the refusal if it has one
 abbrev pub reason_told : Option ℕ → List ℕ → List ℕ
 reason_told number reason = codes "atnode: " ++ end_told number reason
+
+-- a sentence about no file
+abbrev pub note_told : List ℕ → List ℕ
+note_told sentence = codes "atnode: " ++ end_told None sentence
+
+-- that the file is the standard input
+abbrev pub input_told : List ℕ
+input_told = note_told (codes "the schedule is read from standard input")

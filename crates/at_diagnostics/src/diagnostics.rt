@@ -1,24 +1,24 @@
 //! The lines on standard error, one for each reason.
 ghost use Rattle.std.specs.Prelude.{◌≡◌, ◌≢◌, ◌↔◌, ◌⊎◌, ℕ, List, Some};
-ghost use Rattle.at_diagnostics.specs.Diagnostics.{HasTold, TellsLine, TellsReason, TellsReport, TellsStop, TellsWrites};
-ghost use Rattle.at_diagnostics.specs.Diagnostics.{file_of, printer_of, told_by};
+ghost use Rattle.at_diagnostics.specs.Diagnostics.{HasTold, TellsLine, TellsReason, TellsReport, TellsStop};
+ghost use Rattle.at_diagnostics.specs.Diagnostics.{TellsWrites, file_of, printer_of, told_by};
 ghost use Rattle.at_diagnostics.specs.Lines.{IsOneLine, cable_named, cable_told, end_told, event_named, file_named};
-ghost use Rattle.at_diagnostics.specs.Lines.{file_told, line_named, line_told, named_in, reason_told, refusal_named};
-ghost use Rattle.at_diagnostics.specs.Lines.{refusal_of, refusal_told, refused_in_named, refused_named, stopped_told};
-ghost use Rattle.at_diagnostics.specs.Lines.{text_told, undriven_told};
+ghost use Rattle.at_diagnostics.specs.Lines.{file_told, line_named, line_told, note_told, place_named, reason_told};
+ghost use Rattle.at_diagnostics.specs.Lines.{refusal_named, refusal_told, stopped_told, text_told, undriven_told};
 ghost use Rattle.at_print.specs.Printers.{HasFailed, Prints};
 ghost use Rattle.at_steps.specs.Safety.{number_of, Reason as Why};
 
 use crate::number_set::NumberSet;
 use crate::reason::Reason;
-use crate::sentence::{reason_of, sentence_of};
-use crate::stop::Stop;
+use crate::sentence::{reason_of, sentence_of, unopened_of};
+use crate::stop::{Stop, refusal_of};
 use at_cable::CableFault;
 use at_event::Report;
 use at_faults::Fault;
 use at_print::{Paper, Part, Printer};
 use std::alloc::Allocator;
 use std::fmt::Display;
+use std::io;
 
 /// A writer of reasons, and the name of the file that they are about.
 #[derive(Drop)]
@@ -115,23 +115,33 @@ impl<'a, W: Paper> Diagnostics<'a, W> {
         if line == 0 {
             self.name_file();
         } else {
-            self.name_event_in(at, line);
+            self.name_place(at as usize, line);
+            self.printer.write_all(b" was not played: ");
         }
     }
 
-    fn name_event_in(&mut self, at: u32, line: usize)
-        ensures { TellsLine W.page (named_in (file_of self.old) at line) self.old self.new }
+    // An event by its place, and by its line if that is known.
+    fn name_place(&mut self, at: usize, line: usize)
+        ensures { TellsLine W.page (place_named (file_of self.old) at line) self.old self.new }
     {
         let file = self.file;
-        self.printer.write_each(&[
-            Part::Text(b"atnode: "),
-            Part::Text(file),
-            Part::Text(b":"),
-            Part::Number(line as u64),
-            Part::Text(b": event "),
-            Part::Number(at as u64),
-            Part::Text(b" was not played: "),
-        ]);
+        if line == 0 {
+            self.printer.write_each(&[
+                Part::Text(b"atnode: "),
+                Part::Text(file),
+                Part::Text(b": event "),
+                Part::Number(at as u64),
+            ]);
+        } else {
+            self.printer.write_each(&[
+                Part::Text(b"atnode: "),
+                Part::Text(file),
+                Part::Text(b":"),
+                Part::Number(line as u64),
+                Part::Text(b": event "),
+                Part::Number(at as u64),
+            ]);
+        }
     }
 
     /// Reports why a node refused the event of this place, counted from 0, if it did. The event is in the line of this
@@ -182,39 +192,8 @@ impl<'a, W: Paper> Diagnostics<'a, W> {
     fn name_refusal(&mut self, at: usize, line: usize)
         ensures { TellsLine W.page (refusal_named (file_of self.old) at line) self.old self.new }
     {
-        if line == 0 {
-            self.name_refused(at);
-        } else {
-            self.name_refused_in(at, line);
-        }
-    }
-
-    fn name_refused(&mut self, at: usize)
-        ensures { TellsLine W.page (refused_named (file_of self.old) at) self.old self.new }
-    {
-        let file = self.file;
-        self.printer.write_each(&[
-            Part::Text(b"atnode: "),
-            Part::Text(file),
-            Part::Text(b": event "),
-            Part::Number(at as u64),
-            Part::Text(b" was refused: "),
-        ]);
-    }
-
-    fn name_refused_in(&mut self, at: usize, line: usize)
-        ensures { TellsLine W.page (refused_in_named (file_of self.old) at line) self.old self.new }
-    {
-        let file = self.file;
-        self.printer.write_each(&[
-            Part::Text(b"atnode: "),
-            Part::Text(file),
-            Part::Text(b":"),
-            Part::Number(line as u64),
-            Part::Text(b": event "),
-            Part::Number(at as u64),
-            Part::Text(b" was refused: "),
-        ]);
+        self.name_place(at, line);
+        self.printer.write_all(b" was refused: ");
     }
 
     /// Tells that a call of the cable failed at the event of this place, counted from 0.
@@ -237,28 +216,16 @@ impl<'a, W: Paper> Diagnostics<'a, W> {
     fn name_call(&mut self, at: usize)
         ensures { TellsLine W.page (cable_named (file_of self.old) at) self.old self.new }
     {
-        let file = self.file;
-        self.printer.write_each(&[
-            Part::Text(b"atnode: "),
-            Part::Text(file),
-            Part::Text(b": event "),
-            Part::Number(at as u64),
-            Part::Text(b": "),
-        ]);
+        self.name_place(at, 0);
+        self.printer.write_all(b": ");
     }
 
     /// Tells that there was no memory for the event of this place, counted from 0.
     pub fn tell_undriven(&mut self, at: usize)
         ensures { TellsLine W.page (undriven_told (file_of self.old) at) self.old self.new }
     {
-        let file = self.file;
-        self.printer.write_each(&[
-            Part::Text(b"atnode: "),
-            Part::Text(file),
-            Part::Text(b": event "),
-            Part::Number(at as u64),
-            Part::Text(b" was not driven: out of memory\n"),
-        ]);
+        self.name_place(at, 0);
+        self.printer.write_all(b" was not driven: out of memory\n");
     }
 
     /// Tells the reason for which the line of this number, counted from 1, is at fault.
@@ -288,6 +255,21 @@ impl<'a, W: Paper> Diagnostics<'a, W> {
         ]);
     }
 
+    /// Tells why the file can't be opened, in the system's words.
+    pub fn tell_unopened(&mut self, error: io::Error)
+        ensures { TellsReason W.page (file_told (file_of self.old)) self.old self.new }
+    {
+        self.tell_of_file(unopened_of(error).words());
+    }
+
+    /// Tells this sentence, which is about no file.
+    pub fn tell_note(&mut self, sentence: &str)
+        ensures { TellsLine W.page (note_told sentence.now) self.old self.new }
+    {
+        self.printer.write_all(b"atnode: ");
+        self.tell_end(sentence.as_bytes(), None);
+    }
+
     /// Tells that some of what was printed could not be written, if so.
     pub fn tell_writes<P: Paper>(&mut self, printed: &Printer<P>)
         ensures { TellsWrites W.page printed.now self.old self.new }
@@ -308,15 +290,5 @@ impl<'a, W: Paper> Diagnostics<'a, W> {
     {
         self.printer.write_all(b"atnode: ");
         self.tell_end(sentence_of(fault).words(), number);
-    }
-}
-
-// The number of the refusal for which an event was not played.
-fn refusal_of(fault: at_setup::Fault) -> Option<u8>
-    ensures { result ≡ refusal_of fault }
-{
-    match fault {
-        at_setup::Fault::Refused(refusal) => Some(refusal.number()),
-        at_setup::Fault::NoMemory => None,
     }
 }

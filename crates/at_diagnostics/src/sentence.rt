@@ -4,6 +4,7 @@ ghost use Rattle.at_diagnostics.specs.Lines.{IsOneLine};
 use arrayvec::ArrayString;
 use at_setup::Refusal;
 use std::fmt::{Display, Write};
+use std::io;
 
 /// The most bytes of a sentence.
 const MAX_LEN: usize = 512;
@@ -33,6 +34,21 @@ fn one_line(words: &[u8]) -> &[u8]
 pub(crate) fn sentence_of<F: Display + Drop>(fault: F) -> Sentence {
     let mut text = ArrayString::new();
     let _whole = write!(text, "{fault}");
+    Sentence { text }
+}
+
+/// Why a file can't be opened, without the number of the system's error.
+pub(crate) fn unopened_of(error: io::Error) -> Sentence {
+    let whole = sentence_of(error);
+    match whole.text.as_str().split_once(" (os error ") {
+        Some((reason, _)) => unopened_for(reason),
+        None => unopened_for(whole.text.as_str()),
+    }
+}
+
+fn unopened_for(reason: &str) -> Sentence {
+    let mut text = ArrayString::new();
+    let _whole = write!(text, "can't be opened: {reason}");
     Sentence { text }
 }
 

@@ -1,5 +1,6 @@
 //! Why a play ends before its last event, and the line that says so.
 ghost use Rattle.std.specs.Prelude.{◌≡◌, None};
+ghost use Rattle.at_diagnostics.specs.Lines.{refusal_of};
 ghost use Rattle.at_diagnostics.specs.Stops.{IsUnread, stop_line, stop_of, text_fault_line};
 ghost use Rattle.at_print.specs.Printers.{Prints};
 ghost use Rattle.at_faults.specs.Reads.{IsOfRead};
@@ -97,5 +98,15 @@ pub fn write_fault<W: Paper>(printer: &mut Printer<W>, fault: Fault)
             Part::Text(b"\n"),
         ]),
         Fault::NoMemory => printer.write_all(b"stopped nomemory at 0\n"),
+    }
+}
+
+/// The number of the refusal for which an event was not played.
+pub(crate) fn refusal_of(fault: at_setup::Fault) -> Option<u8>
+    ensures { result ≡ refusal_of fault }
+{
+    match fault {
+        at_setup::Fault::Refused(refusal) => Some(refusal.number()),
+        at_setup::Fault::NoMemory => None,
     }
 }

@@ -1,3 +1,4 @@
+pub mod Commands
 pub mod Ends
 pub mod Sent
 pub mod Told

@@ -1,6 +1,7 @@
 //! The play of a schedule: it is looked through, played, and what comes of each event is printed.
 #![tactic(auto)]
 
+mod command;
 mod ending;
 mod playing;
 mod playing_events;
@@ -9,5 +10,6 @@ mod playing_text;
 mod program;
 mod sent;
 
+pub use command::play_source;
 pub use program::{play_file, play_opened, play_text};
 pub use sent::write_sent;

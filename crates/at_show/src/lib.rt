@@ -5,5 +5,7 @@ mod hex_reason;
 mod show;
 mod show_names;
 mod show_segment;
+mod word;
 
 pub use show::{show_bytes, show_data, show_first, show_refusal, show_text};
+pub use word::show_word;

@@ -67,7 +67,8 @@ pub fn show_bytes<W: Paper, E: Paper>(
     printer.finish(status)
 }
 
-fn show_fault<W: Paper, E: Paper>(
+/// Shows why a word has no bytes: it spells none, or there is no room for them. Nothing is flushed.
+pub(crate) fn show_fault<W: Paper, E: Paper>(
     fault: HexFault,
     word: &[u8],
     printer: &mut Printer<W>,
@@ -117,7 +118,8 @@ fn show_datagram<W: Paper, E: Paper>(
     ensures done { (result ≡ Status.Done) ↔ IsReadable datagram.now.kind datagram.now.data_.now }
     ensures printed { (text : List ℕ) × DataText datagram.now.kind datagram.now.data_.now text
         × Prints W.page printer.old printer.new (header_line (content datagram.now) rest ++ text) }
-    ensures told { TellsWhy E.page (DataText datagram.now.kind datagram.now.data_.now) result diagnostics.old diagnostics.new }
+    ensures told { TellsWhy E.page (DataText datagram.now.kind datagram.now.data_.now) result diagnostics.old
+        diagnostics.new }
 {
     write_header(printer, datagram, rest);
     show_data(datagram.kind, datagram.data_, printer, diagnostics)

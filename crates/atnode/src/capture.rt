@@ -1,6 +1,7 @@
 //! The showing of a capture.
+use crate::named::STANDARD_INPUT;
 use crate::telling::tell;
-use crate::{STANDARD_INPUT, stop, unopened};
+use crate::{stop, unopened};
 use at_capture::CapturePrinter;
 use at_diagnostics::Diagnostics;
 use at_print::Printer;

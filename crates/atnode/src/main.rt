@@ -4,31 +4,32 @@
 
 mod capture;
 mod command_line;
+mod named;
+mod output;
 mod record;
 mod telling;
 mod udp;
 
 use at_diagnostics::Diagnostics;
-use at_play::{play_opened, play_text};
-use at_print::{Printer, Status};
-use at_show::show_text;
+use at_play::play_source;
+use at_print::Status;
+use at_show::show_word;
 use capture::capture_named;
 use command_line::{Request, request_of};
+use named::{name_of, open};
+use output::printer_to;
 use record::record_named;
 use std::env::Env;
-use std::io::{BufWriter, ErrorKind, Read, Seek, Write};
+use std::io::{ErrorKind, Write};
 use std::net::Net;
 use std::process::ExitCode;
 use std::rt::Files;
-use std::{env, fs, io};
+use std::{env, io};
 use telling::{tell, tell_unopened, tell_usage};
 use udp::udp_named;
 
 /// The status after a command line that asks for nothing.
 const USAGE: u8 = 2;
-
-/// What stands for the name of a file in what is told of the standard input.
-pub(crate) const STANDARD_INPUT: &str = "standard input";
 
 fn main(rt: HostRuntime) -> ExitCode {
     let mut errors = rt.stderr();
@@ -50,7 +51,7 @@ fn run<R: Env + Files + Input + Print + Net + AllocGlobal, E: Write>(
         Request::Play(file) => play_named(rt, file, errors),
         Request::Record(file) => Ok(record_named(rt, file, errors)),
         Request::Udp(file) => udp_named(rt, file, errors),
-        Request::Show(word) => show_word(rt, word, errors),
+        Request::Show(word) => show_named(rt, word, errors),
         Request::Capture(file) => capture_named(rt, file, errors),
         Request::Usage => usage(rt, errors),
         Request::NoMemory => stop(rt, errors),
@@ -74,22 +75,6 @@ pub(crate) fn stop<E: Write>(rt: &impl Print, errors: &mut E) -> io::Result<u8> 
     Ok(Status::Failed.code())
 }
 
-// Plays a file, or the standard input for `-`.
-fn play_named<R: Files + Input + Print + AllocGlobal, E: Write>(
-    rt: &R,
-    file: &str,
-    errors: &mut E,
-) -> io::Result<u8> {
-    if file == "-" {
-        tell(errors, "the schedule is read from standard input");
-        return play_from(rt, STANDARD_INPUT, &mut rt.reader(), errors);
-    }
-    match fs::open(rt, file) {
-        Ok(mut opened) => play_file(rt, file, &mut opened, errors),
-        Err(error) => unopened(rt, file, error, errors),
-    }
-}
-
 // There is no file of this name.
 pub(crate) fn unopened<R: Print + AllocGlobal, E: Write>(
     rt: &R,
@@ -102,51 +87,29 @@ pub(crate) fn unopened<R: Print + AllocGlobal, E: Write>(
     Ok(Status::Failed.code())
 }
 
-fn play_file<R: Print + AllocGlobal, F: Read + Seek, E: Write>(
+// Plays a file, or the standard input for `-`.
+fn play_named<R: Files + Input + Print + AllocGlobal, E: Write>(
     rt: &R,
-    name: &str,
-    file: &mut F,
+    file: &str,
     errors: &mut E,
 ) -> io::Result<u8> {
-    let mut printer = match BufWriter::new(rt.alloc(), io::writer(rt)) {
-        Ok(writer) => Printer::new(writer),
-        Err(_) => return stop(rt, errors),
+    let Ok(mut printer) = printer_to(rt) else {
+        return stop(rt, errors);
     };
-    let mut diagnostics = Diagnostics::new(name, errors);
-    Ok(play_opened(rt.alloc(), file, &mut printer, &mut diagnostics).code())
-}
-
-fn play_from<R: Print + AllocGlobal, I: Read, E: Write>(
-    rt: &R,
-    name: &str,
-    reader: &mut I,
-    errors: &mut E,
-) -> io::Result<u8> {
-    let mut printer = match BufWriter::new(rt.alloc(), io::writer(rt)) {
-        Ok(writer) => Printer::new(writer),
-        Err(_) => return stop(rt, errors),
-    };
-    let mut diagnostics = Diagnostics::new(name, errors);
-    Ok(play_text(rt.alloc(), reader, &mut printer, &mut diagnostics).code())
+    let mut diagnostics = Diagnostics::new(name_of(file), errors);
+    let source = open(rt, file);
+    Ok(play_source(rt.alloc(), source, &mut printer, &mut diagnostics).code())
 }
 
 // Shows the datagram that a word spells in hexadecimal digits.
-fn show_word<R: Print + AllocGlobal, E: Write>(
+fn show_named<R: Print + AllocGlobal, E: Write>(
     rt: &R,
     word: &str,
     errors: &mut E,
 ) -> io::Result<u8> {
-    if word == "-" {
-        tell(errors, "`-` stands for no bytes");
-    }
-    let mut printer = match BufWriter::new(rt.alloc(), io::writer(rt)) {
-        Ok(writer) => Printer::new(writer),
-        Err(_) => return stop(rt, errors),
-    };
-    // Two digits are a byte.
-    let Ok(mut room) = Vec::with_capacity(rt.alloc(), word.len() / 2) else {
+    let Ok(mut printer) = printer_to(rt) else {
         return stop(rt, errors);
     };
     let mut diagnostics = Diagnostics::new(word, errors);
-    Ok(show_text(word.as_bytes(), &mut room, &mut printer, &mut diagnostics).code())
+    Ok(show_word(rt.alloc(), word.as_bytes(), &mut printer, &mut diagnostics).code())
 }

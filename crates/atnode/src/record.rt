@@ -1,5 +1,5 @@
 //! The recording of a schedule.
-use crate::STANDARD_INPUT;
+use crate::named::STANDARD_INPUT;
 use crate::telling::{tell, tell_unopened};
 use at_diagnostics::Diagnostics;
 use at_print::{Printer, Status};
