@@ -18,8 +18,8 @@ pub record Prints {W : Type 0} (page : W → Page) (old new : Printer W) (bytes 
   pub written : HasFailed new ⊎ Writes (page old.writer) (page new.writer) bytes
   pub tied : IsTied page old → IsTied page new
 
--- A write or a flush failed, or what the printer prints to is as a flush left it that did not fail. T says what may come
--- of a flush.
+-- A write or a flush failed, or what the printer prints to is as a flush left it that did not fail. T says what may
+-- come of a flush.
 abbrev pub IsSettled : {W : Type 0} → (W → Result (Unit {0}) Error → W → Type 0) → Printer W → Type 0
 IsSettled {W} T printer = HasFailed printer ⊎ ((before : W) × T before (Ok tt) printer.writer)
 

@@ -75,7 +75,8 @@ fn take_line<A: Allocator + Copy>(
 ) -> Result<(), Fault>
     ensures taken { OnOk result ((lines : List (List ℕ)) → AreRead A lines draft.old (events_of events.old.items)
         → AreRead A (lines ++ line.now ∷ []) draft.new (events_of events.new.items)) }
-    ensures fault { IfErr result (λ fault. (fault ≡ Fault.NoMemory) ⊎ (((rule : Told) × (fault ≡ Fault.Line number rule))
+    ensures fault { IfErr result (λ fault. (fault ≡ Fault.NoMemory)
+        ⊎ (((rule : Told) × (fault ≡ Fault.Line number rule))
         × ((lines : List (List ℕ)) → IsRead A lines draft.old → ¬ BeginSchedule A (lines ++ line.now ∷ [])))) }
 {
     let net = draft.net();
