@@ -14,9 +14,9 @@ use Rattle.at_capture.specs.declared.tally.FrameKind.{FrameKind}
 use Rattle.at_capture.specs.declared.tally.Tally.{Tally}
 use Rattle.at_diagnostics.specs.Diagnostics.{TellsWrites}
 use Rattle.at_diagnostics.specs.declared.diagnostics.Diagnostics.{Diagnostics}
-use Rattle.at_pcap.specs.Captures.{Record}
-use Rattle.at_pcap.specs.Readings.{HoldsWhole, IsBegun, TakesAll, TellsBroken}
-use Rattle.at_pcap.specs.declared.file_header.FileHeader.{FileHeader}
+use Rattle.std.specs.List.{FoldsTo}
+use Rattle.at_pcap.specs.Files.{BegunFile, HoldsFile, TellsFile}
+use Rattle.at_pcap.specs.Frames.{Frame as Captured}
 use Rattle.at_pcap.specs.declared.reader.CaptureError.{CaptureError}
 use Rattle.at_pcap.specs.declared.reader.CaptureError.TheVariants as broken
 use Rattle.at_print.specs.Papers.{Page}
@@ -25,15 +25,14 @@ use Rattle.at_print.specs.declared.status.Status.{Status}
 use Rattle.at_print.specs.declared.status.Status.TheVariants.{Done}
 use Rattle.at_print.proofs.PrintLemmas.{Prints-nothing, Prints-trans}
 
--- each frame of these records is added behind those so far
-adds_all : (h : FileHeader) (ps : List Record) (done : List Content)
-    → TakesAll Adds h done ps (done ++ map (frame_of h) ps)
-adds_all h [] done = sym (append-nil done)
-adds_all h (p ∷ ps) done = (
-  done ++ frame_of h p ∷ [],
+-- each of these frames is added behind those so far
+adds_all : (fs : List Captured) (done : List Content) → FoldsTo Adds done fs (done ++ map frame_of fs)
+adds_all [] done = sym (append-nil done)
+adds_all (f ∷ fs) done = (
+  done ++ frame_of f ∷ [],
   refl,
-  subst (TakesAll Adds h (done ++ frame_of h p ∷ []) ps)
-      (append_assoc done (frame_of h p ∷ []) (map (frame_of h) ps)) (adds_all h ps (done ++ frame_of h p ∷ [])),
+  subst (FoldsTo Adds (done ++ frame_of f ∷ []) fs)
+      (append_assoc done (frame_of f ∷ []) (map frame_of fs)) (adds_all fs (done ++ frame_of f ∷ [])),
 )
 
 -- these frames were printed, behind others that were counted as these
@@ -55,9 +54,9 @@ pub record Told {W E : Type 0} (page : W → Page) (heard : E → Page) (known :
   pub printed : Printed page heard [] frames old new
 
 module _ {W E : Type 0} (page : W → Page) (heard : E → Page) where
-  -- what the printer does with a record
-  abbrev takes : CapturePrinter W E → FileHeader → Record → CapturePrinter W E → Type 0
-  takes old h p new = PrintsFrame page heard (frame_of h p) old new
+  -- what the printer does with a frame
+  abbrev takes : CapturePrinter W E → Captured → CapturePrinter W E → Type 0
+  takes old f new = PrintsFrame page heard (frame_of f) old new
 
   nothing : (kinds : List FrameKind) (s : CapturePrinter W E) → HasPrinted kinds s → Printed page heard kinds [] s s
   nothing kinds s counts = record {
@@ -85,14 +84,14 @@ module _ {W E : Type 0} (page : W → Page) (heard : E → Page) where
     as_many = ap suc rest.as_many;
   }
 
-  printed_all : (h : FileHeader) (ps : List Record) (kinds : List FrameKind) (old new : CapturePrinter W E)
-      → HasPrinted kinds old → TakesAll takes h old ps new → Printed page heard kinds (map (frame_of h) ps) old new
-  printed_all h [] kinds old new counts taken =
+  printed_all : (fs : List Captured) (kinds : List FrameKind) (old new : CapturePrinter W E)
+      → HasPrinted kinds old → FoldsTo takes old fs new → Printed page heard kinds (map frame_of fs) old new
+  printed_all [] kinds old new counts taken =
       subst (λ s. Printed page heard kinds [] old s) taken (nothing kinds old counts)
-  printed_all h (p ∷ ps) kinds old new counts taken =
+  printed_all (f ∷ fs) kinds old new counts taken =
       let next = taken.1 kinds counts in
-      one_more kinds (frame_of h p) (map (frame_of h) ps) old taken.0 new next
-      (printed_all h ps (kinds ++ next.kind ∷ []) taken.0 new next.counts taken.2)
+      one_more kinds (frame_of f) (map frame_of fs) old taken.0 new next
+      (printed_all fs (kinds ++ next.kind ∷ []) taken.0 new next.counts taken.2)
 
   -- nothing more was printed
   kept : (frames : List Content) (old mid new : CapturePrinter W E) → (new ≡ mid) ⊎ IsUnprinted mid new
@@ -108,45 +107,43 @@ module _ {W E : Type 0} (page : W → Page) (heard : E → Page) where
     as_many = printed.as_many;
   }
 
-  begun : (known : Option (List ℕ)) (old new : CapturePrinter W E) → HasPrinted [] old → IsBegun takes known old new
-      → (frames : List Content) × IsBegun Adds known [] frames × Printed page heard [] frames old new
-  begun known old new counts (inl same) = ([], inl refl, kept [] old old new (inl same) (nothing [] old counts))
-  begun known old new counts (inr (first, h, ps, are, is, taken)) = (
-    map (frame_of h) ps,
-    inr (first, h, ps, are, is, adds_all h ps []),
-    printed_all h ps [] old new counts taken,
+  begun : (known : Option (List ℕ)) (old new : CapturePrinter W E) → HasPrinted [] old
+      → BegunFile takes known old new
+      → (frames : List Content) × BegunFile Adds known [] frames × Printed page heard [] frames old new
+  begun known old new counts first = (
+    map frame_of first.frames,
+    record {
+      first = first.first;
+      frames = first.frames;
+      are = first.are;
+      begins = first.begins;
+      taken = adds_all first.frames [];
+    },
+    printed_all first.frames [] old new counts first.taken,
   )
 
   whole : (known : Option (List ℕ)) (old new : CapturePrinter W E) → HasPrinted [] old
-      → HoldsWhole takes known old new → Told page heard known (Ok tt) old new
-  whole known old new counts (all, h, ps, are, is, taken) = record {
-    frames = map (frame_of h) ps;
-    has = (all, h, ps, are, is, adds_all h ps []);
-    printed = printed_all h ps [] old new counts taken;
+      → HoldsFile takes known old new → Told page heard known (Ok tt) old new
+  whole known old new counts (all, frames, are, is, taken) = record {
+    frames = map frame_of frames;
+    has = (all, frames, are, is, adds_all frames []);
+    printed = printed_all frames [] old new counts taken;
   }
 
   broken_off : (known : Option (List ℕ)) (old new : CapturePrinter W E) (e : CaptureError) → HasPrinted [] old
-      → TellsBroken takes IsUnprinted known old new e → Told page heard known (Err e) old new
-  broken_off known old new (broken.Fault fault at) counts (all, are, inl absent) = record {
-    frames = [];
-    has = (all, are, inl (record { fails = absent.fails; here = absent.here; none = refl }));
-    printed = kept [] old old new (inl absent.none) (nothing [] old counts);
-  }
-  broken_off known old new (broken.Fault fault at) counts (all, are, inr off) = record {
-    frames = map (frame_of off.file_header) off.records;
-    has = (
-      all,
-      are,
-      inr (record {
-        file_header = off.file_header;
-        records = off.records;
-        rest = off.rest;
-        is = off.is;
-        here = off.here;
-        taken = adds_all off.file_header off.records [];
-      }),
-    );
-    printed = printed_all off.file_header off.records [] old new counts off.taken;
+      → TellsFile takes IsUnprinted known old new e → Told page heard known (Err e) old new
+  broken_off known old new (broken.Fault fault at) counts off = record {
+    frames = map frame_of off.frames;
+    has = record {
+      all = off.all;
+      frames = off.frames;
+      rest = off.rest;
+      are = off.are;
+      is = off.is;
+      here = off.here;
+      taken = adds_all off.frames [];
+    };
+    printed = printed_all off.frames [] old new counts off.taken;
   }
   broken_off known old new (broken.Unreadable why) counts tells =
       let first = begun known old new counts tells in
@@ -161,8 +158,8 @@ module _ {W E : Type 0} (page : W → Page) (heard : E → Page) where
 
   -- the frames of what was read, however that ended
   pub told_of : (known : Option (List ℕ)) (old new : CapturePrinter W E) (read : Result (Unit {0}) CaptureError)
-      → HasPrinted [] old → OnOk read (HoldsWhole takes known old new)
-      → IfErr read (TellsBroken takes IsUnprinted known old new) → Told page heard known read old new
+      → HasPrinted [] old → OnOk read (HoldsFile takes known old new)
+      → IfErr read (TellsFile takes IsUnprinted known old new) → Told page heard known read old new
   told_of known old new (Ok tt) counts holds tells = whole known old new counts holds
   told_of known old new (Err e) counts holds tells = broken_off known old new e counts tells
 

@@ -8,9 +8,8 @@ use Rattle.at_capture.specs.declared.capture_printer.CapturePrinter.{CapturePrin
 use Rattle.at_capture.specs.declared.tally.FrameKind.{FrameKind}
 use Rattle.at_diagnostics.specs.Diagnostics.{TellsWrites}
 use Rattle.at_diagnostics.specs.declared.diagnostics.Diagnostics.{Diagnostics}
-use Rattle.at_pcap.specs.Captures.{Record}
-use Rattle.at_pcap.specs.Readings.{HoldsWhole, TellsBroken}
-use Rattle.at_pcap.specs.declared.file_header.FileHeader.{FileHeader}
+use Rattle.at_pcap.specs.Files.{HoldsFile, TellsFile}
+use Rattle.at_pcap.specs.Frames.{Frame as Captured}
 use Rattle.at_pcap.specs.declared.reader.CaptureError.{CaptureError}
 use Rattle.at_print.specs.Papers.{Page}
 use Rattle.at_print.specs.Printers.{HasFailed, Prints}
@@ -27,14 +26,14 @@ diagnostics_of s = s.diagnostics
 
 -- ---- the frames of a file
 
--- the frame of a record, behind those so far
-abbrev pub Adds : List Content → FileHeader → Record → List Content → Type 0
-Adds old h p new = new ≡ old ++ frame_of h p ∷ []
+-- a captured frame, behind those so far
+abbrev pub Adds : List Content → Captured → List Content → Type 0
+Adds old f new = new ≡ old ++ frame_of f ∷ []
 
 -- the bytes, as far as they are known, have these frames up to their end, or up to this error
 abbrev pub HasFrames : Option (List ℕ) → List Content → Result (Unit {0}) CaptureError → Type 0
-HasFrames known frames (Ok u) = HoldsWhole Adds known [] frames
-HasFrames known frames (Err e) = TellsBroken Adds (λ old new. new ≡ old) known [] frames e
+HasFrames known frames (Ok u) = HoldsFile Adds known [] frames
+HasFrames known frames (Err e) = TellsFile Adds (λ old new. new ≡ old) known [] frames e
 
 -- ---- what is printed of a file
 

@@ -3,13 +3,13 @@ use Rattle.std.specs.Prelude.{ℕ, List, ◌++◌, Option, codes}
 use Rattle.std.specs.Fmt.{decimal}
 use Rattle.at_capture.specs.Stations.{station_text}
 use Rattle.at_capture.specs.Times.{time_text}
-use Rattle.at_capture.specs.declared.time.Time.{Time}
 use Rattle.at_frames.specs.declared.carried.Carrier.{Carrier}
 use Rattle.at_frames.specs.declared.carried.Carrier.TheVariants.{EtherTalk, EtherTalkPhase1, LocalTalk}
 use Rattle.at_frames.specs.declared.carried.Carrier.TheVariants.{LocalTalkOverUdp}
 use Rattle.at_frames.specs.declared.carried.Reason.{Reason}
 use Rattle.at_frames.specs.declared.carried.Reason.TheVariants.{Aarp, Control, Cut, Foreign, OtherIp, OtherLink}
 use Rattle.at_frames.specs.declared.carried.Stations.{Stations}
+use Rattle.at_pcap.specs.declared.frame.Time.{Time}
 
 abbrev pub carrier_word : Carrier → List ℕ
 carrier_word EtherTalk = codes "ethertalk"

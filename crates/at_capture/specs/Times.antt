@@ -1,14 +1,7 @@
 -- How times are printed.
 use Rattle.std.specs.Prelude.{ℕ, ◌-◌, ◌==◌, if◌then◌else◌, List, [], ◌++◌, length, replicate, Option, Some, None, codes}
 use Rattle.std.specs.Fmt.{decimal}
-use Rattle.at_capture.specs.declared.time.Time.{Time}
-use Rattle.at_pcap.specs.declared.file_header.Precision.{Precision}
-use Rattle.at_pcap.specs.declared.file_header.Precision.TheVariants.{Microseconds, Nanoseconds}
-
--- how many digits the fractions of a classic capture have
-abbrev pub digits_of : Precision → ℕ
-digits_of Microseconds = 6
-digits_of Nanoseconds = 9
+use Rattle.at_pcap.specs.declared.frame.Time.{Time}
 
 -- a point, and a fraction with zeros before it up to so many digits; one that is too large is written as it is
 abbrev pub fraction_text : ℕ → ℕ → List ℕ

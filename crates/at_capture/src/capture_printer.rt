@@ -9,7 +9,7 @@ use crate::frame::Frame;
 use crate::frames::write_frame;
 use crate::tally::{Tally, write_tally};
 use at_diagnostics::Diagnostics;
-use at_pcap::{CaptureError, FileHeader, RecordHeader, Sink, read_capture};
+use at_pcap::{CaptureError, FrameHeader, Sink, read_capture};
 use at_print::{Paper, Printer, Status};
 use std::alloc::{AllocError, Allocator};
 use std::io::Read;
@@ -43,7 +43,7 @@ impl<'a, W: Paper, E: Paper> CapturePrinter<'a, W, E> {
     /// Reads a capture to its end, and prints its frames, which are numbered from 1. The status is `Done` if it was
     /// read to its end and printed, whatever was refused. A person is told why a datagram is refused, why the capture
     /// was not read to its end, and that something could not be written.
-    pub fn print<A: Allocator, R: Read>(&mut self, alloc: A, reader: &mut R) -> Status
+    pub fn print<A: Allocator + Copy, R: Read>(&mut self, alloc: A, reader: &mut R) -> Status
         ensures told { TellsCapture W.page E.page (R.remaining reader.old) result self.old self.new }
         ensures settled { IsSettled W.settles (printer_of self.new) }
     {
@@ -78,17 +78,12 @@ impl<W: Paper, E: Paper> Sink for CapturePrinter<'_, W, E> {
     ghost use Rattle.at_capture.specs.Captures.{IsUnprinted, PrintsFrame};
     ghost use Rattle.at_capture.specs.Frames.{frame_of};
 
-    ghost takes = { λ old h p new. PrintsFrame W.page E.page (frame_of h p) old new };
+    ghost takes = { λ old f new. PrintsFrame W.page E.page (frame_of f) old new };
 
     ghost keeps = { λ old new. IsUnprinted old new };
 
-    fn take(
-        &mut self,
-        file_header: FileHeader,
-        header: RecordHeader,
-        bytes: &[u8],
-    ) -> Result<(), AllocError> {
-        let frame = Frame::of_record(file_header, header, bytes);
+    fn take(&mut self, header: FrameHeader, bytes: &[u8]) -> Result<(), AllocError> {
+        let frame = Frame::of(header, bytes);
         let number = self.tally.frames.saturating_add(1);
         let kind = write_frame(number, frame, &mut self.printer, &mut self.diagnostics);
         self.tally = self.tally.with(kind);

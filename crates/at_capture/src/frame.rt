@@ -1,10 +1,9 @@
 //! A captured frame.
 ghost use Rattle.std.specs.Prelude.{◌≡◌};
 ghost use Rattle.at_capture.specs.Frames.{content, frame_of};
-ghost use Rattle.at_pcap.specs.Captures.{record_of};
+ghost use Rattle.at_pcap.specs.Frames.{frame_with};
 
-use crate::time::{Time, digits_of};
-use at_pcap::{FileHeader, RecordHeader};
+use at_pcap::{FrameHeader, Time};
 
 /// A frame as a capture has it, whatever the form of the file.
 #[derive(Clone, Copy, Debug, PartialEq, Eq)]
@@ -18,17 +17,13 @@ pub struct Frame<'a> {
 }
 
 impl<'a> Frame<'a> {
-    /// The frame that a record of a classic capture has.
-    pub fn of_record(file_header: FileHeader, header: RecordHeader, bytes: &'a [u8]) -> Frame<'a>
-        ensures { content result ≡ frame_of file_header (record_of header bytes.now) }
+    /// The frame of which a capture says this.
+    pub fn of(header: FrameHeader, bytes: &'a [u8]) -> Frame<'a>
+        ensures { content result ≡ frame_of (frame_with header bytes.now) }
     {
         Frame {
-            link_type: file_header.link_type,
-            time: Some(Time {
-                seconds: u64::from(header.seconds),
-                fraction: u64::from(header.fraction),
-                digits: digits_of(file_header.precision),
-            }),
+            link_type: header.link_type,
+            time: header.time,
             bytes,
         }
     }

@@ -5,8 +5,9 @@ ghost use Rattle.at_capture.specs.FrameLines.{stations_text};
 ghost use Rattle.at_print.specs.Printers.{Prints};
 
 use crate::stations::write_station;
-use crate::time::{Time, write_time};
+use crate::time::write_time;
 use at_frames::{Carrier, Reason, Stations};
+use at_pcap::Time;
 use at_print::{Paper, Part, Printer};
 
 /// The line of a frame that carries a datagram.

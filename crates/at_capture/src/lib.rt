@@ -14,4 +14,3 @@ mod time;
 pub use capture_printer::CapturePrinter;
 pub use frame::Frame;
 pub use tally::{FrameKind, Tally};
-pub use time::Time;

@@ -1,32 +1,11 @@
-//! When a frame was captured.
-ghost use Rattle.std.specs.Prelude.{◌≡◌, replicate};
-ghost use Rattle.at_capture.specs.Times.{digits_of, fraction_text, time_text};
+//! How the time of a frame prints.
+ghost use Rattle.std.specs.Prelude.{replicate};
+ghost use Rattle.at_capture.specs.Times.{fraction_text, time_text};
 ghost use Rattle.at_print.specs.Printers.{Prints};
 
-use at_pcap::Precision;
+use at_pcap::Time;
 use at_print::{Paper, Printer};
 use itoa::Buffer;
-
-/// When a frame was captured.
-#[derive(Clone, Copy, Debug, PartialEq, Eq)]
-pub struct Time {
-    /// Seconds since 1970.
-    pub seconds: u64,
-    /// The fraction of a second, in units of its last digit. It may be a second or more.
-    pub fraction: u64,
-    /// How many digits the fraction has.
-    pub digits: u8,
-}
-
-/// How many digits the fractions of a classic capture have.
-pub(crate) fn digits_of(precision: Precision) -> u8
-    ensures { result ≡ digits_of precision }
-{
-    match precision {
-        Precision::Microseconds => 6,
-        Precision::Nanoseconds => 9,
-    }
-}
 
 /// Prints a time: seconds, a point and the fraction; or `-` for none.
 pub(crate) fn write_time<W: Paper>(printer: &mut Printer<W>, time: Option<Time>)

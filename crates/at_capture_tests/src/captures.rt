@@ -1,8 +1,9 @@
 //! Classic captures, read in pieces, cut, written, and read without memory.
 use crate::pieces::Pieces;
 use at_pcap::{
-    CaptureError, CaptureFault, FileHeader, KeptRecords, Order, Precision, ReadError, RecordHeader,
-    encode_file_header, encode_record_header, read_capture, read_file_header, read_record,
+    CaptureError, CaptureFault, FileHeader, FrameHeader, KeptFrames, Order, Precision, ReadError,
+    RecordHeader, encode_file_header, encode_record_header, read_capture, read_file_header,
+    read_record,
 };
 use refusing::Refusing;
 use std::alloc::{Allocator, Global};
@@ -45,13 +46,13 @@ const EMPTY: RecordHeader = RecordHeader {
     original: 0,
 };
 
-// Whether these are the records of the first capture.
-fn are_both<A: Allocator>(records: &KeptRecords<A>) -> bool {
-    match records.records.as_slice() {
+// Whether these are the frames of the first capture.
+fn are_both<A: Allocator>(frames: &KeptFrames<A>) -> bool {
+    match frames.frames.as_slice() {
         [a, b] => {
-            a.header == FIRST
+            a.header == FrameHeader::of_record(ETHERNET, FIRST)
                 && a.captured.as_slice() == b"abc".as_slice()
-                && b.header == EMPTY
+                && b.header == FrameHeader::of_record(ETHERNET, EMPTY)
                 && b.captured.is_empty()
         }
         _ => false,
@@ -69,10 +70,10 @@ fn fault_of(answer: Result<(), CaptureError>) -> Option<(u8, u64)> {
 #[test]
 fn a_capture_is_read_in_pieces_of_each_length(rt: HostRuntime) {
     for most in 1..80usize {
-        let mut records = KeptRecords::new(rt.alloc());
+        let mut frames = KeptFrames::new(rt.alloc());
         let mut reader = Pieces::of(LITTLE, most);
-        assert!(rt; read_capture(rt.alloc(), &mut reader, &mut records).is_ok());
-        assert!(rt; are_both(&records));
+        assert!(rt; read_capture(rt.alloc(), &mut reader, &mut frames).is_ok());
+        assert!(rt; are_both(&frames));
     }
 }
 
@@ -96,9 +97,9 @@ fn each_step_reads_its_part(rt: HostRuntime) {
 #[test]
 fn each_cut_of_a_capture_has_its_fault(rt: HostRuntime) {
     for len in 0..LITTLE.len() {
-        let mut records = KeptRecords::new(rt.alloc());
+        let mut frames = KeptFrames::new(rt.alloc());
         let mut reader = &LITTLE[..len];
-        let answer = fault_of(read_capture(rt.alloc(), &mut reader, &mut records));
+        let answer = fault_of(read_capture(rt.alloc(), &mut reader, &mut frames));
         let wanted = match len {
             0..=3 => Some((80, 0)),
             4..=23 => Some((81, 0)),
@@ -120,20 +121,20 @@ fn a_record_that_is_too_long_is_refused_before_it_is_cut(rt: HostRuntime) {
 
 #[test]
 fn a_read_that_fails_ends_a_capture_behind_the_records_before_it(rt: HostRuntime) {
-    let mut records = KeptRecords::new(rt.alloc());
+    let mut frames = KeptFrames::new(rt.alloc());
     let mut reader = Pieces::of(LITTLE, 7);
     reader.fails = true;
-    let answer = read_capture(rt.alloc(), &mut reader, &mut records);
+    let answer = read_capture(rt.alloc(), &mut reader, &mut frames);
     assert!(rt; matches!(answer, Err(CaptureError::Unreadable(_))));
-    assert!(rt; are_both(&records));
+    assert!(rt; are_both(&frames));
 }
 
 // Whether the capture is read with so many requests for memory. If not, it says so.
 fn reads_with(rt: &impl Abort, alloc: Global, granted: u64) -> bool {
     let heap = Refusing::new(alloc, granted);
-    let mut records = KeptRecords::new(&heap);
+    let mut frames = KeptFrames::new(&heap);
     let mut reader = LITTLE;
-    let answer = read_capture(&heap, &mut reader, &mut records);
+    let answer = read_capture(&heap, &mut reader, &mut frames);
     assert!(rt; answer.is_ok() || matches!(answer, Err(CaptureError::NoMemory)));
     assert!(rt; answer.is_ok() != heap.has_refused());
     answer.is_ok()

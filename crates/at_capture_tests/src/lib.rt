@@ -7,4 +7,6 @@ mod captures;
 #[cfg(test)]
 mod frames;
 #[cfg(test)]
+mod pcapng;
+#[cfg(test)]
 mod pieces;

@@ -16,6 +16,7 @@ use Rattle.at_pcap.specs.declared.file_header.Precision.{Precision}
 use Rattle.at_pcap.specs.declared.file_header.Precision.TheVariants.{Microseconds, Nanoseconds}
 use Rattle.at_pcap.specs.declared.fault.CaptureFault.{CaptureFault}
 use Rattle.at_pcap.specs.declared.fault.CaptureFault.TheVariants.{NoCapture, CutCapture, BadVersion, RecordTooLong}
+use Rattle.at_pcap.specs.declared.fault.CaptureFault.TheVariants.{BadBlock, NoInterface, BadResolution}
 use Rattle.at_pcap.proofs.Numbers.{InBytes-drop, four_spelled, two_fit, two_spelled}
 
 pub spelled_as : (bytes : List ℕ) (n : ℕ) → InBytes bytes → 4 ≤ length bytes → number_in Big 4 bytes ≡ n
@@ -114,7 +115,10 @@ fails_more BadVersion bytes more long h = (
   λ e. h.4 (sym (version_before h.0 bytes more h.3) ∙ e),
 )
 fails_more CutCapture bytes more long h = absurd (omega (arith, h.2))
-fails_more RecordTooLong bytes more long h = h
+fails_more RecordTooLong bytes more long h = absurd h
+fails_more BadBlock bytes more long h = absurd h
+fails_more NoInterface bytes more long h = absurd h
+fails_more BadResolution bytes more long h = absurd h
 
 pub fails_known : (known left : Option (List ℕ)) (buffer : List ℕ) (n : ℕ) (f : CaptureFault) → length buffer ≡ 24
     → n ≤ length buffer → Consumes known left (take n buffer) → (n < length buffer → IsAtEnd left)
@@ -131,3 +135,11 @@ fails_known (Some xs) (Some ys) buffer n f len fits read over fails = (
         (fails_more f (take n buffer) ys (omega (arith, length-take-le n buffer fits)) fails)
   ],
 )
+
+-- the fault of a front is the fault of all that follows it, where what follows is known
+pub fails_all : (front more : List ℕ) (f : CaptureFault) → (length front < 24 → more ≡ []) → FailsFileHeader f front
+    → FailsFileHeader f (front ++ more)
+fails_all front more f over fails = elim (cases_lt (length front) 24) [
+  | inl short ↦ subst (FailsFileHeader f) (sym (append-nil front) ∙ ap (λ l. front ++ l) (sym (over short))) fails
+  | inr whole ↦ fails_more f front more whole fails
+]

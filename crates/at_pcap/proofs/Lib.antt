@@ -1,5 +1,13 @@
+pub mod BlockLemmas
+pub mod DataLemmas
 pub mod FileHeaderLemmas
+pub mod FileLemmas
+pub mod FrontLemmas
 pub mod Numbers
 pub mod OneReading
+pub mod OptionLemmas
+pub mod PacketLemmas
+pub mod PcapngLemmas
 pub mod RecordLemmas
 pub mod ReadingLemmas
+pub mod RuleLemmas

@@ -17,6 +17,7 @@ use Rattle.at_pcap.specs.declared.file_header.Precision.TheVariants.{Microsecond
 use Rattle.at_pcap.specs.declared.records.RecordHeader.{RecordHeader}
 use Rattle.at_pcap.specs.declared.fault.CaptureFault.{CaptureFault}
 use Rattle.at_pcap.specs.declared.fault.CaptureFault.TheVariants.{NoCapture, CutCapture, BadVersion, RecordTooLong}
+use Rattle.at_pcap.specs.declared.fault.CaptureFault.TheVariants.{BadBlock, NoInterface, BadResolution}
 use Rattle.at_pcap.proofs.Numbers.{four_read, two_read}
 use Rattle.at_pcap.proofs.FileHeaderLemmas.{after_magic as dropped, assoc, magic_len}
 use Rattle.at_pcap.proofs.RecordLemmas.{header_len, stated_in}
@@ -147,6 +148,9 @@ no_end o p more x None ok ends e =
     absurd (omega (arith, len, ap length ends))
 no_end o p more x (Some NoCapture) ok ends e = ends
 no_end o p more x (Some BadVersion) ok ends e = ends
+no_end o p more x (Some BadBlock) ok ends e = ends
+no_end o p more x (Some NoInterface) ok ends e = ends
+no_end o p more x (Some BadResolution) ok ends e = ends
 no_end o p more x (Some RecordTooLong) ok ends e =
     let few = ok.few in
     let stated : stated_at o x ≡ length p.captured =
@@ -170,18 +174,30 @@ same_end : (o : Order) (x : List ℕ) (e f : Option CaptureFault) → Ends o e x
 same_end o x None None p q = refl
 same_end o x None (Some NoCapture) p q = absurd q
 same_end o x None (Some BadVersion) p q = absurd q
+same_end o x None (Some BadBlock) p q = absurd q
+same_end o x None (Some NoInterface) p q = absurd q
+same_end o x None (Some BadResolution) p q = absurd q
 same_end o x None (Some CutCapture) p q = absurd (omega (arith, q.0, ap length p))
 same_end o x None (Some RecordTooLong) p q = absurd (omega (arith, q.0, ap length p))
 same_end o x (Some NoCapture) f p q = absurd p
 same_end o x (Some BadVersion) f p q = absurd p
+same_end o x (Some BadBlock) f p q = absurd p
+same_end o x (Some NoInterface) f p q = absurd p
+same_end o x (Some BadResolution) f p q = absurd p
 same_end o x (Some CutCapture) None p q = absurd (omega (arith, p.0, ap length q))
 same_end o x (Some CutCapture) (Some NoCapture) p q = absurd q
 same_end o x (Some CutCapture) (Some BadVersion) p q = absurd q
+same_end o x (Some CutCapture) (Some BadBlock) p q = absurd q
+same_end o x (Some CutCapture) (Some NoInterface) p q = absurd q
+same_end o x (Some CutCapture) (Some BadResolution) p q = absurd q
 same_end o x (Some CutCapture) (Some CutCapture) p q = refl
 same_end o x (Some CutCapture) (Some RecordTooLong) p q = absurd (p.1 q)
 same_end o x (Some RecordTooLong) None p q = absurd (omega (arith, p.0, ap length q))
 same_end o x (Some RecordTooLong) (Some NoCapture) p q = absurd q
 same_end o x (Some RecordTooLong) (Some BadVersion) p q = absurd q
+same_end o x (Some RecordTooLong) (Some BadBlock) p q = absurd q
+same_end o x (Some RecordTooLong) (Some NoInterface) p q = absurd q
+same_end o x (Some RecordTooLong) (Some BadResolution) p q = absurd q
 same_end o x (Some RecordTooLong) (Some CutCapture) p q = absurd (q.1 p)
 same_end o x (Some RecordTooLong) (Some RecordTooLong) p q = refl
 
@@ -260,6 +276,9 @@ faultless all rest h ps b CutCapture fails =
       file_header_len b.front h b.file_header,
     ))
 faultless all rest h ps b RecordTooLong fails = fails
+faultless all rest h ps b BadBlock fails = fails
+faultless all rest h ps b NoInterface fails = fails
+faultless all rest h ps b BadResolution fails = fails
 faultless all rest h ps b BadVersion fails =
     let more = records_bytes h.order ps ++ rest in
     let o = h.order in

@@ -14,6 +14,7 @@ use Rattle.at_pcap.specs.declared.order.Order.TheVariants.{Big, Little}
 use Rattle.at_pcap.specs.declared.records.RecordHeader.{RecordHeader}
 use Rattle.at_pcap.specs.declared.fault.CaptureFault.{CaptureFault}
 use Rattle.at_pcap.specs.declared.fault.CaptureFault.TheVariants.{NoCapture, CutCapture, BadVersion, RecordTooLong}
+use Rattle.at_pcap.specs.declared.fault.CaptureFault.TheVariants.{BadBlock, NoInterface, BadResolution}
 use Rattle.at_pcap.proofs.FileHeaderLemmas.{nil_of}
 use Rattle.at_pcap.proofs.Numbers.{InBytes-drop, four_spelled}
 
@@ -75,6 +76,9 @@ fails_more : (o : Order) (f : CaptureFault) (bytes more : List ℕ) → 16 ≤ l
     → FailsRecord o f bytes → FailsRecord o f (bytes ++ more)
 fails_more o NoCapture bytes more long other h = h
 fails_more o BadVersion bytes more long other h = h
+fails_more o BadBlock bytes more long other h = h
+fails_more o NoInterface bytes more long other h = h
+fails_more o BadResolution bytes more long other h = h
 fails_more o CutCapture bytes more long other h = absurd (other refl)
 fails_more o RecordTooLong bytes more long other h =
     (omega (arith, length-append bytes more), rw (stated_before o bytes more h.0) h.1)

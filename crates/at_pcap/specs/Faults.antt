@@ -6,6 +6,7 @@ use Rattle.at_pcap.specs.declared.order.Order.{Order}
 use Rattle.at_pcap.specs.declared.file_header.Precision.{Precision}
 use Rattle.at_pcap.specs.declared.fault.CaptureFault.{CaptureFault}
 use Rattle.at_pcap.specs.declared.fault.CaptureFault.TheVariants.{NoCapture, CutCapture, BadVersion, RecordTooLong}
+use Rattle.at_pcap.specs.declared.fault.CaptureFault.TheVariants.{BadBlock, NoInterface, BadResolution}
 use Rattle.at_pcap.specs.declared.fault.ReadError.{ReadError}
 use Rattle.at_pcap.specs.declared.fault.ReadError.TheVariants as error
 
@@ -15,6 +16,9 @@ number_of NoCapture = 80
 number_of CutCapture = 81
 number_of BadVersion = 82
 number_of RecordTooLong = 83
+number_of BadBlock = 84
+number_of NoInterface = 85
+number_of BadResolution = 86
 
 -- the bytes begin with a magic number
 abbrev pub HasAnyMagic : List ℕ → Type 0
@@ -30,7 +34,7 @@ abbrev pub FailsFileHeader : CaptureFault → List ℕ → Type 0
 FailsFileHeader NoCapture bytes = ¬ HasAnyMagic bytes
 FailsFileHeader BadVersion bytes = HasBadVersion bytes
 FailsFileHeader CutCapture bytes = HasAnyMagic bytes × (¬ HasBadVersion bytes) × (length bytes < 24)
-FailsFileHeader RecordTooLong bytes = ⊥
+FailsFileHeader fault bytes = ⊥
 
 -- how many captured bytes a record's header says that it has, behind the time
 abbrev pub stated_at : Order → List ℕ → ℕ
@@ -42,11 +46,10 @@ IsTooLong o bytes = (12 ≤ length bytes) × (262144 < stated_at o bytes)
 
 -- the first fault of bytes that are not empty, and do not begin with a record
 abbrev pub FailsRecord : Order → CaptureFault → List ℕ → Type 0
-FailsRecord o NoCapture bytes = ⊥
-FailsRecord o BadVersion bytes = ⊥
 FailsRecord o RecordTooLong bytes = IsTooLong o bytes
 FailsRecord o CutCapture bytes =
     (0 < length bytes) × (¬ IsTooLong o bytes) × (length bytes < 16 + stated_at o bytes)
+FailsRecord o fault bytes = ⊥
 
 -- these bytes are all that the reader held, where that is known
 abbrev pub AreAll : Option (List ℕ) → List ℕ → Type 0

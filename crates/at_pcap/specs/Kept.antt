@@ -1,8 +1,8 @@
--- Records that are kept in memory.
+-- Frames that are kept in memory.
 use Rattle.std.specs.Prelude.{List, map}
-use Rattle.at_pcap.specs.Captures.{Record, record_of}
-use Rattle.at_pcap.specs.declared.kept.KeptRecords.{KeptRecords}
+use Rattle.at_pcap.specs.Frames.{Frame, frame_with}
+use Rattle.at_pcap.specs.declared.kept.KeptFrames.{KeptFrames}
 
--- the records so far
-abbrev pub kept_records : {A : Type 0} → KeptRecords A → List Record
-kept_records k = map (λ p. record_of p.header p.captured.items) k.records.items
+-- the frames so far
+abbrev pub kept_frames : {A : Type 0} → KeptFrames A → List Frame
+kept_frames k = map (λ f. frame_with f.header f.captured.items) k.frames.items

@@ -1,5 +1,11 @@
+pub mod Blocks
 pub mod Captures
 pub mod Faults
+pub mod Files
+pub mod Frames
 pub mod Kept
+pub mod OptionSteps
 pub mod Orders
 pub mod Readings
+pub mod Sections
+pub mod Steps

@@ -12,15 +12,24 @@ pub enum CaptureFault {
     /// The first four bytes are no magic number, or there are fewer.
     #[error("the file does not begin with the magic number of a capture")]
     NoCapture,
-    /// The file ends within its header or within a record.
-    #[error("the file ends within its header or within a record")]
+    /// The file ends within its header, or within a record or a block.
+    #[error("the file ends within its header, or within a record or a block")]
     CutCapture,
-    /// The major version is not 2.
-    #[error("the major version of the file is not 2")]
+    /// The major version is not 2, or not 1 in pcapng.
+    #[error("the major version of the file is not 2, or not 1 in pcapng")]
     BadVersion,
     /// A record says that it has over 262,144 captured bytes.
     #[error("a record says that it has over 262,144 captured bytes")]
     RecordTooLong,
+    /// A block has a length that no block has, too short a body, another length at its end, or no byte-order magic.
+    #[error("a block of the file has a wrong length or a wrong byte-order magic")]
+    BadBlock,
+    /// A packet names an interface that its section does not have.
+    #[error("a packet of the file names an interface that its section does not have")]
+    NoInterface,
+    /// The resolution of an interface is out of range, or an option of it is cut.
+    #[error("an interface of the file has a resolution out of range, or an option that is cut")]
+    BadResolution,
 }
 
 impl CaptureFault {
@@ -35,6 +44,9 @@ impl CaptureFault {
             CaptureFault::CutCapture => 81,
             CaptureFault::BadVersion => 82,
             CaptureFault::RecordTooLong => 83,
+            CaptureFault::BadBlock => 84,
+            CaptureFault::NoInterface => 85,
+            CaptureFault::BadResolution => 86,
         }
     }
 }

@@ -47,8 +47,8 @@ pub fn read_file_header<R: Read>(reader: &mut R) -> Result<FileHeader, ReadError
     }
 }
 
-// Reads a file header. If the bytes are fewer than it has, the file ends with them.
-fn file_header_of(bytes: &[u8]) -> Result<FileHeader, CaptureFault>
+/// Reads a file header. If the bytes are fewer than it has, the file ends with them.
+pub(crate) fn file_header_of(bytes: &[u8]) -> Result<FileHeader, CaptureFault>
     requires { length bytes.now ≤ 24 }
     ensures found { IfOk result (IsFileHeader bytes.now) }
     ensures fault { IfErr result (λ fault. FailsFileHeader fault bytes.now) }

@@ -1,57 +1,51 @@
-//! Records that are kept in memory.
+//! Frames that are kept in memory.
 ghost use Rattle.std.specs.Prelude.{◌≡◌, ◌++◌, ◌∷◌, []};
 
-use crate::file_header::FileHeader;
+use crate::frame::FrameHeader;
 use crate::reader::Sink;
-use crate::records::RecordHeader;
 use std::alloc::{AllocError, Allocator};
 
-/// A record of a capture, in memory.
+/// A frame of a capture, in memory.
 #[derive(Drop)]
-pub struct KeptRecord<A: Allocator> {
-    /// The time, and the lengths.
-    pub header: RecordHeader,
+pub struct KeptFrame<A: Allocator> {
+    /// What the capture says of it.
+    pub header: FrameHeader,
     /// The captured bytes.
     pub captured: Vec<u8, A>,
 }
 
-/// The records of a capture, in memory.
+/// The frames of a capture, in memory.
 #[derive(Drop)]
-pub struct KeptRecords<A: Allocator> {
+pub struct KeptFrames<A: Allocator> {
     alloc: A,
-    /// The records so far, in the order of the file.
-    pub records: Vec<KeptRecord<A>, A>,
+    /// The frames so far, in the order of the file.
+    pub frames: Vec<KeptFrame<A>, A>,
 }
 
-impl<A: Allocator + Copy> KeptRecords<A> {
-    ghost use Rattle.at_pcap.specs.Kept.{kept_records};
+impl<A: Allocator + Copy> KeptFrames<A> {
+    ghost use Rattle.at_pcap.specs.Kept.{kept_frames};
 
-    /// No records yet.
-    pub fn new(alloc: A) -> KeptRecords<A>
-        ensures { kept_records result ≡ [] }
+    /// No frames yet.
+    pub fn new(alloc: A) -> KeptFrames<A>
+        ensures { kept_frames result ≡ [] }
     {
-        KeptRecords {
+        KeptFrames {
             alloc,
-            records: Vec::new(alloc),
+            frames: Vec::new(alloc),
         }
     }
 }
 
-impl<A: Allocator + Copy> Sink for KeptRecords<A> {
-    ghost use Rattle.at_pcap.specs.Kept.{kept_records};
+impl<A: Allocator + Copy> Sink for KeptFrames<A> {
+    ghost use Rattle.at_pcap.specs.Kept.{kept_frames};
 
-    ghost takes = { λ s _ p t. kept_records t ≡ kept_records s ++ p ∷ [] };
+    ghost takes = { λ s f t. kept_frames t ≡ kept_frames s ++ f ∷ [] };
 
-    ghost keeps = { λ s t. kept_records t ≡ kept_records s };
+    ghost keeps = { λ s t. kept_frames t ≡ kept_frames s };
 
-    fn take(
-        &mut self,
-        _file_header: FileHeader,
-        header: RecordHeader,
-        bytes: &[u8],
-    ) -> Result<(), AllocError> {
+    fn take(&mut self, header: FrameHeader, bytes: &[u8]) -> Result<(), AllocError> {
         let captured = Vec::from_slice(self.alloc, bytes)?;
-        self.records.push(KeptRecord { header, captured })?;
+        self.frames.push(KeptFrame { header, captured })?;
         Ok(())
     }
 }

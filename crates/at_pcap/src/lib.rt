@@ -1,19 +1,30 @@
-//! Capture files: classic pcap, read record by record and written.
+//! Capture files: classic pcap and pcapng, read frame by frame; classic pcap written.
 #![tactic(auto)]
 
+mod blocks;
 mod fault;
 mod file_header;
 mod fill;
+mod frame;
+mod front;
+mod interface;
 mod kept;
 pub mod laws;
+mod options;
 mod order;
+mod packets;
+mod passing;
+mod pcapng;
 mod reader;
 mod records;
+mod section;
 mod written;
 
 pub use fault::{CaptureFault, ReadError};
 pub use file_header::{FILE_HEADER_LEN, FileHeader, Precision, read_file_header};
-pub use kept::{KeptRecord, KeptRecords};
+pub use frame::{FrameHeader, Time};
+pub use interface::{Interface, Resolution};
+pub use kept::{KeptFrame, KeptFrames};
 pub use order::Order;
 pub use reader::{CaptureError, Sink, read_capture};
 pub use records::{MAX_CAPTURED, RECORD_HEADER_LEN, RecordHeader, read_record};

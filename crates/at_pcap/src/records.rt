@@ -61,8 +61,8 @@ pub fn read_record<A: Allocator, R: Read>(
     }
 }
 
-// Reads this many bytes into the buffer, in place of what is there. It returns false if there are fewer.
-fn read_captured<A: Allocator, R: Read>(
+/// Reads this many bytes into the buffer, in place of what is there. It returns false if there are fewer.
+pub(crate) fn read_captured<A: Allocator, R: Read>(
     reader: &mut R,
     count: u32,
     buffer: &mut Vec<u8, A>,
