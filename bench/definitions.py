@@ -42,7 +42,7 @@ def read(path):
         lines = [line for line in part.splitlines() if line.strip() and not line.lstrip().startswith("--")]
         lines = [line for line in lines if not USE.match(line)]
         if lines:
-            definitions.setdefault(HEAD.match(lines[0])[1], []).extend(lines)
+            definitions.setdefault(HEAD.match(lines[0].lstrip())[1], []).extend(lines)
     return Module(imports, modules, definitions)
 
 
