@@ -2,7 +2,7 @@
 use crate::schedules::{ZONE_LIST, setup_of};
 use at_cable::MemoryCable;
 use at_drive::{Drive, Log, Step};
-use at_event::{Call, Report, ZoneCall};
+use at_event::{Call, Report, TransactionReport, ZoneCall, ZoneReport};
 use at_zip::Which;
 use std::alloc::{AllocError, Global};
 use std::process::Abort;
@@ -36,7 +36,10 @@ fn each_step_adds_to_the_log_that_it_is_lent(rt: HostRuntime) -> Result<(), Fail
     assert!(rt;
         matches!(
             log.reports.as_slice(),
-            [Report::Begun(0), Report::Served(1)]
+            [
+                Report::Transactions(TransactionReport::Begun(0)),
+                Report::Zones(ZoneReport::Served(1))
+            ]
         )
     );
     assert_eq!(rt; log.sent.len(), 2);
@@ -48,7 +51,12 @@ fn each_step_adds_to_the_log_that_it_is_lent(rt: HostRuntime) -> Result<(), Fail
 fn a_log_that_is_cleared_is_begun_anew(rt: HostRuntime) -> Result<(), Fail> {
     let mut log = Log::new(rt.alloc());
     asked(&rt, rt.alloc(), &mut log, true)?;
-    assert!(rt; matches!(log.reports.as_slice(), [Report::Served(1)]));
+    assert!(rt;
+        matches!(
+            log.reports.as_slice(),
+            [Report::Zones(ZoneReport::Served(1))]
+        )
+    );
     assert!(rt; matches!(log.sent.as_slice(), [sent] if sent.len() == 1));
     assert_eq!(rt; log.arrived.len(), 1);
     Ok(())

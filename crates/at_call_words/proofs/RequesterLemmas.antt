@@ -6,6 +6,7 @@ use Rattle.at_event.specs.declared.event.Call.TheVariants as call
 use Rattle.at_event.specs.declared.calls.TransactionCall.TheVariants as transaction
 use Rattle.at_event.specs.declared.event.Timer.{Timer}
 use Rattle.at_event.specs.declared.event.Timer.TheVariants as timer
+use Rattle.at_event.specs.declared.timers.TransactionTimer.TheVariants as atp_timer
 use Rattle.at_atp_responder.specs.declared.reception.Key.{Key}
 use Rattle.at_faults.specs.declared.fault.LineFault.{LineFault}
 use Rattle.at_faults.specs.declared.fault.LineFault.TheVariants.{NoMemory, Unlawful}
@@ -36,12 +37,12 @@ plain_said Names word ws (Err NoMemory) unlike said = tt
 
 plain_timer : (Names : Naming) (word : List ℕ) (ws : List (List ℕ)) (t : Timer) → SaysPlainTimer word ws t
     → SaysTimer Names word ws t
-plain_timer Names word ws (timer.Release own key) said = absurd said
+plain_timer Names word ws (timer.Transactions (atp_timer.Release own key)) said = absurd said
 plain_timer Names word ws other said = said
 
 timed_plainly : (Names : Naming) (word : List ℕ) (ws : List (List ℕ)) (t : Timer) → word ≢ codes "release"
     → SaysTimer Names word ws t → SaysPlainTimer word ws t
-timed_plainly Names word ws (timer.Release own key) unlike said = unlike said.0
+timed_plainly Names word ws (timer.Transactions (atp_timer.Release own key)) unlike said = unlike said.0
 timed_plainly Names word ws other unlike said = said
 
 pub plain_timed : (Names : Naming) (word : List ℕ) (ws : List (List ℕ)) (r : Result Timer Rule) → word ≢ codes "release"
@@ -98,20 +99,23 @@ call_here net ws (Ok c) said = (here_call net ws c said).1
 call_here net ws (Err fault) said = tt
 
 abbrev timer_moved : ℕ → Timer → Timer
-timer_moved net (timer.Release own key) = timer.Release own (at_net net key)
+timer_moved net (timer.Transactions (atp_timer.Release own key)) =
+    timer.Transactions (atp_timer.Release own (at_net net key))
 timer_moved net other = other
 
 moved_timer : (net : ℕ) (ws : List (List ℕ)) (t : Timer) → AreTimer ws t
     → AreTimerBy (NameHere net) ws (timer_moved net t)
 moved_timer net [] t said = absurd said
-moved_timer net (word ∷ ws) (timer.Release own key) (is, (o, n, s, w, parts, owned, named, tid)) =
+moved_timer net (word ∷ ws) (timer.Transactions (atp_timer.Release own key))
+    (is, (o, n, s, w, parts, owned, named, tid)) =
     (is, (o, n, s, w, parts, owned, (refl, named), tid))
 moved_timer net (word ∷ ws) other said = said
 
 here_timer : (net : ℕ) (ws : List (List ℕ)) (t : Timer) → AreTimerBy (NameHere net) ws t
     → AreTimer ws t × IsTimerHere net t
 here_timer net [] t said = absurd said
-here_timer net (word ∷ ws) (timer.Release own key) (is, (o, n, s, w, parts, owned, named, tid)) =
+here_timer net (word ∷ ws) (timer.Transactions (atp_timer.Release own key))
+    (is, (o, n, s, w, parts, owned, named, tid)) =
     ((is, (o, n, s, w, parts, owned, named.1, tid)), named.0)
 here_timer net (word ∷ ws) other said = (said, tt)
 

@@ -3,6 +3,9 @@ use Rattle.std.specs.Prelude.{◌≡◌, ◌⊎◌, ℕ, List, [], ◌∷◌, co
 use Rattle.at_atp_responder.specs.declared.reception.Key.{Key}
 use Rattle.at_event.specs.declared.event.Timer.{Timer}
 use Rattle.at_event.specs.declared.event.Timer.TheVariants as timer
+use Rattle.at_event.specs.declared.timers.TransactionTimer.TheVariants as atp_timer
+use Rattle.at_event.specs.declared.timers.NameTimer.TheVariants as nbp_timer
+use Rattle.at_event.specs.declared.timers.StreamTimer.TheVariants as adsp_timer
 use Rattle.at_call_words.specs.Requesters.{NameAny, NameNode, Naming}
 use Rattle.at_call_words.specs.Words.{One}
 use Rattle.at_words.specs.Numbers.{IsByte, IsNumber, IsTwoBytes}
@@ -18,15 +21,16 @@ ReleaseSays Names ws own key =
 
 -- the word of a timer that names no requester, and what the words after it say
 abbrev pub SaysPlainTimer : List ℕ → List (List ℕ) → Timer → Type 0
-SaysPlainTimer word ws (timer.Retry tid) = (word ≡ codes "retry") × One IsTwoBytes ws tid
-SaysPlainTimer word ws (timer.Release own key) = ⊥
-SaysPlainTimer word ws (timer.Lookup id) = (word ≡ codes "lookup") × One IsByte ws id
-SaysPlainTimer word ws (timer.Resend id) = (word ≡ codes "resend") × One IsTwoBytes ws id
-SaysPlainTimer word ws (timer.Probe id) = (word ≡ codes "probe") × One IsTwoBytes ws id
+SaysPlainTimer word ws (timer.Transactions (atp_timer.Retry tid)) = (word ≡ codes "retry") × One IsTwoBytes ws tid
+SaysPlainTimer word ws (timer.Transactions (atp_timer.Release own key)) = ⊥
+SaysPlainTimer word ws (timer.Names (nbp_timer.Lookup id)) = (word ≡ codes "lookup") × One IsByte ws id
+SaysPlainTimer word ws (timer.Streams (adsp_timer.Resend id)) = (word ≡ codes "resend") × One IsTwoBytes ws id
+SaysPlainTimer word ws (timer.Streams (adsp_timer.Probe id)) = (word ≡ codes "probe") × One IsTwoBytes ws id
 
 -- the same of each timer, where requesters are named so
 abbrev pub SaysTimer : Naming → List ℕ → List (List ℕ) → Timer → Type 0
-SaysTimer Names word ws (timer.Release own key) = (word ≡ codes "release") × ReleaseSays Names ws own key
+SaysTimer Names word ws (timer.Transactions (atp_timer.Release own key)) =
+    (word ≡ codes "release") × ReleaseSays Names ws own key
 SaysTimer Names word ws other = SaysPlainTimer word ws other
 
 abbrev pub AreTimerBy : Naming → List (List ℕ) → Timer → Type 0
@@ -43,5 +47,5 @@ AreAnyTimer net ws timer = AreTimerBy (NameAny net) ws timer
 
 -- whose record is to go is on this network
 abbrev pub IsTimerHere : ℕ → Timer → Type 0
-IsTimerHere net (timer.Release own key) = (key.from).net ≡ net
+IsTimerHere net (timer.Transactions (atp_timer.Release own key)) = (key.from).net ≡ net
 IsTimerHere net other = Unit {0}

@@ -10,7 +10,7 @@ ghost use Rattle.at_words.specs.Words.{words_of};
 use crate::requester::{Requesters, requester};
 use crate::words::{one, three};
 use at_atp::Key;
-use at_event::Timer;
+use at_event::{NameTimer, StreamTimer, Timer, TransactionTimer};
 use at_faults::Rule;
 use at_words::{Words, byte, is_word, two_bytes};
 
@@ -62,7 +62,7 @@ fn retry(words: Words<'_>) -> Option<Timer>
     ensures { IsFound result (SaysPlainTimer (codes "retry") (words_of words.entry.rest.now)) }
 {
     let tid = two_bytes(one(words)?)?;
-    Some(Timer::Retry { tid })
+    Some(Timer::Transactions(TransactionTimer::Retry { tid }))
 }
 
 // `OWN NODE SOCKET T`
@@ -73,10 +73,10 @@ fn release(requesters: Requesters, net: u16, mut words: Words<'_>) -> Option<Tim
     let (node, socket, tid) = three(words)?;
     let from = requester(requesters, net, node, socket)?;
     let tid = two_bytes(tid)?;
-    Some(Timer::Release {
+    Some(Timer::Transactions(TransactionTimer::Release {
         own,
         key: Key { from, tid },
-    })
+    }))
 }
 
 // The sockets that answer are 6 and 129.
@@ -96,7 +96,7 @@ fn lookup(words: Words<'_>) -> Option<Timer>
     ensures { IsFound result (SaysPlainTimer (codes "lookup") (words_of words.entry.rest.now)) }
 {
     let id = byte(one(words)?)?;
-    Some(Timer::Lookup { id })
+    Some(Timer::Names(NameTimer::Lookup { id }))
 }
 
 // `ID`
@@ -104,7 +104,7 @@ fn resend(words: Words<'_>) -> Option<Timer>
     ensures { IsFound result (SaysPlainTimer (codes "resend") (words_of words.entry.rest.now)) }
 {
     let id = two_bytes(one(words)?)?;
-    Some(Timer::Resend { id })
+    Some(Timer::Streams(StreamTimer::Resend { id }))
 }
 
 // `ID`
@@ -112,5 +112,5 @@ fn probe(words: Words<'_>) -> Option<Timer>
     ensures { IsFound result (SaysPlainTimer (codes "probe") (words_of words.entry.rest.now)) }
 {
     let id = two_bytes(one(words)?)?;
-    Some(Timer::Probe { id })
+    Some(Timer::Streams(StreamTimer::Probe { id }))
 }

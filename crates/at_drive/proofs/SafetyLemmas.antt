@@ -1,5 +1,6 @@
 -- Each input that a node takes is safe, if each event of a node within its limits is.
-use Rattle.std.proofs.Common.{◌≡◌, ◌∙◌, ◌≤◌, ℕ, List, [], ◌∷◌, Bool, false, true, cond, find, length, map, ap, sym, subst, refl, Some, arith}
+use Rattle.std.proofs.Common.{◌≡◌, ◌∙◌, ◌≤◌, ℕ, List, [], ◌∷◌, Bool, false, true, cond, find, length, map, ap, sym}
+use Rattle.std.proofs.Common.{subst, refl, Some, arith}
 use Rattle.std.proofs.lemmas.Bool.{true≢false, false≢true}
 use Rattle.std.proofs.lemmas.List.{length-map}
 use Rattle.std.specs.Prelude.{MatchBool}

@@ -23,49 +23,15 @@ kind_of_call (Streams call) = Adsp
 kind_of_call (protocol.Session call) = Session
 
 abbrev pub kind_of_timer : Timer → Kind
-kind_of_timer (timer.Retry tid) = Atp
-kind_of_timer (timer.Release own key) = Atp
-kind_of_timer (timer.Lookup id) = Nbp
-kind_of_timer (timer.Resend id) = Adsp
-kind_of_timer (timer.Probe id) = Adsp
+kind_of_timer (timer.Transactions it) = Atp
+kind_of_timer (timer.Names it) = Nbp
+kind_of_timer (timer.Streams it) = Adsp
 
 -- which part alone reports this; nobody, if several do
 abbrev pub reporter_of : {A : Type 0} → Report A → Kind
 reporter_of report.Picked = Session
-reporter_of (report.Begun tid) = Atp
-reporter_of (report.Answered count) = Atp
-reporter_of (report.Served count) = Atp
-reporter_of (report.Asked key user bytes) = Atp
-reporter_of (report.Zones which names) = Atp
-reporter_of report.TableSet = Atp
-reporter_of report.Expired = Atp
-reporter_of (report.ZoneFault number) = Atp
-reporter_of report.ZonesFailed = Atp
-reporter_of report.Kept = Atp
-reporter_of (report.Response tid packets) = Atp
-reporter_of (report.Failed tid) = Atp
-reporter_of report.Released = Atp
-reporter_of (report.Looking id) = Nbp
-reporter_of (report.Found finds) = Nbp
-reporter_of report.Claimed = Nbp
-reporter_of (report.Taken f) = Nbp
-reporter_of report.Registered = Nbp
-reporter_of report.Unregistered = Nbp
-reporter_of report.Relayed = Nbp
-reporter_of (report.Names count) = Nbp
-reporter_of (report.Finds count) = Nbp
-reporter_of report.ListenSet = Adsp
-reporter_of (report.Opening id) = Adsp
-reporter_of (report.Made id) = Adsp
-reporter_of (report.Opened id) = Adsp
-reporter_of report.Turned = Adsp
-reporter_of (report.Denied id) = Adsp
-reporter_of (report.Wrote count) = Adsp
-reporter_of (report.Read items) = Adsp
-reporter_of report.StreamReset = Adsp
-reporter_of (report.Heard id items) = Adsp
-reporter_of (report.Dropped id) = Adsp
-reporter_of (report.Closed id) = Adsp
-reporter_of (report.Freed id) = Adsp
-reporter_of report.Idle = Adsp
+reporter_of (report.Transactions it) = Atp
+reporter_of (report.Zones it) = Atp
+reporter_of (report.Names it) = Nbp
+reporter_of (report.Streams it) = Adsp
 reporter_of other = Nobody

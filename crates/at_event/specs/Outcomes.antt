@@ -5,6 +5,10 @@ use Rattle.at_ddp.specs.Datagrams.{Posted}
 use Rattle.at_ddp.specs.declared.address.Address.{Address}
 use Rattle.at_event.specs.declared.report.Report.{Report}
 use Rattle.at_event.specs.declared.report.Report.TheVariants as report
+use Rattle.at_event.specs.declared.reports.TransactionReport.TheVariants as atp_report
+use Rattle.at_event.specs.declared.reports.ZoneReport.TheVariants as zip_report
+use Rattle.at_event.specs.declared.reports.NameReport.TheVariants as nbp_report
+use Rattle.at_event.specs.declared.reports.StreamReport.TheVariants as adsp_report
 
 -- a datagram that a node sends
 pub record Outgoing : Type 0 where
@@ -53,12 +57,12 @@ Exactly o before r new after = (r ≡ o.report) × (new ≡ o.state) × (after �
 abbrev pub takes_memory : {A : Type 0} → Report A → Bool
 takes_memory (report.Refused number) = false
 takes_memory report.Ignored = false
-takes_memory (report.Failed tid) = false
-takes_memory report.Expired = false
-takes_memory report.Unregistered = false
-takes_memory report.ListenSet = false
+takes_memory (report.Transactions (atp_report.Failed tid)) = false
+takes_memory (report.Transactions atp_report.Expired) = false
+takes_memory (report.Names nbp_report.Unregistered) = false
+takes_memory (report.Streams adsp_report.ListenSet) = false
 takes_memory report.Picked = false
-takes_memory report.ZonesFailed = false
+takes_memory (report.Zones zip_report.Unanswered) = false
 takes_memory other = true
 
 -- is it out of memory?

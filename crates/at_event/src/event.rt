@@ -2,7 +2,7 @@
 ghost use Rattle.at_event.specs.Calls.{IsCall};
 
 use crate::calls::{NameCall, SessionCall, StreamCall, TransactionCall, ZoneCall};
-use at_atp_responder::Key;
+use crate::timers::{NameTimer, StreamTimer, TransactionTimer};
 use std::alloc::{Allocator, Global};
 
 /// A call by the node's user, by the protocol that it is of.
@@ -35,30 +35,13 @@ impl<A: Allocator> Call<A> {
     }
 }
 
-/// A timer that fires.
+/// A timer that fires, by the protocol that it is of.
 #[derive(Clone, Copy, Debug, PartialEq, Eq)]
 pub enum Timer {
-    /// The answer to a transaction has not come in time.
-    Retry {
-        tid: u16,
-    },
-    /// The record of an exactly-once request is to go, which the socket `own` answered, 6 or 129.
-    Release {
-        own: u8,
-        /// Who asked, under which number.
-        key: Key,
-    },
-    /// A lookup is to be asked again.
-    Lookup {
-        id: u8,
-    },
-    /// What the end of a stream sent last was not answered in time.
-    Resend {
-        /// The identifier of the end.
-        id: u16,
-    },
-    /// The end of a stream heard nothing for a while.
-    Probe {
-        id: u16,
-    },
+    /// A timer of transactions, of ATP.
+    Transactions(TransactionTimer),
+    /// A timer of names, of NBP.
+    Names(NameTimer),
+    /// A timer of streams, of ADSP.
+    Streams(StreamTimer),
 }

@@ -1,105 +1,23 @@
 //! What comes out of a node: reports.
 
-use at_adsp_end::Item;
-use at_atp_frame::Packet;
-use at_atp_responder::Key;
-use at_ddp::{Bytes, Listed, Pascal};
-use at_nbp::{Find, Owner};
-use at_zip::Which;
+use crate::reports::{NameReport, StreamReport, TransactionReport, ZoneReport};
 use std::alloc::{Allocator, Global};
 
-/// What came of an event.
+/// What came of an event: what a protocol reports, or what all of them can.
 #[derive(Drop)]
 pub enum Report<A: Allocator = Global> {
-    /// A transaction began under this number.
-    Begun(u16),
-    /// A request was answered, and so many packets were sent.
-    Answered(u8),
-    /// The release timer removed the record of a request.
-    Expired,
-    /// The router answered a zone request, and sent so many packets.
-    Served(u8),
-    /// A new request was delivered to the service: who asked under which number, and what.
-    Asked {
-        key: Key,
-        user: [u8; 4],
-        data_: Bytes<A>,
-    },
-    /// One of the router's two zone tables was replaced.
-    TableSet,
-    /// A zone was picked.
+    /// What transactions report, of ATP.
+    Transactions(TransactionReport<A>),
+    /// What the reading and the service of zones report, of ZIP.
+    Zones(ZoneReport<A>),
+    /// What names report, of NBP.
+    Names(NameReport<A>),
+    /// What streams report, of ADSP.
+    Streams(StreamReport<A>),
+    /// The node's user picked a zone.
     Picked,
-    /// A reading of a zone table ended with these names.
-    Zones {
-        which: Which,
-        names: Listed<Pascal, A>,
-    },
-    /// A reading of a zone table ended, since its page was refused. This is the number of the refusal.
-    ZoneFault(u8),
-    /// A reading of a zone table ended, since no retry was left.
-    ZonesFailed,
-    /// A packet of an answer was kept. Others are still wanted.
-    Kept,
-    /// A transaction ended with these packets.
-    Response {
-        tid: u16,
-        packets: Listed<Packet<A>, A>,
-    },
-    /// A transaction ended without an answer, since no retry was left.
-    Failed(u16),
-    /// A lookup began under this identifier.
-    Looking(u8),
-    /// A lookup ended with these finds, in the order in which they came.
-    Found(Listed<Find, A>),
-    /// A claim ended: nobody had the name, and now it is registered.
-    Claimed,
-    /// A claim ended: this node or another has the name.
-    Taken(Owner<A>),
-    /// A name was registered.
-    Registered,
-    /// A name was taken away.
-    Unregistered,
-    /// The router asked every node for names.
-    Relayed,
-    /// A lookup was answered with so many names.
-    Names(usize),
-    /// So many finds of a reply are new.
-    Finds(usize),
-    /// It was set whether requests for connections are answered.
-    ListenSet,
-    /// An end of a stream asks for its connection, under this identifier.
-    Opening(u16),
-    /// A request for a connection made this end of a stream.
-    Made(u16),
-    /// This end of a stream is open.
-    Opened(u16),
-    /// A request for a connection was denied.
-    Turned,
-    /// The request of this end was denied, and the end is freed.
-    Denied(u16),
-    /// So many items were written.
-    Wrote(usize),
-    /// These items were read.
-    Read(Listed<Item, A>),
-    /// A stream was reset.
-    StreamReset,
-    /// An end of a stream heard a segment, and took so many items of it.
-    Heard {
-        id: u16,
-        items: u16,
-    },
-    /// This end took a reset of the other end: what it had not read is dropped.
-    Dropped(u16),
-    /// This end of a stream is closed. What it received stays readable.
-    Closed(u16),
-    /// This end of a stream is freed.
-    Freed(u16),
-    /// An end of a stream had nothing to send again.
-    Idle,
     /// Something was sent again, or a request that still waits came again.
     Again,
-    /// The answer to an exactly-once request arrived complete, and is no longer kept.
-    Released,
     /// The datagram had no effect.
     Ignored,
     /// The event was refused. This is the number of the refusal.

@@ -13,6 +13,8 @@ use Rattle.at_zip.specs.Tables.{Tables, table_of}
 use Rattle.at_event.specs.Outcomes.{Outcome, idle}
 use Rattle.at_event.specs.declared.report.Report.{Report}
 use Rattle.at_event.specs.declared.report.Report.TheVariants as report
+use Rattle.at_event.specs.declared.reports.TransactionReport.TheVariants as atp_report
+use Rattle.at_event.specs.declared.reports.ZoneReport.TheVariants as zip_report
 use Rattle.at_event.specs.declared.seat.Seat.{Seat}
 use Rattle.at_event.specs.declared.service.Reply.{Reply}
 use Rattle.at_node.specs.AtpHearing.{HearsAt, HearsAtp, Requester, Service, Zones}
@@ -26,9 +28,9 @@ use Rattle.at_node.specs.ZoneSocket.{AtZones, at_zones, page_packet}
 pub record TellsNothing (A X : Type 0) (q : Report A → Option X) : Type 0 where
   pub ignored : q report.Ignored ≡ None
   pub again : q report.Again ≡ None
-  pub released : q report.Released ≡ None
-  pub asked : (key : Key) (user bytes : List ℕ) → q (report.Asked key user bytes) ≡ None
-  pub served : (count : ℕ) → q (report.Served count) ≡ None
+  pub released : q (report.Transactions atp_report.Released) ≡ None
+  pub asked : (key : Key) (user bytes : List ℕ) → q (report.Transactions (atp_report.Asked key user bytes)) ≡ None
+  pub served : (count : ℕ) → q (report.Zones (zip_report.Served count)) ≡ None
   pub refused : (number : ℕ) → q (report.Refused number) ≡ None
 
 -- a datagram for the socket that asks, whose packet does this there

@@ -41,7 +41,7 @@ use Rattle.at_name_socket.specs.NameSockets.{SocketState, finish, finish_fault}
 use Rattle.at_name_socket.specs.declared.step.Finished.{Finished}
 use Rattle.at_name_socket.specs.declared.step.Finished.TheVariants as finished
 use Rattle.at_stream_socket.specs.Calls as calls
-use Rattle.at_stream_socket.specs.Sockets.{told_by as told_as}
+use Rattle.at_stream_socket.specs.Sockets.{told_by as told_as, told_opening, told_read, told_wrote}
 use Rattle.at_event.specs.Outcomes.{Outcome, idle, refused_as}
 use Rattle.at_event.specs.Seats.{at_socket}
 use Rattle.at_event.specs.declared.calls.NameCall.{NameCall}
@@ -57,8 +57,12 @@ use Rattle.at_event.specs.declared.event.Call.{Call}
 use Rattle.at_event.specs.declared.event.Call.TheVariants.{Transactions, Zones, Names, Streams, Session}
 use Rattle.at_event.specs.declared.report.Report.{Report}
 use Rattle.at_event.specs.declared.report.Report.TheVariants as report
+use Rattle.at_event.specs.declared.reports.StreamReport.TheVariants as adsp_report
 use Rattle.at_event.specs.declared.event.Timer.{Timer}
 use Rattle.at_event.specs.declared.event.Timer.TheVariants as timer
+use Rattle.at_event.specs.declared.timers.TransactionTimer.TheVariants as atp_timer
+use Rattle.at_event.specs.declared.timers.NameTimer.TheVariants as nbp_timer
+use Rattle.at_event.specs.declared.timers.StreamTimer.TheVariants as adsp_timer
 use Rattle.at_event.specs.declared.seat.Seat.{Seat}
 use Rattle.at_session.specs.Sessions.{SessionState, address_at, is_listed, pattern_asked}
 use Rattle.at_node.specs.AtpParts.{AtpState, Reading}
@@ -183,7 +187,7 @@ module _ (A : Type 0) where
   -- ---- streams
 
   module _ (s : Seat) (t : EndTable) where
-    connects : (to : Address) (o : Option ℕ) → By (calls.called s t report.Opening (connected t to o))
+    connects : (to : Address) (o : Option ℕ) → By (calls.called s t told_opening (connected t to o))
         (option_map (λ id. Conn id) o)
     connects to None = refl
     connects to (Some id) = refl
@@ -269,11 +273,12 @@ module _ (A : Type 0) where
   stream_draws n (Connect node socket) =
       connects n.seat n.streams (at_socket n.seat node socket) (next_end n.streams)
   stream_draws n (Write id items) =
-      plain n.seat n.streams report.Wrote (λ x. refl) (wrote wire n.streams items (by_id n.streams id))
+      plain n.seat n.streams told_wrote (λ x. refl) (wrote wire n.streams items (by_id n.streams id))
   stream_draws n (Read id count) =
-      plain n.seat n.streams report.Read (λ x. refl) (read_at wire n.streams count (by_id n.streams id))
+      plain n.seat n.streams told_read (λ x. refl) (read_at wire n.streams count (by_id n.streams id))
   stream_draws n (Reset id) =
-      plain n.seat n.streams (λ x. report.StreamReset) (λ x. refl) (reset_at wire n.streams (by_id n.streams id))
+      plain n.seat n.streams (λ x. report.Streams adsp_report.Reset) (λ x. refl)
+      (reset_at wire n.streams (by_id n.streams id))
   stream_draws n (Close id) = closes n.seat n.streams (by_id n.streams id)
 
   pub call_draws : (n : NodeState) (call : Call A) → By (called n call) (draw_of n call)
@@ -284,9 +289,9 @@ module _ (A : Type 0) where
   call_draws n (Session (Pick zone)) = picks n.session zone (is_listed n.session zone)
 
   pub timer_draws : (n : NodeState) (time : Timer) → By (timed n time) None
-  timer_draws n (timer.Retry tid) = retries_some n.seat n.atp tid (retried n.atp.requester tid)
-  timer_draws n (timer.Release own key) =
+  timer_draws n (timer.Transactions (atp_timer.Retry tid)) = retries_some n.seat n.atp tid (retried n.atp.requester tid)
+  timer_draws n (timer.Transactions (atp_timer.Release own key)) =
       expires n.seat n.atp own key (expiry_fault (find (is_key key) (records_at n.atp own)))
-  timer_draws n (timer.Lookup id) = asks_again n.seat n.names (search_of n.names.lookups id)
-  timer_draws n (timer.Resend id) = ticks_at n.seat n.streams tick.Retransmit (by_id n.streams id)
-  timer_draws n (timer.Probe id) = ticks_at n.seat n.streams tick.Probe (by_id n.streams id)
+  timer_draws n (timer.Names (nbp_timer.Lookup id)) = asks_again n.seat n.names (search_of n.names.lookups id)
+  timer_draws n (timer.Streams (adsp_timer.Resend id)) = ticks_at n.seat n.streams tick.Retransmit (by_id n.streams id)
+  timer_draws n (timer.Streams (adsp_timer.Probe id)) = ticks_at n.seat n.streams tick.Probe (by_id n.streams id)

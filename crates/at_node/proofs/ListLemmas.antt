@@ -8,6 +8,7 @@ use Rattle.at_zip.specs.declared.request.Which.{Which}
 use Rattle.at_event.specs.Outcomes.{Comes}
 use Rattle.at_event.specs.declared.report.Report.{Report}
 use Rattle.at_event.specs.declared.report.Report.TheVariants as report
+use Rattle.at_event.specs.declared.reports.ZoneReport.TheVariants as zip_report
 use Rattle.at_event.specs.declared.seat.Seat.{Seat}
 use Rattle.at_event.specs.declared.service.Reply.{Reply}
 use Rattle.at_node.specs.AtpHearing.{HearsAtp}
@@ -16,7 +17,7 @@ use Rattle.at_node.proofs.AnsweringLemmas.{TellsNothing, by_asker}
 
 -- the list that a report tells of
 abbrev pub listed_by : {A : Type 0} → Report A → Option (List (List ℕ))
-listed_by (report.Zones which names) = Some names
+listed_by (report.Zones (zip_report.List which names)) = Some names
 listed_by other = None
 
 lists_nothing : (A : Type 0) → TellsNothing A (List (List ℕ)) listed_by
@@ -32,7 +33,7 @@ lists_nothing A = record {
 -- a datagram for another socket ends no reading
 pub lists_at_asker : (A : Type 0) (said : Reply A) (s : Seat) (a : AtpState) (d : Datagram) (before after : List Posted)
     (r : Report A) (new : AtpState) → Comes (HearsAtp said s a d) a before r new after → (d.to.socket == 128) ≡ false
-    → (which : Which) (names : List (List ℕ)) → r ≡ report.Zones which names → {P : Type 0} → P
+    → (which : Which) (names : List (List ℕ)) → r ≡ report.Zones (zip_report.List which names) → {P : Type 0} → P
 lists_at_asker A said s a d before after r new comes other which names tells =
     let c = subst (λ (r : Report A). Comes (HearsAtp said s a d) a before r new after) tells comes in
     let b = by_asker A (List (List ℕ)) listed_by (lists_nothing A) said s a d c.0 c.1 names

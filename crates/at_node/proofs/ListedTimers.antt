@@ -10,12 +10,16 @@ use Rattle.at_atp_responder.specs.Keys.{AreApart}
 use Rattle.at_atp_responder.specs.declared.reception.Key.{Key}
 use Rattle.at_event.specs.declared.event.Timer.{Timer}
 use Rattle.at_event.specs.declared.event.Timer.TheVariants as timer
+use Rattle.at_event.specs.declared.timers.TransactionTimer.TheVariants as atp_timer
+use Rattle.at_event.specs.declared.timers.NameTimer.TheVariants as nbp_timer
+use Rattle.at_event.specs.declared.timers.StreamTimer.TheVariants as adsp_timer
 use Rattle.at_nbp.specs.Lookups.{Search, has_id}
 use Rattle.at_node.specs.Nodes.{NodeState, timed}
 use Rattle.at_node.specs.Responders.{records_at}
-use Rattle.at_node.specs.Timers.{Acts, lookups, releases, retries, ticks, timers_of}
+use Rattle.at_node.specs.Timers.{Acts, lookup_of, lookups, releases, retries, retry_of, ticks, timers_of}
 use Rattle.at_node.proofs.MemberLemmas.{There, there_seen, found_there, there_left, there_right, there_either}
-use Rattle.at_node.proofs.ReleaseLaws.{CanGo, acts_release, can_go_listed, listed_can_go, release_acts_6, release_acts_129}
+use Rattle.at_node.proofs.ReleaseLaws.{CanGo, acts_release, can_go_listed, listed_can_go, release_acts_6}
+use Rattle.at_node.proofs.ReleaseLaws.{release_acts_129}
 use Rattle.at_node.proofs.TickLaws.{acts_tick, tick_listed, ticks_act}
 use Rattle.at_node.proofs.TimerLaws.{acts_lookup, acts_retry, lookups_act, retries_act}
 
@@ -57,7 +61,8 @@ module _ (a b c d e f : List Timer) (t : Timer) where
       (there_left (a ++ b ++ c) d t (there_right (a ++ b) c t g)))
   in_part (inr (inr (inr (inl g)))) = there_left (a ++ b ++ c ++ d ++ e) f t (there_left (a ++ b ++ c ++ d) e t
       (there_right (a ++ b ++ c) d t g))
-  in_part (inr (inr (inr (inr (inl g))))) = there_left (a ++ b ++ c ++ d ++ e) f t (there_right (a ++ b ++ c ++ d) e t g)
+  in_part (inr (inr (inr (inr (inl g))))) =
+      there_left (a ++ b ++ c ++ d ++ e) f t (there_right (a ++ b ++ c ++ d) e t g)
   in_part (inr (inr (inr (inr (inr g))))) = there_right (a ++ b ++ c ++ d ++ e) f t g
 
 -- a timer is in one of the parts of a node's list
@@ -90,35 +95,38 @@ listed_acts A n t ids zones services h =
 -- ---- what acts is listed
 
 release_part : (n : NodeState) (own : ℕ) (key : Key) → CanGo (records_at n.atp own) key
-    → InPart n (timer.Release own key)
+    → InPart n (timer.Transactions (atp_timer.Release own key))
 release_part n own key h = go (own == 129) (own == 6) refl refl h
   where
     go : (b c : Bool) → (own == 129) ≡ b → (own == 6) ≡ c
         → CanGo (cond b n.atp.service_responder (cond c n.atp.zone_responder [])) key
-        → InPart n (timer.Release own key)
+        → InPart n (timer.Transactions (atp_timer.Release own key))
     go true c e f g = inr (inr (inl (subst (λ (k : ℕ). There (releases 129 n.atp.service_responder)
-        (timer.Release k key)) (sym (eqb-true own 129 e)) (can_go_listed 129 key n.atp.service_responder g))))
+        (timer.Transactions (atp_timer.Release k key))) (sym (eqb-true own 129 e))
+        (can_go_listed 129 key n.atp.service_responder g))))
     go false true e f g = inr (inl (subst (λ (k : ℕ). There (releases 6 n.atp.zone_responder)
-        (timer.Release k key)) (sym (eqb-true own 6 f)) (can_go_listed 6 key n.atp.zone_responder g)))
+        (timer.Transactions (atp_timer.Release k key))) (sym (eqb-true own 6 f))
+        (can_go_listed 6 key n.atp.zone_responder g)))
     go false false e f g = absurd (let none = g.1 in cc)
 
 acts_part : (A : Type 0) (n : NodeState) (t : Timer) → Acts n (timed {A = A} n t) → InPart n t
-acts_part A n (timer.Retry tid) h =
+acts_part A n (timer.Transactions (atp_timer.Retry tid)) h =
     let one = acts_retry A n tid h in
     let found = found_there (is_numbered tid) n.atp.requester.standing one.0 one.1 in
-    inl (subst (λ (k : ℕ). There (retries n.atp.requester.standing) (timer.Retry k)) (eqb-true (one.0).tid tid found.1)
-    (there_seen (λ (x : Transaction). timer.Retry x.tid) n.atp.requester.standing one.0 found.0))
-acts_part A n (timer.Release own key) h = release_part n own key (acts_release A n own key h)
-acts_part A n (timer.Lookup id) h =
+    inl (subst (λ (k : ℕ). There (retries n.atp.requester.standing) (timer.Transactions (atp_timer.Retry k)))
+    (eqb-true (one.0).tid tid found.1)
+    (there_seen (λ (x : Transaction). retry_of x.tid) n.atp.requester.standing one.0 found.0))
+acts_part A n (timer.Transactions (atp_timer.Release own key)) h = release_part n own key (acts_release A n own key h)
+acts_part A n (timer.Names (nbp_timer.Lookup id)) h =
     let one = acts_lookup A n id h in
     let found = found_there (has_id id) n.names.lookups.searches one.0 one.1 in
-    inr (inr (inr (inl (subst (λ (k : ℕ). There (lookups n.names.lookups.searches) (timer.Lookup k))
+    inr (inr (inr (inl (subst (λ (k : ℕ). There (lookups n.names.lookups.searches) (timer.Names (nbp_timer.Lookup k)))
     (eqb-true (one.0).id id found.1)
-    (there_seen (λ (x : Search). timer.Lookup x.id) n.names.lookups.searches one.0 found.0)))))
-acts_part A n (timer.Resend id) h =
+    (there_seen (λ (x : Search). lookup_of x.id) n.names.lookups.searches one.0 found.0)))))
+acts_part A n (timer.Streams (adsp_timer.Resend id)) h =
     let one = acts_tick A n tick.Retransmit id h in
     inr (inr (inr (inr (inl (tick_listed n.streams.ends tick.Retransmit id one.0 one.1 one.2)))))
-acts_part A n (timer.Probe id) h =
+acts_part A n (timer.Streams (adsp_timer.Probe id)) h =
     let one = acts_tick A n tick.Probe id h in
     inr (inr (inr (inr (inr (tick_listed n.streams.ends tick.Probe id one.0 one.1 one.2)))))
 

@@ -17,11 +17,15 @@ use Rattle.at_atp_responder.specs.Records.{Record, expiring_key, expiry_fault_of
 use Rattle.at_atp_responder.specs.declared.reception.Key.{Key}
 use Rattle.at_event.specs.declared.event.Timer.{Timer}
 use Rattle.at_event.specs.declared.event.Timer.TheVariants as timer
+use Rattle.at_event.specs.declared.timers.TransactionTimer.TheVariants as atp_timer
+use Rattle.at_event.specs.declared.timers.NameTimer.TheVariants as nbp_timer
+use Rattle.at_event.specs.declared.timers.StreamTimer.TheVariants as adsp_timer
 use Rattle.at_nbp.specs.Lookups as nbp
 use Rattle.at_nbp.specs.Lookups.{Search}
 use Rattle.at_node.specs.Limits.{IsWithin}
 use Rattle.at_node.specs.Nodes.{NodeState}
-use Rattle.at_node.specs.Timers.{lookups, releases, retries, ticks, timer_of, timers_of}
+use Rattle.at_node.specs.Timers.{lookup_of, lookups, release_of, releases, retries, retry_of, ticks, timer_of}
+use Rattle.at_node.specs.Timers.{timers_of}
 use Rattle.at_node.proofs.MemberLemmas.{There, seen_there, some_there, there_either}
 use Rattle.at_node.proofs.ReleaseLaws.{itself}
 
@@ -105,7 +109,8 @@ unfolding IsDistinct
 numbers_distinct [] h = tt
 numbers_distinct (t ∷ ts) h = (none t.tid ts h.0, numbers_distinct ts h.1)
   where
-    none : (tid : ℕ) (us : List Transaction) → has_number us tid ≡ false → AllByRecursion (λ u. (u.tid == tid) ≡ false) us
+    none : (tid : ℕ) (us : List Transaction) → has_number us tid ≡ false
+        → AllByRecursion (λ u. (u.tid == tid) ≡ false) us
     none tid [] g = tt
     none tid (u ∷ us) g = go (u.tid == tid) refl g (λ k. none tid us k)
       where
@@ -116,30 +121,30 @@ numbers_distinct (t ∷ ts) h = (none t.tid ts h.0, numbers_distinct ts h.1)
         go false e k ih = (e, ih k)
 
 once_retries : (ts : List Transaction) → NumbersDiffer ts → Once (retries ts)
-once_retries ts h = once_seen (λ (t : Transaction). timer.Retry t.tid) (λ a b. b.tid == a.tid) ts
+once_retries ts h = once_seen (λ (t : Transaction). retry_of t.tid) (λ a b. b.tid == a.tid) ts
     (λ x y e. let same : y.tid ≡ x.tid = cc in eq-eqb y.tid x.tid same) (numbers_distinct ts h)
 
 once_lookups : (ss : List Search) → IsDistinct (λ a b. nbp.has_id a.id b) ss → Once (lookups ss)
-once_lookups ss h = once_seen (λ (s : Search). timer.Lookup s.id) (λ a b. nbp.has_id a.id b) ss
+once_lookups ss h = once_seen (λ (s : Search). lookup_of s.id) (λ a b. nbp.has_id a.id b) ss
     (λ x y e. let same : y.id ≡ x.id = cc in eq-eqb y.id x.id same) h
 
 -- what a listed release is
-release_is : (own : ℕ) (r : Record) (t : Timer) → option_map (timer.Release own) (expiring_key r) ≡ Some t
-    → timer.Release own r.key ≡ t
+release_is : (own : ℕ) (r : Record) (t : Timer) → option_map (release_of own) (expiring_key r) ≡ Some t
+    → release_of own r.key ≡ t
 release_is own r t h = go (is_none (expiry_fault_of r.state)) h
   where
-    go : (b : Bool) → option_map (timer.Release own) (cond b (Some r.key) None) ≡ Some t → timer.Release own r.key ≡ t
+    go : (b : Bool) → option_map (release_of own) (cond b (Some r.key) None) ≡ Some t → release_of own r.key ≡ t
     go true g = cc
     go false g = absurd (cc)
 
 once_releases : (own : ℕ) (rs : List Record) → AreApart rs → Once (releases own rs)
-once_releases own rs h = once_some (λ r. option_map (timer.Release own) (expiring_key r))
+once_releases own rs h = once_some (λ r. option_map (release_of own) (expiring_key r))
     (λ a b. same_key (key_of a) (key_of b)) rs one (distinct_seen key_of same_key rs h)
   where
-    one : (x y : Record) (t : Timer) → option_map (timer.Release own) (expiring_key x) ≡ Some t
-        → option_map (timer.Release own) (expiring_key y) ≡ Some t → same_key x.key y.key ≡ true
+    one : (x y : Record) (t : Timer) → option_map (release_of own) (expiring_key x) ≡ Some t
+        → option_map (release_of own) (expiring_key y) ≡ Some t → same_key x.key y.key ≡ true
     one x y t e f =
-        let both : timer.Release own x.key ≡ timer.Release own y.key = release_is own x t e ∙ sym (release_is own y t f) in
+        let both : release_of own x.key ≡ release_of own y.key = release_is own x t e ∙ sym (release_is own y t f) in
         let keys : x.key ≡ y.key = cc both in
         subst (λ (k : Key). same_key x.key k ≡ true) keys (itself x.key)
 
@@ -162,11 +167,11 @@ once_ticks k es h = once_some (λ e. option_map (timer_of k) (heeding k e)) (λ 
 -- ---- the parts have nothing in common
 
 abbrev kind : Timer → ℕ
-kind (timer.Retry tid) = 0
-kind (timer.Release own key) = suc own
-kind (timer.Lookup id) = 200
-kind (timer.Resend id) = 201
-kind (timer.Probe id) = 202
+kind (timer.Transactions (atp_timer.Retry tid)) = 0
+kind (timer.Transactions (atp_timer.Release own key)) = suc own
+kind (timer.Names (nbp_timer.Lookup id)) = 200
+kind (timer.Streams (adsp_timer.Resend id)) = 201
+kind (timer.Streams (adsp_timer.Probe id)) = 202
 
 -- the timers of a list differ, and are of kinds below this
 record Below (bound : ℕ) (ts : List Timer) : Type 0 where
@@ -185,14 +190,14 @@ joins m bound xs ys a b is less = record {
     go t (inr g) = let same = is t g in omega (arith, same, less)
 
 retry_kind : (ts : List Transaction) (t : Timer) → There (retries ts) t → kind t ≡ 0
-retry_kind ts t h = let m = seen_there (λ (x : Transaction). timer.Retry x.tid) ts t h in ap kind (sym m.2)
+retry_kind ts t h = let m = seen_there (λ (x : Transaction). retry_of x.tid) ts t h in ap kind (sym m.2)
 
 lookup_kind : (ss : List Search) (t : Timer) → There (lookups ss) t → kind t ≡ 200
-lookup_kind ss t h = let m = seen_there (λ (x : Search). timer.Lookup x.id) ss t h in ap kind (sym m.2)
+lookup_kind ss t h = let m = seen_there (λ (x : Search). lookup_of x.id) ss t h in ap kind (sym m.2)
 
 release_kind : (own : ℕ) (rs : List Record) (t : Timer) → There (releases own rs) t → kind t ≡ suc own
 release_kind own rs t h =
-    let m = some_there (λ r. option_map (timer.Release own) (expiring_key r)) rs t h in
+    let m = some_there (λ r. option_map (release_of own) (expiring_key r)) rs t h in
     ap kind (sym (release_is own m.0 t m.2))
 
 resend_kind : (es : List EndState) (t : Timer) → There (ticks tick.Retransmit es) t → kind t ≡ 201

@@ -14,7 +14,9 @@ use Rattle.at_atp_requester.specs.declared.step.Step.TheVariants as step
 use Rattle.at_node.specs.declared.numbers.Draw.{Draw}
 use Rattle.at_node.specs.declared.numbers.Draw.TheVariants.{Tid}
 use Rattle.at_event.specs.declared.report.Report.{Report}
-use Rattle.at_event.specs.declared.report.Report.TheVariants.{Begun, ZoneFault, Zones}
+use Rattle.at_event.specs.declared.report.Report.TheVariants as report
+use Rattle.at_event.specs.declared.reports.TransactionReport.TheVariants as atp_report
+use Rattle.at_event.specs.declared.reports.ZoneReport.TheVariants as zip_report
 use Rattle.at_event.specs.declared.seat.Seat.{Seat}
 use Rattle.at_node.specs.AtpParts.{AtpState, Reading, after_heard, asking, asks, packet_in, tid_of}
 use Rattle.at_node.specs.Numbers.{drawn_by}
@@ -45,7 +47,7 @@ module _ {A : Type 0} (s : Seat) (a : AtpState) (h : Heard A) (from : Address) (
       after ≡ items ++ map posted
       (sent_by (asking s.net s.number) atp_kind
       ((from, spelled (request_by (page_transaction from (table_read a.reading) names tid))) ∷ [])) →
-      Comes (AsksOn s a h from names) a items (Begun tid) new after
+      Comes (AsksOn s a h from names) a items (report.Transactions (atp_report.Begun tid)) new after
   asks_next tid items after new drawn same sent =
       comes_with (AsksOn s a h from names) a items
       (asks s (record a { requester = h.after }) (Some (record {
@@ -53,7 +55,7 @@ module _ {A : Type 0} (s : Seat) (a : AtpState) (h : Heard A) (from : Address) (
         tid = tid;
         names = names;
       }))
-      (page_transaction from (table_read a.reading) names tid)) (Begun tid) new after
+      (page_transaction from (table_read a.reading) names tid)) (report.Transactions (atp_report.Begun tid)) new after
       (asks_as tid drawn) (refl, same, sent) refl
 
   -- if a number is free, some outcome may take memory
@@ -80,11 +82,12 @@ module _ {A : Type 0} (s : Seat) (a : AtpState) (h : Heard A) (from : Address) (
 module _ {A : Type 0} (s : Seat) (a : AtpState) (h : Heard A) (from : Address) (names : List (List ℕ))
     (p : pages.Page) where
   too_long_at : nat_lt 1024 (length names + length p.names) ≡ true
-      → TakesPage s a h from names p (after_heard s a h (ZoneFault 34) None)
+      → TakesPage s a h from names p (after_heard s a h (report.Zones (zip_report.Fault 34)) None)
   too_long_at long = rw long refl
 
   pub last_at : nat_lt 1024 (length names + length p.names) ≡ false → p.last ≡ true
-      → TakesPage s a h from names p (after_heard s a h (Zones (table_read a.reading) (names ++ p.names)) None)
+      → TakesPage s a h from names p
+      (after_heard s a h (report.Zones (zip_report.List (table_read a.reading) (names ++ p.names))) None)
   last_at few last = rw (few, last) refl
 
   on_at : nat_lt 1024 (length names + length p.names) ≡ false → p.last ≡ false → (o : Outcome A AtpState)
@@ -97,8 +100,12 @@ module _ {A : Type 0} (s : Seat) (a : AtpState) (h : Heard A) (from : Address) (
     where
       go : (long last : Bool) → nat_lt 1024 (length names + length p.names) ≡ long → p.last ≡ last
           → (o : Outcome A AtpState) × TakesPage s a h from names p o × (takes_memory o.report ≡ true)
-      go true last e f = (after_heard s a h (ZoneFault 34) None, too_long_at e, refl)
-      go false true e f = (after_heard s a h (Zones (table_read a.reading) (names ++ p.names)) None, last_at e f, refl)
+      go true last e f = (after_heard s a h (report.Zones (zip_report.Fault 34)) None, too_long_at e, refl)
+      go false true e f = (
+        after_heard s a h (report.Zones (zip_report.List (table_read a.reading) (names ++ p.names))) None,
+        last_at e f,
+        refl,
+      )
       go false false e f = let next = next_wanted s a h from (names ++ p.names) some in
           (next.0, on_at e f next.0 next.1, next.2)
 
@@ -113,12 +120,15 @@ module _ {A : Type 0} (s : Seat) (from : Address) (f : Content) (p : pages.Page)
 
   pub ends_with_all : length (names_read before.reading) + length p.names ≤ 1024 → p.last ≡ true →
       IsStep (after_heard s before (heard {A = A} before.requester from f)
-      (Zones (table_read before.reading) (names_read before.reading ++ p.names)) None) before items r new after
+      (report.Zones (zip_report.List (table_read before.reading) (names_read before.reading ++ p.names))) None) before
+      items
+      r new after
       → Comes (May now) now items r new after
   ends_with_all few last step =
       moved (step_comes (May before) before items
       (after_heard s before (heard {A = A} before.requester from f)
-      (Zones (table_read before.reading) (names_read before.reading ++ p.names)) None) r new after
+      (report.Zones (zip_report.List (table_read before.reading) (names_read before.reading ++ p.names))) None) r new
+      after
       (last_at s before (heard {A = A} before.requester from f) from (names_read before.reading) p
       (le-ltb 1024 (length (names_read before.reading) + length p.names) few) last) step)
 
@@ -132,11 +142,14 @@ module _ {A : Type 0} (s : Seat) (from : Address) (f : Content) (p : pages.Page)
       (le-ltb 1024 (length (names_read before.reading) + length p.names) few) on) comes)
 
   pub is_too_long : 1024 < length (names_read before.reading) + length p.names →
-      IsStep (after_heard s before (heard {A = A} before.requester from f) (ZoneFault 34) None) before items r new
+      IsStep (after_heard s before (heard {A = A} before.requester from f) (report.Zones (zip_report.Fault 34)) None)
+      before
+      items r new
       after → Comes (May now) now items r new after
   is_too_long long step =
       moved (step_comes (May before) before items
-      (after_heard s before (heard {A = A} before.requester from f) (ZoneFault 34) None) r new after
+      (after_heard s before (heard {A = A} before.requester from f) (report.Zones (zip_report.Fault 34)) None) r new
+      after
       (too_long_at s before (heard {A = A} before.requester from f) from (names_read before.reading) p
       (lt-ltb 1024 (length (names_read before.reading) + length p.names) long)) step)
 
@@ -147,7 +160,8 @@ module _ (A : Type 0) (s : Seat) (a : AtpState) (from : Address) (f : Content) w
   pub page_draws : is_page A a from f ≡ true → (p : pages.Page) → pages.Spells (packet_in f).user (packet_in f).data_ p
       → nat_lt 1024 (length (names_read a.reading) + length p.names) ≡ false → p.last ≡ false →
       (n : Option ℕ) → n ≡ next_number (heard {A = A} a.requester from f).after
-      → IfSome n (λ tid. (o : Outcome A AtpState) × AtRequester s a from f o × (o.report ≡ Begun tid))
+      → IfSome n (λ tid. (o : Outcome A AtpState) × AtRequester s a from f o
+      × (o.report ≡ report.Transactions (atp_report.Begun tid)))
   page_draws mine p is few on None e = tt
   page_draws mine p is few on (Some tid) e =
       let h : Heard A = heard a.requester from f in
@@ -195,16 +209,17 @@ module _ (A : Type 0) (s : Seat) (a : AtpState) (from : Address) (f : Content) w
 
   -- what a packet draws is told as the beginning of a transaction
   pub draws_by_beginning : (o : Outcome A AtpState) → AtRequester s a from f o → (draw : Draw) → drawn_by o.report
-      ≡ Some draw → (tid : ℕ) × (o.report ≡ Begun tid) × (draw ≡ Tid tid)
+      ≡ Some draw → (tid : ℕ) × (o.report ≡ report.Transactions (atp_report.Begun tid)) × (draw ≡ Tid tid)
   draws_by_beginning o at draw is = go (is_page A a from f) refl
     where
-      nothing : drawn_by o.report ≡ None → (tid : ℕ) × (o.report ≡ Begun tid) × (draw ≡ Tid tid)
+      nothing : drawn_by o.report ≡ None → (tid : ℕ) × (o.report ≡ report.Transactions (atp_report.Begun tid))
+          × (draw ≡ Tid tid)
       nothing none = let both : None ≡ Some draw = sym none ∙ is in absurd (cc)
 
       taken : (p : pages.Page) (long last : Bool) → nat_lt 1024 (length (names_read a.reading) + length p.names) ≡ long
           → p.last ≡ last →
           TakesPage s a (heard {A = A} a.requester from f) from (names_read a.reading) p o → (tid : ℕ)
-          × (o.report ≡ Begun tid) × (draw ≡ Tid tid)
+          × (o.report ≡ report.Transactions (atp_report.Begun tid)) × (draw ≡ Tid tid)
       taken p true last e g t = nothing (ap (λ (x : Outcome A AtpState). drawn_by x.report) (rw e at t))
       taken p false true e g t = nothing (ap (λ (x : Outcome A AtpState). drawn_by x.report) (rw (e, g) at t))
       taken p false false e g t =
@@ -215,12 +230,13 @@ module _ (A : Type 0) (s : Seat) (a : AtpState) (from : Address) (f : Content) w
           (asked.tid, tells, cc)
 
       had : ReadsPage s a (heard {A = A} a.requester from f) from (names_read a.reading) (packet_in f) o → (tid : ℕ)
-          × (o.report ≡ Begun tid) × (draw ≡ Tid tid)
+          × (o.report ≡ report.Transactions (atp_report.Begun tid)) × (draw ≡ Tid tid)
       had (inl h) = taken h.page (nat_lt 1024 (length (names_read a.reading) + length h.page.names)) h.page.last refl
           refl h.outcome
       had (inr h) = nothing (ap (λ (x : Outcome A AtpState). drawn_by x.report) h.outcome)
 
-      go : (b : Bool) → is_page A a from f ≡ b → (tid : ℕ) × (o.report ≡ Begun tid) × (draw ≡ Tid tid)
+      go : (b : Bool) → is_page A a from f ≡ b → (tid : ℕ) × (o.report ≡ report.Transactions (atp_report.Begun tid))
+          × (draw ≡ Tid tid)
       go false e = nothing (only_a_page_begins e o at)
       go true e = had (rw e at at)
 

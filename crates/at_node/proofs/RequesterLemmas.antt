@@ -11,7 +11,8 @@ use Rattle.at_zip.specs.Fault as zip
 use Rattle.at_zip.specs.Page as pages
 use Rattle.at_zip.specs.declared.fault.ZipFault.{ZipFault}
 use Rattle.at_event.specs.declared.report.Report.{Report}
-use Rattle.at_event.specs.declared.report.Report.TheVariants.{ZoneFault}
+use Rattle.at_event.specs.declared.report.Report.TheVariants as report
+use Rattle.at_event.specs.declared.reports.ZoneReport.TheVariants as zip_report
 use Rattle.at_event.specs.declared.seat.Seat.{Seat}
 use Rattle.at_event.specs.declared.service.Reply.{Reply}
 use Rattle.at_node.specs.AtpHearing.{AtSocket, Requester}
@@ -84,10 +85,12 @@ module _ {A : Type 0} (said : Reply A) (s : Seat) (a : AtpState) (from : Address
 
   pub comes_fault : (fault : ZipFault) (number : ℕ) → zip.IsFirstFault fault (packet_in f).user (packet_in f).data_
       → zip.number_of fault ≡ Some number →
-      IsStep (after_heard s a (heard {A = A} a.requester from f) (ZoneFault number) None) a before r new after
+      IsStep (after_heard s a (heard {A = A} a.requester from f) (report.Zones (zip_report.Fault number)) None) a before
+      r
+      new after
       → Comes (AtSocket said s a from (Some Requester) f) a before r new after
   comes_fault fault number first is =
       step_comes (AtSocket said s a from (Some Requester) f) a before
-      (after_heard s a (heard {A = A} a.requester from f) (ZoneFault number) None) r new after
-      (page_at (after_heard s a (heard {A = A} a.requester from f) (ZoneFault number) None)
+      (after_heard s a (heard {A = A} a.requester from f) (report.Zones (zip_report.Fault number)) None) r new after
+      (page_at (after_heard s a (heard {A = A} a.requester from f) (report.Zones (zip_report.Fault number)) None)
       (inr (record { fault = fault; number = number; first = first; numbered = is; outcome = refl })))

@@ -20,7 +20,9 @@ use Rattle.at_zip.specs.Request.{RequestSpells}
 use Rattle.at_zip.specs.Tables.{Tables, table_of}
 use Rattle.at_zip.specs.declared.request.Which.{Which}
 use Rattle.at_event.specs.declared.report.Report.{Report}
-use Rattle.at_event.specs.declared.report.Report.TheVariants.{Asked, Ignored}
+use Rattle.at_event.specs.declared.report.Report.TheVariants.{Ignored}
+use Rattle.at_event.specs.declared.report.Report.TheVariants as report
+use Rattle.at_event.specs.declared.reports.TransactionReport.TheVariants as atp_report
 use Rattle.at_event.specs.declared.seat.Seat.{Seat}
 use Rattle.at_event.specs.declared.service.Reply.{Reply}
 use Rattle.at_node.specs.AtpHearing.{HearsAt, HearsAtpFault, AtSocket, Service, Zones}
@@ -35,7 +37,7 @@ use Rattle.at_node.proofs.OutcomeLemmas.{comes_with}
 -- the service was not called
 pub not_served : {A S : Type 0} (serves : S → Key → List ℕ → List ℕ → Reply A → S → Type 0) (r : Report A)
     (said : Reply A) (s : S) → is_asked r ≡ false → Serves serves r said s s
-not_served serves (Asked key user bytes) said s h = absurd (true≢false h)
+not_served serves (report.Transactions (atp_report.Asked key user bytes)) said s h = absurd (true≢false h)
 not_served serves r said s h = refl
 
 pub not_release : (f : Frame) → ((tid : ℕ) → f ≡ frames.Release tid → ⊥) → is_release (Frames.content f) ≡ false

@@ -14,6 +14,7 @@ use Rattle.at_name_socket.specs.declared.claim.Claim.{Claim}
 use Rattle.at_event.specs.Outcomes.{Comes, Exactly, IsStep, Outcome, Through, refused_as, takes_memory, wants_memory}
 use Rattle.at_event.specs.declared.report.Report.{Report}
 use Rattle.at_event.specs.declared.report.Report.TheVariants as report
+use Rattle.at_event.specs.declared.reports.NameReport.TheVariants as nbp_report
 use Rattle.at_session.specs.Sessions.{SessionState, finds_kept, list_kept}
 use Rattle.at_node.specs.AtpParts.{AtpState}
 use Rattle.at_node.specs.NameCalls.{finish_called, finished_as, told_of}
@@ -31,7 +32,7 @@ module _ (A : Type 0) (n : SocketState) (id : ℕ) where
   -- the report of the end of a lookup, by what is open
   abbrev end_report : Option Search → Option Claim → Option NbpFault → Report A
   end_report x y (Some fault) = refused_as (number_of fault)
-  end_report None y None = report.Found []
+  end_report None y None = report.Names (nbp_report.Found [])
   end_report (Some search) y None = told_of (ended {A = A} n id search.finds y).finished
 
   is_end : (fault : Option NbpFault) (x : Option Search) → search_of n.lookups id ≡ x
@@ -40,12 +41,15 @@ module _ (A : Type 0) (n : SocketState) (id : ℕ) where
   is_end None None e = ap (λ (o : Option Search). told_of (ending {A = A} n id o).finished) e
   is_end None (Some search) e = ap (λ (o : Option Search). told_of (ending {A = A} n id o).finished) e
 
-  no_refusal : (number : Option ℕ) (found : List Find) → ◌≡◌ {A = Report A} (refused_as number) (report.Found found)
+  no_refusal : (number : Option ℕ) (found : List Find)
+      → ◌≡◌ {A = Report A} (refused_as number) (report.Names (nbp_report.Found found))
       → {P : Type 0} → P
   no_refusal None found h = absurd (cc)
   no_refusal (Some k) found h = absurd (cc)
 
-  finds_same : (finds found : List Find) → ◌≡◌ {A = Report A} (report.Found finds) (report.Found found) → finds ≡ found
+  finds_same : (finds found : List Find)
+      → ◌≡◌ {A = Report A} (report.Names (nbp_report.Found finds)) (report.Names (nbp_report.Found found))
+      → finds ≡ found
   finds_same finds found h = cc
 
   -- a claim finds nothing that is kept
@@ -59,13 +63,13 @@ module _ (A : Type 0) (n : SocketState) (id : ℕ) where
   claim_report search claim None = refl
 
   claim_finds_none : (search : Search) (claim : Claim) (t : Option Find) (fault : Option NbpFault) (found : List Find)
-      → end_claim_report claim t fault ≡ report.Found found → {P : Type 0} → P
+      → end_claim_report claim t fault ≡ report.Names (nbp_report.Found found) → {P : Type 0} → P
   claim_finds_none search claim t (Some fault) found h = no_refusal (number_of fault) found h
   claim_finds_none search claim (Some f) None found h = absurd (cc)
   claim_finds_none search claim None None found h = absurd (cc)
 
   told_so : (x : Option Search) (y : Option Claim) (found : List Find) → end_report x y (fault_of n x y)
-      ≡ report.Found found → told_at_end x y ≡ Some found
+      ≡ report.Names (nbp_report.Found found) → told_at_end x y ≡ Some found
   told_so None y found h = no_refusal (number_of NoSuchLookup) found h
   told_so (Some search) None found h = ap Some (finds_same search.finds found h)
   told_so (Some search) (Some claim) found h = claim_finds_none search claim (taker n search.finds claim)
@@ -74,7 +78,7 @@ module _ (A : Type 0) (n : SocketState) (id : ℕ) where
 
   -- what the end tells is what was found
   pub finds_are_told : (r : Report A) (new : SocketState) → IsStep (finish_called n id) n [] r new []
-      → (found : List Find) → r ≡ report.Found found → finds_told n id ≡ Some found
+      → (found : List Find) → r ≡ report.Names (nbp_report.Found found) → finds_told n id ≡ Some found
   finds_are_told r new step found tells =
       let exactly : Exactly (finish_called {A = A} n id) [] r new [] =
       subst (λ (b : Bool). MatchBool b

@@ -8,18 +8,21 @@ use Rattle.at_atp_requester.specs.Requests.{Transaction, is_numbered, retried_wi
 use Rattle.at_event.specs.Outcomes.{over}
 use Rattle.at_event.specs.declared.event.Timer.{Timer}
 use Rattle.at_event.specs.declared.event.Timer.TheVariants as timer
+use Rattle.at_event.specs.declared.timers.TransactionTimer.TheVariants as atp_timer
+use Rattle.at_event.specs.declared.timers.NameTimer.TheVariants as nbp_timer
 use Rattle.at_nbp.specs.Lookups.{Search, has_id, search_of}
 use Rattle.at_node.specs.NameCalls.{asked_again}
 use Rattle.at_node.specs.Nodes.{NodeState, timed, with_atp, with_names}
 use Rattle.at_node.specs.RequesterSocket.{retry_fired}
-use Rattle.at_node.specs.Timers.{Acts, lookups, retries}
+use Rattle.at_node.specs.Timers.{Acts, lookup_of, lookups, retries, retry_of}
 use Rattle.at_node.specs.ZoneReading.{after_failing, is_reading}
 use Rattle.at_node.proofs.MemberLemmas.{There, seen_there, there_found, without_differs}
 
 -- ---- retries
 
 pub retry_acts : (A : Type 0) (n : NodeState) (tid : ℕ) (t : Transaction)
-    → find (is_numbered tid) n.atp.requester.standing ≡ Some t → Acts n (timed {A = A} n (timer.Retry tid))
+    → find (is_numbered tid) n.atp.requester.standing ≡ Some t
+    → Acts n (timed {A = A} n (timer.Transactions (atp_timer.Retry tid)))
 retry_acts A n tid t is = rw is (go t.retries)
   where
     failed : (b : Bool) → Acts n (over (with_atp n) (after_failing {A = A} n.atp tid (record n.atp.requester {
@@ -41,7 +44,8 @@ retry_acts A n tid t is = rw is (go t.retries)
     go zero = failed (is_reading n.atp.reading tid)
     go (suc k) = record { not_refused = refl; does = inr (λ e. absurd (cc)) }
 
-pub acts_retry : (A : Type 0) (n : NodeState) (tid : ℕ) → Acts n (timed {A = A} n (timer.Retry tid)) → (t : Transaction)
+pub acts_retry : (A : Type 0) (n : NodeState) (tid : ℕ)
+    → Acts n (timed {A = A} n (timer.Transactions (atp_timer.Retry tid))) → (t : Transaction)
     × (find (is_numbered tid) n.atp.requester.standing ≡ Some t)
 acts_retry A n tid h = go (find (is_numbered tid) n.atp.requester.standing) refl h
   where
@@ -55,7 +59,7 @@ acts_retry A n tid h = go (find (is_numbered tid) n.atp.requester.standing) refl
 pub retries_act : (A : Type 0) (n : NodeState) (t : Timer) → There (retries n.atp.requester.standing) t
     → Acts n (timed {A = A} n t)
 retries_act A n t h =
-    let one = seen_there (λ (x : Transaction). timer.Retry x.tid) n.atp.requester.standing t h in
+    let one = seen_there (λ (x : Transaction). retry_of x.tid) n.atp.requester.standing t h in
     let found = there_found (is_numbered (one.0).tid) n.atp.requester.standing one.0 one.1
     (eq-eqb (one.0).tid (one.0).tid refl) in
     subst (λ (x : Timer). Acts n (timed {A = A} n x)) one.2 (retry_acts A n (one.0).tid found.0 found.1)
@@ -63,10 +67,11 @@ retries_act A n t h =
 -- ---- lookups
 
 pub lookup_acts : (A : Type 0) (n : NodeState) (id : ℕ) (s : Search) → search_of n.names.lookups id ≡ Some s
-    → Acts n (timed {A = A} n (timer.Lookup id))
+    → Acts n (timed {A = A} n (timer.Names (nbp_timer.Lookup id)))
 lookup_acts A n id s is = rw is (record { not_refused = refl; does = inr (λ e. absurd (cc)) })
 
-pub acts_lookup : (A : Type 0) (n : NodeState) (id : ℕ) → Acts n (timed {A = A} n (timer.Lookup id)) → (s : Search)
+pub acts_lookup : (A : Type 0) (n : NodeState) (id : ℕ) → Acts n (timed {A = A} n (timer.Names (nbp_timer.Lookup id)))
+    → (s : Search)
     × (search_of n.names.lookups id ≡ Some s)
 acts_lookup A n id h = go (search_of n.names.lookups id) refl h
   where
@@ -79,7 +84,7 @@ acts_lookup A n id h = go (search_of n.names.lookups id) refl h
 pub lookups_act : (A : Type 0) (n : NodeState) (t : Timer) → There (lookups n.names.lookups.searches) t
     → Acts n (timed {A = A} n t)
 lookups_act A n t h =
-    let one = seen_there (λ (x : Search). timer.Lookup x.id) n.names.lookups.searches t h in
+    let one = seen_there (λ (x : Search). lookup_of x.id) n.names.lookups.searches t h in
     let found = there_found (has_id (one.0).id) n.names.lookups.searches one.0 one.1
     (eq-eqb (one.0).id (one.0).id refl) in
     subst (λ (x : Timer). Acts n (timed {A = A} n x)) one.2 (lookup_acts A n (one.0).id found.0 found.1)

@@ -12,7 +12,8 @@ use Rattle.at_atp_requester.specs.Requests.{Heard, Requests, Transaction, came, 
 use Rattle.at_atp_requester.specs.Requests.{is_at_least_once, is_finished, is_of, next_number, response_came, was_kept}
 use Rattle.at_zip.specs.Page as pages
 use Rattle.at_event.specs.Outcomes.{Outcome}
-use Rattle.at_event.specs.declared.report.Report.TheVariants.{Begun}
+use Rattle.at_event.specs.declared.report.Report.TheVariants as report
+use Rattle.at_event.specs.declared.reports.TransactionReport.TheVariants as atp_report
 use Rattle.at_event.specs.declared.seat.Seat.{Seat}
 use Rattle.at_node.specs.AtpParts.{AtpState, Reading, packet_in}
 use Rattle.at_node.specs.Numbers.{Completes, TurnsPage, drawn_by}
@@ -98,7 +99,8 @@ module _ (A : Type 0) (r : Requests) (from : Address) (tid place : ℕ) (part : 
 
 module _ (A : Type 0) (s : Seat) (a : AtpState) (from : Address) (f : Content) where
   abbrev Begins : ℕ → Type 0
-  Begins tid = (o : Outcome A AtpState) × AtRequester s a from f o × (o.report ≡ Begun tid)
+  Begins tid =
+      (o : Outcome A AtpState) × AtRequester s a from f o × (o.report ≡ report.Transactions (atp_report.Begun tid))
 
   -- a page that makes the next one be asked for begins its transaction
   pub turning_begins : (tid : ℕ) → TurnsPage a from f tid → Begins tid
@@ -187,7 +189,8 @@ module _ (A : Type 0) (s : Seat) (a : AtpState) (from : Address) (f : Content) w
       taken mine p spelled false false e g t =
           let asked : AsksOn s a (heard {A = A} a.requester from f) from (names_read a.reading ++ p.names) o =
           rw (e, g) at t in
-          let both : Begun asked.tid ≡ Begun tid = sym (ap (λ (x : Outcome A AtpState). x.report) asked.outcome)
+          let both : report.Transactions (atp_report.Begun asked.tid) ≡ report.Transactions (atp_report.Begun tid) =
+          sym (ap (λ (x : Outcome A AtpState). x.report) asked.outcome)
           ∙ is in
           let same : asked.tid ≡ tid = cc in
           by_packet f refl mine p spelled e g tid (asked.drawn ∙ ap Some same)
@@ -204,7 +207,7 @@ module _ (A : Type 0) (s : Seat) (a : AtpState) (from : Address) (f : Content) w
       go true e = had e (rw e at at)
 
   abbrev BeginsOrNot : Outcome A AtpState → Type 0
-  BeginsOrNot o = (drawn_by o.report ≡ None) ⊎ ((tid : ℕ) × (o.report ≡ Begun tid))
+  BeginsOrNot o = (drawn_by o.report ≡ None) ⊎ ((tid : ℕ) × (o.report ≡ report.Transactions (atp_report.Begun tid)))
 
   -- what a packet makes the requester report draws no number, or begins a transaction
   pub begins_or_not : (o : Outcome A AtpState) → AtRequester s a from f o → BeginsOrNot o

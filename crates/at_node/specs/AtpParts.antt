@@ -11,6 +11,7 @@ use Rattle.at_zip.specs.Tables.{Tables}
 use Rattle.at_zip.specs.declared.request.Which.{Which}
 use Rattle.at_event.specs.declared.report.Report.{Report}
 use Rattle.at_event.specs.declared.report.Report.TheVariants as report
+use Rattle.at_event.specs.declared.reports.TransactionReport.TheVariants as atp_report
 use Rattle.at_event.specs.declared.seat.Seat.{Seat}
 use Rattle.at_event.specs.Outcomes.{Outcome, sent_by}
 
@@ -59,7 +60,7 @@ tid_of (Release tid) = tid
 -- a transaction begins, and its request is sent
 abbrev pub asks : {A : Type 0} → Seat → AtpState → Option Reading → Transaction → Outcome A AtpState
 asks s a reading t = record {
-  report = report.Begun t.tid;
+  report = report.Transactions (atp_report.Begun t.tid);
   state = record a { reading = reading; requester = begun a.requester t };
   out = sent_by (asking s.net s.number) atp_kind ((t.to, spelled (request_by t)) ∷ []);
 }

@@ -16,6 +16,7 @@ use Rattle.at_name_socket.specs.declared.step.Finished.{Finished}
 use Rattle.at_name_socket.specs.declared.step.Finished.TheVariants as finished
 use Rattle.at_event.specs.declared.report.Report.{Report}
 use Rattle.at_event.specs.declared.report.Report.TheVariants as report
+use Rattle.at_event.specs.declared.reports.NameReport.TheVariants as nbp_report
 use Rattle.at_event.specs.declared.seat.Seat.{Seat}
 use Rattle.at_event.specs.Outcomes.{Outcome, Outgoing, idle, refused_as, sent_by}
 
@@ -35,7 +36,7 @@ refused_by n fault = idle n (refused_as (number_of fault))
 -- a lookup begins under this identifier, which asks by this question
 abbrev pub looks_up : {A : Type 0} → Seat → SocketState → ℕ → Name → SocketState → Outcome A SocketState
 looks_up s n id pattern new = record {
-  report = report.Looking id;
+  report = report.Names (nbp_report.Looking id);
   state = new;
   out = sent_of s (sent_question n.lookups (beginning id pattern) ∷ []);
 }
@@ -62,9 +63,9 @@ claim_called s n object kind socket =
 
 -- the report of the end of a lookup
 abbrev pub told_of : {A : Type 0} → Finished A → Report A
-told_of (finished.Found finds) = report.Found finds
-told_of finished.Claimed = report.Claimed
-told_of (finished.Taken f) = report.Taken f
+told_of (finished.Found finds) = report.Names (nbp_report.Found finds)
+told_of finished.Claimed = report.Names nbp_report.Claimed
+told_of (finished.Taken f) = report.Names (nbp_report.Taken f)
 
 abbrev pub finished_as : {A : Type 0} → SocketState → ℕ → Option NbpFault → Outcome A SocketState
 finished_as n id (Some fault) = refused_by n fault
@@ -91,7 +92,7 @@ lookup_fired s n id = asked_again s n (search_of n.lookups id)
 abbrev pub registered_as : {A : Type 0} → SocketState → List ℕ → List ℕ → ℕ → Option NbpFault → Outcome A SocketState
 registered_as n object kind socket (Some fault) = refused_by n fault
 registered_as n object kind socket None =
-    becomes report.Registered (record n { table = registered n.table object kind socket })
+    becomes (report.Names nbp_report.Registered) (record n { table = registered n.table object kind socket })
 
 -- the node's user registers a name of a socket
 abbrev pub register_called : {A : Type 0} → SocketState → List ℕ → List ℕ → ℕ → Outcome A SocketState
@@ -105,7 +106,7 @@ without_name n object kind =
 
 abbrev pub unregistered_as : {A : Type 0} → SocketState → List ℕ → List ℕ → Option Registered → Outcome A SocketState
 unregistered_as n object kind None = refused_by n NoSuchName
-unregistered_as n object kind (Some name) = becomes report.Unregistered (without_name n object kind)
+unregistered_as n object kind (Some name) = becomes (report.Names nbp_report.Unregistered) (without_name n object kind)
 
 -- the node's user takes a name away
 abbrev pub unregister_called : {A : Type 0} → SocketState → List ℕ → List ℕ → Outcome A SocketState

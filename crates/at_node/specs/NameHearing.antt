@@ -9,6 +9,7 @@ use Rattle.at_name_socket.specs.declared.step.Heard.{Heard}
 use Rattle.at_name_socket.specs.declared.step.Heard.TheVariants as heard
 use Rattle.at_event.specs.declared.report.Report.{Report}
 use Rattle.at_event.specs.declared.report.Report.TheVariants as report
+use Rattle.at_event.specs.declared.reports.NameReport.TheVariants as nbp_report
 use Rattle.at_event.specs.declared.seat.Seat.{Seat}
 use Rattle.at_node.specs.NameCalls.{sent_of}
 use Rattle.at_event.specs.Outcomes.{Outcome, idle}
@@ -16,9 +17,9 @@ use Rattle.at_event.specs.Outcomes.{Outcome, idle}
 -- the report of what came of a packet
 abbrev pub told_by : {A : Type 0} → Heard → Report A
 told_by heard.Ignored = report.Ignored
-told_by heard.Relayed = report.Relayed
-told_by (heard.Answered count) = report.Names count
-told_by (heard.Kept count) = report.Finds count
+told_by heard.Relayed = report.Names nbp_report.Relayed
+told_by (heard.Answered count) = report.Names (nbp_report.Matched count)
+told_by (heard.Kept count) = report.Names (nbp_report.Added count)
 
 -- the data begins with a packet, and this is what it does
 pub record HearsName {A : Type 0} (s : Seat) (n : SocketState) (bytes : List ℕ) (o : Outcome A SocketState)

@@ -22,6 +22,9 @@ use Rattle.at_event.specs.declared.event.Call.{Call}
 use Rattle.at_event.specs.declared.event.Call.TheVariants.{Transactions, Zones, Names, Streams, Session}
 use Rattle.at_event.specs.declared.event.Timer.{Timer}
 use Rattle.at_event.specs.declared.event.Timer.TheVariants as timer
+use Rattle.at_event.specs.declared.timers.TransactionTimer.TheVariants as atp_timer
+use Rattle.at_event.specs.declared.timers.NameTimer.TheVariants as nbp_timer
+use Rattle.at_event.specs.declared.timers.StreamTimer.TheVariants as adsp_timer
 use Rattle.at_event.specs.declared.seat.Seat.{Seat}
 use Rattle.at_node.specs.AtpParts as atp
 use Rattle.at_node.specs.AtpParts.{AtpState}
@@ -126,8 +129,9 @@ called n (Streams call) = over (with_streams n) (stream_called n.seat n.streams 
 called n (Session call) = over (with_session n) (session_called n.session call)
 
 abbrev pub timed : {A : Type 0} → NodeState → Timer → Outcome A NodeState
-timed n (timer.Retry tid) = over (with_atp n) (retry_fired n.seat n.atp tid (retried n.atp.requester tid))
-timed n (timer.Release own key) = over (with_atp n) (release_fired n.atp own key)
-timed n (timer.Lookup id) = over (with_names n) (lookup_fired n.seat n.names id)
-timed n (timer.Resend id) = over (with_streams n) (tick_fired n.seat n.streams id tick.Retransmit)
-timed n (timer.Probe id) = over (with_streams n) (tick_fired n.seat n.streams id tick.Probe)
+timed n (timer.Transactions (atp_timer.Retry tid)) =
+    over (with_atp n) (retry_fired n.seat n.atp tid (retried n.atp.requester tid))
+timed n (timer.Transactions (atp_timer.Release own key)) = over (with_atp n) (release_fired n.atp own key)
+timed n (timer.Names (nbp_timer.Lookup id)) = over (with_names n) (lookup_fired n.seat n.names id)
+timed n (timer.Streams (adsp_timer.Resend id)) = over (with_streams n) (tick_fired n.seat n.streams id tick.Retransmit)
+timed n (timer.Streams (adsp_timer.Probe id)) = over (with_streams n) (tick_fired n.seat n.streams id tick.Probe)

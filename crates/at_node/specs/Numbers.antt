@@ -34,6 +34,9 @@ use Rattle.at_event.specs.declared.event.Call.{Call}
 use Rattle.at_event.specs.declared.event.Call.TheVariants.{Transactions, Zones, Names, Streams, Session}
 use Rattle.at_event.specs.declared.report.Report.{Report}
 use Rattle.at_event.specs.declared.report.Report.TheVariants as report
+use Rattle.at_event.specs.declared.reports.TransactionReport.TheVariants as atp_report
+use Rattle.at_event.specs.declared.reports.NameReport.TheVariants as nbp_report
+use Rattle.at_event.specs.declared.reports.StreamReport.TheVariants as adsp_report
 use Rattle.at_event.specs.declared.service.Reply.{Reply}
 use Rattle.at_session.specs.Sessions.{address_at}
 use Rattle.at_node.specs.AtpParts.{AtpState, Reading}
@@ -46,10 +49,10 @@ use Rattle.at_node.specs.declared.numbers.Input.TheVariants as input
 
 -- the number that the node drew, if this is its report
 abbrev pub drawn_by : {A : Type 0} → Report A → Option Draw
-drawn_by (report.Begun tid) = Some (Tid tid)
-drawn_by (report.Looking id) = Some (Lookup id)
-drawn_by (report.Opening id) = Some (Conn id)
-drawn_by (report.Made id) = Some (Conn id)
+drawn_by (report.Transactions (atp_report.Begun tid)) = Some (Tid tid)
+drawn_by (report.Names (nbp_report.Looking id)) = Some (Lookup id)
+drawn_by (report.Streams (adsp_report.Opening id)) = Some (Conn id)
+drawn_by (report.Streams (adsp_report.Made id)) = Some (Conn id)
 drawn_by other = None
 
 -- the next number of a transaction, the next identifier of a lookup, and the next of an end

@@ -13,6 +13,7 @@ use Rattle.at_atp_requester.specs.declared.step.Step.{Step}
 use Rattle.at_atp_requester.specs.declared.step.Step.TheVariants as step
 use Rattle.at_event.specs.declared.report.Report.{Report}
 use Rattle.at_event.specs.declared.report.Report.TheVariants as report
+use Rattle.at_event.specs.declared.reports.TransactionReport.TheVariants as atp_report
 use Rattle.at_event.specs.declared.seat.Seat.{Seat}
 use Rattle.at_node.specs.AtpParts.{AtpState, asking, asks, after_heard, packet_in, tid_of}
 use Rattle.at_event.specs.Outcomes.{Outcome, idle, sent_by, refused_as}
@@ -52,9 +53,9 @@ retry_fired s a tid (Some r) = after_retry s a tid r r.step
 -- the report of a step of a transaction, unless it ends by the page of a reading
 abbrev pub reported_other : {A : Type 0} → ℕ → Step A → Report A
 reported_other tid step.Ignored = report.Ignored
-reported_other tid step.Kept = report.Kept
+reported_other tid step.Kept = report.Transactions atp_report.Kept
 reported_other tid step.AskAgain = report.Again
-reported_other tid (step.Finished packets) = report.Response tid packets
+reported_other tid (step.Finished packets) = report.Transactions (atp_report.Response tid packets)
 
 abbrev pub hears_other : {A : Type 0} → Seat → AtpState → ℕ → Heard A → Outcome A AtpState
 hears_other s a tid h = after_heard s a h (reported_other tid h.step) a.reading

@@ -10,6 +10,7 @@ use Rattle.at_atp_responder.specs.declared.reception.Reception.{Reception}
 use Rattle.at_atp_responder.specs.declared.reception.Reception.TheVariants as reception
 use Rattle.at_event.specs.declared.report.Report.{Report}
 use Rattle.at_event.specs.declared.report.Report.TheVariants as report
+use Rattle.at_event.specs.declared.reports.TransactionReport.TheVariants as atp_report
 use Rattle.at_node.specs.AtpParts.{AtpState}
 use Rattle.at_event.specs.Outcomes.{Outcome, idle, refused_as}
 
@@ -18,7 +19,7 @@ is_release (Release tid) = true
 is_release other = false
 
 abbrev pub released_report : {A : Type 0} → Reception → Report A
-released_report reception.Released = report.Released
+released_report reception.Released = report.Transactions atp_report.Released
 released_report other = report.Ignored
 
 -- ---- the release timer
@@ -36,7 +37,7 @@ with_records_at a socket rs =
 abbrev pub expired : {A : Type 0} → AtpState → ℕ → Key → Option AtpFault → Outcome A AtpState
 expired a socket key (Some fault) = idle a (refused_as (number_of fault))
 expired a socket key None = record {
-  report = report.Expired;
+  report = report.Transactions atp_report.Expired;
   state = with_records_at a socket (without_first (is_key key) (records_at a socket));
   out = [];
 }

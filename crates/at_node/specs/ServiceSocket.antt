@@ -14,6 +14,7 @@ use Rattle.at_atp_responder.specs.declared.reception.Reception.{Reception}
 use Rattle.at_atp_responder.specs.declared.reception.Reception.TheVariants as reception
 use Rattle.at_event.specs.declared.report.Report.{Report}
 use Rattle.at_event.specs.declared.report.Report.TheVariants as report
+use Rattle.at_event.specs.declared.reports.TransactionReport.TheVariants as atp_report
 use Rattle.at_event.specs.declared.seat.Seat.{Seat}
 use Rattle.at_event.specs.declared.service.Reply.{Reply}
 use Rattle.at_event.specs.declared.service.Reply.TheVariants as reply
@@ -27,7 +28,8 @@ use Rattle.at_node.specs.Responders.{released_report}
 abbrev pub answered_with : {A : Type 0} → Seat → AtpState → Key → List Packet → Option AtpFault → Outcome A AtpState
 answered_with s a key packets (Some fault) = idle a (refused_as (number_of fault))
 answered_with s a key packets None = record {
-  report = report.Answered (length (asked_for (find (is_key key) a.service_responder) key packets));
+  report = report.Transactions
+      (atp_report.Answered (length (asked_for (find (is_key key) a.service_responder) key packets)));
   state = record a { service_responder = after_answer a.service_responder key packets };
   out = sent_by (serving s.net s.number) atp_kind
       (spelled_all (asked_for (find (is_key key) a.service_responder) key packets));
@@ -57,7 +59,7 @@ sent_by_reply rs key (reply.Now packets) = asked_for (find (is_key key) rs) key 
 -- a new request is delivered to the service, which answers it now or later
 abbrev pub handed_up : {A : Type 0} → Seat → AtpState → Taken → Key → List ℕ → List ℕ → Reply A → Outcome A AtpState
 handed_up s a t key user bytes r = record {
-  report = report.Asked key user bytes;
+  report = report.Transactions (atp_report.Asked key user bytes);
   state = record a { service_responder = after_reply t.after key r };
   out = sent_by (serving s.net s.number) atp_kind (spelled_all (sent_by_reply t.after key r));
 }
@@ -66,7 +68,7 @@ abbrev pub at_service : {A : Type 0} → Seat → AtpState → Taken → List �
     → Outcome A AtpState
 at_service s a t user bytes said reception.Ignored = service_taken s a t report.Ignored
 at_service s a t user bytes said (reception.Again count) = service_taken s a t report.Again
-at_service s a t user bytes said reception.Released = service_taken s a t report.Released
+at_service s a t user bytes said reception.Released = service_taken s a t (report.Transactions atp_report.Released)
 at_service s a t user bytes said (reception.New key) = handed_up s a t key user bytes said
 
 -- a request came for the service, which would reply this to a new one

@@ -4,6 +4,7 @@ use Rattle.std.specs.Prelude.{◌≡◌, ◌≢◌, ◌⊎◌, ◌+◌, ◌≤�
 use Rattle.std.specs.Prelude.{option_map, [], Result, IsOk, OnErr, OnOk, Vec, vec_capacity, vec_len}
 use Rattle.at_atp_requester.specs.Requests.{Transaction}
 use Rattle.at_atp_responder.specs.Records.{Record, expiring_key}
+use Rattle.at_atp_responder.specs.declared.reception.Key.{Key}
 use Rattle.at_nbp.specs.Lookups.{Search}
 use Rattle.at_adsp_end.specs.Ends.{EndState}
 use Rattle.at_adsp_end.specs.declared.tick.Tick.{Tick}
@@ -11,26 +12,39 @@ use Rattle.at_adsp_end.specs.declared.tick.Tick.TheVariants as tick
 use Rattle.at_adsp_ends.specs.Calls.{heeding}
 use Rattle.at_event.specs.declared.event.Timer.{Timer}
 use Rattle.at_event.specs.declared.event.Timer.TheVariants as timer
+use Rattle.at_event.specs.declared.timers.TransactionTimer.TheVariants as atp_timer
+use Rattle.at_event.specs.declared.timers.NameTimer.TheVariants as nbp_timer
+use Rattle.at_event.specs.declared.timers.StreamTimer.TheVariants as adsp_timer
 use Rattle.at_event.specs.declared.report.Report.{Report}
 use Rattle.at_event.specs.declared.report.Report.TheVariants as report
 use Rattle.at_event.specs.Outcomes.{Outcome}
 use Rattle.at_node.specs.Nodes.{NodeState}
 
+-- the timers of a transaction, of a record at a socket, and of a lookup
+abbrev pub retry_of : ℕ → Timer
+retry_of tid = timer.Transactions (atp_timer.Retry tid)
+
+abbrev pub release_of : ℕ → Key → Timer
+release_of own key = timer.Transactions (atp_timer.Release own key)
+
+abbrev pub lookup_of : ℕ → Timer
+lookup_of id = timer.Names (nbp_timer.Lookup id)
+
 -- the retry of each open transaction
 abbrev pub retries : List Transaction → List Timer
-retries ts = map (λ t. timer.Retry t.tid) ts
+retries ts = map (λ t. retry_of t.tid) ts
 
 -- the release of each record of a socket that was answered or released
 abbrev pub releases : ℕ → List Record → List Timer
-releases own rs = filter_map (λ r. option_map (timer.Release own) (expiring_key r)) rs
+releases own rs = filter_map (λ r. option_map (release_of own) (expiring_key r)) rs
 
 -- the timer of each open lookup
 abbrev pub lookups : List Search → List Timer
-lookups searches = map (λ s. timer.Lookup s.id) searches
+lookups searches = map (λ s. lookup_of s.id) searches
 
 abbrev pub timer_of : Tick → ℕ → Timer
-timer_of tick.Retransmit id = timer.Resend id
-timer_of tick.Probe id = timer.Probe id
+timer_of tick.Retransmit id = timer.Streams (adsp_timer.Resend id)
+timer_of tick.Probe id = timer.Streams (adsp_timer.Probe id)
 
 -- the timer for a tick of each end at which the tick does something
 abbrev pub ticks : Tick → List EndState → List Timer

@@ -19,6 +19,8 @@ use Rattle.at_zip.specs.declared.fault.ZipFault.{ZipFault}
 use Rattle.at_zip.specs.declared.fault.ZipFault.TheVariants.{TooManyZones}
 use Rattle.at_event.specs.declared.report.Report.{Report}
 use Rattle.at_event.specs.declared.report.Report.TheVariants as report
+use Rattle.at_event.specs.declared.reports.TransactionReport.TheVariants as atp_report
+use Rattle.at_event.specs.declared.reports.ZoneReport.TheVariants as zip_report
 use Rattle.at_event.specs.declared.fault.NodeFault.TheVariants.{NoRouter, StillReading}
 use Rattle.at_event.specs.declared.seat.Seat.{Seat}
 use Rattle.at_node.specs.AtpParts.{AtpState, Reading, asks, after_heard, tid_of, zones_at}
@@ -68,16 +70,21 @@ is_page A a from f = is_reading a.reading (tid_of f) && finishes A a.requester f
 -- a transaction ended without an answer; if it read a zone table, the reading ends
 abbrev pub after_failing : {A : Type 0} → AtpState → ℕ → Requests → Bool → Outcome A AtpState
 after_failing a tid after true =
-    record { report = report.ZonesFailed; state = record a { reading = None; requester = after }; out = [] }
+    record {
+      report = report.Zones zip_report.Unanswered;
+      state = record a { reading = None; requester = after };
+      out =
+          [];
+    }
 after_failing a tid after false =
-    record { report = report.Failed tid; state = record a { requester = after }; out = [] }
+    record { report = report.Transactions (atp_report.Failed tid); state = record a { requester = after }; out = [] }
 
 -- ---- the page
 
 -- the report of a page that is refused, by the number of its fault
 abbrev pub faulted_as : {A : Type 0} → Option ℕ → Report A
 faulted_as None = report.NoMemory
-faulted_as (Some number) = report.ZoneFault number
+faulted_as (Some number) = report.Zones (zip_report.Fault number)
 
 -- the same responder is asked for the page after these names
 pub record AsksOn {A : Type 0} (s : Seat) (a : AtpState) (h : Heard A) (from : Address) (names : List (List ℕ))
@@ -96,7 +103,8 @@ abbrev pub TakesPage : {A : Type 0} → Seat → AtpState → Heard A → Addres
 TakesPage s a h from names p o =
     MatchBool (nat_lt 1024 (length names + length p.names))
     (o ≡ after_heard s a h (faulted_as (zip.number_of TooManyZones)) None)
-    (MatchBool p.last (o ≡ after_heard s a h (report.Zones (table_read a.reading) (names ++ p.names)) None)
+    (MatchBool p.last
+    (o ≡ after_heard s a h (report.Zones (zip_report.List (table_read a.reading) (names ++ p.names))) None)
     (AsksOn s a h from (names ++ p.names) o))
 
 pub record HasPage {A : Type 0} (s : Seat) (a : AtpState) (h : Heard A) (from : Address) (names : List (List ℕ))
@@ -111,7 +119,7 @@ pub record HasPageFault {A : Type 0} (s : Seat) (a : AtpState) (h : Heard A) (p 
   pub number : ℕ
   pub first : zip.IsFirstFault fault p.user p.data_
   pub numbered : zip.number_of fault ≡ Some number
-  pub outcome : o ≡ after_heard s a h (report.ZoneFault number) None
+  pub outcome : o ≡ after_heard s a h (report.Zones (zip_report.Fault number)) None
 
 -- what the packet that was asked for does to a reading with these names: its page is taken, or its fault ends the
 -- reading

@@ -19,6 +19,8 @@ use Rattle.at_zip.specs.declared.request.Which.{Which}
 use Rattle.at_zip.specs.declared.fault.ZipFault.{ZipFault}
 use Rattle.at_event.specs.declared.report.Report.{Report}
 use Rattle.at_event.specs.declared.report.Report.TheVariants as report
+use Rattle.at_event.specs.declared.reports.TransactionReport.TheVariants as atp_report
+use Rattle.at_event.specs.declared.reports.ZoneReport.TheVariants as zip_report
 use Rattle.at_event.specs.declared.fault.NodeFault.TheVariants.{NoRouter}
 use Rattle.at_event.specs.declared.seat.Seat.{Seat}
 use Rattle.at_node.specs.AtpParts.{AtpState, zones_at}
@@ -30,8 +32,11 @@ use Rattle.at_node.specs.Responders.{released_report}
 
 abbrev pub table_set : {A : Type 0} → AtpState → Tables → Which → List (List ℕ) → Option ZipFault → Outcome A AtpState
 table_set a tables which names (Some fault) = idle a (refused_as (zip.number_of fault))
-table_set a tables which names None =
-    record { report = report.TableSet; state = record a { tables = Some (with_table which names tables) }; out = [] }
+table_set a tables which names None = record {
+  report = report.Zones zip_report.TableSet;
+  state = record a { tables = Some (with_table which names tables) };
+  out = [];
+}
 
 -- the router gets another zone table in the place of one; no other node has any
 abbrev pub set_zones_called : {A : Type 0} → AtpState → Option Tables → Which → List (List ℕ) → Outcome A AtpState
@@ -47,7 +52,7 @@ page_packet table start = record { user = page_user (page_of table start); data_
 -- a new request for the page from a place on is answered at once
 abbrev pub zone_served : {A : Type 0} → Seat → AtpState → Taken → Key → Packet → Outcome A AtpState
 zone_served s a t key packet = record {
-  report = report.Served (length (asked_for (find (is_key key) t.after) key (packet ∷ [])));
+  report = report.Zones (zip_report.Served (length (asked_for (find (is_key key) t.after) key (packet ∷ []))));
   state = record a { zone_responder = after_answer t.after key (packet ∷ []) };
   out = sent_by (zones_at s.net s.number) atp_kind
       (spelled_all (asked_for (find (is_key key) t.after) key (packet ∷ [])));
@@ -63,7 +68,7 @@ zone_taken s a t r = record {
 abbrev pub at_zones : {A : Type 0} → Seat → AtpState → Taken → Packet → Reception → Outcome A AtpState
 at_zones s a t packet reception.Ignored = zone_taken s a t report.Ignored
 at_zones s a t packet (reception.Again count) = zone_taken s a t report.Again
-at_zones s a t packet reception.Released = zone_taken s a t report.Released
+at_zones s a t packet reception.Released = zone_taken s a t (report.Transactions atp_report.Released)
 at_zones s a t packet (reception.New key) = zone_served s a t key packet
 
 -- a request for the page of a table from a place on came

@@ -13,7 +13,7 @@ use crate::zone_reading::ZoneReading;
 use crate::zone_socket::ZONE_SOCKET;
 use at_atp::{Requester, Responder};
 use at_ddp::{Datagrams, Listed, Pascal};
-use at_event::{Report, Seat, Service};
+use at_event::{Report, Seat, Service, ZoneReport};
 use at_packet::AtpPacket;
 use at_zip::Tables;
 use std::alloc::Allocator;
@@ -77,7 +77,7 @@ impl<A: Allocator + Copy> AtpPart<A> {
             × Comes (HearsAtp said seat self.old packet.now) self.old out.old.items result self.new
             out.new.items
             × Serves S.serves result said service.old service.new }
-        ensures listed { (which : Table) (names : List (List ℕ)) → result ≡ Report.Zones which names
+        ensures listed { (which : Table) (names : List (List ℕ)) → result ≡ Report.Zones (ZoneReport.List which names)
             → list.new ≡ Some names }
     {
         let datagram = packet.datagram();

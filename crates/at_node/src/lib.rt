@@ -21,8 +21,9 @@ mod zone_reading;
 mod zone_socket;
 
 pub use at_event::{
-    Call, Deferring, NameCall, NodeFault, PacketCount, Reply, Report, Seat, Service, SessionCall,
-    StreamCall, Timer, TransactionCall, ZoneCall,
+    Call, Deferring, NameCall, NameReport, NameTimer, NodeFault, PacketCount, Reply, Report, Seat,
+    Service, SessionCall, StreamCall, StreamReport, StreamTimer, Timer, TransactionCall,
+    TransactionReport, TransactionTimer, ZoneCall, ZoneReport,
 };
 pub use node::Node;
 pub use numbers::{Draw, Input, carried, carried_in};

@@ -9,7 +9,7 @@ ghost use Rattle.at_event.specs.Outcomes.{IsStep};
 use crate::name_part::NamePart;
 use crate::node::refused;
 use at_ddp::{Datagrams, Listed, NBP, Outbox, Pascal};
-use at_event::{Report, Seat};
+use at_event::{NameReport, Report, Seat};
 use at_name_socket::{Finished, NAME_SOCKET};
 use at_nbp::{Find, Name, copy_of};
 use std::alloc::{AllocError, Allocator};
@@ -23,7 +23,7 @@ impl<A: Allocator + Copy> NamePart<A> {
         let begun = self.socket.find(pattern, &mut outbox);
         *out = outbox.into_list();
         match begun {
-            Ok(id) => Report::Looking(id),
+            Ok(id) => Report::Names(NameReport::Looking(id)),
             Err(fault) => refused(fault.number()),
         }
     }
@@ -46,7 +46,7 @@ impl<A: Allocator + Copy> NamePart<A> {
             .claim(copy_of(object), copy_of(kind), socket, &mut outbox);
         *out = outbox.into_list();
         match begun {
-            Ok(id) => Report::Looking(id),
+            Ok(id) => Report::Names(NameReport::Looking(id)),
             Err(fault) => refused(fault.number()),
         }
     }
@@ -88,7 +88,7 @@ impl<A: Allocator + Copy> NamePart<A> {
             → IsStep (register_called self.old object.now kind.now socket) self.old sent result self.new sent }
     {
         match self.socket.register(copy_of(object), copy_of(kind), socket) {
-            Ok(()) => Report::Registered,
+            Ok(()) => Report::Names(NameReport::Registered),
             Err(fault) => refused(fault.number()),
         }
     }
@@ -99,7 +99,7 @@ impl<A: Allocator + Copy> NamePart<A> {
             → IsStep (unregister_called self.old object.now kind.now) self.old sent result self.new sent }
     {
         match self.socket.unregister(object, kind) {
-            Ok(()) => Report::Unregistered,
+            Ok(()) => Report::Names(NameReport::Unregistered),
             Err(fault) => refused(fault.number()),
         }
     }
@@ -110,8 +110,8 @@ fn told_of<A: Allocator>(finished: Finished<A>) -> Report<A>
     ensures { result ≡ told_of finished }
 {
     match finished {
-        Finished::Found(finds) => Report::Found(finds),
-        Finished::Claimed => Report::Claimed,
-        Finished::Taken(owner) => Report::Taken(owner),
+        Finished::Found(finds) => Report::Names(NameReport::Found(finds)),
+        Finished::Claimed => Report::Names(NameReport::Claimed),
+        Finished::Taken(owner) => Report::Names(NameReport::Taken(owner)),
     }
 }

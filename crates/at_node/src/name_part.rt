@@ -8,7 +8,7 @@ ghost use Rattle.at_event.specs.Services.{is_asked};
 
 use crate::node::refused;
 use at_ddp::{Datagrams, Listed, NBP, Outbox, Pascal};
-use at_event::{Report, Seat};
+use at_event::{NameReport, Report, Seat};
 use at_name_socket::{Heard, NAME_SOCKET, NameSocket, Neighbour};
 use at_packet::NbpPacket;
 use std::alloc::Allocator;
@@ -76,8 +76,8 @@ fn told_by<A: Allocator>(heard: Heard) -> Report<A>
 {
     match heard {
         Heard::Ignored => Report::Ignored,
-        Heard::Relayed => Report::Relayed,
-        Heard::Answered(count) => Report::Names(count),
-        Heard::Kept(count) => Report::Finds(count),
+        Heard::Relayed => Report::Names(NameReport::Relayed),
+        Heard::Answered(count) => Report::Names(NameReport::Matched(count)),
+        Heard::Kept(count) => Report::Names(NameReport::Added(count)),
     }
 }

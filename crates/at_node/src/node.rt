@@ -12,7 +12,7 @@ use crate::settings::Settings;
 use at_adsp_ends::Tick;
 use at_atp::laws::at_most_64_records_stand;
 use at_ddp::Datagrams;
-use at_event::{Call, Report, Seat, Timer};
+use at_event::{Call, NameTimer, Report, Seat, StreamTimer, Timer, TransactionTimer};
 use at_session::Session;
 use at_stream_socket::StreamSocket;
 use std::alloc::{Allocator, Global};
@@ -111,11 +111,28 @@ impl<A: Allocator + Copy> Node<A> {
         ensures { IsStep (timed self.old timer) self.old out.old.items result self.new out.new.items }
     {
         match timer {
-            Timer::Retry { tid } => self.atp.retry(self.seat, tid, out),
-            Timer::Release { own, key } => self.atp.expire(own, key),
-            Timer::Lookup { id } => self.names.ask_again(self.seat, id, out),
-            Timer::Resend { id } => self.streams.tick(self.seat, id, Tick::Retransmit, out),
-            Timer::Probe { id } => self.streams.tick(self.seat, id, Tick::Probe, out),
+            Timer::Transactions(timer) => self.transaction_timer(timer, out),
+            Timer::Names(NameTimer::Lookup { id }) => self.names.ask_again(self.seat, id, out),
+            Timer::Streams(timer) => self.stream_timer(timer, out),
+        }
+    }
+
+    fn transaction_timer(&mut self, timer: TransactionTimer, out: &mut Datagrams<A>) -> Report<A>
+        ensures { IsStep (timed self.old (Timer.Transactions timer)) self.old out.old.items result self.new
+            out.new.items }
+    {
+        match timer {
+            TransactionTimer::Retry { tid } => self.atp.retry(self.seat, tid, out),
+            TransactionTimer::Release { own, key } => self.atp.expire(own, key),
+        }
+    }
+
+    fn stream_timer(&mut self, timer: StreamTimer, out: &mut Datagrams<A>) -> Report<A>
+        ensures { IsStep (timed self.old (Timer.Streams timer)) self.old out.old.items result self.new out.new.items }
+    {
+        match timer {
+            StreamTimer::Resend { id } => self.streams.tick(self.seat, id, Tick::Retransmit, out),
+            StreamTimer::Probe { id } => self.streams.tick(self.seat, id, Tick::Probe, out),
         }
     }
 }

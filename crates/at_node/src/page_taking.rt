@@ -1,17 +1,17 @@
 //! What becomes of the page that a reading of a zone table asked for. Whoever takes a list that a reading ends with
 //! gets two copies of it: one in the report, and one for the session.
-ghost use Rattle.std.specs.Prelude.{◌≡◌, ◌≢◌, ◌+◌, ◌≤◌, ◌++◌, ◌∷◌, [], List, ℕ, length, map, None, Some, IfOk};
+ghost use Rattle.std.specs.Prelude.{◌≡◌, ◌≢◌, ◌+◌, ◌≤◌, ◌++◌, ◌∷◌, [], List, ℕ, length, map, None, Option, Some, IfOk};
 ghost use Rattle.std.specs.Prelude.{IfSome, IsSome, OnErr, true, false};
 ghost use Rattle.at_ddp.specs.Datagrams.{Posted};
 ghost use Rattle.at_ddp.specs.Protocols.{atp_kind};
 ghost use Rattle.at_atp_frame.specs.Frames.{content, spelled};
 ghost use Rattle.at_atp_requester.specs.Requests.{beginning, begun, finishes, heard, next_number, request_by};
 ghost use Rattle.at_node.specs.AtpHearing.{AtSocket, Requester as RequesterSocket};
-ghost use Rattle.at_node.specs.AtpParts.{after_heard, packet_in};
+ghost use Rattle.at_node.specs.AtpParts.{Reading, after_heard, packet_in};
 ghost use Rattle.at_event.specs.Outcomes.{Comes, IsStep, posted, sent_by, takes_memory, wants_memory};
 ghost use Rattle.at_node.specs.Readings.{reading_of};
 ghost use Rattle.at_event.specs.Services.{is_asked};
-ghost use Rattle.at_node.specs.ZoneReading.{AsksOn, TakesPage, is_page, names_read};
+ghost use Rattle.at_node.specs.ZoneReading.{AsksOn, TakesPage, is_page};
 ghost use Rattle.at_event.specs.declared.service.Reply.{Reply as Said};
 ghost use Rattle.at_zip.specs.Fault.{number_of as zip_number};
 ghost use Rattle.at_zip.specs.Reading.{HasRoomFor};
@@ -25,8 +25,8 @@ use crate::requester_socket::REQUESTER_SOCKET;
 use crate::zone_reading::{RETRIES, ZoneReading};
 use at_atp::Requester;
 use at_ddp::{ATP, Address, Datagrams, Listed, Outbox, Pascal};
-use at_event::Report;
-use at_zip::{PageView, Taken, ZipFault, read_page, request_user};
+use at_event::{Report, TransactionReport, ZoneReport};
+use at_zip::{PageView, ZipFault, read_page, request_user};
 use std::alloc::{AllocError, Allocator};
 
 impl<A: Allocator + Copy> AtpPart<A> {
@@ -34,24 +34,26 @@ impl<A: Allocator + Copy> AtpPart<A> {
     pub(crate) fn hear_page(
         &mut self,
         packet: &Incoming<'_>,
+        reading: ZoneReading<A>,
         user: [u8; 4],
         bytes: &[u8],
         list: &mut Option<Listed<Pascal, A>>,
         out: &mut Datagrams<A>,
     ) -> Report<A>
-        requires page { is_page A self.old packet.now.from (content packet.now.frame) ≡ true }
+        requires page { is_page A (record self.old { reading = Some (reading_of reading) }) packet.now.from
+            (content packet.now.frame) ≡ true }
         requires free { IsSome (next_number
             (heard {A = A} self.old.requester packet.now.from (content packet.now.frame)).after) }
         requires packet { packet_in (content packet.now.frame) ≡ record { user = user; data_ = bytes.now } }
-        ensures comes { (said : Said A)
-            → Comes (AtSocket said packet.now.seat self.old packet.now.from (Some RequesterSocket)
-            (content packet.now.frame)) self.old out.old.items result self.new out.new.items }
+        ensures comes { let before = record self.old { reading = Some (reading_of reading) } in (said : Said A)
+            → Comes (AtSocket said packet.now.seat before packet.now.from (Some RequesterSocket)
+            (content packet.now.frame)) before out.old.items result self.new out.new.items }
         ensures not_asked { is_asked result ≡ false }
-        ensures listed { (which : Table) (names : List (List ℕ)) → result ≡ Report.Zones which names
+        ensures listed { (which : Table) (names : List (List ℕ)) → result ≡ Report.Zones (ZoneReport.List which names)
             → list.new ≡ Some names }
     {
         match read_page(user, bytes) {
-            Ok(page) => self.hear_names(packet, &page, list, out),
+            Ok(page) => self.hear_names(packet, reading, &page, list, out),
             Err(fault) => self.end_reading(packet, zone_fault(fault)),
         }
     }
@@ -60,31 +62,32 @@ impl<A: Allocator + Copy> AtpPart<A> {
     fn hear_names(
         &mut self,
         packet: &Incoming<'_>,
+        mut reading: ZoneReading<A>,
         page: &PageView<'_>,
         list: &mut Option<Listed<Pascal, A>>,
         out: &mut Datagrams<A>,
     ) -> Report<A>
-        requires page { is_page A self.old packet.now.from (content packet.now.frame) ≡ true }
+        requires finishes { finishes A self.old.requester packet.now.from (content packet.now.frame) ≡ true }
         requires free { IsSome (next_number
             (heard {A = A} self.old.requester packet.now.from (content packet.now.frame)).after) }
-        ensures comes { Comes (TakesPage packet.now.seat self.old
+        ensures comes { let before = record self.old { reading = Some (reading_of reading) } in
+            Comes (TakesPage packet.now.seat before
             (heard self.old.requester packet.now.from (content packet.now.frame)) packet.now.from
-            (names_read self.old.reading) page.now) self.old out.old.items result self.new out.new.items }
+            reading.reader.names page.now) before out.old.items result self.new out.new.items }
         ensures not_asked { is_asked result ≡ false }
-        ensures listed { (which : Table) (names : List (List ℕ)) → result ≡ Report.Zones which names
+        ensures listed { (which : Table) (names : List (List ℕ)) → result ≡ Report.Zones (ZoneReport.List which names)
             → list.new ≡ Some names }
     {
-        let Some(mut reading) = self.reading.take() else {
-            unreachable!();
-        };
         let fault = match reading.reader.room(page) {
             Ok(()) if page.is_last() => return self.finish(packet, reading, page, list),
             Ok(()) => return self.ask_on(packet, reading, page, out),
             Err(fault) => fault,
         };
-        self.reading = Some(reading);
         match fault {
-            ZipFault::NoMemory => Report::NoMemory,
+            ZipFault::NoMemory => {
+                self.reading = Some(reading);
+                Report::NoMemory
+            }
             fault => self.end_reading(packet, zone_fault(fault)),
         }
     }
@@ -93,20 +96,20 @@ impl<A: Allocator + Copy> AtpPart<A> {
     fn finish(
         &mut self,
         packet: &Incoming<'_>,
-        mut reading: ZoneReading<A>,
+        reading: ZoneReading<A>,
         page: &PageView<'_>,
         list: &mut Option<Listed<Pascal, A>>,
     ) -> Report<A>
         requires room { HasRoomFor reading.reader page.now }
-        requires last { page.now.last ≡ true }
         requires finishes { finishes A self.old.requester packet.now.from (content packet.now.frame) ≡ true }
         ensures step { let before = record self.old { reading = Some (reading_of reading) } in (items : List Posted)
             → IsStep (after_heard packet.now.seat before
             (heard self.old.requester packet.now.from (content packet.now.frame))
-            (Report.Zones reading.which (reading.reader.names ++ page.now.names)) None) before items result
+            (Report.Zones (ZoneReport.List reading.which (reading.reader.names ++ page.now.names))) None) before items
+            result
             self.new items }
         ensures not_asked { is_asked result ≡ false }
-        ensures listed { (which : Table) (names : List (List ℕ)) → result ≡ Report.Zones which names
+        ensures listed { (which : Table) (names : List (List ℕ)) → result ≡ Report.Zones (ZoneReport.List which names)
             → list.new ≡ Some names }
     {
         let Ok(copy) = reading.reader.list_with(page) else {
@@ -116,11 +119,9 @@ impl<A: Allocator + Copy> AtpPart<A> {
         *list = Some(copy);
         self.requester.close(packet.from, &packet.frame);
         self.reading = None;
-        let which = reading.which;
-        match reading.reader.take(page) {
-            Taken::Done(names) => Report::Zones { which, names },
-            Taken::Ask(_) => unreachable!(),
-        }
+        let ZoneReading { which, reader, .. } = reading;
+        let names = reader.into_list(page);
+        Report::Zones(ZoneReport::List { which, names })
     }
 
     // Takes the packet with a page of a reading, and asks for the next one.
@@ -132,7 +133,6 @@ impl<A: Allocator + Copy> AtpPart<A> {
         out: &mut Datagrams<A>,
     ) -> Report<A>
         requires room { HasRoomFor reading.reader page.now }
-        requires goes_on { page.now.last ≡ false }
         requires finishes { finishes A self.old.requester packet.now.from (content packet.now.frame) ≡ true }
         requires free { IsSome (next_number
             (heard {A = A} self.old.requester packet.now.from (content packet.now.frame)).after) }
@@ -141,7 +141,7 @@ impl<A: Allocator + Copy> AtpPart<A> {
             packet.now.from (reading.reader.names ++ page.now.names)) before out.old.items result self.new
             out.new.items }
         ensures not_asked { is_asked result ≡ false }
-        ensures no_list { (which : Table) (names : List (List ℕ)) → result ≢ Report.Zones which names }
+        ensures no_list { (which : Table) (names : List (List ℕ)) → result ≢ Report.Zones (ZoneReport.List which names) }
     {
         let own = packet.seat.at(REQUESTER_SOCKET);
         let user = request_user(reading.which, reading.reader.after(page));
@@ -150,7 +150,7 @@ impl<A: Allocator + Copy> AtpPart<A> {
                 reading.reader.take(page);
                 reading.tid = tid;
                 self.reading = Some(reading);
-                Report::Begun(tid)
+                Report::Transactions(TransactionReport::Begun(tid))
             }
             Err(AllocError) => {
                 self.reading = Some(reading);
@@ -163,8 +163,9 @@ impl<A: Allocator + Copy> AtpPart<A> {
     fn end_reading(&mut self, packet: &Incoming<'_>, told: Report<A>) -> Report<A>
         requires finishes { finishes A self.old.requester packet.now.from (content packet.now.frame) ≡ true }
         requires some { wants_memory told ≡ false }
-        ensures step { (items : List Posted) → IsStep (after_heard packet.now.seat self.old
-            (heard self.old.requester packet.now.from (content packet.now.frame)) told None) self.old items
+        ensures step { (was : Option Reading) (items : List Posted) →
+            let before = record self.old { reading = was } in IsStep (after_heard packet.now.seat before
+            (heard self.old.requester packet.now.from (content packet.now.frame)) told None) before items
             result self.new items }
         ensures told { result ≡ told }
     {
@@ -204,12 +205,12 @@ fn turn<A: Allocator + Copy>(
 
 // The report of a page that is refused.
 fn zone_fault<A: Allocator>(fault: ZipFault) -> Report<A>
-    ensures fault { IfSome (zip_number fault) (λ n. result ≡ Report.ZoneFault n) }
+    ensures fault { IfSome (zip_number fault) (λ n. result ≡ Report.Zones (ZoneReport.Fault n)) }
     ensures not_asked { is_asked result ≡ false }
-    ensures no_list { (which : Table) (names : List (List ℕ)) → result ≢ Report.Zones which names }
+    ensures no_list { (which : Table) (names : List (List ℕ)) → result ≢ Report.Zones (ZoneReport.List which names) }
 {
     match fault.number() {
-        Some(number) => Report::ZoneFault(number),
+        Some(number) => Report::Zones(ZoneReport::Fault(number)),
         None => Report::NoMemory,
     }
 }

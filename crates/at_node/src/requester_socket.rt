@@ -19,7 +19,7 @@ use crate::incoming::Incoming;
 use crate::node::refused;
 use at_atp::{AtpFault, Frame, Requester, Retry, Step};
 use at_ddp::{ATP, Address, Datagrams, Listed, Outbox, Pascal};
-use at_event::{Report, Seat};
+use at_event::{Report, Seat, TransactionReport, ZoneReport};
 use at_packet::AtpPacket;
 use std::alloc::{AllocError, Allocator};
 
@@ -52,7 +52,7 @@ impl<A: Allocator + Copy> AtpPart<A> {
     {
         let own = seat.at(REQUESTER_SOCKET);
         match begin(self.alloc, &mut self.requester, own, question, out) {
-            Ok(tid) => Report::Begun(tid),
+            Ok(tid) => Report::Transactions(TransactionReport::Begun(tid)),
             Err(fault) => refused(fault.number()),
         }
     }
@@ -82,7 +82,7 @@ impl<A: Allocator + Copy> AtpPart<A> {
             → Comes (HearsAt said seat self.old packet.now (Some RequesterSocket)) self.old out.old.items
             result self.new out.new.items }
         ensures not_asked { is_asked result ≡ false }
-        ensures listed { (which : Table) (names : List (List ℕ)) → result ≡ Report.Zones which names
+        ensures listed { (which : Table) (names : List (List ℕ)) → result ≡ Report.Zones (ZoneReport.List which names)
             → list.new ≡ Some names }
     {
         match Incoming::of(seat, packet) {
@@ -101,14 +101,15 @@ impl<A: Allocator + Copy> AtpPart<A> {
             → Comes (AtSocket said packet.now.seat self.old packet.now.from (Some RequesterSocket)
             (content packet.now.frame)) self.old out.old.items result self.new out.new.items }
         ensures not_asked { is_asked result ≡ false }
-        ensures listed { (which : Table) (names : List (List ℕ)) → result ≡ Report.Zones which names
+        ensures listed { (which : Table) (names : List (List ℕ)) → result ≡ Report.Zones (ZoneReport.List which names)
             → list.new ≡ Some names }
     {
-        match packet.frame {
-            Frame::Response { user, data_, .. } if self.is_page(packet) => {
-                self.hear_page(packet, user, data_, list, out)
-            }
-            _ => self.hear_other(packet, out),
+        let Frame::Response { user, data_, .. } = packet.frame else {
+            return self.hear_other(packet, out);
+        };
+        match self.take_reading(packet) {
+            Some(reading) => self.hear_page(packet, reading, user, data_, list, out),
+            None => self.hear_other(packet, out),
         }
     }
 
@@ -119,7 +120,7 @@ impl<A: Allocator + Copy> AtpPart<A> {
             → Comes (AtSocket said packet.now.seat self.old packet.now.from (Some RequesterSocket)
             (content packet.now.frame)) self.old out.old.items result self.new out.new.items }
         ensures not_asked { is_asked result ≡ false }
-        ensures no_list { (which : Table) (names : List (List ℕ)) → result ≢ Report.Zones which names }
+        ensures no_list { (which : Table) (names : List (List ℕ)) → result ≢ Report.Zones (ZoneReport.List which names) }
     {
         let own = packet.seat.at(REQUESTER_SOCKET);
         let Ok(step) = hear(self.alloc, &mut self.requester, own, packet, out) else {
@@ -228,13 +229,16 @@ fn hear<A: Allocator + Copy>(
 fn reported_other<A: Allocator>(tid: u16, step: Step<A>) -> Report<A>
     ensures report { result ≡ reported_other tid step }
     ensures not_asked { is_asked result ≡ false }
-    ensures no_list { (which : Table) (names : List (List ℕ)) → result ≢ Report.Zones which names }
+    ensures no_list { (which : Table) (names : List (List ℕ)) → result ≢ Report.Zones (ZoneReport.List which names) }
 {
     match step {
         Step::Ignored => Report::Ignored,
-        Step::Kept => Report::Kept,
+        Step::Kept => Report::Transactions(TransactionReport::Kept),
         Step::AskAgain => Report::Again,
-        Step::Finished(packets) => Report::Response { tid, packets },
+        Step::Finished(packets) => Report::Transactions(TransactionReport::Response {
+            tid,
+            packets,
+        }),
     }
 }
 

@@ -15,7 +15,7 @@ use crate::service_socket::SERVICE_SOCKET;
 use crate::zone_socket::ZONE_SOCKET;
 use at_atp::{AtpFault, Key, Packet, Reception, Responder};
 use at_ddp::{ATP, Address, Datagrams, Outbox};
-use at_event::Report;
+use at_event::{Report, TransactionReport};
 use std::alloc::Allocator;
 
 impl<A: Allocator + Copy> AtpPart<A> {
@@ -30,7 +30,7 @@ impl<A: Allocator + Copy> AtpPart<A> {
             _ => Err(AtpFault::NoSuch),
         };
         match expired {
-            Ok(()) => Report::Expired,
+            Ok(()) => Report::Transactions(TransactionReport::Expired),
             Err(fault) => refused(fault.number()),
         }
     }
@@ -106,7 +106,7 @@ pub(crate) fn release<A: Allocator + Copy>(
     ensures not_asked { is_asked result ≡ false }
 {
     match hear(alloc, records, own, packet, out).unwrap() {
-        Reception::Released => Report::Released,
+        Reception::Released => Report::Transactions(TransactionReport::Released),
         _ => Report::Ignored,
     }
 }

@@ -20,7 +20,7 @@ use crate::node::refused;
 use crate::responders::{answer, hear, release};
 use at_atp::{Frame, Key, Packet, Reception, Responder};
 use at_ddp::{ATP, Address, Bytes, Datagrams, Outbox};
-use at_event::{Reply, Report, Seat, Service};
+use at_event::{Reply, Report, Seat, Service, TransactionReport};
 use at_packet::AtpPacket;
 use std::alloc::{AllocError, Allocator};
 
@@ -48,7 +48,7 @@ impl<A: Allocator + Copy> AtpPart<A> {
             packets,
             out,
         ) {
-            Ok(count) => Report::Answered(count),
+            Ok(count) => Report::Transactions(TransactionReport::Answered(count)),
             Err(fault) => refused(fault.number()),
         }
     }
@@ -124,10 +124,10 @@ fn give_request<A: Allocator + Copy, S: Service<A>>(
         Err(fault) => refused(fault.number()),
         Ok(Reception::Ignored) => Report::Ignored,
         Ok(Reception::Again(_)) => Report::Again,
-        Ok(Reception::Released) => Report::Released,
+        Ok(Reception::Released) => Report::Transactions(TransactionReport::Released),
         Ok(Reception::New(key)) => {
             match hand_up(alloc, records, service, own, key, user, bytes, out) {
-                Ok(data_) => Report::Asked { key, user, data_ },
+                Ok(data_) => Report::Transactions(TransactionReport::Asked { key, user, data_ }),
                 Err(AllocError) => {
                     let _ = records.undo(key);
                     Report::NoMemory

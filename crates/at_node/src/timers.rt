@@ -5,7 +5,8 @@ ghost use Rattle.std.specs.List.{AllPairs, Contains, cons_option};
 ghost use Rattle.at_atp_responder.specs.Keys.{AreApart};
 ghost use Rattle.at_event.specs.declared.event.Timer.{Timer as Fired};
 ghost use Rattle.at_node.specs.Nodes.{timed};
-ghost use Rattle.at_node.specs.Timers.{Acts, Adds, lookups, releases, retries, ticks, timer_of, timers_of};
+ghost use Rattle.at_node.specs.Timers.{Acts, Adds, lookups, release_of, releases, retries, ticks, timer_of};
+ghost use Rattle.at_node.specs.Timers.{timers_of};
 
 use crate::node::Node;
 use crate::service_socket::SERVICE_SOCKET;
@@ -13,7 +14,7 @@ use crate::zone_socket::ZONE_SOCKET;
 use at_adsp_ends::Tick;
 use at_atp::laws::no_two_records_are_of_one_request;
 use at_atp::{Key, Requester, Responder};
-use at_event::Timer;
+use at_event::{NameTimer, StreamTimer, Timer, TransactionTimer};
 use at_name_socket::NameSocket;
 use at_stream_socket::StreamSocket;
 use std::alloc::{AllocError, Allocator};
@@ -93,7 +94,10 @@ fn list_retries<A: Allocator + Copy>(
         return Ok(());
     }
     let tid = requester.number_at(place);
-    list_one(Some(Timer::Retry { tid }), timers)?;
+    list_one(
+        Some(Timer::Transactions(TransactionTimer::Retry { tid })),
+        timers,
+    )?;
     list_retries(requester, place + 1, timers)
 }
 
@@ -126,7 +130,7 @@ fn list_lookups<A: Allocator + Copy>(
         return Ok(());
     }
     let id = socket.id_at(place);
-    list_one(Some(Timer::Lookup { id }), timers)?;
+    list_one(Some(Timer::Names(NameTimer::Lookup { id })), timers)?;
     list_lookups(socket, place + 1, timers)
 }
 
@@ -162,10 +166,10 @@ fn list_one<A: Allocator>(
 
 // The timer by which the record of a key goes.
 fn releasing(own: u8, key: Option<Key>) -> Option<Timer>
-    ensures { result ≡ option_map (Fired.Release own) key }
+    ensures { result ≡ option_map (release_of own) key }
 {
     let key = key?;
-    Some(Timer::Release { own, key })
+    Some(Timer::Transactions(TransactionTimer::Release { own, key }))
 }
 
 // The timer for a tick of an end.
@@ -174,7 +178,7 @@ fn ticking(tick: Tick, id: Option<u16>) -> Option<Timer>
 {
     let id = id?;
     Some(match tick {
-        Tick::Retransmit => Timer::Resend { id },
-        Tick::Probe => Timer::Probe { id },
+        Tick::Retransmit => Timer::Streams(StreamTimer::Resend { id }),
+        Tick::Probe => Timer::Streams(StreamTimer::Probe { id }),
     })
 }

@@ -1,10 +1,11 @@
 //! A reading of a zone table that is open. `page_taking.rt` has what a page does to it.
 ghost use Rattle.std.specs.Prelude.{◌≡◌, ◌+◌, ◌&&◌, ℕ, [], length, nat_lt, not, None, Some};
-ghost use Rattle.std.specs.Prelude.{IfSome, IsSome, true, false};
+ghost use Rattle.std.specs.Prelude.{IfSome, IsNone, IsSome, true, false};
 ghost use Rattle.at_atp_frame.specs.Frames.{content};
 ghost use Rattle.at_atp_requester.specs.Requests.{heard, next_number};
 ghost use Rattle.at_node.specs.AtpParts.{AtpState};
 ghost use Rattle.at_event.specs.Outcomes.{IsStep, Outcome};
+ghost use Rattle.at_node.specs.Readings.{reading_of};
 ghost use Rattle.at_node.specs.RequesterSocket.{AtRequester};
 ghost use Rattle.at_node.specs.ZoneReading.{after_failing, is_page, is_reading};
 ghost use Rattle.at_node.specs.ZoneReading.{zones_called};
@@ -17,7 +18,7 @@ use crate::requester_socket::{Question, REQUESTER_SOCKET, begin, tid_of};
 use crate::zone_socket::ZONE_SOCKET;
 use at_atp::Frame;
 use at_ddp::{Address, Datagrams};
-use at_event::{NodeFault, Report, Seat};
+use at_event::{NodeFault, Report, Seat, TransactionReport, ZoneReport};
 use at_zip::{PageView, Which, ZoneReader, read_page, request_user};
 use std::alloc::Allocator;
 
@@ -58,7 +59,7 @@ impl<A: Allocator + Copy> AtpPart<A> {
             Ok(tid) => {
                 let reader = ZoneReader::new(self.alloc);
                 self.reading = Some(ZoneReading { which, tid, reader });
-                Report::Begun(tid)
+                Report::Transactions(TransactionReport::Begun(tid))
             }
             Err(fault) => refused(fault.number()),
         }
@@ -74,14 +75,31 @@ impl<A: Allocator + Copy> AtpPart<A> {
             && self.requester.finishes(packet.from, &packet.frame)
     }
 
+    // Takes the open reading out, if a packet is the page that it asked for.
+    pub(crate) fn take_reading(&mut self, packet: &Incoming<'_>) -> Option<ZoneReading<A>>
+        ensures taken { IfSome result
+            (λ reading. self.old ≡ record self.new { reading = Some (reading_of reading) }) }
+        ensures page { IsSome result → is_page A self.old packet.now.from (content packet.now.frame) ≡ true }
+        ensures free { IsSome result → IsSome (next_number
+            (heard {A = A} self.old.requester packet.now.from (content packet.now.frame)).after) }
+        ensures other { IsNone result → is_page A self.old packet.now.from (content packet.now.frame) ≡ false }
+        ensures unchanged { IsNone result → self.new ≡ self.old }
+    {
+        if self.is_page(packet) {
+            self.reading.take()
+        } else {
+            None
+        }
+    }
+
     // The number under which the next page is asked for, if this packet is a page that makes it be asked for.
     pub(crate) fn draw_of_page(&self, packet: &Incoming<'_>) -> Option<u16>
         ensures found { IfSome result (λ tid. (o : Outcome A AtpState)
             × AtRequester packet.now.seat self.now packet.now.from (content packet.now.frame) o
-            × (o.report ≡ Report.Begun tid)) }
+            × (o.report ≡ Report.Transactions (TransactionReport.Begun tid))) }
         ensures only { (o : Outcome A AtpState)
             → AtRequester packet.now.seat self.now packet.now.from (content packet.now.frame) o
-            → (tid : ℕ) → o.report ≡ Report.Begun tid → result ≡ Some tid }
+            → (tid : ℕ) → o.report ≡ Report.Transactions (TransactionReport.Begun tid) → result ≡ Some tid }
     {
         let Frame::Response {
             tid,
@@ -129,9 +147,9 @@ impl<A: Allocator + Copy> AtpPart<A> {
     {
         if self.is_reading(tid) {
             self.reading = None;
-            Report::ZonesFailed
+            Report::Zones(ZoneReport::Unanswered)
         } else {
-            Report::Failed(tid)
+            Report::Transactions(TransactionReport::Failed(tid))
         }
     }
 }

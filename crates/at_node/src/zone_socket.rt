@@ -20,7 +20,7 @@ use crate::node::refused;
 use crate::responders::{answer, hear, release};
 use at_atp::{AtpFault, Frame, Key, Packet, Reception, Responder};
 use at_ddp::{Address, Datagrams, Pascal};
-use at_event::{NodeFault, Report, Seat};
+use at_event::{NodeFault, Report, Seat, TransactionReport, ZoneReport};
 use at_packet::AtpPacket;
 use at_zip::{Which, Zones, page, read_request};
 use std::alloc::{AllocError, Allocator};
@@ -40,7 +40,7 @@ impl<A: Allocator + Copy> AtpPart<A> {
         match Zones::copy_of(self.alloc, names) {
             Ok(zones) => {
                 tables.set(which, zones);
-                Report::TableSet
+                Report::Zones(ZoneReport::TableSet)
             }
             Err(fault) => refused(fault.number()),
         }
@@ -118,10 +118,10 @@ fn serve_request<A: Allocator + Copy>(
         Err(fault) => refused(fault.number()),
         Ok(Reception::Ignored) => Report::Ignored,
         Ok(Reception::Again(_)) => Report::Again,
-        Ok(Reception::Released) => Report::Released,
+        Ok(Reception::Released) => Report::Transactions(TransactionReport::Released),
         Ok(Reception::New(key)) => {
             match serve(alloc, records, own, key, zones, start, out) {
-                Ok(count) => Report::Served(count),
+                Ok(count) => Report::Zones(ZoneReport::Served(count)),
                 Err(AllocError) => Report::NoMemory,
             }
         }

@@ -10,6 +10,9 @@ use Rattle.at_event.specs.declared.calls.NameCall.TheVariants.{Find, Claim, Fini
 use Rattle.at_event.specs.declared.report.Report.TheVariants as report
 use Rattle.at_event.specs.declared.event.Timer.{Timer}
 use Rattle.at_event.specs.declared.event.Timer.TheVariants as timer
+use Rattle.at_event.specs.declared.timers.TransactionTimer.TheVariants as atp_timer
+use Rattle.at_event.specs.declared.timers.NameTimer.TheVariants as nbp_timer
+use Rattle.at_event.specs.declared.timers.StreamTimer.TheVariants as adsp_timer
 use Rattle.at_event.specs.declared.service.Reply.{Reply}
 use Rattle.at_node.specs.AtpHearing.{HearsAtp}
 use Rattle.at_node.specs.Hearing.{Hears, HearsIt, HearsMine}
@@ -36,11 +39,11 @@ call_keeps_seat A n (Streams call) = refl
 call_keeps_seat A n (Session call) = refl
 
 pub timer_keeps_seat : (A : Type 0) (n : NodeState) (time : Timer) → KeepsSeat {A = A} n (timed n time)
-timer_keeps_seat A n (timer.Retry tid) = refl
-timer_keeps_seat A n (timer.Release own key) = refl
-timer_keeps_seat A n (timer.Lookup id) = refl
-timer_keeps_seat A n (timer.Resend id) = refl
-timer_keeps_seat A n (timer.Probe id) = refl
+timer_keeps_seat A n (timer.Transactions (atp_timer.Retry tid)) = refl
+timer_keeps_seat A n (timer.Transactions (atp_timer.Release own key)) = refl
+timer_keeps_seat A n (timer.Names (nbp_timer.Lookup id)) = refl
+timer_keeps_seat A n (timer.Streams (adsp_timer.Resend id)) = refl
+timer_keeps_seat A n (timer.Streams (adsp_timer.Probe id)) = refl
 
 mine_keeps_seat : (A : Type 0) (said : Reply A) (n : NodeState) (d : Datagram) (o : Outcome A NodeState)
     → HearsMine said n d o → KeepsSeat n o

@@ -10,6 +10,14 @@ use Rattle.at_zip.specs.declared.request.Which.{Which}
 use Rattle.at_zip.specs.declared.request.Which.TheVariants.{All, Local}
 use Rattle.at_event.specs.declared.report.Report.{Report}
 use Rattle.at_event.specs.declared.report.Report.TheVariants as report
+use Rattle.at_event.specs.declared.reports.TransactionReport.TheVariants as atp_report
+use Rattle.at_event.specs.declared.reports.ZoneReport.TheVariants as zip_report
+use Rattle.at_event.specs.declared.reports.NameReport.TheVariants as nbp_report
+use Rattle.at_event.specs.declared.reports.StreamReport.TheVariants as adsp_report
+use Rattle.at_event.specs.declared.reports.TransactionReport.{TransactionReport}
+use Rattle.at_event.specs.declared.reports.ZoneReport.{ZoneReport}
+use Rattle.at_event.specs.declared.reports.NameReport.{NameReport}
+use Rattle.at_event.specs.declared.reports.StreamReport.{StreamReport}
 use Rattle.at_print.specs.Items.{items_text}
 use Rattle.at_print.specs.Lines.{hex_text, pairs}
 use Rattle.at_print.specs.Requesters.{asked_by, other_net}
@@ -61,46 +69,62 @@ abbrev pub table_word : Which → List ℕ
 table_word All = codes "zones"
 table_word Local = codes "localzones"
 
+-- a report of transactions in words
+abbrev pub transaction_text : {A : Type 0} → TransactionReport A → List ℕ
+transaction_text (atp_report.Begun tid) = codes "begun " ++ decimal tid
+transaction_text (atp_report.Answered count) = codes "answered " ++ decimal count
+transaction_text atp_report.Expired = codes "done"
+transaction_text (atp_report.Asked key user bytes) = asked_text key ++ (hex_text user ++ (codes " " ++ hex_text bytes))
+transaction_text atp_report.Kept = codes "kept"
+transaction_text (atp_report.Response tid packets) = (codes "response " ++ decimal tid) ++ flat_map packet_text packets
+transaction_text (atp_report.Failed tid) = codes "failed " ++ decimal tid
+transaction_text atp_report.Released = codes "released"
+
+-- a report of zones
+abbrev pub zone_report_text : {A : Type 0} → ZoneReport A → List ℕ
+zone_report_text (zip_report.Served count) = codes "served " ++ decimal count
+zone_report_text zip_report.TableSet = codes "done"
+zone_report_text (zip_report.List which zones) = table_word which ++ flat_map zone_text zones
+zone_report_text (zip_report.Fault number) = codes "zonefault " ++ decimal number
+zone_report_text zip_report.Unanswered = codes "zonesfailed"
+
+-- a report of names
+abbrev pub name_report_text : {A : Type 0} → NameReport A → List ℕ
+name_report_text (nbp_report.Looking id) = codes "looking " ++ decimal id
+name_report_text (nbp_report.Found finds) = codes "found" ++ flat_map found_text finds
+name_report_text nbp_report.Claimed = codes "claimed"
+name_report_text (nbp_report.Taken f) = codes "taken " ++ find_text f
+name_report_text nbp_report.Registered = codes "done"
+name_report_text nbp_report.Unregistered = codes "done"
+name_report_text nbp_report.Relayed = codes "relayed"
+name_report_text (nbp_report.Matched count) = codes "names " ++ decimal count
+name_report_text (nbp_report.Added count) = codes "finds " ++ decimal count
+
+-- a report of streams
+abbrev pub stream_text : {A : Type 0} → StreamReport A → List ℕ
+stream_text adsp_report.ListenSet = codes "done"
+stream_text (adsp_report.Opening id) = codes "opening " ++ decimal id
+stream_text (adsp_report.Made id) = codes "made " ++ decimal id
+stream_text (adsp_report.Opened id) = codes "opened " ++ decimal id
+stream_text adsp_report.Turned = codes "turned"
+stream_text (adsp_report.Denied id) = codes "denied " ++ decimal id
+stream_text (adsp_report.Wrote count) = codes "wrote " ++ decimal count
+stream_text (adsp_report.Read items) = codes "read" ++ items_text false items
+stream_text adsp_report.Reset = codes "done"
+stream_text (adsp_report.Heard id count) = codes "heard " ++ (decimal id ++ (codes " " ++ decimal count))
+stream_text (adsp_report.Dropped id) = codes "dropped " ++ decimal id
+stream_text (adsp_report.Closed id) = codes "closed " ++ decimal id
+stream_text (adsp_report.Freed id) = codes "freed " ++ decimal id
+stream_text adsp_report.Idle = codes "idle"
+
 -- a report in words
 abbrev pub report_text : {A : Type 0} → Report A → List ℕ
-report_text (report.Begun tid) = codes "begun " ++ decimal tid
-report_text (report.Answered count) = codes "answered " ++ decimal count
-report_text report.Expired = codes "done"
-report_text (report.Served count) = codes "served " ++ decimal count
-report_text (report.Asked key user bytes) = asked_text key ++ (hex_text user ++ (codes " " ++ hex_text bytes))
-report_text (report.Zones which zones) = table_word which ++ flat_map zone_text zones
-report_text (report.ZoneFault number) = codes "zonefault " ++ decimal number
-report_text report.ZonesFailed = codes "zonesfailed"
-report_text report.Kept = codes "kept"
-report_text (report.Response tid packets) = (codes "response " ++ decimal tid) ++ flat_map packet_text packets
-report_text (report.Failed tid) = codes "failed " ++ decimal tid
-report_text report.Again = codes "again"
-report_text report.Released = codes "released"
-report_text (report.Looking id) = codes "looking " ++ decimal id
-report_text (report.Found finds) = codes "found" ++ flat_map found_text finds
-report_text report.Claimed = codes "claimed"
-report_text report.Registered = codes "done"
-report_text report.Unregistered = codes "done"
-report_text report.TableSet = codes "done"
+report_text (report.Transactions r) = transaction_text r
+report_text (report.Zones r) = zone_report_text r
+report_text (report.Names r) = name_report_text r
+report_text (report.Streams r) = stream_text r
 report_text report.Picked = codes "done"
-report_text (report.Taken f) = codes "taken " ++ find_text f
-report_text report.Relayed = codes "relayed"
-report_text (report.Names count) = codes "names " ++ decimal count
-report_text (report.Finds count) = codes "finds " ++ decimal count
-report_text report.ListenSet = codes "done"
-report_text (report.Opening id) = codes "opening " ++ decimal id
-report_text (report.Made id) = codes "made " ++ decimal id
-report_text (report.Opened id) = codes "opened " ++ decimal id
-report_text report.Turned = codes "turned"
-report_text (report.Denied id) = codes "denied " ++ decimal id
-report_text (report.Wrote count) = codes "wrote " ++ decimal count
-report_text (report.Read items) = codes "read" ++ items_text false items
-report_text report.StreamReset = codes "done"
-report_text (report.Heard id count) = codes "heard " ++ (decimal id ++ (codes " " ++ decimal count))
-report_text (report.Dropped id) = codes "dropped " ++ decimal id
-report_text (report.Closed id) = codes "closed " ++ decimal id
-report_text (report.Freed id) = codes "freed " ++ decimal id
-report_text report.Idle = codes "idle"
+report_text report.Again = codes "again"
 report_text report.Ignored = codes "ignored"
 report_text (report.Refused number) = codes "refused " ++ decimal number
 report_text report.NoMemory = codes "nomemory"
@@ -110,9 +134,13 @@ abbrev pub event_line : {A : Type 0} → ℕ → Report A → List ℕ
 event_line at r = (decimal at ++ codes " ") ++ (report_text r ++ codes "\n")
 
 -- the same on this network, of which alone a requester is named by its node alone
-abbrev pub report_text_at : {A : Type 0} → ℕ → Report A → List ℕ
-report_text_at net (report.Asked key user bytes) =
+abbrev pub transaction_text_at : {A : Type 0} → ℕ → TransactionReport A → List ℕ
+transaction_text_at net (atp_report.Asked key user bytes) =
     asked_by (other_net net (key.from).net) key ++ (hex_text user ++ (codes " " ++ hex_text bytes))
+transaction_text_at net other = transaction_text other
+
+abbrev pub report_text_at : {A : Type 0} → ℕ → Report A → List ℕ
+report_text_at net (report.Transactions r) = transaction_text_at net r
 report_text_at net other = report_text other
 
 abbrev pub event_line_at : {A : Type 0} → ℕ → ℕ → Report A → List ℕ

@@ -17,6 +17,8 @@ mod status;
 mod stream_reports;
 mod text_words;
 mod timers;
+mod transaction_reports;
+mod zone_reports;
 
 pub use name_lines::write_names;
 pub use packet_lines::{write_frame, write_header, write_raw};

@@ -1,18 +1,42 @@
-//! How the names that lookups found print in reports.
+//! How the reports of names print.
 ghost use Rattle.std.specs.Prelude.{◌≤◌, ◌++◌, codes, length};
 ghost use Rattle.std.specs.List.{flat_map};
 ghost use Rattle.at_print.specs.Printers.{Prints};
-ghost use Rattle.at_print.specs.Reports.{find_text, found_text};
+ghost use Rattle.at_print.specs.Reports.{find_text, found_text, name_report_text};
 
 use crate::name_lines::write_name;
 use crate::paper::Paper;
 use crate::part::Part;
-use crate::piece::{HEAD, Piece};
+use crate::piece::{HEAD, Piece, end_with_number, end_with_word};
 use crate::printer::Printer;
+use at_event::NameReport;
 use at_nbp::Find;
+use std::alloc::Allocator;
 
-/// The line that begins with this piece, and ends with the finds of a lookup that was finished.
-pub(crate) fn write_found<W: Paper>(printer: &mut Printer<W>, line: Piece, finds: &[Find])
+/// The line that begins with this piece, and ends with a report of names.
+pub(crate) fn write_name_report<A: Allocator, W: Paper>(
+    printer: &mut Printer<W>,
+    line: Piece,
+    report: &NameReport<A>,
+)
+    requires { length line ≤ HEAD }
+    ensures { Prints W.page printer.old printer.new (line ++ (name_report_text report.now ++ codes "\n")) }
+{
+    match report {
+        NameReport::Looking(id) => end_with_number(printer, line, b"looking ", u64::from(*id)),
+        NameReport::Found(finds) => write_found(printer, line, finds.as_slice()),
+        NameReport::Claimed => end_with_word(printer, line, b"claimed"),
+        NameReport::Taken(owner) => write_taken(printer, line, owner.find()),
+        NameReport::Registered => end_with_word(printer, line, b"done"),
+        NameReport::Unregistered => end_with_word(printer, line, b"done"),
+        NameReport::Relayed => end_with_word(printer, line, b"relayed"),
+        NameReport::Matched(count) => end_with_number(printer, line, b"names ", *count as u64),
+        NameReport::Added(count) => end_with_number(printer, line, b"finds ", *count as u64),
+    }
+}
+
+// The line that begins with this piece, and ends with the finds of a lookup that was finished.
+fn write_found<W: Paper>(printer: &mut Printer<W>, line: Piece, finds: &[Find])
     requires { length line ≤ HEAD }
     ensures { Prints W.page printer.old printer.new
         (line ++ ((codes "found" ++ flat_map found_text finds.now) ++ codes "\n")) }
@@ -33,8 +57,8 @@ fn write_finds<W: Paper>(printer: &mut Printer<W>, finds: &[Find])
     }
 }
 
-/// The line that begins with this piece, and ends with the name of a claim that is taken.
-pub(crate) fn write_taken<W: Paper>(printer: &mut Printer<W>, line: Piece, find: &Find)
+// The line that begins with this piece, and ends with the name of a claim that is taken.
+fn write_taken<W: Paper>(printer: &mut Printer<W>, line: Piece, find: &Find)
     requires { length line ≤ HEAD }
     ensures { Prints W.page printer.old printer.new
         (line ++ ((codes "taken " ++ find_text find.now) ++ codes "\n")) }

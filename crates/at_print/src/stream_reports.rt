@@ -2,45 +2,42 @@
 ghost use Rattle.std.specs.Prelude.{◌≡◌, ◌<◌, ◌≤◌, ◌++◌, [], List, ℕ, codes, drop, false, length, map, take};
 ghost use Rattle.std.specs.Prelude.{if◌then◌else◌};
 ghost use Rattle.std.specs.Fmt.{decimal};
-ghost use Rattle.at_event.specs.Kinds.{Adsp, reporter_of};
 ghost use Rattle.at_print.specs.Items.{items_text, starts_with_byte};
 ghost use Rattle.at_print.specs.Printers.{Prints};
-ghost use Rattle.at_print.specs.Reports.{report_text};
+ghost use Rattle.at_print.specs.Reports.{stream_text};
 
 use crate::digits::{BLOCK, write_pairs};
 use crate::paper::Paper;
 use crate::piece::{HEAD, Piece, end_with_number, end_with_word};
 use crate::printer::Printer;
 use at_adsp_end::Item;
-use at_event::Report;
+use at_event::StreamReport;
 use std::alloc::Allocator;
 
-/// The line that begins with this piece, and ends with a report that only streams give.
+/// The line that begins with this piece, and ends with a report of streams.
 pub(crate) fn write_stream_report<A: Allocator, W: Paper>(
     printer: &mut Printer<W>,
     line: Piece,
-    report: &Report<A>,
+    report: &StreamReport<A>,
 )
-    requires report { reporter_of report.now ≡ Adsp }
-    requires room { length line ≤ HEAD }
-    ensures { Prints W.page printer.old printer.new (line ++ (report_text report.now ++ codes "\n")) }
+    requires { length line ≤ HEAD }
+    ensures { Prints W.page printer.old printer.new (line ++ (stream_text report.now ++ codes "\n")) }
 {
     match report {
-        Report::ListenSet => end_with_word(printer, line, b"done"),
-        Report::Opening(id) => end_with_number(printer, line, b"opening ", u64::from(*id)),
-        Report::Made(id) => end_with_number(printer, line, b"made ", u64::from(*id)),
-        Report::Opened(id) => end_with_number(printer, line, b"opened ", u64::from(*id)),
-        Report::Turned => end_with_word(printer, line, b"turned"),
-        Report::Denied(id) => end_with_number(printer, line, b"denied ", u64::from(*id)),
-        Report::Wrote(count) => end_with_number(printer, line, b"wrote ", *count as u64),
-        Report::Read(items) => write_read(printer, line, items.as_slice()),
-        Report::StreamReset => end_with_word(printer, line, b"done"),
-        Report::Heard { id, items } => write_heard(printer, line, *id, *items),
-        Report::Dropped(id) => end_with_number(printer, line, b"dropped ", u64::from(*id)),
-        Report::Closed(id) => end_with_number(printer, line, b"closed ", u64::from(*id)),
-        Report::Freed(id) => end_with_number(printer, line, b"freed ", u64::from(*id)),
-        Report::Idle => end_with_word(printer, line, b"idle"),
-        _ => unreachable!(),
+        StreamReport::ListenSet => end_with_word(printer, line, b"done"),
+        StreamReport::Opening(id) => end_with_number(printer, line, b"opening ", u64::from(*id)),
+        StreamReport::Made(id) => end_with_number(printer, line, b"made ", u64::from(*id)),
+        StreamReport::Opened(id) => end_with_number(printer, line, b"opened ", u64::from(*id)),
+        StreamReport::Turned => end_with_word(printer, line, b"turned"),
+        StreamReport::Denied(id) => end_with_number(printer, line, b"denied ", u64::from(*id)),
+        StreamReport::Wrote(count) => end_with_number(printer, line, b"wrote ", *count as u64),
+        StreamReport::Read(items) => write_read(printer, line, items.as_slice()),
+        StreamReport::Reset => end_with_word(printer, line, b"done"),
+        StreamReport::Heard { id, items } => write_heard(printer, line, *id, *items),
+        StreamReport::Dropped(id) => end_with_number(printer, line, b"dropped ", u64::from(*id)),
+        StreamReport::Closed(id) => end_with_number(printer, line, b"closed ", u64::from(*id)),
+        StreamReport::Freed(id) => end_with_number(printer, line, b"freed ", u64::from(*id)),
+        StreamReport::Idle => end_with_word(printer, line, b"idle"),
     }
 }
 

@@ -8,7 +8,7 @@ use crate::piece::{Piece, end_with_number};
 use crate::printer::Printer;
 use crate::requesters::{other_net, put_key};
 use at_atp::Key;
-use at_event::Timer;
+use at_event::{NameTimer, StreamTimer, Timer, TransactionTimer};
 
 /// Prints the line of a timer. A requester of network `net` is named by its node, and any other by `NET.NODE`.
 pub fn write_timer<W: Paper>(printer: &mut Printer<W>, net: u16, timer: Timer)
@@ -16,11 +16,21 @@ pub fn write_timer<W: Paper>(printer: &mut Printer<W>, net: u16, timer: Timer)
 {
     let line = beginning();
     match timer {
-        Timer::Retry { tid } => end_with_number(printer, line, b"retry ", u64::from(tid)),
-        Timer::Release { own, key } => write_release(printer, line, net, own, key),
-        Timer::Lookup { id } => end_with_number(printer, line, b"lookup ", u64::from(id)),
-        Timer::Resend { id } => end_with_number(printer, line, b"resend ", u64::from(id)),
-        Timer::Probe { id } => end_with_number(printer, line, b"probe ", u64::from(id)),
+        Timer::Transactions(TransactionTimer::Retry { tid }) => {
+            end_with_number(printer, line, b"retry ", u64::from(tid))
+        }
+        Timer::Transactions(TransactionTimer::Release { own, key }) => {
+            write_release(printer, line, net, own, key)
+        }
+        Timer::Names(NameTimer::Lookup { id }) => {
+            end_with_number(printer, line, b"lookup ", u64::from(id))
+        }
+        Timer::Streams(StreamTimer::Resend { id }) => {
+            end_with_number(printer, line, b"resend ", u64::from(id))
+        }
+        Timer::Streams(StreamTimer::Probe { id }) => {
+            end_with_number(printer, line, b"probe ", u64::from(id))
+        }
     }
 }
 
@@ -37,7 +47,7 @@ fn beginning() -> Piece
 fn write_release<W: Paper>(printer: &mut Printer<W>, line: Piece, net: u16, own: u8, key: Key)
     requires { length line ≤ 6 }
     ensures { Prints W.page printer.old printer.new
-        (line ++ (timer_text net (Timer.Release own key) ++ codes "\n")) }
+        (line ++ (timer_text net (Timer.Transactions (TransactionTimer.Release own key)) ++ codes "\n")) }
 {
     let mut line = line;
     line.put(b"release ");

@@ -9,6 +9,8 @@ use Rattle.at_nbp.specs.declared.name.Name.{Name}
 use Rattle.at_zip.specs.Tables.{Tables, with_table}
 use Rattle.at_event.specs.declared.report.Report.{Report}
 use Rattle.at_event.specs.declared.report.Report.TheVariants as report
+use Rattle.at_event.specs.declared.reports.ZoneReport.TheVariants as zip_report
+use Rattle.at_event.specs.declared.reports.NameReport.TheVariants as nbp_report
 
 pub record SessionState : Type 0 where
   pub lists : Tables  -- the zone list of the last reading of each kind that ended with one
@@ -52,10 +54,10 @@ address_at s index = option_map (λ f. f.address) (slice_get s.finds index)
 
 -- a reading that ends with a zone list leaves this list of its kind; any other report leaves the lists before it
 abbrev pub list_kept : {A : Type 0} → SessionState → Report A → SessionState
-list_kept s (report.Zones which names) = record s { lists = with_table which names s.lists }
+list_kept s (report.Zones (zip_report.List which names)) = record s { lists = with_table which names s.lists }
 list_kept s other = s
 
 -- a lookup that ends leaves what it found; a claim leaves what was found before it
 abbrev pub finds_kept : {A : Type 0} → SessionState → Report A → SessionState
-finds_kept s (report.Found finds) = record s { finds = finds }
+finds_kept s (report.Names (nbp_report.Found finds)) = record s { finds = finds }
 finds_kept s other = s

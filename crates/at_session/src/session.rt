@@ -8,7 +8,7 @@ ghost use Rattle.std.specs.List.{list_any};
 ghost use Rattle.at_zip.specs.declared.request.Which.{Which};
 
 use at_ddp::{Address, Listed, Pascal, same_text};
-use at_event::{NodeFault, Report};
+use at_event::{NameReport, NodeFault, Report, ZoneReport};
 use at_nbp::{Find, Name, copy_of};
 use at_zip::Which;
 use std::alloc::{Allocator, Global};
@@ -97,11 +97,11 @@ impl<A: Allocator + Copy> Session<A> {
 
     /// Keeps the zone list of a report; `list` is that list, if the report has one. This needs no memory.
     pub fn keep_list(&mut self, report: &Report<A>, list: Option<Listed<Pascal, A>>)
-        requires { (which : Which) (names : List (List ℕ)) → report.now ≡ Report.Zones which names
+        requires { (which : Which) (names : List (List ℕ)) → report.now ≡ Report.Zones (ZoneReport.List which names)
             → list ≡ Some names }
         ensures { self.new ≡ list_kept self.old report.now }
     {
-        if let (Report::Zones { which, .. }, Some(list)) = (report, list) {
+        if let (Report::Zones(ZoneReport::List { which, .. }), Some(list)) = (report, list) {
             match which {
                 Which::All => self.all = list,
                 Which::Local => self.local = list,
@@ -111,10 +111,10 @@ impl<A: Allocator + Copy> Session<A> {
 
     /// Keeps the finds of a report; `finds` are these finds, if the report has some. This needs no memory.
     pub fn keep_finds(&mut self, report: &Report<A>, finds: Option<Listed<Find, A>>)
-        requires { (found : List Found) → report.now ≡ Report.Found found → finds ≡ Some found }
+        requires { (found : List Found) → report.now ≡ Report.Names (NameReport.Found found) → finds ≡ Some found }
         ensures { self.new ≡ finds_kept self.old report.now }
     {
-        if let (Report::Found(_), Some(finds)) = (report, finds) {
+        if let (Report::Names(NameReport::Found(_)), Some(finds)) = (report, finds) {
             self.finds = finds;
         }
     }

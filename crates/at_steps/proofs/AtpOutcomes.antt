@@ -49,8 +49,12 @@ use Rattle.at_event.specs.declared.calls.TransactionCall.TheVariants.{Ask, Answe
 use Rattle.at_event.specs.declared.calls.ZoneCall.TheVariants as zone
 use Rattle.at_event.specs.declared.report.Report.{Report}
 use Rattle.at_event.specs.declared.report.Report.TheVariants as report
+use Rattle.at_event.specs.declared.reports.ZoneReport.TheVariants as zip_report
 use Rattle.at_event.specs.declared.event.Timer.{Timer}
 use Rattle.at_event.specs.declared.event.Timer.TheVariants as timer
+use Rattle.at_event.specs.declared.timers.TransactionTimer.TheVariants as atp_timer
+use Rattle.at_event.specs.declared.timers.NameTimer.TheVariants as nbp_timer
+use Rattle.at_event.specs.declared.timers.StreamTimer.TheVariants as adsp_timer
 use Rattle.at_event.specs.declared.seat.Seat.{Seat}
 use Rattle.at_event.specs.declared.service.Reply.{Reply}
 use Rattle.at_session.specs.Sessions.{SessionState}
@@ -175,36 +179,36 @@ module _ (A : Type 0) (a : AtpState) where
   timer_refused time (Some k) = (tt, tt)
 
   failing : (tid : ℕ) (after : Requests) (b : Bool)
-      → IsOfTransactions A (Fires (timer.Retry tid)) (after_failing a tid after b)
+      → IsOfTransactions A (Fires (timer.Transactions (atp_timer.Retry tid))) (after_failing a tid after b)
   failing tid after true = (tt, tt)
   failing tid after false = (tt, tt)
 
   retrying : (s : Seat) (tid : ℕ) (r : Retried) (x : Retry)
-      → IsOfTransactions A (Fires (timer.Retry tid)) (after_retry s a tid r x)
+      → IsOfTransactions A (Fires (timer.Transactions (atp_timer.Retry tid))) (after_retry s a tid r x)
   retrying s tid r retry.AskedAgain = (all_atp (asker s.net s.number) (spelled_all r.sent), tt)
   retrying s tid r retry.Failed = failing tid r.after (is_reading a.reading tid)
 
   firing : (s : Seat) (tid : ℕ) (o : Option Retried)
-      → IsOfTransactions A (Fires (timer.Retry tid)) (retry_fired s a tid o)
-  firing s tid None = timer_refused (timer.Retry tid) (atp.number_of NoSuch)
+      → IsOfTransactions A (Fires (timer.Transactions (atp_timer.Retry tid))) (retry_fired s a tid o)
+  firing s tid None = timer_refused (timer.Transactions (atp_timer.Retry tid)) (atp.number_of NoSuch)
   firing s tid (Some r) = retrying s tid r r.step
 
   expiring : (own : ℕ) (key : Key) (o : Option AtpFault)
-      → IsOfTransactions A (Fires (timer.Release own key)) (expired a own key o)
+      → IsOfTransactions A (Fires (timer.Transactions (atp_timer.Release own key))) (expired a own key o)
   expiring own key (Some fault) =
-      timer_refused (timer.Release own key) (atp.number_of fault)
+      timer_refused (timer.Transactions (atp_timer.Release own key)) (atp.number_of fault)
   expiring own key None = (tt, tt)
 
 pub timer_of_atp : (A : Type 0) (n : NodeState) (time : Timer) → is_atp (kind_of_timer time) ≡ true
     → ComesOfAtp A n (Fires time) (timed n time)
-timer_of_atp A n (timer.Retry tid) h = record {
+timer_of_atp A n (timer.Transactions (atp_timer.Retry tid)) h = record {
   part = retry_fired n.seat n.atp tid (retried n.atp.requester tid);
   kept = n.session;
   is = refl;
   keeps = refl;
   its = firing A n.atp n.seat tid (retried n.atp.requester tid);
 }
-timer_of_atp A n (timer.Release own key) h = record {
+timer_of_atp A n (timer.Transactions (atp_timer.Release own key)) h = record {
   part = release_fired n.atp own key;
   kept = n.session;
   is = refl;
@@ -212,9 +216,9 @@ timer_of_atp A n (timer.Release own key) h = record {
   its = expiring A n.atp own key
       (expiry_fault (find (is_key key) (records_at n.atp own)));
 }
-timer_of_atp A n (timer.Lookup id) h = absurd (true≢false (sym h))
-timer_of_atp A n (timer.Resend id) h = absurd (true≢false (sym h))
-timer_of_atp A n (timer.Probe id) h = absurd (true≢false (sym h))
+timer_of_atp A n (timer.Names (nbp_timer.Lookup id)) h = absurd (true≢false (sym h))
+timer_of_atp A n (timer.Streams (adsp_timer.Resend id)) h = absurd (true≢false (sym h))
+timer_of_atp A n (timer.Streams (adsp_timer.Probe id)) h = absurd (true≢false (sym h))
 
 module _ (A : Type 0) (s : Seat) (a : AtpState) (which : ℕ) where
   by : (o q : Outcome A AtpState) → o ≡ q → IsOfTransactions A (Gets which) q → IsOfTransactions A (Gets which) o
@@ -239,11 +243,12 @@ module _ (A : Type 0) (s : Seat) (a : AtpState) (which : ℕ) where
       → TakesPage s a h from names q o → IsOfTransactions A (Gets which) o
   paging h from names q o = go (nat_lt 1024 (length names + length q.names)) q.last
     where
-      go : (long last : Bool) → MatchBool long (o ≡ after_heard s a h (report.ZoneFault 34) None)
-          (MatchBool last (o ≡ after_heard s a h (report.Zones (table_read a.reading) (names ++ q.names)) None)
+      go : (long last : Bool) → MatchBool long (o ≡ after_heard s a h (report.Zones (zip_report.Fault 34)) None)
+          (MatchBool last
+          (o ≡ after_heard s a h (report.Zones (zip_report.List (table_read a.reading) (names ++ q.names))) None)
           (AsksOn s a h from (names ++ q.names) o)) → IsOfTransactions A (Gets which) o
-      go true last t = hearing o h (report.ZoneFault 34) None tt t
-      go false true t = hearing o h (report.Zones (table_read a.reading) (names ++ q.names)) None tt t
+      go true last t = hearing o h (report.Zones (zip_report.Fault 34)) None tt t
+      go false true t = hearing o h (report.Zones (zip_report.List (table_read a.reading) (names ++ q.names))) None tt t
       go false false t = by o (asks s (record a { requester = h.after })
           (Some (record { which = table_read a.reading; tid = t.tid; names = names ++ q.names }))
           (page_transaction from (table_read a.reading) (names ++ q.names) t.tid))
@@ -252,7 +257,7 @@ module _ (A : Type 0) (s : Seat) (a : AtpState) (which : ℕ) where
   reading_page : (h : Heard A) (from : Address) (names : List (List ℕ)) (p : Packet) (o : Outcome A AtpState)
       → ReadsPage s a h from names p o → IsOfTransactions A (Gets which) o
   reading_page h from names p o (inl t) = paging h from names t.page o t.outcome
-  reading_page h from names p o (inr t) = hearing o h (report.ZoneFault t.number) None tt t.outcome
+  reading_page h from names p o (inr t) = hearing o h (report.Zones (zip_report.Fault t.number)) None tt t.outcome
 
   at_requester : (from : Address) (f : Content) (o : Outcome A AtpState) → AtRequester s a from f o
       → IsOfTransactions A (Gets which) o

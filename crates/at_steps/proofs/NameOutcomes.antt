@@ -34,6 +34,9 @@ use Rattle.at_event.specs.declared.report.Report.{Report}
 use Rattle.at_event.specs.declared.report.Report.TheVariants as report
 use Rattle.at_event.specs.declared.event.Timer.{Timer}
 use Rattle.at_event.specs.declared.event.Timer.TheVariants as timer
+use Rattle.at_event.specs.declared.timers.TransactionTimer.TheVariants as atp_timer
+use Rattle.at_event.specs.declared.timers.NameTimer.TheVariants as nbp_timer
+use Rattle.at_event.specs.declared.timers.StreamTimer.TheVariants as adsp_timer
 use Rattle.at_event.specs.declared.seat.Seat.{Seat}
 use Rattle.at_session.specs.Sessions.{SessionState, finds_kept, pattern_asked}
 use Rattle.at_steps.specs.SessionSteps.{after as kept_after}
@@ -160,15 +163,15 @@ call_of_names A n (Names (Unregister object kind)) h = record {
 call_of_names A n (Streams call) h = absurd (true≢false (sym h))
 
 asked : (A : Type 0) (s : Seat) (n : SocketState) (id : ℕ) (o : Option Search)
-    → IsOfLookups A (Fires (timer.Lookup id)) (asked_again s n o)
+    → IsOfLookups A (Fires (timer.Names (nbp_timer.Lookup id))) (asked_again s n o)
 asked A s n id None = (tt, (tt, tt))
 asked A s n id (Some search) = ((refl, tt), (tt, tt))
 
 pub timer_of_names : (A : Type 0) (n : NodeState) (time : Timer) → is_nbp (kind_of_timer time) ≡ true
     → ComesOfNames A n (Fires time) (timed n time)
-timer_of_names A n (timer.Retry tid) h = absurd (true≢false (sym h))
-timer_of_names A n (timer.Release own key) h = absurd (true≢false (sym h))
-timer_of_names A n (timer.Lookup id) h =
+timer_of_names A n (timer.Transactions (atp_timer.Retry tid)) h = absurd (true≢false (sym h))
+timer_of_names A n (timer.Transactions (atp_timer.Release own key)) h = absurd (true≢false (sym h))
+timer_of_names A n (timer.Names (nbp_timer.Lookup id)) h =
     record {
       part = lookup_fired n.seat n.names id;
       kept = n.session;
@@ -176,8 +179,8 @@ timer_of_names A n (timer.Lookup id) h =
       keeps = refl;
       its = asked A n.seat n.names id (search_of n.names.lookups id);
     }
-timer_of_names A n (timer.Resend id) h = absurd (true≢false (sym h))
-timer_of_names A n (timer.Probe id) h = absurd (true≢false (sym h))
+timer_of_names A n (timer.Streams (adsp_timer.Resend id)) h = absurd (true≢false (sym h))
+timer_of_names A n (timer.Streams (adsp_timer.Probe id)) h = absurd (true≢false (sym h))
 
 module _ (A : Type 0) (s : Seat) (n : SocketState) (which : ℕ) where
   step_told : (h : Heard) → SaidOfNames A (Gets which) (told_by h)

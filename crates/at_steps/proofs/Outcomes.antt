@@ -15,8 +15,12 @@ use Rattle.at_event.specs.declared.event.Call.TheVariants as protocol
 use Rattle.at_event.specs.declared.calls.SessionCall.TheVariants.{Pick}
 use Rattle.at_event.specs.declared.report.Report.{Report}
 use Rattle.at_event.specs.declared.report.Report.TheVariants as report
+use Rattle.at_event.specs.declared.reports.ZoneReport.TheVariants as zip_report
 use Rattle.at_event.specs.declared.event.Timer.{Timer}
 use Rattle.at_event.specs.declared.event.Timer.TheVariants as timer
+use Rattle.at_event.specs.declared.timers.TransactionTimer.TheVariants as atp_timer
+use Rattle.at_event.specs.declared.timers.NameTimer.TheVariants as nbp_timer
+use Rattle.at_event.specs.declared.timers.StreamTimer.TheVariants as adsp_timer
 use Rattle.at_event.specs.declared.service.Reply.{Reply}
 use Rattle.at_node.specs.AtpHearing.{HearsAtp, atp_socket}
 use Rattle.at_node.specs.Hearing.{Hears, HearsIt, HearsMine}
@@ -67,12 +71,12 @@ pub record ComesByType (A : Type 0) (n : NodeState) (which : ℕ) (o : Outcome A
 -- another protocol tells of no zone list
 no_list_of_names : (A : Type 0) (s : SessionState) (which : ℕ) (r : Report A) → IsOfNbp (reporter_of r) → s
     ≡ list_kept s r
-no_list_of_names A s which (report.Zones kind names) h = absurd h
+no_list_of_names A s which (report.Zones (zip_report.List kind names)) h = absurd h
 no_list_of_names A s which r h = refl
 
 no_list_of_streams : (A : Type 0) (s : SessionState) (which : ℕ) (r : Report A) → IsOfAdsp (reporter_of r)
     → s ≡ list_kept s r
-no_list_of_streams A s which (report.Zones kind names) h = absurd h
+no_list_of_streams A s which (report.Zones (zip_report.List kind names)) h = absurd h
 no_list_of_streams A s which r h = refl
 
 -- what is sent by one type is not of another
@@ -114,11 +118,13 @@ module _ (A : Type 0) (n : NodeState) where
       }
 
   pub timer_comes : (time : Timer) → Comes A n (Fires time) (timed n time) (kind_of_timer time)
-  timer_comes (timer.Retry tid) = timer_of_atp A n (timer.Retry tid) refl
-  timer_comes (timer.Release own key) = timer_of_atp A n (timer.Release own key) refl
-  timer_comes (timer.Lookup id) = timer_of_names A n (timer.Lookup id) refl
-  timer_comes (timer.Resend id) = timer_of_streams A n (timer.Resend id) refl
-  timer_comes (timer.Probe id) = timer_of_streams A n (timer.Probe id) refl
+  timer_comes (timer.Transactions (atp_timer.Retry tid)) =
+      timer_of_atp A n (timer.Transactions (atp_timer.Retry tid)) refl
+  timer_comes (timer.Transactions (atp_timer.Release own key)) =
+      timer_of_atp A n (timer.Transactions (atp_timer.Release own key)) refl
+  timer_comes (timer.Names (nbp_timer.Lookup id)) = timer_of_names A n (timer.Names (nbp_timer.Lookup id)) refl
+  timer_comes (timer.Streams (adsp_timer.Resend id)) = timer_of_streams A n (timer.Streams (adsp_timer.Resend id)) refl
+  timer_comes (timer.Streams (adsp_timer.Probe id)) = timer_of_streams A n (timer.Streams (adsp_timer.Probe id)) refl
 
 -- ---- datagrams
 

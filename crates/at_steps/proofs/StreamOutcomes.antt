@@ -30,14 +30,18 @@ use Rattle.at_event.specs.declared.event.Call.TheVariants.{Transactions, Zones, 
 use Rattle.at_event.specs.declared.calls.StreamCall.TheVariants.{Open, Listen, Connect, Write, Read, Reset, Close}
 use Rattle.at_event.specs.declared.report.Report.{Report}
 use Rattle.at_event.specs.declared.report.Report.TheVariants as report
+use Rattle.at_event.specs.declared.reports.StreamReport.TheVariants as adsp_report
 use Rattle.at_event.specs.declared.event.Timer.{Timer}
 use Rattle.at_event.specs.declared.event.Timer.TheVariants as timer
+use Rattle.at_event.specs.declared.timers.TransactionTimer.TheVariants as atp_timer
+use Rattle.at_event.specs.declared.timers.NameTimer.TheVariants as nbp_timer
+use Rattle.at_event.specs.declared.timers.StreamTimer.TheVariants as adsp_timer
 use Rattle.at_event.specs.declared.seat.Seat.{Seat}
 use Rattle.at_node.specs.Nodes.{NodeState, called, timed, with_streams}
 use Rattle.at_node.specs.SessionCalls.{open_called}
 use Rattle.at_stream_socket.specs.Calls as calls
 use Rattle.at_stream_socket.specs.Hearing.{HearsAdspFault, HearsSegment, HearsStreams, segment_heard}
-use Rattle.at_stream_socket.specs.Sockets.{answered, streams_at, told_by}
+use Rattle.at_stream_socket.specs.Sockets.{answered, streams_at, told_by, told_opening, told_read, told_wrote}
 use Rattle.at_session.specs.Sessions.{SessionState, address_at}
 use Rattle.at_steps.specs.SessionSteps.{after as kept_after}
 use Rattle.at_steps.proofs.Kept.{in_session}
@@ -159,7 +163,7 @@ module _ (A : Type 0) (t : EndTable) (time : Timer) where
 -- a connection is asked for
 connecting : (A : Type 0) (call : Call A) (s : Seat) (t : EndTable) (to : Address)
     → IsOfStreams A (Calls call) (calls.connect_called s t to)
-connecting A call s t to = called_with A (Calls call) t s report.Opening (connected t to (next_id t)) (λ d is. (tt, tt))
+connecting A call s t to = called_with A (Calls call) t s told_opening (connected t to (next_id t)) (λ d is. (tt, tt))
 
 opening : (A : Type 0) (index : ℕ) (s : Seat) (t : EndTable) (o : Option Address)
     → IsOfStreams A (Calls (Streams (Open index))) (open_called s t o)
@@ -199,7 +203,7 @@ call_of_streams A n (Streams (Write id items)) h = record {
   kept = n.session;
   is = refl;
   keeps = refl;
-  its = called_with A (Calls (Streams (Write id items))) n.streams n.seat report.Wrote
+  its = called_with A (Calls (Streams (Write id items))) n.streams n.seat told_wrote
       (wrote wire n.streams items (by_id n.streams id)) (λ d is. (tt, tt));
 }
 call_of_streams A n (Streams (Read id count)) h = record {
@@ -207,7 +211,7 @@ call_of_streams A n (Streams (Read id count)) h = record {
   kept = n.session;
   is = refl;
   keeps = refl;
-  its = called_with A (Calls (Streams (Read id count))) n.streams n.seat report.Read
+  its = called_with A (Calls (Streams (Read id count))) n.streams n.seat told_read
       (read_at wire n.streams count (by_id n.streams id)) (λ d is. (tt, tt));
 }
 call_of_streams A n (Streams (Reset id)) h = record {
@@ -215,7 +219,7 @@ call_of_streams A n (Streams (Reset id)) h = record {
   kept = n.session;
   is = refl;
   keeps = refl;
-  its = called_with A (Calls (Streams (Reset id))) n.streams n.seat (λ answer. report.StreamReset)
+  its = called_with A (Calls (Streams (Reset id))) n.streams n.seat (λ answer. report.Streams adsp_report.Reset)
       (reset_at wire n.streams (by_id n.streams id)) (λ d is. (tt, tt));
 }
 call_of_streams A n (Streams (Close id)) h = record {
@@ -231,26 +235,26 @@ call_of_streams A n (Streams (Close id)) h = record {
 
 pub timer_of_streams : (A : Type 0) (n : NodeState) (time : Timer) → is_adsp (kind_of_timer time) ≡ true
     → ComesOfStreams A n (Fires time) (timed n time)
-timer_of_streams A n (timer.Retry tid) h = absurd (true≢false (sym h))
-timer_of_streams A n (timer.Release own key) h = absurd (true≢false (sym h))
-timer_of_streams A n (timer.Lookup id) h = absurd (true≢false (sym h))
-timer_of_streams A n (timer.Resend id) h = record {
+timer_of_streams A n (timer.Transactions (atp_timer.Retry tid)) h = absurd (true≢false (sym h))
+timer_of_streams A n (timer.Transactions (atp_timer.Release own key)) h = absurd (true≢false (sym h))
+timer_of_streams A n (timer.Names (nbp_timer.Lookup id)) h = absurd (true≢false (sym h))
+timer_of_streams A n (timer.Streams (adsp_timer.Resend id)) h = record {
   part = calls.tick_fired n.seat n.streams id tick.Retransmit;
   kept = n.session;
   is = refl;
   keeps = refl;
-  its = called_with A (Fires (timer.Resend id)) n.streams n.seat told_by
+  its = called_with A (Fires (timer.Streams (adsp_timer.Resend id))) n.streams n.seat told_by
       (ticked_at wire n.streams tick.Retransmit (by_id n.streams id))
-      (λ d is. ticking A n.streams (timer.Resend id) tick.Retransmit (by_id n.streams id) d is);
+      (λ d is. ticking A n.streams (timer.Streams (adsp_timer.Resend id)) tick.Retransmit (by_id n.streams id) d is);
 }
-timer_of_streams A n (timer.Probe id) h = record {
+timer_of_streams A n (timer.Streams (adsp_timer.Probe id)) h = record {
   part = calls.tick_fired n.seat n.streams id tick.Probe;
   kept = n.session;
   is = refl;
   keeps = refl;
-  its = called_with A (Fires (timer.Probe id)) n.streams n.seat told_by
+  its = called_with A (Fires (timer.Streams (adsp_timer.Probe id))) n.streams n.seat told_by
       (ticked_at wire n.streams tick.Probe (by_id n.streams id))
-      (λ d is. ticking A n.streams (timer.Probe id) tick.Probe (by_id n.streams id) d is);
+      (λ d is. ticking A n.streams (timer.Streams (adsp_timer.Probe id)) tick.Probe (by_id n.streams id) d is);
 }
 
 module _ (A : Type 0) (s : Seat) (t : EndTable) (which : ℕ) where

@@ -22,6 +22,7 @@ use Rattle.at_node.specs.declared.numbers.Draw.{Draw}
 use Rattle.at_node.specs.declared.numbers.Draw.TheVariants.{Tid}
 use Rattle.at_event.specs.declared.report.Report.{Report}
 use Rattle.at_event.specs.declared.report.Report.TheVariants as report
+use Rattle.at_event.specs.declared.reports.ZoneReport.TheVariants as zip_report
 use Rattle.at_steps.specs.Acts.{Act, is_atp, IsSaid}
 use Rattle.at_steps.specs.AtpReports.{Matches}
 use Rattle.at_steps.specs.AtpSteps.{Change, IsStep}
@@ -74,7 +75,7 @@ numbers_drawn event who other = []
 
 -- one of the router's tables is another after this report
 abbrev pub sets_table : {A : Type 0} → Report A → Bool
-sets_table report.TableSet = true
+sets_table (report.Zones zip_report.TableSet) = true
 sets_table r = false
 
 -- ---- a step of this protocol

@@ -23,7 +23,10 @@ use Rattle.at_event.specs.declared.calls.TransactionCall.TheVariants.{Ask, Answe
 use Rattle.at_event.specs.declared.calls.ZoneCall.TheVariants as zone
 use Rattle.at_event.specs.declared.report.Report.{Report}
 use Rattle.at_event.specs.declared.report.Report.TheVariants as report
+use Rattle.at_event.specs.declared.reports.TransactionReport.TheVariants as atp_report
+use Rattle.at_event.specs.declared.reports.ZoneReport.TheVariants as zip_report
 use Rattle.at_event.specs.declared.event.Timer.TheVariants as timer
+use Rattle.at_event.specs.declared.timers.TransactionTimer.TheVariants as atp_timer
 use Rattle.at_steps.specs.Acts.{Act, Calls, Fires, Gets}
 use Rattle.at_steps.specs.AtpSteps.{page_answer}
 
@@ -31,12 +34,14 @@ use Rattle.at_steps.specs.AtpSteps.{page_answer}
 
 -- a transaction of the node began under the number of this key
 abbrev pub began_under : {A : Type 0} → ℕ → ℕ → Act A → Report A → Key → Bool
-began_under net number act (report.Begun tid) key = same_key (record { from = asking net number; tid = tid }) key
+began_under net number act (report.Transactions (atp_report.Begun tid)) key =
+    same_key (record { from = asking net number; tid = tid }) key
 began_under net number act r key = false
 
 -- the release timer removed the record of this key at one of the node's responders
 abbrev pub expired_at : {A : Type 0} → ℕ → ℕ → Act A → Report A → Address → Key → Bool
-expired_at net number (Fires (timer.Release own k)) report.Expired at key =
+expired_at net number (Fires (timer.Transactions (atp_timer.Release own k))) (report.Transactions atp_report.Expired) at
+    key =
     same_address (record { net = net; node = number; socket = own }) at
     && same_key k key
 expired_at net number act r at key = false
@@ -48,8 +53,8 @@ came_under (Some s) key = same_key (record { from = s.from; tid = number_of s.pa
 
 -- the request of this key was delivered, to the node's service or to the router
 abbrev pub handed_up_by : {A : Type 0} → List (Option Sent) → Act A → Report A → Key → Bool
-handed_up_by sent (Gets which) (report.Asked k user bytes) key = same_key k key
-handed_up_by sent (Gets which) (report.Served count) key = came_under (packet_at sent which) key
+handed_up_by sent (Gets which) (report.Transactions (atp_report.Asked k user bytes)) key = same_key k key
+handed_up_by sent (Gets which) (report.Zones (zip_report.Served count)) key = came_under (packet_at sent which) key
 handed_up_by sent act r key = false
 
 -- is this an exactly-once request?
@@ -98,16 +103,17 @@ pub record IsPageAsked (tables : Option Tables) (n : Network) (which : ℕ) (pac
 -- a call gives an answer, or the router, which has these tables, answers what came by a page of one
 abbrev pub AnswersAs : {A : Type 0} → Option Tables → Network → Happening → Act A → Report A → Type 0
 AnswersAs tables n (Answers at key packets) act r =
-    (count : ℕ) × (act ≡ Calls (Transactions (Answer key packets))) × (r ≡ report.Answered count)
+    (count : ℕ) × (act ≡ Calls (Transactions (Answer key packets)))
+    × (r ≡ report.Transactions (atp_report.Answered count))
 AnswersAs tables n (Serves which packets) act r =
-    (count : ℕ) × (act ≡ Gets which) × (r ≡ report.Served count) × IsPageAsked tables n which packets
+    (count : ℕ) × (act ≡ Gets which) × (r ≡ report.Zones (zip_report.Served count)) × IsPageAsked tables n which packets
 AnswersAs tables n h act r = Unit {0}
 
 -- an answer that is reported joins its transaction: that of a call, or the router's to what came
 abbrev pub Joins : {A : Type 0} → Network → Happening → Report A → Act A → Type 0
-Joins {A} n h (report.Answered count) (Calls (Transactions (Answer key packets))) =
+Joins {A} n h (report.Transactions (atp_report.Answered count)) (Calls (Transactions (Answer key packets))) =
     (done A n h).asked ≡ answered n.asked key.from key.tid packets
-Joins {A} n h (report.Served count) (Gets which) =
+Joins {A} n h (report.Zones (zip_report.Served count)) (Gets which) =
     (s : Sent) × (packet_at n.sent which ≡ Some s)
     × ((packets : List Packet) × ((done A n h).asked ≡ answered n.asked s.from (number_of s.packet) packets))
 Joins n h r act = Unit {0}
@@ -123,8 +129,10 @@ pub record Ends (A : Type 0) (net number : ℕ) (n : Network) (which tid : ℕ) 
 
 -- what came, if a response is reported or the router served a request
 abbrev pub Finishes : {A : Type 0} → ℕ → ℕ → Network → Act A → Report A → Type 0
-Finishes {A} net number n (Gets which) (report.Response tid packets) = Ends A net number n which tid packets
-Finishes net number n (Gets which) (report.Served count) = (s : Sent) × (packet_at n.sent which ≡ Some s)
+Finishes {A} net number n (Gets which) (report.Transactions (atp_report.Response tid packets)) =
+    Ends A net number n which tid packets
+Finishes net number n (Gets which) (report.Zones (zip_report.Served count)) =
+    (s : Sent) × (packet_at n.sent which ≡ Some s)
 Finishes net number n act r = Unit {0}
 
 -- the happening is what the event at the node and its report say; the node has these zone tables, if it is the router

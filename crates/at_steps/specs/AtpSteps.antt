@@ -21,8 +21,11 @@ use Rattle.at_event.specs.declared.calls.TransactionCall.TheVariants.{Ask, Answe
 use Rattle.at_event.specs.declared.calls.ZoneCall.TheVariants as zone
 use Rattle.at_event.specs.declared.report.Report.{Report}
 use Rattle.at_event.specs.declared.report.Report.TheVariants as report
+use Rattle.at_event.specs.declared.reports.TransactionReport.TheVariants as atp_report
+use Rattle.at_event.specs.declared.reports.ZoneReport.TheVariants as zip_report
 use Rattle.at_event.specs.declared.event.Timer.{Timer}
 use Rattle.at_event.specs.declared.event.Timer.TheVariants as timer
+use Rattle.at_event.specs.declared.timers.TransactionTimer.TheVariants as atp_timer
 use Rattle.at_steps.specs.Acts.{Act, Calls, Fires, Gets}
 
 -- a node's transaction, without answers
@@ -53,11 +56,11 @@ is_plain act (report.Refused number) = true
 is_plain act report.NoMemory = true
 is_plain (Gets which) report.Ignored = true
 is_plain (Gets which) report.Again = true
-is_plain (Gets which) report.Kept = true
-is_plain (Gets which) report.Released = true
+is_plain (Gets which) (report.Transactions atp_report.Kept) = true
+is_plain (Gets which) (report.Transactions atp_report.Released) = true
 is_plain (Fires time) report.Again = true
-is_plain (Fires time) (report.Failed tid) = true
-is_plain (Fires (timer.Release own key)) report.Expired = true
+is_plain (Fires time) (report.Transactions (atp_report.Failed tid)) = true
+is_plain (Fires (timer.Transactions (atp_timer.Release own key))) (report.Transactions atp_report.Expired) = true
 is_plain act r = false
 
 -- the transactions before and after, the part before and after, what happened, and its report
@@ -86,7 +89,7 @@ pub record BeginsAsking {A : Type 0} (net number : ℕ) (c : Change A) : Type 0 
   pub xo : Bool
   pub retries : ℕ
   pub act : c.act ≡ Calls (Transactions (Ask node socket user bytes wanted xo retries))
-  pub report : c.report ≡ report.Begun tid
+  pub report : c.report ≡ report.Transactions (atp_report.Begun tid)
   pub asked : c.now_asked
       ≡ new_transaction net number (record { net = net; node = node; socket = socket }) user bytes wanted xo tid
       ∷ c.asked
@@ -100,7 +103,7 @@ pub record BeginsReading {A : Type 0} (net number : ℕ) (router : Option ℕ) (
   pub server : ℕ
   pub is_router : router ≡ Some server
   pub act : c.act ≡ Calls (Zones (zone.Read which))
-  pub report : c.report ≡ report.Begun tid
+  pub report : c.report ≡ report.Transactions (atp_report.Begun tid)
   pub asked : c.now_asked ≡ page_asked net number (zones_at net server) which [] tid ∷ c.asked
   pub reading : c.now.reading ≡ Some (record { which = which; tid = tid; names = [] })
 
@@ -110,7 +113,7 @@ pub record SetsTable {A : Type 0} (c : Change A) : Type 0 where
   pub names : List (List ℕ)
   pub tables : Tables
   pub act : c.act ≡ Calls (Zones (zone.Set which names))
-  pub report : c.report ≡ report.TableSet
+  pub report : c.report ≡ report.Zones zip_report.TableSet
   pub was : c.part.tables ≡ Some tables
   pub becomes : c.now.tables ≡ Some (with_table which names tables)
   pub is_table : IsTable names
@@ -123,7 +126,7 @@ pub record GivesAnswer {A : Type 0} (net number : ℕ) (c : Change A) : Type 0 w
   pub packets : List Packet
   pub count : ℕ
   pub act : c.act ≡ Calls (Transactions (Answer key packets))
-  pub report : c.report ≡ report.Answered count
+  pub report : c.report ≡ report.Transactions (atp_report.Answered count)
   pub newest : Asked c.asked key.from key.tid (serving net number)
   pub few : count ≤ length packets
   pub asked : c.now_asked ≡ answered c.asked key.from key.tid packets
@@ -135,7 +138,7 @@ pub record ServesPage {A : Type 0} (net number : ℕ) (c : Change A) : Type 0 wh
   pub which : ℕ
   pub count : ℕ
   pub act : c.act ≡ Gets which
-  pub report : c.report ≡ report.Served count
+  pub report : c.report ≡ report.Zones (zip_report.Served count)
   pub tables : Tables
   pub are_tables : c.part.tables ≡ Some tables
   pub requester : Address
@@ -155,7 +158,7 @@ pub record HandsUp {A : Type 0} (net number : ℕ) (c : Change A) : Type 0 where
   pub user : List ℕ
   pub bytes : List ℕ
   pub act : c.act ≡ Gets which
-  pub report : c.report ≡ report.Asked key user bytes
+  pub report : c.report ≡ report.Transactions (atp_report.Asked key user bytes)
   pub newest : Asked c.asked key.from key.tid (serving net number)
   pub is_user : (newest.transaction).user ≡ user
   pub is_data : (newest.transaction).data_ ≡ bytes
@@ -168,7 +171,7 @@ pub record Finishes {A : Type 0} (net number : ℕ) (c : Change A) : Type 0 wher
   pub tid : ℕ
   pub packets : List Packet
   pub act : c.act ≡ Gets which
-  pub report : c.report ≡ report.Response tid packets
+  pub report : c.report ≡ report.Transactions (atp_report.Response tid packets)
   pub transaction : Transaction
   pub newest : transaction_of c.asked (asking net number) tid ≡ Some transaction
   pub response : IsResponse transaction packets
@@ -193,21 +196,21 @@ pub record TellsAll {A : Type 0} (which : Which) (names : List (List ℕ)) (p : 
   pub page : Page
   pub spelled : Spells p.user p.data_ page
   pub last : page.last ≡ true
-  pub tells : r ≡ report.Zones which (names ++ page.names)
+  pub tells : r ≡ report.Zones (zip_report.List which (names ++ page.names))
 
 -- with its page there would be too many names
 pub record TellsTooMany {A : Type 0} (names : List (List ℕ)) (p : Packet) (r : Report A) : Type 0 where
   pub page : Page
   pub spelled : Spells p.user p.data_ page
   pub many : 1024 < length names + length page.names
-  pub tells : r ≡ report.ZoneFault 34
+  pub tells : r ≡ report.Zones (zip_report.Fault 34)
 
 -- it has no page
 pub record TellsFault {A : Type 0} (p : Packet) (r : Report A) : Type 0 where
   pub fault : ZipFault
   pub number : ℕ
   pub first : IsFirstFault fault p.user p.data_
-  pub tells : r ≡ report.ZoneFault number
+  pub tells : r ≡ report.Zones (zip_report.Fault number)
 
 -- how a reading of this table with these names ends by a packet
 pub data Tells {A : Type 0} (which : Which) (names : List (List ℕ)) (p : Packet) (r : Report A) : Type 0 where
@@ -230,7 +233,7 @@ pub record TurnsPage {A : Type 0} (net number : ℕ) (c : Change A) : Type 0 whe
   pub last : page.last ≡ false
   pub few : length (came.read).names + length page.names ≤ 1024
   pub tid : ℕ
-  pub report : c.report ≡ report.Begun tid
+  pub report : c.report ≡ report.Transactions (atp_report.Begun tid)
   pub asked : c.now_asked
       ≡ page_asked net number came.from (came.read).which ((came.read).names ++ page.names) tid ∷ c.asked
   pub reading : c.now.reading
@@ -240,7 +243,7 @@ pub record TurnsPage {A : Type 0} (net number : ℕ) (c : Change A) : Type 0 whe
 pub record FailsReading {A : Type 0} (c : Change A) : Type 0 where
   pub time : Timer
   pub act : c.act ≡ Fires time
-  pub report : c.report ≡ report.ZonesFailed
+  pub report : c.report ≡ report.Zones zip_report.Unanswered
   pub read : Reading
   pub reads : c.part.reading ≡ Some read
   pub asked : c.now_asked ≡ c.asked

@@ -15,7 +15,9 @@ use Rattle.at_event.specs.declared.event.Call.TheVariants.{Names}
 use Rattle.at_event.specs.declared.calls.NameCall.TheVariants.{Find, Claim, Finish, Register, Unregister}
 use Rattle.at_event.specs.declared.report.Report.{Report}
 use Rattle.at_event.specs.declared.report.Report.TheVariants as report
+use Rattle.at_event.specs.declared.reports.NameReport.TheVariants as nbp_report
 use Rattle.at_event.specs.declared.event.Timer.TheVariants as timer
+use Rattle.at_event.specs.declared.timers.NameTimer.TheVariants as nbp_timer
 use Rattle.at_steps.specs.Acts.{Act, Calls, Fires, Gets}
 
 -- a report that says nothing new of names and lookups
@@ -23,10 +25,10 @@ abbrev pub is_plain : {A : Type 0} → Act A → Report A → Bool
 is_plain act (report.Refused number) = true
 is_plain act report.NoMemory = true
 is_plain (Gets which) report.Ignored = true
-is_plain (Gets which) report.Relayed = true
-is_plain (Gets which) (report.Names count) = true
-is_plain (Gets which) (report.Finds count) = true
-is_plain (Fires (timer.Lookup id)) report.Again = true
+is_plain (Gets which) (report.Names nbp_report.Relayed) = true
+is_plain (Gets which) (report.Names (nbp_report.Matched count)) = true
+is_plain (Gets which) (report.Names (nbp_report.Added count)) = true
+is_plain (Fires (timer.Names (nbp_timer.Lookup id))) report.Again = true
 is_plain act r = false
 
 -- the socket for names before and after, the session of the node's user, what happened, and its report
@@ -61,7 +63,7 @@ pub record BeginsLookup {A : Type 0} (c : Change A) : Type 0 where
   pub kind : List ℕ
   pub zone : Option (List ℕ)
   pub act : c.act ≡ Calls (Names (Find object kind zone))
-  pub report : c.report ≡ report.Looking id
+  pub report : c.report ≡ report.Names (nbp_report.Looking id)
   pub table : c.now.table ≡ c.part.table
   pub lookups : Lookups c (Opens id (pattern_asked c.session object kind zone) None)
 
@@ -72,7 +74,7 @@ pub record BeginsClaim {A : Type 0} (c : Change A) : Type 0 where
   pub kind : List ℕ
   pub socket : ℕ
   pub act : c.act ≡ Calls (Names (Claim object kind socket))
-  pub report : c.report ≡ report.Looking id
+  pub report : c.report ≡ report.Names (nbp_report.Looking id)
   pub table : c.now.table ≡ c.part.table
   pub lookups : Lookups c (Opens id (any_pattern object kind)
       (Some (record { id = id; object = object; kind = kind; socket = socket })))
@@ -82,7 +84,7 @@ pub record EndsLookup {A : Type 0} (c : Change A) : Type 0 where
   pub id : ℕ
   pub finds : List Found
   pub act : c.act ≡ Calls (Names (Finish id))
-  pub report : c.report ≡ report.Found finds
+  pub report : c.report ≡ report.Names (nbp_report.Found finds)
   pub stands : IsOpen c.part id None finds
   pub table : c.now.table ≡ c.part.table
   pub lookups : Lookups c (Closes id)
@@ -92,7 +94,7 @@ pub record EndsClaim {A : Type 0} (c : Change A) : Type 0 where
   pub id : ℕ
   pub claim : Claimed
   pub act : c.act ≡ Calls (Names (Finish id))
-  pub report : c.report ≡ report.Claimed
+  pub report : c.report ≡ report.Names nbp_report.Claimed
   pub stands : IsOpen c.part id (Some claim) []
   pub allowed : register_fault c.part.table.names claim.object claim.kind ≡ None
   pub table : IsRegistered claim.object claim.kind claim.socket c.part.table c.now.table
@@ -105,7 +107,7 @@ pub record LosesClaim {A : Type 0} (c : Change A) : Type 0 where
   pub finds : List Found
   pub owner : Found
   pub act : c.act ≡ Calls (Names (Finish id))
-  pub report : c.report ≡ report.Taken owner
+  pub report : c.report ≡ report.Names (nbp_report.Taken owner)
   pub stands : IsOpen c.part id (Some claim) finds
   pub taken : taker c.part finds claim ≡ Some owner
   pub table : c.now.table ≡ c.part.table
@@ -117,7 +119,7 @@ pub record RegistersName {A : Type 0} (c : Change A) : Type 0 where
   pub kind : List ℕ
   pub socket : ℕ
   pub act : c.act ≡ Calls (Names (Register object kind socket))
-  pub report : c.report ≡ report.Registered
+  pub report : c.report ≡ report.Names nbp_report.Registered
   pub allowed : register_fault c.part.table.names object kind ≡ None
   pub table : IsRegistered object kind socket c.part.table c.now.table
   pub lookups : Lookups c Stays
@@ -128,7 +130,7 @@ pub record TakesAway {A : Type 0} (c : Change A) : Type 0 where
   pub kind : List ℕ
   pub name : Registered
   pub act : c.act ≡ Calls (Names (Unregister object kind))
-  pub report : c.report ≡ report.Unregistered
+  pub report : c.report ≡ report.Names nbp_report.Unregistered
   pub stood : find (is_called object kind) c.part.table.names ≡ Some name
   pub table : c.now.table ≡ record c.part.table {
     names = without_first (is_called object kind) c.part.table.names;

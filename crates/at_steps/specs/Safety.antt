@@ -22,6 +22,7 @@ use Rattle.at_event.specs.Faults as node
 use Rattle.at_event.specs.Outcomes.{Outcome, idle}
 use Rattle.at_event.specs.declared.report.Report.{Report}
 use Rattle.at_event.specs.declared.report.Report.TheVariants as report
+use Rattle.at_event.specs.declared.reports.ZoneReport.TheVariants as zip_report
 use Rattle.at_event.specs.declared.fault.NodeFault.{NodeFault}
 use Rattle.at_node.specs.Nodes.{NodeState}
 use Rattle.at_node.specs.Responders.{records_at}
@@ -86,7 +87,7 @@ pub record IsReason (Wants : Place → Type 0) (n : NodeState) (number : ℕ) : 
 -- the number that a report tells, of a refusal or of the fault of a page
 abbrev pub number_told : {A : Type 0} → Report A → Option ℕ
 number_told (report.Refused number) = Some number
-number_told (report.ZoneFault number) = Some number
+number_told (report.Zones (zip_report.Fault number)) = Some number
 number_told other = None
 
 -- what comes of an event at a node, or at one of its parts

@@ -23,7 +23,9 @@ use Rattle.at_event.specs.declared.event.Call.TheVariants.{Streams}
 use Rattle.at_event.specs.declared.calls.StreamCall.TheVariants.{Open, Listen, Connect, Write, Read, Reset, Close}
 use Rattle.at_event.specs.declared.report.Report.{Report}
 use Rattle.at_event.specs.declared.report.Report.TheVariants as report
+use Rattle.at_event.specs.declared.reports.StreamReport.TheVariants as adsp_report
 use Rattle.at_event.specs.declared.event.Timer.TheVariants as timer
+use Rattle.at_event.specs.declared.timers.StreamTimer.TheVariants as adsp_timer
 use Rattle.at_node.specs.Numbers.{drawn_by}
 use Rattle.at_node.specs.Nodes.{NodeState}
 use Rattle.at_node.specs.declared.numbers.Draw.{Draw}
@@ -104,9 +106,9 @@ happening_of s at (Calls (Streams (Listen on))) r = Some (Listens at on)
 happening_of s at (Calls (Streams (Close id))) r = Some (Closes at id)
 happening_of s at (Calls (Streams (Write id items))) r = Some (Writes at id items)
 happening_of s at (Calls (Streams (Read id count))) r = Some (Reads at id count)
-happening_of s at (Calls (Streams (Reset id))) report.StreamReset = Some (Resets at id)
-happening_of s at (Fires (timer.Resend id)) r = Some (Ticks at id Retransmit)
-happening_of s at (Fires (timer.Probe id)) r = Some (Ticks at id Probe)
+happening_of s at (Calls (Streams (Reset id))) (report.Streams adsp_report.Reset) = Some (Resets at id)
+happening_of s at (Fires (timer.Streams (adsp_timer.Resend id))) r = Some (Ticks at id Retransmit)
+happening_of s at (Fires (timer.Streams (adsp_timer.Probe id))) r = Some (Ticks at id Probe)
 happening_of s at (Gets which) r = Some (Takes which)
 happening_of s at act r = None
 

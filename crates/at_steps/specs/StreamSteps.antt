@@ -13,30 +13,37 @@ use Rattle.at_event.specs.declared.event.Call.TheVariants.{Streams}
 use Rattle.at_event.specs.declared.calls.StreamCall.TheVariants.{Open, Listen, Connect, Write, Read, Reset, Close}
 use Rattle.at_event.specs.declared.report.Report.{Report}
 use Rattle.at_event.specs.declared.report.Report.TheVariants as report
+use Rattle.at_event.specs.declared.reports.StreamReport.{StreamReport}
+use Rattle.at_event.specs.declared.reports.StreamReport.TheVariants as adsp_report
 use Rattle.at_event.specs.declared.event.Timer.TheVariants as timer
+use Rattle.at_event.specs.declared.timers.StreamTimer.TheVariants as adsp_timer
 use Rattle.at_session.specs.Sessions.{SessionState, address_at}
 use Rattle.at_steps.specs.Acts.{Act, Calls, Fires, Gets}
 
--- A report that says nothing new of streams as their users see them. The end that closes or is freed by a call or a
--- timer is the one that it names.
+-- A report of streams that says nothing new of them as their users see them. The end that closes or is freed by a call
+-- or a timer is the one that it names.
+abbrev pub is_plain_report : {A : Type 0} → StreamReport A → Act A → Bool
+is_plain_report adsp_report.ListenSet (Calls (Streams (Listen on))) = true
+is_plain_report (adsp_report.Closed it) (Calls (Streams (Close id))) = it == id
+is_plain_report (adsp_report.Closed it) (Fires (timer.Streams (adsp_timer.Probe id))) = it == id
+is_plain_report (adsp_report.Closed it) (Gets which) = true
+is_plain_report (adsp_report.Freed it) (Calls (Streams (Close id))) = it == id
+is_plain_report (adsp_report.Freed it) (Fires (timer.Streams (adsp_timer.Probe id))) = it == id
+is_plain_report adsp_report.Idle (Fires (timer.Streams (adsp_timer.Resend id))) = true
+is_plain_report adsp_report.Turned (Gets which) = true
+is_plain_report (adsp_report.Denied id) (Gets which) = true
+is_plain_report (adsp_report.Heard id items) (Gets which) = true
+is_plain_report (adsp_report.Dropped id) (Gets which) = true
+is_plain_report r act = false
+
+-- a report that says nothing new of streams: one of theirs, or one that other parts give too
 abbrev pub is_plain : {A : Type 0} → Act A → Report A → Bool
+is_plain act (report.Streams r) = is_plain_report r act
 is_plain act (report.Refused number) = true
 is_plain act report.NoMemory = true
-is_plain (Calls (Streams (Listen on))) report.ListenSet = true
-is_plain (Calls (Streams (Close id))) (report.Closed it) = it == id
-is_plain (Calls (Streams (Close id))) (report.Freed it) = it == id
-is_plain (Fires (timer.Resend id)) report.Idle = true
-is_plain (Fires (timer.Resend id)) report.Again = true
-is_plain (Fires (timer.Probe id)) report.Again = true
-is_plain (Fires (timer.Probe id)) (report.Closed it) = it == id
-is_plain (Fires (timer.Probe id)) (report.Freed it) = it == id
+is_plain (Fires (timer.Streams time)) report.Again = true
 is_plain (Gets which) report.Ignored = true
-is_plain (Gets which) report.Turned = true
-is_plain (Gets which) (report.Denied id) = true
 is_plain (Gets which) report.Again = true
-is_plain (Gets which) (report.Heard id items) = true
-is_plain (Gets which) (report.Dropped id) = true
-is_plain (Gets which) (report.Closed id) = true
 is_plain act r = false
 
 -- All ends that were ever made, before and after, newest first; the number of the event, the node's socket, all that
@@ -58,11 +65,11 @@ pub record HasEnd {A : Type 0} (c : Change A) (id : ℕ) : Type 0 where
 
 -- the end that such a report names, if it names one
 abbrev pub named_by : {A : Type 0} → Report A → Option ℕ
-named_by (report.Denied id) = Some id
-named_by (report.Heard id items) = Some id
-named_by (report.Dropped id) = Some id
-named_by (report.Closed id) = Some id
-named_by (report.Freed id) = Some id
+named_by (report.Streams (adsp_report.Denied id)) = Some id
+named_by (report.Streams (adsp_report.Heard id items)) = Some id
+named_by (report.Streams (adsp_report.Dropped id)) = Some id
+named_by (report.Streams (adsp_report.Closed id)) = Some id
+named_by (report.Streams (adsp_report.Freed id)) = Some id
 named_by other = None
 
 -- nothing but what the report says
@@ -82,7 +89,7 @@ pub record AsksFor {A : Type 0} (c : Change A) : Type 0 where
   pub id : ℕ
   pub asked : Address
   pub act : asked_by c.session c.at.net c.act ≡ Some asked
-  pub report : c.report ≡ report.Opening id
+  pub report : c.report ≡ report.Streams (adsp_report.Opening id)
   pub streams : c.now ≡ begun c.event c.at id false asked ∷ c.part
 
 -- a request comes, and listening makes an end
@@ -91,7 +98,7 @@ pub record Answers {A : Type 0} (c : Change A) : Type 0 where
   pub id : ℕ
   pub request : Sent
   pub act : c.act ≡ Gets which
-  pub report : c.report ≡ report.Made id
+  pub report : c.report ≡ report.Streams (adsp_report.Made id)
   pub came : packet_at c.sent which ≡ Some request
   pub streams : c.now ≡ begun c.event c.at id true request.from ∷ c.part
 
@@ -100,7 +107,7 @@ pub record Opens {A : Type 0} (c : Change A) : Type 0 where
   pub which : ℕ
   pub id : ℕ
   pub act : c.act ≡ Gets which
-  pub report : c.report ≡ report.Opened id
+  pub report : c.report ≡ report.Streams (adsp_report.Opened id)
   pub opens : OpensWith c.part c.now c.at id
 
 -- the user of an end writes: so many of the items are taken
@@ -109,7 +116,7 @@ pub record Writes {A : Type 0} (c : Change A) : Type 0 where
   pub items : List Item
   pub count : ℕ
   pub act : c.act ≡ Calls (Streams (Write id items))
-  pub report : c.report ≡ report.Wrote count
+  pub report : c.report ≡ report.Streams (adsp_report.Wrote count)
   pub stands : HasEnd c id
   pub fits : count ≤ length items
   pub streams : c.now ≡ with_deed c.at id (WroteItems (take count items)) c.part
@@ -120,7 +127,7 @@ pub record Reads {A : Type 0} (c : Change A) : Type 0 where
   pub count : ℕ
   pub items : List Item
   pub act : c.act ≡ Calls (Streams (Read id count))
-  pub report : c.report ≡ report.Read items
+  pub report : c.report ≡ report.Streams (adsp_report.Read items)
   pub stands : HasEnd c id
   pub fits : length items ≤ count
   pub streams : c.now ≡ with_deed c.at id (ReadItems items) c.part
@@ -129,7 +136,7 @@ pub record Reads {A : Type 0} (c : Change A) : Type 0 where
 pub record Resets {A : Type 0} (c : Change A) : Type 0 where
   pub id : ℕ
   pub act : c.act ≡ Calls (Streams (Reset id))
-  pub report : c.report ≡ report.StreamReset
+  pub report : c.report ≡ report.Streams adsp_report.Reset
   pub stands : HasEnd c id
   pub streams : c.now ≡ with_deed c.at id GaveUp c.part
 

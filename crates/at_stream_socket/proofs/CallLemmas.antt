@@ -26,10 +26,9 @@ use Rattle.at_adsp_ends.specs.Receiving.{settled}
 use Rattle.at_adsp_ends.specs.Tables.{Done, EndTable, freed, moved}
 use Rattle.at_event.specs.Outcomes.{IsStep, idle, posted, refused_as, sent_by, takes_memory, wants_memory}
 use Rattle.at_event.specs.declared.report.Report.{Report}
-use Rattle.at_event.specs.declared.report.Report.TheVariants as report
 use Rattle.at_event.specs.declared.seat.Seat.{Seat}
 use Rattle.at_stream_socket.specs.Calls.{called}
-use Rattle.at_stream_socket.specs.Sockets.{streams_at, told_by}
+use Rattle.at_stream_socket.specs.Sockets.{streams_at, told_by, told_read}
 
 -- ---- what is sent
 
@@ -197,12 +196,12 @@ read_fewer t n u (Some e) is = read_fewer_at t e n u (has_opened e.phase) is
 can_read_at : (t : EndTable) (e : EndState) (n u : ℕ) (b : Bool)
     → ◌≡◌ {A = Result ℕ StreamFault} (cond b (Ok (length e.receiver.unread)) (Err NotOpen)) (Ok u)
     → (A : Type 0) (s : Seat) (d : Done (List Item)) →
-    takes_memory {A = A} (called s t report.Read (cond b (Ok d) (Err NotOpen))).report ≡ true
+    takes_memory {A = A} (called s t told_read (cond b (Ok d) (Err NotOpen))).report ≡ true
 can_read_at t e n u true is A s d = refl
 can_read_at t e n u false is A s d = absurd (cc)
 
 pub can_read : (A : Type 0) (s : Seat) (t : EndTable) (n u : ℕ) (o : Option EndState) → unread_at o ≡ Ok u
-    → takes_memory {A = A} (called s t report.Read (read_at wire t n o)).report ≡ true
+    → takes_memory {A = A} (called s t told_read (read_at wire t n o)).report ≡ true
 can_read A s t n u None is = absurd (cc)
 can_read A s t n u (Some e) is =
     can_read_at t e n u (has_opened e.phase) is A s

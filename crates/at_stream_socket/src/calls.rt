@@ -8,7 +8,7 @@ ghost use Rattle.at_stream_socket.specs.Calls.{write_called};
 use crate::socket::{STREAM_SOCKET, StreamSocket, refused_by, told_by};
 use at_adsp_ends::{Item, Tick};
 use at_ddp::{ADSP, Address, Datagrams, Outbox};
-use at_event::{Report, Seat};
+use at_event::{Report, Seat, StreamReport};
 use std::alloc::Allocator;
 
 impl<A: Allocator + Copy> StreamSocket<A> {
@@ -17,7 +17,7 @@ impl<A: Allocator + Copy> StreamSocket<A> {
         ensures { (sent : List Posted) → IsStep (listen_called self.old on) self.old sent result self.new sent }
     {
         self.ends.listen(on);
-        Report::ListenSet
+        Report::Streams(StreamReport::ListenSet)
     }
 
     /// Asks an address for a connection.
@@ -28,7 +28,7 @@ impl<A: Allocator + Copy> StreamSocket<A> {
         let begun = self.ends.connect(to, &mut outbox);
         *out = outbox.into_list();
         match begun {
-            Ok(id) => Report::Opening(id),
+            Ok(id) => Report::Streams(StreamReport::Opening(id)),
             Err(fault) => refused_by(fault),
         }
     }
@@ -61,7 +61,7 @@ impl<A: Allocator + Copy> StreamSocket<A> {
         let wrote = self.ends.write(id, items, &mut outbox);
         *out = outbox.into_list();
         match wrote {
-            Ok(count) => Report::Wrote(count),
+            Ok(count) => Report::Streams(StreamReport::Wrote(count)),
             Err(fault) => refused_by(fault),
         }
     }
@@ -74,7 +74,7 @@ impl<A: Allocator + Copy> StreamSocket<A> {
         let reset = self.ends.reset(id, &mut outbox);
         *out = outbox.into_list();
         match reset {
-            Ok(()) => Report::StreamReset,
+            Ok(()) => Report::Streams(StreamReport::Reset),
             Err(fault) => refused_by(fault),
         }
     }

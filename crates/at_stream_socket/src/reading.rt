@@ -8,7 +8,7 @@ ghost use Rattle.at_stream_socket.specs.Calls.{read_called};
 use crate::socket::{STREAM_SOCKET, StreamSocket, refused_by};
 use at_adsp_ends::Item;
 use at_ddp::{ADSP, Datagrams, Listed, Outbox};
-use at_event::{Report, Seat};
+use at_event::{Report, Seat, StreamReport};
 use std::alloc::Allocator;
 
 impl<A: Allocator + Copy> StreamSocket<A> {
@@ -37,7 +37,7 @@ impl<A: Allocator + Copy> StreamSocket<A> {
         match read {
             Ok(count) => {
                 items.truncate(count);
-                Report::Read(Listed::from_vec(items))
+                Report::Streams(StreamReport::Read(Listed::from_vec(items)))
             }
             Err(fault) => refused_by(fault),
         }

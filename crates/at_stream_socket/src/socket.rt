@@ -10,7 +10,7 @@ ghost use Rattle.at_event.specs.Services.{is_asked};
 ghost use Rattle.at_stream_socket.specs.Sockets.{told_by};
 
 use at_adsp_ends::{Ends, Rooms, Step, StreamFault, Tick};
-use at_event::Report;
+use at_event::{Report, StreamReport};
 use std::alloc::{Allocator, Global};
 use std::marker::Model;
 
@@ -90,16 +90,16 @@ pub(crate) fn told_by<A: Allocator>(step: Step) -> Report<A>
 {
     match step {
         Step::Ignored => Report::Ignored,
-        Step::Made(id) => Report::Made(id),
-        Step::Opened(id) => Report::Opened(id),
-        Step::Turned => Report::Turned,
-        Step::Denied(id) => Report::Denied(id),
+        Step::Made(id) => Report::Streams(StreamReport::Made(id)),
+        Step::Opened(id) => Report::Streams(StreamReport::Opened(id)),
+        Step::Turned => Report::Streams(StreamReport::Turned),
+        Step::Denied(id) => Report::Streams(StreamReport::Denied(id)),
         Step::Again => Report::Again,
-        Step::Idle => Report::Idle,
-        Step::Heard { id, items } => Report::Heard { id, items },
-        Step::Dropped(id) => Report::Dropped(id),
-        Step::Closed(id) => Report::Closed(id),
-        Step::Freed(id) => Report::Freed(id),
+        Step::Idle => Report::Streams(StreamReport::Idle),
+        Step::Heard { id, items } => Report::Streams(StreamReport::Heard { id, items }),
+        Step::Dropped(id) => Report::Streams(StreamReport::Dropped(id)),
+        Step::Closed(id) => Report::Streams(StreamReport::Closed(id)),
+        Step::Freed(id) => Report::Streams(StreamReport::Freed(id)),
     }
 }
 

@@ -10,6 +10,7 @@ use Rattle.at_atp_frame.specs.Frames.{number_of}
 use Rattle.at_atp_frame.specs.Packets.{Packet}
 use Rattle.at_event.specs.declared.report.Report.{Report}
 use Rattle.at_event.specs.declared.report.Report.TheVariants as report
+use Rattle.at_event.specs.declared.reports.ZoneReport.TheVariants as zip_report
 use Rattle.at_node.specs.Nodes.{NodeState}
 use Rattle.at_setup.specs.declared.event.Event.{Event}
 use Rattle.at_setup.specs.declared.event.Event.TheVariants as event
@@ -33,7 +34,7 @@ NamesPeers m w =
 -- The page that a router reports as served answers the transaction of the request that was delivered: that of its
 -- sender, under its number (Inside AppleTalk, ZIP, "GetZoneList"; ATP, "Transactions").
 abbrev pub AnswersItsRequest : {A : Type 0} → Machine → WorldState → Event A → Report A → Machine → Type 0
-AnswersItsRequest m w (event.Deliver which k) (report.Served count) m' =
+AnswersItsRequest m w (event.Deliver which k) (report.Zones (zip_report.Served count)) m' =
     (request : Sent) × (slice_get w.sent which ≡ Some (posted_packet request))
     × ((page : List Packet) × (m'.atp.asked ≡ answered m.atp.asked request.from (number_of request.packet) page))
 AnswersItsRequest m w e r m' = Unit {0}

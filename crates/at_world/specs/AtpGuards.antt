@@ -19,6 +19,8 @@ use Rattle.at_event.specs.declared.calls.TransactionCall.TheVariants.{Ask, Answe
 use Rattle.at_event.specs.declared.calls.ZoneCall.TheVariants as zone
 use Rattle.at_event.specs.declared.report.Report.{Report}
 use Rattle.at_event.specs.declared.report.Report.TheVariants as report
+use Rattle.at_event.specs.declared.reports.TransactionReport.TheVariants as atp_report
+use Rattle.at_event.specs.declared.reports.ZoneReport.TheVariants as zip_report
 use Rattle.at_steps.specs.AtpSteps.{new_transaction, page_answer, page_asked}
 use Rattle.at_world.specs.Cables.{Cable, at_net}
 use Rattle.at_setup.specs.declared.event.Event.{Event}
@@ -177,19 +179,21 @@ Answers c m node call count m' = ⊥
 
 -- the reports of this protocol, row by row
 abbrev pub Says : {A : Type 0} → Cable → AtpMachine → Event A → Report A → AtpMachine → Type 0
-Says c m (event.Call node call) (report.Begun tid) m' = Begins c m node call tid m'
-Says c m (event.Call node call) (report.Answered count) m' = Answers c m node call count m'
-Says c m (event.Call node call) report.TableSet m' = Sets c m node call m'
-Says c m (event.Deliver which node) (report.Begun tid) m' = GoesOn c m node tid m'
-Says c m (event.Deliver which node) (report.Served count) m' = Serves c m node count m'
-Says c m (event.Deliver which node) (report.Asked key user bytes) m' = IsAsked c m node key user bytes × (m' ≡ next m)
-Says c m (event.Deliver which node) (report.Response tid packets) m' = IsAnswered c m node tid packets × (m' ≡ next m)
-Says c m (event.Deliver which node) (report.Zones table names) m' = EndsReading m node table names m'
-Says c m (event.Deliver which node) report.Kept m' = m' ≡ next m
-Says c m (event.Deliver which node) report.Released m' = m' ≡ next m
-Says c m (event.Timer node timer) report.Expired m' = m' ≡ next m
-Says c m (event.Timer node timer) (report.Failed tid) m' = m' ≡ next m
-Says c m (event.Timer node timer) report.ZonesFailed m' = FailsReading m node m'
+Says c m (event.Call node call) (report.Transactions (atp_report.Begun tid)) m' = Begins c m node call tid m'
+Says c m (event.Call node call) (report.Transactions (atp_report.Answered count)) m' = Answers c m node call count m'
+Says c m (event.Call node call) (report.Zones zip_report.TableSet) m' = Sets c m node call m'
+Says c m (event.Deliver which node) (report.Transactions (atp_report.Begun tid)) m' = GoesOn c m node tid m'
+Says c m (event.Deliver which node) (report.Zones (zip_report.Served count)) m' = Serves c m node count m'
+Says c m (event.Deliver which node) (report.Transactions (atp_report.Asked key user bytes)) m' =
+    IsAsked c m node key user bytes × (m' ≡ next m)
+Says c m (event.Deliver which node) (report.Transactions (atp_report.Response tid packets)) m' =
+    IsAnswered c m node tid packets × (m' ≡ next m)
+Says c m (event.Deliver which node) (report.Zones (zip_report.List table names)) m' = EndsReading m node table names m'
+Says c m (event.Deliver which node) (report.Transactions atp_report.Kept) m' = m' ≡ next m
+Says c m (event.Deliver which node) (report.Transactions atp_report.Released) m' = m' ≡ next m
+Says c m (event.Timer node timer) (report.Transactions atp_report.Expired) m' = m' ≡ next m
+Says c m (event.Timer node timer) (report.Transactions (atp_report.Failed tid)) m' = m' ≡ next m
+Says c m (event.Timer node timer) (report.Zones zip_report.Unanswered) m' = FailsReading m node m'
 Says c m e r m' = ⊥
 
 -- at a report of another protocol, or of nobody, a moment passes

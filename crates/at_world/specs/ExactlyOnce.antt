@@ -16,6 +16,8 @@ use Rattle.at_event.specs.declared.event.Call.TheVariants.{Transactions}
 use Rattle.at_event.specs.declared.calls.TransactionCall.TheVariants.{Answer}
 use Rattle.at_event.specs.declared.report.Report.{Report}
 use Rattle.at_event.specs.declared.report.Report.TheVariants as report
+use Rattle.at_event.specs.declared.reports.TransactionReport.TheVariants as atp_report
+use Rattle.at_event.specs.declared.reports.ZoneReport.TheVariants as zip_report
 use Rattle.at_steps.specs.AtpReports.{AsksFrom}
 use Rattle.at_steps.specs.AtpSteps.{page_answer}
 use Rattle.at_world.specs.Events.{NoForge}
@@ -65,8 +67,9 @@ pub record CameFrom (sent : List SentDatagram) (which : ℕ) (key : Key) : Type 
 
 -- it was delivered: to a node's service, whose report has its key, or to the router, which answers what came
 abbrev pub HandsUpBy : {A : Type 0} → List SentDatagram → Event A → Report A → Key → Type 0
-HandsUpBy sent (event.Deliver which node) (report.Asked k user bytes) key = same_key k key ≡ true
-HandsUpBy sent (event.Deliver which node) (report.Served count) key = CameFrom sent which key
+HandsUpBy sent (event.Deliver which node) (report.Transactions (atp_report.Asked k user bytes)) key =
+    same_key k key ≡ true
+HandsUpBy sent (event.Deliver which node) (report.Zones (zip_report.Served count)) key = CameFrom sent which key
 HandsUpBy sent e r key = ⊥
 
 abbrev pub HandsUp : {A : Type 0} → List SentDatagram → Key → Played A → Type 0
@@ -91,8 +94,9 @@ wanted_by net (x ∷ xs) key = if began_under net x.event x.report key then asks
 
 -- an answer was given to it: by a node's user, or by the router, which answers what came
 abbrev pub IsGivenBy : {A : Type 0} → List SentDatagram → Event A → Report A → Key → Type 0
-IsGivenBy sent (event.Call node (Transactions (Answer k given))) (report.Answered count) key = same_key k key ≡ true
-IsGivenBy sent (event.Deliver which node) (report.Served count) key = CameFrom sent which key
+IsGivenBy sent (event.Call node (Transactions (Answer k given))) (report.Transactions (atp_report.Answered count)) key =
+    same_key k key ≡ true
+IsGivenBy sent (event.Deliver which node) (report.Zones (zip_report.Served count)) key = CameFrom sent which key
 IsGivenBy sent e r key = ⊥
 
 abbrev pub Gives : {A : Type 0} → List SentDatagram → Key → Played A → Type 0
@@ -116,9 +120,10 @@ pub record IsPageFor (sent : List SentDatagram) (tables : Tables) (which : ℕ) 
 -- this answer was given to it: that of a node's user, or the page of a table that the router has
 abbrev pub GivesBy : {A : Type 0} → List SentDatagram → Tables → Event A → Report A → Key → List Packet
     → Type 0
-GivesBy sent tables (event.Call node (Transactions (Answer k given))) (report.Answered count) key answer =
+GivesBy sent tables (event.Call node (Transactions (Answer k given))) (report.Transactions (atp_report.Answered count))
+    key answer =
     (same_key k key ≡ true) × (given ≡ answer)
-GivesBy sent tables (event.Deliver which node) (report.Served count) key answer =
+GivesBy sent tables (event.Deliver which node) (report.Zones (zip_report.Served count)) key answer =
     IsPageFor sent tables which key answer
 GivesBy sent tables e r key answer = ⊥
 
@@ -176,7 +181,7 @@ EndsWith net tables sent key packets past =
 -- so it is with a response that is reported
 abbrev pub EndsBy : {A : Type 0} → ℕ → Tables → List SentDatagram → Event A → Report A → List (Played A)
     → Type 0
-EndsBy net tables sent (event.Deliver which node) (report.Response tid packets) past =
+EndsBy net tables sent (event.Deliver which node) (report.Transactions (atp_report.Response tid packets)) past =
     EndsWith net tables sent (record { from = asking net node; tid = tid }) packets past
 EndsBy net tables sent e r past = Unit {0}
 

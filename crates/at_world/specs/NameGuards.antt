@@ -18,6 +18,7 @@ use Rattle.at_event.specs.declared.event.Call.TheVariants.{Names}
 use Rattle.at_event.specs.declared.calls.NameCall.TheVariants.{Find, Claim, Finish, Register, Unregister}
 use Rattle.at_event.specs.declared.report.Report.{Report}
 use Rattle.at_event.specs.declared.report.Report.TheVariants as report
+use Rattle.at_event.specs.declared.reports.NameReport.TheVariants as nbp_report
 use Rattle.at_session.specs.Sessions.{pattern_asked}
 use Rattle.at_world.specs.SessionGuards.{Sessions}
 use Rattle.at_setup.specs.declared.event.Event.{Event}
@@ -163,16 +164,19 @@ Begins ss m node call id m' = ⊥
 
 -- the reports of this protocol, row by row
 abbrev pub Says : {A : Type 0} → Sessions → NameMachine → Event A → Report A → NameMachine → Type 0
-Says ss m (event.Call node call) (report.Looking id) m' = Begins ss m node call id m'
-Says ss m (event.Call node (Names (Finish id))) (report.Found finds) m' = EndsLookup m node id finds m'
-Says ss m (event.Call node (Names (Finish id))) report.Claimed m' = EndsClaim m node id m'
-Says ss m (event.Call node (Names (Finish id))) (report.Taken owner) m' = LosesClaim m node id owner m'
-Says ss m (event.Call node (Names (Register object kind socket))) report.Registered m' =
+Says ss m (event.Call node call) (report.Names (nbp_report.Looking id)) m' = Begins ss m node call id m'
+Says ss m (event.Call node (Names (Finish id))) (report.Names (nbp_report.Found finds)) m' =
+    EndsLookup m node id finds m'
+Says ss m (event.Call node (Names (Finish id))) (report.Names nbp_report.Claimed) m' = EndsClaim m node id m'
+Says ss m (event.Call node (Names (Finish id))) (report.Names (nbp_report.Taken owner)) m' =
+    LosesClaim m node id owner m'
+Says ss m (event.Call node (Names (Register object kind socket))) (report.Names nbp_report.Registered) m' =
     RegistersName m node object kind socket m'
-Says ss m (event.Call node (Names (Unregister object kind))) report.Unregistered m' = TakesAway m node object kind m'
-Says ss m (event.Deliver which node) report.Relayed m' = m' ≡ next m
-Says ss m (event.Deliver which node) (report.Names count) m' = m' ≡ next m
-Says ss m (event.Deliver which node) (report.Finds count) m' = m' ≡ next m
+Says ss m (event.Call node (Names (Unregister object kind))) (report.Names nbp_report.Unregistered) m' =
+    TakesAway m node object kind m'
+Says ss m (event.Deliver which node) (report.Names nbp_report.Relayed) m' = m' ≡ next m
+Says ss m (event.Deliver which node) (report.Names (nbp_report.Matched count)) m' = m' ≡ next m
+Says ss m (event.Deliver which node) (report.Names (nbp_report.Added count)) m' = m' ≡ next m
 Says ss m e r m' = ⊥
 
 -- at a report of another protocol, or of nobody, a moment passes

@@ -11,6 +11,7 @@ use Rattle.at_event.specs.declared.event.Call.TheVariants.{Streams}
 use Rattle.at_event.specs.declared.calls.StreamCall.TheVariants.{Open, Listen, Connect, Write, Read, Reset, Close}
 use Rattle.at_event.specs.declared.report.Report.{Report}
 use Rattle.at_event.specs.declared.report.Report.TheVariants as report
+use Rattle.at_event.specs.declared.reports.StreamReport.TheVariants as adsp_report
 use Rattle.at_stream_socket.specs.Sockets.{streams_at}
 use Rattle.at_session.specs.Sessions.{address_at}
 use Rattle.at_world.specs.Cables.{Cable, at_net}
@@ -68,29 +69,31 @@ pub record ReadsEnd (c : Cable) (m : StreamMachine) (node id : ℕ) (items : Lis
 
 -- the reports of this protocol, row by row
 abbrev pub Says : {A : Type 0} → Cable → Sessions → StreamMachine → Event A → Report A → StreamMachine → Type 0
-Says c ss m (event.Call node (Streams (Connect to socket))) (report.Opening id) m' =
+Says c ss m (event.Call node (Streams (Connect to socket))) (report.Streams (adsp_report.Opening id)) m' =
     MakesEnd c m node id false (at_net c to socket) m'
-Says c ss m (event.Call node (Streams (Open index))) (report.Opening id) m' = OpensFound c ss m node index id m'
-Says c ss m (event.Deliver which node) (report.Made id) m' =
+Says c ss m (event.Call node (Streams (Open index))) (report.Streams (adsp_report.Opening id)) m' =
+    OpensFound c ss m node index id m'
+Says c ss m (event.Deliver which node) (report.Streams (adsp_report.Made id)) m' =
     (asked : Address) × MakesEnd c m node id true asked m'
-Says c ss m (event.Deliver which node) (report.Opened id) m' = OpensEnd c m node id m'
-Says c ss m (event.Call node (Streams (Write id items))) (report.Wrote count) m' =
+Says c ss m (event.Deliver which node) (report.Streams (adsp_report.Opened id)) m' = OpensEnd c m node id m'
+Says c ss m (event.Call node (Streams (Write id items))) (report.Streams (adsp_report.Wrote count)) m' =
     Does c m node id (Wrote (take count items)) m'
-Says c ss m (event.Call node (Streams (Read id count))) (report.Read items) m' = ReadsEnd c m node id items m'
-Says c ss m (event.Call node (Streams (Reset id))) report.StreamReset m' = Does c m node id GaveUp m'
-Says c ss m (event.Call node (Streams (Listen on))) report.ListenSet m' = m' ≡ next m
-Says c ss m (event.Call node (Streams (Close id))) (report.Closed closed) m' = m' ≡ next m
-Says c ss m (event.Call node (Streams (Close id))) (report.Freed freed) m' = m' ≡ next m
-Says c ss m (event.Timer node time) (report.Closed id) m' = m' ≡ next m
-Says c ss m (event.Timer node time) (report.Freed id) m' = m' ≡ next m
-Says c ss m (event.Timer node time) report.Idle m' = m' ≡ next m
-Says c ss m (event.Deliver which node) report.Turned m' = m' ≡ next m
-Says c ss m (event.Deliver which node) (report.Denied id) m' = m' ≡ next m
-Says c ss m (event.Deliver which node) (report.Heard id items) m' = m' ≡ next m
-Says c ss m (event.Deliver which node) (report.Dropped id) m' = m' ≡ next m
-Says c ss m (event.Deliver which node) (report.Closed id) m' = m' ≡ next m
-Says c ss m (event.Deliver which node) (report.Freed id) m' = m' ≡ next m
-Says c ss m (event.Deliver which node) report.Idle m' = m' ≡ next m
+Says c ss m (event.Call node (Streams (Read id count))) (report.Streams (adsp_report.Read items)) m' =
+    ReadsEnd c m node id items m'
+Says c ss m (event.Call node (Streams (Reset id))) (report.Streams adsp_report.Reset) m' = Does c m node id GaveUp m'
+Says c ss m (event.Call node (Streams (Listen on))) (report.Streams adsp_report.ListenSet) m' = m' ≡ next m
+Says c ss m (event.Call node (Streams (Close id))) (report.Streams (adsp_report.Closed closed)) m' = m' ≡ next m
+Says c ss m (event.Call node (Streams (Close id))) (report.Streams (adsp_report.Freed freed)) m' = m' ≡ next m
+Says c ss m (event.Timer node time) (report.Streams (adsp_report.Closed id)) m' = m' ≡ next m
+Says c ss m (event.Timer node time) (report.Streams (adsp_report.Freed id)) m' = m' ≡ next m
+Says c ss m (event.Timer node time) (report.Streams adsp_report.Idle) m' = m' ≡ next m
+Says c ss m (event.Deliver which node) (report.Streams adsp_report.Turned) m' = m' ≡ next m
+Says c ss m (event.Deliver which node) (report.Streams (adsp_report.Denied id)) m' = m' ≡ next m
+Says c ss m (event.Deliver which node) (report.Streams (adsp_report.Heard id items)) m' = m' ≡ next m
+Says c ss m (event.Deliver which node) (report.Streams (adsp_report.Dropped id)) m' = m' ≡ next m
+Says c ss m (event.Deliver which node) (report.Streams (adsp_report.Closed id)) m' = m' ≡ next m
+Says c ss m (event.Deliver which node) (report.Streams (adsp_report.Freed id)) m' = m' ≡ next m
+Says c ss m (event.Deliver which node) (report.Streams adsp_report.Idle) m' = m' ≡ next m
 Says c ss m e r m' = ⊥
 
 -- at a report of another protocol, or of nobody, nothing changes

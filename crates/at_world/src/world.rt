@@ -17,7 +17,7 @@ use crate::draws::LastDraws;
 use crate::sent::SentList;
 use crate::timely::is_fresh;
 use at_ddp::Datagrams;
-use at_node::{Draw, Input, Node, Report};
+use at_node::{Draw, Input, NameReport, Node, Report, StreamReport, TransactionReport};
 use at_nodes::{is_held, opening_nodes, place_of, take};
 use at_packet::Packet;
 use at_setup::{Event, Fault, Refusal, Setup};
@@ -255,9 +255,11 @@ fn drawn_by<A: Allocator>(report: &Report<A>) -> Option<Draw>
     ensures { result ≡ drawn_by report.now }
 {
     match report {
-        Report::Begun(tid) => Some(Draw::Tid(*tid)),
-        Report::Looking(id) => Some(Draw::Lookup(*id)),
-        Report::Opening(id) | Report::Made(id) => Some(Draw::Conn(*id)),
+        Report::Transactions(TransactionReport::Begun(tid)) => Some(Draw::Tid(*tid)),
+        Report::Names(NameReport::Looking(id)) => Some(Draw::Lookup(*id)),
+        Report::Streams(StreamReport::Opening(id) | StreamReport::Made(id)) => {
+            Some(Draw::Conn(*id))
+        }
         _ => None,
     }
 }

@@ -1,9 +1,7 @@
 -- The reading of a zone table page by page (Inside AppleTalk, ZIP, "GetZoneList": a node asks again, from the place
 -- after the names that it has, until LastFlag is set).
-use Rattle.std.specs.Prelude.{◌≡◌, ℕ, ◌+◌, ◌≤◌, Bool, true, false, List, [], ◌∷◌, ◌++◌, length}
+use Rattle.std.specs.Prelude.{◌≡◌, ℕ, ◌+◌, ◌≤◌, true, false, List, [], ◌∷◌, ◌++◌, length}
 use Rattle.at_zip.specs.Page.{Page, page_of}
-use Rattle.at_zip.specs.declared.reader.Taken.{Taken}
-use Rattle.at_zip.specs.declared.reader.Taken.TheVariants.{Ask, Done}
 
 -- a reading: the names read so far, and room for so many more
 pub record Reader : Type 0 where
@@ -18,16 +16,6 @@ pub record HasRoomFor (r : Reader) (p : Page) : Type 0 where
 -- the place that a reading asks from next: the one after the names that it has
 abbrev pub place_after : List (List ℕ) → ℕ
 place_after read = 1 + length read
-
--- what follows a page: all names are read, or the next page is asked for
-abbrev pub follows : {A : Type 0} → List (List ℕ) → Bool → Taken A
-follows read true = Done read
-follows read false = Ask (place_after read)
-
--- the names that are kept for the next page
-abbrev pub kept : List (List ℕ) → Bool → List (List ℕ)
-kept read true = []
-kept read false = read
 
 -- ---- the pages of one table
 

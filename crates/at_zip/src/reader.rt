@@ -1,7 +1,7 @@
 //! The reading of a table page by page, up to the last one, which gives all names.
 ghost use Rattle.std.specs.Prelude.{◌≡◌, ◌↔◌, ◌+◌, ◌<◌, ◌⊎◌, ◌++◌, [], length, nat_lt, OnErr, OnOk, IfErr, IfOk};
 ghost use Rattle.std.specs.Prelude.{IsErrOf};
-ghost use Rattle.at_zip.specs.Reading.{HasRoomFor, follows, kept, place_after};
+ghost use Rattle.at_zip.specs.Reading.{HasRoomFor, place_after};
 
 use crate::fault::ZipFault;
 use crate::page_view::PageView;
@@ -9,16 +9,6 @@ use crate::zones::{MAX_ZONES, copies_of};
 use at_ddp::{Listed, Pascal};
 use std::alloc::{AllocError, Allocator, Global};
 use std::marker::Model;
-use std::mem;
-
-/// What follows a page.
-#[derive(Drop)]
-pub enum Taken<A: Allocator = Global> {
-    /// The next page is to be asked for, from this place on.
-    Ask(u16),
-    /// It was the last page: these are all names, in their order.
-    Done(Listed<Pascal, A>),
-}
 
 /// A reading of a zone table page by page: the names of the pages so far.
 #[derive(Drop)]
@@ -98,18 +88,21 @@ impl<A: Allocator + Copy> ZoneReader<A> {
         (1 + self.names.len() + page.count()) as u16
     }
 
-    /// Takes a page for which there is room. After the last page the reading has no names any more.
-    pub fn take(&mut self, page: &PageView<'_>) -> Taken<A>
+    /// Adds the names of a page for which there is room. This needs no memory.
+    pub fn take(&mut self, page: &PageView<'_>)
         requires { HasRoomFor self.old page.now }
-        ensures follows { result ≡ follows (self.old.names ++ page.now.names) page.now.last }
-        ensures kept { self.new.names ≡ kept (self.old.names ++ page.now.names) page.now.last }
+        ensures { self.new.names ≡ self.old.names ++ page.now.names }
     {
         page.push_names(&mut self.names);
-        if page.is_last() {
-            let names = mem::replace(&mut self.names, Vec::new(self.alloc));
-            Taken::Done(Listed::from_vec(names))
-        } else {
-            Taken::Ask((1 + self.names.len()) as u16)
-        }
+    }
+
+    /// All names: those so far, and then those of a page for which there is room. This needs no memory.
+    pub fn into_list(self, page: &PageView<'_>) -> Listed<Pascal, A>
+        requires { HasRoomFor self page.now }
+        ensures { result ≡ self.names ++ page.now.names }
+    {
+        let mut names = self.names;
+        page.push_names(&mut names);
+        Listed::from_vec(names)
     }
 }

@@ -8,6 +8,7 @@ use at_atp::{Key, Packet};
 use at_ddp::{Bytes, Datagrams, Listed};
 use at_node::{
     Call, Deferring, Node, PacketCount, Reply, Report, Seat, Service, Settings, TransactionCall,
+    TransactionReport,
 };
 use std::alloc::{AllocError, Global};
 use std::io;
@@ -159,10 +160,18 @@ fn receive<R: Print>(
 // Prints what a node reports, in a line.
 fn tell(rt: &impl Print, node: u8, report: &Report) -> io::Result<()> {
     match report {
-        Report::Begun(tid) => println!(rt; "node {node} sends request {tid}"),
-        Report::Asked { data_, .. } => tell_asked(rt, node, data_),
-        Report::Response { packets, .. } => tell_answer(rt, node, packets.as_slice()),
-        Report::Released => println!(rt; "node {node} learns that its answer came, and forgets it"),
+        Report::Transactions(TransactionReport::Begun(tid)) => println!(rt;
+            "node {node} sends request {tid}"
+        ),
+        Report::Transactions(TransactionReport::Asked { data_, .. }) => tell_asked(rt, node, data_),
+        Report::Transactions(TransactionReport::Response { packets, .. }) => tell_answer(
+            rt,
+            node,
+            packets.as_slice(),
+        ),
+        Report::Transactions(TransactionReport::Released) => println!(rt;
+            "node {node} learns that its answer came, and forgets it"
+        ),
         Report::NoMemory => println!(rt; "node {node} is out of memory"),
         _ => println!(rt; "node {node} has something else to report"),
     }

@@ -1,7 +1,9 @@
 //! A world of two nodes, stepped event by event: a request is lost, and the response to its retry comes late.
 use at_atp::{Key, Packet};
 use at_ddp::{Address, Bytes, Listed};
-use at_node::{Call, PacketCount, Report, Timer, TransactionCall};
+use at_node::{
+    Call, PacketCount, Report, Timer, TransactionCall, TransactionReport, TransactionTimer,
+};
 use at_world::{Event, NodeSetup, Setup, World};
 use std::alloc::{AllocError, Global};
 use std::io;
@@ -120,7 +122,7 @@ fn called(node: u8, call: TransactionCall) -> Event {
 fn retry() -> Event {
     Event::Timer {
         node: CLIENT,
-        timer: Timer::Retry { tid: TID },
+        timer: Timer::Transactions(TransactionTimer::Retry { tid: TID }),
     }
 }
 
@@ -141,13 +143,17 @@ fn step<R: Print + AllocGlobal>(rt: &R, world: &mut World<Global>, number: u32) 
 // Prints what an event of a number reports, in a line.
 fn tell(rt: &impl Print, number: u32, report: &Report) -> io::Result<()> {
     match report {
-        Report::Begun(tid) => println!(rt; "event {number}: request {tid} is sent"),
+        Report::Transactions(TransactionReport::Begun(tid)) => println!(rt;
+            "event {number}: request {tid} is sent"
+        ),
         Report::Again => println!(rt; "event {number}: what was sent before is sent again"),
-        Report::Asked { .. } => println!(rt; "event {number}: the service is asked"),
-        Report::Answered(count) => println!(rt;
+        Report::Transactions(TransactionReport::Asked { .. }) => println!(rt;
+            "event {number}: the service is asked"
+        ),
+        Report::Transactions(TransactionReport::Answered(count)) => println!(rt;
             "event {number}: the answer is sent, packets: {count}"
         ),
-        Report::Response { tid, .. } => println!(rt;
+        Report::Transactions(TransactionReport::Response { tid, .. }) => println!(rt;
             "event {number}: request {tid} has its answer"
         ),
         Report::Ignored => println!(rt; "event {number}: the datagram is ignored"),

@@ -28,6 +28,7 @@ use Rattle.at_event.specs.declared.event.Call.TheVariants.{Transactions, Zones, 
 use Rattle.at_event.specs.declared.calls.TransactionCall.TheVariants.{Ask, Answer}
 use Rattle.at_event.specs.declared.calls.ZoneCall.TheVariants as zone
 use Rattle.at_event.specs.declared.report.Report.TheVariants as report
+use Rattle.at_event.specs.declared.reports.TransactionReport.TheVariants as atp_report
 use Rattle.at_steps.specs.Acts.{Act, Calls, is_atp}
 use Rattle.at_steps.specs.AtpSteps as steps
 use Rattle.at_steps.specs.AtpHappenings.{Stands}
@@ -104,7 +105,8 @@ module _ (A : Type 0) (laws : CallLaws A) (history : List Happening) (n : NodeSt
         let asked : Asked (after A history).asked key.from key.tid here = gives.recorded here key found.0.0 held in
         let done_is = is_done is in
         gave_happens A history n (Calls (Transactions (Answer key packets))) st (network.Answers here key packets)
-        (report.Answered (length sent)) here key.from key.tid packets n.atp.zone_responder now sent
+        (report.Transactions (atp_report.Answered (length sent))) here key.from key.tid packets n.atp.zone_responder now
+        sent
         tt (serving_fits, packets_fit packets found.1 range.1)
         (ap (λ (x : Network). x.event) done_is)
         (λ who. ap (λ (x : Network). x.requesters who) done_is)

@@ -31,6 +31,8 @@ use Rattle.at_node.specs.ZoneReading.{table_read}
 use Rattle.at_node.specs.declared.numbers.Draw.TheVariants.{Tid}
 use Rattle.at_event.specs.declared.report.Report.{Report}
 use Rattle.at_event.specs.declared.report.Report.TheVariants as report
+use Rattle.at_event.specs.declared.reports.TransactionReport.TheVariants as atp_report
+use Rattle.at_event.specs.declared.reports.ZoneReport.TheVariants as zip_report
 use Rattle.at_steps.specs.Acts.{Gets}
 use Rattle.at_steps.specs.AtpReports.{Matches}
 use Rattle.at_steps.specs.AtpHappenings.{Stands, IsOpen}
@@ -295,7 +297,7 @@ module _ (A : Type 0) (laws : HearingLaws A) (history : List Happening) (n : Nod
                 requester = begun (heard {A = A} n.atp.requester s.from s.packet).after
                     (page_transaction s.from kind names k);
                 reading = Some (record { which = kind; tid = k; names = names });
-              }) (report.Begun k);
+              }) (report.Transactions (atp_report.Begun k));
           page = p;
           spelled = spelled;
           last = last;
@@ -312,7 +314,7 @@ module _ (A : Type 0) (laws : HearingLaws A) (history : List Happening) (n : Nod
         → NoneHolds (after A history).responders (asking n.seat.net n.seat.number) k) →
         ReadsPage n.seat n.atp (heard {A = A} n.atp.requester s.from (Response place eom sts tid user bytes)) s.from
         r.names (record { user = user; data_ = bytes }) o → IsIts A history n (Gets which) (over (with_atp n) o)
-    page_happens o free (inr h) = reading_ends (report.ZoneFault h.number) o refl refl
+    page_happens o free (inr h) = reading_ends (report.Zones (zip_report.Fault h.number)) o refl refl
         (Faulty (record { fault = h.fault; number = h.number; first = h.first; tells = refl })) h.outcome
     page_happens o free (inl h) = go (nat_lt 1024 (length r.names + length (h.page).names))
         (h.page).last refl refl h.outcome
@@ -320,26 +322,27 @@ module _ (A : Type 0) (laws : HearingLaws A) (history : List Happening) (n : Nod
         go : (long last : Bool) → nat_lt 1024 (length r.names + length (h.page).names) ≡ long → (h.page).last ≡ last →
             MatchBool long (o ≡ after_heard n.seat n.atp
             (heard {A = A} n.atp.requester s.from (Response place eom sts tid user bytes))
-            (report.ZoneFault 34) None)
+            (report.Zones (zip_report.Fault 34)) None)
             (MatchBool last (o ≡ after_heard n.seat n.atp
             (heard {A = A} n.atp.requester s.from (Response place eom sts tid user bytes))
-            (report.Zones (table_read n.atp.reading) (r.names ++ (h.page).names)) None)
+            (report.Zones (zip_report.List (table_read n.atp.reading) (r.names ++ (h.page).names))) None)
             (AsksOn n.seat n.atp (heard {A = A} n.atp.requester s.from (Response place eom sts tid user bytes))
             s.from (r.names ++ (h.page).names) o)) →
             IsIts A history n (Gets which) (over (with_atp n) o)
-        go true last e f g = reading_ends (report.ZoneFault 34) o refl refl
+        go true last e f g = reading_ends (report.Zones (zip_report.Fault 34)) o refl refl
             (TooMany (record {
               page = h.page;
               spelled = h.spelled;
               many = ltb-true 1024 (length r.names + length (h.page).names) e;
               tells = refl;
             })) g
-        go false true e f g = reading_ends (report.Zones (table_read n.atp.reading) (r.names ++ (h.page).names)) o
+        go false true e f g =
+            reading_ends (report.Zones (zip_report.List (table_read n.atp.reading) (r.names ++ (h.page).names))) o
             refl refl (All (record {
               page = h.page;
               spelled = h.spelled;
               last = f;
-              tells = ap (λ v. report.Zones v (r.names ++ (h.page).names)) (ap table_read reads);
+              tells = ap (λ v. report.Zones (zip_report.List v (r.names ++ (h.page).names))) (ap table_read reads);
             })) g
         go false false e f g = reading_turns h.page o h.spelled f
             (ltb-false 1024 (length r.names + length (h.page).names) e) free g
@@ -370,13 +373,13 @@ module _ (A : Type 0) (laws : HearingLaws A) (history : List Happening) (n : Nod
   other_happens other step.Ignored o is at = plainly report.Ignored o refl refl step.Ignored is refl
       (Plain (record { plain = refl; asked = refl; reading = refl })) at
   other_happens other step.Kept o is at =
-      plainly report.Kept o refl refl step.Kept is refl
+      plainly (report.Transactions atp_report.Kept) o refl refl step.Kept is refl
       (Plain (record { plain = refl; asked = refl; reading = refl })) at
   other_happens other step.AskAgain o is at = plainly report.Again o refl refl step.AskAgain is refl
       (Plain (record { plain = refl; asked = refl; reading = refl })) at
   other_happens other (step.Finished packets) o is at =
       let r = response packets is in
-      steps_so (report.Response tid packets) o refl
+      steps_so (report.Transactions (atp_report.Response tid packets)) o refl
       (ends_match A n.seat.net n.seat.number n.atp.tables (after A history) which tid packets
       (record {
         packet = s;

@@ -30,7 +30,12 @@ use Rattle.at_event.specs.Kinds.{reporter_of}
 use Rattle.at_event.specs.Outcomes.{Outcome, idle, sent_by}
 use Rattle.at_event.specs.declared.report.Report.{Report}
 use Rattle.at_event.specs.declared.report.Report.TheVariants as report
+use Rattle.at_event.specs.declared.reports.TransactionReport.TheVariants as atp_report
+use Rattle.at_event.specs.declared.reports.StreamReport.TheVariants as adsp_report
+use Rattle.at_event.specs.declared.reports.NameReport.TheVariants as nbp_report
+use Rattle.at_event.specs.declared.reports.ZoneReport.TheVariants as zip_report
 use Rattle.at_event.specs.declared.event.Timer.TheVariants as timer
+use Rattle.at_event.specs.declared.timers.TransactionTimer.TheVariants as atp_timer
 use Rattle.at_steps.specs.Acts.{Act, Calls, Fires, Gets, is_atp}
 use Rattle.at_steps.specs.AtpReports.{Matches}
 use Rattle.at_steps.specs.AtpHappenings.{Stands, IsOn, IsOpen, IsHappening, IsForeign, Passes, SendsAtp, numbers_drawn}
@@ -48,17 +53,21 @@ all_atp own (x ∷ xs) = (refl, all_atp own xs)
 -- ---- reports of other protocols
 
 foreign_is_quiet : (A : Type 0) (r : Report A) (act : Act A) → is_atp (reporter_of r) ≡ false → is_quiet r act ≡ true
-foreign_is_quiet A (report.Begun tid) act h = absurd (true≢false h)
-foreign_is_quiet A (report.Answered count) (Calls call) h = absurd (true≢false h)
-foreign_is_quiet A (report.Served count) (Gets which) h = absurd (true≢false h)
-foreign_is_quiet A (report.Asked k user bytes) (Gets which) h = absurd (true≢false h)
-foreign_is_quiet A (report.Response tid packets) (Gets which) h = absurd (true≢false h)
-foreign_is_quiet A report.Expired (Fires (timer.Release own key)) h = absurd (true≢false h)
+foreign_is_quiet A (report.Transactions (atp_report.Begun tid)) act h = absurd (true≢false h)
+foreign_is_quiet A (report.Transactions (atp_report.Answered count)) (Calls call) h = absurd (true≢false h)
+foreign_is_quiet A (report.Zones (zip_report.Served count)) (Gets which) h = absurd (true≢false h)
+foreign_is_quiet A (report.Transactions (atp_report.Asked k user bytes)) (Gets which) h = absurd (true≢false h)
+foreign_is_quiet A (report.Transactions (atp_report.Response tid packets)) (Gets which) h = absurd (true≢false h)
+foreign_is_quiet A (report.Transactions atp_report.Expired) (Fires (timer.Transactions (atp_timer.Release own key))) h =
+    absurd (true≢false h)
 foreign_is_quiet A r act h = refl
 
 foreign_draws_nothing : (A : Type 0) (r : Report A) (event : ℕ) (who : Address) → is_atp (reporter_of r) ≡ false
     → numbers_drawn event who (drawn_by r) ≡ []
-foreign_draws_nothing A (report.Begun tid) event who h = absurd (true≢false h)
+foreign_draws_nothing A (report.Transactions (atp_report.Begun tid)) event who h = absurd (true≢false h)
+foreign_draws_nothing A (report.Names (nbp_report.Looking id)) event who h = refl
+foreign_draws_nothing A (report.Streams (adsp_report.Opening id)) event who h = refl
+foreign_draws_nothing A (report.Streams (adsp_report.Made id)) event who h = refl
 foreign_draws_nothing A r event who h = refl
 
 -- ---- lists of transactions
@@ -356,15 +365,16 @@ module _ (A : Type 0) (history : List Happening) (n : NodeState) (act : Act A)
         reading = reading;
       }) →
       Matches n.seat.net n.seat.number n.atp.tables (after A history)
-      (Begins (asking n.seat.net n.seat.number) to user bytes wanted xo retries) act (report.Begun tid) →
+      (Begins (asking n.seat.net n.seat.number) to user bytes wanted xo retries) act
+      (report.Transactions (atp_report.Begun tid)) →
       StepTo A history n act (new_transaction (asking n.seat.net n.seat.number)
       (beginning tid to user bytes wanted xo retries) ∷ (after A history).asked)
       (record n.atp {
         requester = requests.begun n.atp.requester (beginning tid to user bytes wanted xo retries);
         reading = reading;
-      }) (report.Begun tid) →
+      }) (report.Transactions (atp_report.Begun tid)) →
       IsIts A history n act (record {
-        report = report.Begun tid;
+        report = report.Transactions (atp_report.Begun tid);
         state = with_atp n (record
             n.atp {
               requester = requests.begun n.atp.requester (beginning tid to user bytes wanted xo retries);
@@ -402,7 +412,7 @@ module _ (A : Type 0) (history : List Happening) (n : NodeState) (act : Act A)
         (record n.atp {
           requester = requests.begun n.atp.requester (beginning tid to user bytes wanted xo retries);
           reading = reading;
-        }) (report.Begun tid)) (ap (λ (y : Network). y.asked) (sym is)) step,
+        }) (report.Transactions (atp_report.Begun tid))) (ap (λ (y : Network). y.asked) (sym is)) step,
     all_atp (asking n.seat.net n.seat.number) ((to, request_by (beginning tid to user bytes wanted xo retries)) ∷ []),
   )
     where
@@ -417,10 +427,12 @@ module _ (A : Type 0) (history : List Happening) (n : NodeState) (act : Act A)
 
   -- ---- the router gets other tables
 
-  pub table_happens : (tables : Tables) → AreTables tables → is_quiet {A = A} report.TableSet act ≡ true
-      → StepTo A history n act (after A history).asked (record n.atp { tables = Some tables }) report.TableSet →
+  pub table_happens : (tables : Tables) → AreTables tables
+      → is_quiet {A = A} (report.Zones zip_report.TableSet) act ≡ true
+      → StepTo A history n act (after A history).asked (record n.atp { tables = Some tables })
+      (report.Zones zip_report.TableSet) →
       IsIts A history n act (record {
-        report = report.TableSet;
+        report = report.Zones zip_report.TableSet;
         state = with_atp n (record n.atp { tables = Some tables });
         out = [];
       })
@@ -435,12 +447,13 @@ module _ (A : Type 0) (history : List Happening) (n : NodeState) (act : Act A)
       more = [];
       sent = refl;
       posts = tt;
-      drawn = no_draw report.TableSet refl;
+      drawn = no_draw (report.Zones zip_report.TableSet) refl;
       on_net = st.on_net;
       is_open = st.is_open;
       same_tables = λ no. absurd (true≢false no);
       has_tables = λ now is. let same : tables ≡ now = cc in subst AreTables same are;
-      matches = other_matches A n.seat.net n.seat.number n.atp.tables (after A history) 0 act report.TableSet quiet;
+      matches = other_matches A n.seat.net n.seat.number n.atp.tables (after A history) 0 act
+          (report.Zones zip_report.TableSet) quiet;
     },
     step,
     tt,
@@ -489,16 +502,16 @@ module _ (A : Type 0) (history : List Happening) (n : NodeState) (act : Act A)
           reading = reading;
         }) →
         Matches n.seat.net n.seat.number n.atp.tables (after A history) (Turns which user times) act
-        (report.Begun tid) →
+        (report.Transactions (atp_report.Begun tid)) →
         StepTo A history n act (new_transaction (asking n.seat.net n.seat.number)
         (beginning tid s.from user [] 1 false times) ∷ (after A history).asked)
         (record n.atp {
           requester = requests.begun (heard {A = A} n.atp.requester s.from s.packet).after
               (beginning tid s.from user [] 1 false times);
           reading = reading;
-        }) (report.Begun tid) →
+        }) (report.Transactions (atp_report.Begun tid)) →
         IsIts A history n act (record {
-          report = report.Begun tid;
+          report = report.Transactions (atp_report.Begun tid);
           state = with_atp n (record
               n.atp {
                 requester = requests.begun (heard {A = A} n.atp.requester s.from s.packet).after
@@ -553,7 +566,7 @@ module _ (A : Type 0) (history : List Happening) (n : NodeState) (act : Act A)
             requester = requests.begun (heard {A = A} n.atp.requester s.from s.packet).after
                 (beginning tid s.from user [] 1 false times);
             reading = reading;
-          }) (report.Begun tid))
+          }) (report.Transactions (atp_report.Begun tid)))
           (ap (λ (y : Network). y.asked) (sym turned)) step,
       all_atp (asking n.seat.net n.seat.number)
           ((s.from, request_by (beginning tid s.from user [] 1 false times)) ∷ []),

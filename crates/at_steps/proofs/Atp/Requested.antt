@@ -20,6 +20,7 @@ use Rattle.at_event.specs.Services.{is_asked}
 use Rattle.at_node.specs.ServiceSocket.{service_taken, handed_up, at_service, service_asked, service_released}
 use Rattle.at_event.specs.declared.report.Report.{Report}
 use Rattle.at_event.specs.declared.report.Report.TheVariants as report
+use Rattle.at_event.specs.declared.reports.TransactionReport.TheVariants as atp_report
 use Rattle.at_event.specs.declared.service.Reply.{Reply}
 use Rattle.at_event.specs.declared.service.Reply.TheVariants as reply
 use Rattle.at_steps.specs.Acts.{Gets}
@@ -109,7 +110,7 @@ module _ (A : Type 0) (laws : HearingLaws A) (history : List Happening) (n : Nod
           let a = asks mask xo timer tid user bytes packet_is in
           service_happens A history n (Gets which) st (Takes which)
           (taken n.atp.service_responder s.from (Request mask xo timer tid user bytes)).after []
-          (report.Asked key user bytes) (in_time (after A history) which s was_sent fresh) tt
+          (report.Transactions (atp_report.Asked key user bytes)) (in_time (after A history) which s was_sent fresh) tt
           (is_taken to_is (Request mask xo timer tid user bytes) packet_is
           ∙ ap (with_responder (after A history) (serving n.seat.net n.seat.number)
           (taken n.atp.service_responder s.from (Request mask xo timer tid user bytes)).after) waits.1) refl
@@ -149,7 +150,8 @@ module _ (A : Type 0) (laws : HearingLaws A) (history : List Happening) (n : Nod
           (λ key. refl) refl refl refl)
       by_reception said o reception.Released later is at =
           subst (λ p. IsIts A history n (Gets which) (over (with_atp n) p)) (sym at)
-          (quietly to_is (Request mask xo timer tid user bytes) packet_is report.Released reception.Released is
+          (quietly to_is (Request mask xo timer tid user bytes) packet_is (report.Transactions atp_report.Released)
+          reception.Released is
           (λ key. refl) refl refl refl)
       by_reception said o (reception.New key) later is at =
           let is_later : said ≡ reply.Later = later (ap (λ (x : Outcome A AtpState). is_asked x.report) at) in

@@ -30,6 +30,8 @@ use Rattle.at_node.specs.Responders.{released_report}
 use Rattle.at_node.specs.ZoneSocket.{page_packet, zone_served, zone_taken, at_zones, zone_asked, zone_released}
 use Rattle.at_event.specs.declared.report.Report.{Report}
 use Rattle.at_event.specs.declared.report.Report.TheVariants as report
+use Rattle.at_event.specs.declared.reports.TransactionReport.TheVariants as atp_report
+use Rattle.at_event.specs.declared.reports.ZoneReport.TheVariants as zip_report
 use Rattle.at_steps.specs.Acts.{Gets}
 use Rattle.at_steps.specs.AtpReports.{AsksFrom}
 use Rattle.at_steps.specs.AtpSteps as steps
@@ -151,9 +153,9 @@ module _ (A : Type 0) (laws : HearingLaws A) (history : List Happening) (n : Nod
         let newest : Asked (after A history).asked s.from tid (zones_at n.seat.net n.seat.number) =
         record { transaction = (a.0).transaction; newest = (a.0).newest; asked_it = (a.0).asked_it ∙ to_is } in
         gave_happens A history n (Gets which) st (network.Serves which (page_packet table start ∷ []))
-        (report.Served (length (asked_for
+        (report.Zones (zip_report.Served (length (asked_for
         (find (is_key key) (taken n.atp.zone_responder s.from (Request mask xo timer tid user bytes)).after) key
-        (page_packet table start ∷ []))))
+        (page_packet table start ∷ [])))))
         (zones_at n.seat.net n.seat.number) s.from tid (page_packet table start ∷ [])
         (after_answer (taken n.atp.zone_responder s.from (Request mask xo timer tid user bytes)).after key
         (page_packet table start ∷ [])) n.atp.service_responder
@@ -234,7 +236,8 @@ module _ (A : Type 0) (laws : HearingLaws A) (history : List Happening) (n : Nod
         (sym at) (quietly (Request mask xo timer tid user bytes) packet_is report.Again (reception.Again count) is
         (λ key. refl) refl refl refl)
     by_reception o reception.Released is at = subst (λ p. IsIts A history n (Gets which) (over (with_atp n) p))
-        (sym at) (quietly (Request mask xo timer tid user bytes) packet_is report.Released reception.Released is
+        (sym at) (quietly (Request mask xo timer tid user bytes) packet_is (report.Transactions atp_report.Released)
+        reception.Released is
         (λ key. refl) refl refl refl)
     by_reception o (reception.New key) is at = subst (λ p. IsIts A history n (Gets which) (over (with_atp n) p))
         (sym at) (served key is)

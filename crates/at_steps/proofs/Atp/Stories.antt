@@ -26,31 +26,36 @@ use Rattle.at_event.specs.declared.event.Call.TheVariants.{Transactions}
 use Rattle.at_event.specs.declared.calls.TransactionCall.TheVariants.{Answer}
 use Rattle.at_event.specs.declared.report.Report.{Report}
 use Rattle.at_event.specs.declared.report.Report.TheVariants as report
+use Rattle.at_event.specs.declared.reports.TransactionReport.TheVariants as atp_report
+use Rattle.at_event.specs.declared.reports.ZoneReport.TheVariants as zip_report
 use Rattle.at_event.specs.declared.event.Timer.TheVariants as timer
+use Rattle.at_event.specs.declared.timers.TransactionTimer.TheVariants as atp_timer
+use Rattle.at_event.specs.declared.timers.NameTimer.TheVariants as nbp_timer
+use Rattle.at_event.specs.declared.timers.StreamTimer.TheVariants as adsp_timer
 use Rattle.at_steps.specs.Acts.{Act, Calls, Fires, Gets, Forges}
 use Rattle.at_steps.specs.AtpReports.{IsPageAsked, Matches, Joins, Finishes, Ends, asks_once, asks_for, began_under}
 use Rattle.at_steps.specs.AtpReports.{expired_at, handed_up_by, came_under}
 
 -- an event whose report tells of no beginning, no request, no response and no expiry
 abbrev pub is_quiet : {A : Type 0} → Report A → Act A → Bool
-is_quiet (report.Begun tid) act = false
-is_quiet (report.Answered count) (Calls call) = false
-is_quiet (report.Served count) (Gets which) = false
-is_quiet (report.Asked k user bytes) (Gets which) = false
-is_quiet (report.Response tid packets) (Gets which) = false
-is_quiet report.Expired (Fires (timer.Release own key)) = false
+is_quiet (report.Transactions (atp_report.Begun tid)) act = false
+is_quiet (report.Transactions (atp_report.Answered count)) (Calls call) = false
+is_quiet (report.Zones (zip_report.Served count)) (Gets which) = false
+is_quiet (report.Transactions (atp_report.Asked k user bytes)) (Gets which) = false
+is_quiet (report.Transactions (atp_report.Response tid packets)) (Gets which) = false
+is_quiet (report.Transactions atp_report.Expired) (Fires (timer.Transactions (atp_timer.Release own key))) = false
 is_quiet r act = true
 
 no_begin : (A : Type 0) (net number : ℕ) (act : Act A) (r : Report A) (key : Key) → is_quiet r act ≡ true
     → began_under net number act r key ≡ false
-no_begin A net number act (report.Begun tid) key q = absurd (false≢true q)
+no_begin A net number act (report.Transactions (atp_report.Begun tid)) key q = absurd (false≢true q)
 no_begin A net number act r key q = refl
 
 no_hand_up : (A : Type 0) (sent : List (Option Sent)) (act : Act A) (r : Report A) (key : Key) → is_quiet r act ≡ true
     → handed_up_by sent act r key ≡ false
 no_hand_up A sent (Calls call) r key q = refl
-no_hand_up A sent (Gets which) (report.Served count) key q = absurd (false≢true q)
-no_hand_up A sent (Gets which) (report.Asked k user bytes) key q = absurd (false≢true q)
+no_hand_up A sent (Gets which) (report.Zones (zip_report.Served count)) key q = absurd (false≢true q)
+no_hand_up A sent (Gets which) (report.Transactions (atp_report.Asked k user bytes)) key q = absurd (false≢true q)
 no_hand_up A sent (Gets which) r key q = refl
 no_hand_up A sent (Fires time) r key q = refl
 no_hand_up A sent Forges r key q = refl
@@ -59,30 +64,34 @@ no_expiry : (A : Type 0) (net number : ℕ) (act : Act A) (r : Report A) (at : A
     ≡ true → expired_at net number act r at key ≡ false
 no_expiry A net number (Calls call) r at key q = refl
 no_expiry A net number (Gets which) r at key q = refl
-no_expiry A net number (Fires (timer.Retry tid)) r at key q = refl
-no_expiry A net number (Fires (timer.Release own k)) report.Expired at key q = absurd (false≢true q)
-no_expiry A net number (Fires (timer.Release own k)) r at key q = refl
-no_expiry A net number (Fires (timer.Lookup id)) r at key q = refl
-no_expiry A net number (Fires (timer.Resend id)) r at key q = refl
-no_expiry A net number (Fires (timer.Probe id)) r at key q = refl
+no_expiry A net number (Fires (timer.Transactions (atp_timer.Retry tid))) r at key q = refl
+no_expiry A net number (Fires (timer.Transactions (atp_timer.Release own k))) (report.Transactions atp_report.Expired)
+    at key q = absurd (false≢true q)
+no_expiry A net number (Fires (timer.Transactions (atp_timer.Release own k))) r at key q = refl
+no_expiry A net number (Fires (timer.Names (nbp_timer.Lookup id))) r at key q = refl
+no_expiry A net number (Fires (timer.Streams (adsp_timer.Resend id))) r at key q = refl
+no_expiry A net number (Fires (timer.Streams (adsp_timer.Probe id))) r at key q = refl
 no_expiry A net number Forges r at key q = refl
 
 no_end : (A : Type 0) (net number : ℕ) (n : Network) (act : Act A) (r : Report A) → is_quiet r act ≡ true
     → Finishes net number n act r
 no_end A net number n (Calls call) r q = tt
-no_end A net number n (Gets which) (report.Served count) q = absurd (false≢true q)
-no_end A net number n (Gets which) (report.Response tid packets) q = absurd (false≢true q)
+no_end A net number n (Gets which) (report.Zones (zip_report.Served count)) q = absurd (false≢true q)
+no_end A net number n (Gets which) (report.Transactions (atp_report.Response tid packets)) q = absurd (false≢true q)
 no_end A net number n (Gets which) r q = tt
 no_end A net number n (Fires time) r q = tt
 no_end A net number n Forges r q = tt
 
 no_answer : (A : Type 0) (n : Network) (h : Happening) (act : Act A) (r : Report A) → is_quiet r act ≡ true
     → Joins n h r act
-no_answer A n h (Calls call) (report.Answered count) q = absurd (false≢true q)
-no_answer A n h (Gets which) (report.Served count) q = absurd (false≢true q)
-no_answer A n h (Fires time) (report.Answered count) q = tt
-no_answer A n h Forges (report.Answered count) q = tt
-no_answer A n h Forges (report.Served count) q = tt
+no_answer A n h (Calls call) (report.Transactions (atp_report.Answered count)) q = absurd (false≢true q)
+no_answer A n h (Gets which) (report.Zones (zip_report.Served count)) q = absurd (false≢true q)
+no_answer A n h (Fires time) (report.Transactions (atp_report.Answered count)) q = tt
+no_answer A n h Forges (report.Transactions (atp_report.Answered count)) q = tt
+no_answer A n h Forges (report.Zones (zip_report.Served count)) q = tt
+no_answer A n h (Calls call) (report.Zones (zip_report.Served count)) q = tt
+no_answer A n h (Fires time) (report.Zones (zip_report.Served count)) q = tt
+no_answer A n h (Gets which) (report.Transactions (atp_report.Answered count)) q = tt
 no_answer A n h act r q = tt
 
 module _ (A : Type 0) (net number : ℕ) (tables : Option Tables) (n : Network) where
@@ -103,7 +112,7 @@ module _ (A : Type 0) (net number : ℕ) (tables : Option Tables) (n : Network) 
   pub answers_match : (at : Address) (key : Key) (packets : List Packet) (count : ℕ)
       → (done A n (Answers at key packets)).asked ≡ answered n.asked key.from key.tid packets
       → Matches {A = A} net number tables n (Answers at key packets) (Calls (Transactions (Answer key packets)))
-      (report.Answered count)
+      (report.Transactions (atp_report.Answered count))
   answers_match at key packets count joins =
       record {
         draws_it = λ x. refl;
@@ -132,7 +141,8 @@ module _ (A : Type 0) (net number : ℕ) (tables : Option Tables) (n : Network) 
 
   -- a packet that ends a transaction
   pub ends_match : (which tid : ℕ) (packets : List Packet) → Ends A net number n which tid packets
-      → Matches {A = A} net number tables n (Hears which) (Gets which) (report.Response tid packets)
+      → Matches {A = A} net number tables n (Hears which) (Gets which)
+      (report.Transactions (atp_report.Response tid packets))
   ends_match which tid packets ends =
       record {
         draws_it = λ key. refl;
@@ -164,7 +174,7 @@ module _ (A : Type 0) (net number : ℕ) (tables : Option Tables) (n : Network) 
       (call : Call A) → asks_once (Calls call) ≡ xo → asks_for (Calls call) ≡ wanted
       → next_number (n.requesters (asking net number)) ≡ Some tid →
       Matches net number tables n (Begins (asking net number) to user bytes wanted xo retries) (Calls call)
-      (report.Begun tid)
+      (report.Transactions (atp_report.Begun tid))
   begins_match tid to user bytes wanted xo retries call once many drawn =
       record {
         draws_it = λ key. ap (λ o. is_drawn (asking net number) o key) drawn;
@@ -180,7 +190,8 @@ module _ (A : Type 0) (net number : ℕ) (tables : Option Tables) (n : Network) 
   -- a packet ends a transaction, and the next one begins
   pub turns_match : (which : ℕ) (s : Sent) (user : List ℕ) (times tid : ℕ) → ending A n (packet_at n.sent which)
       ≡ Some s → number_after A n s ≡ Some tid → s.to ≡ asking net number →
-      Matches {A = A} net number tables n (Turns which user times) (Gets which) (report.Begun tid)
+      Matches {A = A} net number tables n (Turns which user times) (Gets which)
+      (report.Transactions (atp_report.Begun tid))
   turns_match which s user times tid ends drawn to_is = record {
     draws_it = λ key. ap (λ o. is_drawn_after A n o key) ends ∙ ap (λ o. is_drawn s.to o key) drawn
         ∙ ap (λ who. same_key (record { from = who; tid = tid }) key) to_is;
@@ -213,7 +224,7 @@ module _ (A : Type 0) (net number : ℕ) (tables : Option Tables) (n : Network) 
     -- a request that is delivered
     pub takes_new : (key : Key) (user bytes : List ℕ) → (taken (n.responders s.to) s.from s.packet).reception
         ≡ reception.New key → Matches {A = A} net number tables n (Takes which) (Gets which)
-        (report.Asked key user bytes)
+        (report.Transactions (atp_report.Asked key user bytes))
     takes_new new user bytes is =
         record {
           draws_it = λ key. refl;
@@ -232,7 +243,8 @@ module _ (A : Type 0) (net number : ℕ) (tables : Option Tables) (n : Network) 
         ≡ record { from = s.from; tid = number_of s.packet } →
         (done A n (Serves which packets)).asked ≡ answered n.asked s.from (number_of s.packet) packets
         → IsPageAsked tables n which packets
-        → Matches {A = A} net number tables n (Serves which packets) (Gets which) (report.Served count)
+        → Matches {A = A} net number tables n (Serves which packets) (Gets which)
+        (report.Zones (zip_report.Served count))
     serves_new new packets count is its joins page = record {
       draws_it = λ key. refl;
       expires_it = λ at key. refl;
@@ -250,7 +262,7 @@ module _ (A : Type 0) (net number : ℕ) (tables : Option Tables) (n : Network) 
       ≡ record { net = net; node = number; socket = own } →
       expiry_fault (find (is_key key) (n.responders place)) ≡ None
       → Matches {A = A} net number tables n (Expires place key)
-      (Fires (timer.Release own key)) report.Expired
+      (Fires (timer.Transactions (atp_timer.Release own key))) (report.Transactions atp_report.Expired)
   expires_match own place key here free = record {
     draws_it = λ x. refl;
     expires_it = λ at x. λ i. is_none (free i) && same_address (here i) at && same_key key x;

@@ -26,8 +26,13 @@ use Rattle.at_node.specs.Responders.{records_at}
 use Rattle.at_event.specs.Seats.{at_socket}
 use Rattle.at_node.specs.ZoneReading.{is_reading, after_failing}
 use Rattle.at_event.specs.declared.report.Report.TheVariants as report
+use Rattle.at_event.specs.declared.reports.TransactionReport.TheVariants as atp_report
+use Rattle.at_event.specs.declared.reports.ZoneReport.TheVariants as zip_report
 use Rattle.at_event.specs.declared.event.Timer.{Timer}
 use Rattle.at_event.specs.declared.event.Timer.TheVariants as timer
+use Rattle.at_event.specs.declared.timers.TransactionTimer.TheVariants as atp_timer
+use Rattle.at_event.specs.declared.timers.NameTimer.TheVariants as nbp_timer
+use Rattle.at_event.specs.declared.timers.StreamTimer.TheVariants as adsp_timer
 use Rattle.at_steps.specs.Acts.{Fires, is_atp}
 use Rattle.at_steps.specs.AtpReports.{Matches}
 use Rattle.at_steps.specs.AtpHappenings.{Stands, IsOpen}
@@ -71,7 +76,7 @@ reads_another reading tid r h is = turned (tid == r.tid) refl (ap (λ o. is_read
 abbrev pub expired_in : {A : Type 0} → AtpState → List Record → Bool → Bool → Key → Option AtpFault → Outcome A AtpState
 expired_in a rs x y key (Some fault) = idle a (refused_as (number_of fault))
 expired_in a rs x y key None = record {
-  report = report.Expired;
+  report = report.Transactions atp_report.Expired;
   state = cond x (record a { service_responder = without_first (is_key key) rs })
       (cond y (record a { zone_responder = without_first (is_key key) rs }) a);
   out = [];
@@ -99,18 +104,20 @@ module _ (A : Type 0) (stays : StaysOpen) (history : List Happening) (n : NodeSt
 
   failing : (r : Retried) → retried n.atp.requester tid ≡ Some r → r.step ≡ retry.Failed → (b : Bool)
       → is_reading n.atp.reading tid ≡ b
-      → IsIts A history n (Fires (timer.Retry tid)) (over (with_atp n) (after_failing n.atp tid r.after b))
+      → IsIts A history n (Fires (timer.Transactions (atp_timer.Retry tid)))
+      (over (with_atp n) (after_failing n.atp tid r.after b))
   failing r is failed true e =
-      requester_happens A history n (Fires (timer.Retry tid)) st
-      (Retries (asking n.seat.net n.seat.number) tid) r.after None [] report.ZonesFailed tt asking_fits
+      requester_happens A history n (Fires (timer.Transactions (atp_timer.Retry tid))) st
+      (Retries (asking n.seat.net n.seat.number) tid) r.after None [] (report.Zones zip_report.Unanswered) tt
+      asking_fits
       (is_done r is ∙ ap (with_requester (after A history) (asking n.seat.net n.seat.number) r.after)
       (failed_sends n.atp.requester tid r is failed)) refl
       (nothing_open r.after)
       (retries_match A n.seat.net n.seat.number n.atp.tables (after A history) (asking n.seat.net n.seat.number) tid
-      (Fires (timer.Retry tid)) report.ZonesFailed refl)
+      (Fires (timer.Transactions (atp_timer.Retry tid))) (report.Zones zip_report.Unanswered) refl)
       (let it = reads_it n.atp.reading tid e in
       Fails (record {
-        time = timer.Retry tid;
+        time = timer.Transactions (atp_timer.Retry tid);
         act = refl;
         report = refl;
         read = it.0;
@@ -119,24 +126,27 @@ module _ (A : Type 0) (stays : StaysOpen) (history : List Happening) (n : NodeSt
         reading = refl;
       }))
   failing r is failed false e =
-      requester_happens A history n (Fires (timer.Retry tid)) st
-      (Retries (asking n.seat.net n.seat.number) tid) r.after n.atp.reading [] (report.Failed tid) tt asking_fits
+      requester_happens A history n (Fires (timer.Transactions (atp_timer.Retry tid))) st
+      (Retries (asking n.seat.net n.seat.number) tid) r.after n.atp.reading []
+      (report.Transactions (atp_report.Failed tid))
+      tt asking_fits
       (is_done r is ∙ ap (with_requester (after A history) (asking n.seat.net n.seat.number) r.after)
       (failed_sends n.atp.requester tid r is failed)) refl
       (goes_on r is (λ f. e))
       (retries_match A n.seat.net n.seat.number n.atp.tables (after A history) (asking n.seat.net n.seat.number) tid
-      (Fires (timer.Retry tid)) (report.Failed tid) refl)
+      (Fires (timer.Transactions (atp_timer.Retry tid))) (report.Transactions (atp_report.Failed tid)) refl)
       (Plain (record { plain = refl; asked = refl; reading = refl }))
 
   retried_so : (r : Retried) → retried n.atp.requester tid ≡ Some r → (s : Retry) → r.step ≡ s
-      → IsIts A history n (Fires (timer.Retry tid)) (over (with_atp n) (after_retry n.seat n.atp tid r s))
+      → IsIts A history n (Fires (timer.Transactions (atp_timer.Retry tid)))
+      (over (with_atp n) (after_retry n.seat n.atp tid r s))
   retried_so r is retry.AskedAgain step =
-      requester_happens A history n (Fires (timer.Retry tid)) st
+      requester_happens A history n (Fires (timer.Transactions (atp_timer.Retry tid))) st
       (Retries (asking n.seat.net n.seat.number) tid) r.after n.atp.reading r.sent report.Again tt asking_fits
       (is_done r is) refl
       (goes_on r is (λ failed. absurd (never r.step step failed)))
       (retries_match A n.seat.net n.seat.number n.atp.tables (after A history) (asking n.seat.net n.seat.number) tid
-      (Fires (timer.Retry tid)) report.Again refl)
+      (Fires (timer.Transactions (atp_timer.Retry tid))) report.Again refl)
       (Plain (record { plain = refl; asked = refl; reading = refl }))
     where
       never : (x : Retry) → x ≡ retry.AskedAgain → x ≡ retry.Failed → ⊥
@@ -144,8 +154,10 @@ module _ (A : Type 0) (stays : StaysOpen) (history : List Happening) (n : NodeSt
   retried_so r is retry.Failed step = failing r is step (is_reading n.atp.reading tid) refl
 
   retry_happens : (o : Option Retried) → retried n.atp.requester tid ≡ o
-      → IsIts A history n (Fires (timer.Retry tid)) (over (with_atp n) (retry_fired n.seat n.atp tid o))
-  retry_happens None is = idle_happens A history n (Fires (timer.Retry tid)) st (report.Refused 15) refl refl refl
+      → IsIts A history n (Fires (timer.Transactions (atp_timer.Retry tid)))
+      (over (with_atp n) (retry_fired n.seat n.atp tid o))
+  retry_happens None is =
+      idle_happens A history n (Fires (timer.Transactions (atp_timer.Retry tid))) st (report.Refused 15) refl refl refl
   retry_happens (Some r) is = retried_so r is r.step refl
 
 -- the release timer of a record
@@ -172,7 +184,7 @@ module _ (A : Type 0) (history : List Happening) (n : NodeState) (st : Stands A 
       → expiry_fault (find (is_key key) rs) ≡ None →
       Matches {A = A} n.seat.net n.seat.number n.atp.tables (after A history)
       (Expires at key)
-      (Fires (timer.Release own key)) report.Expired
+      (Fires (timer.Transactions (atp_timer.Release own key))) (report.Transactions atp_report.Expired)
   expiry_matches at rs here is free =
       expires_match A n.seat.net n.seat.number n.atp.tables (after A history) own at
       key here
@@ -181,25 +193,25 @@ module _ (A : Type 0) (history : List Happening) (n : NodeState) (st : Stands A 
   release_happens : (x y : Bool) (fault : Option AtpFault) → (own == 129) ≡ x → (own == 6) ≡ y
       → expiry_fault (find (is_key key)
       (cond x n.atp.service_responder (cond y n.atp.zone_responder []))) ≡ fault →
-      IsIts A history n (Fires (timer.Release own key))
+      IsIts A history n (Fires (timer.Transactions (atp_timer.Release own key)))
       (over (with_atp n) (expired_in n.atp (cond x n.atp.service_responder (cond y n.atp.zone_responder [])) x y
       key fault))
   release_happens x y (Some fault) ex ey is =
-      refused_happens A history n (Fires (timer.Release own key)) st (number_of fault)
+      refused_happens A history n (Fires (timer.Transactions (atp_timer.Release own key))) st (number_of fault)
   release_happens true y None ex ey is =
-      service_happens A history n (Fires (timer.Release own key)) st
+      service_happens A history n (Fires (timer.Transactions (atp_timer.Release own key))) st
       (Expires (serving n.seat.net n.seat.number) key)
       (without_first (is_key key) n.atp.service_responder)
-      [] report.Expired tt tt
+      [] (report.Transactions atp_report.Expired) tt tt
       (expired_is (serving n.seat.net n.seat.number) n.atp.service_responder st.service is) refl
       (expiry_matches (serving n.seat.net n.seat.number) n.atp.service_responder
       (ap (at_socket n.seat n.seat.number) (sym (eqb-true own 129 ex))) st.service is)
       (Plain (record { plain = refl; asked = refl; reading = refl }))
   release_happens false true None ex ey is =
-      zones_happen A history n (Fires (timer.Release own key)) st
+      zones_happen A history n (Fires (timer.Transactions (atp_timer.Release own key))) st
       (Expires (zones_at n.seat.net n.seat.number) key)
       (without_first (is_key key) n.atp.zone_responder) []
-      report.Expired tt tt
+      (report.Transactions atp_report.Expired) tt tt
       (expired_is (zones_at n.seat.net n.seat.number) n.atp.zone_responder st.zones is) refl
       (expiry_matches (zones_at n.seat.net n.seat.number) n.atp.zone_responder
       (ap (at_socket n.seat n.seat.number) (sym (eqb-true own 6 ey))) st.zones is)
@@ -209,12 +221,12 @@ module _ (A : Type 0) (history : List Happening) (n : NodeState) (st : Stands A 
 pub timer_happens : (A : Type 0) (stays : StaysOpen) (history : List Happening) (n : NodeState)
     (st : Stands A history n.seat.net n.seat.number n) (time : Timer) → is_atp (kind_of_timer time) ≡ true
     → IsIts A history n (Fires time) (timed n time)
-timer_happens A stays history n st (timer.Retry tid) its =
+timer_happens A stays history n st (timer.Transactions (atp_timer.Retry tid)) its =
     retry_happens A stays history n st tid (retried n.atp.requester tid) refl
-timer_happens A stays history n st (timer.Release own key) its =
+timer_happens A stays history n st (timer.Transactions (atp_timer.Release own key)) its =
     release_happens A history n st own key (own == 129) (own == 6)
     (expiry_fault (find (is_key key)
     (records_at n.atp own))) refl refl refl
-timer_happens A stays history n st (timer.Lookup id) its = absurd (cc)
-timer_happens A stays history n st (timer.Resend id) its = absurd (cc)
-timer_happens A stays history n st (timer.Probe id) its = absurd (cc)
+timer_happens A stays history n st (timer.Names (nbp_timer.Lookup id)) its = absurd (cc)
+timer_happens A stays history n st (timer.Streams (adsp_timer.Resend id)) its = absurd (cc)
+timer_happens A stays history n st (timer.Streams (adsp_timer.Probe id)) its = absurd (cc)

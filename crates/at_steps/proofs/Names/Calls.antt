@@ -31,6 +31,7 @@ use Rattle.at_event.specs.declared.event.Call.{Call}
 use Rattle.at_event.specs.declared.event.Call.TheVariants.{Transactions, Zones, Names, Streams, Session}
 use Rattle.at_event.specs.declared.calls.NameCall.TheVariants.{Find, Claim, Finish, Register, Unregister}
 use Rattle.at_event.specs.declared.report.Report.TheVariants as report
+use Rattle.at_event.specs.declared.reports.NameReport.TheVariants as nbp_report
 use Rattle.at_steps.specs.Acts.{Calls, is_nbp}
 use Rattle.at_steps.specs.NameHappenings.{Stands}
 use Rattle.at_steps.specs.NameSteps.{Claims, Finds, HasClaimed, HasLost, Looks, Registers, Unregisters}
@@ -83,7 +84,7 @@ module _ (A : Type 0) (laws : CallLaws A) (setting : Setting) (history : List Ha
       (record { object = object_fits; kind = kind_fits; zone = zone_fits n.session zone st.picked fits }) e in
       let i = h.is in
       let b = i.becomes in (
-        moved A setting history n st (Calls (Names (Find object kind zone))) (report.Looking id)
+        moved A setting history n st (Calls (Names (Find object kind zone))) (report.Names (nbp_report.Looking id))
             (record n.names {
               lookups = lookups.begun n.names.lookups
                   (beginning id (pattern_asked n.session object kind zone));
@@ -114,7 +115,7 @@ module _ (A : Type 0) (laws : CallLaws A) (setting : Setting) (history : List Ha
       lawful object_fits kind_fits fits e in
       let i = h.is in
       let b = i.becomes in (
-        moved A setting history n st (Calls (Names (Claim object kind socket))) (report.Looking id)
+        moved A setting history n st (Calls (Names (Claim object kind socket))) (report.Names (nbp_report.Looking id))
             (claim_begun n.names id object kind socket)
             (Opens id (any_pattern object kind)
             (Some (record { id = id; object = object; kind = kind; socket = socket })))
@@ -236,7 +237,7 @@ module _ (A : Type 0) (laws : CallLaws A) (setting : Setting) (history : List Ha
       lawful object_fits kind_fits fits e in
       let i = h.is in
       let b = i.becomes in (
-        moved A setting history n st (Calls (Names (Register object kind socket))) report.Registered
+        moved A setting history n st (Calls (Names (Register object kind socket))) (report.Names nbp_report.Registered)
             (record n.names { table = registered n.names.table object kind socket }) Stays [] h (λ now is. is),
         Registers (record {
           object = object;
@@ -258,7 +259,7 @@ module _ (A : Type 0) (laws : CallLaws A) (setting : Setting) (history : List Ha
       let h = laws.unregisters (after setting history) (names_of n.seat.net n.seat.number) n.names object kind lawful in
       let i = h.is in
       let b = i.becomes in (
-        moved A setting history n st (Calls (Names (Unregister object kind))) report.Unregistered
+        moved A setting history n st (Calls (Names (Unregister object kind))) (report.Names nbp_report.Unregistered)
             (without_name n.names object kind) Stays [] h (λ now is. is),
         Unregisters (record {
           object = object;

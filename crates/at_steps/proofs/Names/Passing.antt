@@ -14,13 +14,19 @@ use Rattle.at_event.specs.Kinds.{reporter_of}
 use Rattle.at_event.specs.Outcomes.{Outcome}
 use Rattle.at_event.specs.declared.report.Report.{Report}
 use Rattle.at_event.specs.declared.report.Report.TheVariants as report
+use Rattle.at_event.specs.declared.reports.TransactionReport.TheVariants as atp_report
+use Rattle.at_event.specs.declared.reports.NameReport.TheVariants as nbp_report
+use Rattle.at_event.specs.declared.reports.StreamReport.TheVariants as adsp_report
 use Rattle.at_steps.specs.Acts.{Act, is_nbp}
 use Rattle.at_steps.specs.NameHappenings.{BeginsBy, Happens, IsForeign, Stands, name_coding}
 
 -- the report of another protocol draws no identifier
 foreign_begins : (A : Type 0) (r : Report A) (event : ℕ) (who : Address) (before : List Begun)
     → is_nbp (reporter_of r) ≡ false → BeginsBy event who (drawn_by r) before before
-foreign_begins A (report.Looking id) event who before h = absurd (true≢false h)
+foreign_begins A (report.Names (nbp_report.Looking id)) event who before h = absurd (true≢false h)
+foreign_begins A (report.Transactions (atp_report.Begun tid)) event who before h = refl
+foreign_begins A (report.Streams (adsp_report.Opening id)) event who before h = refl
+foreign_begins A (report.Streams (adsp_report.Made id)) event who before h = refl
 foreign_begins A r event who before h = refl
 
 pub foreign_passes : (A : Type 0) (setting : Setting) (history : List Happening) (n : NodeState) (act : Act A)

@@ -13,6 +13,9 @@ use Rattle.at_event.specs.Outcomes.{over}
 use Rattle.at_event.specs.declared.report.Report.TheVariants as report
 use Rattle.at_event.specs.declared.event.Timer.{Timer}
 use Rattle.at_event.specs.declared.event.Timer.TheVariants as timer
+use Rattle.at_event.specs.declared.timers.TransactionTimer.TheVariants as atp_timer
+use Rattle.at_event.specs.declared.timers.NameTimer.TheVariants as nbp_timer
+use Rattle.at_event.specs.declared.timers.StreamTimer.TheVariants as adsp_timer
 use Rattle.at_steps.specs.Acts.{Fires, is_nbp}
 use Rattle.at_steps.specs.NameHappenings.{Stands}
 use Rattle.at_steps.specs.NameSteps.{Plain}
@@ -22,21 +25,23 @@ use Rattle.at_steps.proofs.Names.Moves.{IsIts, moved, refused_moves, stands_lawf
 module _ (A : Type 0) (laws : TimerLaws) (setting : Setting) (history : List Happening) (n : NodeState)
     (st : Stands setting history n.seat.net n.seat.number n) where
   asking : (id : ℕ) (o : Option Search) → search_of n.names.lookups id ≡ o
-      → IsIts A setting history n (Fires (timer.Lookup id)) (over (with_names n) (asked_again n.seat n.names o))
+      → IsIts A setting history n (Fires (timer.Names (nbp_timer.Lookup id)))
+      (over (with_names n) (asked_again n.seat n.names o))
   asking id None e = refused_moves A setting history n st
-      (laws.stood setting history st.all_ask st.timely) laws.nothing (Fires (timer.Lookup id)) (number_of NoSuchLookup)
+      (laws.stood setting history st.all_ask st.timely) laws.nothing (Fires (timer.Names (nbp_timer.Lookup id)))
+      (number_of NoSuchLookup)
   asking id (Some search) e =
       let lawful = stands_lawfully A setting history n st (laws.stood setting history st.all_ask st.timely) in
       let h = laws.retries (after setting history) (names_of n.seat.net n.seat.number) n.names id search lawful e in (
-        moved A setting history n st (Fires (timer.Lookup id)) report.Again n.names Stays
+        moved A setting history n st (Fires (timer.Names (nbp_timer.Lookup id))) report.Again n.names Stays
             (sent_question n.names.lookups search ∷ []) h (λ now is. is),
         Plain (record { plain = refl; table = refl; lookups = λ i. refl }),
       )
 
   pub timer_happens : (time : Timer) → is_nbp (kind_of_timer time) ≡ true
       → IsIts A setting history n (Fires time) (timed n time)
-  timer_happens (timer.Retry tid) its = absurd (cc)
-  timer_happens (timer.Release own key) its = absurd (cc)
-  timer_happens (timer.Lookup id) its = asking id (search_of n.names.lookups id) refl
-  timer_happens (timer.Resend id) its = absurd (cc)
-  timer_happens (timer.Probe id) its = absurd (cc)
+  timer_happens (timer.Transactions (atp_timer.Retry tid)) its = absurd (cc)
+  timer_happens (timer.Transactions (atp_timer.Release own key)) its = absurd (cc)
+  timer_happens (timer.Names (nbp_timer.Lookup id)) its = asking id (search_of n.names.lookups id) refl
+  timer_happens (timer.Streams (adsp_timer.Resend id)) its = absurd (cc)
+  timer_happens (timer.Streams (adsp_timer.Probe id)) its = absurd (cc)

@@ -8,6 +8,7 @@ use Rattle.at_zip.specs.declared.fault.ZipFault.{ZipFault}
 use Rattle.at_event.specs.Outcomes.{Outcome, Outgoing, idle, over, refused_as, sent_by}
 use Rattle.at_event.specs.declared.report.Report.{Report}
 use Rattle.at_event.specs.declared.report.Report.TheVariants as report
+use Rattle.at_event.specs.declared.reports.ZoneReport.TheVariants as zip_report
 use Rattle.at_node.specs.Nodes.{NodeState}
 use Rattle.at_steps.specs.Safety.{IsSafe, IsTrueOf, OfZones, Place, Reason, number_of, number_told}
 
@@ -70,7 +71,7 @@ module _ (A : Type 0) where
 
     -- a fault of a page
     pub page_faulted : (fault : ZipFault) (x : ℕ) (o : Outcome A S) → zip.number_of fault ≡ Some x
-        → o.report ≡ report.ZoneFault x → length o.out ≤ 131070 → Safe o
+        → o.report ≡ report.Zones (zip_report.Fault x) → length o.out ≤ 131070 → Safe o
     page_faulted fault x o is told few = record {
       reason = λ k says.
           let tells : number_told o.report ≡ Some x = ap number_told told in

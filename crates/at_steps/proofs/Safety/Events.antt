@@ -18,6 +18,9 @@ use Rattle.at_event.specs.declared.calls.ZoneCall.TheVariants as zone
 use Rattle.at_event.specs.declared.report.Report.TheVariants as report
 use Rattle.at_event.specs.declared.event.Timer.{Timer}
 use Rattle.at_event.specs.declared.event.Timer.TheVariants as timer
+use Rattle.at_event.specs.declared.timers.TransactionTimer.TheVariants as atp_timer
+use Rattle.at_event.specs.declared.timers.NameTimer.TheVariants as nbp_timer
+use Rattle.at_event.specs.declared.timers.StreamTimer.TheVariants as adsp_timer
 use Rattle.at_event.specs.declared.fault.NodeFault.TheVariants as nodes
 use Rattle.at_event.specs.declared.service.Reply.{Reply}
 use Rattle.at_node.specs.AtpHearing.{HearsAtp}
@@ -140,16 +143,16 @@ module _ (A : Type 0) (laws : Laws) (n : NodeState) (within : IsWithin n) where
       of_streams (close_called n.seat n.streams id) (streams.close_safe A n IsPlaceOfCall laws.streams within id)
 
   pub timer_safe : (time : Timer) → Calling n (timed n time)
-  timer_safe (timer.Retry tid) =
+  timer_safe (timer.Transactions (atp_timer.Retry tid)) =
       of_atp (retry_fired n.seat n.atp tid (retried n.atp.requester tid)) (requests.retry_safe A n IsPlaceOfCall tid)
-  timer_safe (timer.Release own key) =
+  timer_safe (timer.Transactions (atp_timer.Release own key)) =
       of_atp (release_fired n.atp own key) (records.release_safe A n IsPlaceOfCall own key)
-  timer_safe (timer.Lookup id) =
+  timer_safe (timer.Names (nbp_timer.Lookup id)) =
       of_names (lookup_fired n.seat n.names id) (names.lookup_safe A n IsPlaceOfCall laws.names within id)
-  timer_safe (timer.Resend id) =
+  timer_safe (timer.Streams (adsp_timer.Resend id)) =
       of_streams (tick_fired n.seat n.streams id tick.Retransmit)
       (streams.tick_safe A n IsPlaceOfCall laws.streams within id tick.Retransmit)
-  timer_safe (timer.Probe id) =
+  timer_safe (timer.Streams (adsp_timer.Probe id)) =
       of_streams (tick_fired n.seat n.streams id tick.Probe)
       (streams.tick_safe A n IsPlaceOfCall laws.streams within id tick.Probe)
 

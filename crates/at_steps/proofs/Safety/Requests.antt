@@ -22,6 +22,7 @@ use Rattle.at_zip.specs.declared.fault.ZipFault.TheVariants.{TooManyZones}
 use Rattle.at_event.specs.Outcomes.{Outcome, idle, refused_as}
 use Rattle.at_event.specs.declared.report.Report.{Report}
 use Rattle.at_event.specs.declared.report.Report.TheVariants as report
+use Rattle.at_event.specs.declared.reports.ZoneReport.TheVariants as zip_report
 use Rattle.at_event.specs.declared.fault.NodeFault.TheVariants as nodes
 use Rattle.at_node.specs.AtpParts.{AtpState, Reading, after_heard, asking as asking_at, asks, packet_in}
 use Rattle.at_node.specs.AtpParts.{tid_of}
@@ -150,10 +151,13 @@ module _ (A : Type 0) (n : NodeState) where
         (packets_few (asking_at n.seat.net n.seat.number) atp_kind h.sent 131070 (omega (arith, one))))
 
     faults_safe : (h : Heard A) (fault : ZipFault) (number : ℕ) (o : Outcome A AtpState) → length h.sent ≤ 1
-        → zip.number_of fault ≡ Some number → o ≡ after_heard n.seat n.atp h (report.ZoneFault number) None → Safe o
+        → zip.number_of fault ≡ Some number
+        → o ≡ after_heard n.seat n.atp h (report.Zones (zip_report.Fault number)) None
+        → Safe o
     faults_safe h fault number o one numbered is =
-        by A Wants n n.atp o (after_heard n.seat n.atp h (report.ZoneFault number) None) is
-        (page_faulted A Wants n n.atp fault number (after_heard n.seat n.atp h (report.ZoneFault number) None) numbered
+        by A Wants n n.atp o (after_heard n.seat n.atp h (report.Zones (zip_report.Fault number)) None) is
+        (page_faulted A Wants n n.atp fault number
+        (after_heard n.seat n.atp h (report.Zones (zip_report.Fault number)) None) numbered
         refl (packets_few (asking_at n.seat.net n.seat.number) atp_kind h.sent 131070 (omega (arith, one))))
 
     other_quiet : (tid : ℕ) (x : Step A) → number_told (reported_other tid x) ≡ None
@@ -167,12 +171,14 @@ module _ (A : Type 0) (n : NodeState) where
     takes_safe h from names q o one = go (nat_lt 1024 (length names + length q.names)) q.last
       where
         go : (long last : Bool)
-            → MatchBool long (o ≡ after_heard n.seat n.atp h (report.ZoneFault 34) None)
-            (MatchBool last (o ≡ after_heard n.seat n.atp h (report.Zones (table_read n.atp.reading)
-            (names ++ q.names)) None)
+            → MatchBool long (o ≡ after_heard n.seat n.atp h (report.Zones (zip_report.Fault 34)) None)
+            (MatchBool last (o ≡ after_heard n.seat n.atp h (report.Zones (zip_report.List (table_read n.atp.reading)
+            (names ++ q.names))) None)
             (AsksOn n.seat n.atp h from (names ++ q.names) o)) → Safe o
         go true last is = faults_safe h TooManyZones 34 o one refl is
-        go false true is = heard_safe h (report.Zones (table_read n.atp.reading) (names ++ q.names)) None o one refl is
+        go false true is =
+            heard_safe h (report.Zones (zip_report.List (table_read n.atp.reading) (names ++ q.names))) None o one refl
+            is
         go false false on =
             let asked = asks n.seat (record n.atp { requester = h.after })
             (Some (record { which = table_read n.atp.reading; tid = on.tid; names = names ++ q.names }))

@@ -19,6 +19,7 @@ use Rattle.at_atp_responder.specs.declared.reception.Reception.{Reception}
 use Rattle.at_atp_responder.specs.declared.reception.Reception.TheVariants as reception
 use Rattle.at_event.specs.Outcomes.{Outcome, idle, refused_as, sent_by}
 use Rattle.at_event.specs.declared.report.Report.TheVariants as report
+use Rattle.at_event.specs.declared.reports.TransactionReport.TheVariants as atp_report
 use Rattle.at_event.specs.declared.service.Reply.{Reply}
 use Rattle.at_event.specs.declared.service.Reply.TheVariants as reply
 use Rattle.at_node.specs.AtpHearing.{AtSocket, AtpSocket, HearsAt, HearsAtp, Requester, Service, Zones as ZoneSocket}
@@ -146,7 +147,8 @@ module _ (A : Type 0) (n : NodeState) (Wants : Place → Type 0) where
           quiet A Wants n n.atp (service_taken n.seat n.atp t report.Again) refl (service_few t service_eight)
       service_safe user bytes said reception.Released is =
           let t = taken n.atp.service_responder from f in
-          quiet A Wants n n.atp (service_taken n.seat n.atp t report.Released) refl (service_few t service_eight)
+          quiet A Wants n n.atp (service_taken n.seat n.atp t (report.Transactions atp_report.Released)) refl
+          (service_few t service_eight)
       service_safe user bytes said (reception.New key) is =
           let t = taken n.atp.service_responder from f in
           quiet A Wants n n.atp (handed_up n.seat n.atp t key user bytes said) refl
@@ -169,7 +171,7 @@ module _ (A : Type 0) (n : NodeState) (Wants : Place → Type 0) where
           quiet A Wants n n.atp (zone_taken n.seat n.atp t report.Again) refl zone_few
       zones_safe packet reception.Released =
           let t = taken n.atp.zone_responder from f in
-          quiet A Wants n n.atp (zone_taken n.seat n.atp t report.Released) refl zone_few
+          quiet A Wants n n.atp (zone_taken n.seat n.atp t (report.Transactions atp_report.Released)) refl zone_few
       zones_safe packet (reception.New key) =
           let t = taken n.atp.zone_responder from f in
           let sent = asked_for (find (is_key key) t.after) key (packet ∷ []) in

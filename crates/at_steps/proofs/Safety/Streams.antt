@@ -25,6 +25,7 @@ use Rattle.at_adsp_ends.specs.Tables.{Done, EndTable, IsId, SendsFew, by_id, fre
 use Rattle.at_event.specs.Outcomes.{Outcome, idle}
 use Rattle.at_event.specs.declared.report.Report.{Report}
 use Rattle.at_event.specs.declared.report.Report.TheVariants as report
+use Rattle.at_event.specs.declared.reports.StreamReport.TheVariants as adsp_report
 use Rattle.at_event.specs.declared.fault.NodeFault.TheVariants as nodes
 use Rattle.at_node.specs.Limits.{IsWithin}
 use Rattle.at_node.specs.Nodes.{NodeState}
@@ -32,7 +33,7 @@ use Rattle.at_node.specs.SessionCalls.{open_called}
 use Rattle.at_stream_socket.specs.Calls.{called, close_called, connect_called, listen_called, read_called, reset_called}
 use Rattle.at_stream_socket.specs.Calls.{tick_fired, write_called}
 use Rattle.at_stream_socket.specs.Hearing.{HearsAdspFault, HearsSegment, HearsStreams, segment_heard}
-use Rattle.at_stream_socket.specs.Sockets.{answered, sent_of, streams_at, told_by}
+use Rattle.at_stream_socket.specs.Sockets.{answered, sent_of, streams_at, told_by, told_opening, told_read, told_wrote}
 use Rattle.at_steps.specs.Safety.{IsSafe, IsTrueOf, OfNodes, OfSegments, OfStreams, Place, number_told}
 use Rattle.at_steps.proofs.Safety.By.{by, faulted, quiet, refused, sent_few}
 
@@ -111,7 +112,7 @@ module _ (A : Type 0) (n : NodeState) (Wants : Place → Type 0) (laws : StreamL
 
   pub connect_safe : (to : Address) → Safe (connect_called n.seat n.streams to)
   connect_safe to =
-      called_safe report.Opening (connected n.streams to (next_id n.streams)) (λ x. refl)
+      called_safe told_opening (connected n.streams to (next_id n.streams)) (λ x. refl)
       (connect_true to (next_id n.streams) refl) (laws.connected n.streams to)
 
   pub open_safe : (to : Option Address) → Safe (open_called n.seat n.streams to)
@@ -157,7 +158,7 @@ module _ (A : Type 0) (n : NodeState) (Wants : Place → Type 0) (laws : StreamL
 
   pub read_safe : (id count : ℕ) → Safe (read_called n.seat n.streams id count)
   read_safe id count =
-      called_safe report.Read (read_at wire n.streams count (by_id n.streams id)) (λ x. refl)
+      called_safe told_read (read_at wire n.streams count (by_id n.streams id)) (λ x. refl)
       (read_true count (by_id n.streams id)) (laws.read n.streams id count)
 
   reset_true : (o : Option EndState) (fault : StreamFault) → Fails (reset_at wire n.streams o) fault
@@ -170,7 +171,8 @@ module _ (A : Type 0) (n : NodeState) (Wants : Place → Type 0) (laws : StreamL
 
   pub reset_safe : (id : ℕ) → Safe (reset_called n.seat n.streams id)
   reset_safe id =
-      called_safe (λ answer. report.StreamReset) (reset_at wire n.streams (by_id n.streams id)) (λ x. refl)
+      called_safe (λ answer. report.Streams adsp_report.Reset) (reset_at wire n.streams (by_id n.streams id))
+      (λ x. refl)
       (reset_true (by_id n.streams id)) (laws.reset n.streams id)
 
   write_true : (items : List Item) (o : Option EndState) (fault : StreamFault)
@@ -185,7 +187,7 @@ module _ (A : Type 0) (n : NodeState) (Wants : Place → Type 0) (laws : StreamL
 
   pub write_safe : (id : ℕ) (items : List Item) → Safe (write_called n.seat n.streams id items)
   write_safe id items =
-      called_safe report.Wrote (wrote wire n.streams items (by_id n.streams id)) (λ x. refl)
+      called_safe told_wrote (wrote wire n.streams items (by_id n.streams id)) (λ x. refl)
       (write_true items (by_id n.streams id)) (laws.wrote n.streams id items within.queues)
 
   -- ---- packets

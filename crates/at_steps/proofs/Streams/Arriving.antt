@@ -24,6 +24,7 @@ use Rattle.at_adsp.specs.Meetings.{OpensWith}
 use Rattle.at_event.specs.Seats.{is_mine}
 use Rattle.at_event.specs.declared.report.Report.{Report}
 use Rattle.at_event.specs.declared.report.Report.TheVariants as report
+use Rattle.at_event.specs.declared.reports.StreamReport.TheVariants as adsp_report
 use Rattle.at_event.specs.declared.service.Reply.{Reply}
 use Rattle.at_node.specs.Numbers.{drawn_by}
 use Rattle.at_node.specs.Hearing.{Hears, HearsIt}
@@ -105,13 +106,15 @@ module _ (A : Type 0) (laws : HearingLaws) (setting : Setting) (history : List H
         })
     came_step now (step.Opened id) opens named is =
         HasOpened (record { which = which; id = id; act = refl; report = refl; opens = opens id refl })
-    came_step now step.Turned opens named same = plain now report.Turned refl tt same
-    came_step now (step.Denied id) opens named same = plain now (report.Denied id) refl named same
+    came_step now step.Turned opens named same = plain now (report.Streams adsp_report.Turned) refl tt same
+    came_step now (step.Denied id) opens named same = plain now (report.Streams (adsp_report.Denied id)) refl named same
     came_step now step.Again opens named same = plain now report.Again refl tt same
     came_step now step.Idle opens named same = absurd named
-    came_step now (step.Heard id items) opens named same = plain now (report.Heard id items) refl named same
-    came_step now (step.Dropped id) opens named same = plain now (report.Dropped id) refl named same
-    came_step now (step.Closed id) opens named same = plain now (report.Closed id) refl named same
+    came_step now (step.Heard id items) opens named same =
+        plain now (report.Streams (adsp_report.Heard id items)) refl named same
+    came_step now (step.Dropped id) opens named same =
+        plain now (report.Streams (adsp_report.Dropped id)) refl named same
+    came_step now (step.Closed id) opens named same = plain now (report.Streams (adsp_report.Closed id)) refl named same
     came_step now (step.Freed id) opens named same = absurd named
 
     after_step : AfterStep old (done setting old (Takes which)) at s.from came.answer

@@ -33,13 +33,14 @@ use Rattle.at_event.specs.declared.event.Call.TheVariants.{Transactions, Zones, 
 use Rattle.at_event.specs.declared.calls.StreamCall.TheVariants.{Open, Listen, Connect, Write, Read, Reset, Close}
 use Rattle.at_event.specs.declared.report.Report.{Report}
 use Rattle.at_event.specs.declared.report.Report.TheVariants as report
+use Rattle.at_event.specs.declared.reports.StreamReport.TheVariants as adsp_report
 use Rattle.at_node.specs.Numbers.{drawn_by}
 use Rattle.at_node.specs.Nodes.{NodeState, called, with_streams}
 use Rattle.at_node.specs.declared.numbers.Draw.TheVariants.{Conn}
 use Rattle.at_node.specs.SessionCalls.{open_called}
 use Rattle.at_session.specs.Sessions.{address_at}
 use Rattle.at_stream_socket.specs.Calls as sockets
-use Rattle.at_stream_socket.specs.Sockets.{told_by}
+use Rattle.at_stream_socket.specs.Sockets.{told_by, told_opening, told_read, told_wrote}
 use Rattle.at_steps.specs.Acts.{Act, Calls, is_adsp}
 use Rattle.at_steps.specs.StreamHappenings.{IsHere, IsOf, IsOpenable, Stands}
 use Rattle.at_steps.specs.StreamSteps.{asked_by, HasAsked, HasRead, HasReset, HasWritten, IsStep}
@@ -84,7 +85,7 @@ module _ (A : Type 0) (changes : AllChange) (paired : AllPaired) (setting : Sett
   -- a call that asks this address for one
   module _ (act : Act A) (to : Address) (asks : asked_by n.session n.seat.net act ≡ Some to) where
     connect_step : (now : Network) (o : Option ℕ) → AfterConnecting old now at to o
-        → StepTo act (sockets.called n.seat n.streams report.Opening (connected n.streams to o)).report now
+        → StepTo act (sockets.called n.seat n.streams told_opening (connected n.streams to o)).report now
     connect_step now None same = refusing act EndsFull now same
     connect_step now (Some id) is = HasAsked (record { id = id; asked = to; act = asks; report = refl; streams = is })
 
@@ -93,7 +94,7 @@ module _ (A : Type 0) (changes : AllChange) (paired : AllPaired) (setting : Sett
         → IsTimely setting old (Connects at to)
         → IsIts A setting history n act (over (with_streams n) (sockets.connect_called n.seat n.streams to))
     connecting in_range on_net is_of timely =
-        calling (Connects at to) act report.Opening (λ answer. Nothing) (connected n.streams to (next_id n.streams))
+        calling (Connects at to) act told_opening (λ answer. Nothing) (connected n.streams to (next_id n.streams))
         (λ i. calls setting old at (connected (st.stands i) to (next_id (st.stands i))))
         timely in_range (here, on_net) is_of
         (connect_step (done setting old (Connects at to)) (next_id n.streams)
@@ -107,7 +108,7 @@ module _ (A : Type 0) (changes : AllChange) (paired : AllPaired) (setting : Sett
   connects_in_time to free id drawn = free id (tells (next_id n.streams) (ap next_id (sym st.stands) ∙ drawn))
     where
       tells : (o : Option ℕ) → o ≡ Some id
-          → drawn_by (sockets.called {A = A} n.seat n.streams report.Opening (connected n.streams to o)).report
+          → drawn_by (sockets.called {A = A} n.seat n.streams told_opening (connected n.streams to o)).report
           ≡ Some (Conn id)
       tells None is = absurd (cc)
       tells (Some i) is = let same : i ≡ id = cc in ap (λ k. Some (Conn k)) same
@@ -129,7 +130,7 @@ module _ (A : Type 0) (changes : AllChange) (paired : AllPaired) (setting : Sett
 
   write_step : (id : ℕ) (items : List Item) (now : Network) (r : Result (Done ℕ) StreamFault)
       → wrote wire n.streams items (by_id n.streams id) ≡ r → AfterCall old now at id (wrote_first items) r
-      → StepTo (Calls (Streams (Write id items))) (sockets.called n.seat n.streams report.Wrote r).report now
+      → StepTo (Calls (Streams (Write id items))) (sockets.called n.seat n.streams told_wrote r).report now
   write_step id items now (Err fault) e same = refusing (Calls (Streams (Write id items))) fault now same
   write_step id items now (Ok d) e is =
       let ok = wrote_ok n.streams id items d e in
@@ -140,7 +141,9 @@ module _ (A : Type 0) (changes : AllChange) (paired : AllPaired) (setting : Sett
         act = refl;
         report = refl;
         stands = has_end A setting history n st paired
-            (changed A setting history n st (Calls (Streams (Write id items))) (report.Wrote d.answer) (streams now))
+            (changed A setting history n st (Calls (Streams (Write id items)))
+            (report.Streams (adsp_report.Wrote d.answer))
+            (streams now))
             id refl refl
             ok.0;
         fits = ok.1;
@@ -154,7 +157,7 @@ module _ (A : Type 0) (changes : AllChange) (paired : AllPaired) (setting : Sett
       let same : wrote setting.numbers (old.tables at) items (by_id (old.tables at) id)
       ≡ r = λ i. wrote (st.numbers i) (st.stands i) items (by_id (st.stands i) id) in
       let h : Happening = Writes at id items in
-      calling h (Calls (Streams (Write id items))) report.Wrote (wrote_first items) r
+      calling h (Calls (Streams (Write id items))) told_wrote (wrote_first items) r
       (ap (calls_with (wrote_first items) setting old at) same) tt (fits A setting history n st, in_range) here
       (inl refl)
       (write_step id items (done setting old h) r refl
@@ -163,7 +166,7 @@ module _ (A : Type 0) (changes : AllChange) (paired : AllPaired) (setting : Sett
 
   read_step : (id count : ℕ) (now : Network) (r : Result (Done (List Item)) StreamFault)
       → read_at wire n.streams count (by_id n.streams id) ≡ r → AfterCall old now at id deeds.Read r
-      → StepTo (Calls (Streams (Read id count))) (sockets.called n.seat n.streams report.Read r).report now
+      → StepTo (Calls (Streams (Read id count))) (sockets.called n.seat n.streams told_read r).report now
   read_step id count now (Err fault) e same = refusing (Calls (Streams (Read id count))) fault now same
   read_step id count now (Ok d) e is =
       let ok = read_ok n.streams id count d e in
@@ -174,7 +177,9 @@ module _ (A : Type 0) (changes : AllChange) (paired : AllPaired) (setting : Sett
         act = refl;
         report = refl;
         stands = has_end A setting history n st paired
-            (changed A setting history n st (Calls (Streams (Read id count))) (report.Read d.answer) (streams now)) id
+            (changed A setting history n st (Calls (Streams (Read id count)))
+            (report.Streams (adsp_report.Read d.answer))
+            (streams now)) id
             refl refl
             ok.0;
         fits = ok.1;
@@ -188,7 +193,7 @@ module _ (A : Type 0) (changes : AllChange) (paired : AllPaired) (setting : Sett
       let same : read_at setting.numbers (old.tables at) count (by_id (old.tables at) id)
       ≡ r = λ i. read_at (st.numbers i) (st.stands i) count (by_id (st.stands i) id) in
       let h : Happening = Reads at id count in
-      calling h (Calls (Streams (Read id count))) report.Read deeds.Read r
+      calling h (Calls (Streams (Read id count))) told_read deeds.Read r
       (ap (calls_with deeds.Read setting old at) same) tt
       (fits A setting history n st) here (inl refl)
       (read_step id count (done setting old h) r refl
@@ -200,21 +205,24 @@ module _ (A : Type 0) (changes : AllChange) (paired : AllPaired) (setting : Sett
     where
       go : (r : Result (Done (Unit {0})) StreamFault) → reset_at wire n.streams (by_id n.streams id) ≡ r
           → IsIts A setting history n (Calls (Streams (Reset id)))
-          (over (with_streams n) (sockets.called {X = Unit {0}} n.seat n.streams (λ answer. report.StreamReset) r))
+          (over (with_streams n)
+          (sockets.called {X = Unit {0}} n.seat n.streams (λ answer. report.Streams adsp_report.Reset) r))
       go (Err fault) e = refused A setting history n st paired (Calls (Streams (Reset id))) (number_of fault)
       go (Ok d) e =
           let same : reset_at setting.numbers (old.tables at) (by_id (old.tables at) id)
           ≡ Ok d = (λ i. reset_at (st.numbers i) (st.stands i) (by_id (st.stands i) id)) ∙ e in
           let h : Happening = Resets at id in
           let found = reset_ok n.streams id d e in
-          calling {X = Unit {0}} h (Calls (Streams (Reset id))) (λ answer. report.StreamReset) gave_up (Ok d)
+          calling {X = Unit {0}} h (Calls (Streams (Reset id))) (λ answer. report.Streams adsp_report.Reset) gave_up
+          (Ok d)
           (ap (calls_with gave_up setting old at) same) tt (fits A setting history n st) here (inl refl)
           (HasReset (record {
             id = id;
             act = refl;
             report = refl;
             stands = has_end A setting history n st paired
-                (changed A setting history n st (Calls (Streams (Reset id))) report.StreamReset (streams (done setting
+                (changed A setting history n st (Calls (Streams (Reset id))) (report.Streams adsp_report.Reset)
+                (streams (done setting
                 old h)))
                 id refl refl found;
             streams = subst (AfterCall old (done setting old h) at id gave_up) same
@@ -232,9 +240,11 @@ module _ (A : Type 0) (changes : AllChange) (paired : AllPaired) (setting : Sett
           (sockets.called n.seat n.streams told_by
           (cond b (Ok (moved n.streams (step.Closed x.id) (closing wire x).after (closing wire x).sent))
           (Ok (freed n.streams (step.Freed x.id) x)))).report now
-      go true = plain_step A setting history n st paired (Calls (Streams (Close id))) (report.Closed x.id) (streams now)
+      go true = plain_step A setting history n st paired (Calls (Streams (Close id)))
+          (report.Streams (adsp_report.Closed x.id)) (streams now)
           (found_id n.streams id x e) (finds_it n.streams (has_id id) x e) same
-      go false = plain_step A setting history n st paired (Calls (Streams (Close id))) (report.Freed x.id) (streams now)
+      go false = plain_step A setting history n st paired (Calls (Streams (Close id)))
+          (report.Streams (adsp_report.Freed x.id)) (streams now)
           (found_id n.streams id x e) (finds_it n.streams (has_id id) x e) same
 
   closing_ : (id : ℕ) → IsIts A setting history n (Calls (Streams (Close id))) (called n (Streams (Close id)))
@@ -251,7 +261,7 @@ module _ (A : Type 0) (changes : AllChange) (paired : AllPaired) (setting : Sett
   listening on =
       happens A setting history n st (Calls (Streams (Listen on))) (sockets.listen_called n.streams on)
       (Listens at on) tt tt here (inl refl) (becomes_listening old at n.streams on st.stands)
-      (plain_step A setting history n st paired (Calls (Streams (Listen on))) report.ListenSet
+      (plain_step A setting history n st paired (Calls (Streams (Listen on))) (report.Streams adsp_report.ListenSet)
       (streams (done setting old (Listens at on))) refl tt (changes setting history (Listens at on) st.timely))
 
   pub call_happens : (call : Call A) → IsCall call → is_adsp (kind_of_call call) ≡ true

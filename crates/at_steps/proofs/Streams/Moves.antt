@@ -22,6 +22,9 @@ use Rattle.at_adsp.specs.Streams.{written_after}
 use Rattle.at_event.specs.Outcomes.{Outcome, Outgoing, idle, refused_as}
 use Rattle.at_event.specs.declared.report.Report.{Report}
 use Rattle.at_event.specs.declared.report.Report.TheVariants as report
+use Rattle.at_event.specs.declared.reports.TransactionReport.TheVariants as atp_report
+use Rattle.at_event.specs.declared.reports.NameReport.TheVariants as nbp_report
+use Rattle.at_event.specs.declared.reports.StreamReport.TheVariants as adsp_report
 use Rattle.at_event.specs.declared.seat.Seat.{Seat}
 use Rattle.at_node.specs.Numbers.{drawn_by}
 use Rattle.at_node.specs.Nodes.{NodeState, with_streams}
@@ -45,16 +48,10 @@ IsIts A setting history n act o = IsHappening {A = A} setting history n.seat.net
 -- a report that says nothing new draws no identifier
 plain_draws : (A : Type 0) (act : Act A) (r : Report A) (event : ℕ) (who : Address) → is_plain act r ≡ true
     → numbers_drawn event who (drawn_by r) ≡ []
-plain_draws A (Calls call) (report.Opening id) event who h = absurd (true≢false (sym h))
-plain_draws A (Gets which) (report.Opening id) event who h = absurd (true≢false (sym h))
-plain_draws A Forges (report.Opening id) event who h = absurd (true≢false (sym h))
-plain_draws A (Fires time) (report.Opening id) event who h = absurd (true≢false (sym h))
-plain_draws A (Calls call) (report.Made id) event who h = absurd (true≢false (sym h))
-plain_draws A (Gets which) (report.Made id) event who h = absurd (true≢false (sym h))
-plain_draws A Forges (report.Made id) event who h = absurd (true≢false (sym h))
-plain_draws A (Fires time) (report.Made id) event who h = absurd (true≢false (sym h))
-plain_draws A act (report.Begun tid) event who h = refl
-plain_draws A act (report.Looking id) event who h = refl
+plain_draws A act (report.Streams (adsp_report.Opening id)) event who h = absurd (true≢false (sym h))
+plain_draws A act (report.Streams (adsp_report.Made id)) event who h = absurd (true≢false (sym h))
+plain_draws A act (report.Transactions (atp_report.Begun tid)) event who h = refl
+plain_draws A act (report.Names (nbp_report.Looking id)) event who h = refl
 plain_draws A act r event who h = refl
 
 -- what the ends' users do, and whom the ends open with, leaves their identifiers
@@ -97,8 +94,10 @@ module _ (A : Type 0) (c : Change A) where
   pub step_draws : IsStep c → Draws (identifiers c.now)
   step_draws (Plain s) = draws_none (identifiers c.now) (drawn_by c.report) refl
       (plain_draws A c.act c.report c.event c.at s.plain) (ap identifiers s.streams)
-  step_draws (HasAsked s) = draws_one s.id (identifiers c.now) (report.Opening s.id) s.report (ap identifiers s.streams)
-  step_draws (HasAnswered s) = draws_one s.id (identifiers c.now) (report.Made s.id) s.report (ap identifiers s.streams)
+  step_draws (HasAsked s) =
+      draws_one s.id (identifiers c.now) (report.Streams (adsp_report.Opening s.id)) s.report (ap identifiers s.streams)
+  step_draws (HasAnswered s) =
+      draws_one s.id (identifiers c.now) (report.Streams (adsp_report.Made s.id)) s.report (ap identifiers s.streams)
   step_draws (HasOpened s) = draws_none (identifiers c.now) None (ap drawn_by s.report) refl
       (let opens = s.opens in ap identifiers opens.becomes ∙ peer_keeps c.at s.id (Some (opens.peer).birth) c.part)
   step_draws (HasWritten s) = draws_none (identifiers c.now) None (ap drawn_by s.report) refl

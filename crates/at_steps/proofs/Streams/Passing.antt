@@ -11,6 +11,9 @@ use Rattle.at_event.specs.Kinds.{reporter_of}
 use Rattle.at_event.specs.Outcomes.{Outcome}
 use Rattle.at_event.specs.declared.report.Report.{Report}
 use Rattle.at_event.specs.declared.report.Report.TheVariants as report
+use Rattle.at_event.specs.declared.reports.TransactionReport.TheVariants as atp_report
+use Rattle.at_event.specs.declared.reports.NameReport.TheVariants as nbp_report
+use Rattle.at_event.specs.declared.reports.StreamReport.TheVariants as adsp_report
 use Rattle.at_node.specs.Numbers.{drawn_by}
 use Rattle.at_node.specs.Nodes.{NodeState}
 use Rattle.at_stream_socket.specs.Sockets.{streams_at}
@@ -20,10 +23,10 @@ use Rattle.at_steps.specs.StreamHappenings.{Drawn, IsForeign, Passes, Stands, id
 -- the report of another protocol draws no identifier
 foreign_draws : (A : Type 0) (r : Report A) (event : ℕ) (who : Address) → is_adsp (reporter_of r) ≡ false
     → numbers_drawn event who (drawn_by r) ≡ []
-foreign_draws A (report.Opening id) event who h = absurd (true≢false h)
-foreign_draws A (report.Made id) event who h = absurd (true≢false h)
-foreign_draws A (report.Begun tid) event who h = refl
-foreign_draws A (report.Looking id) event who h = refl
+foreign_draws A (report.Streams (adsp_report.Opening id)) event who h = absurd (true≢false h)
+foreign_draws A (report.Streams (adsp_report.Made id)) event who h = absurd (true≢false h)
+foreign_draws A (report.Transactions (atp_report.Begun tid)) event who h = refl
+foreign_draws A (report.Names (nbp_report.Looking id)) event who h = refl
 foreign_draws A r event who h = refl
 
 pub foreign_passes : (A : Type 0) (setting : Setting) (history : List Happening) (n : NodeState) (act : Act A)

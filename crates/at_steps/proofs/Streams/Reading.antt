@@ -18,9 +18,10 @@ use Rattle.at_event.specs.declared.event.Call.TheVariants.{Streams}
 use Rattle.at_event.specs.declared.calls.StreamCall.TheVariants.{Read}
 use Rattle.at_event.specs.declared.report.Report.{Report}
 use Rattle.at_event.specs.declared.report.Report.TheVariants as report
+use Rattle.at_event.specs.declared.reports.StreamReport.TheVariants as adsp_report
 use Rattle.at_node.specs.Nodes.{NodeState, called}
 use Rattle.at_stream_socket.specs.Calls as sockets
-use Rattle.at_stream_socket.specs.Sockets.{streams_at}
+use Rattle.at_stream_socket.specs.Sockets.{streams_at, told_read}
 use Rattle.at_steps.specs.StreamHappenings.{Stands}
 use Rattle.at_steps.proofs.Streams.Moves.{its_own}
 use Rattle.at_steps.proofs.Streams.Ours.{all_ours}
@@ -33,19 +34,20 @@ ReadsFromPeer = (setting : Setting) (history : List Happening) (at : Address) (i
     ≡ Ok d → ReadsInOrder (after setting (Reads at id count ∷ history))
     → ReadsWith (streams (after setting history)) at id d.answer
 
-items_same : {A : Type 0} (a b : List Item) → ◌≡◌ {A = Report A} (report.Read a) (report.Read b) → a ≡ b
+items_same : {A : Type 0} (a b : List Item)
+    → ◌≡◌ {A = Report A} (report.Streams (adsp_report.Read a)) (report.Streams (adsp_report.Read b)) → a ≡ b
 items_same a b h = cc
 
 -- a refusal reads nothing
 no_read : (A : Type 0) (number : Option ℕ) (items : List Item)
-    → ◌≡◌ {A = Report A} (refused_as number) (report.Read items) → ⊥
+    → ◌≡◌ {A = Report A} (refused_as number) (report.Streams (adsp_report.Read items)) → ⊥
 no_read A None items h = absurd (cc)
 no_read A (Some k) items h = absurd (cc)
 
 pub read_with : (A : Type 0) → ReadsFromPeer
     → (setting : Setting) (history : List Happening) (n : NodeState) (id count : ℕ) (items : List Item)
     → Stands setting history n.seat.net n.seat.number n → (called {A = A} n (Streams (Read id count))).report
-    ≡ report.Read items →
+    ≡ report.Streams (adsp_report.Read items) →
     ReadsInOrder (after setting (Reads (streams_at n.seat.net n.seat.number) id count ∷ history))
     → ReadsWith (streams (after setting history)) (streams_at n.seat.net n.seat.number) id items
 read_with A law setting history n id count items st told order =
@@ -59,7 +61,7 @@ read_with A law setting history n id count items st told order =
     same = λ i. read_at (st.numbers i) (st.stands i) count (by_id (st.stands i) id)
 
     go : (r : Result (Done (List Item)) StreamFault) → read_at wire n.streams count (by_id n.streams id) ≡ r
-        → (sockets.called {A = A} n.seat n.streams report.Read r).report ≡ report.Read items
+        → (sockets.called {A = A} n.seat n.streams told_read r).report ≡ report.Streams (adsp_report.Read items)
         → ReadsWith (streams (after setting history)) at id items
     go (Err fault) e h = absurd (no_read A (number_of fault) items h)
     go (Ok d) e h =

@@ -23,8 +23,12 @@ use Rattle.at_event.specs.Kinds.{kind_of_timer}
 use Rattle.at_event.specs.Outcomes.{over}
 use Rattle.at_event.specs.declared.report.Report.{Report}
 use Rattle.at_event.specs.declared.report.Report.TheVariants as report
+use Rattle.at_event.specs.declared.reports.StreamReport.TheVariants as adsp_report
 use Rattle.at_event.specs.declared.event.Timer.{Timer}
 use Rattle.at_event.specs.declared.event.Timer.TheVariants as timer
+use Rattle.at_event.specs.declared.timers.TransactionTimer.TheVariants as atp_timer
+use Rattle.at_event.specs.declared.timers.NameTimer.TheVariants as nbp_timer
+use Rattle.at_event.specs.declared.timers.StreamTimer.TheVariants as adsp_timer
 use Rattle.at_node.specs.Nodes.{NodeState, timed, with_streams}
 use Rattle.at_stream_socket.specs.Calls as sockets
 use Rattle.at_stream_socket.specs.Sockets.{told_by}
@@ -61,35 +65,39 @@ module _ (A : Type 0) (changes : AllChange) (paired : AllPaired) (setting : Sett
 
   -- what is not acknowledged goes again
   resent : (id : ℕ) (now : Network) (o : Option EndState) → streams now ≡ streams old
-      → StepTo (timer.Resend id) (told (ticked_at wire n.streams tick.Retransmit o)) now
-  resent id now None same = refusing (timer.Resend id) NoSuchEnd now same
+      → StepTo (timer.Streams (adsp_timer.Resend id)) (told (ticked_at wire n.streams tick.Retransmit o)) now
+  resent id now None same = refusing (timer.Streams (adsp_timer.Resend id)) NoSuchEnd now same
   resent id now (Some e) same = go (is_closed e.phase)
     where
-      again : (b : Bool) → StepTo (timer.Resend id) (told_by (cond b step.Idle step.Again)) now
-      again true = plain (timer.Resend id) report.Idle now refl tt same
-      again false = plain (timer.Resend id) report.Again now refl tt same
+      again : (b : Bool) → StepTo (timer.Streams (adsp_timer.Resend id)) (told_by (cond b step.Idle step.Again)) now
+      again true = plain (timer.Streams (adsp_timer.Resend id)) (report.Streams adsp_report.Idle) now refl tt same
+      again false = plain (timer.Streams (adsp_timer.Resend id)) report.Again now refl tt same
 
-      go : (b : Bool) → StepTo (timer.Resend id)
+      go : (b : Bool) → StepTo (timer.Streams (adsp_timer.Resend id))
           (told (cond b (Err NotOpen) (Ok (settled n.streams (ticked wire e tick.Retransmit))))) now
-      go true = refusing (timer.Resend id) NotOpen now same
+      go true = refusing (timer.Streams (adsp_timer.Resend id)) NotOpen now same
       go false = again (is_idle e)
 
   -- the other end is asked whether it is there, or given up
   asked : (id : ℕ) (now : Network) (o : Option EndState) → by_id n.streams id ≡ o → streams now ≡ streams old
-      → StepTo (timer.Probe id) (told (ticked_at wire n.streams tick.Probe o)) now
-  asked id now None is same = refusing (timer.Probe id) NoSuchEnd now same
+      → StepTo (timer.Streams (adsp_timer.Probe id)) (told (ticked_at wire n.streams tick.Probe o)) now
+  asked id now None is same = refusing (timer.Streams (adsp_timer.Probe id)) NoSuchEnd now same
   asked id now (Some e) is same = go (is_closed e.phase) (frees e tick.Probe)
     where
-      stays : (b : Bool) → StepTo (timer.Probe id) (told_by (probed wire e b).step) now
-      stays true = plain (timer.Probe id) (report.Closed e.id) now (found_id n.streams id e is)
+      stays : (b : Bool) → StepTo (timer.Streams (adsp_timer.Probe id)) (told_by (probed wire e b).step) now
+      stays true =
+          plain (timer.Streams (adsp_timer.Probe id)) (report.Streams (adsp_report.Closed e.id)) now
+          (found_id n.streams id e is)
           (finds_it n.streams (has_id id) e is) same
-      stays false = plain (timer.Probe id) report.Again now refl tt same
+      stays false = plain (timer.Streams (adsp_timer.Probe id)) report.Again now refl tt same
 
-      go : (b c : Bool) → StepTo (timer.Probe id)
+      go : (b c : Bool) → StepTo (timer.Streams (adsp_timer.Probe id))
           (told (cond b (Err NotOpen)
           (cond c (Ok (freed n.streams (step.Freed e.id) e)) (Ok (settled n.streams (ticked wire e tick.Probe)))))) now
-      go true c = refusing (timer.Probe id) NotOpen now same
-      go false true = plain (timer.Probe id) (report.Freed e.id) now (found_id n.streams id e is)
+      go true c = refusing (timer.Streams (adsp_timer.Probe id)) NotOpen now same
+      go false true =
+          plain (timer.Streams (adsp_timer.Probe id)) (report.Streams (adsp_report.Freed e.id)) now
+          (found_id n.streams id e is)
           (finds_it n.streams (has_id id) e is) same
       go false false = stays (is_last e tick.Probe)
 
@@ -108,12 +116,14 @@ module _ (A : Type 0) (changes : AllChange) (paired : AllPaired) (setting : Sett
 
   pub timer_happens : (time : Timer) → is_adsp (kind_of_timer time) ≡ true
       → IsIts A setting history n (Fires time) (timed n time)
-  timer_happens (timer.Retry tid) its = absurd (true≢false (sym its))
-  timer_happens (timer.Release socket key) its = absurd (true≢false (sym its))
-  timer_happens (timer.Lookup id) its = absurd (true≢false (sym its))
-  timer_happens (timer.Resend id) its = ticking (timer.Resend id) id tick.Retransmit (λ r. inl refl)
+  timer_happens (timer.Transactions (atp_timer.Retry tid)) its = absurd (true≢false (sym its))
+  timer_happens (timer.Transactions (atp_timer.Release socket key)) its = absurd (true≢false (sym its))
+  timer_happens (timer.Names (nbp_timer.Lookup id)) its = absurd (true≢false (sym its))
+  timer_happens (timer.Streams (adsp_timer.Resend id)) its =
+      ticking (timer.Streams (adsp_timer.Resend id)) id tick.Retransmit (λ r. inl refl)
       (resent id (done setting old (Ticks at id tick.Retransmit)) (by_id n.streams id)
       (changes setting history (Ticks at id tick.Retransmit) st.timely))
-  timer_happens (timer.Probe id) its = ticking (timer.Probe id) id tick.Probe (λ r. inl refl)
+  timer_happens (timer.Streams (adsp_timer.Probe id)) its =
+      ticking (timer.Streams (adsp_timer.Probe id)) id tick.Probe (λ r. inl refl)
       (asked id (done setting old (Ticks at id tick.Probe)) (by_id n.streams id) refl
       (changes setting history (Ticks at id tick.Probe) st.timely))

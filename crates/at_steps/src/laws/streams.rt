@@ -24,6 +24,7 @@ ghost use Rattle.at_event.specs.declared.event.Call.{Call};
 ghost use Rattle.at_event.specs.declared.event.Call.TheVariants.{Streams};
 ghost use Rattle.at_event.specs.declared.calls.StreamCall.TheVariants.{Read};
 ghost use Rattle.at_event.specs.declared.report.Report.TheVariants as report;
+ghost use Rattle.at_event.specs.declared.reports.StreamReport.TheVariants as adsp_report;
 ghost use Rattle.at_event.specs.declared.event.Timer.{Timer};
 ghost use Rattle.at_event.specs.declared.service.Reply.{Reply};
 ghost use Rattle.at_stream_socket.specs.Sockets.{streams_at};
@@ -78,7 +79,7 @@ pub fn a_packet_is_a_happening<A: Allocator>()
 pub fn what_is_read_reads_from_a_peer<A: Allocator>()
     ensures { (setting : Setting) (history : List Happening) (n : NodeState) (id count : ℕ) (items : List Item)
         → Stands setting history n.seat.net n.seat.number n
-        → (called {A = A} n (Streams (Read id count))).report ≡ report.Read items
+        → (called {A = A} n (Streams (Read id count))).report ≡ report.Streams (adsp_report.Read items)
         → ReadsInOrder (after setting (Reads (streams_at n.seat.net n.seat.number) id count ∷ history))
         → ReadsWith (streams (after setting history)) (streams_at n.seat.net n.seat.number) id items }
 {

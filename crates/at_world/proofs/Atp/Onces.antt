@@ -20,6 +20,8 @@ use Rattle.at_event.specs.declared.event.Call.TheVariants.{Transactions}
 use Rattle.at_event.specs.declared.calls.TransactionCall.TheVariants.{Answer}
 use Rattle.at_event.specs.declared.report.Report.{Report}
 use Rattle.at_event.specs.declared.report.Report.TheVariants as report
+use Rattle.at_event.specs.declared.reports.TransactionReport.TheVariants as atp_report
+use Rattle.at_event.specs.declared.reports.ZoneReport.TheVariants as zip_report
 use Rattle.at_world.specs.ExactlyOnce.{Played, onto, since, is_once, CameFrom, HandsUpBy, IsGivenBy, IsPageFor, GivesBy}
 use Rattle.at_world.specs.ExactlyOnce.{SomeGives, tables_after, Gives, NoneGives, AtMostOneGives, RanOnce, wanted_by}
 use Rattle.at_world.specs.ExactlyOnce.{SomeHandsUp, AllLive, EndsBy, RunsOnce, IsOnce}
@@ -124,14 +126,15 @@ module _ (A : Type 0) (laws : OnceLaws A) (net : ℕ) (tables : Tables) (sent : 
   joins_it : (e : Event A) (r : Report A) (n : Network) (h : Happening) (key : Key) → Within sent n
       → AllSent IsLawfullySent n.sent → reports.Joins n h r (act_of e) → IsGivenBy sent e r key →
       (packets : List Packet) × ((done A n h).asked ≡ answered n.asked key.from key.tid packets)
-  joins_it (event.Call node (Transactions (Answer k packets))) (report.Answered count) n h key within ok j g =
+  joins_it (event.Call node (Transactions (Answer k packets))) (report.Transactions (atp_report.Answered count)) n h key
+      within ok j g =
       let both = and_parts (same_address k.from key.from) (k.tid == key.tid) g in
       let from = same_address-true k.from key.from both.0 in
       let number = eqb-true k.tid key.tid both.1 in
       (packets, j ∙ (λ i. answered n.asked (from i) (number i) packets))
   joins_it (event.Call node (Transactions (Answer k packets))) r n h key within ok j g = absurd g
   joins_it (event.Call node call) r n h key within ok j g = absurd g
-  joins_it (event.Deliver which node) (report.Served count) n h key within ok j g =
+  joins_it (event.Deliver which node) (report.Zones (zip_report.Served count)) n h key within ok j g =
       let s = j.0 in
       let same = came_so A laws net tables sent which key s (within which s j.1)
       (sent_at IsLawfullySent n.sent which s ok j.1) g in
@@ -289,7 +292,8 @@ module _ (A : Type 0) (laws : OnceLaws A) (net : ℕ) (tables : Tables) (sent : 
       → Within sent (after A hs) → AllTimely A hs → AllByRecursion IsInRange hs → AllLive net sent past
       → reports.Finishes net (node_of e) (after A hs) (act_of e) r → EndsBy net tables sent e r past
   ends_by (event.Call node call) r past hs told within timely range live f = tt
-  ends_by (event.Deliver which node) (report.Response tid packets) past hs told within timely range live f =
+  ends_by (event.Deliver which node) (report.Transactions (atp_report.Response tid packets)) past hs told within timely
+      range live f =
       ended past hs which node tid packets told within timely range live f
   ends_by (event.Deliver which node) r past hs told within timely range live f = tt
   ends_by (event.Timer node time) r past hs told within timely range live f = tt

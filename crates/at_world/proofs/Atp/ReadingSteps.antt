@@ -15,6 +15,8 @@ use Rattle.at_event.specs.declared.event.Call.TheVariants.{Zones}
 use Rattle.at_event.specs.declared.calls.ZoneCall.TheVariants as zone
 use Rattle.at_event.specs.declared.report.Report.{Report}
 use Rattle.at_event.specs.declared.report.Report.TheVariants as report
+use Rattle.at_event.specs.declared.reports.TransactionReport.TheVariants as atp_report
+use Rattle.at_event.specs.declared.reports.ZoneReport.TheVariants as zip_report
 use Rattle.at_steps.specs.AtpHappenings.{sets_table}
 use Rattle.at_steps.specs.AtpSteps.{Change, ComesToReading, BeginsReading, TurnsPage, EndsReading, FailsReading, Tells}
 use Rattle.at_steps.specs.AtpSteps.{All, TooMany, Faulty, page_asked}
@@ -70,7 +72,7 @@ module _ (A : Type 0) (laws : Laws A) (w : WorldState) (cable : Cable) (m : AtpM
       let its = reads s.read s.reads in
       no_longer ts s.asked s.reading (ap sets_table s.report)
       (so_at A cable m (moved m m.tables m.asked (without_reading m.readings (node_of e))) e
-      (event.Timer (node_of e) s.time) r report.ZonesFailed (fired_at e s.time s.act) s.report
+      (event.Timer (node_of e) s.time) r (report.Zones zip_report.Unanswered) (fired_at e s.time s.act) s.report
       (tt, record { which = s.read.which; since = its.since; began = its.began; becomes = refl }))
 
   pub reading_ends_step : (ts : List Transaction) → EndsReading cable.net (node_of e) (Changed ts) → IsSaid e r
@@ -87,8 +89,8 @@ module _ (A : Type 0) (laws : Laws A) (w : WorldState) (cable : Cable) (m : AtpM
       go (All h) =
           no_longer ts s.asked s.reading (ap sets_table h.tells)
           (so_at A cable m (moved m m.tables m.asked (without_reading m.readings (node_of e))) e
-          (event.Deliver came.which (node_of e)) r (report.Zones (came.read).which ((came.read).names
-          ++ (h.page).names))
+          (event.Deliver came.which (node_of e)) r (report.Zones (zip_report.List (came.read).which ((came.read).names
+          ++ (h.page).names)))
           (delivered_at e came.which came.act) h.tells (
             tt,
             record {
@@ -174,7 +176,7 @@ module _ (A : Type 0) (laws : Laws A) (w : WorldState) (cable : Cable) (m : AtpM
       allows =
           so_at A cable m (moved m m.tables (new ∷ m.asked) readings) e
           (event.Call (node_of e) (Zones (zone.Read s.which))) r
-          (report.Begun s.tid) (called_at e (Zones (zone.Read s.which)) s.act) s.report
+          (report.Transactions (atp_report.Begun s.tid)) (called_at e (Zones (zone.Read s.which)) s.act) s.report
           (tt, record { router = s.server; is_router = is_router; becomes = refl })
 
   -- a page came that is not the last
@@ -228,7 +230,7 @@ module _ (A : Type 0) (laws : Laws A) (w : WorldState) (cable : Cable) (m : AtpM
 
       allows : Allows cable m e r (moved m m.tables (new ∷ m.asked) m.readings)
       allows = so_at A cable m (moved m m.tables (new ∷ m.asked) m.readings) e (event.Deliver came.which (node_of e)) r
-          (report.Begun s.tid) (delivered_at e came.which came.act) s.report (
+          (report.Transactions (atp_report.Begun s.tid)) (delivered_at e came.which came.act) s.report (
             tt,
             record {
               router = its.server;

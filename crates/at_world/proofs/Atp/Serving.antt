@@ -7,6 +7,7 @@ use Rattle.at_atp_frame.specs.Frames.{number_of}
 use Rattle.at_ddp.specs.Posts.{packet_at}
 use Rattle.at_event.specs.declared.report.Report.{Report}
 use Rattle.at_event.specs.declared.report.Report.TheVariants as report
+use Rattle.at_event.specs.declared.reports.ZoneReport.TheVariants as zip_report
 use Rattle.at_setup.specs.declared.event.Event.{Event}
 use Rattle.at_setup.specs.declared.event.Event.TheVariants as event
 use Rattle.at_steps.specs.AtpHappenings.{atp_coding}
@@ -33,7 +34,7 @@ stands_at (x ∷ wires) (y ∷ sent) (suc i) s all is = stands_at wires sent i s
 pub answers_its_request : (A : Type 0) (w : WorldState) (m : Machine) (t : Tied A w m) (e : Event A) (r : Report A)
     (w' : WorldState) (m' : Machine) (now : Tied A w' m')
     → Grown A m.cable (m.atp).tables (t.atp).history (now.atp).history e r → AnswersItsRequest m w e r m'
-answers_its_request A w m t (event.Deliver which k) (report.Served count) w' m' now grown =
+answers_its_request A w m t (event.Deliver which k) (report.Zones (zip_report.Served count)) w' m' now grown =
     let cable = t.cable in
     let atp = t.atp in
     let later = now.atp in

@@ -11,7 +11,10 @@ use Rattle.at_node.specs.Nodes.{NodeState}
 use Rattle.at_event.specs.Kinds.{reporter_of}
 use Rattle.at_event.specs.declared.report.Report.{Report}
 use Rattle.at_event.specs.declared.report.Report.TheVariants as report
+use Rattle.at_event.specs.declared.reports.TransactionReport.TheVariants as atp_report
+use Rattle.at_event.specs.declared.reports.ZoneReport.TheVariants as zip_report
 use Rattle.at_event.specs.declared.event.Timer.TheVariants as timer
+use Rattle.at_event.specs.declared.timers.TransactionTimer.TheVariants as atp_timer
 use Rattle.at_steps.specs.Acts.{Act, Calls, Fires, Gets, Forges}
 use Rattle.at_steps.specs.AtpHappenings.{sets_table}
 use Rattle.at_steps.specs.AtpSteps.{is_plain}
@@ -47,19 +50,21 @@ plainly A c m (event.Forge node bytes) (report.Refused number) h = (tt, refl)
 plainly A c m (event.Forge node bytes) report.NoMemory h = (tt, refl)
 plainly A c m (event.Deliver which node) report.Ignored h = (tt, refl)
 plainly A c m (event.Deliver which node) report.Again h = (tt, refl)
-plainly A c m (event.Deliver which node) report.Kept h = (tt, refl)
-plainly A c m (event.Deliver which node) report.Released h = (tt, refl)
+plainly A c m (event.Deliver which node) (report.Transactions atp_report.Kept) h = (tt, refl)
+plainly A c m (event.Deliver which node) (report.Transactions atp_report.Released) h = (tt, refl)
 plainly A c m (event.Timer node time) report.Again h = (tt, refl)
-plainly A c m (event.Timer node time) (report.Failed tid) h = (tt, refl)
-plainly A c m (event.Timer node (timer.Release own key)) report.Expired h = (tt, refl)
+plainly A c m (event.Timer node time) (report.Transactions (atp_report.Failed tid)) h = (tt, refl)
+plainly A c m (event.Timer node (timer.Transactions (atp_timer.Release own key)))
+    (report.Transactions atp_report.Expired) h =
+    (tt, refl)
 plainly A c m e r h = absurd (false≢true h)
 
 -- nor does it set a table
 pub plain_sets_none : {A : Type 0} (act : Act A) (r : Report A) → is_plain act r ≡ true → sets_table r ≡ false
-plain_sets_none (Calls call) report.TableSet h = absurd (false≢true h)
-plain_sets_none (Gets which) report.TableSet h = absurd (false≢true h)
-plain_sets_none (Fires time) report.TableSet h = absurd (false≢true h)
-plain_sets_none Forges report.TableSet h = absurd (false≢true h)
+plain_sets_none (Calls call) (report.Zones zip_report.TableSet) h = absurd (false≢true h)
+plain_sets_none (Gets which) (report.Zones zip_report.TableSet) h = absurd (false≢true h)
+plain_sets_none (Fires time) (report.Zones zip_report.TableSet) h = absurd (false≢true h)
+plain_sets_none Forges (report.Zones zip_report.TableSet) h = absurd (false≢true h)
 plain_sets_none act r h = refl
 
 module _ (A : Type 0) (laws : Laws A) (w : WorldState) (cable : Cable) (m : AtpMachine) (wires : List Wire)

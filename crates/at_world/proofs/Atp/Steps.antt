@@ -16,6 +16,8 @@ use Rattle.at_event.specs.declared.calls.TransactionCall.TheVariants.{Ask, Answe
 use Rattle.at_event.specs.declared.calls.ZoneCall.TheVariants as zone
 use Rattle.at_event.specs.declared.report.Report.{Report}
 use Rattle.at_event.specs.declared.report.Report.TheVariants as report
+use Rattle.at_event.specs.declared.reports.TransactionReport.TheVariants as atp_report
+use Rattle.at_event.specs.declared.reports.ZoneReport.TheVariants as zip_report
 use Rattle.at_steps.specs.AtpHappenings.{sets_table}
 use Rattle.at_steps.specs.AtpSteps as steps
 use Rattle.at_steps.specs.AtpSteps.{Change, IsPlain, BeginsAsking, SetsTable}
@@ -52,7 +54,8 @@ module _ (A : Type 0) (laws : Laws A) (w : WorldState) (cable : Cable) (m : AtpM
       × Becomes A cable m e x r ts
   delivers_step ts s = nothing_asked A laws w cable m wires e n x r t stands keeps ts s.asked s.reading
       (ap sets_table s.report)
-      (so_at A cable m (next m) e (event.Deliver s.which (node_of e)) r (report.Asked s.key s.user s.bytes)
+      (so_at A cable m (next m) e (event.Deliver s.which (node_of e)) r
+      (report.Transactions (atp_report.Asked s.key s.user s.bytes))
       (delivered_at e s.which s.act) s.report
       (tt, (record { asked = s.newest; is_user = s.is_user; is_data = s.is_data }, refl)))
 
@@ -60,7 +63,8 @@ module _ (A : Type 0) (laws : Laws A) (w : WorldState) (cable : Cable) (m : AtpM
       × Becomes A cable m e x r ts
   ends_step ts s = nothing_asked A laws w cable m wires e n x r t stands keeps ts s.asked s.reading
       (ap sets_table s.report)
-      (so_at A cable m (next m) e (event.Deliver s.which (node_of e)) r (report.Response s.tid s.packets)
+      (so_at A cable m (next m) e (event.Deliver s.which (node_of e)) r
+      (report.Transactions (atp_report.Response s.tid s.packets))
       (delivered_at e s.which s.act) s.report
       (tt, (record { transaction = s.transaction; newest = s.newest; response = s.response }, refl)))
 
@@ -107,7 +111,7 @@ module _ (A : Type 0) (laws : Laws A) (w : WorldState) (cable : Cable) (m : AtpM
 
       allows : Allows cable m e r (moved m tables m.asked m.readings)
       allows = so_at A cable m (moved m tables m.asked m.readings) e
-          (event.Call (node_of e) (Zones (zone.Set s.which s.names))) r report.TableSet
+          (event.Call (node_of e) (Zones (zone.Set s.which s.names))) r (report.Zones zip_report.TableSet)
           (called_at e (Zones (zone.Set s.which s.names)) s.act) s.report
           (tt, record { is_router = whole.1; is_table = s.is_table; becomes = refl })
 
@@ -124,7 +128,8 @@ module _ (A : Type 0) (laws : Laws A) (w : WorldState) (cable : Cable) (m : AtpM
       (λ j tid server apart. joined_stays m.tables m.asked s.key.from s.key.tid s.packets (asking cable.net j) tid
       (zones_at cable.net server) (elsewhere server))
       (so_at A cable m (moved m m.tables (answered m.asked s.key.from s.key.tid s.packets) m.readings) e
-      (event.Call (node_of e) (Transactions (Answer s.key s.packets))) r (report.Answered s.count)
+      (event.Call (node_of e) (Transactions (Answer s.key s.packets))) r
+      (report.Transactions (atp_report.Answered s.count))
       (called_at e (Transactions (Answer s.key s.packets)) s.act) s.report
       (tt, record { asked = s.newest; few = s.few; becomes = refl }))
     where
@@ -151,7 +156,8 @@ module _ (A : Type 0) (laws : Laws A) (w : WorldState) (cable : Cable) (m : AtpM
       (λ j tid server apart. joined_stays m.tables m.asked s.requester s.tid (page_answer table s.start)
       (asking cable.net j) tid (zones_at cable.net server) (page server))
       (so_at A cable m (moved m m.tables (answered m.asked s.requester s.tid (page_answer table s.start)) m.readings)
-      e (event.Deliver s.which (node_of e)) r (report.Served s.count) (delivered_at e s.which s.act) s.report (
+      e (event.Deliver s.which (node_of e)) r (report.Zones (zip_report.Served s.count)) (delivered_at e s.which s.act)
+      s.report (
         tt,
         record {
           is_router = whole.1;
@@ -188,7 +194,7 @@ module _ (A : Type 0) (laws : Laws A) (w : WorldState) (cable : Cable) (m : AtpM
       (ap sets_table s.report) mine (still_theirs A laws w cable m wires e n x r t stands keeps new refl)
       (so_at A cable m (moved m m.tables (new ∷ m.asked) m.readings) e
       (event.Call (node_of e) (Transactions (Ask s.node s.socket s.user s.bytes s.wanted s.xo s.retries))) r
-      (report.Begun s.tid)
+      (report.Transactions (atp_report.Begun s.tid))
       (called_at e (Transactions (Ask s.node s.socket s.user s.bytes s.wanted s.xo s.retries)) s.act) s.report
       (tt, record { becomes = refl }))
     where

@@ -24,6 +24,8 @@ use Rattle.at_atp_responder.specs.Once.{same_key}
 use Rattle.at_atp_responder.specs.declared.reception.Key.{Key}
 use Rattle.at_event.specs.declared.report.Report.{Report}
 use Rattle.at_event.specs.declared.report.Report.TheVariants as report
+use Rattle.at_event.specs.declared.reports.TransactionReport.TheVariants as atp_report
+use Rattle.at_event.specs.declared.reports.ZoneReport.TheVariants as zip_report
 use Rattle.at_zip.specs.Tables.{Tables}
 use Rattle.at_world.specs.ExactlyOnce.{Played, onto, since, tables_after, CameFrom, HandsUpBy, HandsUp, NoneHandsUp}
 use Rattle.at_world.specs.ExactlyOnce.{AtMostOneHandsUp, SomeHandsUp, has_expired, LivesBy, AllLive}
@@ -145,10 +147,10 @@ module _ (A : Type 0) (laws : OnceLaws A) (net : ℕ) (tables : Tables) (sent : 
       → AllSent IsLawfullySent n.sent → reports.Finishes net (node_of e) n (act_of e) r → HandsUpBy sent e r key
       → reports.handed_up_by n.sent (act_of e) r key ≡ true
   hands_sound (event.Call node call) r n key within ok f h = absurd h
-  hands_sound (event.Deliver which node) (report.Served count) n key within ok f h = let it = f.0 in
+  hands_sound (event.Deliver which node) (report.Zones (zip_report.Served count)) n key within ok f h = let it = f.0 in
       ap (λ o. came_under o key) f.1
       ∙ came_so which key it (within which it f.1) (sent_at IsLawfullySent n.sent which it ok f.1) h
-  hands_sound (event.Deliver which node) (report.Asked k user bytes) n key within ok f h = h
+  hands_sound (event.Deliver which node) (report.Transactions (atp_report.Asked k user bytes)) n key within ok f h = h
   hands_sound (event.Deliver which node) r n key within ok f h = absurd h
   hands_sound (event.Timer node time) r n key within ok f h = absurd h
   hands_sound (event.Forge node bytes) r n key within ok f h = absurd h
@@ -157,10 +159,12 @@ module _ (A : Type 0) (laws : OnceLaws A) (net : ℕ) (tables : Tables) (sent : 
       → AllSent IsLawfullySent n.sent → reports.Finishes net (node_of e) n (act_of e) r
       → reports.handed_up_by n.sent (act_of e) r key ≡ true → HandsUpBy sent e r key
   hands_complete (event.Call node call) r n key within ok f h = absurd (false≢true h)
-  hands_complete (event.Deliver which node) (report.Served count) n key within ok f h = let it = f.0 in
+  hands_complete (event.Deliver which node) (report.Zones (zip_report.Served count)) n key within ok f h = let it =
+      f.0 in
       came_there which key it (within which it f.1) (sent_at IsLawfullySent n.sent which it ok f.1)
       (sym (ap (λ o. came_under o key) f.1) ∙ h)
-  hands_complete (event.Deliver which node) (report.Asked k user bytes) n key within ok f h = h
+  hands_complete (event.Deliver which node) (report.Transactions (atp_report.Asked k user bytes)) n key within ok f h =
+      h
   hands_complete (event.Deliver which node) r n key within ok f h = absurd (false≢true h)
   hands_complete (event.Timer node time) r n key within ok f h = absurd (false≢true h)
   hands_complete (event.Forge node bytes) r n key within ok f h = absurd (false≢true h)

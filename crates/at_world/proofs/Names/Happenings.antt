@@ -11,6 +11,9 @@ use Rattle.at_event.specs.Outcomes.{Outcome}
 use Rattle.at_event.specs.declared.event.Call.{Call}
 use Rattle.at_event.specs.declared.report.Report.{Report}
 use Rattle.at_event.specs.declared.report.Report.TheVariants as report
+use Rattle.at_event.specs.declared.reports.TransactionReport.TheVariants as atp_report
+use Rattle.at_event.specs.declared.reports.NameReport.TheVariants as nbp_report
+use Rattle.at_event.specs.declared.reports.StreamReport.TheVariants as adsp_report
 use Rattle.at_event.specs.declared.event.Timer.{Timer}
 use Rattle.at_event.specs.declared.service.Reply.{Reply}
 use Rattle.at_steps.specs.Acts.{is_nbp}
@@ -38,8 +41,10 @@ moment_passes A ss m e r other h = refl
 
 -- such a report draws no identifier
 draws_none : (A : Type 0) (r : Report A) → is_nbp (reporter_of r) ≡ false → IsDrawn Stays (drawn_by r)
-draws_none A (report.Looking id) h = absurd (cc)
-draws_none A (report.Begun tid) h = tt
+draws_none A (report.Names (nbp_report.Looking id)) h = absurd (cc)
+draws_none A (report.Transactions (atp_report.Begun tid)) h = tt
+draws_none A (report.Streams (adsp_report.Opening id)) h = tt
+draws_none A (report.Streams (adsp_report.Made id)) h = tt
 draws_none A r h = tt
 
 module _ (A : Type 0) (laws : NameLaws A) (w : WorldState) (c : Cable) (ss : Sessions) (m : NameMachine)

@@ -24,6 +24,7 @@ use Rattle.at_event.specs.declared.event.Call.TheVariants.{Names}
 use Rattle.at_event.specs.declared.calls.NameCall.TheVariants.{Find, Claim, Finish, Register, Unregister}
 use Rattle.at_event.specs.declared.report.Report.{Report}
 use Rattle.at_event.specs.declared.report.Report.TheVariants as report
+use Rattle.at_event.specs.declared.reports.NameReport.TheVariants as nbp_report
 use Rattle.at_steps.specs.NameSteps as steps
 use Rattle.at_steps.specs.NameSteps.{Change, IsOpen, IsPlain, IsStep}
 use Rattle.at_world.specs.Cables.{Cable}
@@ -180,7 +181,7 @@ module _ (A : Type 0) (laws : NameLaws A) (w : WorldState) (c : Cable) (ss : Ses
     change = Opens s.id (pattern_asked n.session s.object s.kind s.zone) None;
     allows = so_at A ss m (moved m m.names (node_of e)
         (Opens s.id (pattern_asked n.session s.object s.kind s.zone) None)) e
-        (event.Call (node_of e) (Names (Find s.object s.kind s.zone))) r (report.Looking s.id)
+        (event.Call (node_of e) (Names (Find s.object s.kind s.zone))) r (report.Names (nbp_report.Looking s.id))
         (called_at e (Names (Find s.object s.kind s.zone)) s.act) s.report
         (record {
           becomes = λ i. next
@@ -207,7 +208,7 @@ module _ (A : Type 0) (laws : NameLaws A) (w : WorldState) (c : Cable) (ss : Ses
         names = m.names;
         change = Opens s.id (any_pattern s.object s.kind) (Some claim);
         allows = so_at A ss m (moved m m.names (node_of e) (Opens s.id (any_pattern s.object s.kind) (Some claim))) e
-            (event.Call (node_of e) (Names (Claim s.object s.kind s.socket))) r (report.Looking s.id)
+            (event.Call (node_of e) (Names (Claim s.object s.kind s.socket))) r (report.Names (nbp_report.Looking s.id))
             (called_at e (Names (Claim s.object s.kind s.socket)) s.act) s.report
             (record { becomes = refl });
         tables = same_names s.table;
@@ -228,11 +229,11 @@ module _ (A : Type 0) (laws : NameLaws A) (w : WorldState) (c : Cable) (ss : Ses
         change = Closes s.id;
         allows =
             so_at A ss m (moved m m.names (node_of e) (Closes s.id)) e (event.Call (node_of e) (Names (Finish s.id))) r
-            (report.Found s.finds) (called_at e (Names (Finish s.id)) s.act) s.report
+            (report.Names (nbp_report.Found s.finds)) (called_at e (Names (Finish s.id)) s.act) s.report
             (record { lookup = o.lookup; stands = o.stands; claims = o.claims; tells = o.tells; becomes = refl });
         tables = same_names s.table;
         opened = s.lookups;
-        drawn = draws_none (Closes s.id) (report.Found s.finds) s.report tt;
+        drawn = draws_none (Closes s.id) (report.Names (nbp_report.Found s.finds)) s.report tt;
       }
 
   claimed_step : steps.EndsClaim its_change → Steps
@@ -243,7 +244,8 @@ module _ (A : Type 0) (laws : NameLaws A) (w : WorldState) (c : Cable) (ss : Ses
         names = named.names;
         change = Closes s.id;
         allows = so_at A ss m (moved m named.names (node_of e) (Closes s.id)) e
-            (event.Call (node_of e) (Names (Finish s.id))) r report.Claimed (called_at e (Names (Finish s.id)) s.act)
+            (event.Call (node_of e) (Names (Finish s.id))) r (report.Names nbp_report.Claimed)
+            (called_at e (Names (Finish s.id)) s.act)
             s.report
             (record {
               lookup = o.lookup;
@@ -259,7 +261,7 @@ module _ (A : Type 0) (laws : NameLaws A) (w : WorldState) (c : Cable) (ss : Ses
             });
         tables = λ k. refl;
         opened = s.lookups;
-        drawn = draws_none (Closes s.id) report.Claimed s.report tt;
+        drawn = draws_none (Closes s.id) (report.Names nbp_report.Claimed) s.report tt;
       }
 
   lost_step : steps.LosesClaim its_change → Steps
@@ -270,7 +272,7 @@ module _ (A : Type 0) (laws : NameLaws A) (w : WorldState) (c : Cable) (ss : Ses
         change = Closes s.id;
         allows =
             so_at A ss m (moved m m.names (node_of e) (Closes s.id)) e (event.Call (node_of e) (Names (Finish s.id))) r
-            (report.Taken s.owner) (called_at e (Names (Finish s.id)) s.act) s.report
+            (report.Names (nbp_report.Taken s.owner)) (called_at e (Names (Finish s.id)) s.act) s.report
             (record {
               lookup = o.lookup;
               stands = o.stands;
@@ -281,7 +283,7 @@ module _ (A : Type 0) (laws : NameLaws A) (w : WorldState) (c : Cable) (ss : Ses
             });
         tables = same_names s.table;
         opened = s.lookups;
-        drawn = draws_none (Closes s.id) (report.Taken s.owner) s.report tt;
+        drawn = draws_none (Closes s.id) (report.Names (nbp_report.Taken s.owner)) s.report tt;
       }
 
   registers_step : steps.RegistersName its_change → Steps
@@ -291,7 +293,7 @@ module _ (A : Type 0) (laws : NameLaws A) (w : WorldState) (c : Cable) (ss : Ses
         names = named.names;
         change = Stays;
         allows = so_at A ss m (moved m named.names (node_of e) Stays) e
-            (event.Call (node_of e) (Names (Register s.object s.kind s.socket))) r report.Registered
+            (event.Call (node_of e) (Names (Register s.object s.kind s.socket))) r (report.Names nbp_report.Registered)
             (called_at e (Names (Register s.object s.kind s.socket)) s.act) s.report
             (record {
               allowed = ap (λ (y : Table). register_fault y.names s.object s.kind) (sym own_names) ∙ s.allowed;
@@ -301,7 +303,7 @@ module _ (A : Type 0) (laws : NameLaws A) (w : WorldState) (c : Cable) (ss : Ses
             });
         tables = λ k. refl;
         opened = s.lookups;
-        drawn = draws_none Stays report.Registered s.report tt;
+        drawn = draws_none Stays (report.Names nbp_report.Registered) s.report tt;
       }
 
   -- the node's names without this one
@@ -315,7 +317,7 @@ module _ (A : Type 0) (laws : NameLaws A) (w : WorldState) (c : Cable) (ss : Ses
         names = named.names;
         change = Stays;
         allows = so_at A ss m (moved m named.names (node_of e) Stays) e
-            (event.Call (node_of e) (Names (Unregister s.object s.kind))) r report.Unregistered
+            (event.Call (node_of e) (Names (Unregister s.object s.kind))) r (report.Names nbp_report.Unregistered)
             (called_at e (Names (Unregister s.object s.kind)) s.act) s.report
             (record {
               name = s.name;
@@ -325,7 +327,7 @@ module _ (A : Type 0) (laws : NameLaws A) (w : WorldState) (c : Cable) (ss : Ses
         tables = λ k. ap (λ (y : Table). cond (node_of e == k) y (m.names k))
             (sym (s.table ∙ ap (without s.object s.kind) own_names));
         opened = s.lookups;
-        drawn = draws_none Stays report.Unregistered s.report tt;
+        drawn = draws_none Stays (report.Names nbp_report.Unregistered) s.report tt;
       }
 
   pub step_becomes : IsStep its_change → Steps

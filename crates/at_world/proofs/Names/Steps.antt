@@ -7,7 +7,9 @@ use Rattle.at_node.specs.Numbers.{drawn_by}
 use Rattle.at_event.specs.Kinds.{reporter_of}
 use Rattle.at_event.specs.declared.report.Report.{Report}
 use Rattle.at_event.specs.declared.report.Report.TheVariants as report
+use Rattle.at_event.specs.declared.reports.NameReport.TheVariants as nbp_report
 use Rattle.at_event.specs.declared.event.Timer.TheVariants as timer
+use Rattle.at_event.specs.declared.timers.NameTimer.TheVariants as nbp_timer
 use Rattle.at_steps.specs.NameSteps.{is_plain}
 use Rattle.at_world.specs.Events.{act_of}
 use Rattle.at_world.specs.NameGuards.{NameMachine, StepBy, next}
@@ -37,10 +39,10 @@ plainly A ss m (event.Timer node time) report.NoMemory h = refl
 plainly A ss m (event.Forge node bytes) (report.Refused number) h = refl
 plainly A ss m (event.Forge node bytes) report.NoMemory h = refl
 plainly A ss m (event.Deliver which node) report.Ignored h = refl
-plainly A ss m (event.Deliver which node) report.Relayed h = refl
-plainly A ss m (event.Deliver which node) (report.Names count) h = refl
-plainly A ss m (event.Deliver which node) (report.Finds count) h = refl
-plainly A ss m (event.Timer node (timer.Lookup id)) report.Again h = refl
+plainly A ss m (event.Deliver which node) (report.Names nbp_report.Relayed) h = refl
+plainly A ss m (event.Deliver which node) (report.Names (nbp_report.Matched count)) h = refl
+plainly A ss m (event.Deliver which node) (report.Names (nbp_report.Added count)) h = refl
+plainly A ss m (event.Timer node (timer.Names (nbp_timer.Lookup id))) report.Again h = refl
 plainly A ss m e r h = absurd (false≢true h)
 
 -- it draws no identifier
@@ -54,8 +56,8 @@ plain_draws A (event.Timer node time) report.NoMemory h = tt
 plain_draws A (event.Forge node bytes) (report.Refused number) h = tt
 plain_draws A (event.Forge node bytes) report.NoMemory h = tt
 plain_draws A (event.Deliver which node) report.Ignored h = tt
-plain_draws A (event.Deliver which node) report.Relayed h = tt
-plain_draws A (event.Deliver which node) (report.Names count) h = tt
-plain_draws A (event.Deliver which node) (report.Finds count) h = tt
-plain_draws A (event.Timer node (timer.Lookup id)) report.Again h = tt
+plain_draws A (event.Deliver which node) (report.Names nbp_report.Relayed) h = tt
+plain_draws A (event.Deliver which node) (report.Names (nbp_report.Matched count)) h = tt
+plain_draws A (event.Deliver which node) (report.Names (nbp_report.Added count)) h = tt
+plain_draws A (event.Timer node (timer.Names (nbp_timer.Lookup id))) report.Again h = tt
 plain_draws A e r h = absurd (false≢true h)

@@ -13,6 +13,8 @@ use Rattle.at_event.specs.declared.calls.NameCall.TheVariants.{Finish}
 use Rattle.at_event.specs.declared.calls.SessionCall.TheVariants.{Pick}
 use Rattle.at_event.specs.declared.report.Report.{Report}
 use Rattle.at_event.specs.declared.report.Report.TheVariants as report
+use Rattle.at_event.specs.declared.reports.ZoneReport.TheVariants as zip_report
+use Rattle.at_event.specs.declared.reports.NameReport.TheVariants as nbp_report
 use Rattle.at_event.specs.declared.event.Timer.{Timer}
 use Rattle.at_event.specs.declared.service.Reply.{Reply}
 use Rattle.at_node.specs.Hearing.{Hears}
@@ -56,7 +58,7 @@ nothing_steps A s act = record { becomes = refl; picks = tt }
 
 module _ (A : Type 0) (net : ℕ) (s : SessionState) (f : Fits net s) where
   list_fits : (r : Report A) → Fits net (list_kept s r)
-  list_fits (report.Zones which names) = record { picked = f.picked; finds = f.finds }
+  list_fits (report.Zones (zip_report.List which names)) = record { picked = f.picked; finds = f.finds }
   list_fits r = f
 
   pick_fits : (zone : List ℕ) (r : Report A) → IsCall {A = A} (Session (Pick zone)) → Fits net (pick_kept s zone r)
@@ -128,22 +130,22 @@ module _ (A : Type 0) (laws : SessionLaws A) (named : NameLaws A) (w : WorldStat
         act = Calls (Names (Finish id));
         report = r;
       }) → Fits c.net (finds_kept n.session r)
-  found_fits id (report.Found finds) now (names.Finds s) =
+  found_fits id (report.Names (nbp_report.Found finds)) now (names.Finds s) =
       let e : Event A = event.Call k (Names (Finish id)) in
       let same : s.finds ≡ finds = cc in
-      let looked = looked_up A named w c ss m ct.wires e n n (report.Found finds) t stands
+      let looked = looked_up A named w c ss m ct.wires e n n (report.Names (nbp_report.Found finds)) t stands
       (let has = st.sessions k n stands in has.same) s.id None s.finds s.stands in
       let its = looked.0.1 in
       let all = all_openable named.named c.net ct.net t.setting t.history m.past t.past t.lawful t.timely t.in_range
       (its.begun).event ((s.stands).looked).pattern ((s.stands).looked).finds its.stood in
       record { picked = fits.picked; finds = subst (AllByRecursion (IsOpenable c.net)) ((s.stands).found ∙ same) all }
-  found_fits id (report.Found finds) now (names.Plain s) = absurd (false≢true s.plain)
-  found_fits id (report.Found finds) now (names.Looks s) = let told = s.report in absurd (cc)
-  found_fits id (report.Found finds) now (names.Claims s) = let told = s.report in absurd (cc)
-  found_fits id (report.Found finds) now (names.HasClaimed s) = let told = s.report in absurd (cc)
-  found_fits id (report.Found finds) now (names.HasLost s) = let told = s.report in absurd (cc)
-  found_fits id (report.Found finds) now (names.Registers s) = let told = s.report in absurd (cc)
-  found_fits id (report.Found finds) now (names.Unregisters s) = let told = s.report in absurd (cc)
+  found_fits id (report.Names (nbp_report.Found finds)) now (names.Plain s) = absurd (false≢true s.plain)
+  found_fits id (report.Names (nbp_report.Found finds)) now (names.Looks s) = let told = s.report in absurd (cc)
+  found_fits id (report.Names (nbp_report.Found finds)) now (names.Claims s) = let told = s.report in absurd (cc)
+  found_fits id (report.Names (nbp_report.Found finds)) now (names.HasClaimed s) = let told = s.report in absurd (cc)
+  found_fits id (report.Names (nbp_report.Found finds)) now (names.HasLost s) = let told = s.report in absurd (cc)
+  found_fits id (report.Names (nbp_report.Found finds)) now (names.Registers s) = let told = s.report in absurd (cc)
+  found_fits id (report.Names (nbp_report.Found finds)) now (names.Unregisters s) = let told = s.report in absurd (cc)
   found_fits id r now step = fits
 
   ended_fits : (call : Call A) → IsCall call → (id : ℕ) → call ≡ Names (Finish id)

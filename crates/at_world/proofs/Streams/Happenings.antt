@@ -10,6 +10,7 @@ use Rattle.at_event.specs.declared.event.Call.TheVariants.{Streams}
 use Rattle.at_event.specs.declared.calls.StreamCall.TheVariants.{Read}
 use Rattle.at_event.specs.declared.report.Report.{Report}
 use Rattle.at_event.specs.declared.report.Report.TheVariants as report
+use Rattle.at_event.specs.declared.reports.StreamReport.TheVariants as adsp_report
 use Rattle.at_event.specs.declared.event.Timer.{Timer}
 use Rattle.at_event.specs.declared.service.Reply.{Reply}
 use Rattle.at_adsp.specs.Meetings.{ReadsWith}
@@ -112,7 +113,8 @@ module _ (A : Type 0) (laws : StreamLaws A) (w : WorldState) (c : Cable) (ss : S
           let its = ct.seats k n stands in
           let call_is : call ≡ Streams (Read id count) = same_call k call (Streams (Read id count)) is in
           let told' : (called n (Streams (Read id count))).report
-          ≡ report.Read items = subst (λ (x : Call A). (called n x).report ≡ report.Read items) call_is told in
+          ≡ report.Streams (adsp_report.Read items) =
+          subst (λ (x : Call A). (called n x).report ≡ report.Streams (adsp_report.Read items)) call_is told in
           let at : streams_at n.seat.net n.seat.number
           ≡ streams_at c.net k = λ i. streams_at (its.net i) (its.number i) in
           subst (λ a. ReadsInOrder (after t.setting (Reads a id count ∷ t.history))

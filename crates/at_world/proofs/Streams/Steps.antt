@@ -29,11 +29,14 @@ use Rattle.at_event.specs.declared.event.Call.TheVariants.{Streams}
 use Rattle.at_event.specs.declared.calls.StreamCall.TheVariants.{Open, Listen, Connect, Write, Read, Reset, Close}
 use Rattle.at_event.specs.declared.report.Report.{Report}
 use Rattle.at_event.specs.declared.report.Report.TheVariants as report
+use Rattle.at_event.specs.declared.reports.StreamReport.{StreamReport}
+use Rattle.at_event.specs.declared.reports.StreamReport.TheVariants as adsp_report
 use Rattle.at_event.specs.declared.event.Timer.TheVariants as timer
+use Rattle.at_event.specs.declared.timers.StreamTimer.TheVariants as adsp_timer
 use Rattle.at_node.specs.Nodes.{NodeState}
 use Rattle.at_steps.specs.StreamHappenings.{Happens, change, stream_coding}
 use Rattle.at_steps.specs.StreamSteps as steps
-use Rattle.at_steps.specs.StreamSteps.{IsStep, asked_by, is_plain}
+use Rattle.at_steps.specs.StreamSteps.{IsStep, asked_by, is_plain, is_plain_report}
 use Rattle.at_stream_socket.specs.Sockets.{streams_at}
 use Rattle.at_session.specs.Sessions.{SessionState}
 use Rattle.at_world.specs.SessionGuards.{Sessions}
@@ -57,9 +60,26 @@ so_at : (A : Type 0) (c : Cable) (ss : Sessions) (m m' : StreamMachine) (e e' : 
 so_at A c ss m m' e e' r r' same told allows =
     subst (λ x. Allows c ss m x r m') (sym same) (subst (λ x. Allows c ss m e' x m') (sym told) allows)
 
--- a report that says nothing new of streams leaves them as they were
+-- a report of streams that says nothing new of them leaves them as they were
+streams_plainly : (A : Type 0) (c : Cable) (ss : Sessions) (m : StreamMachine) (r : StreamReport A) (e : Event A)
+    → is_plain_report r (act_of e) ≡ true → Allows c ss m e (report.Streams r) (next m)
+streams_plainly A c ss m adsp_report.ListenSet (event.Call node (Streams (Listen on))) h = refl
+streams_plainly A c ss m (adsp_report.Closed it) (event.Call node (Streams (Close id))) h = refl
+streams_plainly A c ss m (adsp_report.Closed it) (event.Timer node (timer.Streams (adsp_timer.Probe id))) h = refl
+streams_plainly A c ss m (adsp_report.Closed it) (event.Deliver which node) h = refl
+streams_plainly A c ss m (adsp_report.Freed it) (event.Call node (Streams (Close id))) h = refl
+streams_plainly A c ss m (adsp_report.Freed it) (event.Timer node (timer.Streams (adsp_timer.Probe id))) h = refl
+streams_plainly A c ss m adsp_report.Idle (event.Timer node (timer.Streams (adsp_timer.Resend id))) h = refl
+streams_plainly A c ss m adsp_report.Turned (event.Deliver which node) h = refl
+streams_plainly A c ss m (adsp_report.Denied id) (event.Deliver which node) h = refl
+streams_plainly A c ss m (adsp_report.Heard id items) (event.Deliver which node) h = refl
+streams_plainly A c ss m (adsp_report.Dropped id) (event.Deliver which node) h = refl
+streams_plainly A c ss m r e h = absurd (false≢true h)
+
+-- so does any other such report
 plainly : (A : Type 0) (c : Cable) (ss : Sessions) (m : StreamMachine) (e : Event A) (r : Report A)
     → is_plain (act_of e) r ≡ true → Allows c ss m e r (next m)
+plainly A c ss m e (report.Streams r) h = streams_plainly A c ss m r e h
 plainly A c ss m (event.Call node call) (report.Refused number) h = refl
 plainly A c ss m (event.Call node call) report.NoMemory h = refl
 plainly A c ss m (event.Deliver which node) (report.Refused number) h = refl
@@ -68,29 +88,16 @@ plainly A c ss m (event.Timer node time) (report.Refused number) h = refl
 plainly A c ss m (event.Timer node time) report.NoMemory h = refl
 plainly A c ss m (event.Forge node bytes) (report.Refused number) h = refl
 plainly A c ss m (event.Forge node bytes) report.NoMemory h = refl
-plainly A c ss m (event.Call node (Streams (Listen on))) report.ListenSet h = refl
-plainly A c ss m (event.Call node (Streams (Close id))) (report.Closed it) h = refl
-plainly A c ss m (event.Call node (Streams (Close id))) (report.Freed it) h = refl
-plainly A c ss m (event.Timer node (timer.Resend id)) report.Idle h = refl
-plainly A c ss m (event.Timer node (timer.Resend id)) report.Again h = refl
-plainly A c ss m (event.Timer node (timer.Probe id)) report.Again h = refl
-plainly A c ss m (event.Timer node (timer.Probe id)) (report.Closed it) h = refl
-plainly A c ss m (event.Timer node (timer.Probe id)) (report.Freed it) h = refl
+plainly A c ss m (event.Timer node (timer.Streams (adsp_timer.Resend id))) report.Again h = refl
+plainly A c ss m (event.Timer node (timer.Streams (adsp_timer.Probe id))) report.Again h = refl
 plainly A c ss m (event.Deliver which node) report.Ignored h = refl
-plainly A c ss m (event.Deliver which node) report.Turned h = refl
-plainly A c ss m (event.Deliver which node) (report.Denied id) h = refl
 plainly A c ss m (event.Deliver which node) report.Again h = refl
-plainly A c ss m (event.Deliver which node) report.Idle h = refl
-plainly A c ss m (event.Deliver which node) (report.Heard id items) h = refl
-plainly A c ss m (event.Deliver which node) (report.Dropped id) h = refl
-plainly A c ss m (event.Deliver which node) (report.Closed id) h = refl
-plainly A c ss m (event.Deliver which node) (report.Freed id) h = refl
 plainly A c ss m e r h = absurd (false≢true h)
 
 -- a call that asks for a connection makes an end that asks the address
 asks_allowed : (A : Type 0) (c : Cable) (ss : Sessions) (m m' : StreamMachine) (e : Event A) (id : ℕ) (asked : Address)
     → asked_by (ss (node_of e)) c.net (act_of e) ≡ Some asked → MakesEnd c m (node_of e) id false asked m'
-    → Allows c ss m e (report.Opening id) m'
+    → Allows c ss m e (report.Streams (adsp_report.Opening id)) m'
 asks_allowed A c ss m m' (event.Call node (Streams (Connect to socket))) id asked is makes =
     let same : at_net c to socket
     ≡ asked = cc in subst (λ (a : Address). MakesEnd c m node id false a m') (sym same) makes
@@ -151,7 +158,8 @@ abbrev pub ReadsAt : (A : Type 0) (w : WorldState) (c : Cable) (m : StreamMachin
     → StreamTie w c ct.wires m → Event A → NodeState → Outcome A NodeState → Type 0
 ReadsAt A w c m ct t e n o =
     (id count : ℕ) (items : List Item) → e ≡ event.Call (node_of e) (Streams (Read id count)) → o.report
-    ≡ report.Read items → ReadsInOrder (after t.setting (Reads (streams_at c.net (node_of e)) id count ∷ t.history))
+    ≡ report.Streams (adsp_report.Read items)
+    → ReadsInOrder (after t.setting (Reads (streams_at c.net (node_of e)) id count ∷ t.history))
     → ReadsWith (streams (after t.setting t.history)) (streams_at c.net (node_of e)) id items
 
 module _ (A : Type 0) (laws : StreamLaws A) (w : WorldState) (c : Cable) (ss : Sessions) (m : StreamMachine)
@@ -192,20 +200,22 @@ module _ (A : Type 0) (laws : StreamLaws A) (w : WorldState) (c : Cable) (ss : S
 
   asks_step : steps.AsksFor its_change → Row
   asks_step s =
-      so_at A c ss m (moved m now) e e o.report (report.Opening s.id) refl s.report
+      so_at A c ss m (moved m now) e e o.report (report.Streams (adsp_report.Opening s.id)) refl s.report
       (asks_allowed A c ss m (moved m now) e s.id s.asked
       (ap (λ (x : SessionState). asked_by x c.net (act_of e)) (sym told) ∙ s.act)
       (makes s.id false s.asked s.streams))
 
   answers_step : steps.Answers its_change → Row
   answers_step s =
-      so_at A c ss m (moved m now) e (event.Deliver s.which (node_of e)) o.report (report.Made s.id)
+      so_at A c ss m (moved m now) e (event.Deliver s.which (node_of e)) o.report
+      (report.Streams (adsp_report.Made s.id))
       (delivered_at e s.which s.act) s.report
       ((s.request).from, makes s.id true (s.request).from s.streams)
 
   opens_step : steps.Opens its_change → Row
   opens_step s =
-      so_at A c ss m (moved m now) e (event.Deliver s.which (node_of e)) o.report (report.Opened s.id)
+      so_at A c ss m (moved m now) e (event.Deliver s.which (node_of e)) o.report
+      (report.Streams (adsp_report.Opened s.id))
       (delivered_at e s.which s.act) s.report
       (record { now = now; opens = subst (λ ss. OpensWith ss now at s.id) (sym same) s.opens; becomes = refl })
 
@@ -220,13 +230,14 @@ module _ (A : Type 0) (laws : StreamLaws A) (w : WorldState) (c : Cable) (ss : S
   writes_step : steps.Writes its_change → Row
   writes_step s =
       so_at A c ss m (moved m now) e (event.Call (node_of e) (Streams (Write s.id s.items))) o.report
-      (report.Wrote s.count)
+      (report.Streams (adsp_report.Wrote s.count))
       (called_at e (Streams (Write s.id s.items)) s.act) s.report
       (does s.id (Wrote (take s.count s.items)) s.stands s.streams)
 
   resets_step : steps.Resets its_change → Row
   resets_step s =
-      so_at A c ss m (moved m now) e (event.Call (node_of e) (Streams (Reset s.id))) o.report report.StreamReset
+      so_at A c ss m (moved m now) e (event.Call (node_of e) (Streams (Reset s.id))) o.report
+      (report.Streams adsp_report.Reset)
       (called_at e (Streams (Reset s.id)) s.act) s.report
       (does s.id GaveUp s.stands s.streams)
 
@@ -248,7 +259,7 @@ module _ (A : Type 0) (laws : StreamLaws A) (w : WorldState) (c : Cable) (ss : S
       let with_peer : ReadsWith old at s.id s.items =
       its_reads s.id s.count s.items called_ s.report (in_order s.id s.count) in
       so_at A c ss m (moved m now) e (event.Call (node_of e) (Streams (Read s.id s.count))) o.report
-      (report.Read s.items) called_ s.report
+      (report.Streams (adsp_report.Read s.items)) called_ s.report
       (record {
         reads = subst (λ ss. ReadsWith ss at s.id s.items) (sym same) with_peer;
         becomes = becomes (with_deed at s.id (HasRead s.items) m.streams)

@@ -28,6 +28,7 @@ use Rattle.at_event.specs.declared.event.Call.{Call}
 use Rattle.at_event.specs.declared.event.Call.TheVariants.{Streams}
 use Rattle.at_event.specs.declared.calls.StreamCall.TheVariants.{Read}
 use Rattle.at_event.specs.declared.report.Report.TheVariants as report
+use Rattle.at_event.specs.declared.reports.StreamReport.TheVariants as adsp_report
 use Rattle.at_event.specs.declared.report.Report.{Report}
 use Rattle.at_event.specs.declared.event.Timer.{Timer}
 use Rattle.at_event.specs.declared.service.Reply.{Reply}
@@ -85,7 +86,7 @@ pub record StreamLaws (A : Type 0) : Type 0 where
       → by_remote n.streams (record { address = at; id = id }) ≡ None
   pub reads : (setting : Setting) (history : List Happening) (n : NodeState) (id count : ℕ) (items : List Item)
       → Stands setting history n.seat.net n.seat.number n → (node_called {A = A} n (Streams (Read id count))).report
-      ≡ report.Read items
+      ≡ report.Streams (adsp_report.Read items)
       → ReadsInOrder (after setting (Reads (streams_at n.seat.net n.seat.number) id count ∷ history))
       → ReadsWith (streams (after setting history)) (streams_at n.seat.net n.seat.number) id items
   pub names : (setting : Setting) (history : List Happening) (n : NodeState) (id : ℕ) (e : EndState)

@@ -2,7 +2,7 @@ use Rattle.std.proofs.Common.{◌≡◌, ◌++◌, ◌∷◌, [], false, Some, m
 use Rattle.at_ddp.specs.Protocols.{atp_kind}
 use Rattle.at_atp_frame.specs.Frames.{content, spelled}
 use Rattle.at_atp_requester.specs.Requests.{beginning, begun, heard, next_number, request_by}
-use Rattle.at_zip.specs.Reading.{kept, place_after}
+use Rattle.at_zip.specs.Reading.{place_after}
 use Rattle.at_zip.specs.Request.{request_user}
 use Rattle.at_node.specs.AtpParts.{AtpState, asking}
 use Rattle.at_event.specs.Outcomes.{posted, sent_by}
@@ -29,7 +29,7 @@ returns-in-Ok-clause-comes g c =
     ≡ begun (heard {A = A} now.requester from f).after (page_transaction from which names tid) =
     c.in-Ok.ensures.state ∙ (λ i. begun (heard {A = A} (c.self.view_is i).requester from f).after
     (beginning tid from (user i) [] 1 false 3)) in
-    let all : c.take.new.self.names ≡ names = c.take.ensures.kept ∙ ap (kept names) c.requires.goes_on in
+    let all : c.take.new.self.names ≡ names = c.take.ensures in
     let sent : c.turn.new.out.items
     ≡ c.args.out.now.items ++ map posted
     (sent_by (asking c.args.packet.now.seat.net c.args.packet.now.seat.number) atp_kind

@@ -5,7 +5,7 @@ use Rattle.at_adsp_end.specs.Positions.{wire}
 use Rattle.at_adsp_ends.specs.Calls.{read_at}
 use Rattle.at_adsp_ends.specs.Moves.{IsCalled, read_of}
 use Rattle.at_adsp_ends.specs.Tables.{by_id}
-use Rattle.at_event.specs.declared.report.Report.TheVariants as report
+use Rattle.at_stream_socket.specs.Sockets.{told_read}
 use Rattle.at_stream_socket.proofs.CallLemmas.{IsBox, call_step, can_read, reported}
 use Rattle.at_stream_socket.proofs.socket.StreamSocket.read_some.Goals as goal
 use Rattle.at_stream_socket.proofs.socket.StreamSocket.read_some.Goals.{in-Ok-read, in-Err}
@@ -23,7 +23,7 @@ returns g c =
       back = c.into_list.ensures.items;
     } in
     let same : c.match-read.result
-    ≡ reported {A = g.row.A.Denot} report.Read (read_of c.read-read.result c.read-read.new.items) =
+    ≡ reported {A = g.row.A.Denot} told_read (read_of c.read-read.result c.read-read.new.items) =
     elim c.match-read.branch [
       | in-Ok-read w ↦
           let count = w.in-Ok-read.count in
@@ -37,17 +37,17 @@ returns g c =
           let read : take count (take c.resize.new.self.len (new ++ rest))
           ≡ take count new = take-take count c.resize.new.self.len (new ++ rest) fits
           ∙ take-append-le count new rest few in
-          w.result-is ∙ ap report.Read (w.from_vec.ensures ∙ w.truncate.ensures.items ∙ read)
-          ∙ ap (λ r. reported {A = g.row.A.Denot} report.Read (read_of r c.read-read.new.items))
+          w.result-is ∙ ap told_read (w.from_vec.ensures ∙ w.truncate.ensures.items ∙ read)
+          ∙ ap (λ r. reported {A = g.row.A.Denot} told_read (read_of r c.read-read.new.items))
           (sym w.in-Ok-read.is)
       | in-Err w ↦ w.result-is ∙ w.refused_by.ensures
-          ∙ ap (λ r. reported {A = g.row.A.Denot} report.Read (read_of r c.read-read.new.items)) (sym w.in-Err.is)
+          ∙ ap (λ r. reported {A = g.row.A.Denot} told_read (read_of r c.read-read.new.items)) (sym w.in-Err.is)
     ] in
     let call = subst (λ n. IsCalled (read_at wire t n (by_id t c.args.id))
     (read_of c.read-read.result c.read-read.new.items) t c.read-read.new.self c.lent-outbox.result
     c.read-read.new.out) all c.read-read.ensures.call in
     rw (same, ← c.self.view_is)
-    (call_step c.args.seat t c.read-read.new.self report.Read (read_at wire t c.args.count (by_id t c.args.id))
+    (call_step c.args.seat t c.read-read.new.self told_read (read_at wire t c.args.count (by_id t c.args.id))
     (read_of c.read-read.result c.read-read.new.items) c.lent-outbox.result c.read-read.new.out
     c.args.out.now.items c.into_list.result.items (λ x. refl) (λ d is. refl) box call)
 

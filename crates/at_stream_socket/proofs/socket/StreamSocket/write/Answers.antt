@@ -2,7 +2,7 @@ use Rattle.std.proofs.Common.{◌≡◌, ap, refl, sym, ◌∙◌}
 use Rattle.at_adsp_end.specs.Positions.{wire}
 use Rattle.at_adsp_ends.specs.Calls.{wrote}
 use Rattle.at_adsp_ends.specs.Tables.{by_id}
-use Rattle.at_event.specs.declared.report.Report.TheVariants as report
+use Rattle.at_stream_socket.specs.Sockets.{told_wrote}
 use Rattle.at_stream_socket.proofs.CallLemmas.{IsBox, call_step, reported}
 use Rattle.at_stream_socket.proofs.socket.StreamSocket.write.Goals as goal
 use Rattle.at_stream_socket.proofs.socket.StreamSocket.write.Goals.{in-Ok, in-Err}
@@ -17,13 +17,13 @@ returns g c =
       kind = c.lent-outbox.ensures.kind;
       back = c.into_list.ensures.items;
     } in
-    let same : c.match-wrote.result ≡ reported {A = g.row.A.Denot} report.Wrote c.write-wrote.result =
+    let same : c.match-wrote.result ≡ reported {A = g.row.A.Denot} told_wrote c.write-wrote.result =
     elim c.match-wrote.branch [
-      | in-Ok w ↦ w.result-is ∙ ap (reported {A = g.row.A.Denot} report.Wrote) (sym w.in-Ok.is)
-      | in-Err w ↦ w.result-is ∙ w.refused_by.ensures ∙ ap (reported {A = g.row.A.Denot} report.Wrote) (sym w.in-Err.is)
+      | in-Ok w ↦ w.result-is ∙ ap (reported {A = g.row.A.Denot} told_wrote) (sym w.in-Ok.is)
+      | in-Err w ↦ w.result-is ∙ w.refused_by.ensures ∙ ap (reported {A = g.row.A.Denot} told_wrote) (sym w.in-Err.is)
     ] in
     rw (same, ← c.self.view_is)
-    (call_step c.args.seat c.self.inside.ends c.write-wrote.new.self report.Wrote
+    (call_step c.args.seat c.self.inside.ends c.write-wrote.new.self told_wrote
     (wrote wire c.self.inside.ends c.args.items.now (by_id c.self.inside.ends c.args.id)) c.write-wrote.result
     c.lent-outbox.result c.write-wrote.new.out c.args.out.now.items c.into_list.result.items (λ x. refl)
     (λ d is. refl) box c.write-wrote.ensures.call)

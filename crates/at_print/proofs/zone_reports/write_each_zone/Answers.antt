@@ -2,7 +2,7 @@ use Rattle.std.specs.Prelude.{codes}
 use Rattle.at_print.specs.Reports.{text_word, zone_text}
 use Rattle.at_print.proofs.PrintLemmas.{Prints-trans}
 use Rattle.at_print.proofs.ReportLemmas.{Prints-next}
-use Rattle.at_print.proofs.print.write_each_zone.Goals as goal
+use Rattle.at_print.proofs.zone_reports.write_each_zone.Goals as goal
 
 pub loop-zone-preserved : goal.loop-zone-preserved
 loop-zone-preserved g c =

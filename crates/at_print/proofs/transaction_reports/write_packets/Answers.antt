@@ -1,6 +1,6 @@
 use Rattle.at_print.specs.Reports.{packet_text}
 use Rattle.at_print.proofs.ReportLemmas.{Prints-next, Prints-packet}
-use Rattle.at_print.proofs.print.write_packets.Goals as goal
+use Rattle.at_print.proofs.transaction_reports.write_packets.Goals as goal
 
 pub loop-packet-preserved : goal.loop-packet-preserved
 loop-packet-preserved g c =

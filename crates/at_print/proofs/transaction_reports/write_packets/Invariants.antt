@@ -2,7 +2,7 @@ use Rattle.std.proofs.Common.{take}
 use Rattle.std.specs.List.{flat_map}
 use Rattle.at_print.specs.Printers.{Prints}
 use Rattle.at_print.specs.Reports.{packet_text}
-use Rattle.at_print.proofs.print.write_packets.Given as goal
+use Rattle.at_print.proofs.transaction_reports.write_packets.Given as goal
 
 abbrev pub invariant-loop-packet : goal.invariant-loop-packet
 invariant-loop-packet g l =
