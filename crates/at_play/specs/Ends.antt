@@ -5,11 +5,11 @@ use Rattle.std.specs.declared.io.Error.{Error}
 use Rattle.at_opened.specs.Rewinds.{Rewound}
 use Rattle.at_world.specs.Agreements.{HasAgreeingRun}
 use Rattle.at_world.specs.Events.{NoForge}
-use Rattle.at_world.specs.ExactlyOnce.{AllLive, RunsOnce, onto}
+use Rattle.at_world.specs.ExactlyOnce.{RunsOnceIn}
 use Rattle.at_world.specs.Machine.{Machine, Run, opening_machine}
 use Rattle.at_world.specs.Plays.{opening_world}
 use Rattle.at_world.specs.Safety.{Safely}
-use Rattle.at_setup.specs.Setups.{is_lawful, tables_of}
+use Rattle.at_setup.specs.Setups.{is_lawful}
 use Rattle.at_setup.specs.declared.setup.Setup.{Setup}
 use Rattle.at_schedule.specs.Drafts.{HoldsSetup, IsLineFault}
 use Rattle.at_faults.specs.Reads.{IsOfBytes}
@@ -53,8 +53,7 @@ pub record Obeys {A : Type 0} (setup : Setup A) (p : Played setup) : Type 0 wher
   pub safe : Safely (opening_world setup) p.events p.reports p.world
   pub run : NoForge p.events → (m : Machine) × Run (opening_machine setup) p.events p.reports m
   pub agrees : NoForge p.events → HasAgreeingRun setup p.events p.reports p.world
-  pub once : NoForge p.events → AllLive setup.net (p.world).sent (onto [] p.events p.reports)
-      → RunsOnce setup.net (tables_of setup) (p.world).sent (onto [] p.events p.reports)
+  pub once : RunsOnceIn setup p.events p.reports (p.world).sent
 
 -- What a schedule's play prints of its events: what is told of those that were played. These are all of them unless it
 -- stopped, which is said if the schedule's text is known. To a person their refusals are told.

@@ -1,5 +1,6 @@
 -- How the part of ATP and ZIP follows each event: its tie, its steps, and its exactly-once requests.
 pub mod Coming
+pub mod Counts
 pub mod Happenings
 pub mod Lists
 pub mod Newest

@@ -20,9 +20,10 @@ use Rattle.at_setup.specs.declared.refusal.Fault.{Fault}
 use Rattle.at_setup.specs.declared.refusal.Fault.TheVariants as fault
 use Rattle.at_world.specs.Worlds.{WorldState, is_over, node_at, node_refusal, refusal, refusal_at, delivery_refusal}
 use Rattle.at_nodes.specs.Nodes.{is_numbered}
-use Rattle.at_world.specs.Worlds.{is_for, ComesInTime, DrawsFree, IsFresh, IsTimely, IsPlayable, PlaysAt}
+use Rattle.at_world.specs.Worlds.{is_for, AreFree, IsTimely, IsPlayable, PlaysAt}
 use Rattle.at_nodes.specs.Taking.{Receives}
 use Rattle.at_world.specs.Worlds.{PlaysDelivery, IsFault}
+use Rattle.at_world.proofs.FreshLemmas.{IsFresh, drawn_before, fresh_of}
 use Rattle.at_world.proofs.WorldLemmas.{node_stands, none_stands, one_stands}
 
 pub refused_at : (A : Type 0) (w : WorldState) (e : Event A) (r : Option Refusal) → is_over w ≡ false → refusal_at w e
@@ -85,18 +86,24 @@ one w which s t here there = let both : Some s ≡ Some t = sym here ∙ there i
 
 -- what the bytes that were sent would make the node draw
 abbrev pub HeardFree : WorldState → ℕ → List ℕ → Type 0
-HeardFree w k bytes = DrawsFree w k (λ n draw. DrawsHearing n bytes draw)
+HeardFree w k bytes = AreFree w.nodes k (λ n draw. DrawsHearing n bytes draw)
 
 pub timely_at : (A : Type 0) (w : WorldState) (which k : ℕ) (s : SentDatagram) → slice_get w.sent which ≡ Some s
     → IsFresh w s → HeardFree w k s.bytes → IsTimely {A = A} w (event.Deliver which k)
-timely_at A w which k s is fresh free = λ t there. subst (ComesInTime w k) (one w which s t is there)
-    (record { fresh = fresh; free = free })
+timely_at A w which k s is fresh free = record {
+  fresh = λ t there node draw drawn carries last. drawn_before (last_of w.last node draw) t.event drawn
+      (subst (IsFresh w) (one w which s t is there) fresh node draw carries) last;
+  free = λ n here draw came. free n here draw
+      (subst (λ (t : SentDatagram). DrawsHearing n t.bytes draw) (sym (one w which s came.0 is came.1)) came.2);
+}
 
 -- the node would draw a number that is held
 pub held_there : (A : Type 0) (w : WorldState) (which k : ℕ) (s : SentDatagram) (bytes : List ℕ)
     → slice_get w.sent which ≡ Some s → bytes ≡ s.bytes → ¬ HeardFree w k bytes
     → IsTimely {A = A} w (event.Deliver which k) → ⊥
-held_there A w which k s bytes is same held timely = held (subst (HeardFree w k) (sym same) (timely s is).free)
+held_there A w which k s bytes is same held timely =
+    let free : HeardFree w k s.bytes = λ n here draw draws. timely.free n here draw (s, is, draws) in
+    held (subst (HeardFree w k) (sym same) free)
 
 pub stale_there : (A : Type 0) (w : WorldState) (which k : ℕ) (s : SentDatagram) (ds : Draws) (bytes : List ℕ) (e : ℕ)
     → slice_get w.sent which ≡ Some s → ds ≡ w.last → bytes ≡ s.bytes → e ≡ s.event →
@@ -104,7 +111,7 @@ pub stale_there : (A : Type 0) (w : WorldState) (which k : ℕ) (s : SentDatagra
     → IsTimely {A = A} w (event.Deliver which k) → ⊥
 stale_there A w which k s ds bytes e is known same when (node, draw, carries, late) timely =
     let fine : is_no_later (last_of w.last node draw) s.event
-    ≡ true = (timely s is).fresh node draw (subst (λ l. Carries l node draw) same carries) in
+    ≡ true = fresh_of A w which k s is timely node draw (subst (λ l. Carries l node draw) same carries) in
     let not : is_no_later (last_of w.last node draw) s.event
     ≡ false = (λ j. is_no_later (last_of (sym known j) node draw) (sym when j)) ∙ late in
     absurd (cc)

@@ -12,11 +12,15 @@ use Rattle.at_setup.specs.declared.event.Event.TheVariants as event
 use Rattle.at_setup.specs.declared.refusal.Refusal.TheVariants.{Limit, NoDatagram, NotForNode, Untimely}
 use Rattle.at_setup.specs.declared.refusal.Fault.{Fault}
 use Rattle.at_setup.specs.declared.refusal.Fault.TheVariants as fault
-use Rattle.at_world.specs.Worlds.{WorldState, is_over, DrawsFree, IsPlayable, IsNotTaken, IsFault, Plays, PlaysAt}
+use Rattle.at_world.specs.Worlds.{WorldState, is_over, AreFree, IsPlayable, IsNotTaken, IsFault, IsTimely, Plays}
 use Rattle.at_nodes.specs.Taking.{Takes}
-use Rattle.at_world.specs.Worlds.{PlaysDelivery}
+use Rattle.at_world.specs.Worlds.{PlaysAt, PlaysDelivery}
 use Rattle.at_world.proofs.DeliveryLemmas.{refused_at}
 use Rattle.at_world.proofs.WorldLemmas.{one_stands}
+
+-- a timer draws no number, and brings no datagram
+idle_timely : (A : Type 0) (w : WorldState) (k : ℕ) (time : Timer) → IsTimely {A = A} w (event.Timer k time)
+idle_timely A w k time = record { fresh = λ s there. absurd there; free = λ n here draw came. absurd came.1 }
 
 module _ (A : Type 0) (w w' : WorldState) (e : Event A) (k : ℕ) (time : Timer) (answer : Result (Report A) Fault)
     (is : e ≡ event.Timer k time) (runs : is_over w ≡ false) where
@@ -31,7 +35,7 @@ module _ (A : Type 0) (w w' : WorldState) (e : Event A) (k : ℕ) (time : Timer)
         record {
           allowed = refused_at A w (event.Timer k time) None runs
               (one_stands w k p.node p.stands);
-          timely = tt;
+          timely = idle_timely A w k time;
         },
         p,
       )
@@ -43,8 +47,14 @@ module _ (A : Type 0) (w w' : WorldState) (e : Event A) (k : ℕ) (time : Timer)
       go : (a : Result (Report A) Fault) → IfErr a (λ f. IsNotTaken {A = A} w k (input.Timer time) f w')
           → IfErr a (λ f. IsFault {A = A} w (event.Timer k time) f w')
       go (Ok r) p = tt
-      go (Err fault.NoMemory) p =
-          (p.0, p.1, λ whole. record { allowed = refused_at A w (event.Timer k time) None runs p.2; timely = tt })
+      go (Err fault.NoMemory) p = (
+        p.0,
+        p.1,
+        λ whole. record {
+          allowed = refused_at A w (event.Timer k time) None runs p.2;
+          timely = idle_timely A w k time;
+        },
+      )
       go (Err (fault.Refused Limit)) p = (refused_at A w (event.Timer k time) (Some Limit) runs p.0, p.1)
       go (Err (fault.Refused NoDatagram)) p = (refused_at A w (event.Timer k time) (Some NoDatagram) runs p.0, p.1)
       go (Err (fault.Refused NotForNode)) p = (refused_at A w (event.Timer k time) (Some NotForNode) runs p.0, p.1)
@@ -55,21 +65,21 @@ module _ (A : Type 0) (w w' : WorldState) (e : Event A) (k : ℕ) (call : Call A
     (answer : Result (Report A) Fault) (is : e ≡ event.Call k call) (same : lent.now ≡ call)
     (runs : is_over w ≡ false) where
   pub called_by : IfOk answer (λ r. PlaysAt w k (Takes {A = A} (input.Call lent)) r w')
-      → IfOk answer (λ r. DrawsFree w k (λ n x. DrawsFor n (input.Call lent) x)) → IsCall call
+      → IfOk answer (λ r. AreFree w.nodes k (λ n x. DrawsFor n (input.Call lent) x)) → IsCall call
       → IfOk answer (λ r. IsPlayable w e × Plays w e r w')
   called_by h free range = subst (λ x. IfOk answer (λ r. IsPlayable w x × Plays w x r w')) (sym is)
       (subst (λ (x : Call A). IfOk answer (λ r. IsPlayable w (event.Call k x) × Plays w (event.Call k x) r w')) same
       (go answer h free (subst (λ (x : Call A). IsCall x) (sym same) range)))
     where
       go : (a : Result (Report A) Fault) → IfOk a (λ r. PlaysAt w k (Takes {A = A} (input.Call lent)) r w')
-          → IfOk a (λ r. DrawsFree w k (λ n x. DrawsFor n (input.Call lent) x)) → IsCall lent.now
+          → IfOk a (λ r. AreFree w.nodes k (λ n x. DrawsFor n (input.Call lent) x)) → IsCall lent.now
           → IfOk a (λ r. IsPlayable {A = A} w (event.Call k lent.now) × Plays w (event.Call k lent.now) r w')
       go (Err f) p q range' = tt
       go (Ok r) p q range' = (
         record {
           allowed = refused_at A w (event.Call k lent.now) None runs
               (one_stands w k p.node p.stands);
-          timely = q;
+          timely = record { fresh = λ s there. absurd there; free = q };
         },
         (p, range'),
       )
@@ -82,33 +92,45 @@ module _ (A : Type 0) (w w' : WorldState) (e : Event A) (k : ℕ) (call : Call A
       go : (a : Result (Report A) Fault) → IfErr a (λ f. IsNotTaken {A = A} w k (input.Call lent) f w')
           → IfErr a (λ f. IsFault {A = A} w (event.Call k lent.now) f w')
       go (Ok r) p = tt
-      go (Err fault.NoMemory) p =
-          (p.0, p.1, λ whole. record { allowed = refused_at A w (event.Call k lent.now) None runs p.2; timely = p.3 })
+      go (Err fault.NoMemory) p = (
+        p.0,
+        p.1,
+        λ whole. record {
+          allowed = refused_at A w (event.Call k lent.now) None runs p.2;
+          timely = record { fresh = λ s there. absurd there; free = p.3 };
+        },
+      )
       go (Err (fault.Refused Limit)) p = (refused_at A w (event.Call k lent.now) (Some Limit) runs p.0, p.1)
       go (Err (fault.Refused NoDatagram)) p = (refused_at A w (event.Call k lent.now) (Some NoDatagram) runs p.0, p.1)
       go (Err (fault.Refused NotForNode)) p = (refused_at A w (event.Call k lent.now) (Some NotForNode) runs p.0, p.1)
-      go (Err (fault.Refused Untimely)) p = ((refused_at A w (event.Call k lent.now) None runs p.0, p.1), p.2)
+      go (Err (fault.Refused Untimely)) p = (
+        (
+          refused_at A w (event.Call k lent.now) None runs p.0,
+          λ (timely : IsTimely {A = A} w (event.Call k lent.now)). p.1 timely.free,
+        ),
+        p.2,
+      )
 
 -- bytes that no node sent draw a number only if it is free
 module _ (A : Type 0) (w w' : WorldState) (e : Event A) (k : ℕ) (bytes : List ℕ) (lent : Bor (List ℕ))
     (answer : Result (Report A) Fault) (is : e ≡ event.Forge k bytes) (same : lent.now ≡ bytes)
     (runs : is_over w ≡ false) where
   pub forged : IfOk answer (λ r. PlaysAt w k (Takes {A = A} (input.Received lent)) r w')
-      → IfOk answer (λ r. DrawsFree w k (λ n x. DrawsFor {A = A} n (input.Received lent) x))
+      → IfOk answer (λ r. AreFree w.nodes k (λ n x. DrawsFor {A = A} n (input.Received lent) x))
       → IfOk answer (λ r. IsPlayable w e × Plays w e r w')
   forged h free = subst (λ x. IfOk answer (λ r. IsPlayable w x × Plays w x r w')) (sym is)
       (subst (λ x. IfOk answer (λ r. IsPlayable {A = A} w (event.Forge k x) × Plays w (event.Forge k x) r w')) same
       (go answer h free))
     where
       go : (a : Result (Report A) Fault) → IfOk a (λ r. PlaysAt w k (Takes {A = A} (input.Received lent)) r w')
-          → IfOk a (λ r. DrawsFree w k (λ n x. DrawsFor {A = A} n (input.Received lent) x))
+          → IfOk a (λ r. AreFree w.nodes k (λ n x. DrawsFor {A = A} n (input.Received lent) x))
           → IfOk a (λ r. IsPlayable {A = A} w (event.Forge k lent.now) × Plays w (event.Forge k lent.now) r w')
       go (Err f) p q = tt
       go (Ok r) p q = (
         record {
           allowed = refused_at A w (event.Forge k lent.now) None runs
               (one_stands w k p.node p.stands);
-          timely = q;
+          timely = record { fresh = λ s there. absurd there; free = q };
         },
         p,
       )
@@ -121,12 +143,24 @@ module _ (A : Type 0) (w w' : WorldState) (e : Event A) (k : ℕ) (bytes : List 
       go : (a : Result (Report A) Fault) → IfErr a (λ f. IsNotTaken {A = A} w k (input.Received lent) f w')
           → IfErr a (λ f. IsFault {A = A} w (event.Forge k lent.now) f w')
       go (Ok r) p = tt
-      go (Err fault.NoMemory) p =
-          (p.0, p.1, λ whole. record { allowed = refused_at A w (event.Forge k lent.now) None runs p.2; timely = p.3 })
+      go (Err fault.NoMemory) p = (
+        p.0,
+        p.1,
+        λ whole. record {
+          allowed = refused_at A w (event.Forge k lent.now) None runs p.2;
+          timely = record { fresh = λ s there. absurd there; free = p.3 };
+        },
+      )
       go (Err (fault.Refused Limit)) p = (refused_at A w (event.Forge k lent.now) (Some Limit) runs p.0, p.1)
       go (Err (fault.Refused NoDatagram)) p = (refused_at A w (event.Forge k lent.now) (Some NoDatagram) runs p.0, p.1)
       go (Err (fault.Refused NotForNode)) p = (refused_at A w (event.Forge k lent.now) (Some NotForNode) runs p.0, p.1)
-      go (Err (fault.Refused Untimely)) p = ((refused_at A w (event.Forge k lent.now) None runs p.0, p.1), p.2)
+      go (Err (fault.Refused Untimely)) p = (
+        (
+          refused_at A w (event.Forge k lent.now) None runs p.0,
+          λ (timely : IsTimely {A = A} w (event.Forge k lent.now)). p.1 timely.free,
+        ),
+        p.2,
+      )
 
 module _ (A : Type 0) (w w' : WorldState) (e : Event A) (which k : ℕ) (answer : Result (Report A) Fault)
     (is : e ≡ event.Deliver which k) where

@@ -10,7 +10,7 @@ use Rattle.at_setup.specs.declared.event.Event.TheVariants as event
 use Rattle.at_setup.specs.declared.refusal.Fault.{Fault}
 use Rattle.at_setup.specs.declared.refusal.Fault.TheVariants.{Refused, NoMemory}
 use Rattle.at_world.specs.Worlds.{WorldState, IsPlayable, Plays, IsFault}
-use Rattle.at_world.specs.Plays.{Follows, StopsAt, IsNextPlayable, IsRefused}
+use Rattle.at_world.specs.Plays.{Follows, StopsAt}
 
 one_more : (A : Type 0) (w : WorldState) (es : List (Event A)) (rs : List (Report A)) (mid : WorldState) (e : Event A)
     (r : Report A) (w' : WorldState) → Follows w es rs mid → IsPlayable mid e → Plays mid e r w'
@@ -33,14 +33,10 @@ follows_more A w es i e rs mid r w' within is h fine plays =
 pub stops : (A : Type 0) (w : WorldState) (es : List (Event A)) (i : ℕ) (e : Event A) (f : Fault) (w' : WorldState)
     → w.failed ≡ false → i < length es → e ≡ get_or es i e → IsFault w e f w'
     → StopsAt w (slice_get es i) f i × (w'.sent ≡ w.sent)
-stops A w es i e (Refused r) w' whole within is h = (
-  subst (λ o. IsRefused w o r) (sym (slice_get-get_or es i e within ∙ ap (λ x. Some x) (sym is))) h.0,
-  ap
-      (λ (x : WorldState). x.sent) h.1,
-)
+stops A w es i e (Refused r) w' whole within is h =
+    ((e, slice_get-get_or es i e within ∙ ap (λ x. Some x) (sym is), h.0), ap (λ (x : WorldState). x.sent) h.1)
 stops A w es i e NoMemory w' whole within is h =
-    let next = slice_get-get_or es i e within ∙ ap (λ x. Some x) (sym is) in
-    (inl (subst (λ o. IsNextPlayable w o) (sym next) (h.2 whole)), h.1)
+    (inl (e, slice_get-get_or es i e within ∙ ap (λ x. Some x) (sym is), h.2 whole), h.1)
 
 -- a world that played an event has not failed
 pub plays_whole : (A : Type 0) (w : WorldState) (e : Event A) (r : Report A) (w' : WorldState) → Plays w e r w'

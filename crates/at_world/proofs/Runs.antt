@@ -27,7 +27,7 @@ use Rattle.at_world.specs.Events.{NoForge, act_of, is_forged, node_of}
 use Rattle.at_world.specs.Machine.{Machine, opening_machine, Step, Run, IsRun}
 use Rattle.at_world.specs.Plays.{opening_world, Follows, IsPlay}
 use Rattle.at_world.specs.Stories.{Tells, tables_by}
-use Rattle.at_world.specs.Worlds.{WorldState, DrawsFree, IsPlayable, Plays, is_over, node_at, recorded, refusal}
+use Rattle.at_world.specs.Worlds.{WorldState, AreFree, IsPlayable, Plays, is_over, node_at, recorded, refusal}
 use Rattle.at_world.specs.Worlds.{refusal_at}
 use Rattle.at_world.proofs.Atp.Happenings.{Follows as FollowsAtp, call_follows, datagram_follows, passed, timer_follows}
 use Rattle.at_world.proofs.Atp.Serving.{answers_its_request}
@@ -36,6 +36,7 @@ use Rattle.at_world.proofs.Atp.Tie.{Laws, AtpTie, Grown}
 use Rattle.at_world.proofs.CableTie.{cable_next}
 use Rattle.at_nodes.specs.Nodes.{KeepsSeat}
 use Rattle.at_world.proofs.Atp.Coming.{comes}
+use Rattle.at_world.proofs.FreshLemmas.{fresh_of}
 use Rattle.at_world.proofs.Names.Coming as names_coming
 use Rattle.at_world.proofs.Names.Happenings as named
 use Rattle.at_world.proofs.Names.Next.{Good as GoodNames}
@@ -168,8 +169,9 @@ followed : (A : Type 0) → PartLaws A
     → (w : WorldState) (m : Machine) (e : Event A) (r : Report A) (w' : WorldState) (t : Tied A w m) → is_forged e
     ≡ false → IsPlayable w e → Plays w e r w' → Follow A w m t e r w'
 followed A laws w m (event.Call k call) r w' t sent playable both =
-    let timely : DrawsFree w k (λ x draw. drawn_by (called x call).report ≡ Some draw) =
-    λ x here draw is. playable.timely x here draw (sym (laws.drawn x call) ∙ is) in
+    let in_time = playable.timely in
+    let timely : AreFree w.nodes k (λ x draw. drawn_by (called x call).report ≡ Some draw) =
+    λ x here draw is. in_time.free x here draw (sym (laws.drawn x call) ∙ is) in
     let runs = still_runs {A = A} w (event.Call k call) playable.allowed in
     let p = both.0 in
     let n = p.node in
@@ -206,14 +208,15 @@ followed A laws w m (event.Deliver which k) r w' t sent playable d =
     let runs = still_runs {A = A} w (event.Deliver which k) playable.allowed in
     let p = d.plays in
     let n = p.node in
-    let in_time = timely d.datagram d.was_sent in
-    let free : DrawsFree w k (λ x draw. IsTold A x (d.datagram).bytes draw) =
-    λ x here draw told. in_time.free x here draw ((laws.heard x (d.datagram).bytes draw).0 told) in
-    let c = comes A laws.atp w m.cable m.atp t.cable t.atp which d.datagram d.was_sent in_time.fresh in
+    let fresh = fresh_of A w which k d.datagram d.was_sent timely in
+    let free : AreFree w.nodes k (λ x draw. IsTold A x (d.datagram).bytes draw) =
+    λ x here draw told. timely.free x here draw
+    (d.datagram, d.was_sent, (laws.heard x (d.datagram).bytes draw).0 told) in
+    let c = comes A laws.atp w m.cable m.atp t.cable t.atp which d.datagram d.was_sent fresh in
     let c' = names_coming.comes A laws.names w m.cable m.names t.cable t.names which d.datagram
-    d.was_sent in_time.fresh in
+    d.was_sent fresh in
     let c'' = streams_coming.comes A laws.streams w m.cable m.streams t.cable t.streams which d.datagram
-    d.was_sent in_time.fresh in
+    d.was_sent fresh in
     let said = p.steps.0 in
     let later = p.steps.2 in
     ⊎_elim

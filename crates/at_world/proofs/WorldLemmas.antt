@@ -21,7 +21,7 @@ use Rattle.at_setup.specs.declared.refusal.Fault.{Fault}
 use Rattle.at_setup.specs.declared.refusal.Fault.TheVariants as fault
 use Rattle.at_nodes.specs.Nodes.{is_numbered, holds_some}
 use Rattle.at_world.specs.Worlds.{WorldState, is_over, node_at, node_refusal, recorded}
-use Rattle.at_world.specs.Worlds.{AreFree, PlaysAt, DrawsFree, IsNotTaken, with_event}
+use Rattle.at_world.specs.Worlds.{AreFree, PlaysAt, IsNotTaken, with_event}
 
 -- ---- refusals
 
@@ -55,11 +55,11 @@ free_at A nodes k i given draw stands only free n here x draws =
 
 -- the same of the nodes of a world
 pub all_free : (A : Type 0) (w : WorldState) (k : ℕ) (i : Input A) (nodes : List NodeState) → nodes ≡ w.nodes
-    → AreFree nodes k (λ n x. DrawsFor n i x) → DrawsFree w k (λ n x. DrawsFor n i x)
+    → AreFree nodes k (λ n x. DrawsFor n i x) → AreFree w.nodes k (λ n x. DrawsFor n i x)
 all_free A w k i nodes same free = subst (λ l. AreFree l k (λ n x. DrawsFor n i x)) same free
 
 pub some_held : (A : Type 0) (w : WorldState) (k : ℕ) (i : Input A) (nodes : List NodeState) → nodes ≡ w.nodes
-    → ¬ AreFree nodes k (λ n x. DrawsFor n i x) → ¬ DrawsFree w k (λ n x. DrawsFor n i x)
+    → ¬ AreFree nodes k (λ n x. DrawsFor n i x) → ¬ AreFree w.nodes k (λ n x. DrawsFor n i x)
 some_held A w k i nodes same held = subst (λ l. ¬ AreFree l k (λ n x. DrawsFor n i x)) same held
 
 -- ---- what an answered step is
@@ -111,7 +111,7 @@ taken A w w' x k S report (Ok r) plays ok = subst (λ y. PlaysAt w k S y w') (sy
 
 pub not_taken : (A : Type 0) (w w' : WorldState) (k : ℕ) (i : Input A) (sent : List SentDatagram)
     (answer : Result (Report A) Fault) → sent ≡ w.sent → node_refusal (node_at w k) ≡ None
-    → DrawsFree w k (λ n x. DrawsFor n i x)
+    → AreFree w.nodes k (λ n x. DrawsFor n i x)
     → IfErr answer (λ f. (f ≡ fault.NoMemory) × (w'.failed ≡ true) × (w'.sent ≡ sent))
     → IfErr answer (λ f. IsNotTaken w k i f w')
 not_taken A w w' k i sent (Ok r) same there free err = tt

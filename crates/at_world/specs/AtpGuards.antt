@@ -1,7 +1,7 @@
 -- What the machine knows of transactions and of the zone tables, and which reports of them it allows (Inside AppleTalk,
 -- ATP, "Transactions", and ZIP, "GetZoneList", "GetLocalZones").
-use Rattle.std.specs.Prelude.{◌≡◌, ℕ, ◌<◌, ◌≤◌, ◌==◌, not, Bool, List, [], ◌∷◌, ◌++◌, length, filter, find}
-use Rattle.std.specs.Prelude.{slice_index_or, Option, Some}
+use Rattle.std.specs.Prelude.{◌≡◌, ℕ, ◌≤◌, ◌==◌, not, List, [], ◌∷◌, ◌++◌, length, filter, find}
+use Rattle.std.specs.Prelude.{slice_get, Option, Some}
 use Rattle.at_ddp.specs.declared.address.Address.{Address}
 use Rattle.at_atp_frame.specs.Packets.{Packet}
 use Rattle.at_atp.specs.Transactions.{Transaction, Asked, transaction_of, answered, IsResponse}
@@ -13,7 +13,6 @@ use Rattle.at_zip.specs.Zones.{IsTable}
 use Rattle.at_zip.specs.declared.request.Which.{Which}
 use Rattle.at_node.specs.AtpParts.{asking, serving, zones_at}
 use Rattle.at_event.specs.Kinds.{Kind, Atp}
-use Rattle.at_event.specs.declared.event.Call.{Call}
 use Rattle.at_event.specs.declared.event.Call.TheVariants.{Transactions, Zones}
 use Rattle.at_event.specs.declared.calls.TransactionCall.TheVariants.{Ask, Answer}
 use Rattle.at_event.specs.declared.calls.ZoneCall.TheVariants as zone
@@ -62,14 +61,10 @@ ReadsSince rs node which since = reading_of rs node ≡ Some (record { node = no
 abbrev pub without_reading : List Reading → ℕ → List Reading
 without_reading rs node = filter (λ r. not (r.node == node)) rs
 
--- the tables at a moment
-abbrev pub tables_at : List Tables → ℕ → Tables
-tables_at past moment = slice_index_or past moment (record { all = []; local = [] })
-
 -- the table of this kind was this one at every moment from that one on
 abbrev pub StoodSince : List Tables → ℕ → Which → List (List ℕ) → Type 0
-StoodSince past since which table =
-    (moment : ℕ) → since ≤ moment → moment < length past → table_of which (tables_at past moment) ≡ table
+StoodSince past since which table = (moment : ℕ) (tables : Tables) → since ≤ moment
+    → slice_get past moment ≡ Some tables → table_of which tables ≡ table
 
 -- ---- the steps, one for each report
 
@@ -106,9 +101,8 @@ pub record SetsTable (c : Cable) (m : AtpMachine) (node : ℕ) (which : Which) (
   pub becomes : m' ≡ next (record m { tables = with_table which names m.tables })
 
 -- a transaction begins
-pub record BeginsAsking (c : Cable) (m : AtpMachine) (node : ℕ) (responder : Address) (user bytes : List ℕ)
-    (wanted : ℕ) (xo : Bool) (tid : ℕ) (m' : AtpMachine) : Type 0 where
-  pub becomes : m' ≡ next (record m { asked = new_transaction c.net node responder user bytes wanted xo tid ∷ m.asked })
+abbrev pub BeginsAsking : AtpMachine → Transaction → AtpMachine → Type 0
+BeginsAsking m t m' = m' ≡ next (record m { asked = t ∷ m.asked })
 
 -- a node's user answers the newest transaction of a requester under a number, which asked the node's service
 pub record GivesAnswer (c : Cable) (m : AtpMachine) (node : ℕ) (requester : Address) (tid : ℕ)
@@ -160,28 +154,17 @@ pub record FailsReading (m : AtpMachine) (node : ℕ) (m' : AtpMachine) : Type 0
   pub began : ReadsSince m.readings node which since
   pub becomes : m' ≡ next (record m { readings = without_reading m.readings node })
 
--- a call begins this transaction, under this number
-abbrev pub Begins : {A : Type 0} → Cable → AtpMachine → ℕ → Call A → ℕ → AtpMachine → Type 0
-Begins c m node (Zones (zone.Read which)) tid m' = BeginsReading c m node which tid m'
-Begins c m node (Transactions (Ask k socket user bytes wanted xo retries)) tid m' =
-    BeginsAsking c m node (at_net c k socket) user bytes wanted xo tid m'
-Begins c m node call tid m' = ⊥
-
--- a call gives the router a table
-abbrev pub Sets : {A : Type 0} → Cable → AtpMachine → ℕ → Call A → AtpMachine → Type 0
-Sets c m node (Zones (zone.Set which names)) m' = SetsTable c m node which names m'
-Sets c m node call m' = ⊥
-
--- a call gives this answer, and so many of its packets are sent
-abbrev pub Answers : {A : Type 0} → Cable → AtpMachine → ℕ → Call A → ℕ → AtpMachine → Type 0
-Answers c m node (Transactions (Answer key packets)) count m' = GivesAnswer c m node key.from key.tid packets count m'
-Answers c m node call count m' = ⊥
-
 -- the reports of this protocol, row by row
 abbrev pub Says : {A : Type 0} → Cable → AtpMachine → Event A → Report A → AtpMachine → Type 0
-Says c m (event.Call node call) (report.Transactions (atp_report.Begun tid)) m' = Begins c m node call tid m'
-Says c m (event.Call node call) (report.Transactions (atp_report.Answered count)) m' = Answers c m node call count m'
-Says c m (event.Call node call) (report.Zones zip_report.TableSet) m' = Sets c m node call m'
+Says c m (event.Call node (Zones (zone.Read which))) (report.Transactions (atp_report.Begun tid)) m' =
+    BeginsReading c m node which tid m'
+Says c m (event.Call node (Transactions (Ask k socket user bytes wanted xo retries)))
+    (report.Transactions (atp_report.Begun tid)) m' =
+    BeginsAsking m (new_transaction c.net node (at_net c k socket) user bytes wanted xo tid) m'
+Says c m (event.Call node (Transactions (Answer key packets))) (report.Transactions (atp_report.Answered count)) m' =
+    GivesAnswer c m node key.from key.tid packets count m'
+Says c m (event.Call node (Zones (zone.Set which names))) (report.Zones zip_report.TableSet) m' =
+    SetsTable c m node which names m'
 Says c m (event.Deliver which node) (report.Transactions (atp_report.Begun tid)) m' = GoesOn c m node tid m'
 Says c m (event.Deliver which node) (report.Zones (zip_report.Served count)) m' = Serves c m node count m'
 Says c m (event.Deliver which node) (report.Transactions (atp_report.Asked key user bytes)) m' =

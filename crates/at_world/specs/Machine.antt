@@ -1,4 +1,4 @@
--- The abstract machine: what the nodes' users may be told. It has no packet, no record, no window and no timer. It is
+-- The abstract machine: what the nodes' users may be told. It has no datagram, no record, no window and no timer. It is
 -- the cable, a part for each protocol, and what each node's user was told.
 use Rattle.std.specs.Prelude.{◌≡◌, List, [], ◌∷◌, take, Result, Ok, Err}
 use Rattle.at_event.specs.Kinds.{reporter_of}

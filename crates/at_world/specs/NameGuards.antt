@@ -13,7 +13,6 @@ use Rattle.at_nbp.specs.declared.names.Registered.{Registered}
 use Rattle.at_name_socket.specs.NameSockets.{any_pattern, names_of, own_zone}
 use Rattle.at_name_socket.specs.declared.claim.Claim.{Claim as Claimed}
 use Rattle.at_event.specs.Kinds.{Kind, Nbp}
-use Rattle.at_event.specs.declared.event.Call.{Call}
 use Rattle.at_event.specs.declared.event.Call.TheVariants.{Names}
 use Rattle.at_event.specs.declared.calls.NameCall.TheVariants.{Find, Claim, Finish, Register, Unregister}
 use Rattle.at_event.specs.declared.report.Report.{Report}
@@ -117,16 +116,22 @@ pub record EndsLookup (m : NameMachine) (node id : ℕ) (finds : List Found) (m'
   pub tells : Finds m.past lookup finds
   pub becomes : m' ≡ next (record m { lookups = without_lookup m.lookups node id })
 
--- a claim ends: no such name stands here, and now its name is registered
+-- a name is registered, if no such name stands here
+pub record RegistersName (m : NameMachine) (node : ℕ) (object kind : List ℕ) (socket : ℕ) (m' : NameMachine)
+    : Type 0 where
+  pub allowed : register_fault (m.names node).names object kind ≡ None
+  pub table : Table
+  pub joins : IsRegistered object kind socket (m.names node) table
+  pub becomes : m' ≡ next (with_names m node table)
+
+-- a claim ends, and its name is registered
 pub record EndsClaim (m : NameMachine) (node id : ℕ) (m' : NameMachine) : Type 0 where
   pub lookup : Lookup
   pub stands : lookup_of m.lookups node id ≡ Some lookup
   pub claim : Claimed
   pub claims : lookup.claim ≡ Some claim
-  pub allowed : register_fault (m.names node).names claim.object claim.kind ≡ None
-  pub table : Table
-  pub joins : IsRegistered claim.object claim.kind claim.socket (m.names node) table
-  pub becomes : m' ≡ next (with_names (record m { lookups = without_lookup m.lookups node id }) node table)
+  pub registers : RegistersName (record m { lookups = without_lookup m.lookups node id }) node claim.object claim.kind
+      claim.socket m'
 
 -- a claim ends: its name is taken
 pub record LosesClaim (m : NameMachine) (node id : ℕ) (owner : Found) (m' : NameMachine) : Type 0 where
@@ -137,14 +142,6 @@ pub record LosesClaim (m : NameMachine) (node id : ℕ) (owner : Found) (m' : Na
   pub taken : IsTaken m node lookup claim owner
   pub becomes : m' ≡ next (record m { lookups = without_lookup m.lookups node id })
 
--- a name is registered
-pub record RegistersName (m : NameMachine) (node : ℕ) (object kind : List ℕ) (socket : ℕ) (m' : NameMachine)
-    : Type 0 where
-  pub allowed : register_fault (m.names node).names object kind ≡ None
-  pub table : Table
-  pub joins : IsRegistered object kind socket (m.names node) table
-  pub becomes : m' ≡ next (with_names m node table)
-
 -- a name is taken away
 pub record TakesAway (m : NameMachine) (node : ℕ) (object kind : List ℕ) (m' : NameMachine) : Type 0 where
   pub name : Registered
@@ -153,18 +150,13 @@ pub record TakesAway (m : NameMachine) (node : ℕ) (object kind : List ℕ) (m'
     names = without_first (is_called object kind) (m.names node).names;
   }))
 
--- a call begins a lookup under this identifier, which asks in the zone that was picked if the call names none
-abbrev pub Begins : {A : Type 0} → Sessions → NameMachine → ℕ → Call A → ℕ → NameMachine → Type 0
-Begins ss m node (Names (Find object kind wanted)) id m' =
+-- The reports of this protocol, row by row. A lookup asks in the zone that was picked if its call names none.
+abbrev pub Says : {A : Type 0} → Sessions → NameMachine → Event A → Report A → NameMachine → Type 0
+Says ss m (event.Call node (Names (Find object kind wanted))) (report.Names (nbp_report.Looking id)) m' =
     BeginsLookup m node id (pattern_asked (ss node) object kind wanted) None m'
-Begins ss m node (Names (Claim object kind socket)) id m' =
+Says ss m (event.Call node (Names (Claim object kind socket))) (report.Names (nbp_report.Looking id)) m' =
     BeginsLookup m node id (any_pattern object kind)
     (Some (record { id = id; object = object; kind = kind; socket = socket })) m'
-Begins ss m node call id m' = ⊥
-
--- the reports of this protocol, row by row
-abbrev pub Says : {A : Type 0} → Sessions → NameMachine → Event A → Report A → NameMachine → Type 0
-Says ss m (event.Call node call) (report.Names (nbp_report.Looking id)) m' = Begins ss m node call id m'
 Says ss m (event.Call node (Names (Finish id))) (report.Names (nbp_report.Found finds)) m' =
     EndsLookup m node id finds m'
 Says ss m (event.Call node (Names (Finish id))) (report.Names nbp_report.Claimed) m' = EndsClaim m node id m'

@@ -1,10 +1,9 @@
 -- A whole play: each event by the world's step, with one report for each event.
 use Rattle.std.specs.Prelude.{◌≡◌, ℕ, false, List, [], ◌∷◌, map, take, slice_get}
-use Rattle.std.specs.Prelude.{◌⊎◌, Option, Some, None, Result, Ok, Err}
+use Rattle.std.specs.Prelude.{◌⊎◌, Option, Some, Result, Ok, Err}
 use Rattle.at_event.specs.declared.report.Report.{Report}
 use Rattle.at_nodes.specs.Openings.{opening_node}
 use Rattle.at_setup.specs.declared.event.Event.{Event}
-use Rattle.at_setup.specs.declared.refusal.Refusal.{Refusal}
 use Rattle.at_setup.specs.declared.refusal.Fault.{Fault}
 use Rattle.at_setup.specs.declared.refusal.Fault.TheVariants as fault
 use Rattle.at_setup.specs.declared.setup.Setup.{Setup}
@@ -24,20 +23,11 @@ Follows w (e ∷ es) (r ∷ rs) w' = (mid : WorldState) × IsPlayable w e × Pla
 Follows w [] (r ∷ rs) w' = ⊥
 Follows w (e ∷ es) [] w' = ⊥
 
--- why a play stopped: the next event is refused so
-abbrev pub IsRefused : {A : Type 0} → WorldState → Option (Event A) → Refusal → Type 0
-IsRefused w None r = ⊥
-IsRefused w (Some e) r = Refuses w e r
-
--- nothing refuses the next event
-abbrev pub IsNextPlayable : {A : Type 0} → WorldState → Option (Event A) → Type 0
-IsNextPlayable w None = ⊥
-IsNextPlayable w (Some e) = IsPlayable w e
-
--- or memory ran out, at an event that nothing refuses or before the first
+-- Why a play stopped. The next event is refused so, or memory ran out: at a next event that nothing refuses, or before
+-- the first.
 abbrev pub StopsAt : {A : Type 0} → WorldState → Option (Event A) → Fault → ℕ → Type 0
-StopsAt w e fault.NoMemory at = IsNextPlayable w e ⊎ (at ≡ 0)
-StopsAt w e (fault.Refused r) at = IsRefused w e r
+StopsAt {A} w next (fault.Refused r) at = (e : Event A) × (next ≡ Some e) × Refuses w e r
+StopsAt {A} w next fault.NoMemory at = ((e : Event A) × (next ≡ Some e) × IsPlayable w e) ⊎ (at ≡ 0)
 
 -- these events were played, with this transcript
 abbrev pub IsPlayed : {A : Type 0} → Setup A → List (Event A) → Transcript A → WorldState → Type 0

@@ -35,11 +35,10 @@ pub record HasNoEffect (w w' : WorldState) : Type 0 where
 
 -- the event may want a place for a transaction there
 abbrev pub Wants : {A : Type 0} → WorldState → Event A → Place → Type 0
-Wants w (event.Call node call) place = IsPlaceOfCall place
 Wants w (event.Deliver which node) place =
     (s : SentDatagram) × (slice_get w.sent which ≡ Some s) × IsPlaceOf s.bytes place
-Wants w (event.Timer node timer) place = IsPlaceOfCall place
 Wants w (event.Forge node bytes) place = IsPlaceOf bytes place
+Wants w e place = IsPlaceOfCall place
 
 -- A node told this number. It is that of a fault, and if the fault is a full table, the table is full.
 pub record IsTold {A : Type 0} (w : WorldState) (e : Event A) (number : ℕ) : Type 0 where

@@ -1,11 +1,9 @@
 -- What a play is in the network of its requesters and responders: each event is one happening there (Inside AppleTalk,
 -- ATP, "At-least-once and exactly-once transactions").
-use Rattle.std.specs.Prelude.{◌≡◌, ℕ, if◌then◌else◌, Bool, List, [], ◌∷◌, ◌++◌, slice_get, Option, Some}
+use Rattle.std.specs.Prelude.{◌≡◌, ℕ, List, [], ◌∷◌, ◌++◌, slice_get, Option, Some}
 use Rattle.std.specs.List.{AllByRecursion}
 use Rattle.at_ddp.specs.Datagram.{canonical}
-use Rattle.at_ddp.specs.declared.address.Address.{Address}
 use Rattle.at_atp_frame.specs.Frames.{spelled}
-use Rattle.at_atp_responder.specs.declared.reception.Key.{Key}
 use Rattle.at_atp.specs.Lawfully.{IsInRange}
 use Rattle.at_ddp.specs.Posts.{packet_at}
 use Rattle.at_ddp.specs.Protocols.{atp_kind}
@@ -14,41 +12,21 @@ use Rattle.at_zip.specs.Tables.{Tables, with_table}
 use Rattle.at_event.specs.declared.event.Call.TheVariants.{Zones}
 use Rattle.at_event.specs.declared.calls.ZoneCall.TheVariants as zone
 use Rattle.at_event.specs.declared.report.Report.{Report}
-use Rattle.at_steps.specs.AtpHappenings.{sets_table}
+use Rattle.at_event.specs.declared.report.Report.TheVariants as report
+use Rattle.at_event.specs.declared.reports.ZoneReport.TheVariants as zip_report
 use Rattle.at_steps.specs.AtpReports as reports
 use Rattle.at_world.specs.Events.{act_of, node_of}
 use Rattle.at_world.specs.Sents.{SentDatagram}
 use Rattle.at_setup.specs.declared.event.Event.{Event}
 use Rattle.at_setup.specs.declared.event.Event.TheVariants as event
 
--- ---- what an event and its report say of a request
-
--- a transaction began under the number of this key
-abbrev pub began_under : {A : Type 0} → ℕ → Event A → Report A → Key → Bool
-began_under net e r key = reports.began_under net (node_of e) (act_of e) r key
-
--- the release timer removed the record of this key at a responder
-abbrev pub expired_at : {A : Type 0} → ℕ → Event A → Report A → Address → Key → Bool
-expired_at net e r at key = reports.expired_at net (node_of e) (act_of e) r at key
-
--- is this an exactly-once request?
-abbrev pub asks_once : {A : Type 0} → Event A → Bool
-asks_once e = reports.asks_once (act_of e)
-
--- how many packets does it ask for?
-abbrev pub asks_for : {A : Type 0} → Event A → ℕ
-asks_for e = reports.asks_for (act_of e)
-
 -- ---- one happening for each event
 
--- these zone tables with the one that a call names; or as they are, if it names none
-abbrev pub with_named : {A : Type 0} → Event A → Tables → Tables
-with_named (event.Call node (Zones (zone.Set which names))) tables = with_table which names tables
-with_named e tables = tables
-
--- the router's zone tables after an event with this report, if they were these before
+-- the router's zone tables after an event with this report, if they were these before: a call may set one
 abbrev pub tables_by : {A : Type 0} → Event A → Report A → Tables → Tables
-tables_by e r tables = if sets_table r then with_named e tables else tables
+tables_by (event.Call node (Zones (zone.Set which names))) (report.Zones zip_report.TableSet) tables =
+    with_table which names tables
+tables_by e r tables = tables
 
 -- the happening is what the event and its report say, while the router has these zone tables
 abbrev pub Matches : {A : Type 0} → ℕ → Tables → Network → Happening → Event A → Report A → Type 0

@@ -1,6 +1,6 @@
 -- What the machine knows of the ends of streams, and which reports of them it allows (Inside AppleTalk, ADSP, "Opening
 -- a connection", "Data flow", "Forward resets"). It has no segment, no sequence number and no window.
-use Rattle.std.specs.Prelude.{◌≡◌, ℕ, ◌+◌, Bool, true, false, List, [], ◌∷◌, find, take, Option, Some}
+use Rattle.std.specs.Prelude.{◌≡◌, ℕ, ◌+◌, Bool, true, false, List, [], ◌∷◌, find, take, Some}
 use Rattle.at_ddp.specs.declared.address.Address.{Address}
 use Rattle.at_adsp_end.specs.declared.item.Item.{Item}
 use Rattle.at_adsp.specs.Connections.{begun}
@@ -8,13 +8,16 @@ use Rattle.at_adsp.specs.Meetings.{OpensWith, ReadsWith}
 use Rattle.at_adsp.specs.Streams.{Stream, Deed, Wrote, Read as HasRead, GaveUp, has_number, with_deed}
 use Rattle.at_event.specs.Kinds.{Kind, Adsp}
 use Rattle.at_event.specs.declared.event.Call.TheVariants.{Streams}
-use Rattle.at_event.specs.declared.calls.StreamCall.TheVariants.{Open, Listen, Connect, Write, Read, Reset, Close}
+use Rattle.at_event.specs.declared.calls.StreamCall.TheVariants.{Open, Connect, Write, Read, Reset}
 use Rattle.at_event.specs.declared.report.Report.{Report}
 use Rattle.at_event.specs.declared.report.Report.TheVariants as report
+use Rattle.at_event.specs.declared.reports.StreamReport.{StreamReport}
 use Rattle.at_event.specs.declared.reports.StreamReport.TheVariants as adsp_report
 use Rattle.at_stream_socket.specs.Sockets.{streams_at}
 use Rattle.at_session.specs.Sessions.{address_at}
+use Rattle.at_steps.specs.StreamSteps.{is_plain_report}
 use Rattle.at_world.specs.Cables.{Cable, at_net}
+use Rattle.at_world.specs.Events.{act_of}
 use Rattle.at_world.specs.SessionGuards.{Sessions}
 use Rattle.at_setup.specs.declared.event.Event.{Event}
 use Rattle.at_setup.specs.declared.event.Event.TheVariants as event
@@ -30,10 +33,6 @@ opening = record { events = 0; streams = [] }
 -- the same after one event more
 abbrev pub next : StreamMachine → StreamMachine
 next m = record m { events = m.events + 1 }
-
--- the newest end of a node with this identifier
-abbrev pub end_of : Cable → StreamMachine → ℕ → ℕ → Option Stream
-end_of c m node id = find (has_number (streams_at c.net node) id) m.streams
 
 -- ---- the steps, one for each report
 
@@ -55,10 +54,10 @@ pub record OpensEnd (c : Cable) (m : StreamMachine) (node id : ℕ) (m' : Stream
   pub opens : OpensWith m.streams now (streams_at c.net node) id
   pub becomes : m' ≡ next (record m { streams = now })
 
--- the user of an end did this with it
+-- the user of the newest end of a node with this identifier did this with it
 pub record Does (c : Cable) (m : StreamMachine) (node id : ℕ) (deed : Deed) (m' : StreamMachine) : Type 0 where
   pub end : Stream
-  pub stands : end_of c m node id ≡ Some end
+  pub stands : find (has_number (streams_at c.net node) id) m.streams ≡ Some end
   pub becomes : m' ≡ next (record m { streams = with_deed (streams_at c.net node) id deed m.streams })
 
 -- All that was read from an end so far, these items included, reads from all that was written at its peer.
@@ -67,33 +66,25 @@ pub record ReadsEnd (c : Cable) (m : StreamMachine) (node id : ℕ) (items : Lis
   pub reads : ReadsWith m.streams (streams_at c.net node) id items
   pub becomes : m' ≡ next (record m { streams = with_deed (streams_at c.net node) id (HasRead items) m.streams })
 
--- the reports of this protocol, row by row
-abbrev pub Says : {A : Type 0} → Cable → Sessions → StreamMachine → Event A → Report A → StreamMachine → Type 0
-Says c ss m (event.Call node (Streams (Connect to socket))) (report.Streams (adsp_report.Opening id)) m' =
+-- The reports of streams, row by row. Those that the last row is for say nothing new of what was written and read. Of
+-- which event each of them comes, `is_plain_report` says.
+abbrev pub Tells : {A : Type 0} → Cable → Sessions → StreamMachine → StreamReport A → Event A → StreamMachine
+    → Type 0
+Tells c ss m (adsp_report.Opening id) (event.Call node (Streams (Connect to socket))) m' =
     MakesEnd c m node id false (at_net c to socket) m'
-Says c ss m (event.Call node (Streams (Open index))) (report.Streams (adsp_report.Opening id)) m' =
-    OpensFound c ss m node index id m'
-Says c ss m (event.Deliver which node) (report.Streams (adsp_report.Made id)) m' =
+Tells c ss m (adsp_report.Opening id) (event.Call node (Streams (Open index))) m' = OpensFound c ss m node index id m'
+Tells c ss m (adsp_report.Made id) (event.Deliver which node) m' =
     (asked : Address) × MakesEnd c m node id true asked m'
-Says c ss m (event.Deliver which node) (report.Streams (adsp_report.Opened id)) m' = OpensEnd c m node id m'
-Says c ss m (event.Call node (Streams (Write id items))) (report.Streams (adsp_report.Wrote count)) m' =
+Tells c ss m (adsp_report.Opened id) (event.Deliver which node) m' = OpensEnd c m node id m'
+Tells c ss m (adsp_report.Wrote count) (event.Call node (Streams (Write id items))) m' =
     Does c m node id (Wrote (take count items)) m'
-Says c ss m (event.Call node (Streams (Read id count))) (report.Streams (adsp_report.Read items)) m' =
-    ReadsEnd c m node id items m'
-Says c ss m (event.Call node (Streams (Reset id))) (report.Streams adsp_report.Reset) m' = Does c m node id GaveUp m'
-Says c ss m (event.Call node (Streams (Listen on))) (report.Streams adsp_report.ListenSet) m' = m' ≡ next m
-Says c ss m (event.Call node (Streams (Close id))) (report.Streams (adsp_report.Closed closed)) m' = m' ≡ next m
-Says c ss m (event.Call node (Streams (Close id))) (report.Streams (adsp_report.Freed freed)) m' = m' ≡ next m
-Says c ss m (event.Timer node time) (report.Streams (adsp_report.Closed id)) m' = m' ≡ next m
-Says c ss m (event.Timer node time) (report.Streams (adsp_report.Freed id)) m' = m' ≡ next m
-Says c ss m (event.Timer node time) (report.Streams adsp_report.Idle) m' = m' ≡ next m
-Says c ss m (event.Deliver which node) (report.Streams adsp_report.Turned) m' = m' ≡ next m
-Says c ss m (event.Deliver which node) (report.Streams (adsp_report.Denied id)) m' = m' ≡ next m
-Says c ss m (event.Deliver which node) (report.Streams (adsp_report.Heard id items)) m' = m' ≡ next m
-Says c ss m (event.Deliver which node) (report.Streams (adsp_report.Dropped id)) m' = m' ≡ next m
-Says c ss m (event.Deliver which node) (report.Streams (adsp_report.Closed id)) m' = m' ≡ next m
-Says c ss m (event.Deliver which node) (report.Streams (adsp_report.Freed id)) m' = m' ≡ next m
-Says c ss m (event.Deliver which node) (report.Streams adsp_report.Idle) m' = m' ≡ next m
+Tells c ss m (adsp_report.Read items) (event.Call node (Streams (Read id count))) m' = ReadsEnd c m node id items m'
+Tells c ss m adsp_report.Reset (event.Call node (Streams (Reset id))) m' = Does c m node id GaveUp m'
+Tells c ss m r e m' = (is_plain_report r (act_of e) ≡ true) × (m' ≡ next m)
+
+-- a report of this protocol is one of streams
+abbrev pub Says : {A : Type 0} → Cable → Sessions → StreamMachine → Event A → Report A → StreamMachine → Type 0
+Says c ss m e (report.Streams r) m' = Tells c ss m r e m'
 Says c ss m e r m' = ⊥
 
 -- at a report of another protocol, or of nobody, nothing changes

@@ -1,19 +1,21 @@
 -- What a world is, which events it refuses, and what each event does to it.
-use Rattle.std.specs.Prelude.{◌≡◌, ℕ, ◌+◌, ◌==◌, ◌||◌, nat_le, nat_lt, if◌then◌else◌, Bool, true, false, List, [], ◌++◌}
-use Rattle.std.specs.Prelude.{length, map, find, slice_get, Option, Some, None}
+use Rattle.std.specs.Prelude.{◌≡◌, ℕ, ◌+◌, ◌≤◌, ◌==◌, ◌||◌, nat_le, nat_lt, if◌then◌else◌, Bool, true, false, List, []}
+use Rattle.std.specs.Prelude.{◌++◌, length, map, find, slice_get, Option, Some, None}
+use Rattle.std.specs.List.{list_any}
 use Rattle.at_ddp.specs.Datagrams.{Posted}
 use Rattle.at_ddp.specs.Tables.{replaced}
 use Rattle.at_node.specs.declared.numbers.Draw.{Draw}
 use Rattle.at_node.specs.declared.numbers.Input.{Input}
 use Rattle.at_event.specs.declared.report.Report.{Report}
 use Rattle.at_event.specs.Calls.{IsCall}
-use Rattle.at_node.specs.Numbers.{Carries, DrawsHearing, drawn_by, draw_of}
+use Rattle.at_node.specs.Numbers.{Carries, DrawsHearing, drawn_by, draw_of, holds}
 use Rattle.at_node.specs.Numbers.{Draws as DrawsFor}
 use Rattle.at_node.specs.Nodes.{NodeState, called, timed}
 use Rattle.at_event.specs.Outcomes.{IsStep}
-use Rattle.at_nodes.specs.Nodes.{holds_some, is_numbered}
+use Rattle.at_nodes.specs.Nodes.{is_numbered}
 use Rattle.at_nodes.specs.Taking.{Receives}
 use Rattle.at_world.specs.Draws.{Draws, last_of, noted, is_no_later}
+use Rattle.at_world.specs.Events.{node_of}
 use Rattle.at_world.specs.Sents.{SentDatagram, stamp}
 use Rattle.at_setup.specs.declared.event.Event.{Event}
 use Rattle.at_setup.specs.declared.event.Event.TheVariants as event
@@ -51,47 +53,38 @@ delivery_refusal w k None = Some refusals.NoDatagram
 delivery_refusal w k (Some s) = if is_for s k then node_refusal (node_at w k) else Some refusals.NotForNode
 
 abbrev pub refusal_at : {A : Type 0} → WorldState → Event A → Option Refusal
-refusal_at w (event.Call k call) = node_refusal (node_at w k)
 refusal_at w (event.Deliver which k) = delivery_refusal w k (slice_get w.sent which)
-refusal_at w (event.Timer k timer) = node_refusal (node_at w k)
-refusal_at w (event.Forge k bytes) = node_refusal (node_at w k)
+refusal_at w e = node_refusal (node_at w (node_of e))
 
 -- why an event is refused whatever its numbers: the first reason
 abbrev pub refusal : {A : Type 0} → WorldState → Event A → Option Refusal
 refusal w e = if is_over w then Some refusals.Limit else refusal_at w e
 
--- no event after the one that sent a datagram drew a number that it carries
-abbrev pub IsFresh : WorldState → SentDatagram → Type 0
-IsFresh w s =
-    (node : ℕ) (draw : Draw) → Carries s.bytes node draw → is_no_later (last_of w.last node draw) s.event ≡ true
+-- ---- numbers that are used again
 
--- no node holds a record or an end under this number of a node
-abbrev pub IsFree : WorldState → ℕ → Draw → Type 0
-IsFree w k draw = holds_some w.nodes k (Some draw) ≡ false
+-- an event delivers this datagram
+abbrev pub Delivers : {A : Type 0} → WorldState → Event A → SentDatagram → Type 0
+Delivers w (event.Deliver which k) s = slice_get w.sent which ≡ Some s
+Delivers w e s = ⊥
 
--- under the numbers that a node draws so none of these nodes holds a record or an end
+-- an event makes its node draw this number; a timer draws none
+abbrev pub DrawsNumber : {A : Type 0} → WorldState → Event A → NodeState → Draw → Type 0
+DrawsNumber w (event.Call k call) n draw = draw_of n call ≡ Some draw
+DrawsNumber w (event.Forge k bytes) n draw = DrawsHearing n bytes draw
+DrawsNumber w e n draw = (s : SentDatagram) × Delivers w e s × DrawsHearing n s.bytes draw
+
+-- under the numbers that a node of these draws so none of them holds a record or an end
 abbrev pub AreFree : List NodeState → ℕ → (NodeState → Draw → Type 0) → Type 0
-AreFree nodes k D =
-    (n : NodeState) → find (is_numbered k) nodes ≡ Some n → (draw : Draw) → D n draw
-    → holds_some nodes k (Some draw) ≡ false
+AreFree nodes k D = (n : NodeState) → find (is_numbered k) nodes ≡ Some n → (draw : Draw) → D n draw
+    → list_any (λ x. holds x k draw) nodes ≡ false
 
--- the numbers that a node draws so are free
-abbrev pub DrawsFree : WorldState → ℕ → (NodeState → Draw → Type 0) → Type 0
-DrawsFree w k D = (n : NodeState) → node_at w k ≡ Some n → (draw : Draw) → D n draw → IsFree w k draw
-
--- a datagram comes before its numbers are drawn again, and what it makes the node draw is free
-pub record ComesInTime (w : WorldState) (k : ℕ) (s : SentDatagram) : Type 0 where
-  pub fresh : IsFresh w s
-  pub free : DrawsFree w k (λ n draw. DrawsHearing n s.bytes draw)
-
--- No packet outlives the number that it carries. A datagram comes before its numbers are drawn again, and no number is
--- drawn while a record is held under it. A timer draws none. Bytes that no node sent were sent at no time, so only what
--- they draw is looked at.
-abbrev pub IsTimely : {A : Type 0} → WorldState → Event A → Type 0
-IsTimely w (event.Call k call) = DrawsFree w k (λ n draw. draw_of n call ≡ Some draw)
-IsTimely w (event.Deliver which k) = (s : SentDatagram) → slice_get w.sent which ≡ Some s → ComesInTime w k s
-IsTimely w (event.Timer k timer) = Unit {0}
-IsTimely w (event.Forge k bytes) = DrawsFree w k (λ n draw. DrawsHearing n bytes draw)
+-- No packet outlives the number that it carries. No event after the one that sent a datagram drew a number that this
+-- carries, and no number is drawn while a record is held under it. Bytes that no node sent were sent at no time, so of
+-- these only what they draw is looked at.
+pub record IsTimely {A : Type 0} (w : WorldState) (e : Event A) : Type 0 where
+  pub fresh : (s : SentDatagram) → Delivers w e s → (node : ℕ) (draw : Draw) (drawn : ℕ) → Carries s.bytes node draw
+      → last_of w.last node draw ≡ Some drawn → drawn ≤ s.event
+  pub free : AreFree w.nodes (node_of e) (DrawsNumber w e)
 
 -- an event that nothing refuses
 pub record IsPlayable {A : Type 0} (w : WorldState) (e : Event A) : Type 0 where
@@ -149,11 +142,9 @@ pub record PlaysDelivery {A : Type 0} (w : WorldState) (which k : ℕ) (r : Repo
 -- The world after an event that gives a report: the node's own step, over the bytes that were sent. The parts of a call
 -- are in the ranges of their types.
 abbrev pub Plays : {A : Type 0} → WorldState → Event A → Report A → WorldState → Type 0
-Plays w (event.Call k call) r w' =
-    PlaysAt w k (λ n before said after out. IsStep (called n call) n before said after out) r w' × IsCall call
+Plays w (event.Call k call) r w' = PlaysAt w k (λ n. IsStep (called n call) n) r w' × IsCall call
 Plays w (event.Deliver which k) r w' = PlaysDelivery w which k r w'
-Plays w (event.Timer k timer) r w' =
-    PlaysAt w k (λ n before said after out. IsStep (timed n timer) n before said after out) r w'
+Plays w (event.Timer k timer) r w' = PlaysAt w k (λ n. IsStep (timed n timer) n) r w'
 Plays w (event.Forge k bytes) r w' = PlaysAt w k (Receives bytes) r w'
 
 -- Why an event was not played. A world that had not failed is out of memory only if nothing else refuses the event.
@@ -164,8 +155,8 @@ IsFault w e fault.NoMemory w' = (w'.failed ≡ true) × (w'.sent ≡ w.sent) × 
 -- why a node did not take an input
 abbrev pub IsNotTaken : {A : Type 0} → WorldState → ℕ → Input A → Fault → WorldState → Type 0
 IsNotTaken w k i (fault.Refused refusals.Untimely) w' =
-    (node_refusal (node_at w k) ≡ None) × (¬ DrawsFree w k (λ n draw. DrawsFor n i draw)) × (w' ≡ w)
+    (node_refusal (node_at w k) ≡ None) × (¬ AreFree w.nodes k (λ n draw. DrawsFor n i draw)) × (w' ≡ w)
 IsNotTaken w k i (fault.Refused r) w' = (node_refusal (node_at w k) ≡ Some r) × (w' ≡ w)
 IsNotTaken w k i fault.NoMemory w' =
     (w'.failed ≡ true) × (w'.sent ≡ w.sent) × (node_refusal (node_at w k) ≡ None)
-    × DrawsFree w k (λ n draw. DrawsFor n i draw)
+    × AreFree w.nodes k (λ n draw. DrawsFor n i draw)

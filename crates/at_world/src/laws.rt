@@ -43,8 +43,8 @@ pub fn steps_are_a_run<A: Allocator>()
 pub fn exactly_once_requests_run_once<A: Allocator>()
     ensures { (s : Setup A) (events : List (Event A)) (reports : List (Report A)) (w : WorldState) → is_lawful s ≡ true
         → NoForge events → Follows (opening_world s) events reports w
-        → AllLive s.net w.sent (onto [] events reports)
-        → RunsOnce s.net (tables_of s) w.sent (onto [] events reports) }
+        → AllLive s.net w.sent (onto (tables_of s) [] events reports)
+        → RunsOnce s.net w.sent (onto (tables_of s) [] events reports) }
 {
     steps_make_a_history::<A>();
     at_atp::laws::responses_are_answers::<A>();

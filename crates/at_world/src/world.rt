@@ -7,7 +7,7 @@ ghost use Rattle.at_node.specs.Numbers.{Draws, drawn_by};
 ghost use Rattle.at_world.specs.Plays.{opening_world};
 ghost use Rattle.at_nodes.specs.Nodes.{AreWithin};
 ghost use Rattle.at_world.specs.Safety.{IsSafe};
-ghost use Rattle.at_world.specs.Worlds.{AreFree, DrawsFree, IsNotTaken, IsPlayable, Plays, PlaysAt};
+ghost use Rattle.at_world.specs.Worlds.{AreFree, IsNotTaken, IsPlayable, Plays, PlaysAt};
 ghost use Rattle.at_nodes.specs.Taking.{Takes};
 ghost use Rattle.at_world.specs.Worlds.{PlaysDelivery, IsFault, Refuses, refusal, refusal_at, node_refusal};
 ghost use Rattle.at_nodes.specs.Nodes.{is_numbered};
@@ -146,7 +146,7 @@ impl<A: Allocator + Copy> World<A> {
         requires whole { self.old.failed ≡ false }
         requires runs { is_over self.old ≡ false }
         ensures played { IfOk result (λ report. PlaysAt self.old node (Takes input.now) report self.new) }
-        ensures free { IfOk result (λ report. DrawsFree self.old node (λ n draw. Draws n input.now draw)) }
+        ensures free { IfOk result (λ report. AreFree self.old.nodes node (λ n draw. Draws n input.now draw)) }
         ensures not_played { IfErr result (λ fault. IsNotTaken self.old node input.now fault self.new) }
     {
         let Some(place) = place_of(&self.nodes, node) else {

@@ -7,6 +7,7 @@ use Rattle.at_atp_frame.specs.Frames.{owner, number_of}
 use Rattle.at_ddp.specs.Posts.{packet_at}
 use Rattle.at_ddp.proofs.PostLemmas.{sent_at}
 use Rattle.at_steps.specs.AtpHappenings.{atp_coding}
+use Rattle.at_world.proofs.FreshLemmas.{IsFresh}
 use Rattle.at_world.proofs.Entries.{sent_in, IsPacketAt, IsAnothers}
 use Rattle.at_atp.specs.Network.{Sent, is_fresh, after}
 use Rattle.at_node.specs.declared.numbers.Draw.TheVariants.{Tid}
@@ -14,7 +15,7 @@ use Rattle.at_world.specs.AtpGuards.{AtpMachine}
 use Rattle.at_world.specs.Cables.{Cable}
 use Rattle.at_world.proofs.CableTie.{CableTie}
 use Rattle.at_world.specs.Sents.{SentDatagram}
-use Rattle.at_world.specs.Worlds.{WorldState, IsFresh}
+use Rattle.at_world.specs.Worlds.{WorldState}
 use Rattle.at_world.specs.Stories.{posted_packet}
 use Rattle.at_world.proofs.Atp.Tie.{Laws, AtpTie}
 use Rattle.at_world.proofs.Atp.Times.{in_time}

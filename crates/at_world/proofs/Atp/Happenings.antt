@@ -1,12 +1,12 @@
 -- How the machine follows each event of a node, by the laws of its steps.
 use Rattle.std.proofs.Common.{◌≡◌, inl, inr, ℕ, Bool, true, false, Some, refl, sym, ap, subst, ◌∙◌}
-use Rattle.std.specs.List.{AllByRecursion}
+use Rattle.std.specs.List.{AllByRecursion, list_any}
 use Rattle.at_atp.specs.Network.{NoneHolds, after, done}
 use Rattle.at_atp.specs.Transactions.{Transaction, transaction_of}
 use Rattle.at_zip.specs.Tables.{AreTables}
 use Rattle.at_node.specs.AtpParts.{asking, serving, zones_at}
 use Rattle.at_event.specs.Calls.{IsCall}
-use Rattle.at_node.specs.Numbers.{IsTold, drawn_by}
+use Rattle.at_node.specs.Numbers.{IsTold, drawn_by, holds}
 use Rattle.at_node.specs.Hearing.{Hears}
 use Rattle.at_event.specs.Kinds.{Kind, Atp, kind_of_call, kind_of_timer, reporter_of}
 use Rattle.at_node.specs.Nodes.{NodeState, called, timed}
@@ -25,7 +25,7 @@ use Rattle.at_world.specs.AtpGuards.{AtpMachine, StepBy, next}
 use Rattle.at_world.specs.Cables.{Cable, IsSaid}
 use Rattle.at_world.specs.Events.{act_of, node_of}
 use Rattle.at_world.specs.Sents.{SentDatagram}
-use Rattle.at_world.specs.Worlds.{WorldState, DrawsFree, IsFree, node_at}
+use Rattle.at_world.specs.Worlds.{WorldState, AreFree, node_at}
 use Rattle.at_setup.specs.declared.event.Event.{Event}
 use Rattle.at_setup.specs.declared.event.Event.TheVariants as event
 use Rattle.at_world.proofs.CableTie.{CableTie, SeatTie, seat_kept}
@@ -125,7 +125,7 @@ module _ (A : Type 0) (laws : Laws A) (w : WorldState) (c : Cable) (m : AtpMachi
             (moment_passes A c m e o.report (reporter_of o.report) foreign.reports))
 
   -- a number that is drawn is free in the network
-  draws_free : (tid : ℕ) → IsFree w (node_of e) (Tid tid)
+  draws_free : (tid : ℕ) → list_any (λ x. holds x (node_of e) (Tid tid)) w.nodes ≡ false
       → NoneHolds (after A t.history).responders (asking n.seat.net n.seat.number) tid
   draws_free tid free = at_seat (λ net k. NoneHolds (after A t.history).responders (asking net k) tid)
       (none_holds laws.unheld c.net (node_of e) tid w.nodes (after A t.history).responders t.responders free)
@@ -135,7 +135,7 @@ module _ (A : Type 0) (laws : Laws A) (w : WorldState) (c : Cable) (m : AtpMachi
 module _ (A : Type 0) (laws : Laws A) (w : WorldState) (c : Cable) (m : AtpMachine) (ct : CableTie w c)
     (t : AtpTie A w c ct.wires m) (k : ℕ) (n : NodeState) (stands : node_at w k ≡ Some n) where
   pub call_follows : (call : Call A) → IsCall call
-      → DrawsFree w k (λ y draw. drawn_by (called y call).report ≡ Some draw)
+      → AreFree w.nodes k (λ y draw. drawn_by (called y call).report ≡ Some draw)
       → (called n call).state.seat ≡ n.seat → Follows A w c m ct t (event.Call k call) (called n call)
   call_follows call range free seat = go (is_atp (kind_of_call call)) refl
     where
@@ -157,7 +157,7 @@ module _ (A : Type 0) (laws : Laws A) (w : WorldState) (c : Cable) (m : AtpMachi
           (laws.foreign_timer n time other)
 
   pub datagram_follows : (which : ℕ) (d : SentDatagram) → Comes A w c m ct t which d
-      → DrawsFree w k (λ y draw. IsTold A y d.bytes draw) → (said : Reply A) (o : Outcome A NodeState)
+      → AreFree w.nodes k (λ y draw. IsTold A y d.bytes draw) → (said : Reply A) (o : Outcome A NodeState)
       → (is_asked o.report ≡ true → said ≡ Later) → Hears said n d.bytes o → o.state.seat ≡ n.seat
       → Follows A w c m ct t (event.Deliver which k) o
   datagram_follows which d (inr x) free said o later hears seat =

@@ -21,9 +21,10 @@ use Rattle.at_event.specs.declared.report.Report.{Report}
 use Rattle.at_steps.specs.AtpReports.{BeginsAs}
 use Rattle.at_zip.specs.Tables.{Tables}
 use Rattle.at_world.specs.Events.{act_of}
-use Rattle.at_world.specs.ExactlyOnce.{Played, is_once, tables_after, wanted_by}
-use Rattle.at_world.specs.Stories.{asks_once, asks_for, began_under, Matches}
+use Rattle.at_world.specs.ExactlyOnce.{Played}
+use Rattle.at_world.specs.Stories.{Matches}
 use Rattle.at_setup.specs.declared.event.Event.{Event}
+use Rattle.at_world.proofs.Atp.Counts.{asks_once, asks_for, began_under, is_once, wanted_by}
 use Rattle.at_world.proofs.Atp.Told.{Told}
 
 -- ---- the newest transaction of a number
@@ -165,22 +166,22 @@ drawn_newest A changes net tables n h e r key m drawn = go (changes n h)
           as_asked A net tables n h e r key m drawn b,
         )
 
-pub once_newest : (A : Type 0) (changes : Changes A) (net : ℕ) (tables : Tables) (past : List (Played A))
-    (hs : List Happening) (key : Key) → Told A net tables past hs → is_once net past key ≡ true
+pub once_newest : (A : Type 0) (changes : Changes A) (net : ℕ) (past : List (Played A)) (hs : List Happening)
+    (key : Key) → Told A net past hs → is_once net past key ≡ true
     → NewestIs (Asks (true, wanted_by net past key)) (after A hs).asked key
-once_newest A changes net tables [] hs key told once = absurd (false≢true once)
-once_newest A changes net tables (x ∷ xs) [] key told once = absurd told
-once_newest A changes net tables (x ∷ xs) (h ∷ hs) key told once =
-    go (λ is. once_newest A changes net tables xs hs key told.2 is) (began_under net x.event x.report key) refl once
+once_newest A changes net [] hs key told once = absurd (false≢true once)
+once_newest A changes net (x ∷ xs) [] key told once = absurd told
+once_newest A changes net (x ∷ xs) (h ∷ hs) key told once =
+    go (λ is. once_newest A changes net xs hs key told.2 is) (began_under net x.event x.report key) refl once
   where
-    m : Matches net (tables_after tables xs) (after A hs) h x.event x.report
+    m : Matches net x.tables (after A hs) h x.event x.report
     m = told.0
 
     go : (is_once net xs key ≡ true → NewestIs (Asks (true, wanted_by net xs key)) (after A hs).asked key) → (b : Bool)
         → began_under net x.event x.report key ≡ b → cond b (asks_once x.event) (is_once net xs key) ≡ true
         → NewestIs (Asks (true, cond b (asks_for x.event) (wanted_by net xs key))) (done A (after A hs) h).asked key
     go before true e is = subst (λ xo. NewestIs (Asks (xo, asks_for x.event)) (done A (after A hs) h).asked key) is
-        (drawn_newest A changes net (tables_after tables xs) (after A hs) h x.event x.report key m (m.draws_it key ∙ e))
+        (drawn_newest A changes net x.tables (after A hs) h x.event x.report key m (m.draws_it key ∙ e))
     go before false e is = kept_newest A changes (Asks (true, wanted_by net xs key))
         (asks_kept (true, wanted_by net xs key)) (after A hs) h key (m.draws_it key ∙ e) (before is)
 

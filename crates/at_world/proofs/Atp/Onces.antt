@@ -1,7 +1,7 @@
 -- An exactly-once request runs at most once.
-use Rattle.std.proofs.Common.{◌≡◌, ◌⊎◌, inl, inr, ℕ, ◌+◌, ◌≤◌, Bool, true, false, cond, List, [], ◌∷◌, length, take}
-use Rattle.std.proofs.Common.{Some, Result, Ok, Err, refl, sym, ap, subst, ◌∙◌, arith, lit<}
-use Rattle.std.specs.Prelude.{◌==◌, MatchBool}
+use Rattle.std.proofs.Common.{◌≡◌, ◌⊎◌, inl, inr, ℕ, ◌+◌, ◌≤◌, Bool, true, false, cond, List, [], ◌∷◌, ◌++◌, length}
+use Rattle.std.proofs.Common.{take, Some, Result, Ok, Err, refl, sym, ap, subst, ◌∙◌, arith, lit<}
+use Rattle.std.specs.Prelude.{◌==◌}
 use Rattle.std.proofs.lemmas.Bool.{and_parts, eqb-true}
 use Rattle.at_ddp.specs.Address.{same_address}
 use Rattle.at_ddp.proofs.Octets.{same_address-true}
@@ -22,9 +22,8 @@ use Rattle.at_event.specs.declared.report.Report.{Report}
 use Rattle.at_event.specs.declared.report.Report.TheVariants as report
 use Rattle.at_event.specs.declared.reports.TransactionReport.TheVariants as atp_report
 use Rattle.at_event.specs.declared.reports.ZoneReport.TheVariants as zip_report
-use Rattle.at_world.specs.ExactlyOnce.{Played, onto, since, is_once, CameFrom, HandsUpBy, IsGivenBy, IsPageFor, GivesBy}
-use Rattle.at_world.specs.ExactlyOnce.{SomeGives, tables_after, Gives, NoneGives, AtMostOneGives, RanOnce, wanted_by}
-use Rattle.at_world.specs.ExactlyOnce.{SomeHandsUp, AllLive, EndsBy, RunsOnce, IsOnce}
+use Rattle.at_world.specs.ExactlyOnce.{Played, onto, since, CameFrom, HandsUp, IsGiven, IsPageFor, GivesBy, AllLive}
+use Rattle.at_world.specs.ExactlyOnce.{BeganOnce, EndsBy, EndsWith, IsOnce, RanOnce, RunsOnce}
 use Rattle.at_world.specs.Plays.{opening_world, Follows, IsPlay}
 use Rattle.at_world.specs.Sents.{SentDatagram}
 use Rattle.at_zip.specs.Tables.{Tables, table_of}
@@ -33,7 +32,7 @@ use Rattle.at_steps.specs.AtpReports as reports
 use Rattle.at_steps.specs.AtpReports.{AsksFrom, IsPageAsked}
 use Rattle.at_steps.specs.AtpSteps.{page_answer}
 use Rattle.at_world.specs.Events.{NoForge, act_of, node_of}
-use Rattle.at_world.specs.Stories.{Within, asks_once, began_under, Matches}
+use Rattle.at_world.specs.Stories.{Within, Matches}
 use Rattle.at_world.proofs.Acts.{called_at, delivered_at}
 use Rattle.at_setup.specs.declared.event.Event.{Event}
 use Rattle.at_setup.specs.declared.event.Event.TheVariants as event
@@ -41,6 +40,8 @@ use Rattle.at_setup.specs.declared.setup.Setup.{Setup}
 use Rattle.at_world.specs.declared.transcript.Transcript.{Transcript}
 use Rattle.at_world.specs.declared.transcript.PlayFault.{PlayFault}
 use Rattle.at_world.specs.Worlds.{WorldState}
+use Rattle.at_world.proofs.Atp.Counts.{GivenAt, GivesAt, HandsUpAt, NoneOf, OneOf, SomeOf, any_since, asks_once}
+use Rattle.at_world.proofs.Atp.Counts.{at_most_one, began_as, began_under, is_once, live_before, steps_since}
 use Rattle.at_world.proofs.Atp.Newest.{NewestIs, HasAnswers, has_kept, kept_newest, one_answer_more, Has, had_or_gave}
 use Rattle.at_world.proofs.Atp.Newest.{none_yet, once_newest}
 use Rattle.at_world.proofs.Atp.Told.{OnceLaws, Told, all_lived, came_so, key_parts, came_as, hands_complete}
@@ -48,7 +49,7 @@ use Rattle.at_world.proofs.Atp.Told.{lawful, most_of, some_of, within_before}
 
 -- ---- the promise
 
-module _ (A : Type 0) (laws : OnceLaws A) (net : ℕ) (tables : Tables) (sent : List SentDatagram) where
+module _ (A : Type 0) (laws : OnceLaws A) (net : ℕ) (sent : List SentDatagram) where
   some_one : (a b : Transaction) → Some a ≡ Some b → a ≡ b
   some_one a b h = cc
 
@@ -58,7 +59,7 @@ module _ (A : Type 0) (laws : OnceLaws A) (net : ℕ) (tables : Tables) (sent : 
       → CameFrom sent which key → packets ≡ answer → IsPageFor sent now which key answer
   page_for which now n packets key answer within ok p came gave =
       let s = p.request in
-      let packet = came_as A laws net tables sent which key s (within which s p.was_sent)
+      let packet = came_as A laws net sent which key s (within which s p.was_sent)
       (sent_at IsLawfullySent n.sent which s ok p.was_sent) came in
       record {
         came = came;
@@ -75,27 +76,27 @@ module _ (A : Type 0) (laws : OnceLaws A) (net : ℕ) (tables : Tables) (sent : 
   -- what gives an answer in the network is a step that gives it
   step_gives : (e : Event A) (r : Report A) (now : Tables) (n : Network) (h : Happening) (key : Key)
       (answer : List Packet) → Within sent n → AllSent IsLawfullySent n.sent → Matches net now n h e r
-      → asking.Gives n h key answer → GivesBy sent now e r key answer
+      → asking.Gives n h key answer → GivesBy sent now key answer e r
   step_gives e r now n (Answers at k packets) key answer within ok m g =
       let gives = m.answers_as in
-      subst (λ x. GivesBy sent now x r key answer)
+      subst (λ x. GivesBy sent now key answer x r)
       (sym (called_at e (Transactions (Answer k packets)) gives.1))
-      (subst (λ x. GivesBy sent now (event.Call (node_of e) (Transactions (Answer k packets))) x key answer) (sym
+      (subst (λ x. GivesBy sent now key answer (event.Call (node_of e) (Transactions (Answer k packets))) x) (sym
       gives.2) g)
   step_gives e r now n (Serves which packets) key answer within ok m g =
       let gives = m.answers_as in
       let is = delivered_at e which gives.1 in
-      let up = hands_complete A laws net tables sent e r n key within ok m.finishes (sym (m.hands_up key) ∙ g.0) in
-      let came = subst (λ x. HandsUpBy sent (event.Deliver which (node_of e)) x key) gives.2
-      (subst (λ x. HandsUpBy sent x r key) is up) in
-      subst (λ x. GivesBy sent now x r key answer) (sym is)
-      (subst (λ x. GivesBy sent now (event.Deliver which (node_of e)) x key answer) (sym gives.2)
+      let up = hands_complete A laws net sent e r n key within ok m.finishes (sym (m.hands_up key) ∙ g.0) in
+      let came = subst (λ x. HandsUp sent key (event.Deliver which (node_of e)) x) gives.2
+      (subst (λ x. HandsUp sent key x r) is up) in
+      subst (λ x. GivesBy sent now key answer x r) (sym is)
+      (subst (λ x. GivesBy sent now key answer (event.Deliver which (node_of e)) x) (sym gives.2)
       (page_for which now n packets key answer within ok gives.3 came g.1))
   step_gives e r now n h key answer within ok m g = absurd g
 
   gives_of : (past : List (Played A)) (hs : List Happening) (key : Key) (answer : List Packet)
-      → Told A net tables past hs → Within sent (after A hs) → AllByRecursion IsInRange hs
-      → Has (after A hs).asked key answer → SomeGives net tables sent key answer past
+      → Told A net past hs → Within sent (after A hs) → AllByRecursion IsInRange hs
+      → Has (after A hs).asked key answer → SomeOf (GivesAt sent key answer) (steps_since net past key)
   gives_of [] [] key answer told within range has = let none = has.1 in absurd (cc)
   gives_of [] (h ∷ hs) key answer told within range has = absurd told
   gives_of (x ∷ xs) [] key answer told within range has = absurd told
@@ -103,28 +104,26 @@ module _ (A : Type 0) (laws : OnceLaws A) (net : ℕ) (tables : Tables) (sent : 
       go (λ g. gives_of xs hs key answer told.2 (within_before A sent h hs told.1 within) range.1 g)
       (began_under net x.event x.report key) refl
     where
-      m : Matches net (tables_after tables xs) (after A hs) h x.event x.report
+      m : Matches net x.tables (after A hs) h x.event x.report
       m = told.0
 
-      either : (Has (after A hs).asked key answer → SomeGives net tables sent key answer xs)
+      either : (Has (after A hs).asked key answer → SomeOf (GivesAt sent key answer) (steps_since net xs key))
           → Has (after A hs).asked key answer ⊎ asking.Gives (after A hs) h key answer
-          → GivesBy sent (tables_after tables xs) x.event x.report key answer
-          ⊎ SomeGives net tables sent key answer xs
+          → GivesAt sent key answer x ⊎ SomeOf (GivesAt sent key answer) (steps_since net xs key)
       either before (inl old) = inr (before old)
       either before (inr gave) = inl
-          (step_gives x.event x.report (tables_after tables xs) (after A hs) h key answer
-          (within_before A sent h hs told.1 within) (lawful A laws net tables sent hs range.1) m gave)
+          (step_gives x.event x.report x.tables (after A hs) h key answer
+          (within_before A sent h hs told.1 within) (lawful A laws net sent hs range.1) m gave)
 
-      go : (Has (after A hs).asked key answer → SomeGives net tables sent key answer xs) → (b : Bool)
+      go : (Has (after A hs).asked key answer → SomeOf (GivesAt sent key answer) (steps_since net xs key)) → (b : Bool)
           → began_under net x.event x.report key ≡ b
-          → MatchBool b ⊥ (GivesBy sent (tables_after tables xs) x.event x.report key answer
-          ⊎ SomeGives net tables sent key answer xs)
+          → SomeOf (GivesAt sent key answer) (cond b [] (x ∷ steps_since net xs key))
       go before true e = none_yet A laws.changes (after A hs) h key answer (m.draws_it key ∙ e) has
       go before false e = either before (had_or_gave A laws.changes (after A hs) h key answer (m.draws_it key ∙ e) has)
 
   -- an answer that a step gives joins the transaction of its key
   joins_it : (e : Event A) (r : Report A) (n : Network) (h : Happening) (key : Key) → Within sent n
-      → AllSent IsLawfullySent n.sent → reports.Joins n h r (act_of e) → IsGivenBy sent e r key →
+      → AllSent IsLawfullySent n.sent → reports.Joins n h r (act_of e) → IsGiven sent key e r →
       (packets : List Packet) × ((done A n h).asked ≡ answered n.asked key.from key.tid packets)
   joins_it (event.Call node (Transactions (Answer k packets))) (report.Transactions (atp_report.Answered count)) n h key
       within ok j g =
@@ -136,9 +135,9 @@ module _ (A : Type 0) (laws : OnceLaws A) (net : ℕ) (tables : Tables) (sent : 
   joins_it (event.Call node call) r n h key within ok j g = absurd g
   joins_it (event.Deliver which node) (report.Zones (zip_report.Served count)) n h key within ok j g =
       let s = j.0 in
-      let same = came_so A laws net tables sent which key s (within which s j.1)
+      let same = came_so A laws net sent which key s (within which s j.1)
       (sent_at IsLawfullySent n.sent which s ok j.1) g in
-      let parts = key_parts A laws net tables sent s key same in
+      let parts = key_parts A laws net sent s key same in
       (j.2.0, j.2.1 ∙ (λ i. answered n.asked (parts.0 i) (parts.1 i) j.2.0))
   joins_it (event.Deliver which node) r n h key within ok j g = absurd g
   joins_it (event.Timer node time) r n h key within ok j g = absurd g
@@ -147,7 +146,7 @@ module _ (A : Type 0) (laws : OnceLaws A) (net : ℕ) (tables : Tables) (sent : 
   -- the newest transaction of a key after a step that answers it, one that had so many answers
   more_answers : (x : Played A) (now : Tables) (n : Network) (h : Happening) (key : Key) (count : ℕ)
       → Within sent n → AllSent IsLawfullySent n.sent → Matches net now n h x.event x.report
-      → NewestIs (HasAnswers count) n.asked key → Gives sent key x
+      → NewestIs (HasAnswers count) n.asked key → GivenAt sent key x
       → NewestIs (HasAnswers (count + 1)) (done A n h).asked key
   more_answers x now n h key count within ok m newest gives =
       let joined = joins_it x.event x.report n h key within ok m.joins gives in
@@ -155,15 +154,16 @@ module _ (A : Type 0) (laws : OnceLaws A) (net : ℕ) (tables : Tables) (sent : 
       (one_answer_more n.asked key joined.0 count newest)
 
   -- a transaction without answers was given none since it began
-  none_given : (past : List (Played A)) (hs : List Happening) (key : Key) → Told A net tables past hs
+  none_given : (past : List (Played A)) (hs : List Happening) (key : Key) → Told A net past hs
       → Within sent (after A hs) → AllByRecursion IsInRange hs → is_once net past key ≡ true
-      → NewestIs (λ t. length t.answers ≡ 0) (after A hs).asked key → NoneGives sent key (since net past key)
+      → NewestIs (λ t. length t.answers ≡ 0) (after A hs).asked key
+      → NoneOf (GivenAt sent key) (steps_since net past key)
   none_given [] hs key told within range once none = tt
   none_given (x ∷ xs) [] key told within range once none = absurd told
   none_given (x ∷ xs) (h ∷ hs) key told within range once none =
       go (λ o z. none_given xs hs key told.2 earlier range.1 o z) (began_under net x.event x.report key) refl once
     where
-      m : Matches net (tables_after tables xs) (after A hs) h x.event x.report
+      m : Matches net x.tables (after A hs) h x.event x.report
       m = told.0
 
       earlier : Within sent (after A hs)
@@ -180,44 +180,44 @@ module _ (A : Type 0) (laws : OnceLaws A) (net : ℕ) (tables : Tables) (sent : 
       one count e = absurd (omega (arith, e))
 
       go : (is_once net xs key ≡ true → NewestIs (λ t. length t.answers ≡ 0) (after A hs).asked key
-          → NoneGives sent key (since net xs key)) → (b : Bool) → began_under net x.event x.report key ≡ b
+          → NoneOf (GivenAt sent key) (steps_since net xs key)) → (b : Bool) → began_under net x.event x.report key ≡ b
           → cond b (asks_once x.event) (is_once net xs key) ≡ true
-          → NoneGives sent key (cond b [] (x ∷ since net xs key))
+          → NoneOf (GivenAt sent key) (cond b [] (x ∷ steps_since net xs key))
       go before true e is = tt
       go before false e is =
-          let t = once_newest A laws.changes net tables xs hs key told.2 is in
+          let t = once_newest A laws.changes net xs hs key told.2 is in
           let k = length (t.0).answers in
           let kept = kept_newest A laws.changes (HasAnswers (length (t.0).answers)) (has_kept (length (t.0).answers))
           (after A hs) h key (m.draws_it key ∙ e) (t.0, t.1, omega arith) in (
             (λ gives. one 0 (few (0 + 1)
-                (more_answers x (tables_after tables xs) (after A hs) h key 0 earlier
-                (lawful A laws net tables sent hs range.1) m (t.0, t.1, omega arith) gives))),
+                (more_answers x x.tables (after A hs) h key 0 earlier
+                (lawful A laws net sent hs range.1) m (t.0, t.1, omega arith) gives))),
             before is (t.0, t.1, few (length (t.0).answers) kept),
           )
 
   -- a transaction that must not run twice was given one answer at most
-  one_given : (past : List (Played A)) (hs : List Happening) (key : Key) → Told A net tables past hs
+  one_given : (past : List (Played A)) (hs : List Happening) (key : Key) → Told A net past hs
       → Within sent (after A hs) → AllTimely A hs → AllByRecursion IsInRange hs → AllLive net sent past
-      → is_once net past key ≡ true → AtMostOneGives sent key (since net past key)
+      → is_once net past key ≡ true → OneOf (GivenAt sent key) (steps_since net past key)
   one_given [] hs key told within timely range live once = tt
   one_given (x ∷ xs) [] key told within timely range live once = absurd told
   one_given (x ∷ xs) (h ∷ hs) key told within timely range live once =
-      go (λ o. one_given xs hs key told.2 earlier timely.1 range.1 live.1 o)
+      go (λ o. one_given xs hs key told.2 earlier timely.1 range.1 (live_before A net sent x xs live) o)
       (began_under net x.event x.report key) refl once
     where
-      m : Matches net (tables_after tables xs) (after A hs) h x.event x.report
+      m : Matches net x.tables (after A hs) h x.event x.report
       m = told.0
 
       earlier : Within sent (after A hs)
       earlier = within_before A sent h hs told.1 within
 
       law : AnswersOnce A (h ∷ hs)
-      law = laws.once (h ∷ hs) timely (all_lived A laws net tables sent (x ∷ xs) (h ∷ hs) told within range live)
+      law = laws.once (h ∷ hs) timely (all_lived A laws net sent (x ∷ xs) (h ∷ hs) told within range live)
 
       -- so many answers are one at most
       few : (count : ℕ) → NewestIs (HasAnswers count) (done A (after A hs) h).asked key → count ≤ 1
       few count has =
-          let t = once_newest A laws.changes net tables (x ∷ xs) (h ∷ hs) key told once in
+          let t = once_newest A laws.changes net (x ∷ xs) (h ∷ hs) key told once in
           let same : has.0 ≡ t.0 = some_one has.0 t.0 (sym has.1 ∙ t.1) in
           let least : count ≤ length (t.0).answers = subst (HasAnswers count) same has.2 in
           let most = law.once key.from key.tid t.0 t.1 t.2.0 in
@@ -226,46 +226,48 @@ module _ (A : Type 0) (laws : OnceLaws A) (net : ℕ) (tables : Tables) (sent : 
       none : (k : ℕ) → k + 1 ≤ 1 → k ≡ 0
       none k e = omega (arith, e)
 
-      go : (is_once net xs key ≡ true → AtMostOneGives sent key (since net xs key)) → (b : Bool)
+      go : (is_once net xs key ≡ true → OneOf (GivenAt sent key) (steps_since net xs key)) → (b : Bool)
           → began_under net x.event x.report key ≡ b → cond b (asks_once x.event) (is_once net xs key) ≡ true
-          → AtMostOneGives sent key (cond b [] (x ∷ since net xs key))
+          → OneOf (GivenAt sent key) (cond b [] (x ∷ steps_since net xs key))
       go before true e is = tt
       go before false e is =
-          let t = once_newest A laws.changes net tables xs hs key told.2 is in (
+          let t = once_newest A laws.changes net xs hs key told.2 is in (
             (λ gives. none_given xs hs key told.2 earlier range.1 is (
               t.0,
               t.1,
               none (length (t.0).answers)
                   (few (length (t.0).answers + 1)
-                  (more_answers x (tables_after tables xs) (after A hs) h key (length (t.0).answers) earlier
-                  (lawful A laws net tables sent hs range.1) m (t.0, t.1, omega arith) gives)),
+                  (more_answers x x.tables (after A hs) h key (length (t.0).answers) earlier
+                  (lawful A laws net sent hs range.1) m (t.0, t.1, omega arith) gives)),
             )),
             before is,
           )
 
-  one_moment : (past : List (Played A)) (hs : List Happening) → Told A net tables past hs → Within sent (after A hs)
-      → AllTimely A hs → AllByRecursion IsInRange hs → AllLive net sent past → (key : Key) → is_once net past key
-      ≡ true → RanOnce net sent past key
-  one_moment past hs told within timely range live key once =
-      let t = once_newest A laws.changes net tables past hs key told once in
-      let law = laws.once hs timely (all_lived A laws net tables sent past hs told within range live) in (
-        most_of A laws net tables sent past hs key told within range
-            (law.once key.from key.tid t.0 t.1 t.2.0).0,
-        one_given past hs key told within timely range live once,
-      )
+  one_moment : (past : List (Played A)) (hs : List Happening) → Told A net past hs → Within sent (after A hs)
+      → AllTimely A hs → AllByRecursion IsInRange hs → AllLive net sent past → (key : Key) (wanted : ℕ)
+      → BeganOnce net key wanted past → RanOnce net sent key past
+  one_moment past hs told within timely range live key wanted began =
+      let once = (began_as A net key wanted past began).0 in
+      let t = once_newest A laws.changes net past hs key told once in
+      let law = laws.once hs timely (all_lived A laws net sent past hs told within range live) in
+      record {
+        delivered = at_most_one A net key past (HandsUp sent key)
+            (most_of A laws net sent past hs key told within range (law.once key.from key.tid t.0 t.1 t.2.0).0);
+        answered = at_most_one A net key past (IsGiven sent key)
+            (one_given past hs key told within timely range live once);
+      }
 
   ended : (past : List (Played A)) (hs : List Happening) (which node tid : ℕ) (packets : List Packet)
-      → Told A net tables past hs → Within sent (after A hs) → AllTimely A hs → AllByRecursion IsInRange hs
-      → AllLive net sent past → reports.Ends A net node (after A hs) which tid packets →
-      is_once net past (record { from = asking net node; tid = tid }) ≡ true
-      → SomeHandsUp sent (record { from = asking net node; tid = tid })
-      (since net past (record { from = asking net node; tid = tid }))
-      × ((answer : List Packet) × SomeGives net tables sent (record { from = asking net node; tid = tid }) answer past
-      × (packets ≡ take (wanted_by net past (record { from = asking net node; tid = tid })) answer))
-  ended past hs which node tid packets told within timely range live ends once =
+      → Told A net past hs → Within sent (after A hs) → AllTimely A hs → AllByRecursion IsInRange hs
+      → AllLive net sent past → reports.Ends A net node (after A hs) which tid packets → (wanted : ℕ)
+      → BeganOnce net (record { from = asking net node; tid = tid }) wanted past
+      → EndsWith sent (record { from = asking net node; tid = tid }) wanted packets
+      (since net (record { from = asking net node; tid = tid }) past)
+  ended past hs which node tid packets told within timely range live ends wanted began =
       let s = ends.packet in
-      let t = once_newest A laws.changes net tables past hs (record { from = asking net node; tid = tid }) told once in
-      let law = laws.once hs timely (all_lived A laws net tables sent past hs told within range live) in
+      let so = began_as A net (record { from = asking net node; tid = tid }) wanted past began in
+      let t = once_newest A laws.changes net past hs (record { from = asking net node; tid = tid }) told so.0 in
+      let law = laws.once hs timely (all_lived A laws net sent past hs told within range live) in
       let a = ((laws.answers hs timely).finished which s packets ends.was_sent ends.fresh ends.ends).0 in
       let same : a.transaction
       ≡ t.0 = some_one a.transaction t.0
@@ -277,54 +279,74 @@ module _ (A : Type 0) (laws : OnceLaws A) (net : ℕ) (tables : Tables) (sent : 
       ∙ done_once.0 in
       let answers : (t.0).answers ≡ done_once.1 ∷ [] = ap (λ (x : Transaction). x.answers) (sym same) ∙ done_once.2 in
       let among : Contains (t.0).answers done_once.1 = subst (λ (l : List (List Packet)). Contains l done_once.1)
-      (sym answers) (0, lit< tt, refl) in (
-        some_of A laws net tables sent past hs (record { from = asking net node; tid = tid }) told within range
-            (omega (arith, here)),
-        (
-          done_once.1,
-          gives_of past hs (record { from = asking net node; tid = tid }) done_once.1 told within range
-              (t.0, t.1, among),
-          done_once.3 ∙ ap (λ k. take k done_once.1) (ap (λ (x : Transaction). x.wanted) same ∙ t.2.1),
-        ),
-      )
+      (sym answers) (0, lit< tt, refl) in
+      record {
+        delivered = any_since A net (record { from = asking net node; tid = tid }) past
+            (HandsUpAt sent (record { from = asking net node; tid = tid }))
+            (some_of A laws net sent past hs (record { from = asking net node; tid = tid }) told within range
+            (omega (arith, here)));
+        answer = done_once.1;
+        given = any_since A net (record { from = asking net node; tid = tid }) past
+            (GivesAt sent (record { from = asking net node; tid = tid }) done_once.1)
+            (gives_of past hs (record { from = asking net node; tid = tid }) done_once.1 told within range
+            (t.0, t.1, among));
+        tells = done_once.3
+            ∙ ap (λ k. take k done_once.1) (ap (λ (x : Transaction). x.wanted) same ∙ t.2.1 ∙ so.1);
+      }
 
-  ends_by : (e : Event A) (r : Report A) (past : List (Played A)) (hs : List Happening) → Told A net tables past hs
+  ends_by : (e : Event A) (r : Report A) (past : List (Played A)) (hs : List Happening) → Told A net past hs
       → Within sent (after A hs) → AllTimely A hs → AllByRecursion IsInRange hs → AllLive net sent past
-      → reports.Finishes net (node_of e) (after A hs) (act_of e) r → EndsBy net tables sent e r past
+      → reports.Finishes net (node_of e) (after A hs) (act_of e) r → EndsBy net sent e r past
   ends_by (event.Call node call) r past hs told within timely range live f = tt
   ends_by (event.Deliver which node) (report.Transactions (atp_report.Response tid packets)) past hs told within timely
       range live f =
-      ended past hs which node tid packets told within timely range live f
+      λ key wanted is. subst
+      (λ (k : Key). BeganOnce net k wanted past → EndsWith sent k wanted packets (since net k past)) (sym is)
+      (ended past hs which node tid packets told within timely range live f wanted)
   ends_by (event.Deliver which node) r past hs told within timely range live f = tt
   ends_by (event.Timer node time) r past hs told within timely range live f = tt
   ends_by (event.Forge node bytes) r past hs told within timely range live f = tt
 
-  pub runs_once : (past : List (Played A)) (hs : List Happening) → Told A net tables past hs → Within sent (after A hs)
-      → AllTimely A hs → AllByRecursion IsInRange hs → AllLive net sent past → RunsOnce net tables sent past
-  runs_once [] [] told within timely range live = tt
-  runs_once [] (h ∷ hs) told within timely range live = tt
-  runs_once (x ∷ xs) [] told within timely range live = absurd told
-  runs_once (x ∷ xs) (h ∷ hs) told within timely range live =
+  -- what is promised after a step: of all requests, and of the transaction that it ends
+  abbrev Promise : Played A → List (Played A) → Type 0
+  Promise x before =
+      ((key : Key) (wanted : ℕ) → BeganOnce net key wanted (x ∷ before) → RanOnce net sent key (x ∷ before))
+      × EndsBy net sent x.event x.report before
+
+  at_moment : (later before : List (Played A)) (x : Played A) (hs : List Happening)
+      → Told A net (later ++ x ∷ before) hs → Within sent (after A hs) → AllTimely A hs → AllByRecursion IsInRange hs
+      → AllLive net sent (later ++ x ∷ before) → Promise x before
+  at_moment [] before x [] told within timely range live = absurd told
+  at_moment (y ∷ later) before x [] told within timely range live = absurd told
+  at_moment [] before x (h ∷ hs) told within timely range live =
       let m = told.0 in
       let earlier = within_before A sent h hs told.1 within in (
-        one_moment (x ∷ xs) (h ∷ hs) told within timely range live,
-        ends_by x.event x.report xs hs told.2 earlier timely.1 range.1 live.1 m.finishes,
-        runs_once xs hs told.2 earlier timely.1 range.1 live.1,
+        one_moment (x ∷ before) (h ∷ hs) told within timely range live,
+        ends_by x.event x.report before hs told.2 earlier timely.1 range.1 (live_before A net sent x before live)
+            m.finishes,
       )
+  at_moment (y ∷ later) before x (h ∷ hs) told within timely range live =
+      at_moment later before x hs told.2 (within_before A sent h hs told.1 within) timely.1 range.1
+      (live_before A net sent y (later ++ x ∷ before) live)
+
+  pub runs_once : (past : List (Played A)) (hs : List Happening) → Told A net past hs → Within sent (after A hs)
+      → AllTimely A hs → AllByRecursion IsInRange hs → AllLive net sent past → RunsOnce net sent past
+  runs_once past hs told within timely range live = λ later before x is. at_moment later before x hs
+      (subst (λ l. Told A net l hs) is told) within timely range (subst (AllLive net sent) is live)
 
 -- what steps from the opening give runs once
 abbrev pub StepsOnce : (A : Type 0) → Setup A → Type 0
 StepsOnce A s = (events : List (Event A)) (reports : List (Report A)) (w : WorldState) → NoForge events
-    → Follows (opening_world s) events reports w → AllLive s.net w.sent (onto [] events reports)
-    → RunsOnce s.net (tables_of s) w.sent (onto [] events reports)
+    → Follows (opening_world s) events reports w → AllLive s.net w.sent (onto (tables_of s) [] events reports)
+    → RunsOnce s.net w.sent (onto (tables_of s) [] events reports)
 
 pub play_is_once : (A : Type 0) (s : Setup A) (events : List (Event A)) (answer : Result (Transcript A) (PlayFault A))
     → StepsOnce A s → IsPlay s events answer → IsOnce s events answer
 play_is_once A s events (Ok t) law h = λ forged_none. let played = h.1 in
-    subst (λ sent. AllLive s.net sent (onto [] events t.reports)
-    → RunsOnce s.net (tables_of s) sent (onto [] events t.reports)) (sym played.1)
+    subst (λ sent. AllLive s.net sent (onto (tables_of s) [] events t.reports)
+    → RunsOnce s.net sent (onto (tables_of s) [] events t.reports)) (sym played.1)
     (law events t.reports h.0 forged_none played.0)
 play_is_once A s events (Err f) law h = λ forged_none. let played = h.1 in
-    subst (λ sent. AllLive s.net sent (onto [] (take f.at events) f.transcript.reports)
-    → RunsOnce s.net (tables_of s) sent (onto [] (take f.at events) f.transcript.reports)) (sym played.1)
+    subst (λ sent. AllLive s.net sent (onto (tables_of s) [] (take f.at events) f.transcript.reports)
+    → RunsOnce s.net sent (onto (tables_of s) [] (take f.at events) f.transcript.reports)) (sym played.1)
     (law (take f.at events) f.transcript.reports h.0 forged_none played.0)

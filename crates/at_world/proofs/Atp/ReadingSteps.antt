@@ -20,7 +20,7 @@ use Rattle.at_event.specs.declared.reports.ZoneReport.TheVariants as zip_report
 use Rattle.at_steps.specs.AtpHappenings.{sets_table}
 use Rattle.at_steps.specs.AtpSteps.{Change, ComesToReading, BeginsReading, TurnsPage, EndsReading, FailsReading, Tells}
 use Rattle.at_steps.specs.AtpSteps.{All, TooMany, Faulty, page_asked}
-use Rattle.at_world.specs.AtpGuards.{AtpMachine, Reading, ReadsSince, StoodSince, without_reading}
+use Rattle.at_world.specs.AtpGuards.{AtpMachine, Reading, ReadsSince, without_reading}
 use Rattle.at_world.specs.Cables.{Cable, IsSaid}
 use Rattle.at_world.specs.Events.{act_of, node_of}
 use Rattle.at_world.specs.Worlds.{WorldState, node_at}
@@ -30,7 +30,7 @@ use Rattle.at_world.proofs.Acts.{called_at, delivered_at, fired_at}
 use Rattle.at_world.proofs.CableTie.{Wire}
 use Rattle.at_world.proofs.Atp.Lists.{no_answers, others_left}
 use Rattle.at_world.proofs.Atp.Readings.{Reads, all_stays, comes_from_router, fits, goes_on, has_all, longer, no_fault}
-use Rattle.at_world.proofs.Atp.Readings.{stood_before}
+use Rattle.at_world.proofs.Atp.Readings.{HasStood, has_stood, stood_before}
 use Rattle.at_world.proofs.Atp.Tie.{Laws, Becomes, IsReading, AtpTie, moved}
 use Rattle.at_world.proofs.Atp.Staying.{Allows, so_at, tables_kept, still_theirs}
 
@@ -98,7 +98,8 @@ module _ (A : Type 0) (laws : Laws A) (w : WorldState) (cable : Cable) (m : AtpM
               began = its.began;
               tells = λ stood. has_all laws.reading cable.net cable.router m.past m.asked m.readings
                   (node_of e) came.read its came.from came.newest came.place came.ends came.packet came.part h.page
-                  h.spelled h.last (table_of (came.read).which m.tables) stood;
+                  h.spelled h.last (table_of (came.read).which m.tables)
+                  (has_stood m.past its.since (came.read).which (table_of (came.read).which m.tables) stood);
               becomes = refl;
             },
           ))
@@ -117,7 +118,7 @@ module _ (A : Type 0) (laws : Laws A) (w : WorldState) (cable : Cable) (m : AtpM
   asks_page : (server : ℕ) (kind : Which) (tid : ℕ) (names : List (List ℕ)) (readings : List Reading) (since : ℕ)
       → cable.router ≡ Some server → length names ≤ 1024 → ReadsSince readings (node_of e) kind since
       → since ≤ length m.past →
-      ((table : List (List ℕ)) → StoodSince (m.past ++ m.tables ∷ []) since kind table → BeginsTable table names)
+      ((table : List (List ℕ)) → HasStood (m.past ++ m.tables ∷ []) since kind table → BeginsTable table names)
       → IsReading cable (moved m m.tables
       (page_asked cable.net (node_of e) (zones_at cable.net server) kind names tid ∷ m.asked) readings) (node_of e)
       (Some (record { which = kind; tid = tid; names = names }))
@@ -217,7 +218,7 @@ module _ (A : Type 0) (laws : Laws A) (w : WorldState) (cable : Cable) (m : AtpM
       from_router = comes_from_router laws.reading cable.net cable.router m.past m.asked m.readings
           (node_of e) came.read its came.from came.newest came.place came.ends came.packet came.part
 
-      begin : (table : List (List ℕ)) → StoodSince m.past its.since kind table → BeginsTable table names
+      begin : (table : List (List ℕ)) → HasStood m.past its.since kind table → BeginsTable table names
       begin table stood = goes_on laws.reading cable.net cable.router m.past m.asked m.readings
           (node_of e) came.read its came.from came.newest came.place came.ends came.packet came.part s.page s.spelled
           table stood
@@ -240,7 +241,8 @@ module _ (A : Type 0) (laws : Laws A) (w : WorldState) (cable : Cable) (m : AtpM
               began = its.began;
               names = names;
               few = few;
-              tells = λ stood. begin (table_of kind m.tables) stood;
+              tells = λ stood. begin (table_of kind m.tables)
+                  (has_stood m.past its.since kind (table_of kind m.tables) stood);
               becomes = refl;
             },
           )

@@ -1,10 +1,12 @@
 -- A node that reads a zone table, page by page: what is known of its names, and of the answers to its transaction.
 use Rattle.std.proofs.Common.{◌≡◌, ◌⊎◌, inl, inr, ℕ, zero, suc, ◌+◌, ◌-◌, ◌^◌, ◌<◌, ◌≤◌, Bool, true, false, cond, List}
-use Rattle.std.proofs.Common.{[], ◌∷◌, ◌++◌, length, Option, Some, refl, sym, ap, subst, ◌∙◌, append-nil, arith, lit<}
+use Rattle.std.proofs.Common.{[], ◌∷◌, ◌++◌, length, get_or, Option, Some, refl, sym, ap, subst, ◌∙◌, append-nil, arith}
+use Rattle.std.proofs.Common.{lit<}
 use Rattle.std.specs.Prelude.{slice_get}
 use Rattle.std.specs.List.{Contains}
 use Rattle.std.proofs.lemmas.List.{length-append, length-drop}
 use Rattle.std.proofs.lemmas.List.Elements.{Contains-append_cases}
+use Rattle.std.proofs.lemmas.Option.{slice_get-get_or}
 use Rattle.at_ddp.specs.declared.address.Address.{Address}
 use Rattle.at_atp_frame.specs.Packets.{Packet}
 use Rattle.at_atp.specs.Transactions.{Transaction, Asked, IsPart, answered, is_transaction, transaction_of}
@@ -19,7 +21,7 @@ use Rattle.at_zip.specs.declared.fault.ZipFault.{ZipFault}
 use Rattle.at_node.specs.AtpParts.{Reading as ZoneReading, asking, zones_at}
 use Rattle.at_node.specs.ZoneSocket.{page_packet}
 use Rattle.at_steps.specs.AtpSteps.{page_answer}
-use Rattle.at_world.specs.AtpGuards.{Reading, ReadsSince, StoodSince, reading_of, tables_at}
+use Rattle.at_world.specs.AtpGuards.{Reading, ReadsSince, StoodSince, reading_of}
 use Rattle.at_world.proofs.Atp.Lists.{Becomes, answer_joins, one_answer, only_packet, some_transaction}
 
 -- what the layers below promise of pages
@@ -43,6 +45,20 @@ pub record ReadingLaws : Type 0 where
 
 -- ---- what is known of a reading
 
+-- the tables at a moment
+abbrev pub tables_at : List Tables → ℕ → Tables
+tables_at past moment = get_or past moment (record { all = []; local = [] })
+
+-- the table of this kind was this one at every moment from that one on
+abbrev pub HasStood : List Tables → ℕ → Which → List (List ℕ) → Type 0
+HasStood past since which table =
+    (moment : ℕ) → since ≤ moment → moment < length past → table_of which (tables_at past moment) ≡ table
+
+pub has_stood : (past : List Tables) (since : ℕ) (which : Which) (table : List (List ℕ))
+    → StoodSince past since which table → HasStood past since which table
+has_stood past since which table stood moment late within = stood moment (tables_at past moment) late
+    (slice_get-get_or past moment (record { all = []; local = [] }) within)
+
 -- an answer is the page after these names of this table at some moment since then
 pub record PageAt (past : List Tables) (since : ℕ) (which : Which) (names : List (List ℕ)) (answer : List Packet)
     : Type 0 where
@@ -65,7 +81,7 @@ pub record Reads (net : ℕ) (router : Option ℕ) (past : List Tables) (asked :
   pub since : ℕ
   pub began : ReadsSince readings k r.which since
   pub begun : since < length past
-  pub begins : (table : List (List ℕ)) → StoodSince past since r.which table → BeginsTable table r.names
+  pub begins : (table : List (List ℕ)) → HasStood past since r.which table → BeginsTable table r.names
   pub pages : (answer : List Packet) → Contains (first.transaction).answers answer
       → PageAt past since r.which r.names answer
 
@@ -156,7 +172,7 @@ longer past x = length-append past (x ∷ [])
 
 -- a table that stood until now stood until the moment before
 pub stood_before : (past : List Tables) (x : Tables) (since : ℕ) (which : Which) (table : List (List ℕ))
-    → StoodSince (past ++ x ∷ []) since which table → StoodSince past since which table
+    → HasStood (past ++ x ∷ []) since which table → HasStood past since which table
 stood_before past x since which table stood moment late within =
     ap (table_of which) (sym (at_later past x moment within))
     ∙ stood moment late (omega (arith, within, longer past x))
@@ -257,17 +273,17 @@ module _ (laws : ReadingLaws) (net : ℕ) (router : Option ℕ) (past : List Tab
 
   -- it is the page of a table that stood
   page_of_stood : (page : Page) → Spells packet.user packet.data_ page → (table : List (List ℕ))
-      → StoodSince past r.since read.which table → page ≡ page_of table (place_after read.names)
+      → HasStood past r.since read.which table → page ≡ page_of table (place_after read.names)
   page_of_stood page spells table stood = is_page page spells
       ∙ ap (λ t. page_of t (place_after read.names)) (stood its.moment its.late its.within)
 
   pub goes_on : (page : Page) → Spells packet.user packet.data_ page → (table : List (List ℕ))
-      → StoodSince past r.since read.which table → BeginsTable table (read.names ++ page.names)
+      → HasStood past r.since read.which table → BeginsTable table (read.names ++ page.names)
   goes_on page spells table stood = subst (λ (p : Page). BeginsTable table (read.names ++ p.names))
       (sym (page_of_stood page spells table stood)) (laws.begins table read.names (r.begins table stood))
 
   pub has_all : (page : Page) → Spells packet.user packet.data_ page → page.last ≡ true → (table : List (List ℕ))
-      → StoodSince past r.since read.which table → read.names ++ page.names ≡ table
+      → HasStood past r.since read.which table → read.names ++ page.names ≡ table
   has_all page spells last table stood =
       let same = page_of_stood page spells table stood in
       ap (λ (p : Page). read.names ++ p.names) same

@@ -196,7 +196,7 @@ module _ (A : Type 0) (laws : Laws A) (w : WorldState) (cable : Cable) (m : AtpM
       (event.Call (node_of e) (Transactions (Ask s.node s.socket s.user s.bytes s.wanted s.xo s.retries))) r
       (report.Transactions (atp_report.Begun s.tid))
       (called_at e (Transactions (Ask s.node s.socket s.user s.bytes s.wanted s.xo s.retries)) s.act) s.report
-      (tt, record { becomes = refl }))
+      (tt, refl))
     where
       new : Transaction
       new = steps.new_transaction cable.net (node_of e) (record { net = cable.net; node = s.node; socket = s.socket })

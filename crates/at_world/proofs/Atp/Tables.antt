@@ -26,7 +26,7 @@ says_tables c m (event.Call node (Zones (zone.Read which))) (report.Transactions
     kept_of h.becomes
 says_tables c m (event.Call node (Transactions (Ask k socket user bytes wanted xo retries)))
     (report.Transactions (atp_report.Begun tid)) m' h =
-    kept_of h.becomes
+    kept_of h
 says_tables c m (event.Call node call) (report.Transactions (atp_report.Begun tid)) m' h = absurd h
 says_tables c m (event.Call node (Transactions (Answer key packets))) (report.Transactions (atp_report.Answered count))
     m' h = kept_of h.becomes
@@ -49,7 +49,8 @@ says_tables c m e r m' h = absurd h
 -- a report that sets the table is of this part
 moment_tables : {A : Type 0} (m : AtpMachine) (e : Event A) (r : Report A) (m' : AtpMachine) → m'.tables ≡ m.tables
     → (reporter_of r ≡ Atp → ⊥) → AreTablesBy m e r m'
-moment_tables m e (report.Zones zip_report.TableSet) m' same other = absurd (other refl)
+moment_tables m (event.Call node (Zones (zone.Set which names))) (report.Zones zip_report.TableSet) m' same other =
+    absurd (other refl)
 moment_tables m e r m' same other = same
 
 pub tables_follow : {A : Type 0} (c : Cable) (m : AtpMachine) (e : Event A) (r : Report A) (m' : AtpMachine)

@@ -2,7 +2,7 @@
 use Rattle.std.proofs.Common.{◌≡◌, inl, inr, ℕ, zero, suc, ◌+◌, ◌<◌, ◌≤◌, Bool, true, false, cond, List, [], ◌∷◌, ◌++◌}
 use Rattle.std.proofs.Common.{length, Option, Some, refl, sym, ap, subst, ◌∙◌, arith, lit<}
 use Rattle.std.specs.Prelude.{slice_get, ◌||◌, ◌==◌, ◌&&◌}
-use Rattle.std.specs.List.{AllByRecursion}
+use Rattle.std.specs.List.{AllByRecursion, list_any}
 use Rattle.std.proofs.lemmas.Bool.{false≢true, eq-eqb, eqb-true, and_parts}
 use Rattle.std.proofs.lemmas.List.{append-nil}
 use Rattle.at_ddp.specs.Address.{same_address}
@@ -27,15 +27,16 @@ use Rattle.at_event.specs.declared.report.Report.TheVariants as report
 use Rattle.at_event.specs.declared.reports.TransactionReport.TheVariants as atp_report
 use Rattle.at_event.specs.declared.reports.ZoneReport.TheVariants as zip_report
 use Rattle.at_zip.specs.Tables.{Tables}
-use Rattle.at_world.specs.ExactlyOnce.{Played, onto, since, tables_after, CameFrom, HandsUpBy, HandsUp, NoneHandsUp}
-use Rattle.at_world.specs.ExactlyOnce.{AtMostOneHandsUp, SomeHandsUp, has_expired, LivesBy, AllLive}
+use Rattle.at_world.specs.ExactlyOnce.{Played, onto, since, CameFrom, HandsUp, Lives, AllLive, expires}
 use Rattle.at_world.specs.Sents.{SentDatagram}
 use Rattle.at_steps.specs.AtpReports.{came_under}
 use Rattle.at_steps.specs.AtpReports as reports
 use Rattle.at_world.specs.Events.{act_of, node_of}
-use Rattle.at_world.specs.Stories.{Within, began_under, Matches, Grows, Tells, posted_packet}
+use Rattle.at_world.specs.Stories.{Within, Matches, Grows, Tells, posted_packet, tables_by}
 use Rattle.at_setup.specs.declared.event.Event.{Event}
 use Rattle.at_world.proofs.Acts.{delivered_at}
+use Rattle.at_world.proofs.Atp.Counts.{HandsUpAt, NoneOf, OneOf, SomeOf, began_under, expired_is, has_expired}
+use Rattle.at_world.proofs.Atp.Counts.{live_before, steps_since}
 use Rattle.at_setup.specs.declared.event.Event.TheVariants as event
 
 -- what the layers below promise
@@ -56,19 +57,20 @@ pub record OnceLaws (A : Type 0) : Type 0 where
 
 -- ---- the steps and the happenings, side by side
 
-abbrev pub Told : (A : Type 0) → ℕ → Tables → List (Played A) → List Happening → Type 0
-Told A net tables [] [] = Unit {0}
-Told A net tables (x ∷ xs) (h ∷ hs) = Matches net (tables_after tables xs) (after A hs) h x.event x.report
-    × Grows A (after A hs) h × Told A net tables xs hs
-Told A net tables [] (h ∷ hs) = ⊥
-Told A net tables (x ∷ xs) [] = ⊥
+abbrev pub Told : (A : Type 0) → ℕ → List (Played A) → List Happening → Type 0
+Told A net [] [] = Unit {0}
+Told A net (x ∷ xs) (h ∷ hs) =
+    Matches net x.tables (after A hs) h x.event x.report × Grows A (after A hs) h × Told A net xs hs
+Told A net [] (h ∷ hs) = ⊥
+Told A net (x ∷ xs) [] = ⊥
 
 pub told_of : (A : Type 0) (net : ℕ) (tables : Tables) (past : List (Played A)) (before : List Happening)
-    (es : List (Event A)) (rs : List (Report A)) (history : List Happening) → Told A net tables past before
-    → Tells net (tables_after tables past) before es rs history → Told A net tables (onto past es rs) history
-told_of A net tables past before [] [] history told h = subst (Told A net tables past) (sym h) told
+    (es : List (Event A)) (rs : List (Report A)) (history : List Happening) → Told A net past before
+    → Tells net tables before es rs history → Told A net (onto tables past es rs) history
+told_of A net tables past before [] [] history told h = subst (Told A net past) (sym h) told
 told_of A net tables past before (e ∷ es) (r ∷ rs) history told h =
-    told_of A net tables (record { event = e; report = r } ∷ past) (h.0 ∷ before) es rs history (h.1, h.2, told) h.3
+    told_of A net (tables_by e r tables) (record { event = e; report = r; tables = tables } ∷ past) (h.0 ∷ before) es rs
+    history (h.1, h.2, told) h.3
 told_of A net tables past before [] (r ∷ rs) history told h = absurd h
 told_of A net tables past before (e ∷ es) [] history told h = absurd h
 
@@ -85,7 +87,7 @@ within_before A sent h hs g within i s is =
 
 -- ---- what is delivered
 
-module _ (A : Type 0) (laws : OnceLaws A) (net : ℕ) (tables : Tables) (sent : List SentDatagram) where
+module _ (A : Type 0) (laws : OnceLaws A) (net : ℕ) (sent : List SentDatagram) where
   pub begins : (s : Sent) → IsLawfullySent s
       → BeginsWith (posted_packet s).bytes (written s.to s.from atp_kind (spelled s.packet)) []
   begins s ok =
@@ -99,26 +101,31 @@ module _ (A : Type 0) (laws : OnceLaws A) (net : ℕ) (tables : Tables) (sent : 
   key_parts s key h = let both = and_parts (same_address s.from key.from) (number_of s.packet == key.tid) h in
       (same_address-true s.from key.from both.0, eqb-true (number_of s.packet) key.tid both.1)
 
+  came_by : (which : ℕ) (key : Key) (s : Sent) → slice_get sent which ≡ Some (posted_packet s) → IsLawfullySent s
+      → s.from ≡ key.from → number_of s.packet ≡ key.tid → CameFrom sent which key
+  came_by which key s is ok sender numbered = record {
+    datagram = posted_packet s;
+    was_sent = is;
+    header = written s.to s.from atp_kind (spelled s.packet);
+    rest = [];
+    begins = begins s ok;
+    packet = s.packet;
+    spells = laws.packet_reads s.packet ok.lawful;
+    sender = sender;
+    numbered = numbered;
+  }
+
   pub came_there : (which : ℕ) (key : Key) (s : Sent) → slice_get sent which ≡ Some (posted_packet s)
       → IsLawfullySent s → same_key (record { from = s.from; tid = number_of s.packet }) key ≡ true
       → CameFrom sent which key
   came_there which key s is ok same =
       let parts = key_parts s key same in
-      record {
-        datagram = posted_packet s;
-        was_sent = is;
-        header = written s.to s.from atp_kind (spelled s.packet);
-        rest = [];
-        begins = begins s ok;
-        packet = s.packet;
-        spells = laws.packet_reads s.packet ok.lawful;
-        sender = parts.0;
-        numbered = parts.1;
-      }
+      came_by which key s is ok parts.0 parts.1
 
-  -- the packet that came at a place is the one that was sent there, from the same address
+  -- the packet that came at a place is the one that was sent there, from the same address and to the same
   pub came_as : (which : ℕ) (key : Key) (s : Sent) → slice_get sent which ≡ Some (posted_packet s) → IsLawfullySent s
-      → (c : CameFrom sent which key) → (s.packet ≡ c.packet) × (s.from ≡ key.from)
+      → (c : CameFrom sent which key) → (s.packet ≡ c.packet) × (s.from ≡ key.from) × (s.to ≡ (c.header).to)
+      × (atp_kind ≡ (c.header).kind)
   came_as which key s is ok c =
       let one : posted_packet s ≡ c.datagram = some_one (posted_packet s) c.datagram (sym is ∙ c.was_sent) in
       let header : written s.to s.from atp_kind (spelled s.packet)
@@ -127,8 +134,9 @@ module _ (A : Type 0) (laws : OnceLaws A) (net : ℕ) (tables : Tables) (sent : 
       (subst (λ (d : SentDatagram). BeginsWith d.bytes c.header c.rest) (sym one) c.begins)).0 in (
         laws.packet_alone (spelled s.packet) s.packet c.packet (laws.packet_reads s.packet ok.lawful)
             (subst (λ (d : Datagram). Spells d.data_ c.packet) (sym header) c.spells),
-        ap
-            (λ (d : Datagram). d.from) header ∙ c.sender,
+        ap (λ (d : Datagram). d.from) header ∙ c.sender,
+        ap (λ (d : Datagram). d.to) header,
+        ap (λ (d : Datagram). d.kind) header,
       )
     where
       some_one : (a b : SentDatagram) → Some a ≡ Some b → a ≡ b
@@ -144,7 +152,7 @@ module _ (A : Type 0) (laws : OnceLaws A) (net : ℕ) (tables : Tables) (sent : 
 
   -- what the network delivers is what the reports say was delivered
   pub hands_sound : (e : Event A) (r : Report A) (n : Network) (key : Key) → Within sent n
-      → AllSent IsLawfullySent n.sent → reports.Finishes net (node_of e) n (act_of e) r → HandsUpBy sent e r key
+      → AllSent IsLawfullySent n.sent → reports.Finishes net (node_of e) n (act_of e) r → HandsUp sent key e r
       → reports.handed_up_by n.sent (act_of e) r key ≡ true
   hands_sound (event.Call node call) r n key within ok f h = absurd h
   hands_sound (event.Deliver which node) (report.Zones (zip_report.Served count)) n key within ok f h = let it = f.0 in
@@ -157,7 +165,7 @@ module _ (A : Type 0) (laws : OnceLaws A) (net : ℕ) (tables : Tables) (sent : 
 
   pub hands_complete : (e : Event A) (r : Report A) (n : Network) (key : Key) → Within sent n
       → AllSent IsLawfullySent n.sent → reports.Finishes net (node_of e) n (act_of e) r
-      → reports.handed_up_by n.sent (act_of e) r key ≡ true → HandsUpBy sent e r key
+      → reports.handed_up_by n.sent (act_of e) r key ≡ true → HandsUp sent key e r
   hands_complete (event.Call node call) r n key within ok f h = absurd (false≢true h)
   hands_complete (event.Deliver which node) (report.Zones (zip_report.Served count)) n key within ok f h = let it =
       f.0 in
@@ -175,15 +183,16 @@ module _ (A : Type 0) (laws : OnceLaws A) (net : ℕ) (tables : Tables) (sent : 
   lawful hs range = laws.lawful_sent hs range
 
   pub none_go : (x : Played A) (xs : List (Played A)) (key : Key) (k : ℕ) (b u : Bool)
-      → (HandsUp sent key x → u ≡ true) → cond b 0 (cond u (k + 1) k) ≡ 0
-      → (k ≡ 0 → NoneHandsUp sent key (since net xs key)) → NoneHandsUp sent key (cond b [] (x ∷ since net xs key))
+      → (HandsUpAt sent key x → u ≡ true) → cond b 0 (cond u (k + 1) k) ≡ 0
+      → (k ≡ 0 → NoneOf (HandsUpAt sent key) (steps_since net xs key))
+      → NoneOf (HandsUpAt sent key) (cond b [] (x ∷ steps_since net xs key))
   none_go x xs key k true u sound is before = tt
   none_go x xs key k false true sound is before = absurd (omega (arith, is))
   none_go x xs key k false false sound is before = ((λ hands. false≢true (sound hands)), before is)
 
-  pub none_of : (past : List (Played A)) (hs : List Happening) (key : Key) → Told A net tables past hs
+  pub none_of : (past : List (Played A)) (hs : List Happening) (key : Key) → Told A net past hs
       → Within sent (after A hs) → AllByRecursion IsInRange hs → hand_ups_since A hs key ≡ 0
-      → NoneHandsUp sent key (since net past key)
+      → NoneOf (HandsUpAt sent key) (steps_since net past key)
   none_of [] [] key told within range is = tt
   none_of [] (h ∷ hs) key told within range is = absurd told
   none_of (x ∷ xs) [] key told within range is = absurd told
@@ -199,16 +208,17 @@ module _ (A : Type 0) (laws : OnceLaws A) (net : ℕ) (tables : Tables) (sent : 
       (λ zero. none_of xs hs key told.2 earlier range.1 zero)
 
   pub most_go : (x : Played A) (xs : List (Played A)) (key : Key) (k : ℕ) (b u : Bool)
-      → (HandsUp sent key x → u ≡ true) → cond b 0 (cond u (k + 1) k) ≤ 1
-      → (k ≡ 0 → NoneHandsUp sent key (since net xs key)) → (k ≤ 1 → AtMostOneHandsUp sent key (since net xs key)) →
-      AtMostOneHandsUp sent key (cond b [] (x ∷ since net xs key))
+      → (HandsUpAt sent key x → u ≡ true) → cond b 0 (cond u (k + 1) k) ≤ 1
+      → (k ≡ 0 → NoneOf (HandsUpAt sent key) (steps_since net xs key))
+      → (k ≤ 1 → OneOf (HandsUpAt sent key) (steps_since net xs key))
+      → OneOf (HandsUpAt sent key) (cond b [] (x ∷ steps_since net xs key))
   most_go x xs key k true u sound few none most = tt
   most_go x xs key k false true sound few none most = ((λ hands. none (omega (arith, few))), most (omega (arith, few)))
   most_go x xs key k false false sound few none most = ((λ hands. absurd (false≢true (sound hands))), most few)
 
-  pub most_of : (past : List (Played A)) (hs : List Happening) (key : Key) → Told A net tables past hs
+  pub most_of : (past : List (Played A)) (hs : List Happening) (key : Key) → Told A net past hs
       → Within sent (after A hs) → AllByRecursion IsInRange hs → hand_ups_since A hs key ≤ 1
-      → AtMostOneHandsUp sent key (since net past key)
+      → OneOf (HandsUpAt sent key) (steps_since net past key)
   most_of [] [] key told within range few = tt
   most_of [] (h ∷ hs) key told within range few = absurd told
   most_of (x ∷ xs) [] key told within range few = absurd told
@@ -224,15 +234,16 @@ module _ (A : Type 0) (laws : OnceLaws A) (net : ℕ) (tables : Tables) (sent : 
       (λ zero. none_of xs hs key told.2 earlier range.1 zero) (λ one. most_of xs hs key told.2 earlier range.1 one)
 
   pub some_go : (x : Played A) (xs : List (Played A)) (key : Key) (k : ℕ) (b u : Bool)
-      → (u ≡ true → HandsUp sent key x) → 1 ≤ cond b 0 (cond u (k + 1) k)
-      → (1 ≤ k → SomeHandsUp sent key (since net xs key)) → SomeHandsUp sent key (cond b [] (x ∷ since net xs key))
+      → (u ≡ true → HandsUpAt sent key x) → 1 ≤ cond b 0 (cond u (k + 1) k)
+      → (1 ≤ k → SomeOf (HandsUpAt sent key) (steps_since net xs key))
+      → SomeOf (HandsUpAt sent key) (cond b [] (x ∷ steps_since net xs key))
   some_go x xs key k true u complete some before = absurd (omega (arith, some))
   some_go x xs key k false true complete some before = inl (complete refl)
   some_go x xs key k false false complete some before = inr (before some)
 
-  pub some_of : (past : List (Played A)) (hs : List Happening) (key : Key) → Told A net tables past hs
+  pub some_of : (past : List (Played A)) (hs : List Happening) (key : Key) → Told A net past hs
       → Within sent (after A hs) → AllByRecursion IsInRange hs → 1 ≤ hand_ups_since A hs key
-      → SomeHandsUp sent key (since net past key)
+      → SomeOf (HandsUpAt sent key) (steps_since net past key)
   some_of [] [] key told within range some = absurd (omega (arith, some))
   some_of [] (h ∷ hs) key told within range some = absurd told
   some_of (x ∷ xs) [] key told within range some = absurd told
@@ -251,7 +262,7 @@ module _ (A : Type 0) (laws : OnceLaws A) (net : ℕ) (tables : Tables) (sent : 
   -- ---- records that live
 
   pub same_expiry : (past : List (Played A)) (hs : List Happening) (at : Address) (key : Key)
-      → Told A net tables past hs → record_expired A hs at key ≡ has_expired net past at key
+      → Told A net past hs → record_expired A hs at key ≡ has_expired net past at key
   same_expiry [] [] at key told = refl
   same_expiry [] (h ∷ hs) at key told = absurd told
   same_expiry (x ∷ xs) [] at key told = absurd told
@@ -260,36 +271,43 @@ module _ (A : Type 0) (laws : OnceLaws A) (net : ℕ) (tables : Tables) (sent : 
       let before = same_expiry xs hs at key told.2 in
       λ i. cond (m.draws_it key i) false (m.expires_it at key i || before i)
 
-  pub lives_in : (e : Event A) (past : List (Played A)) (hs : List Happening) (which node : ℕ)
-      → e ≡ event.Deliver which node → Told A net tables past hs → Within sent (after A hs)
-      → AllByRecursion IsInRange hs → LivesBy net sent e past → (s : Sent) (mask : ℕ) (xo : Bool) (timer tid : ℕ)
+  lives_in : (e : Event A) (past : List (Played A)) (hs : List Happening) (which node : ℕ)
+      → e ≡ event.Deliver which node → Told A net past hs → Within sent (after A hs)
+      → AllByRecursion IsInRange hs → Lives net sent e past → (s : Sent) (mask : ℕ) (xo : Bool) (timer tid : ℕ)
       (user bytes : List ℕ) → packet_at (after A hs).sent which ≡ Some s
       → s.packet ≡ Request mask xo timer tid user bytes
       → record_expired A hs s.to (record { from = s.from; tid = tid }) ≡ false
   lives_in e past hs which node is told within range lives s mask xo timer tid user bytes was_sent packet_is =
       let ok = sent_at IsLawfullySent (after A hs).sent which s (lawful hs range) was_sent in
-      let parts = subst IsLawful packet_is ok.lawful in
+      let there = within which s was_sent in
+      let came : CameFrom sent which (record { from = s.from; tid = tid }) =
+      came_by which (record { from = s.from; tid = tid }) s there ok refl (ap number_of packet_is) in
+      let same = came_as which (record { from = s.from; tid = tid }) s there ok came in
+      let lived = subst (λ x. Lives net sent x past) is lives (record { from = s.from; tid = tid }) came mask xo timer
+      user bytes (sym same.3) (sym same.0 ∙ packet_is) in
       same_expiry past hs s.to (record { from = s.from; tid = tid }) told
-      ∙ subst (λ x. LivesBy net sent x past) is lives (posted_packet s) s.to s.from mask xo timer tid user bytes
-      parts.1
-      (within which s was_sent) (ap (λ f. canonical s.to s.from atp_kind (spelled f)) packet_is)
+      ∙ expired_is A net past s.to (record { from = s.from; tid = tid })
+      ∙ ap (λ at. list_any (λ (y : Played A). expires net at (record { from = s.from; tid = tid }) y.event y.report)
+      (since net (record { from = s.from; tid = tid }) past)) same.2
+      ∙ lived
 
-  pub all_lived : (past : List (Played A)) (hs : List Happening) → Told A net tables past hs → Within sent (after A hs)
+  pub all_lived : (past : List (Played A)) (hs : List Happening) → Told A net past hs → Within sent (after A hs)
       → AllByRecursion IsInRange hs → AllLive net sent past → AllLived A hs
   all_lived [] [] told within range live = tt
   all_lived [] (h ∷ hs) told within range live = absurd told
   all_lived (x ∷ xs) [] told within range live = absurd told
   all_lived (x ∷ xs) (h ∷ hs) told within range live =
-      (lived h told.0, all_lived xs hs told.2 earlier range.1 live.1)
+      (lived h told.0, all_lived xs hs told.2 earlier range.1 (live_before A net sent x xs live))
     where
       earlier : Within sent (after A hs)
       earlier = within_before A sent h hs told.1 within
 
-      lived : (g : Happening) → Matches net (tables_after tables xs) (after A hs) g x.event x.report
-          → HandUps.Lives A hs g
+      lives : Lives net sent x.event xs
+      lives = live [] xs x refl
+
+      lived : (g : Happening) → Matches net x.tables (after A hs) g x.event x.report → HandUps.Lives A hs g
       lived (Takes which) m = lives_in x.event xs hs which (node_of x.event)
-          (delivered_at x.event which m.takes_in) told.2 earlier range.1 live.0
-      lived (Serves which packets) m =
-          lives_in x.event xs hs which (node_of x.event) (delivered_at x.event which m.takes_in) told.2 earlier range.1
-          live.0
+          (delivered_at x.event which m.takes_in) told.2 earlier range.1 lives
+      lived (Serves which packets) m = lives_in x.event xs hs which (node_of x.event)
+          (delivered_at x.event which m.takes_in) told.2 earlier range.1 lives
       lived g m = tt

@@ -6,6 +6,7 @@ use Rattle.at_nbp.specs.Lawfully.{IsLawfullySent}
 use Rattle.at_ddp.specs.Posts.{packet_at}
 use Rattle.at_ddp.proofs.PostLemmas.{sent_at}
 use Rattle.at_steps.specs.NameHappenings.{name_coding}
+use Rattle.at_world.proofs.FreshLemmas.{IsFresh}
 use Rattle.at_world.proofs.Entries.{sent_in, wire_of, IsPacketAt, IsAnothers}
 use Rattle.at_nbp.specs.Network.{Sent, after, is_fresh}
 use Rattle.at_nbp.specs.declared.function.Function.TheVariants as function
@@ -13,7 +14,7 @@ use Rattle.at_node.specs.declared.numbers.Draw.TheVariants.{Lookup as Identifier
 use Rattle.at_world.specs.Cables.{Cable}
 use Rattle.at_world.specs.NameGuards.{NameMachine}
 use Rattle.at_world.specs.Sents.{SentDatagram}
-use Rattle.at_world.specs.Worlds.{WorldState, IsFresh}
+use Rattle.at_world.specs.Worlds.{WorldState}
 use Rattle.at_world.proofs.CableTie.{Wire, CableTie, spelled_wire}
 use Rattle.at_world.proofs.Names.Tie.{NameLaws, NameTie}
 use Rattle.at_world.proofs.Names.Times.{in_time}

@@ -252,12 +252,14 @@ module _ (A : Type 0) (laws : NameLaws A) (w : WorldState) (c : Cable) (ss : Ses
               stands = o.stands;
               claim = s.claim;
               claims = o.claims;
-              allowed = ap (λ (y : Table). register_fault y.names (s.claim).object (s.claim).kind) (sym own_names)
-                  ∙ s.allowed;
-              table = x.names.table;
-              joins = subst (λ (y : Table). IsRegistered (s.claim).object (s.claim).kind
-                  (s.claim).socket y x.names.table) own_names s.table;
-              becomes = refl;
+              registers = record {
+                allowed = ap (λ (y : Table). register_fault y.names (s.claim).object (s.claim).kind) (sym own_names)
+                    ∙ s.allowed;
+                table = x.names.table;
+                joins = subst (λ (y : Table). IsRegistered (s.claim).object (s.claim).kind
+                    (s.claim).socket y x.names.table) own_names s.table;
+                becomes = refl;
+              };
             });
         tables = λ k. refl;
         opened = s.lookups;

@@ -6,13 +6,14 @@ use Rattle.at_adsp.specs.Lawfully.{IsLawfullySent}
 use Rattle.at_ddp.specs.Posts.{packet_at}
 use Rattle.at_ddp.proofs.PostLemmas.{sent_at}
 use Rattle.at_steps.specs.StreamHappenings.{stream_coding}
+use Rattle.at_world.proofs.FreshLemmas.{IsFresh}
 use Rattle.at_world.proofs.Entries.{sent_in, wire_of, IsPacketAt, IsAnothers}
 use Rattle.at_adsp.specs.Network.{Sent, after, dest_of, is_fresh}
 use Rattle.at_node.specs.declared.numbers.Draw.TheVariants.{Conn}
 use Rattle.at_world.specs.Cables.{Cable}
 use Rattle.at_world.specs.Sents.{SentDatagram}
 use Rattle.at_world.specs.StreamGuards.{StreamMachine}
-use Rattle.at_world.specs.Worlds.{WorldState, IsFresh}
+use Rattle.at_world.specs.Worlds.{WorldState}
 use Rattle.at_world.proofs.CableTie.{Wire, CableTie, spelled_wire}
 use Rattle.at_world.proofs.Streams.Tie.{StreamLaws, StreamTie}
 use Rattle.at_world.proofs.Streams.Times.{kept_in_time}

@@ -15,7 +15,7 @@ use Rattle.at_stream_socket.specs.Sockets.{streams_at}
 use Rattle.at_world.specs.Cables.{Cable}
 use Rattle.at_world.specs.StreamGuards.{StreamMachine}
 use Rattle.at_nodes.specs.Nodes.{is_numbered}
-use Rattle.at_world.specs.Worlds.{WorldState, IsFree, node_at}
+use Rattle.at_world.specs.Worlds.{WorldState, node_at}
 use Rattle.at_world.proofs.CableTie.{Wire}
 use Rattle.at_world.proofs.Streams.Tie.{HasEnds, StreamLaws, StreamTie, is_nodes_socket}
 
@@ -38,7 +38,7 @@ no_ends_name : (t : EndTable) (r : Remote) → t.ends ≡ [] → by_remote t r �
 no_ends_name t r none = ap (find (has_remote r)) none
 
 pub none_names : (A : Type 0) (laws : StreamLaws A) (w : WorldState) (c : Cable) (m : StreamMachine)
-    (wires : List Wire) (t : StreamTie w c wires m) (k id : ℕ) → IsFree w k (Conn id)
+    (wires : List Wire) (t : StreamTie w c wires m) (k id : ℕ) → list_any (λ x. holds x k (Conn id)) w.nodes ≡ false
     → NoneNames (after t.setting t.history) (streams_at c.net k) id
 none_names A laws w c m wires t k id free there = go (is_nodes_socket w c.net there) refl
   where

@@ -1,5 +1,6 @@
 -- How the machine follows each event of a node in its streams, by the laws of the node's steps.
 use Rattle.std.proofs.Common.{◌≡◌, inl, inr, ℕ, Bool, true, false, ◌∷◌, Some, refl, sym, ap, subst, ◌∙◌}
+use Rattle.std.specs.List.{list_any}
 use Rattle.at_adsp.specs.Connections.{streams}
 use Rattle.at_adsp.specs.Network.{Reads, after, done}
 use Rattle.at_event.specs.Calls.{IsCall}
@@ -16,7 +17,7 @@ use Rattle.at_event.specs.declared.service.Reply.{Reply}
 use Rattle.at_adsp.specs.Meetings.{ReadsWith}
 use Rattle.at_adsp.specs.Orders.{ReadsInOrder}
 use Rattle.at_stream_socket.specs.Sockets.{streams_at}
-use Rattle.at_node.specs.Numbers.{IsTold, drawn_by}
+use Rattle.at_node.specs.Numbers.{IsTold, drawn_by, holds}
 use Rattle.at_node.specs.Hearing.{Hears}
 use Rattle.at_node.specs.Nodes.{NodeState, called, timed}
 use Rattle.at_node.specs.declared.numbers.Draw.TheVariants.{Conn}
@@ -27,7 +28,7 @@ use Rattle.at_world.specs.Events.{act_of, node_of}
 use Rattle.at_world.specs.Sents.{SentDatagram}
 use Rattle.at_world.specs.StreamGuards.{StepBy, StreamMachine, next}
 use Rattle.at_world.specs.SessionGuards.{Sessions}
-use Rattle.at_world.specs.Worlds.{WorldState, DrawsFree, IsFree, is_over, node_at}
+use Rattle.at_world.specs.Worlds.{WorldState, AreFree, is_over, node_at}
 use Rattle.at_setup.specs.declared.event.Event.{Event}
 use Rattle.at_setup.specs.declared.event.Event.TheVariants as event
 use Rattle.at_world.proofs.CableTie.{CableTie, SeatTie}
@@ -68,7 +69,8 @@ module _ (A : Type 0) (laws : StreamLaws A) (w : WorldState) (c : Cable) (ss : S
   stands_there = standing.stands_there w c ss m ct st t (node_of e) n stands
 
   -- a number that is free in the world is no end's remote
-  pub draws_free : (r : Report A) → ((id : ℕ) → drawn_by r ≡ Some (Conn id) → IsFree w (node_of e) (Conn id))
+  pub draws_free : (r : Report A)
+      → ((id : ℕ) → drawn_by r ≡ Some (Conn id) → list_any (λ x. holds x (node_of e) (Conn id)) w.nodes ≡ false)
       → tie.DrawsFree t.setting t.history n.seat.net n.seat.number r
   draws_free r free = at_seat (λ net k. tie.DrawsFree t.setting t.history net k r)
       (λ id draws. none_names A laws w c m ct.wires t (node_of e) id (free id draws))
@@ -104,7 +106,7 @@ module _ (A : Type 0) (laws : StreamLaws A) (w : WorldState) (c : Cable) (ss : S
     (ct : CableTie w c) (st : SessionTie w c ss) (t : StreamTie w c ct.wires m) (runs : is_over w ≡ false) (k : ℕ)
     (n : NodeState) (stands : node_at w k ≡ Some n) where
   pub call_follows : (call : Call A) → IsCall call
-      → DrawsFree w k (λ x draw. drawn_by (called x call).report ≡ Some draw) → (called n call).state.seat ≡ n.seat
+      → AreFree w.nodes k (λ x draw. drawn_by (called x call).report ≡ Some draw) → (called n call).state.seat ≡ n.seat
       → Good A w c ss m ct.wires (event.Call k call) (called n call)
   call_follows call range free seat = go (is_adsp (kind_of_call call)) refl
     where
@@ -144,7 +146,7 @@ module _ (A : Type 0) (laws : StreamLaws A) (w : WorldState) (c : Cable) (ss : S
           (laws.foreign_timer n time other)
 
   pub datagram_follows : (which : ℕ) (d : SentDatagram) → Comes w c m ct.wires t which d
-      → DrawsFree w k (λ x draw. IsTold A x d.bytes draw) → (said : Reply A) (o : Outcome A NodeState)
+      → AreFree w.nodes k (λ x draw. IsTold A x d.bytes draw) → (said : Reply A) (o : Outcome A NodeState)
       → Hears said n d.bytes o → o.state.seat ≡ n.seat → Good A w c ss m ct.wires (event.Deliver which k) o
   datagram_follows which d (inr x) free said o hears seat =
       passed A laws w c ss m ct st t runs (event.Deliver which k) n stands o seat

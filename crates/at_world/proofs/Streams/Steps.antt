@@ -60,38 +60,26 @@ so_at : (A : Type 0) (c : Cable) (ss : Sessions) (m m' : StreamMachine) (e e' : 
 so_at A c ss m m' e e' r r' same told allows =
     subst (λ x. Allows c ss m x r m') (sym same) (subst (λ x. Allows c ss m e' x m') (sym told) allows)
 
--- a report of streams that says nothing new of them leaves them as they were
-streams_plainly : (A : Type 0) (c : Cable) (ss : Sessions) (m : StreamMachine) (r : StreamReport A) (e : Event A)
+-- a report that says nothing new of streams leaves them as they were
+plain_streams : (A : Type 0) (c : Cable) (ss : Sessions) (m : StreamMachine) (r : StreamReport A) (e : Event A)
     → is_plain_report r (act_of e) ≡ true → Allows c ss m e (report.Streams r) (next m)
-streams_plainly A c ss m adsp_report.ListenSet (event.Call node (Streams (Listen on))) h = refl
-streams_plainly A c ss m (adsp_report.Closed it) (event.Call node (Streams (Close id))) h = refl
-streams_plainly A c ss m (adsp_report.Closed it) (event.Timer node (timer.Streams (adsp_timer.Probe id))) h = refl
-streams_plainly A c ss m (adsp_report.Closed it) (event.Deliver which node) h = refl
-streams_plainly A c ss m (adsp_report.Freed it) (event.Call node (Streams (Close id))) h = refl
-streams_plainly A c ss m (adsp_report.Freed it) (event.Timer node (timer.Streams (adsp_timer.Probe id))) h = refl
-streams_plainly A c ss m adsp_report.Idle (event.Timer node (timer.Streams (adsp_timer.Resend id))) h = refl
-streams_plainly A c ss m adsp_report.Turned (event.Deliver which node) h = refl
-streams_plainly A c ss m (adsp_report.Denied id) (event.Deliver which node) h = refl
-streams_plainly A c ss m (adsp_report.Heard id items) (event.Deliver which node) h = refl
-streams_plainly A c ss m (adsp_report.Dropped id) (event.Deliver which node) h = refl
-streams_plainly A c ss m r e h = absurd (false≢true h)
+plain_streams A c ss m adsp_report.ListenSet e h = (h, refl)
+plain_streams A c ss m (adsp_report.Closed it) e h = (h, refl)
+plain_streams A c ss m (adsp_report.Freed it) e h = (h, refl)
+plain_streams A c ss m adsp_report.Idle e h = (h, refl)
+plain_streams A c ss m adsp_report.Turned e h = (h, refl)
+plain_streams A c ss m (adsp_report.Denied id) e h = (h, refl)
+plain_streams A c ss m (adsp_report.Heard id items) e h = (h, refl)
+plain_streams A c ss m (adsp_report.Dropped id) e h = (h, refl)
+plain_streams A c ss m r e h = absurd (false≢true h)
 
--- so does any other such report
 plainly : (A : Type 0) (c : Cable) (ss : Sessions) (m : StreamMachine) (e : Event A) (r : Report A)
     → is_plain (act_of e) r ≡ true → Allows c ss m e r (next m)
-plainly A c ss m e (report.Streams r) h = streams_plainly A c ss m r e h
-plainly A c ss m (event.Call node call) (report.Refused number) h = refl
-plainly A c ss m (event.Call node call) report.NoMemory h = refl
-plainly A c ss m (event.Deliver which node) (report.Refused number) h = refl
-plainly A c ss m (event.Deliver which node) report.NoMemory h = refl
-plainly A c ss m (event.Timer node time) (report.Refused number) h = refl
-plainly A c ss m (event.Timer node time) report.NoMemory h = refl
-plainly A c ss m (event.Forge node bytes) (report.Refused number) h = refl
-plainly A c ss m (event.Forge node bytes) report.NoMemory h = refl
-plainly A c ss m (event.Timer node (timer.Streams (adsp_timer.Resend id))) report.Again h = refl
-plainly A c ss m (event.Timer node (timer.Streams (adsp_timer.Probe id))) report.Again h = refl
-plainly A c ss m (event.Deliver which node) report.Ignored h = refl
-plainly A c ss m (event.Deliver which node) report.Again h = refl
+plainly A c ss m e (report.Streams r) h = plain_streams A c ss m r e h
+plainly A c ss m e (report.Refused number) h = refl
+plainly A c ss m e report.NoMemory h = refl
+plainly A c ss m e report.Again h = refl
+plainly A c ss m e report.Ignored h = refl
 plainly A c ss m e r h = absurd (false≢true h)
 
 -- a call that asks for a connection makes an end that asks the address

@@ -21,5 +21,5 @@ returns g c s events reports w lawful none follows live =
     } in
     let h = (c.steps_make_a_history.ensures s events reports w lawful none follows).1 in
     let is = h.1 in
-    runs_once A laws s.net (tables_of s) w.sent (onto [] events reports) h.0
+    runs_once A laws s.net w.sent (onto (tables_of s) [] events reports) h.0
     (told_of A s.net (tables_of s) [] [] events reports h.0 tt is.tells) is.is_sent is.timely is.in_range live

@@ -1,4 +1,6 @@
-use Rattle.std.proofs.Common.{refl, rules, sym, ◌∙◌}
+use Rattle.std.proofs.Common.{◌≡◌, ap, refl, rules, sym, true, ◌∙◌}
+use Rattle.std.proofs.lemmas.Bool.{false≢true}
+use Rattle.at_world.specs.Worlds.{WorldState}
 use Rattle.at_world.proofs.EventLemmas.{called_by, came, fired, forged, not_called, not_came, not_fired, not_forged}
 use Rattle.at_world.proofs.world.World.step_once.Goals as goal
 
@@ -53,6 +55,12 @@ returns-in-Forge-clause-not_played g c =
     (c.of.ensures ∙ c.as_slice.ensures)
     (sym c.is_over.ensures ∙ c.if-is_over.false)
     c.play-in-Forge.ensures.not_played
+
+pub returns-then-self-clause-not_played : goal.returns-then-self-clause-not_played
+returns-then-self-clause-not_played g c =
+    let failed : c.args.self.now.failed ≡ true = sym (ap (λ (w : WorldState). w.failed) c.self.view_is)
+    ∙ c.if-self.true in
+    (failed, refl, λ whole. absurd (false≢true (sym whole ∙ failed)))
 
 -- (so that a search which fails, for a wrong body, is not made a second time)
 pub returns-then-is_over-clause-not_played : goal.returns-then-is_over-clause-not_played
