@@ -32,9 +32,11 @@ RELEASE = re.compile(r"atp release id (\d+)")
 RAW = re.compile(r"raw (-|[0-9A-F]+)")
 SEGMENT = re.compile(r"adsp .+")
 REFUSED = re.compile(r"refused (\d+)")
+ANSWERS = re.compile(r"answers frame (\d+)")
 END = re.compile(r"frames (\d+) datagrams (\d+) refused (\d+) other (\d+)")
 FUNCTIONS = {"brrq": 1, "lkup": 2, "reply": 3, "fwdreq": 4}
 REQUESTED, RESPONDED, RELEASED = 1, 2, 3
+REPLY = FUNCTIONS["reply"]
 ZONES = 6
 LONG_FIELDS = (
     "ddp.len", "ddp.hopcount", "ddp.checksum", "ddp.src.net", "ddp.src.node", "ddp.src_socket",
@@ -77,6 +79,8 @@ class Reading(NamedTuple):
     # The number of the refusal, or 0. Of tshark it is 1 if it could not read all.
     refused: int
     fields: Fields
+    # The frame that it answers, or 0. tshark names none.
+    answers: int = 0
 
 
 def billionths(seconds: str) -> Optional[int]:
@@ -104,6 +108,7 @@ def shown(printed: str) -> List[Reading]:
             raise Unread(line)
         frames[-1].append(line)
     readings = [frame_shown(it) for it in frames]
+    check_answers(readings)
     others = sum(not it.fields for it in readings)
     refused = sum(it.refused > 0 for it in readings)
     counts = len(readings), len(readings) - others, refused, others
@@ -124,14 +129,62 @@ def frame_shown(lines: List[str]) -> Reading:
             raise Unread(lines[1])
         return Reading(int(number), billionths(time), reason, 0, {})
     fields = stations(carrier, source.lower(), to.lower())
-    refused = 0
+    refused = answers = 0
+    last = ANSWERS.fullmatch(lines[-1])
+    if last:
+        answers = int(last[1])
+        lines = lines[:-1]
     for line in lines[1:]:
         found = REFUSED.fullmatch(line)
         if found:
             refused = int(found[1])
         else:
             add_line(fields, line)
-    return Reading(int(number), billionths(time), carrier, refused, fields)
+    return Reading(int(number), billionths(time), carrier, refused, fields, answers)
+
+
+def check_answers(readings: List[Reading]) -> None:
+    """Looks whether each frame that answers one, and no other, names the last that asked. Who asks
+    and who answers is told from what is shown of each: tshark ties no packets of ATP or NBP."""
+    askers: Dict[Tuple[object, ...], int] = {}
+    for it in readings:
+        question = answered(it.fields)
+        wanted = askers.get(question, 0) if question else 0
+        if it.answers != wanted:
+            raise Unread(f"frame {it.number} answers frame {it.answers}, not {wanted}")
+        question = asked(it.fields)
+        if question:
+            askers[question] = it.number
+
+
+def sockets(fields: Fields) -> List[Tuple[Value, ...]]:
+    """Where a datagram comes from, and where it goes to. A short header has network 0."""
+    found = []
+    for side in ("src", "dst"):
+        net = fields.get(f"ddp.{side}.net", (0,))
+        node = fields.get(f"ddp.{side}.node", fields.get(f"llap.{side}", ()))
+        found.append((*net, *node, *fields[f"ddp.{side}_socket"]))
+    return found
+
+
+def asked(fields: Fields) -> Optional[Tuple[object, ...]]:
+    """What a frame asks, if it asks: a transaction of ATP, or a lookup of NBP."""
+    if fields.get("atp.function") == (REQUESTED,) and fields["atp.bitmap"] != (0,):
+        source, to = sockets(fields)
+        return "atp", fields["atp.tid"], source, to
+    if fields.get("nbp.op", (REPLY,)) != (REPLY,):
+        return "nbp", fields["nbp.tid"], sum((fields[it] for it in ADDRESS_FIELDS[:3]), ())
+    return None
+
+
+def answered(fields: Fields) -> Optional[Tuple[object, ...]]:
+    """What a frame answers, if it answers."""
+    if fields.get("atp.function") == (RESPONDED,):
+        source, to = sockets(fields)
+        return "atp", fields["atp.tid"], to, source
+    if fields.get("nbp.op") == (REPLY,):
+        return "nbp", fields["nbp.tid"], sockets(fields)[1]
+    return None
 
 
 def stations(carrier: str, source: str, to: str) -> Fields:

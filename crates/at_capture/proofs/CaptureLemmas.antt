@@ -1,8 +1,7 @@
 -- What is printed of the records of a capture, one after the other.
 use Rattle.std.proofs.Common.{◌≡◌, ◌⊎◌, inl, inr, ℕ, suc, List, [], ◌∷◌, ◌++◌, length, map, refl, sym, ap, subst}
-use Rattle.std.proofs.Common.{append_assoc, append-nil, Ok, Err}
-use Rattle.std.specs.Prelude.{◌↔◌, IsOk, Option, Result, IfErr, OnOk}
-use Rattle.std.proofs.lemmas.List.{length-append}
+use Rattle.std.proofs.Common.{append_assoc, append-nil, Ok, Err, None, Some}
+use Rattle.std.specs.Prelude.{◌↔◌, IsOk, Option, Result, IfErr, OnErr, OnOk}
 use Rattle.at_capture.specs.Captures.{Adds, HasFrames, HasPrinted, IsUnprinted, PrintsFrame, PrintsNext}
 use Rattle.at_capture.specs.Captures.{TellsCapture, diagnostics_of, printer_of}
 use Rattle.at_capture.specs.Endings.{TellsEnding, ending_line}
@@ -11,12 +10,12 @@ use Rattle.at_capture.specs.Frames.{Content, frame_of}
 use Rattle.at_capture.specs.Texts.{FramesText, Next, NoMore, TellsKinds}
 use Rattle.at_capture.specs.declared.capture_printer.CapturePrinter.{CapturePrinter}
 use Rattle.at_capture.specs.declared.tally.FrameKind.{FrameKind}
-use Rattle.at_capture.specs.declared.tally.Tally.{Tally}
 use Rattle.at_diagnostics.specs.Diagnostics.{TellsWrites}
 use Rattle.at_diagnostics.specs.declared.diagnostics.Diagnostics.{Diagnostics}
 use Rattle.std.specs.List.{FoldsTo}
-use Rattle.at_pcap.specs.Files.{BegunFile, HoldsFile, TellsFile}
+use Rattle.at_pcap.specs.Files.{BegunFile, HoldsFile, Nothing, TellsFile}
 use Rattle.at_pcap.specs.Frames.{Frame as Captured}
+use Rattle.at_pcap.specs.Readings.{AreFirst}
 use Rattle.at_pcap.specs.declared.reader.CaptureError.{CaptureError}
 use Rattle.at_pcap.specs.declared.reader.CaptureError.TheVariants as broken
 use Rattle.at_print.specs.Papers.{Page}
@@ -36,80 +35,96 @@ adds_all (f ∷ fs) done = (
 )
 
 -- these frames were printed, behind others that were counted as these
-pub record Printed {W E : Type 0} (page : W → Page) (heard : E → Page) (kinds : List FrameKind) (frames : List Content)
-    (old new : CapturePrinter W E) : Type 0 where
+pub record Printed {W E A : Type 0} (page : W → Page) (heard : E → Page) (before : List Content)
+    (kinds : List FrameKind) (frames : List Content) (old new : CapturePrinter W E A) : Type 0 where
   pub more : List FrameKind
   pub text : List ℕ
-  pub are : FramesText (length kinds) frames more text
+  pub are : FramesText before frames more text
   pub prints : Prints page (printer_of old) (printer_of new) text
   pub told : TellsKinds heard more (diagnostics_of old) (diagnostics_of new)
-  pub counts : HasPrinted (kinds ++ more) new
+  pub counts : HasPrinted (before ++ frames) (kinds ++ more) new
   pub as_many : length more ≡ length frames
 
 -- the frames of what was read of a capture, which were printed
-pub record Told {W E : Type 0} (page : W → Page) (heard : E → Page) (known : Option (List ℕ))
-    (read : Result (Unit {0}) CaptureError) (old new : CapturePrinter W E) : Type 0 where
+pub record Told {W E A : Type 0} (page : W → Page) (heard : E → Page) (known : Option (List ℕ))
+    (read : Result (Unit {0}) CaptureError) (old new : CapturePrinter W E A) : Type 0 where
   pub frames : List Content
   pub has : HasFrames known frames read
-  pub printed : Printed page heard [] frames old new
+  pub printed : Printed page heard [] [] frames old new
 
-module _ {W E : Type 0} (page : W → Page) (heard : E → Page) where
+-- what holds at all holds on an error
+pub on_error : {A E : Type 0} (r : Result A E) (P : Type 0) → P → OnErr r P
+on_error (Ok a) P h = tt
+on_error (Err e) P h = h
+
+-- any bytes begin with none
+first_nothing : (known : Option (List ℕ)) → AreFirst known []
+first_nothing None = tt
+first_nothing (Some all) = (all, refl)
+
+module _ {W E A : Type 0} (page : W → Page) (heard : E → Page) where
   -- what the printer does with a frame
-  abbrev takes : CapturePrinter W E → Captured → CapturePrinter W E → Type 0
+  abbrev takes : CapturePrinter W E A → Captured → CapturePrinter W E A → Type 0
   takes old f new = PrintsFrame page heard (frame_of f) old new
 
-  nothing : (kinds : List FrameKind) (s : CapturePrinter W E) → HasPrinted kinds s → Printed page heard kinds [] s s
-  nothing kinds s counts = record {
+  nothing : (before : List Content) (kinds : List FrameKind) (s : CapturePrinter W E A) → HasPrinted before kinds s
+      → Printed page heard before kinds [] s s
+  nothing before kinds s counts = record {
     more = [];
     text = [];
-    are = NoMore (length kinds);
+    are = NoMore before;
     prints = Prints-nothing page (printer_of s);
     told = refl;
-    counts = subst (λ l. HasPrinted l s) (sym (append-nil kinds)) counts;
+    counts = subst (λ l. HasPrinted l (kinds ++ []) s) (sym (append-nil before))
+        (subst (λ l. HasPrinted before l s) (sym (append-nil kinds)) counts);
     as_many = refl;
   }
 
-  one_more : (kinds : List FrameKind) (f : Content) (frames : List Content) (old mid new : CapturePrinter W E)
-      → (next : PrintsNext page heard kinds f old mid)
-      → Printed page heard (kinds ++ next.kind ∷ []) frames mid new → Printed page heard kinds (f ∷ frames) old new
-  one_more kinds f frames old mid new next rest = record {
+  one_more : (before : List Content) (kinds : List FrameKind) (f : Content) (frames : List Content)
+      (old mid new : CapturePrinter W E A) → (next : PrintsNext page heard before kinds f old mid)
+      → Printed page heard (before ++ f ∷ []) (kinds ++ next.kind ∷ []) frames mid new
+      → Printed page heard before kinds (f ∷ frames) old new
+  one_more before kinds f frames old mid new next rest = record {
     more = next.kind ∷ rest.more;
     text = next.text ++ rest.text;
-    are = Next (length kinds) f frames next.kind rest.more next.text rest.text next.is
-        (subst (λ n. FramesText n frames rest.more rest.text) (length-append kinds (next.kind ∷ [])) rest.are);
+    are = Next before f frames next.answered next.kind rest.more next.text rest.text next.answers next.is rest.are;
     prints = Prints-trans page (printer_of old) (printer_of mid) (printer_of new) next.text rest.text next.printed
         rest.prints;
     told = (diagnostics_of mid, next.told, rest.told);
-    counts = subst (λ l. HasPrinted l new) (append_assoc kinds (next.kind ∷ []) rest.more) rest.counts;
+    counts = subst (λ l. HasPrinted l (kinds ++ next.kind ∷ rest.more) new) (append_assoc before (f ∷ []) frames)
+        (subst (λ l. HasPrinted ((before ++ f ∷ []) ++ frames) l new)
+        (append_assoc kinds (next.kind ∷ []) rest.more) rest.counts);
     as_many = ap suc rest.as_many;
   }
 
-  printed_all : (fs : List Captured) (kinds : List FrameKind) (old new : CapturePrinter W E)
-      → HasPrinted kinds old → FoldsTo takes old fs new → Printed page heard kinds (map frame_of fs) old new
-  printed_all [] kinds old new counts taken =
-      subst (λ s. Printed page heard kinds [] old s) taken (nothing kinds old counts)
-  printed_all (f ∷ fs) kinds old new counts taken =
-      let next = taken.1 kinds counts in
-      one_more kinds (frame_of f) (map frame_of fs) old taken.0 new next
-      (printed_all fs (kinds ++ next.kind ∷ []) taken.0 new next.counts taken.2)
+  printed_all : (fs : List Captured) (before : List Content) (kinds : List FrameKind) (old new : CapturePrinter W E A)
+      → HasPrinted before kinds old → FoldsTo takes old fs new
+      → Printed page heard before kinds (map frame_of fs) old new
+  printed_all [] before kinds old new counts taken =
+      subst (λ s. Printed page heard before kinds [] old s) taken (nothing before kinds old counts)
+  printed_all (f ∷ fs) before kinds old new counts taken =
+      let next = taken.1 before kinds counts in
+      one_more before kinds (frame_of f) (map frame_of fs) old taken.0 new next
+      (printed_all fs (before ++ frame_of f ∷ []) (kinds ++ next.kind ∷ []) taken.0 new next.counts taken.2)
 
   -- nothing more was printed
-  kept : (frames : List Content) (old mid new : CapturePrinter W E) → (new ≡ mid) ⊎ IsUnprinted mid new
-      → Printed page heard [] frames old mid → Printed page heard [] frames old new
-  kept frames old mid new (inl same) printed = subst (λ s. Printed page heard [] frames old s) (sym same) printed
+  kept : (frames : List Content) (old mid new : CapturePrinter W E A) → (new ≡ mid) ⊎ IsUnprinted mid new
+      → Printed page heard [] [] frames old mid → Printed page heard [] [] frames old new
+  kept frames old mid new (inl same) printed =
+      subst (λ s. Printed page heard [] [] frames old s) (sym same) printed
   kept frames old mid new (inr same) printed = record {
     more = printed.more;
     text = printed.text;
     are = printed.are;
     prints = subst (λ q. Prints page (printer_of old) q printed.text) (sym same.printer) printed.prints;
     told = subst (TellsKinds heard printed.more (diagnostics_of old)) (sym same.diagnostics) printed.told;
-    counts = same.counts printed.more printed.counts;
+    counts = same.counts frames printed.more printed.counts;
     as_many = printed.as_many;
   }
 
-  begun : (known : Option (List ℕ)) (old new : CapturePrinter W E) → HasPrinted [] old
+  begun : (known : Option (List ℕ)) (old new : CapturePrinter W E A) → HasPrinted [] [] old
       → BegunFile takes known old new
-      → (frames : List Content) × BegunFile Adds known [] frames × Printed page heard [] frames old new
+      → (frames : List Content) × BegunFile Adds known [] frames × Printed page heard [] [] frames old new
   begun known old new counts first = (
     map frame_of first.frames,
     record {
@@ -119,18 +134,18 @@ module _ {W E : Type 0} (page : W → Page) (heard : E → Page) where
       begins = first.begins;
       taken = adds_all first.frames [];
     },
-    printed_all first.frames [] old new counts first.taken,
+    printed_all first.frames [] [] old new counts first.taken,
   )
 
-  whole : (known : Option (List ℕ)) (old new : CapturePrinter W E) → HasPrinted [] old
+  whole : (known : Option (List ℕ)) (old new : CapturePrinter W E A) → HasPrinted [] [] old
       → HoldsFile takes known old new → Told page heard known (Ok tt) old new
   whole known old new counts (all, frames, are, is, taken) = record {
     frames = map frame_of frames;
     has = (all, frames, are, is, adds_all frames []);
-    printed = printed_all frames [] old new counts taken;
+    printed = printed_all frames [] [] old new counts taken;
   }
 
-  broken_off : (known : Option (List ℕ)) (old new : CapturePrinter W E) (e : CaptureError) → HasPrinted [] old
+  broken_off : (known : Option (List ℕ)) (old new : CapturePrinter W E A) (e : CaptureError) → HasPrinted [] [] old
       → TellsFile takes IsUnprinted known old new e → Told page heard known (Err e) old new
   broken_off known old new (broken.Fault fault at) counts off = record {
     frames = map frame_of off.frames;
@@ -143,7 +158,7 @@ module _ {W E : Type 0} (page : W → Page) (heard : E → Page) where
       here = off.here;
       taken = adds_all off.frames [];
     };
-    printed = printed_all off.frames [] old new counts off.taken;
+    printed = printed_all off.frames [] [] old new counts off.taken;
   }
   broken_off known old new (broken.Unreadable why) counts tells =
       let first = begun known old new counts tells in
@@ -157,21 +172,35 @@ module _ {W E : Type 0} (page : W → Page) (heard : E → Page) where
       }
 
   -- the frames of what was read, however that ended
-  pub told_of : (known : Option (List ℕ)) (old new : CapturePrinter W E) (read : Result (Unit {0}) CaptureError)
-      → HasPrinted [] old → OnOk read (HoldsFile takes known old new)
+  pub told_of : (known : Option (List ℕ)) (old new : CapturePrinter W E A) (read : Result (Unit {0}) CaptureError)
+      → HasPrinted [] [] old → OnOk read (HoldsFile takes known old new)
       → IfErr read (TellsFile takes IsUnprinted known old new) → Told page heard known read old new
   told_of known old new (Ok tt) counts holds tells = whole known old new counts holds
   told_of known old new (Err e) counts holds tells = broken_off known old new e counts tells
 
-  -- what was printed of a capture, from a new tally on, and then its last lines
-  pub tells_capture : (known : Option (List ℕ)) (status : Status) (old mid new : CapturePrinter W E) (t : Tally)
-      (read : Result (Unit {0}) CaptureError) → Told page heard known read (record old { tally = t }) mid
+  -- those of a capture of which nothing was read
+  pub nothing_told : (known : Option (List ℕ)) (s : CapturePrinter W E A) → HasPrinted [] [] s
+      → Told page heard known (Err broken.NoMemory) s s
+  nothing_told known s counts = record {
+    frames = [];
+    has = (
+      [],
+      record { first = []; frames = []; are = first_nothing known; begins = Nothing; taken = refl },
+      inl refl,
+    );
+    printed = nothing [] [] s counts;
+  }
+
+  -- what was printed of a capture, behind the start, and then its last lines
+  pub tells_capture : (known : Option (List ℕ)) (status : Status) (old start mid new : CapturePrinter W E A)
+      (read : Result (Unit {0}) CaptureError) → printer_of start ≡ printer_of old
+      → diagnostics_of start ≡ diagnostics_of old → Told page heard known read start mid
       → ((status ≡ Done) ↔ (IsOk read × ¬ HasFailed (printer_of new)))
       → Prints page (printer_of mid) (printer_of new) (ending_line mid.tally.frames read ++ end_line mid.tally)
       → ((late : Diagnostics E) × TellsEnding heard read (diagnostics_of mid) late
       × TellsWrites heard (printer_of new) late (diagnostics_of new))
       → TellsCapture page heard known status old new
-  tells_capture known status old mid new t read told done last after =
+  tells_capture known status old start mid new read printer diagnostics told done last after =
       let first = told.printed in
       let tallied : Prints page (printer_of mid) (printer_of new)
       (ending_line (counted (length first.more)) read ++ end_line (tally_of first.more)) =
@@ -181,6 +210,8 @@ module _ {W E : Type 0} (page : W → Page) (heard : E → Page) where
       (ending_line (counted (length told.frames)) read ++ end_line (tally_of first.more)) =
       subst (λ n. Prints page (printer_of mid) (printer_of new)
       (ending_line (counted n) read ++ end_line (tally_of first.more))) first.as_many tallied in
+      let lines : Prints page (printer_of old) (printer_of mid) first.text =
+      subst (λ p. Prints page p (printer_of mid) first.text) printer first.prints in
       record {
         frames = told.frames;
         read = read;
@@ -188,11 +219,11 @@ module _ {W E : Type 0} (page : W → Page) (heard : E → Page) where
         kinds = first.more;
         text = first.text;
         are = first.are;
-        printed = Prints-trans page (printer_of old) (printer_of mid) (printer_of new) first.text _ first.prints ending;
+        printed = Prints-trans page (printer_of old) (printer_of mid) (printer_of new) first.text _ lines ending;
         done = done;
         refused = diagnostics_of mid;
         ended = after.0;
-        refusals = first.told;
+        refusals = subst (λ d. TellsKinds heard first.more d (diagnostics_of mid)) diagnostics first.told;
         ending = after.1;
         writes = after.2;
       }

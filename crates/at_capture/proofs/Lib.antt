@@ -1,4 +1,7 @@
+mod AskedLemmas
+mod BufferLemmas
 mod CaptureLemmas
 mod DatagramLemmas
+mod RoleLemmas
 mod StationLemmas
 mod TallyLemmas

@@ -12,6 +12,16 @@ use Rattle.at_capture.specs.declared.tally.Tally.{Tally}
 pub one_more : (m n : ℕ) → m ≡ counted n → counted (m + 1) ≡ counted (n + 1)
 one_more m n is = omega arith
 
+-- the number of the next frame
+pub next_number : {X : Type 0} (number : ℕ) (t : Tally) (kinds : List FrameKind) (frames : List X) → t ≡ tally_of kinds
+    → length kinds ≡ length frames → number ≡ counted (t.frames + 1) → number ≡ counted (length frames + 1)
+next_number number t kinds frames is as_many here =
+    here ∙ one_more t.frames (length frames) (ap (λ u. u.frames) is ∙ ap counted as_many)
+
+pub one_longer : {X Y : Type 0} (xs : List X) (ys : List Y) (x : X) (y : Y) → length xs ≡ length ys
+    → length (xs ++ x ∷ []) ≡ length (ys ++ y ∷ [])
+one_longer xs ys x y e = length-append xs (x ∷ []) ∙ ap (λ n. n + 1) e ∙ sym (length-append ys (y ∷ []))
+
 tally_is : (a b c d e f g h : ℕ) → a ≡ e → b ≡ f → c ≡ g → d ≡ h
     → ◌≡◌ {A = Tally} (record { frames = a; datagrams = b; refused = c; others = d })
     (record { frames = e; datagrams = f; refused = g; others = h })

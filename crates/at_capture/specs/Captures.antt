@@ -1,5 +1,6 @@
 -- What is printed of a capture.
 use Rattle.std.specs.Prelude.{◌≡◌, ◌↔◌, ℕ, ◌+◌, List, [], ◌∷◌, ◌++◌, length, Option, Result, Ok, Err, IsOk}
+use Rattle.at_capture.specs.Asked.{IsAnswered, Recalls}
 use Rattle.at_capture.specs.Endings.{TellsEnding, ending_line}
 use Rattle.at_capture.specs.Frames.{Content, frame_of}
 use Rattle.at_capture.specs.Tallies.{counted, end_line, tally_of}
@@ -18,10 +19,10 @@ use Rattle.at_print.specs.declared.status.Status.{Status}
 use Rattle.at_print.specs.declared.status.Status.TheVariants.{Done}
 
 -- where it prints, and where it tells reasons
-abbrev pub printer_of : {W E : Type 0} → CapturePrinter W E → Printer W
+abbrev pub printer_of : {W E A : Type 0} → CapturePrinter W E A → Printer W
 printer_of s = s.printer
 
-abbrev pub diagnostics_of : {W E : Type 0} → CapturePrinter W E → Diagnostics E
+abbrev pub diagnostics_of : {W E A : Type 0} → CapturePrinter W E A → Diagnostics E
 diagnostics_of s = s.diagnostics
 
 -- ---- the frames of a file
@@ -40,14 +41,14 @@ HasFrames known frames (Err e) = TellsFile Adds (λ old new. new ≡ old) known 
 -- Frames of the file were printed, line by line, and then why there are no more, and how many there were. The status
 -- says whether all was read and written. A person is told of the refusals, then of the ending, then of what could not
 -- be written, and nothing else.
-pub record TellsCapture {W E : Type 0} (page : W → Page) (heard : E → Page) (known : Option (List ℕ)) (status : Status)
-    (old new : CapturePrinter W E) : Type 0 where
+pub record TellsCapture {W E A : Type 0} (page : W → Page) (heard : E → Page) (known : Option (List ℕ))
+    (status : Status) (old new : CapturePrinter W E A) : Type 0 where
   pub frames : List Content
   pub read : Result (Unit {0}) CaptureError
   pub has : HasFrames known frames read
   pub kinds : List FrameKind
   pub text : List ℕ
-  pub are : FramesText 0 frames kinds text
+  pub are : FramesText [] frames kinds text
   pub printed : Prints page (printer_of old) (printer_of new)
       (text ++ (ending_line (counted (length frames)) read ++ end_line (tally_of kinds)))
   pub done : (status ≡ Done) ↔ (IsOk read × ¬ HasFailed (printer_of new))
@@ -59,28 +60,35 @@ pub record TellsCapture {W E : Type 0} (page : W → Page) (heard : E → Page) 
 
 -- ---- the step of one frame
 
--- so many frames were printed, counted as these
-pub record HasPrinted {W E : Type 0} (kinds : List FrameKind) (s : CapturePrinter W E) : Type 0 where
+-- these frames were printed and counted as these, and what they ask is kept
+pub record HasPrinted {W E A : Type 0} (frames : List Content) (kinds : List FrameKind) (s : CapturePrinter W E A)
+    : Type 0 where
   pub tally : s.tally ≡ tally_of kinds
+  pub as_many : length kinds ≡ length frames
+  pub recalls : Recalls frames s.asked
 
 -- a frame is printed and counted, behind those that were
-pub record PrintsNext {W E : Type 0} (page : W → Page) (heard : E → Page) (kinds : List FrameKind) (f : Content)
-    (old new : CapturePrinter W E) : Type 0 where
+pub record PrintsNext {W E A : Type 0} (page : W → Page) (heard : E → Page) (frames : List Content)
+    (kinds : List FrameKind) (f : Content) (old new : CapturePrinter W E A) : Type 0 where
+  pub answered : Option ℕ
   pub kind : FrameKind
   pub text : List ℕ
-  pub is : FrameText (counted (length kinds + 1)) f kind text
+  pub answers : IsAnswered frames f answered
+  pub is : FrameText (counted (length frames + 1)) answered f kind text
   pub printed : Prints page (printer_of old) (printer_of new) text
   pub told : TellsKind heard kind (diagnostics_of old) (diagnostics_of new)
-  pub counts : HasPrinted (kinds ++ kind ∷ []) new
+  pub counts : HasPrinted (frames ++ f ∷ []) (kinds ++ kind ∷ []) new
 
 -- the same of any frames that were
-abbrev pub PrintsFrame : {W E : Type 0} → (W → Page) → (E → Page) → Content → CapturePrinter W E → CapturePrinter W E
-    → Type 0
+abbrev pub PrintsFrame : {W E A : Type 0} → (W → Page) → (E → Page) → Content → CapturePrinter W E A
+    → CapturePrinter W E A → Type 0
 PrintsFrame page heard f old new =
-    (kinds : List FrameKind) → HasPrinted kinds old → PrintsNext page heard kinds f old new
+    (frames : List Content) (kinds : List FrameKind) → HasPrinted frames kinds old
+    → PrintsNext page heard frames kinds f old new
 
 -- nothing is printed or counted
-pub record IsUnprinted {W E : Type 0} (old new : CapturePrinter W E) : Type 0 where
+pub record IsUnprinted {W E A : Type 0} (old new : CapturePrinter W E A) : Type 0 where
   pub printer : printer_of new ≡ printer_of old
   pub diagnostics : diagnostics_of new ≡ diagnostics_of old
-  pub counts : (kinds : List FrameKind) → HasPrinted kinds old → HasPrinted kinds new
+  pub counts : (frames : List Content) (kinds : List FrameKind) → HasPrinted frames kinds old
+      → HasPrinted frames kinds new

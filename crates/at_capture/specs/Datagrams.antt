@@ -2,7 +2,7 @@
 use Rattle.std.specs.Prelude.{ℕ, ◌+◌, List, [], ◌∷◌, ◌++◌, length, Some, codes}
 use Rattle.std.specs.Fmt.{decimal}
 use Rattle.std.specs.List.{concat}
-use Rattle.at_ddp.specs.Datagram.{Content}
+use Rattle.at_ddp.specs.Datagram.{BeginsWith, Content}
 use Rattle.at_frames.specs.Short.{BeginsWithShort}
 use Rattle.at_frames.specs.ShortFaults.{IsFirstFault, number_of}
 use Rattle.at_frames.specs.declared.carried.Header.{Header}
@@ -10,6 +10,11 @@ use Rattle.at_frames.specs.declared.carried.Header.TheVariants.{Long, Short}
 use Rattle.at_frames.specs.declared.short_fault.ShortFault.{ShortFault}
 use Rattle.at_show.specs.Shown.{IsReadable, IsSound}
 use Rattle.at_show.specs.Texts.{BytesText, DataText, refusal_line}
+
+-- the bytes begin with this datagram, by the header that its frame says, and then rest
+abbrev pub BeginsBy : Header → List ℕ → Content → List ℕ → Type 0
+BeginsBy Long bytes d rest = BeginsWith bytes d rest
+BeginsBy (Short to from) bytes d rest = BeginsWithShort to from bytes d rest
 
 -- the line of a short header; so many bytes follow the datagram
 abbrev pub short_line : Content → ℕ → List ℕ

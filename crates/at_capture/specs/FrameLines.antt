@@ -1,5 +1,5 @@
--- The line of a frame.
-use Rattle.std.specs.Prelude.{ℕ, List, ◌++◌, Option, codes}
+-- The lines of a frame, but for those of its datagram.
+use Rattle.std.specs.Prelude.{ℕ, List, [], ◌++◌, Option, Some, None, codes}
 use Rattle.std.specs.Fmt.{decimal}
 use Rattle.at_capture.specs.Stations.{station_text}
 use Rattle.at_capture.specs.Times.{time_text}
@@ -43,3 +43,8 @@ carried_line number time carrier stations =
 -- the line of a frame that carries none
 abbrev pub other_line : ℕ → Option Time → Reason → List ℕ
 other_line number time reason = beginning number time ++ (codes "other " ++ (reason_word reason ++ codes "\n"))
+
+-- under a frame that answers another, the line that says which; under any other frame none
+abbrev pub answer_line : Option ℕ → List ℕ
+answer_line None = []
+answer_line (Some number) = codes "answers frame " ++ (decimal number ++ codes "\n")

@@ -1,8 +1,12 @@
+pub mod Asked
 pub mod Captures
+pub mod Commands
 pub mod Datagrams
 pub mod Endings
 pub mod FrameLines
 pub mod Frames
+pub mod Questions
+pub mod Roles
 pub mod Stations
 pub mod Tallies
 pub mod Texts

@@ -1,8 +1,9 @@
 -- What is printed of frames.
-use Rattle.std.specs.Prelude.{◌≡◌, ℕ, ◌+◌, List, [], ◌∷◌, ◌++◌, Option, Err}
+use Rattle.std.specs.Prelude.{◌≡◌, ℕ, ◌+◌, List, [], ◌∷◌, ◌++◌, length, Option, Err}
 use Rattle.std.specs.List.{FoldsTo}
+use Rattle.at_capture.specs.Asked.{IsAnswered}
 use Rattle.at_capture.specs.Datagrams.{DatagramText, IsSoundBy}
-use Rattle.at_capture.specs.FrameLines.{carried_line, other_line}
+use Rattle.at_capture.specs.FrameLines.{answer_line, carried_line, other_line}
 use Rattle.at_capture.specs.Frames.{Content}
 use Rattle.at_capture.specs.Tallies.{counted}
 use Rattle.at_capture.specs.declared.tally.FrameKind.{FrameKind}
@@ -22,20 +23,22 @@ IsJudged Shown sound = sound
 IsJudged Refused sound = ¬ sound
 IsJudged Other sound = ⊥
 
--- What is printed of the frame of this number, and what the frame is counted as: its line and its datagram, or the line
--- that says why it carries none.
-pub data FrameText (number : ℕ) (f : Content) : FrameKind → List ℕ → Type 0 where
+-- What is printed of the frame of this number, and what the frame is counted as: its line, its datagram and the frame
+-- that it answers, or the line that says why it carries no datagram.
+pub data FrameText (number : ℕ) (answered : Option ℕ) (f : Content) : FrameKind → List ℕ → Type 0 where
   Carried : (d : Load) (kind : FrameKind) (text : List ℕ) → Carries f.link_type f.bytes d
       → DatagramText d.header d.bytes text → IsJudged kind (IsSoundBy d.header d.bytes)
-      → FrameText number f kind (carried_line number f.time d.carrier d.stations ++ text)
+      → FrameText number answered f kind
+      (carried_line number f.time d.carrier d.stations ++ (text ++ answer_line answered))
   Empty : (reason : Reason) → told f.link_type f.bytes ≡ Err reason
-      → FrameText number f Other (other_line number f.time reason)
+      → FrameText number answered f Other (other_line number f.time reason)
 
--- what is printed of frames behind so many others, one after the other
-pub data FramesText : ℕ → List Content → List FrameKind → List ℕ → Type 0 where
-  NoMore : (before : ℕ) → FramesText before [] [] []
-  Next : (before : ℕ) (f : Content) (frames : List Content) (kind : FrameKind) (kinds : List FrameKind)
-      (text rest : List ℕ) → FrameText (counted (before + 1)) f kind text → FramesText (before + 1) frames kinds rest
+-- what is printed of frames behind these others, one after the other
+pub data FramesText : List Content → List Content → List FrameKind → List ℕ → Type 0 where
+  NoMore : (before : List Content) → FramesText before [] [] []
+  Next : (before : List Content) (f : Content) (frames : List Content) (answered : Option ℕ) (kind : FrameKind)
+      (kinds : List FrameKind) (text rest : List ℕ) → IsAnswered before f answered
+      → FrameText (counted (length before + 1)) answered f kind text → FramesText (before ++ f ∷ []) frames kinds rest
       → FramesText before (f ∷ frames) (kind ∷ kinds) (text ++ rest)
 
 -- a person is told why a datagram is refused, and nothing else of a frame

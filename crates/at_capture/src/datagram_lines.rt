@@ -59,7 +59,8 @@ fn show_datagram<W: Paper, E: Paper>(
     ensures done { (result ≡ Status.Done) ↔ IsReadable datagram.now.kind datagram.now.data_.now }
     ensures printed { (text : List ℕ) × DataText datagram.now.kind datagram.now.data_.now text
         × Prints W.page printer.old printer.new (short_line (content datagram.now) rest ++ text) }
-    ensures told { TellsWhy E.page (DataText datagram.now.kind datagram.now.data_.now) result diagnostics.old diagnostics.new }
+    ensures told { TellsWhy E.page (DataText datagram.now.kind datagram.now.data_.now) result diagnostics.old
+        diagnostics.new }
 {
     write_short_header(printer, datagram, rest);
     show_data(datagram.kind, datagram.data_, printer, diagnostics)

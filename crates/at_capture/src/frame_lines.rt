@@ -1,7 +1,7 @@
-//! The first line of a frame, or its only one.
+//! The lines of a frame, but for those of its datagram.
 ghost use Rattle.std.specs.Prelude.{◌≡◌};
-ghost use Rattle.at_capture.specs.FrameLines.{beginning, carried_line, carrier_word, other_line, reason_word};
-ghost use Rattle.at_capture.specs.FrameLines.{stations_text};
+ghost use Rattle.at_capture.specs.FrameLines.{answer_line, beginning, carried_line, carrier_word, other_line};
+ghost use Rattle.at_capture.specs.FrameLines.{reason_word, stations_text};
 ghost use Rattle.at_print.specs.Printers.{Prints};
 
 use crate::stations::write_station;
@@ -38,6 +38,19 @@ pub(crate) fn write_other<W: Paper>(
     printer.write_all(b"other ");
     printer.write_all(reason_word(reason));
     printer.write_all(b"\n");
+}
+
+/// The line of the frame that a frame answers, if it answers one.
+pub(crate) fn write_answer<W: Paper>(printer: &mut Printer<W>, answered: Option<u64>)
+    ensures { Prints W.page printer.old printer.new (answer_line answered) }
+{
+    if let Some(number) = answered {
+        printer.write_each(&[
+            Part::Text(b"answers frame "),
+            Part::Number(number),
+            Part::Text(b"\n"),
+        ]);
+    }
 }
 
 // The number and the time, and a space behind them.

@@ -6,20 +6,21 @@ ghost use Rattle.at_print.specs.Printers.{Prints};
 
 use crate::datagram_lines::show_carried;
 use crate::frame::Frame;
-use crate::frame_lines::{write_carried, write_other};
+use crate::frame_lines::{write_answer, write_carried, write_other};
 use crate::tally::{FrameKind, kind_of};
 use at_diagnostics::Diagnostics;
 use at_frames::datagram_in;
 use at_print::{Paper, Printer};
 
-/// Prints the frame of this number, and returns what it is counted as.
+/// Prints the frame of this number, which answers that frame, and returns what it is counted as.
 pub(crate) fn write_frame<W: Paper, E: Paper>(
     number: u64,
     frame: Frame<'_>,
+    answered: Option<u64>,
     printer: &mut Printer<W>,
     diagnostics: &mut Diagnostics<'_, E>,
 ) -> FrameKind
-    ensures printed { (text : List ℕ) × FrameText number (content frame.entry) result text
+    ensures printed { (text : List ℕ) × FrameText number answered (content frame.entry) result text
         × Prints W.page printer.old printer.new text }
     ensures told { TellsKind E.page result diagnostics.old diagnostics.new }
 {
@@ -32,7 +33,9 @@ pub(crate) fn write_frame<W: Paper, E: Paper>(
                 carried.carrier,
                 carried.stations,
             );
-            kind_of(show_carried(carried.header, carried.bytes, printer, diagnostics))
+            let status = show_carried(carried.header, carried.bytes, printer, diagnostics);
+            write_answer(printer, answered);
+            kind_of(status)
         }
         Err(reason) => {
             write_other(printer, number, frame.time, reason);

@@ -1,5 +1,5 @@
-//! Tests of capture files and of frames, of what no clause says: written bytes against the formats, readers that split
-//! the bytes, reads that fail, and memory that is refused.
+//! Tests of capture files, of frames and of what is printed of them, of what no clause says: written bytes against the
+//! formats, readers that split the bytes, reads that fail, and memory that is refused.
 #![tactic(auto)]
 
 #[cfg(test)]
@@ -10,3 +10,5 @@ mod frames;
 mod pcapng;
 #[cfg(test)]
 mod pieces;
+#[cfg(test)]
+mod printing;

@@ -1,3 +1,4 @@
+pub mod Commands
 pub mod Ends
 pub mod Recordings
 pub mod Unseen

@@ -2,7 +2,7 @@
 ghost use Rattle.std.specs.Prelude.{◌≡◌, ◌<◌, ◌↔◌, [], List, ℕ, length, IfSome, IsErr, IsOk};
 ghost use Rattle.at_diagnostics.specs.Diagnostics.{TellsWrites};
 ghost use Rattle.at_diagnostics.specs.declared.diagnostics.Diagnostics.{Diagnostics as Told};
-ghost use Rattle.at_print.specs.Printers.{HasFailed, Prints};
+ghost use Rattle.at_print.specs.Printers.{HasFailed, IsSettled, Prints};
 ghost use Rattle.at_record.specs.Ends.{PlaysText, Recorded, TellsEnd};
 ghost use Rattle.at_record.specs.Recordings.{records_text};
 ghost use Rattle.at_recording.specs.Recordings.{recording};
@@ -31,6 +31,7 @@ pub fn record_text<A: Allocator + Copy, R: Read, W: Paper, E: Paper>(
         → (result ≡ Status.Failed) × Prints W.page printer.old printer.new (recording [])) }
     ensures recorded { Recorded A W.page E.page (R.remaining reader.old) result printer.old printer.new
         diagnostics.old diagnostics.new }
+    ensures settled { IsSettled W.settles printer.new }
 {
     write_front(printer);
     let recorded = record_stream(alloc, reader, printer, diagnostics);
@@ -62,6 +63,7 @@ fn end<W: Paper, E: Paper>(
 ) -> Status
     ensures done { (result ≡ Status.Done) ↔ (IsOk recorded × ¬ HasFailed printer.new) }
     ensures printed { Prints W.page printer.old printer.new [] }
+    ensures settled { IsSettled W.settles printer.new }
     ensures said { (mid : Told E) × TellsEnd E.page recorded diagnostics.old mid
         × TellsWrites E.page printer.new mid diagnostics.new }
 {

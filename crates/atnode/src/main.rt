@@ -2,30 +2,28 @@
 //! captures: `atnode play FILE`, `atnode record FILE`, `atnode udp FILE`, `atnode show HEX`, `atnode capture FILE`.
 #![tactic(auto)]
 
-mod capture;
 mod command_line;
 mod named;
 mod output;
-mod record;
 mod telling;
 mod udp;
 
+use at_capture::CapturePrinter;
 use at_diagnostics::Diagnostics;
 use at_play::play_source;
 use at_print::Status;
+use at_record::record_source;
 use at_show::show_word;
-use capture::capture_named;
 use command_line::{Request, request_of};
 use named::{name_of, open};
 use output::printer_to;
-use record::record_named;
 use std::env::Env;
 use std::io::{ErrorKind, Write};
 use std::net::Net;
 use std::process::ExitCode;
 use std::rt::Files;
 use std::{env, io};
-use telling::{tell, tell_unopened, tell_usage};
+use telling::{tell, tell_usage};
 use udp::udp_named;
 
 /// The status after a command line that asks for nothing.
@@ -75,18 +73,6 @@ pub(crate) fn stop<E: Write>(rt: &impl Print, errors: &mut E) -> io::Result<u8> 
     Ok(Status::Failed.code())
 }
 
-// There is no file of this name.
-pub(crate) fn unopened<R: Print + AllocGlobal, E: Write>(
-    rt: &R,
-    file: &str,
-    error: io::Error,
-    errors: &mut E,
-) -> io::Result<u8> {
-    tell_unopened(rt.alloc(), errors, file, error);
-    rt.println("fault 0")?;
-    Ok(Status::Failed.code())
-}
-
 // Plays a file, or the standard input for `-`.
 fn play_named<R: Files + Input + Print + AllocGlobal, E: Write>(
     rt: &R,
@@ -99,6 +85,35 @@ fn play_named<R: Files + Input + Print + AllocGlobal, E: Write>(
     let mut diagnostics = Diagnostics::new(name_of(file), errors);
     let source = open(rt, file);
     Ok(play_source(rt.alloc(), source, &mut printer, &mut diagnostics).code())
+}
+
+// Plays a file, or the standard input for `-`, and writes a capture of what it sends. No text is printed.
+fn record_named<R: Files + Input + Print + AllocGlobal, E: Write>(
+    rt: &R,
+    file: &str,
+    errors: &mut E,
+) -> u8 {
+    let Ok(mut printer) = printer_to(rt) else {
+        tell(errors, "out of memory");
+        return Status::Failed.code();
+    };
+    let mut diagnostics = Diagnostics::new(name_of(file), errors);
+    let source = open(rt, file);
+    record_source(rt.alloc(), source, &mut printer, &mut diagnostics).code()
+}
+
+// Shows the frames of a file, or of the standard input for `-`.
+fn capture_named<R: Files + Input + Print + AllocGlobal, E: Write>(
+    rt: &R,
+    file: &str,
+    errors: &mut E,
+) -> io::Result<u8> {
+    let Ok(printer) = printer_to(rt) else {
+        return stop(rt, errors);
+    };
+    let diagnostics = Diagnostics::new(name_of(file), errors);
+    let mut frames = CapturePrinter::new(rt.alloc(), printer, diagnostics);
+    Ok(frames.print_source(open(rt, file)).code())
 }
 
 // Shows the datagram that a word spells in hexadecimal digits.

@@ -3,8 +3,8 @@ use at_opened::Source;
 use std::fs;
 use std::rt::Files;
 
-/// What stands for the name of a file in what is told of the standard input.
-pub(crate) const STANDARD_INPUT: &str = "standard input";
+// What stands for the name of a file in what is told of the standard input.
+const STANDARD_INPUT: &str = "standard input";
 
 /// The name that is told of a file, or of the standard input for `-`.
 pub(crate) fn name_of(file: &str) -> &str {

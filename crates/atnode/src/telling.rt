@@ -1,6 +1,4 @@
 //! What the program itself tells a person on standard error. The status does not depend on whether that can be written.
-use std::alloc::{AllocError, Global};
-use std::io;
 use std::io::Write;
 
 /// The page for a command line that asks for nothing.
@@ -14,7 +12,7 @@ const PAGE: &str =
   atnode capture FILE   shows each frame of a capture, and the datagram that it carries
 
 FILE is a schedule as text, one line for each event; `-` is standard input.
-For `capture` FILE is a classic pcap file, as tcpdump writes it, or `record`.
+For `capture` FILE is a pcap or a pcapng file, as tcpdump, Wireshark or `record` write it.
 HEX is the bytes of a datagram as one word of hexadecimal digits, two for each byte; `-` is no bytes.
 
 For example:
@@ -30,21 +28,4 @@ pub(crate) fn tell_usage<E: Write>(errors: &mut E) {
 /// Tells a sentence, as one line.
 pub(crate) fn tell<E: Write>(errors: &mut E, sentence: &str) {
     let _told = writeln!(errors, "atnode: {sentence}");
-}
-
-/// Tells why a file can't be opened.
-pub(crate) fn tell_unopened<E: Write>(alloc: Global, errors: &mut E, file: &str, error: io::Error) {
-    let _told = match reason_of(alloc, error) {
-        Ok(reason) => writeln!(errors, "atnode: {file}: can't be opened: {reason}"),
-        Err(AllocError) => writeln!(errors, "atnode: {file}: can't be opened"),
-    };
-}
-
-// The system's words, without the number of its error.
-fn reason_of(alloc: Global, error: io::Error) -> Result<String, AllocError> {
-    let text = format!(in alloc; "{error}")?;
-    match text.split_once(" (os error ") {
-        Some((reason, _)) => String::from_str(alloc, reason),
-        None => Ok(text),
-    }
 }

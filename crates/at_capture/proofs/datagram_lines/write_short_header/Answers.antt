@@ -4,5 +4,5 @@ use Rattle.at_capture.proofs.datagram_lines.write_short_header.Goals as goal
 
 pub returns : goal.returns
 returns g c =
-    Prints-five g.W.Paper.page c.args.printer.now c.write_each.new.self c.write_each-2.new.self (codes "ddp short length ") _
-    (codes " from ") _ (codes ".") _ c.write_each.ensures c.write_each-2.ensures
+    Prints-five g.W.Paper.page c.args.printer.now c.write_each.new.self c.write_each-2.new.self
+    (codes "ddp short length ") _ (codes " from ") _ (codes ".") _ c.write_each.ensures c.write_each-2.ensures
