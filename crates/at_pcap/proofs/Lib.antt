@@ -3,11 +3,14 @@ pub mod DataLemmas
 pub mod FileHeaderLemmas
 pub mod FileLemmas
 pub mod FrontLemmas
+pub mod LongerBlocks
+pub mod LongerLemmas
 pub mod Numbers
+pub mod OneFile
 pub mod OneReading
 pub mod OptionLemmas
 pub mod PacketLemmas
 pub mod PcapngLemmas
-pub mod RecordLemmas
 pub mod ReadingLemmas
+pub mod RecordLemmas
 pub mod RuleLemmas

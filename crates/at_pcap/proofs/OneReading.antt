@@ -4,7 +4,7 @@ use Rattle.std.proofs.Common.{drop, refl, sym, ap, subst, ◌∙◌, arith, appe
 use Rattle.std.specs.Prelude.{All, Option, None, Some}
 use Rattle.std.proofs.lemmas.List.{length-append}
 use Rattle.at_ddp.proofs.Octets.{append_parts}
-use Rattle.at_pcap.specs.Captures.{IsFileHeader, IsRecord, Record, file_header_bytes, magic_of, record_bytes}
+use Rattle.at_pcap.specs.Captures.{HasMagic, IsFileHeader, IsRecord, Record, file_header_bytes, magic_of, record_bytes}
 use Rattle.at_pcap.specs.Captures.{header_bytes, header_of, written_file_header}
 use Rattle.at_pcap.specs.Faults.{FailsFileHeader, stated_at}
 use Rattle.at_pcap.specs.Readings.{BeginsWith, Ends, IsCapture, records_bytes}
@@ -254,18 +254,15 @@ magic_of_front all rest h ps b =
     ∙ append_assoc (bytes_in h.order 4 (magic_of h.precision)) (after_magic b.front h b.file_header)
     (records_bytes h.order ps ++ rest)
 
+pub magic_in : (all rest : List ℕ) (h : FileHeader) (ps : List Record) → BeginsWith all h ps rest
+    → HasMagic h.order h.precision all
+magic_in all rest h ps b =
+    (after_magic b.front h b.file_header ++ (records_bytes h.order ps ++ rest), magic_of_front all rest h ps b)
+
 pub faultless : (all rest : List ℕ) (h : FileHeader) (ps : List Record) → BeginsWith all h ps rest
     → (fault : CaptureFault) → ¬ FailsFileHeader fault all
 faultless all rest h ps b NoCapture fails =
-    fails (
-      h.order,
-      h.precision,
-      (
-        after_magic b.front h b.file_header ++ (records_bytes h.order ps
-            ++ rest),
-        magic_of_front all rest h ps b,
-      ),
-    )
+    fails (h.order, h.precision, magic_in all rest h ps b)
 faultless all rest h ps b CutCapture fails =
     absurd (omega (
       arith,

@@ -2,6 +2,8 @@
 ghost use Rattle.std.specs.Prelude.{◌≡◌, ◌<◌, ◌^◌, ◌++◌, [], All, List, None, Option, ℕ};
 ghost use Rattle.at_pcap.specs.Captures.{IsRecord, Record, written_file_header};
 ghost use Rattle.at_pcap.specs.Faults.{FailsFileHeader};
+ghost use Rattle.at_pcap.specs.Files.{IsFile};
+ghost use Rattle.at_pcap.specs.Frames.{Frame};
 ghost use Rattle.at_pcap.specs.Readings.{BeginsWith, IsCapture, records_bytes};
 ghost use Rattle.at_pcap.specs.declared.fault.CaptureFault.{CaptureFault as Why};
 ghost use Rattle.at_pcap.specs.declared.file_header.FileHeader.{FileHeader as Front};
@@ -12,6 +14,12 @@ pub fn a_capture_has_one_reading()
         → IsCapture all h ps rest e → IsCapture all g qs more f → (h ≡ g) × (ps ≡ qs) × (rest ≡ more) × (e ≡ f) }
     ensures faultless { (all rest : List ℕ) (h : Front) (ps : List Record) → BeginsWith all h ps rest → (fault : Why)
         → ¬ FailsFileHeader fault all }
+{}
+
+/// The same of a file of either form: bytes have no other frames, and no other end or fault.
+pub fn a_file_has_one_reading()
+    ensures { (all rest more : List ℕ) (frames others : List Frame) (e f : Option Why) → IsFile all frames rest e
+        → IsFile all others more f → (frames ≡ others) × (rest ≡ more) × (e ≡ f) }
 {}
 
 /// What is written is read as what was written, to its end.
