@@ -104,3 +104,8 @@ def run(places: List[Place], ends: Callable[[], bool], seconds: float = 10) -> N
             raise AssertionError([it.kinds() for it in places])
         for each in places:
             each.station.step(time.monotonic() + 0.005)
+
+
+def has_waited(begun: float, seconds: float) -> bool:
+    """Whether so many seconds have passed, or a few more, as on a machine that does other work."""
+    return seconds - 0.05 <= time.monotonic() - begun <= seconds + 3

@@ -9,7 +9,7 @@ from unittest import mock
 from at_node import NumberTaken, llap, ltoudp
 from at_node.llap import ACK, ENQ, LONG, RTS, SHORT, Frame
 from at_node.ltoudp import LtoudpCable, Wire
-from cables import LOOPBACK, has_multicast
+from cables import LOOPBACK, has_multicast, has_waited
 from test_llap import LOOKUP, lookup
 
 HAS_MULTICAST = has_multicast()
@@ -199,7 +199,7 @@ class Numbers(unittest.TestCase):
         wire, other = Wire(LOOPBACK), Wire(LOOPBACK)
         begun = time.monotonic()
         self.assertFalse(ltoudp.is_taken(wire, 7))
-        self.assertAlmostEqual(time.monotonic() - begun, 1.6, delta=0.4)
+        self.assertTrue(has_waited(begun, 1.6))
         frames = [other.frame_of(it) for it in payloads(other, 0.1)]
         self.assertEqual(frames, [Frame(7, 7, ENQ, b"")] * 8)
         wire.close()
