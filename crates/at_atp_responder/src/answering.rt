@@ -1,13 +1,14 @@
 //! Answers to requests that wait, and room for an answer.
 ghost use Rattle.std.specs.Prelude.{◌≡◌, ◌≤◌, ℕ, [], true, length, find, IfOk, IfErr, IfSome, OnOk, OnErr};
-ghost use Rattle.std.specs.Prelude.{IsOk, None, Err};
+ghost use Rattle.std.specs.Prelude.{IsOk, None, Some, Err};
 ghost use Rattle.at_ddp.specs.Outbox.{Sends, HasRoomFor};
 ghost use Rattle.at_atp_frame.specs.Frames.{spelled_all};
-ghost use Rattle.at_atp_responder.specs.Records.{fit, is_key, record_fault, answer_fault, asked_for, IsAnswered};
+ghost use Rattle.at_atp_responder.specs.Records.{fit, is_key, record_fault, answer_fault, asked_bitmap, asked_for};
+ghost use Rattle.at_atp_responder.specs.Records.{IsAnswered};
 
 use crate::reception::Key;
 use crate::record::send_answer;
-use crate::records::{Records, bitmap_of, record_fault, settle, settle_copy};
+use crate::records::{Records, asked_bitmap, record_fault, settle, settle_copy};
 use crate::responder::Responder;
 use at_atp_frame::{AtpFault, MAX_DATA, PACKET_LEN, Packet};
 use at_ddp::{Listed, Outbox};
@@ -100,28 +101,30 @@ fn send_asked<A: Allocator>(
     ensures nothing_sent { OnErr result (Sends out.old out.new []) }
     ensures room { HasRoomFor out.old 8 586 → answer_fault records.now key packets.now ≡ None → IsOk result }
 {
-    if let Some(fault) = answer_fault(records, key, packets) {
-        return Err(fault);
-    }
+    let bitmap = asked_of(records, key, packets)?;
     out.room(packets.len() as u32, PACKET_LEN)?;
-    Ok(send_answer(out, key, 0, bitmap_of(records, key), packets))
+    Ok(send_answer(out, key, 0, bitmap, packets))
 }
 
-// Why an answer is refused: first for its packets, then for its request.
-fn answer_fault<A: Allocator>(
+// Which packets of an answer its request asked for. The error is why the answer is refused: first for its packets, then
+// for its request.
+fn asked_of<A: Allocator>(
     records: &Records<A>,
     key: Key,
     packets: &[Packet<A>],
-) -> Option<AtpFault>
-    ensures { result ≡ answer_fault records.now key packets.now }
+) -> Result<u8, AtpFault>
+    ensures bitmap { IfOk result (λ bitmap. IfSome (find (is_key key) records.now)
+        (λ r. bitmap ≡ asked_bitmap r.state)) }
+    ensures accepts { OnOk result (answer_fault records.now key packets.now ≡ None) }
+    ensures refuses { IfErr result (λ fault. answer_fault records.now key packets.now ≡ Some fault) }
 {
     match packets {
-        [] => Some(AtpFault::EmptyAnswer),
+        [] => Err(AtpFault::EmptyAnswer),
         [_, ..] => {
             if packets.len() <= PACKETS && fit(packets) {
-                record_fault(records, key)
+                asked_bitmap(records, key)
             } else {
-                Some(AtpFault::AtpTooLong)
+                Err(AtpFault::AtpTooLong)
             }
         }
     }

@@ -1,6 +1,6 @@
 //! The table of a responder's records: which of them a packet is for, and when one is added or removed.
 ghost use Rattle.std.specs.Prelude.{◌≡◌, ◌≢◌, ◌↔◌, ◌<◌, ◌≤◌, ◌∷◌, slice_get, slice_set, [], ◌++◌, length, true, find};
-ghost use Rattle.std.specs.Prelude.{IfOk, IfErr, IfSome, OnErr, IsOk, IsErrOf, Some, None, drop};
+ghost use Rattle.std.specs.Prelude.{IfOk, IfErr, IfSome, OnOk, OnErr, IsOk, IsErrOf, Some, None, drop};
 ghost use Rattle.std.specs.List.{list_any, position_from};
 ghost use Rattle.std.specs.Option.{option_copied};
 ghost use Rattle.at_ddp.specs.Outbox.{Sends};
@@ -103,23 +103,19 @@ pub(crate) fn count<A: Allocator>(records: &Records<A>) -> usize
     records.table.len()
 }
 
-// Whether the answer to a request will be kept.
-fn is_kept<A: Allocator>(records: &Records<A>, key: Key) -> bool
-    ensures { result ≡ is_kept (find (is_key key) records.now) }
+// Which packets a request that waits asks for. The error is why the request cannot be answered.
+pub(crate) fn asked_bitmap<A: Allocator>(records: &Records<A>, key: Key) -> Result<u8, AtpFault>
+    ensures bitmap { IfOk result (λ bitmap. IfSome (find (is_key key) records.now)
+        (λ r. bitmap ≡ asked_bitmap r.state)) }
+    ensures waits { OnOk result (record_fault (find (is_key key) records.now) ≡ None) }
+    ensures refuses { IfErr result (λ fault. record_fault (find (is_key key) records.now) ≡ Some fault) }
 {
-    match record_of(records, key) {
-        None => false,
-        Some(record) => record.keeps_answer(),
-    }
-}
-
-// Which packets a request asks for, if it waits.
-pub(crate) fn bitmap_of<A: Allocator>(records: &Records<A>, key: Key) -> u8
-    ensures { IfSome (find (is_key key) records.now) (λ r. result ≡ asked_bitmap r.state) }
-{
-    match record_of(records, key) {
-        None => 0,
-        Some(record) => record.bitmap(),
+    let Some(record) = record_of(records, key) else {
+        return Err(AtpFault::NoSuch);
+    };
+    match record.fault() {
+        Some(fault) => Err(fault),
+        None => Ok(record.bitmap()),
     }
 }
 
@@ -240,23 +236,13 @@ pub(crate) fn settle<A: Allocator>(
     ensures settled { records.new ≡ after_answer records.old key packets }
     ensures no_more { length records.new ≤ length records.old }
 {
-    if is_kept(records, key) {
-        keep(records, key, packets);
+    let Some(index) = index_of(records, key) else {
+        return;
+    };
+    if is_kept_at(records, key, index) {
+        keep(records, key, index, packets);
     } else {
-        let _ = forget(records, key);
-    }
-}
-
-fn keep<A: Allocator>(records: &mut Records<A>, key: Key, packets: Listed<Packet<A>, A>)
-    requires few { length packets ≤ 8 }
-    requires fits { fit packets ≡ true }
-    ensures kept { records.new ≡ replaced (is_key key) (record { key = key; state = Answered packets })
-        records.old }
-    ensures as_many { length records.new ≡ length records.old }
-{
-    if let Some(index) = index_of(records, key) {
-        let record = records.table.at_mut(index);
-        record.keep(packets);
+        let _ = forget_at(records, key, index);
     }
 }
 
@@ -271,14 +257,48 @@ pub(crate) fn settle_copy<A: Allocator + Copy>(
     ensures settled { records.new ≡ after_answer records.old key packets.now }
     ensures no_more { length records.new ≤ length records.old }
 {
-    if is_kept(records, key) {
-        keep_copy(records, key, packets);
+    let Some(index) = index_of(records, key) else {
+        return;
+    };
+    if is_kept_at(records, key, index) {
+        keep_copy(records, key, index, packets);
     } else {
-        let _ = forget(records, key);
+        let _ = forget_at(records, key, index);
     }
 }
 
-fn keep_copy<A: Allocator + Copy>(records: &mut Records<A>, key: Key, packets: &[Packet<A>])
+// Whether the answer to the request whose record is at this index will be kept.
+fn is_kept_at<A: Allocator>(records: &Records<A>, key: Key, index: usize) -> bool
+    requires { position_from (is_key key) 0 records.now ≡ Some index }
+    ensures { result ≡ is_kept (find (is_key key) records.now) }
+{
+    records.table.at(index).keeps_answer()
+}
+
+fn keep<A: Allocator>(
+    records: &mut Records<A>,
+    key: Key,
+    index: usize,
+    packets: Listed<Packet<A>, A>,
+)
+    requires place { position_from (is_key key) 0 records.old ≡ Some index }
+    requires few { length packets ≤ 8 }
+    requires fits { fit packets ≡ true }
+    ensures kept { records.new ≡ replaced (is_key key) (record { key = key; state = Answered packets })
+        records.old }
+    ensures as_many { length records.new ≡ length records.old }
+{
+    let record = records.table.at_mut(index);
+    record.keep(packets);
+}
+
+fn keep_copy<A: Allocator + Copy>(
+    records: &mut Records<A>,
+    key: Key,
+    index: usize,
+    packets: &[Packet<A>],
+)
+    requires place { position_from (is_key key) 0 records.old ≡ Some index }
     requires few { length packets.now ≤ 8 }
     requires fits { fit packets.now ≡ true }
     requires kept { is_kept (find (is_key key) records.old) ≡ true }
@@ -286,10 +306,8 @@ fn keep_copy<A: Allocator + Copy>(records: &mut Records<A>, key: Key, packets: &
         records.old }
     ensures as_many { length records.new ≡ length records.old }
 {
-    if let Some(index) = index_of(records, key) {
-        let record = records.table.at_mut(index);
-        record.keep_copy(packets);
-    }
+    let record = records.table.at_mut(index);
+    record.keep_copy(packets);
 }
 
 // Removes a record. Returns which packets its request asked for.
@@ -298,9 +316,19 @@ pub(crate) fn forget<A: Allocator>(records: &mut Records<A>, key: Key) -> u8
     ensures bitmap { IfSome (find (is_key key) records.old) (λ r. result ≡ asked_bitmap r.state) }
     ensures no_more { length records.new ≤ length records.old }
 {
-    let Some(index) = index_of(records, key) else {
-        return 0;
-    };
+    match index_of(records, key) {
+        None => 0,
+        Some(index) => forget_at(records, key, index),
+    }
+}
+
+// Removes the record at this index. Returns which packets its request asked for.
+fn forget_at<A: Allocator>(records: &mut Records<A>, key: Key, index: usize) -> u8
+    requires { position_from (is_key key) 0 records.old ≡ Some index }
+    ensures gone { records.new ≡ without_first (is_key key) records.old }
+    ensures bitmap { IfSome (find (is_key key) records.old) (λ r. result ≡ asked_bitmap r.state) }
+    ensures no_more { length records.new ≤ length records.old }
+{
     let record = records.table.remove(index);
     record.bitmap()
 }

@@ -1,0 +1,28 @@
+use Rattle.std.proofs.Common.{List, sym, ap, ◌∙◌}
+use Rattle.std.specs.Prelude.{remove}
+use Rattle.at_ddp.proofs.TableLemmas.{found}
+use Rattle.at_atp_responder.specs.Keys.{key_of}
+use Rattle.at_atp_responder.specs.Records.{Record, asked_bitmap, is_key}
+use Rattle.at_atp_responder.proofs.KeyLemmas.{filed}
+use Rattle.at_ddp.proofs.FoundLemmas.{entry_is}
+use Rattle.at_atp_responder.proofs.records.forget_at.Goals as goal
+
+pub remove-record-requires : goal.remove-record-requires
+remove-record-requires g c = rw c.records.view_is
+    (found (is_key c.args.key) c.args.records.now c.args.index c.requires).within
+
+pub invariant_of-records : goal.invariant_of-records
+invariant_of-records g c = filed c.remove-record.new.self
+    (c.remove-record.ensures.keyed key_of c.records.invariant.keyed) c.remove-record.ensures.apart
+
+pub returns-clause-gone : goal.returns-clause-gone
+returns-clause-gone g c = c.remove-record.ensures.items
+    ∙ ap (λ (l : List Record). remove l c.args.index) c.records.view_is
+    ∙ sym (found (is_key c.args.key) c.args.records.now c.args.index c.requires).gone_is
+
+pub returns-clause-bitmap : goal.returns-clause-bitmap
+returns-clause-bitmap g c =
+    let f = found (is_key c.args.key) c.args.records.now c.args.index c.requires in
+    rw f.first (c.bitmap.ensures ∙ ap (λ (r : Record). asked_bitmap r.state)
+    (entry_is f c.remove-record.result
+    (rw c.records.view_is at c.remove-record.ensures.value)))
