@@ -16,7 +16,8 @@ use Rattle.at_pcap.proofs.RecordLemmas.{all_of}
 use Rattle.at_pcap.proofs.RuleLemmas.{four_behind}
 
 -- the end of a block, behind captured bytes that were read
-module _ (o : Order) (total left count : ℕ) (front : List ℕ) (room : count + 4 ≤ left) (len : length front ≡ count) where
+module _ (o : Order) (total left count : ℕ) (front : List ℕ) (room : count + 4 ≤ left)
+    (len : length front ≡ count) where
   pub data_closed : (known mid last : Option (List ℕ)) → Consumes known mid front
       → (result : Result (Unit {0}) ReadError)
       → OnOk result ((bytes : List ℕ) × IsClosing o total (left - count) bytes × Consumes mid last bytes)
@@ -40,10 +41,10 @@ module _ (o : Order) (total left count : ℕ) (front : List ℕ) (room : count +
   bad_data CutCapture rest short = omega (arith, length-append front rest, short)
   bad_data BadBlock rest other =
       let there = other.0 in
-      let at : left - 4 ≡ count + (left - count - 4) = omega arith in (
+      let at : left - 4 ≡ count + (left - count - 4) = omega arith in
+      let same = ap (λ m. four_at o m (front ++ rest)) at ∙ four_behind o (left - count - 4) front rest count len in (
         omega (arith, length-append front rest, there),
-        λ e. other.1 (sym (ap (λ m. four_at o m (front ++ rest)) at ∙ four_behind o (left - count - 4) front rest count len)
-            ∙ e),
+        λ e. other.1 (sym same ∙ e),
       )
   bad_data NoCapture rest no_fault = no_fault
   bad_data BadVersion rest no_fault = no_fault

@@ -5,8 +5,8 @@ use Rattle.std.proofs.Common.{if◌then◌else◌}
 use Rattle.std.specs.Prelude.{Option, Some, None, slice_get}
 use Rattle.std.proofs.lemmas.Bool.{cases_lt, cond-true, ltb-false}
 use Rattle.std.proofs.lemmas.List.{drop-append-le, length-drop, take-append-le}
-use Rattle.at_pcap.specs.Blocks.{Block, Section, block_in, by_kind, captured_in, closed, enhanced_in}
-use Rattle.at_pcap.specs.Blocks.{four_at, interface_in, is_section, needs, obsolete_in, options, order_of}
+use Rattle.at_pcap.specs.Blocks.{Block, Section, block_in, by_kind, captured_in, closed}
+use Rattle.at_pcap.specs.Blocks.{four_at, interface_in, is_section, needs, numbered_in, options, order_of}
 use Rattle.at_pcap.specs.Blocks.{other_in, packet_frame, packet_from, refuse}
 use Rattle.at_pcap.specs.Blocks.{section_by, section_in, simple_count, simple_frame, simple_from, simple_in}
 use Rattle.at_pcap.specs.Blocks.{two_at, with_interface, with_resolution}
@@ -19,9 +19,9 @@ use Rattle.at_pcap.specs.declared.order.Order.{Order}
 use Rattle.at_pcap.specs.declared.fault.CaptureFault.{CaptureFault}
 use Rattle.at_pcap.specs.declared.fault.CaptureFault.TheVariants.{BadBlock, BadVersion, CutCapture}
 use Rattle.at_pcap.specs.declared.fault.CaptureFault.TheVariants.{NoInterface, RecordTooLong}
-use Rattle.at_pcap.proofs.BlockLemmas.{order_before, section_block}
+use Rattle.at_pcap.proofs.SectionLemmas.{order_before, section_block}
 use Rattle.at_pcap.proofs.FrontLemmas.{section_before}
-use Rattle.at_pcap.proofs.RuleLemmas.{closed_cut, four_before, four_front, needs_cut, two_before}
+use Rattle.at_pcap.proofs.RuleLemmas.{closed_cut, four_before, four_front, needs_cut, number_before, two_before}
 use Rattle.at_pcap.proofs.LongerLemmas.{Goes, failing, goes_by, goes_closed, goes_if, goes_needs, goes_options}
 use Rattle.at_pcap.proofs.LongerLemmas.{goes_sized, moved, no_ok, same_total}
 
@@ -163,22 +163,15 @@ module _ (s : Section) (a more : List ℕ) (long : 8 ≤ length a) where
       (four_at s.order 20 (a ++ more)) (packet_frame i s a) (packet_frame i s (a ++ more))
       (sym (four_before s.order 20 a more (omega arith))) (same_packet i))
 
-  goes_enhanced : Goes (enhanced_in s a) (enhanced_in s (a ++ more))
-  unfolding enhanced_in
-  goes_enhanced = goes_sized s.order a more long 32 _ _ (λ enough. goes_needs 12 a more _ _ (λ there.
-      moved (packet_from (slice_get s.interfaces (four_at s.order 8 a)) s a)
-      (packet_from (slice_get s.interfaces (four_at s.order 8 a)) s (a ++ more)) _
+  goes_numbered : (width : ℕ) → Goes (numbered_in width s a) (numbered_in width s (a ++ more))
+  unfolding numbered_in
+  goes_numbered width = goes_sized s.order a more long 32 _ _ (λ enough. goes_needs (8 + width) a more _ _ (λ there.
+      let number = number_in s.order width (drop 8 a) in
+      moved (packet_from (slice_get s.interfaces number) s a)
+      (packet_from (slice_get s.interfaces number) s (a ++ more)) _
       (ap (λ k. packet_from (slice_get s.interfaces k) s (a ++ more))
-      (sym (four_before s.order 8 a more (omega arith))))
-      (goes_packet (slice_get s.interfaces (four_at s.order 8 a)))))
-
-  goes_obsolete : Goes (obsolete_in s a) (obsolete_in s (a ++ more))
-  unfolding obsolete_in
-  goes_obsolete = goes_sized s.order a more long 32 _ _ (λ enough. goes_needs 10 a more _ _ (λ there.
-      moved (packet_from (slice_get s.interfaces (two_at s.order 8 a)) s a)
-      (packet_from (slice_get s.interfaces (two_at s.order 8 a)) s (a ++ more)) _
-      (ap (λ k. packet_from (slice_get s.interfaces k) s (a ++ more)) (sym (two_before s.order 8 a more (omega arith))))
-      (goes_packet (slice_get s.interfaces (two_at s.order 8 a)))))
+      (sym (number_before s.order width 8 a more there)))
+      (goes_packet (slice_get s.interfaces number))))
 
   goes_simple_from : (i : Option Interface) → 12 ≤ length a → Goes (simple_from i s a) (simple_from i s (a ++ more))
   goes_simple_from None there = failing NoInterface (simple_from None s (a ++ more))
@@ -204,8 +197,8 @@ module _ (s : Section) (a more : List ℕ) (long : 8 ≤ length a) where
   goes_kind : (kind : ℕ) → Goes (by_kind kind s a) (by_kind kind s (a ++ more))
   goes_kind kind =
       goes_if (kind == 1) (kind == 1) (interface_in s a) _ (interface_in s (a ++ more)) _ refl goes_interface
-      (goes_if (kind == 6) (kind == 6) (enhanced_in s a) _ (enhanced_in s (a ++ more)) _ refl goes_enhanced
-      (goes_if (kind == 2) (kind == 2) (obsolete_in s a) _ (obsolete_in s (a ++ more)) _ refl goes_obsolete
+      (goes_if (kind == 6) (kind == 6) (numbered_in 4 s a) _ (numbered_in 4 s (a ++ more)) _ refl (goes_numbered 4)
+      (goes_if (kind == 2) (kind == 2) (numbered_in 2 s a) _ (numbered_in 2 s (a ++ more)) _ refl (goes_numbered 2)
       (goes_if (kind == 3) (kind == 3) (simple_in s a) _ (simple_in s (a ++ more)) _ refl goes_simple goes_other)))
 
 abbrev any_of : Section → List ℕ → Result Block CaptureFault

@@ -55,7 +55,3 @@ two_read Little n rest fits = omega arith
 pub two_fit : (o : Order) (bytes : List ℕ) → InBytes bytes → number_in o 2 bytes < 2 ^ 16
 two_fit Big bytes fits = omega (arith, fits 0, fits 1)
 two_fit Little bytes fits = omega (arith, fits 0, fits 1)
-
-pub four_fit : (o : Order) (bytes : List ℕ) → InBytes bytes → number_in o 4 bytes < 2 ^ 32
-four_fit Big bytes fits = omega (arith, fits 0, fits 1, fits 2, fits 3)
-four_fit Little bytes fits = omega (arith, fits 0, fits 1, fits 2, fits 3)

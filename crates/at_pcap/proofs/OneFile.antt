@@ -1,5 +1,5 @@
 -- A file has one reading, in either form.
-use Rattle.std.proofs.Common.{◌≡◌, ℕ, ◌+◌, List, [], ◌∷◌, ◌++◌, length, map, refl, sym, ap, subst, ◌∙◌, arith}
+use Rattle.std.proofs.Common.{◌≡◌, ℕ, List, [], ◌∷◌, ◌++◌, length, map, refl, sym, ap, subst, ◌∙◌, arith}
 use Rattle.std.proofs.Common.{append_assoc, append-nil, Result, Ok, Err, true, false}
 use Rattle.std.specs.Prelude.{Option, Some, None}
 use Rattle.std.proofs.lemmas.Bool.{false≢true}
@@ -22,7 +22,8 @@ use Rattle.at_pcap.specs.declared.fault.CaptureFault.{CaptureFault}
 use Rattle.at_pcap.specs.declared.fault.CaptureFault.TheVariants.{NoCapture, CutCapture, BadVersion, RecordTooLong}
 use Rattle.at_pcap.specs.declared.fault.CaptureFault.TheVariants.{BadBlock, NoInterface, BadResolution}
 use Rattle.at_pcap.proofs.LongerBlocks.{block_some, goes_block, section_any}
-use Rattle.at_pcap.proofs.OneReading.{faultless, magic_in, one_reading}
+use Rattle.at_pcap.proofs.OneHeader.{faultless, magic_in}
+use Rattle.at_pcap.proofs.OneReading.{one_reading}
 use Rattle.at_pcap.proofs.RuleLemmas.{four_before}
 
 -- ---- blocks from the first one on

@@ -1,20 +1,19 @@
 -- The blocks of a pcapng file that were read so far.
-use Rattle.std.proofs.Common.{◌≡◌, ◌⊎◌, inl, inr, ℕ, ◌+◌, ◌<◌, ◌≤◌, List, [], ◌∷◌, ◌++◌, length, take, true, refl, sym, ap, subst}
-use Rattle.std.proofs.Common.{◌∙◌, arith, append_assoc, append-nil, Ok, Err}
+use Rattle.std.proofs.Common.{◌≡◌, ℕ, ◌+◌, ◌<◌, ◌≤◌, List, [], ◌++◌, length, take, true, refl, sym, ap, subst}
+use Rattle.std.proofs.Common.{◌∙◌, arith, append_assoc, append-nil}
 use Rattle.std.specs.Prelude.{Option, None, Some}
 use Rattle.std.specs.Io.KnownBytes.{Consumes, IsAtEnd, prepend_known}
 use Rattle.std.specs.List.{FoldsTo}
-use Rattle.std.proofs.KnownBytes.{Consumes-nil, Consumes-trans}
+use Rattle.std.proofs.KnownBytes.{Consumes-trans}
 use Rattle.std.proofs.lemmas.Fn.{FoldsTo-push}
 use Rattle.std.proofs.lemmas.List.{length-append}
-use Rattle.at_pcap.specs.Blocks.{Section, block_in, is_section}
+use Rattle.at_pcap.specs.Blocks.{Section, is_section}
 use Rattle.at_pcap.specs.Faults.{AreAll}
-use Rattle.at_pcap.specs.Files.{BegunFile, Blocks, BreaksFile, HoldsFile, Nothing, Pcapng, StarvedFile, TellsFile}
+use Rattle.at_pcap.specs.Files.{BegunFile, Blocks, HoldsFile, Nothing, Pcapng, TellsFile}
 use Rattle.at_pcap.specs.Frames.{Frame}
 use Rattle.at_pcap.specs.Readings.{AreFirst, place}
 use Rattle.at_pcap.specs.Sections.{AreBlocks, NoBlocks, OneMore, with_found}
-use Rattle.at_pcap.specs.Steps.{Breaks, Moves, TakesFound, TellsMove}
-use Rattle.at_pcap.specs.declared.fault.CaptureFault.{CaptureFault}
+use Rattle.at_pcap.specs.Steps.{Moves, TakesFound, TellsMove}
 use Rattle.at_pcap.specs.declared.reader.CaptureError.{CaptureError}
 use Rattle.at_pcap.specs.declared.reader.CaptureError.TheVariants as broken
 use Rattle.at_pcap.proofs.FrontLemmas.{section_before}
@@ -98,7 +97,8 @@ first_broken S takes keeps known front s old new (broken.Fault fault there) is l
   taken = sym tells.1;
 }
 first_broken S takes keeps known front s old new (broken.Unreadable why) is long tells =
-    record { first = []; frames = []; are = none_first (prepend_known front known); begins = Nothing; taken = sym tells }
+    let are = none_first (prepend_known front known) in
+    record { first = []; frames = []; are = are; begins = Nothing; taken = sym tells }
 first_broken S takes keeps known front s old new broken.NoMemory is long tells = (
   old,
   record { first = []; frames = []; are = none_first (prepend_known front known); begins = Nothing; taken = refl },

@@ -24,7 +24,8 @@ use Rattle.at_pcap.specs.declared.fault.ReadError.{ReadError}
 use Rattle.at_pcap.specs.declared.fault.ReadError.TheVariants as error
 
 -- this file header and some records were read, which were taken, and this is the place behind them
-pub record HasRead (S : Type 0) (takes : S → Frame → S → Type 0) (known left : Option (List ℕ)) (h : FileHeader) (old new : S) (at : ℕ) : Type 0 where
+pub record HasRead (S : Type 0) (takes : S → Frame → S → Type 0) (known left : Option (List ℕ)) (h : FileHeader)
+    (old new : S) (at : ℕ) : Type 0 where
   pub front : List ℕ
   pub records : List Record
   pub file_header : IsFileHeader front h
@@ -45,8 +46,8 @@ file_header_len front h is =
     let len = len_of h.order (magic_of h.precision) is.minor (is.upper * 2 ^ 16 + h.link_type) is.ignored in
     ap length is.fields ∙ len ∙ omega (arith, is.ignored_len)
 
-pub begin : (S : Type 0) (takes : S → Frame → S → Type 0) (known left : Option (List ℕ)) (h : FileHeader) (old : S) (bytes : List ℕ) → IsFileHeader bytes h
-    → Consumes known left bytes → HasRead S takes known left h old old 24
+pub begin : (S : Type 0) (takes : S → Frame → S → Type 0) (known left : Option (List ℕ)) (h : FileHeader) (old : S)
+    (bytes : List ℕ) → IsFileHeader bytes h → Consumes known left bytes → HasRead S takes known left h old old 24
 begin S takes known left h old bytes is read =
     let all : bytes ≡ bytes ++ [] = sym (append-nil bytes) in
     record {
@@ -70,7 +71,8 @@ single p ok (suc k) d low = absurd (omega (arith, low))
 pub more : (S : Type 0) (takes : S → Frame → S → Type 0) (known left last : Option (List ℕ))
     (h : FileHeader) (old new next : S) (at after : ℕ) (p : Record)
     → HasRead S takes known left h old new at → IsRecord p → Consumes left last (record_bytes h.order p)
-    → takes new (frame_of h p) next → after ≡ place (at + (16 + length p.captured)) → HasRead S takes known last h old next after
+    → takes new (frame_of h p) next → after ≡ place (at + (16 + length p.captured))
+    → HasRead S takes known last h old next after
 more S takes known left last h old new next at after p so_far ok read taken place_is =
     let front = so_far.front in
     let ps = so_far.records in

@@ -1,11 +1,13 @@
 -- Rules of a block, and numbers in the front of bytes that go on.
 use Rattle.std.proofs.Common.{◌≡◌, ◌≢◌, ◌⊎◌, inl, inr, ℕ, ◌+◌, ◌-◌, ◌%◌, ◌<◌, ◌≤◌, ◌==◌, not, nat_lt, Bool, true, false}
-use Rattle.std.proofs.Common.{List, [], ◌∷◌, ◌++◌, length, drop, refl, sym, ap, ◌∙◌, arith, append-nil, Result, Ok, Err}
+use Rattle.std.proofs.Common.{List, [], ◌++◌, length, drop, refl, sym, ap, ◌∙◌, arith, append-nil, Result, Ok, Err}
+use Rattle.std.proofs.Common.{zero, suc}
 use Rattle.std.specs.Prelude.{Option, Some, None}
 use Rattle.std.specs.Io.KnownBytes.{Consumes, IsAtEnd}
 use Rattle.std.proofs.lemmas.Bool.{cases_Bool, cond-false, cond-true, eq-eqb, le-ltb, lt-ltb, ne_eqb}
 use Rattle.std.proofs.lemmas.Bool.{not_from_false, not_from_true}
-use Rattle.std.proofs.lemmas.List.{drop-append-le, drop-drop, drop_at, length-append, length-drop}
+use Rattle.std.proofs.lemmas.List.{drop-append-le, drop-drop, drop_at, get_or_append_left, length-append, length-drop}
+use Rattle.byteorder.specs.Endian.{big_from, little_from}
 use Rattle.at_pcap.specs.Blocks.{closed, four_at, needs, refuse, sized, two_at}
 use Rattle.at_pcap.specs.Faults.{AreAll}
 use Rattle.at_pcap.specs.Orders.{number_in}
@@ -21,25 +23,40 @@ use Rattle.at_pcap.proofs.RecordLemmas.{all_of}
 
 -- ---- numbers
 
+big_front : (i n : ℕ) (a b : List ℕ) → i + n ≤ length a → big_from i n (a ++ b) ≡ big_from i n a
+big_front i zero a b long = refl
+big_front i (suc n) a b long =
+    let byte = get_or_append_left a b 0 i (omega arith) in
+    let rest = big_front (suc i) n a b (omega arith) in rw (byte, rest) refl
+
+little_front : (i n : ℕ) (a b : List ℕ) → i + n ≤ length a → little_from i n (a ++ b) ≡ little_from i n a
+little_front i zero a b long = refl
+little_front i (suc n) a b long =
+    let byte = get_or_append_left a b 0 i (omega arith) in
+    let rest = little_front (suc i) n a b (omega arith) in rw (byte, rest) refl
+
+number_front : (o : Order) (n : ℕ) (a b : List ℕ) → n ≤ length a → number_in o n (a ++ b) ≡ number_in o n a
+number_front Big n a b long = big_front 0 n a b (omega arith)
+number_front Little n a b long = little_front 0 n a b (omega arith)
+
+pub number_before : (o : Order) (n i : ℕ) (a b : List ℕ) → i + n ≤ length a
+    → number_in o n (drop i (a ++ b)) ≡ number_in o n (drop i a)
+number_before o n i a b long =
+    ap (number_in o n) (drop-append-le i a b (omega arith))
+    ∙ number_front o n (drop i a) b (omega (arith, length-drop i a))
+
+-- the same of 4 and of 2 bytes
 pub four_front : (o : Order) (a b : List ℕ) → 4 ≤ length a → number_in o 4 (a ++ b) ≡ number_in o 4 a
-four_front Big (p ∷ q ∷ r ∷ s ∷ a) b long = refl
-four_front Little (p ∷ q ∷ r ∷ s ∷ a) b long = refl
-four_front _ _ b long = absurd (omega arith)
+four_front o a b long = number_front o 4 a b long
 
 pub two_front : (o : Order) (a b : List ℕ) → 2 ≤ length a → number_in o 2 (a ++ b) ≡ number_in o 2 a
-two_front Big (p ∷ q ∷ a) b long = refl
-two_front Little (p ∷ q ∷ a) b long = refl
-two_front _ _ b long = absurd (omega arith)
+two_front o a b long = number_front o 2 a b long
 
 pub four_before : (o : Order) (i : ℕ) (a b : List ℕ) → i + 4 ≤ length a → four_at o i (a ++ b) ≡ four_at o i a
-four_before o i a b long =
-    ap (number_in o 4) (drop-append-le i a b (omega arith))
-    ∙ four_front o (drop i a) b (omega (arith, length-drop i a))
+four_before o i a b long = number_before o 4 i a b long
 
 pub two_before : (o : Order) (i : ℕ) (a b : List ℕ) → i + 2 ≤ length a → two_at o i (a ++ b) ≡ two_at o i a
-two_before o i a b long =
-    ap (number_in o 2) (drop-append-le i a b (omega arith))
-    ∙ two_front o (drop i a) b (omega (arith, length-drop i a))
+two_before o i a b long = number_before o 2 i a b long
 
 pub four_behind : (o : Order) (i : ℕ) (a b : List ℕ) (n : ℕ) → length a ≡ n → four_at o (n + i) (a ++ b) ≡ four_at o i b
 four_behind o i a b n len = ap (number_in o 4) (sym (drop-drop i n (a ++ b)) ∙ ap (drop i) (drop_at a b n len))

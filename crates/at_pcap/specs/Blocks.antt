@@ -171,14 +171,12 @@ packet_from None s bytes = Err NoInterface
 packet_from (Some i) s bytes =
     needs 24 bytes (captured_in s 28 (four_at s.order 20 bytes) bytes (packet_frame i s bytes))
 
--- an enhanced packet has its interface at offset 8 in 4 bytes, and an obsolete packet in 2
-unfoldable pub enhanced_in : Section → List ℕ → Result Block CaptureFault
-enhanced_in s bytes =
-    sized s.order 32 bytes (needs 12 bytes (packet_from (slice_get s.interfaces (four_at s.order 8 bytes)) s bytes))
-
-unfoldable pub obsolete_in : Section → List ℕ → Result Block CaptureFault
-obsolete_in s bytes =
-    sized s.order 32 bytes (needs 10 bytes (packet_from (slice_get s.interfaces (two_at s.order 8 bytes)) s bytes))
+-- a packet that has the number of its interface at offset 8, in so many bytes: 4 if it is enhanced, 2 if it is obsolete
+unfoldable pub numbered_in : ℕ → Section → List ℕ → Result Block CaptureFault
+numbered_in width s bytes =
+    sized s.order 32 bytes
+    (needs (8 + width) bytes
+    (packet_from (slice_get s.interfaces (number_in s.order width (drop 8 bytes))) s bytes))
 
 -- a simple packet is of the first interface, has no time, and has the frame up to the most bytes of that interface
 abbrev pub simple_count : Interface → ℕ → ℕ
@@ -206,12 +204,12 @@ simple_in s bytes = sized s.order 16 bytes (needs 12 bytes (simple_from (slice_g
 unfoldable pub other_in : Section → List ℕ → Result Block CaptureFault
 other_in s bytes = sized s.order 12 bytes (closed s.order bytes (record { section = s; found = None }))
 
--- a block by its type
+-- a block by its type: an interface, an enhanced packet, an obsolete one, a simple one, or any other block
 abbrev pub by_kind : ℕ → Section → List ℕ → Result Block CaptureFault
 by_kind kind s bytes =
     if kind == 1 then interface_in s bytes else
-    (if kind == 6 then enhanced_in s bytes else
-    (if kind == 2 then obsolete_in s bytes else (if kind == 3 then simple_in s bytes else other_in s bytes)))
+    (if kind == 6 then numbered_in 4 s bytes else
+    (if kind == 2 then numbered_in 2 s bytes else (if kind == 3 then simple_in s bytes else other_in s bytes)))
 
 -- what the bytes begin with, read in this section
 unfoldable pub block_in : Section → List ℕ → Result Block CaptureFault

@@ -1,6 +1,6 @@
 -- Which frames a capture of either form has, and where it ends. S is what takes the frames, and `takes` what taking one
 -- does.
-use Rattle.std.specs.Prelude.{◌≡◌, ◌⊎◌, ℕ, ◌-◌, List, [], ◌++◌, length, map, Option, Some, None, true, false}
+use Rattle.std.specs.Prelude.{◌≡◌, ◌⊎◌, ℕ, ◌-◌, List, [], length, map, Option, Some, None, true, false}
 use Rattle.std.specs.List.{FoldsTo}
 use Rattle.at_pcap.specs.Blocks.{Section, is_section}
 use Rattle.at_pcap.specs.Captures.{Record}

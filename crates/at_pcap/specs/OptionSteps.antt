@@ -1,5 +1,5 @@
 -- The steps of reading the options of an interface. No clause of a public function cites this module.
-use Rattle.std.specs.Prelude.{◌≡◌, ℕ, ◌+◌, ◌≤◌, ◌++◌, List, [], length, Option, Some, None, Result, Ok, Err}
+use Rattle.std.specs.Prelude.{◌≡◌, ℕ, ◌+◌, ◌++◌, List, length, Option, Some, None, Ok}
 use Rattle.std.specs.Io.KnownBytes.{Consumes}
 use Rattle.at_pcap.specs.Blocks.{Setting, options}
 use Rattle.at_pcap.specs.declared.interface.Resolution.{Resolution}

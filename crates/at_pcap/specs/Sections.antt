@@ -2,7 +2,6 @@
 use Rattle.std.specs.Prelude.{◌≡◌, ℕ, ◌<◌, List, [], ◌∷◌, ◌++◌, length, Option, Some, None, Ok, Err, true}
 use Rattle.at_pcap.specs.Blocks.{Block, Section, block_in, four_at, is_section}
 use Rattle.at_pcap.specs.Frames.{Frame}
-use Rattle.at_pcap.specs.declared.order.Order.TheVariants.{Big}
 use Rattle.at_pcap.specs.declared.fault.CaptureFault.{CaptureFault}
 
 -- the bytes are one block, read in this section, and leave this

@@ -13,7 +13,7 @@ use crate::front::{
 };
 use crate::interface::Interface;
 use crate::options::read_options;
-use crate::packets::{read_enhanced, read_obsolete, read_simple};
+use crate::packets::{read_numbered, read_simple};
 use crate::passing::close;
 use crate::section::OpenSection;
 use std::alloc::Allocator;
@@ -56,8 +56,8 @@ fn read_by_kind<A: Allocator, R: Read>(
 {
     match section.order.read_u32(front) {
         INTERFACE => read_interface(reader, section, front),
-        ENHANCED => read_enhanced(reader, section, front, buffer),
-        OBSOLETE => read_obsolete(reader, section, front, buffer),
+        ENHANCED => read_numbered(reader, section, 4, front, buffer),
+        OBSOLETE => read_numbered(reader, section, 2, front, buffer),
         SIMPLE => read_simple(reader, section, front, buffer),
         _ => read_other(reader, section, front),
     }

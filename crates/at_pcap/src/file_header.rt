@@ -1,5 +1,5 @@
 //! The file header of a classic capture.
-ghost use Rattle.std.specs.Prelude.{◌≡◌, ◌≤◌, List, ℕ, length, IfOk, IfErr, IfSome, IfNone};
+ghost use Rattle.std.specs.Prelude.{◌≤◌, List, ℕ, length, IfOk, IfErr, IfSome, IfNone};
 ghost use Rattle.std.specs.Io.KnownBytes.{Consumes};
 ghost use Rattle.at_pcap.specs.Captures.{IsFileHeader, HasMagic};
 ghost use Rattle.at_pcap.specs.Faults.{FailsFileHeader, HasAnyMagic, TellsFileHeader};

@@ -1,5 +1,5 @@
 //! Reading of a number of bytes, however the reader splits them.
-ghost use Rattle.std.specs.Prelude.{◌≡◌, ◌≤◌, ◌<◌, length, take, IfOk};
+ghost use Rattle.std.specs.Prelude.{◌≤◌, ◌<◌, length, take, IfOk};
 ghost use Rattle.std.specs.Io.KnownBytes.{Consumes, IsAtEnd};
 
 use std::io;

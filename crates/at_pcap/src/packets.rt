@@ -1,13 +1,14 @@
 //! The packets of pcapng, each of which is a captured frame.
-ghost use Rattle.std.specs.Prelude.{◌≡◌, ◌+◌, ◌<◌, ◌≤◌, ◌++◌, List, ℕ, length, IfErr, OnOk};
+ghost use Rattle.std.specs.Prelude.{◌≡◌, ◌⊎◌, ◌+◌, ◌<◌, ◌≤◌, ◌++◌, List, ℕ, drop, length, IfErr, OnOk};
 ghost use Rattle.std.specs.Prelude.{slice_get};
 ghost use Rattle.std.specs.Io.KnownBytes.{Consumes, IsAtEnd};
-ghost use Rattle.at_pcap.specs.Blocks.{enhanced_in, four_at, obsolete_in, packet_from, simple_count, simple_in};
+ghost use Rattle.at_pcap.specs.Blocks.{four_at, numbered_in, packet_from, simple_count, simple_in};
+ghost use Rattle.at_pcap.specs.Orders.{number_in};
 ghost use Rattle.at_pcap.specs.Steps.{IsClosing, ReadsBlock, TellsUnclosed, capture_fault, header_at, section_of};
 
 use crate::fault::{CaptureFault, ReadError};
 use crate::frame::{FrameHeader, Time};
-use crate::front::{FRONT_LEN, SIMPLE_LEN, sized};
+use crate::front::{FRONT_LEN, HEADER_LEN, SIMPLE_LEN, sized};
 use crate::interface::Interface;
 use crate::order::Order;
 use crate::passing::close;
@@ -19,26 +20,28 @@ use std::io::Read;
 // A time in ticks is in two halves of 32 bits.
 const HALF: u64 = 4_294_967_296;
 
-/// Reads an enhanced packet.
-pub(crate) fn read_enhanced<A: Allocator, R: Read>(
+/// Reads a packet that has the number of its interface in so many bytes: 4 if it is enhanced, 2 if it is obsolete.
+pub(crate) fn read_numbered<A: Allocator, R: Read>(
     reader: &mut R,
     section: &OpenSection<A>,
+    width: usize,
     front: &[u8],
     buffer: &mut Vec<u8, A>,
 ) -> Result<Option<FrameHeader>, ReadError>
+    requires width { (width ≡ 2) ⊎ (width ≡ 4) }
     requires long { 8 ≤ length front.now }
     requires fits { length front.now ≤ 28 }
     requires short { length front.now < 28 → IsAtEnd (R.remaining reader.old) }
-    ensures { ReadsBlock (enhanced_in (section_of section.now)) (R.remaining reader.old) (R.remaining reader.new)
+    ensures { ReadsBlock (numbered_in width (section_of section.now)) (R.remaining reader.old) (R.remaining reader.new)
         front.now (section_of section.now) buffer.new.items result }
 {
     let Some(total) = sized(section.order, front, 32) else {
         return Err(ReadError::Fault(CaptureFault::BadBlock));
     };
-    if front.len() < 12 {
+    if front.len() < HEADER_LEN + width {
         return Err(ReadError::Fault(CaptureFault::CutCapture));
     }
-    let number = section.order.read_u32(&front[8..]);
+    let number = interface_number(section.order, width, front);
     read_packet(
         reader,
         section,
@@ -49,34 +52,17 @@ pub(crate) fn read_enhanced<A: Allocator, R: Read>(
     )
 }
 
-/// Reads an obsolete packet, which numbers its interface in two bytes.
-pub(crate) fn read_obsolete<A: Allocator, R: Read>(
-    reader: &mut R,
-    section: &OpenSection<A>,
-    front: &[u8],
-    buffer: &mut Vec<u8, A>,
-) -> Result<Option<FrameHeader>, ReadError>
-    requires long { 8 ≤ length front.now }
-    requires fits { length front.now ≤ 28 }
-    requires short { length front.now < 28 → IsAtEnd (R.remaining reader.old) }
-    ensures { ReadsBlock (obsolete_in (section_of section.now)) (R.remaining reader.old) (R.remaining reader.new)
-        front.now (section_of section.now) buffer.new.items result }
+// The number of an interface, which is behind the header of its packet.
+fn interface_number(order: Order, width: usize, front: &[u8]) -> u32
+    requires width { (width ≡ 2) ⊎ (width ≡ 4) }
+    requires long { 8 + width ≤ length front.now }
+    ensures { result ≡ number_in order width (drop 8 front.now) }
 {
-    let Some(total) = sized(section.order, front, 32) else {
-        return Err(ReadError::Fault(CaptureFault::BadBlock));
-    };
-    if front.len() < 10 {
-        return Err(ReadError::Fault(CaptureFault::CutCapture));
+    if width == 2 {
+        u32::from(order.read_u16(&front[HEADER_LEN..]))
+    } else {
+        order.read_u32(&front[HEADER_LEN..])
     }
-    let number = u32::from(section.order.read_u16(&front[8..]));
-    read_packet(
-        reader,
-        section,
-        interface_at(section, number),
-        front,
-        total,
-        buffer,
-    )
 }
 
 // Reads a packet of this interface, in a block of so many bytes.

@@ -1,5 +1,5 @@
 //! A section of pcapng, as far as it was read.
-ghost use Rattle.std.specs.Prelude.{◌≡◌, ◌++◌, ◌∷◌, [], OnOk};
+ghost use Rattle.std.specs.Prelude.{◌≡◌, ◌++◌, ◌∷◌, [], OnErr, OnOk};
 
 use crate::interface::Interface;
 use crate::order::Order;
@@ -15,9 +15,10 @@ pub(crate) struct OpenSection<A: Allocator> {
 }
 
 impl<A: Allocator> OpenSection<A> {
-    /// No interfaces yet. This takes no memory.
+    /// No interfaces yet. The order is `Big` until a section header says its own. This takes no memory.
     pub(crate) fn new(alloc: A) -> OpenSection<A>
-        ensures { result.interfaces.items ≡ [] }
+        ensures order { result.order ≡ Order.Big }
+        ensures none { result.interfaces.items ≡ [] }
     {
         OpenSection {
             order: Order::Big,
@@ -25,10 +26,11 @@ impl<A: Allocator> OpenSection<A> {
         }
     }
 
-    /// Adds an interface behind the others. The error is out of memory.
+    /// Adds an interface behind the others. The error is out of memory, which changes nothing.
     pub(crate) fn add(&mut self, interface: Interface) -> Result<(), AllocError>
         ensures order { self.new.order ≡ self.old.order }
         ensures added { OnOk result (self.new.interfaces.items ≡ self.old.interfaces.items ++ interface ∷ []) }
+        ensures err { OnErr result (self.new.interfaces.items ≡ self.old.interfaces.items) }
     {
         self.interfaces.push(interface)?;
         Ok(())

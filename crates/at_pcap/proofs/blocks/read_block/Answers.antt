@@ -1,4 +1,4 @@
-use Rattle.std.proofs.Common.{◌≡◌, ◌∙◌, sym, ap, arith, ◌++◌, true, false}
+use Rattle.std.proofs.Common.{◌≡◌, ◌∙◌, sym, true, false}
 use Rattle.at_pcap.specs.Blocks.{block_in, by_kind, is_section, section_in}
 use Rattle.at_pcap.specs.Orders.{number_in}
 use Rattle.at_pcap.specs.Steps.{section_of}

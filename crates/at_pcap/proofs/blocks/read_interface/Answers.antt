@@ -7,7 +7,8 @@ use Rattle.at_pcap.specs.Blocks.{Section, four_at, interface_in, options, two_at
 use Rattle.at_pcap.specs.Orders.{number_in}
 use Rattle.at_pcap.specs.Steps.{Completes, section_of}
 use Rattle.at_pcap.specs.declared.interface.Resolution.TheVariants.{Decimal}
-use Rattle.at_pcap.proofs.BlockLemmas.{interface_options, interface_short, interface_unclosed, interface_unsized, interface_whole}
+use Rattle.at_pcap.proofs.InterfaceLemmas.{interface_options, interface_short, interface_unclosed, interface_unsized}
+use Rattle.at_pcap.proofs.InterfaceLemmas.{interface_whole}
 use Rattle.at_pcap.proofs.RuleLemmas.{break_by, unclosed_behind}
 use Rattle.at_pcap.proofs.blocks.read_interface.Goals as goal
 

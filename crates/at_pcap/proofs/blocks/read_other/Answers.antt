@@ -1,4 +1,3 @@
-use Rattle.std.proofs.Common.{◌≡◌}
 use Rattle.std.proofs.lemmas.Result.{err_from_is_err_and}
 use Rattle.at_pcap.specs.Blocks.{other_in}
 use Rattle.at_pcap.specs.Steps.{section_of}

@@ -1,4 +1,4 @@
-use Rattle.std.proofs.Common.{◌≡◌, ◌≢◌, ◌≤◌, ◌∙◌, sym, ap, arith, length, subst}
+use Rattle.std.proofs.Common.{◌≡◌, ◌≤◌, ◌∙◌, sym, ap, arith, length, subst}
 use Rattle.std.specs.Prelude.{None}
 use Rattle.std.proofs.lemmas.List.{take_rest}
 use Rattle.std.proofs.lemmas.Result.{err_from_is_err_and}
@@ -6,8 +6,9 @@ use Rattle.at_pcap.specs.Blocks.{section_in, two_at}
 use Rattle.at_pcap.specs.Orders.{number_in}
 use Rattle.at_pcap.specs.Steps.{Completes}
 use Rattle.at_pcap.specs.declared.fault.CaptureFault.TheVariants.{CutCapture}
-use Rattle.at_pcap.proofs.BlockLemmas.{section_cut, section_short, section_unclosed, section_unordered, section_unsized}
-use Rattle.at_pcap.proofs.BlockLemmas.{section_versioned, section_whole}
+use Rattle.at_pcap.proofs.SectionLemmas.{section_cut, section_short, section_unclosed, section_unordered}
+use Rattle.at_pcap.proofs.SectionLemmas.{section_unsized}
+use Rattle.at_pcap.proofs.SectionLemmas.{section_versioned, section_whole}
 use Rattle.at_pcap.proofs.RuleLemmas.{breaks_end, unclosed}
 use Rattle.at_pcap.proofs.blocks.read_section.Goals as goal
 use Rattle.at_pcap.proofs.blocks.read_section.Goals.{else-front-ge14-via-then-front-ge14+else-read_u16-ne1}
@@ -16,7 +17,8 @@ use Rattle.at_pcap.proofs.blocks.read_section.Goals.{else-front-ge14-via-else-fr
 pub returns-then-front-lt12 : goal.returns-then-front-lt12
 returns-then-front-lt12 g c captured =
     let short = c.if-front-lt12.true in
-    breaks_end section_in _ c.args.front.now CutCapture (c.requires.short (omega arith)) (section_cut c.args.front.now short)
+    breaks_end section_in _ c.args.front.now CutCapture (c.requires.short (omega arith))
+    (section_cut c.args.front.now short)
 
 pub returns-in_default : goal.returns-in_default
 returns-in_default g c captured =
@@ -83,7 +85,7 @@ returns g c captured =
     ] in
     let closed = c.in_ok-close.ensures.closed in
     subst (λ l. Completes section_in (g.R.Read.remaining c.args.reader.now)
-    (g.R.Read.remaining c.close.new.reader) front (record { section = record { order = o; interfaces = l }; found = None }))
-    (sym c.clear.ensures.items)
+    (g.R.Read.remaining c.close.new.reader) front
+    (record { section = record { order = o; interfaces = l }; found = None })) (sym c.clear.ensures.items)
     (section_whole front o c.if-front-lt12.false (sym c.in-Some.ensures) c.in-Some-sized.total total.0 total.1 total.2
     (g.R.Read.remaining c.args.reader.now) _ closed.0 len one closed.2 closed.1)

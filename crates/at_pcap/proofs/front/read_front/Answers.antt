@@ -1,5 +1,4 @@
-use Rattle.std.proofs.Common.{◌≡◌, ◌-◌, ◌≤◌, ◌<◌, ◌++◌, ℕ, drop, length, take, arith, sym, subst, ap, ◌∙◌, length-take-le}
-use Rattle.std.specs.Io.KnownBytes.{IsAtEnd}
+use Rattle.std.proofs.Common.{◌≡◌, ◌-◌, ◌++◌, drop, length, arith, ap, ◌∙◌, length-take-le}
 use Rattle.std.proofs.lemmas.List.{length-append, length-drop, take_at}
 use Rattle.at_pcap.specs.Steps.{front_len}
 use Rattle.at_pcap.proofs.FrontLemmas.{both_front, both_read}

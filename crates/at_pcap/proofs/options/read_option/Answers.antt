@@ -1,9 +1,7 @@
-use Rattle.std.proofs.Common.{◌≡◌, ◌≢◌, ◌+◌, ◌≤◌, ◌<◌, ◌∙◌, ap, sym, arith, length, drop}
-use Rattle.std.proofs.lemmas.List.{length-drop, take_all}
+use Rattle.std.proofs.Common.{◌≡◌, ◌∙◌, sym, arith}
 use Rattle.at_pcap.specs.Blocks.{passed_in, resolution_in, two_at}
-use Rattle.at_pcap.specs.Orders.{number_in}
-use Rattle.at_pcap.proofs.OptionLemmas.{break_of, is_other, is_resolution, option_end, option_over, option_short, part_of}
-use Rattle.at_pcap.proofs.OptionLemmas.{sized_part}
+use Rattle.at_pcap.proofs.OptionLemmas.{break_of, is_other, is_resolution, length_in, option_end, option_over}
+use Rattle.at_pcap.proofs.OptionLemmas.{option_short, part_of, sized_part}
 use Rattle.at_pcap.proofs.options.read_option.Goals as goal
 
 pub returns-then-len-lt-OPTION_LEN-clause-fault : goal.returns-then-len-lt-OPTION_LEN-clause-fault
@@ -34,7 +32,7 @@ returns-then-left-value_len-clause-fault g c =
     let n = c.in_ok-len.len in
     let len = c.fill.auto.buffer in
     let m : c.from-value_len.result ≡ two_at o 2 buffer =
-    c.from-value_len.ensures ∙ c.read_u16.ensures ∙ ap (number_in o 2) (take_all 2 (drop 2 buffer) (omega (arith, len, length-drop 2 buffer))) in
+    c.from-value_len.ensures ∙ c.read_u16.ensures ∙ length_in o buffer len in
     let less = c.if-left-value_len.true in
     option_over o c.args.left c.args.resolution _ _ buffer n read.bound read.bytes c.if-len-lt-OPTION_LEN.false len
     (λ e. c.if-code-eq-END.false (c.read_u16-code.ensures ∙ e)) (omega (arith, m, less))
@@ -47,7 +45,7 @@ returns-then-code-eq-TSRESOL-clause-found g c =
     let n = c.in_ok-len.len in
     let len = c.fill.auto.buffer in
     let m : c.from-value_len.result ≡ two_at o 2 buffer =
-    c.from-value_len.ensures ∙ c.read_u16.ensures ∙ ap (number_in o 2) (take_all 2 (drop 2 buffer) (omega (arith, len, length-drop 2 buffer))) in
+    c.from-value_len.ensures ∙ c.read_u16.ensures ∙ length_in o buffer len in
     let more = c.if-left-value_len.false in
     part_of o c.args.left c.args.resolution _ _ buffer n read.bound read.bytes c.if-len-lt-OPTION_LEN.false len
     (resolution_in o) _ c.read_resolution.result
@@ -65,7 +63,7 @@ returns-then-code-eq-TSRESOL-clause-fault g c =
     let n = c.in_ok-len.len in
     let len = c.fill.auto.buffer in
     let m : c.from-value_len.result ≡ two_at o 2 buffer =
-    c.from-value_len.ensures ∙ c.read_u16.ensures ∙ ap (number_in o 2) (take_all 2 (drop 2 buffer) (omega (arith, len, length-drop 2 buffer))) in
+    c.from-value_len.ensures ∙ c.read_u16.ensures ∙ length_in o buffer len in
     let more = c.if-left-value_len.false in
     break_of o c.args.left c.args.resolution _ _ buffer n read.bound read.bytes c.if-len-lt-OPTION_LEN.false len
     (resolution_in o) c.read_resolution.result
@@ -81,7 +79,7 @@ returns-clause-found g c =
     let n = c.in_ok-len.len in
     let len = c.fill.auto.buffer in
     let m : c.from-value_len.result ≡ two_at o 2 buffer =
-    c.from-value_len.ensures ∙ c.read_u16.ensures ∙ ap (number_in o 2) (take_all 2 (drop 2 buffer) (omega (arith, len, length-drop 2 buffer))) in
+    c.from-value_len.ensures ∙ c.read_u16.ensures ∙ length_in o buffer len in
     let more = c.if-left-value_len.false in
     part_of o c.args.left c.args.resolution _ _ buffer n read.bound read.bytes c.if-len-lt-OPTION_LEN.false len
     (passed_in o c.args.resolution) _ c.read_other.result
@@ -97,7 +95,7 @@ returns-clause-fault g c =
     let n = c.in_ok-len.len in
     let len = c.fill.auto.buffer in
     let m : c.from-value_len.result ≡ two_at o 2 buffer =
-    c.from-value_len.ensures ∙ c.read_u16.ensures ∙ ap (number_in o 2) (take_all 2 (drop 2 buffer) (omega (arith, len, length-drop 2 buffer))) in
+    c.from-value_len.ensures ∙ c.read_u16.ensures ∙ length_in o buffer len in
     let more = c.if-left-value_len.false in
     break_of o c.args.left c.args.resolution _ _ buffer n read.bound read.bytes c.if-len-lt-OPTION_LEN.false len
     (passed_in o c.args.resolution) c.read_other.result

@@ -1,8 +1,8 @@
-use Rattle.std.proofs.Common.{◌≡◌, ◌%◌, [], refl, arith, le_refl}
+use Rattle.std.proofs.Common.{[], refl, arith, le_refl}
 use Rattle.std.proofs.KnownBytes.{Consumes-nil}
 use Rattle.std.proofs.lemmas.Result.{err_from_is_err_and}
 use Rattle.at_pcap.specs.OptionSteps.{setting_of}
-use Rattle.at_pcap.proofs.OptionLemmas.{options_broken, options_done, options_ended, options_next}
+use Rattle.at_pcap.proofs.OptionSequence.{options_broken, options_done, options_ended, options_next}
 use Rattle.at_pcap.proofs.options.read_options.Goals as goal
 
 pub loop-left-init : goal.loop-left-init

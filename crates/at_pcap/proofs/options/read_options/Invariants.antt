@@ -1,5 +1,5 @@
 use Rattle.std.proofs.Common.{◌≡◌, ◌%◌}
-use Rattle.at_pcap.proofs.OptionLemmas.{HasOptions}
+use Rattle.at_pcap.proofs.OptionSequence.{HasOptions}
 use Rattle.at_pcap.proofs.options.read_options.Given as goal
 
 -- some options were read, and what is left of them says all that is left to say

@@ -2,7 +2,7 @@ use Rattle.std.proofs.Common.{◌≡◌, ◌∙◌, ap, Ok}
 use Rattle.std.proofs.lemmas.List.{take_rest}
 use Rattle.at_pcap.specs.Blocks.{two_at}
 use Rattle.at_pcap.specs.Orders.{number_in}
-use Rattle.at_pcap.proofs.OptionLemmas.{passed_cut, passed_found}
+use Rattle.at_pcap.proofs.OptionValues.{passed_cut, passed_found}
 use Rattle.at_pcap.proofs.options.read_other.Goals as goal
 
 pub returns-then-not-branch-clause-fault : goal.returns-then-not-branch-clause-fault

@@ -1,8 +1,9 @@
-use Rattle.std.proofs.Common.{◌≡◌, ◌∙◌, ap, sym, arith, length}
+use Rattle.std.proofs.Common.{◌≡◌, ◌∙◌, ap, sym, arith}
 use Rattle.std.proofs.lemmas.List.{take_rest}
 use Rattle.at_pcap.specs.Blocks.{two_at}
 use Rattle.at_pcap.specs.Orders.{number_in}
-use Rattle.at_pcap.proofs.OptionLemmas.{resolution_absent, resolution_cut, resolution_found, resolution_out, resolution_unsized}
+use Rattle.at_pcap.proofs.OptionValues.{resolution_absent, resolution_cut, resolution_found, resolution_out}
+use Rattle.at_pcap.proofs.OptionValues.{resolution_unsized}
 use Rattle.at_pcap.proofs.options.read_resolution.Goals as goal
 
 pub returns-then-read_u16-ne1-clause-fault : goal.returns-then-read_u16-ne1-clause-fault

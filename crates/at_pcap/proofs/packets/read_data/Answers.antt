@@ -1,4 +1,4 @@
-use Rattle.std.proofs.Common.{◌≡◌, ◌++◌, ◌+◌, ◌-◌, Ok, ap, subst, sym, length, arith, ◌∙◌}
+use Rattle.std.proofs.Common.{Ok, ap}
 use Rattle.at_pcap.proofs.DataLemmas.{data_closed, data_unclosed}
 use Rattle.at_pcap.proofs.packets.read_data.Goals as goal
 

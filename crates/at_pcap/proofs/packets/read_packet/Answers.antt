@@ -1,5 +1,5 @@
-use Rattle.std.proofs.Common.{◌≡◌, ◌∙◌, sym, ap, arith, length, ◌++◌, subst}
-use Rattle.std.specs.Prelude.{Some, None}
+use Rattle.std.proofs.Common.{◌≡◌, ◌∙◌, sym, ap, arith, length, subst}
+use Rattle.std.specs.Prelude.{Some}
 use Rattle.std.proofs.lemmas.List.{take_rest}
 use Rattle.std.proofs.lemmas.Result.{err_from_is_err_and}
 use Rattle.at_pcap.specs.Blocks.{four_at, packet_from}
@@ -7,7 +7,8 @@ use Rattle.at_pcap.specs.Frames.{frame_with}
 use Rattle.at_pcap.specs.Orders.{number_in}
 use Rattle.at_pcap.specs.Steps.{Breaks, Completes, capture_fault, section_of}
 use Rattle.at_pcap.specs.declared.fault.CaptureFault.TheVariants.{CutCapture, NoInterface}
-use Rattle.at_pcap.proofs.PacketLemmas.{packet_cut, packet_misfit, packet_short, packet_unclosed, packet_unknown, packet_whole}
+use Rattle.at_pcap.proofs.PacketLemmas.{packet_cut, packet_misfit, packet_short, packet_unclosed, packet_unknown}
+use Rattle.at_pcap.proofs.PacketLemmas.{packet_whole}
 use Rattle.at_pcap.proofs.RuleLemmas.{breaks_end, unclosed}
 use Rattle.at_pcap.proofs.packets.read_packet.Goals as goal
 
@@ -35,7 +36,8 @@ returns-in-Some-fault_of g c =
     let front = c.args.front.now in
     let count : c.read_u32-count.result ≡ four_at s.order 20 front =
     c.read_u32-count.ensures ∙ ap (number_in s.order 4) (take_rest front 20) in
-    subst (λ w. Breaks (packet_from w s) (g.R.Read.remaining c.args.reader.now) front c.in-Some-fault_of.fault) (sym c.in-Some.is)
+    subst (λ w. Breaks (packet_from w s) (g.R.Read.remaining c.args.reader.now) front c.in-Some-fault_of.fault)
+    (sym c.in-Some.is)
     (packet_misfit s front c.args.total c.requires.long c.requires.total c.requires.least c.in-Some.interface
     (g.R.Read.remaining c.args.reader.now) c.in-Some-fault_of.fault c.if-front-lt24.false
     (ap (capture_fault c.args.total 28) (sym count) ∙ sym c.fault_of.ensures ∙ c.in-Some-fault_of.is))

@@ -1,12 +1,12 @@
-use Rattle.std.proofs.Common.{◌≡◌, ◌∙◌, sym, ap, arith, length, ◌++◌, subst}
-use Rattle.std.specs.Prelude.{slice_get, Some, None}
+use Rattle.std.proofs.Common.{◌≡◌, ◌∙◌, sym, ap, arith, length, subst}
+use Rattle.std.specs.Prelude.{Some, None}
 use Rattle.std.proofs.lemmas.List.{take_rest}
 use Rattle.std.proofs.lemmas.Result.{err_from_is_err_and}
 use Rattle.at_pcap.specs.Blocks.{four_at, simple_count, simple_in}
 use Rattle.at_pcap.specs.Orders.{number_in}
 use Rattle.at_pcap.specs.Steps.{Completes, capture_fault, section_of}
-use Rattle.at_pcap.proofs.PacketLemmas.{simple_cut, simple_misfit, simple_unclosed, simple_unknown, simple_unsized}
-use Rattle.at_pcap.proofs.PacketLemmas.{simple_whole}
+use Rattle.at_pcap.proofs.SimpleLemmas.{simple_cut, simple_misfit, simple_unclosed, simple_unknown, simple_unsized}
+use Rattle.at_pcap.proofs.SimpleLemmas.{simple_whole}
 use Rattle.at_pcap.proofs.RuleLemmas.{unclosed}
 use Rattle.at_pcap.proofs.packets.read_simple.Goals as goal
 
@@ -18,8 +18,8 @@ pub returns-then-front-lt-SIMPLE_LEN : goal.returns-then-front-lt-SIMPLE_LEN
 returns-then-front-lt-SIMPLE_LEN g c =
     let total = c.in-Some.ensures.some in
     let short = c.if-front-lt-SIMPLE_LEN.true in
-    simple_cut (section_of c.args.section.now) c.args.front.now c.requires.long c.in-Some.total total.0 total.1 total.2 _
-    (c.requires.short short) short
+    simple_cut (section_of c.args.section.now) c.args.front.now c.requires.long c.in-Some.total total.0 total.1
+    total.2 _ (c.requires.short short) short
 
 pub returns-in_default-interface_at : goal.returns-in_default-interface_at
 returns-in_default-interface_at g c =

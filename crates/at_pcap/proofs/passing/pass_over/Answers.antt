@@ -1,5 +1,4 @@
-use Rattle.std.proofs.Common.{◌≡◌, ◌<◌, ◌≤◌, ◌++◌, length, take, subst, arith, length-take-le, length-append, ℕ, length-take}
-use Rattle.std.specs.Io.KnownBytes.{Consumes}
+use Rattle.std.proofs.Common.{◌≡◌, ◌<◌, ◌++◌, length, take, arith, length-take-le, length-append, ℕ, length-take}
 use Rattle.std.proofs.KnownBytes.{Consumes-trans}
 use Rattle.at_pcap.proofs.RecordLemmas.{ended}
 use Rattle.at_pcap.proofs.passing.pass_over.Goals as goal

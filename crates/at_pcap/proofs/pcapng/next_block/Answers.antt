@@ -1,7 +1,6 @@
 use Rattle.std.proofs.Common.{◌≡◌, ◌+◌, ◌≤◌, ◌∙◌, sym, ap, subst, refl, length, ◌++◌, arith}
 use Rattle.std.specs.Prelude.{option_map}
 use Rattle.std.proofs.lemmas.List.{take_rest}
-use Rattle.at_pcap.specs.Blocks.{four_at}
 use Rattle.at_pcap.specs.Frames.{frame_with}
 use Rattle.at_pcap.specs.Orders.{number_in}
 use Rattle.at_pcap.specs.Readings.{place}

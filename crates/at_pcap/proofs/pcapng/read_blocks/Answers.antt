@@ -1,9 +1,9 @@
-use Rattle.std.proofs.Common.{◌≡◌, ◌<◌, ◌∙◌, sym, ap, arith, length, take, length-take-le}
+use Rattle.std.proofs.Common.{◌<◌, arith, length, take, length-take-le}
 use Rattle.std.specs.Io.KnownBytes.{prepend_known}
 use Rattle.std.proofs.lemmas.Result.{err_from_is_err_and}
-use Rattle.at_pcap.specs.Steps.{section_of}
 use Rattle.at_pcap.proofs.BlockLemmas.{front_of_8}
-use Rattle.at_pcap.proofs.PcapngLemmas.{all_read, broken_block, end_before, first_block, first_broken, next_block, some_read}
+use Rattle.at_pcap.proofs.PcapngLemmas.{all_read, broken_block, end_before, first_block, first_broken, next_block}
+use Rattle.at_pcap.proofs.PcapngLemmas.{some_read}
 use Rattle.at_pcap.proofs.pcapng.read_blocks.Goals as goal
 
 pub returns-in_err-at-clause-broken : goal.returns-in_err-at-clause-broken
