@@ -23,10 +23,6 @@ refused reason d h = absurd cc
 pub ok_is : (a b : Load) (x : Result Load Reason) → x ≡ Ok a → x ≡ Ok b → a ≡ b
 ok_is a b x is h = cc
 
-pub when_true : (b : Bool) (x y : Result Load Reason) → b ≡ true → cond b x y ≡ x
-when_true true x y h = refl
-when_true false x y h = absurd cc
-
 pub when_false : (b : Bool) (x y : Result Load Reason) → b ≡ false → cond b x y ≡ y
 when_false true x y h = absurd cc
 when_false false x y h = refl
