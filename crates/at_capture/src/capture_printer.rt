@@ -34,7 +34,7 @@ impl<'a, W: Paper, E: Paper, A: Allocator + Copy> CapturePrinter<'a, W, E, A> {
     ghost use Rattle.at_capture.specs.Endings.{TellsEnding, ending_line};
     ghost use Rattle.at_capture.specs.Tallies.{end_line};
 
-    /// Prints by this printer, and tells reasons by these diagnostics. This takes no memory.
+    /// Prints by this printer, and tells reasons by these diagnostics. No frame was printed yet. This takes no memory.
     pub fn new(
         alloc: A,
         printer: Printer<W>,
@@ -42,6 +42,7 @@ impl<'a, W: Paper, E: Paper, A: Allocator + Copy> CapturePrinter<'a, W, E, A> {
     ) -> CapturePrinter<'a, W, E, A>
         ensures printer { printer_of result ≡ printer }
         ensures diagnostics { diagnostics_of result ≡ diagnostics.entry }
+        ensures begun { HasPrinted [] [] result }
     {
         CapturePrinter {
             alloc,

@@ -1,5 +1,4 @@
 //! The showing of what a command line names.
-ghost use Rattle.std.specs.Prelude.{◌≡◌};
 ghost use Rattle.at_capture.specs.Captures.{TellsCapture, printer_of};
 ghost use Rattle.at_capture.specs.Commands.{TellsSource};
 ghost use Rattle.at_print.specs.Printers.{IsSettled};

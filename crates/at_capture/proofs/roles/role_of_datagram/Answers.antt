@@ -12,4 +12,5 @@ returns-then-datagram-eq-NBP c =
     in_lookup (content c.args.datagram.now) c.role_in_lookup.result c.if-datagram-eq-NBP.true c.role_in_lookup.ensures
 
 pub returns-else-datagram-eq-NBP : goal.returns-else-datagram-eq-NBP
-returns-else-datagram-eq-NBP c = in_neither (content c.args.datagram.now) c.if-datagram-eq-ATP.false c.if-datagram-eq-NBP.false
+returns-else-datagram-eq-NBP c =
+    in_neither (content c.args.datagram.now) c.if-datagram-eq-ATP.false c.if-datagram-eq-NBP.false

@@ -1,4 +1,4 @@
-use Rattle.std.proofs.Common.{refl, subst, sym}
+use Rattle.std.proofs.Common.{refl, subst}
 use Rattle.at_capture.proofs.AskedLemmas.{recalls_same}
 use Rattle.at_capture.proofs.CaptureLemmas.{on_error}
 use Rattle.at_capture.proofs.TallyLemmas.{next_number, one_longer}
