@@ -3,6 +3,7 @@
 #![tactic(auto)]
 
 mod command_line;
+mod commands;
 mod named;
 mod output;
 mod telling;
@@ -10,12 +11,9 @@ mod udp;
 
 use at_capture::CapturePrinter;
 use at_diagnostics::Diagnostics;
-use at_play::play_source;
 use at_print::Status;
-use at_record::record_source;
-use at_show::show_word;
 use command_line::{Request, request_of};
-use named::{name_of, open};
+use named::name_of;
 use output::printer_to;
 use std::env::Env;
 use std::io::{ErrorKind, Write};
@@ -83,8 +81,7 @@ fn play_named<R: Files + Input + Print + AllocGlobal, E: Write>(
         return stop(rt, errors);
     };
     let mut diagnostics = Diagnostics::new(name_of(file), errors);
-    let source = open(rt, file);
-    Ok(play_source(rt.alloc(), source, &mut printer, &mut diagnostics).code())
+    Ok(commands::play(rt.alloc(), rt, file, &mut printer, &mut diagnostics))
 }
 
 // Plays a file, or the standard input for `-`, and writes a capture of what it sends. No text is printed.
@@ -98,8 +95,7 @@ fn record_named<R: Files + Input + Print + AllocGlobal, E: Write>(
         return Status::Failed.code();
     };
     let mut diagnostics = Diagnostics::new(name_of(file), errors);
-    let source = open(rt, file);
-    record_source(rt.alloc(), source, &mut printer, &mut diagnostics).code()
+    commands::record(rt.alloc(), rt, file, &mut printer, &mut diagnostics)
 }
 
 // Shows the frames of a file, or of the standard input for `-`.
@@ -113,7 +109,7 @@ fn capture_named<R: Files + Input + Print + AllocGlobal, E: Write>(
     };
     let diagnostics = Diagnostics::new(name_of(file), errors);
     let mut frames = CapturePrinter::new(rt.alloc(), printer, diagnostics);
-    Ok(frames.print_source(open(rt, file)).code())
+    Ok(commands::capture(rt, file, &mut frames))
 }
 
 // Shows the datagram that a word spells in hexadecimal digits.
@@ -126,5 +122,5 @@ fn show_named<R: Print + AllocGlobal, E: Write>(
         return stop(rt, errors);
     };
     let mut diagnostics = Diagnostics::new(word, errors);
-    Ok(show_word(rt.alloc(), word.as_bytes(), &mut printer, &mut diagnostics).code())
+    Ok(commands::show(rt.alloc(), word, &mut printer, &mut diagnostics))
 }

@@ -1,4 +1,6 @@
 //! What a command line names.
+ghost use Rattle.atnode.specs.Names.{IsToldAs, Names};
+
 use at_opened::Source;
 use std::fs;
 use std::rt::Files;
@@ -7,12 +9,16 @@ use std::rt::Files;
 const STANDARD_INPUT: &str = "standard input";
 
 /// The name that is told of a file, or of the standard input for `-`.
-pub(crate) fn name_of(file: &str) -> &str {
+pub(crate) fn name_of(file: &str) -> &str
+    ensures { IsToldAs file.now result.now }
+{
     if file == "-" { STANDARD_INPUT } else { file }
 }
 
 /// Opens a file, or the standard input for `-`.
-pub(crate) fn open<R: Files + Input>(rt: &R, file: &str) -> Source<R::Reader, R::File> {
+pub(crate) fn open<R: Files + Input>(rt: &R, file: &str) -> Source<R::Reader, R::File>
+    ensures { Names file.now result }
+{
     if file == "-" {
         return Source::Stream(rt.reader());
     }

@@ -1,10 +1,9 @@
 //! The drive of a schedule's nodes over UDP.
-use crate::named::{name_of, open};
+use crate::named::name_of;
 use crate::output::printer_to;
-use crate::stop;
+use crate::{commands, stop};
 use at_diagnostics::Diagnostics;
 use at_udp::LocalSocket;
-use at_udp_text::drive_source;
 use std::io;
 use std::io::Write;
 use std::net::Net;
@@ -20,13 +19,11 @@ pub(crate) fn udp_named<R: Files + Input + Print + Net + AllocGlobal, E: Write>(
         return stop(rt, errors);
     };
     let mut diagnostics = Diagnostics::new(name_of(file), errors);
-    let source = open(rt, file);
-    let status = drive_source::<LocalSocket, _, _, _, _, _, _>(
+    Ok(commands::drive::<LocalSocket, _, _, _, _>(
         rt.alloc(),
         rt,
-        source,
+        file,
         &mut printer,
         &mut diagnostics,
-    );
-    Ok(status.code())
+    ))
 }
