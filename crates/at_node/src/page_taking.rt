@@ -141,7 +141,8 @@ impl<A: Allocator + Copy> AtpPart<A> {
             packet.now.from (reading.reader.names ++ page.now.names)) before out.old.items result self.new
             out.new.items }
         ensures not_asked { is_asked result ≡ false }
-        ensures no_list { (which : Table) (names : List (List ℕ)) → result ≢ Report.Zones (ZoneReport.List which names) }
+        ensures no_list { (which : Table) (names : List (List ℕ))
+            → result ≢ Report.Zones (ZoneReport.List which names) }
     {
         let own = packet.seat.at(REQUESTER_SOCKET);
         let user = request_user(reading.which, reading.reader.after(page));

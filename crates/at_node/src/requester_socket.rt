@@ -120,7 +120,8 @@ impl<A: Allocator + Copy> AtpPart<A> {
             → Comes (AtSocket said packet.now.seat self.old packet.now.from (Some RequesterSocket)
             (content packet.now.frame)) self.old out.old.items result self.new out.new.items }
         ensures not_asked { is_asked result ≡ false }
-        ensures no_list { (which : Table) (names : List (List ℕ)) → result ≢ Report.Zones (ZoneReport.List which names) }
+        ensures no_list { (which : Table) (names : List (List ℕ))
+            → result ≢ Report.Zones (ZoneReport.List which names) }
     {
         let own = packet.seat.at(REQUESTER_SOCKET);
         let Ok(step) = hear(self.alloc, &mut self.requester, own, packet, out) else {

@@ -5,6 +5,7 @@ pub mod Happenings
 pub mod Lists
 pub mod Newest
 pub mod Onces
+pub mod OnWire
 pub mod Opening
 pub mod Places
 pub mod Readings

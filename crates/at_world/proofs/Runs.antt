@@ -54,7 +54,7 @@ use Rattle.at_setup.specs.declared.refusal.Refusal.TheVariants.{Limit}
 -- the machine may answer an event so, and is tied to the world after it
 abbrev pub Follow : (A : Type 0) (w : WorldState) (m : Machine) → Tied A w m → Event A → Report A → WorldState → Type 0
 Follow A w m t e r w' = (m' : Machine) × Step m e r m' × (now : Tied A w' m')
-    × Grown A m.cable (m.atp).tables (t.atp).history (now.atp).history e r × (m'.cable ≡ m.cable)
+    × Grown A m.cable m.atp (t.atp).history (now.atp).history e r m'.atp × (m'.cable ≡ m.cable)
 
 -- a node stays at its seat
 pub record SeatLaws (A : Type 0) : Type 0 where
@@ -108,7 +108,7 @@ module _ (A : Type 0) (w : WorldState) (m : Machine) (t : Tied A w m) (e : Event
   together o seat ((said, good), names, streams, sessions) =
       let cable = cable_next A w m.cable (node_of e) n o t.cable stands seat in
       let both = subst (λ l. (x : AtpTie A (recorded w (node_of e) o.report o.state (map posted o.out)) m.cable l
-      good.0) × Grown A m.cable (m.atp).tables (t.atp).history x.history e o.report) (sym cable.1)
+      good.0) × Grown A m.cable m.atp (t.atp).history x.history e o.report good.0) (sym cable.1)
       (good.2, good.3) in
       let tied_names = subst (λ l. NameTie (recorded w (node_of e) o.report o.state (map posted o.out)) m.cable l
       names.0) (sym cable.1) names.2 in

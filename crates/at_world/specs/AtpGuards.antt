@@ -4,10 +4,8 @@ use Rattle.std.specs.Prelude.{◌≡◌, ℕ, ◌≤◌, ◌==◌, not, List, []
 use Rattle.std.specs.Prelude.{slice_get, Option, Some}
 use Rattle.at_ddp.specs.declared.address.Address.{Address}
 use Rattle.at_atp_frame.specs.Packets.{Packet}
-use Rattle.at_atp.specs.Transactions.{Transaction, Asked, transaction_of, answered, IsResponse}
 use Rattle.at_atp_responder.specs.declared.reception.Key.{Key}
 use Rattle.at_zip.specs.Reading.{BeginsTable}
-use Rattle.at_zip.specs.Request.{RequestSpells}
 use Rattle.at_zip.specs.Tables.{Tables, table_of, with_table}
 use Rattle.at_zip.specs.Zones.{IsTable}
 use Rattle.at_zip.specs.declared.request.Which.{Which}
@@ -20,8 +18,10 @@ use Rattle.at_event.specs.declared.report.Report.{Report}
 use Rattle.at_event.specs.declared.report.Report.TheVariants as report
 use Rattle.at_event.specs.declared.reports.TransactionReport.TheVariants as atp_report
 use Rattle.at_event.specs.declared.reports.ZoneReport.TheVariants as zip_report
-use Rattle.at_steps.specs.AtpSteps.{new_transaction, page_answer, page_asked}
+use Rattle.at_steps.specs.AtpSteps.{page_answer}
 use Rattle.at_world.specs.Cables.{Cable, at_net}
+use Rattle.at_world.specs.Transactions.{Transaction, Asks, ForPage, ForService, new_transaction, page_asked, Asked}
+use Rattle.at_world.specs.Transactions.{transaction_of, answered, IsResponse}
 use Rattle.at_setup.specs.declared.event.Event.{Event}
 use Rattle.at_setup.specs.declared.event.Event.TheVariants as event
 use Rattle.at_setup.specs.declared.setup.Setup.{Setup}
@@ -114,14 +114,19 @@ pub record GivesAnswer (c : Cable) (m : AtpMachine) (node : ℕ) (requester : Ad
 -- the service receives what such a transaction asks
 pub record IsAsked (c : Cable) (m : AtpMachine) (node : ℕ) (key : Key) (user bytes : List ℕ) : Type 0 where
   pub asked : Asked m.asked key.from key.tid (serving c.net node)
-  pub is_user : (asked.transaction).user ≡ user
-  pub is_data : (asked.transaction).data_ ≡ bytes
+  pub asks : (asked.transaction).asks ≡ ForService user bytes
 
 -- a node's transaction ends with a response to it
 pub record IsAnswered (c : Cable) (m : AtpMachine) (node tid : ℕ) (packets : List Packet) : Type 0 where
   pub transaction : Transaction
   pub newest : transaction_of m.asked (asking c.net node) tid ≡ Some transaction
   pub response : IsResponse transaction packets
+
+-- A transaction may ask the router for this page: the one that a reading asks for, or any page, by the user bytes of a
+-- call. Which page those spell is said in Agreements.
+abbrev pub MayAskFor : Asks → Which → ℕ → Type 0
+MayAskFor (ForPage kind from) which start = (kind ≡ which) × (from ≡ start)
+MayAskFor (ForService user bytes) which start = Unit {0}
 
 -- the router answers a transaction that asked it for the page of a table from a place on, with that page of the table
 -- as it is now
@@ -132,7 +137,7 @@ pub record Serves (c : Cable) (m : AtpMachine) (node count : ℕ) (m' : AtpMachi
   pub asked : Asked m.asked requester tid (zones_at c.net node)
   pub which : Which
   pub start : ℕ
-  pub asks_from : RequestSpells (asked.transaction).user which start
+  pub asks_from : MayAskFor (asked.transaction).asks which start
   pub one : count ≤ 1
   pub becomes : m' ≡ next (record m {
     asked = answered m.asked requester tid (page_answer (table_of which m.tables) start);
@@ -160,7 +165,8 @@ Says c m (event.Call node (Zones (zone.Read which))) (report.Transactions (atp_r
     BeginsReading c m node which tid m'
 Says c m (event.Call node (Transactions (Ask k socket user bytes wanted xo retries)))
     (report.Transactions (atp_report.Begun tid)) m' =
-    BeginsAsking m (new_transaction c.net node (at_net c k socket) user bytes wanted xo tid) m'
+    BeginsAsking m
+    (new_transaction (asking c.net node) tid (at_net c k socket) (ForService user bytes) wanted xo) m'
 Says c m (event.Call node (Transactions (Answer key packets))) (report.Transactions (atp_report.Answered count)) m' =
     GivesAnswer c m node key.from key.tid packets count m'
 Says c m (event.Call node (Zones (zone.Set which names))) (report.Zones zip_report.TableSet) m' =

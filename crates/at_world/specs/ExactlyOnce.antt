@@ -1,12 +1,12 @@
 -- How often a play delivers an exactly-once request to its service, by its events, its reports and what was sent
 -- (Inside AppleTalk, ATP, "At-least-once and exactly-once transactions").
-use Rattle.std.specs.Prelude.{◌≡◌, ℕ, ◌&&◌, Bool, true, false, List, [], ◌∷◌, ◌++◌, take, find, slice_get, Some}
+use Rattle.std.specs.Prelude.{◌≡◌, ℕ, ◌≤◌, ◌&&◌, Bool, true, false, List, [], ◌∷◌, ◌++◌, take, find, slice_get, Some}
 use Rattle.std.specs.Prelude.{Result, Ok, Err, AllPairs, Any}
 use Rattle.std.specs.List.{before_first, list_any}
 use Rattle.at_ddp.specs.Address.{same_address}
 use Rattle.at_ddp.specs.Datagram.{Content as Datagram, BeginsWith}
 use Rattle.at_ddp.specs.declared.address.Address.{Address}
-use Rattle.at_ddp.specs.Protocols.{atp_kind}
+use Rattle.at_atp.specs.Network.{Sent}
 use Rattle.at_atp_frame.specs.Frames.{Content, Request, Spells, number_of}
 use Rattle.at_atp_responder.specs.Once.{same_key}
 use Rattle.at_atp_frame.specs.Packets.{Packet}
@@ -26,7 +26,7 @@ use Rattle.at_steps.specs.AtpReports.{AsksFrom}
 use Rattle.at_steps.specs.AtpSteps.{page_answer}
 use Rattle.at_world.specs.Events.{NoForge, node_of}
 use Rattle.at_world.specs.Sents.{SentDatagram}
-use Rattle.at_world.specs.Stories.{tables_by}
+use Rattle.at_world.specs.Stories.{posted_packet, tables_by}
 use Rattle.at_setup.specs.declared.event.Event.{Event}
 use Rattle.at_setup.specs.declared.event.Event.TheVariants as event
 use Rattle.at_setup.specs.declared.setup.Setup.{Setup}
@@ -123,12 +123,14 @@ expires net at key (event.Timer node (timer.Transactions (atp_timer.Release own 
     same_address (record { net = net; node = node; socket = own }) at && same_key k key
 expires net at key e r = false
 
--- if a request comes, its record did not expire where it comes to since its transaction began
+-- If a request comes, its record did not expire where it comes to since its transaction began. A timer is 0 to 4: the
+-- bytes that a greater one would have are those of other packets.
 abbrev pub Lives : {A : Type 0} → ℕ → List SentDatagram → Event A → List (Played A) → Type 0
-Lives net sent (event.Deliver which node) before = (key : Key) (came : CameFrom sent which key) (mask : ℕ) (xo : Bool)
-    (timer : ℕ) (user bytes : List ℕ) → (came.header).kind ≡ atp_kind
-    → came.packet ≡ Request mask xo timer key.tid user bytes
-    → list_any (λ y. expires net (came.header).to key y.event y.report) (since net key before) ≡ false
+Lives net sent (event.Deliver which node) before = (s : Sent) (mask : ℕ) (xo : Bool) (timer tid : ℕ)
+    (user bytes : List ℕ) → slice_get sent which ≡ Some (posted_packet s)
+    → s.packet ≡ Request mask xo timer tid user bytes → timer ≤ 4
+    → list_any (λ y. expires net s.to (record { from = s.from; tid = tid }) y.event y.report)
+    (since net (record { from = s.from; tid = tid }) before) ≡ false
 Lives net sent e before = Unit {0}
 
 -- so it is at each step, after those before it

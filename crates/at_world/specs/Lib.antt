@@ -12,4 +12,5 @@ pub mod Sents
 pub mod SessionGuards
 pub mod Stories
 pub mod StreamGuards
+pub mod Transactions
 pub mod Worlds

@@ -2,7 +2,7 @@
 use Rattle.std.proofs.Common.{◌≡◌, inl, inr, ℕ, Bool, true, false, Some, refl, sym, ap, subst, ◌∙◌}
 use Rattle.std.specs.List.{AllByRecursion, list_any}
 use Rattle.at_atp.specs.Network.{NoneHolds, after, done}
-use Rattle.at_atp.specs.Transactions.{Transaction, transaction_of}
+use Rattle.at_atp.specs.Transactions as atp
 use Rattle.at_zip.specs.Tables.{AreTables}
 use Rattle.at_node.specs.AtpParts.{asking, serving, zones_at}
 use Rattle.at_event.specs.Calls.{IsCall}
@@ -25,12 +25,14 @@ use Rattle.at_world.specs.AtpGuards.{AtpMachine, StepBy, next}
 use Rattle.at_world.specs.Cables.{Cable, IsSaid}
 use Rattle.at_world.specs.Events.{act_of, node_of}
 use Rattle.at_world.specs.Sents.{SentDatagram}
+use Rattle.at_world.specs.Transactions.{Transaction}
 use Rattle.at_world.specs.Worlds.{WorldState, AreFree, node_at}
 use Rattle.at_setup.specs.declared.event.Event.{Event}
 use Rattle.at_setup.specs.declared.event.Event.TheVariants as event
 use Rattle.at_world.proofs.CableTie.{CableTie, SeatTie, seat_kept}
 use Rattle.at_world.proofs.Atp.Coming.{Comes}
 use Rattle.at_world.proofs.Atp.Lists.{some_transaction}
+use Rattle.at_world.proofs.Atp.OnWire.{unwired}
 use Rattle.at_world.proofs.Atp.Places.{requester_here, service_here, served_here}
 use Rattle.at_world.proofs.Atp.Steps.{step_becomes, pass_becomes}
 use Rattle.at_world.proofs.Atp.Tie.{Laws, AtpTie, Good, IsReading, good_next}
@@ -63,9 +65,10 @@ module _ (A : Type 0) (laws : Laws A) (w : WorldState) (c : Cable) (m : AtpMachi
       → ReadsAtLeastOnce (after A t.history).asked (asking c.net k) y.atp
   once_at_least k y is read reads one newest =
       let r = subst (IsReading c m k) reads (t.readings k y is) in
-      let same = some_transaction one (r.first).transaction
-      (sym newest ∙ ap (λ ts. transaction_of ts (asking c.net k) read.tid) t.asked ∙ (r.first).newest) in
-      ap (λ (x : Transaction). x.xo) same ∙ r.xo
+      let it = unwired m.asked (asking c.net k) read.tid one
+      (sym (ap (λ ts. atp.transaction_of ts (asking c.net k) read.tid) t.asked) ∙ newest) in
+      let same = some_transaction it.0 (r.first).transaction (sym it.1 ∙ (r.first).newest) in
+      ap (λ (x : atp.Transaction). x.xo) it.2 ∙ ap (λ (x : Transaction). x.xo) same ∙ r.xo
 
   stands_there : Stands A t.history n.seat.net n.seat.number n
   stands_there = at_seat (λ net k. Stands A t.history net k n) (record {
@@ -102,11 +105,9 @@ module _ (A : Type 0) (laws : Laws A) (w : WorldState) (c : Cable) (m : AtpMachi
               now = o.state.atp;
               act = act_of e;
               report = o.report;
-            })) t.asked step) in (
-              b.0,
-              good_next A laws w c ct.wires m e n o t stands x mine
-                  (done A (after A t.history) x.happening).asked refl b.1,
-            )
+            })) t.asked step) in
+            let now = b.1 in
+            (b.0, good_next A laws w c ct.wires m e n o t stands x mine now.asked now.on_wire now.becomes)
 
     -- a step of another protocol
     pub passed : IsForeign n (act_of e) o → Follows A w c m ct t e o
@@ -118,11 +119,11 @@ module _ (A : Type 0) (laws : Laws A) (w : WorldState) (c : Cable) (m : AtpMachi
     )
       where
         go : Passes A t.history c.net (node_of e) n (act_of e) o → Good A w c m ct.wires t e o
-        go (x, same) = good_next A laws w c ct.wires m e n o t stands x mine
-            (done A (after A t.history) x.happening).asked refl
-            (pass_becomes A laws w c m ct.wires e n o.state o.report t stands x.same_tables
-            (done A (after A t.history) x.happening).asked (same ∙ t.asked) foreign.same
-            (moment_passes A c m e o.report (reporter_of o.report) foreign.reports))
+        go (x, same) =
+            let now = pass_becomes A laws w c m ct.wires e n o.state o.report t stands x.same_tables
+            (done A (after A t.history) x.happening).asked (same ∙ t.asked) foreign.same foreign.reports
+            (moment_passes A c m e o.report (reporter_of o.report) foreign.reports) in
+            good_next A laws w c ct.wires m e n o t stands x mine now.asked now.on_wire now.becomes
 
   -- a number that is drawn is free in the network
   draws_free : (tid : ℕ) → list_any (λ x. holds x (node_of e) (Tid tid)) w.nodes ≡ false

@@ -8,8 +8,8 @@ use Rattle.at_ddp.specs.Address.{same_address}
 use Rattle.at_ddp.specs.declared.address.Address.{Address}
 use Rattle.at_ddp.proofs.Octets.{same_address-true}
 use Rattle.at_atp_frame.specs.Packets.{Packet}
-use Rattle.at_atp.specs.Transactions.{Transaction, is_transaction, transaction_of, answered}
 use Rattle.at_world.specs.AtpGuards.{Reading, reading_of, without_reading}
+use Rattle.at_world.specs.Transactions.{Transaction, is_transaction, transaction_of, answered}
 
 pub some_transaction : (a b : Transaction) → Some a ≡ Some b → a ≡ b
 some_transaction a b h = cc
@@ -62,6 +62,23 @@ answer_joins (t ∷ ts) from tid packets who k u is = go (λ g. answer_joins ts 
         (u, ap (λ x. cond x (Some t) (transaction_of (answered ts from tid packets) who k)) e ∙ g, inl refl)
     go later false false d e g = let rest = later g in
         (rest.0, ap (λ x. cond x (Some t) (transaction_of (answered ts from tid packets) who k)) e ∙ rest.1, rest.2)
+
+-- the newest transaction that is answered has that answer
+pub answer_joins_own : (ts : List Transaction) (from : Address) (tid : ℕ) (packets : List Packet) (t : Transaction)
+    → transaction_of ts from tid ≡ Some t
+    → transaction_of (answered ts from tid packets) from tid ≡ Some (with_answer t packets)
+answer_joins_own [] from tid packets t is = absurd (cc)
+answer_joins_own (x ∷ ts) from tid packets t is =
+    go (λ g. answer_joins_own ts from tid packets t g) (is_transaction from tid x) refl is
+  where
+    go : (transaction_of ts from tid ≡ Some t
+        → transaction_of (answered ts from tid packets) from tid ≡ Some (with_answer t packets)) → (b : Bool)
+        → is_transaction from tid x ≡ b → cond b (Some x) (transaction_of ts from tid) ≡ Some t →
+        transaction_of (cond b (with_answer x packets ∷ ts) (x ∷ answered ts from tid packets)) from tid
+        ≡ Some (with_answer t packets)
+    go later true e g = ap (λ c. cond c (Some (with_answer x packets)) (transaction_of ts from tid)) e
+        ∙ ap (λ y. Some (with_answer y packets)) (some_transaction x t g)
+    go later false e g = ap (λ c. cond c (Some x) (transaction_of (answered ts from tid packets) from tid)) e ∙ later g
 
 -- the end of a reading leaves the others
 pub others_left : (rs : List Reading) (k j : ℕ) → (k == j) ≡ false

@@ -163,6 +163,7 @@ module _ (A : Type 0) (s : Setup A) where
           sent = tt;
           drawn = tt;
           asked = refl;
+          ask_well = tt;
           tables = λ k n is t has. (tables_are s.nodes k n is t has, router_is s.nodes law.one k n is t has);
           opened = λ k n is read reads. none_read read (sym (nothing_read s.nodes k n is) ∙ reads);
           readings = λ k n is. subst (IsReading (cables.opening s) (atp.opening s) k)

@@ -1,7 +1,7 @@
 -- A node that reads a zone table, page by page: what is known of its names, and of the answers to its transaction.
 use Rattle.std.proofs.Common.{◌≡◌, ◌⊎◌, inl, inr, ℕ, zero, suc, ◌+◌, ◌-◌, ◌^◌, ◌<◌, ◌≤◌, Bool, true, false, cond, List}
-use Rattle.std.proofs.Common.{[], ◌∷◌, ◌++◌, length, get_or, Option, Some, refl, sym, ap, subst, ◌∙◌, append-nil, arith}
-use Rattle.std.proofs.Common.{lit<}
+use Rattle.std.proofs.Common.{[], ◌∷◌, ◌++◌, length, map, get_or, Option, Some, refl, sym, ap, subst, ◌∙◌, append-nil}
+use Rattle.std.proofs.Common.{arith}
 use Rattle.std.specs.Prelude.{slice_get}
 use Rattle.std.specs.List.{Contains}
 use Rattle.std.proofs.lemmas.List.{length-append, length-drop}
@@ -9,7 +9,7 @@ use Rattle.std.proofs.lemmas.List.Elements.{Contains-append_cases}
 use Rattle.std.proofs.lemmas.Option.{slice_get-get_or}
 use Rattle.at_ddp.specs.declared.address.Address.{Address}
 use Rattle.at_atp_frame.specs.Packets.{Packet}
-use Rattle.at_atp.specs.Transactions.{Transaction, Asked, IsPart, answered, is_transaction, transaction_of}
+use Rattle.at_atp.specs.Transactions as atp
 use Rattle.at_zip.specs.Fault.{IsFirstFault}
 use Rattle.at_zip.specs.Page.{Page, IsLawful as IsLawfulPage, IsPageFrom, Spells, page_of, page_user, page_data}
 use Rattle.at_zip.specs.Reading.{BeginsTable, place_after}
@@ -21,8 +21,12 @@ use Rattle.at_zip.specs.declared.fault.ZipFault.{ZipFault}
 use Rattle.at_node.specs.AtpParts.{Reading as ZoneReading, asking, zones_at}
 use Rattle.at_node.specs.ZoneSocket.{page_packet}
 use Rattle.at_steps.specs.AtpSteps.{page_answer}
-use Rattle.at_world.specs.AtpGuards.{Reading, ReadsSince, StoodSince, reading_of}
+use Rattle.at_world.specs.AtpGuards.{Reading, MayAskFor, ReadsSince, StoodSince, reading_of}
+use Rattle.at_world.specs.Agreements.{on_wire}
+use Rattle.at_world.specs.Transactions.{Asks, ForPage, ForService, Transaction, Asked, answered, is_transaction}
+use Rattle.at_world.specs.Transactions.{transaction_of}
 use Rattle.at_world.proofs.Atp.Lists.{Becomes, answer_joins, one_answer, only_packet, some_transaction}
+use Rattle.at_world.proofs.Atp.OnWire.{AsksWell, wired, asked_unwired}
 
 -- what the layers below promise of pages
 pub record ReadingLaws : Type 0 where
@@ -42,6 +46,13 @@ pub record ReadingLaws : Type 0 where
       → BeginsTable table (read ++ (page_of table (place_after read)).names)
   pub whole : (table read : List (List ℕ)) → BeginsTable table read → (page_of table (place_after read)).last ≡ true
       → read ++ (page_of table (place_after read)).names ≡ table
+
+-- a transaction may ask for the page that it asks for on the wire
+pub may_ask : (laws : ReadingLaws) (asks : Asks) (to : Address) → AsksWell asks to → (which : Which) (start : ℕ)
+    → RequestSpells (on_wire asks).user which start → MayAskFor asks which start
+may_ask laws (ForPage kind from) to well which start spells =
+    laws.one_request (request_user kind from) kind which from start (laws.asks kind from well.0 well.1) spells
+may_ask laws (ForService user bytes) to well which start spells = tt
 
 -- ---- what is known of a reading
 
@@ -75,7 +86,7 @@ pub record Reads (net : ℕ) (router : Option ℕ) (past : List Tables) (asked :
   pub server : ℕ
   pub is_router : router ≡ Some server
   pub first : Asked asked (asking net k) r.tid (zones_at net server)
-  pub user : (first.transaction).user ≡ request_user r.which (place_after r.names)
+  pub asks : (first.transaction).asks ≡ ForPage r.which (place_after r.names)
   pub xo : (first.transaction).xo ≡ false
   pub few : length r.names ≤ 1024
   pub since : ℕ
@@ -87,10 +98,10 @@ pub record Reads (net : ℕ) (router : Option ℕ) (past : List Tables) (asked :
 
 -- a transaction that stays what it was, but for answers that are pages of one of these tables
 pub record Stays (tables : Tables) (before after : Transaction) : Type 0 where
-  pub user : after.user ≡ before.user
+  pub asks : after.asks ≡ before.asks
   pub xo : after.xo ≡ before.xo
   pub answers : (answer : List Packet) → Contains after.answers answer → Contains before.answers answer
-      ⊎ ((which : Which) × (start : ℕ) × RequestSpells before.user which start
+      ⊎ ((which : Which) × (start : ℕ) × MayAskFor before.asks which start
       × (answer ≡ page_answer (table_of which tables) start))
 
 -- the newest transaction of a number that asked a router stays so
@@ -103,7 +114,7 @@ StaysAsked tables before after who tid at = (a : Asked before who tid at) → (b
 pub joined_stays : (tables : Tables) (ts : List Transaction) (from : Address) (tid : ℕ) (packets : List Packet)
     (who : Address) (k : ℕ) (at : Address) →
     ((u : Transaction) → transaction_of ts from tid ≡ Some u → u.responder ≡ at → (which : Which)
-    × (start : ℕ) × RequestSpells u.user which start × (packets ≡ page_answer (table_of which tables) start))
+    × (start : ℕ) × MayAskFor u.asks which start × (packets ≡ page_answer (table_of which tables) start))
     → StaysAsked tables ts (answered ts from tid packets) who k at
 joined_stays tables ts from tid packets who k at page a = let more =
     answer_joins ts from tid packets who k a.transaction a.newest in go more.0 more.1 more.2
@@ -114,7 +125,7 @@ joined_stays tables ts from tid packets who k at page a = let more =
     go v is (inl same) = (
       record { transaction = v; newest = is; asked_it = ap (λ (t : Transaction). t.responder) same ∙ a.asked_it },
       record {
-        user = ap (λ (t : Transaction). t.user) same;
+        asks = ap (λ (t : Transaction). t.asks) same;
         xo = ap (λ (t : Transaction). t.xo) same;
         answers = λ answer among. inl (subst (λ (t : Transaction). Contains t.answers answer) same among);
       },
@@ -122,7 +133,7 @@ joined_stays tables ts from tid packets who k at page a = let more =
     go v is (inr (from_is, tid_is, same)) = (
       record { transaction = v; newest = is; asked_it = ap (λ (t : Transaction). t.responder) same ∙ a.asked_it },
       record {
-        user = ap (λ (t : Transaction). t.user) same;
+        asks = ap (λ (t : Transaction). t.asks) same;
         xo = ap (λ (t : Transaction). t.xo) same;
         answers = λ answer among. new answer
             (Contains-append_cases (a.transaction).answers (packets ∷ []) answer
@@ -132,7 +143,7 @@ joined_stays tables ts from tid packets who k at page a = let more =
       where
         new : (answer : List Packet) → Contains (a.transaction).answers answer ⊎ Contains (packets ∷ []) answer
             → Contains (a.transaction).answers answer
-            ⊎ ((which : Which) × (start : ℕ) × RequestSpells (a.transaction).user which start
+            ⊎ ((which : Which) × (start : ℕ) × MayAskFor (a.transaction).asks which start
             × (answer ≡ page_answer (table_of which tables) start))
         new answer (inl old) = inl old
         new answer (inr one) =
@@ -148,12 +159,12 @@ drawn_stays tables ts new who k at apart a = (
     newest = ap (λ b. cond b (Some new) (transaction_of ts who k)) apart ∙ a.newest;
     asked_it = a.asked_it;
   },
-  record { user = refl; xo = refl; answers = λ answer among. inl among },
+  record { asks = refl; xo = refl; answers = λ answer among. inl among },
 )
 
 pub all_stays : (tables : Tables) (ts : List Transaction) (who : Address) (k : ℕ) (at : Address)
     → StaysAsked tables ts ts who k at
-all_stays tables ts who k at a = (a, record { user = refl; xo = refl; answers = λ answer among. inl among })
+all_stays tables ts who k at a = (a, record { asks = refl; xo = refl; answers = λ answer among. inl among })
 
 -- ---- readings that go on
 
@@ -201,18 +212,18 @@ page_now past x since which names answer lt table is = record {
 }
 
 -- a reading whose transaction stays what it was
-pub still_reads : (laws : ReadingLaws) (net : ℕ) (router : Option ℕ) (past : List Tables)
+pub still_reads : (net : ℕ) (router : Option ℕ) (past : List Tables)
     (tables : Tables) (asked asked' : List Transaction) (readings readings' : List Reading) (k : ℕ)
     (read : ZoneReading) → AreTables tables →
     (r : Reads net router past asked readings k read)
     (b : Asked asked' (asking net k) read.tid (zones_at net r.server))
     → Stays tables (r.first).transaction b.transaction → reading_of readings' k ≡ reading_of readings k
     → Reads net router (past ++ tables ∷ []) asked' readings' k read
-still_reads laws net router past tables asked asked' readings readings' k read are r b s since = record {
+still_reads net router past tables asked asked' readings readings' k read are r b s since = record {
   server = r.server;
   is_router = r.is_router;
   first = b;
-  user = s.user ∙ r.user;
+  asks = s.asks ∙ r.asks;
   xo = s.xo ∙ r.xo;
   few = r.few;
   since = r.since;
@@ -223,35 +234,32 @@ still_reads laws net router past tables asked asked' readings readings' k read a
 }
   where
     page : (answer : List Packet) → Contains ((r.first).transaction).answers answer
-        ⊎ ((which : Which) × (start : ℕ) × RequestSpells ((r.first).transaction).user which start
+        ⊎ ((which : Which) × (start : ℕ) × MayAskFor ((r.first).transaction).asks which start
         × (answer ≡ page_answer (table_of which tables) start))
         → PageAt (past ++ tables ∷ []) r.since read.which read.names answer
     page answer (inl old) = later_page past tables r.since read.which read.names answer (r.pages answer old)
     page answer (inr now) =
-        let few = r.few in
-        let asks = laws.asks read.which (place_after read.names) (omega arith) (small (length read.names) few) in
-        let one = laws.one_request (request_user read.which (place_after read.names)) now.0 read.which now.1
-        (place_after read.names) (subst (λ l. RequestSpells l now.0 now.1) r.user now.2) asks in
+        let one = subst (λ a. MayAskFor a now.0 now.1) r.asks now.2 in
         page_now past tables r.since read.which read.names answer r.begun (are read.which)
-        (now.3 ∙ (λ i. page_answer (table_of (one.0 i) tables) (one.1 i)))
-      where
-        small : (n : ℕ) → n ≤ 1024 → 1 + n < 2 ^ 16
-        small n le = let lt : 1025 < 2 ^ 16 = lit< tt in omega (arith, le, lt)
+        (now.3 ∙ sym (λ i. page_answer (table_of (one.0 i) tables) (one.1 i)))
 
 -- ---- the page that comes to a reading
 
 module _ (laws : ReadingLaws) (net : ℕ) (router : Option ℕ) (past : List Tables) (asked : List Transaction)
     (readings : List Reading) (k : ℕ) (read : ZoneReading) (r : Reads net router past asked readings k read)
-    (from : Address) (newest : Asked asked (asking net k) read.tid from) (place : ℕ) (ends : Bool) (packet : Packet)
-    (part : IsPart newest.transaction place ends packet) where
-  one : newest.transaction ≡ (r.first).transaction
-  one = some_transaction newest.transaction (r.first).transaction (sym newest.newest ∙ (r.first).newest)
+    (from : Address) (newest : atp.Asked (map wired asked) (asking net k) read.tid from) (place : ℕ) (ends : Bool)
+    (packet : Packet) (part : atp.IsPart newest.transaction place ends packet) where
+  one : newest.transaction ≡ wired (r.first).transaction
+  one =
+      let mine = asked_unwired asked (asking net k) read.tid from newest in
+      mine.1
+      ∙ ap wired (some_transaction (mine.0).transaction (r.first).transaction (sym (mine.0).newest ∙ (r.first).newest))
 
   pub comes_from_router : from ≡ zones_at net r.server
-  comes_from_router = sym newest.asked_it ∙ ap (λ (t : Transaction). t.responder) one ∙ (r.first).asked_it
+  comes_from_router = sym newest.asked_it ∙ ap (λ (t : atp.Transaction). t.responder) one ∙ (r.first).asked_it
 
   abbrev its : PageAt past r.since read.which read.names part.answer
-  its = r.pages part.answer (subst (λ (t : Transaction). Contains t.answers part.answer) one part.given)
+  its = r.pages part.answer (subst (λ (t : atp.Transaction). Contains t.answers part.answer) one part.given)
 
   abbrev table_then : List (List ℕ)
   table_then = table_of read.which (tables_at past its.moment)

@@ -1,10 +1,10 @@
 -- What a step leaves as it was in the machine: the tables, and the readings of all nodes.
-use Rattle.std.proofs.Common.{◌≡◌, ℕ, true, false, List, ◌∷◌, Option, Some, None, refl, sym, ap, subst, ◌∙◌}
+use Rattle.std.proofs.Common.{◌≡◌, ℕ, true, false, List, ◌∷◌, map, Option, Some, None, refl, sym, ap, subst, ◌∙◌}
 use Rattle.std.specs.Prelude.{◌==◌, ◌&&◌}
 use Rattle.std.proofs.lemmas.Bool.{false≢true, eq-eqb}
 use Rattle.at_ddp.specs.Address.{same_address}
 use Rattle.at_ddp.specs.declared.address.Address.{Address}
-use Rattle.at_atp.specs.Transactions.{Transaction, is_transaction}
+use Rattle.at_atp.specs.Transactions as atp
 use Rattle.at_zip.specs.Tables.{Tables, AreTables}
 use Rattle.at_node.specs.AtpParts.{Reading as ZoneReading, asking, zones_at}
 use Rattle.at_node.specs.Nodes.{NodeState}
@@ -21,16 +21,18 @@ use Rattle.at_steps.specs.AtpSteps.{is_plain}
 use Rattle.at_world.specs.AtpGuards.{AtpMachine, StepBy, next}
 use Rattle.at_world.specs.Cables.{Cable, IsSaid}
 use Rattle.at_world.specs.Events.{act_of, node_of}
+use Rattle.at_world.specs.Transactions.{Transaction, is_transaction}
 use Rattle.at_world.specs.Worlds.{WorldState, node_at}
 use Rattle.at_setup.specs.declared.event.Event.{Event}
 use Rattle.at_setup.specs.declared.event.Event.TheVariants as event
 use Rattle.at_world.proofs.CableTie.{Wire}
+use Rattle.at_world.proofs.Atp.OnWire.{AskWell, wired}
 use Rattle.at_world.proofs.Atp.Readings.{StaysAsked, all_stays, drawn_stays, still_reads}
-use Rattle.at_world.proofs.Atp.Tie.{Laws, Becomes, HasTables, IsReading, AtpTie, moved}
+use Rattle.at_world.proofs.Atp.Tie.{Laws, Becomes, Spelled, Stepped, HasTables, IsReading, AtpTie, moved}
 
--- the machine says this of an event, as a report that there is
+-- the machine says this of an event, as a report that there is, and what it serves is spelled
 abbrev pub Allows : {A : Type 0} → Cable → AtpMachine → Event A → Report A → AtpMachine → Type 0
-Allows c m e r m' = IsSaid e r × StepBy c m e r m' (reporter_of r)
+Allows c m e r m' = IsSaid e r × StepBy c m e r m' (reporter_of r) × Spelled c m e r m'
 
 pub so_at : (A : Type 0) (c : Cable) (m m' : AtpMachine) (e e' : Event A) (r r' : Report A) → e ≡ e' → r ≡ r'
     → Allows c m e' r' m' → Allows c m e r m'
@@ -40,23 +42,23 @@ so_at A c m m' e e' r r' same told allows =
 -- a report that says nothing of transactions leaves the machine as it was
 pub plainly : (A : Type 0) (c : Cable) (m : AtpMachine) (e : Event A) (r : Report A) → is_plain (act_of e) r ≡ true
     → Allows c m e r (next m)
-plainly A c m (event.Call node call) (report.Refused number) h = (tt, refl)
-plainly A c m (event.Call node call) report.NoMemory h = (tt, refl)
-plainly A c m (event.Deliver which node) (report.Refused number) h = (tt, refl)
-plainly A c m (event.Deliver which node) report.NoMemory h = (tt, refl)
-plainly A c m (event.Timer node time) (report.Refused number) h = (tt, refl)
-plainly A c m (event.Timer node time) report.NoMemory h = (tt, refl)
-plainly A c m (event.Forge node bytes) (report.Refused number) h = (tt, refl)
-plainly A c m (event.Forge node bytes) report.NoMemory h = (tt, refl)
-plainly A c m (event.Deliver which node) report.Ignored h = (tt, refl)
-plainly A c m (event.Deliver which node) report.Again h = (tt, refl)
-plainly A c m (event.Deliver which node) (report.Transactions atp_report.Kept) h = (tt, refl)
-plainly A c m (event.Deliver which node) (report.Transactions atp_report.Released) h = (tt, refl)
-plainly A c m (event.Timer node time) report.Again h = (tt, refl)
-plainly A c m (event.Timer node time) (report.Transactions (atp_report.Failed tid)) h = (tt, refl)
+plainly A c m (event.Call node call) (report.Refused number) h = (tt, refl, tt)
+plainly A c m (event.Call node call) report.NoMemory h = (tt, refl, tt)
+plainly A c m (event.Deliver which node) (report.Refused number) h = (tt, refl, tt)
+plainly A c m (event.Deliver which node) report.NoMemory h = (tt, refl, tt)
+plainly A c m (event.Timer node time) (report.Refused number) h = (tt, refl, tt)
+plainly A c m (event.Timer node time) report.NoMemory h = (tt, refl, tt)
+plainly A c m (event.Forge node bytes) (report.Refused number) h = (tt, refl, tt)
+plainly A c m (event.Forge node bytes) report.NoMemory h = (tt, refl, tt)
+plainly A c m (event.Deliver which node) report.Ignored h = (tt, refl, tt)
+plainly A c m (event.Deliver which node) report.Again h = (tt, refl, tt)
+plainly A c m (event.Deliver which node) (report.Transactions atp_report.Kept) h = (tt, refl, tt)
+plainly A c m (event.Deliver which node) (report.Transactions atp_report.Released) h = (tt, refl, tt)
+plainly A c m (event.Timer node time) report.Again h = (tt, refl, tt)
+plainly A c m (event.Timer node time) (report.Transactions (atp_report.Failed tid)) h = (tt, refl, tt)
 plainly A c m (event.Timer node (timer.Transactions (atp_timer.Release own key)))
     (report.Transactions atp_report.Expired) h =
-    (tt, refl)
+    (tt, refl, tt)
 plainly A c m e r h = absurd (false≢true h)
 
 -- nor does it set a table
@@ -93,37 +95,42 @@ module _ (A : Type 0) (laws : Laws A) (w : WorldState) (cable : Cable) (m : AtpM
           → IsReading cable (moved m tables ts m.readings) (node_of e) reading
       go None h same = tt
       go (Some read) h same = let more = same read h.server refl h.first in
-          still_reads laws.reading cable.net cable.router m.past tables m.asked ts m.readings m.readings
+          still_reads cable.net cable.router m.past tables m.asked ts m.readings m.readings
           (node_of e) read are h more.0 more.1 refl
 
   pub tables_kept : sets_table r ≡ false → HasTables cable m.tables (node_of e) x
   tables_kept none tables is = t.tables (node_of e) n stands tables (sym (keeps none) ∙ is)
 
   -- the tables stay, and so does the reading of the node
-  pub goes_by : (ts now : List Transaction) → now ≡ ts → x.atp.reading ≡ n.atp.reading → sets_table r ≡ false
-      → StaysMine m.tables ts → StaysTheirs m.tables ts → Allows cable m e r (moved m m.tables ts m.readings)
-      → IsSaid e r
-      × Becomes A cable m e x r now
-  goes_by ts now same reading none mine theirs allows = (
+  pub goes_by : (ts : List Transaction) (now : List atp.Transaction) → now ≡ map wired ts → AskWell ts
+      → x.atp.reading ≡ n.atp.reading → sets_table r ≡ false → StaysMine m.tables ts → StaysTheirs m.tables ts
+      → Allows cable m e r (moved m m.tables ts m.readings) → IsSaid e r × Stepped A cable m e x r now
+  goes_by ts now same well reading none mine theirs allows = (
     allows.0,
-    subst (Becomes A cable m e x r) (sym same) (record {
-      tables = m.tables;
-      are_tables = t.are_tables;
-      readings = m.readings;
-      allows = allows.1;
-      here = tables_kept none;
-      elsewhere = λ j y apart h. h;
-      reading = subst (IsReading cable (moved m m.tables ts m.readings) (node_of e)) (sym reading)
-          (still_mine m.tables ts t.are_tables mine);
-      others = λ j apart. refl;
-      still = theirs;
-    }),
+    record {
+      asked = ts;
+      on_wire = same;
+      becomes = record {
+        tables = m.tables;
+        are_tables = t.are_tables;
+        readings = m.readings;
+        ask_well = well;
+        allows = allows.1;
+        spelled = allows.2;
+        here = tables_kept none;
+        elsewhere = λ j y apart h. h;
+        reading = subst (IsReading cable (moved m m.tables ts m.readings) (node_of e)) (sym reading)
+            (still_mine m.tables ts t.are_tables mine);
+        others = λ j apart. refl;
+        still = theirs;
+      };
+    },
   )
 
-  pub nothing_asked : (now : List Transaction) → now ≡ m.asked → x.atp.reading ≡ n.atp.reading → sets_table r ≡ false
-      → Allows cable m e r (next m) → IsSaid e r × Becomes A cable m e x r now
+  pub nothing_asked : (now : List atp.Transaction) → now ≡ map wired m.asked → x.atp.reading ≡ n.atp.reading
+      → sets_table r ≡ false → Allows cable m e r (next m) → IsSaid e r × Stepped A cable m e x r now
   nothing_asked now same reading none allows =
-      goes_by m.asked now same reading none
+      goes_by m.asked now same t.ask_well reading none
       (λ read server is. all_stays m.tables m.asked (asking cable.net (node_of e)) read.tid (zones_at cable.net server))
       (λ j tid server apart. all_stays m.tables m.asked (asking cable.net j) tid (zones_at cable.net server))
       allows

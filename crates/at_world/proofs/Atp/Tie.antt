@@ -13,7 +13,7 @@ use Rattle.at_ddp.proofs.PostLemmas.{put_same}
 use Rattle.at_ddp.specs.Protocols.{atp_kind}
 use Rattle.at_world.proofs.Entries.{Entries, entries_both, entries_of}
 use Rattle.at_atp.specs.Network.{Network, Sent, Happening, Answers, Serves, NoneHolds, after, done, is_fresh, AllTimely}
-use Rattle.at_atp.specs.Transactions.{Transaction}
+use Rattle.at_atp.specs.Transactions as atp
 use Rattle.at_zip.specs.Tables.{Tables, AreTables, table_of}
 use Rattle.at_event.specs.Calls.{IsCall}
 use Rattle.at_node.specs.Numbers.{Carries, drawn_by, holds}
@@ -27,6 +27,8 @@ use Rattle.at_node.specs.declared.numbers.Draw.{Draw}
 use Rattle.at_node.specs.declared.numbers.Draw.TheVariants.{Tid}
 use Rattle.at_event.specs.declared.event.Call.{Call}
 use Rattle.at_event.specs.declared.report.Report.{Report}
+use Rattle.at_event.specs.declared.report.Report.TheVariants as report
+use Rattle.at_event.specs.declared.reports.ZoneReport.TheVariants as zip_report
 use Rattle.at_event.specs.declared.event.Timer.{Timer}
 use Rattle.at_event.specs.declared.service.Reply.{Reply}
 use Rattle.at_event.specs.declared.service.Reply.TheVariants.{Later}
@@ -38,12 +40,16 @@ use Rattle.at_steps.specs.AtpHappenings.{Happens, HoldsNo, IsForeign, IsHappenin
 use Rattle.at_steps.specs.AtpHappenings.{numbers_drawn, atp_coding}
 use Rattle.at_world.specs.Draws.{noted as noted_in}
 use Rattle.at_world.specs.AtpGuards.{AtpMachine, Reading, StepBy, reading_of, next}
+use Rattle.at_world.specs.Agreements.{ServesItsPage}
 use Rattle.at_world.specs.Cables.{Cable}
 use Rattle.at_world.specs.Events.{act_of, node_of}
 use Rattle.at_world.specs.Stories.{Grows, Matches}
+use Rattle.at_world.specs.Transactions.{Transaction}
 use Rattle.at_world.specs.Worlds.{WorldState, node_at, recorded}
 use Rattle.at_setup.specs.declared.event.Event.{Event}
+use Rattle.at_setup.specs.declared.event.Event.TheVariants as event
 use Rattle.at_world.proofs.CableTie.{Wire, wire, SeatTie, found_after}
+use Rattle.at_world.proofs.Atp.OnWire.{AskWell, wired}
 use Rattle.at_world.proofs.Atp.Places.{requester_at, requester_after, records_at, records_after}
 use Rattle.at_world.proofs.Atp.Readings.{ReadingLaws, Reads, StaysAsked, still_reads}
 use Rattle.at_world.proofs.Atp.Times.{IsNoted, all_noted, drawn_too}
@@ -104,19 +110,24 @@ pub record AtpTie (A : Type 0) (w : WorldState) (c : Cable) (wires : List Wire) 
   pub responders : (at : Address) → (after A history).responders at ≡ records_at c.net w.nodes at
   pub sent : Entries atp_coding wires (after A history).sent
   pub drawn : AllByRecursion (IsNoted w.last w.events) (after A history).drawn
-  pub asked : (after A history).asked ≡ m.asked
+  pub asked : (after A history).asked ≡ map wired m.asked
+  pub ask_well : AskWell m.asked
   pub tables : (k : ℕ) (n : NodeState) → node_at w k ≡ Some n → HasTables c m.tables k n
   pub opened : (k : ℕ) (n : NodeState) → node_at w k ≡ Some n → IsOpen n.atp
   pub readings : (k : ℕ) (n : NodeState) → node_at w k ≡ Some n → IsReading c m k n.atp.reading
-  pub on_net : AllByRecursion (IsOn c.net) m.asked
+  pub on_net : AllByRecursion (IsOn c.net) (map wired m.asked)
 
 -- the machine a moment later, with these tables, transactions and readings
 abbrev pub moved : AtpMachine → Tables → List Transaction → List Reading → AtpMachine
 moved m tables asked readings = next (record m { tables = tables; asked = asked; readings = readings })
 
--- ---- what a node sends
-
 -- ---- one step
+
+-- a page that is served is the one that its transaction asks for on the wire
+abbrev pub Spelled : {A : Type 0} → Cable → AtpMachine → Event A → Report A → AtpMachine → Type 0
+Spelled c m (event.Deliver which node) (report.Zones (zip_report.Served count)) m' =
+    (requester : Address) × (tid : ℕ) × ServesItsPage c.net node m m' requester tid
+Spelled c m e r m' = Unit {0}
 
 -- What a step does to what the machine knows: which transactions and readings there are after it, as far as the tie of
 -- the nodes needs it. The step is of node k, which becomes x.
@@ -125,7 +136,9 @@ pub record Becomes (A : Type 0) (c : Cable) (m : AtpMachine) (e : Event A) (x : 
   pub tables : Tables
   pub are_tables : AreTables tables
   pub readings : List Reading
+  pub ask_well : AskWell asked
   pub allows : StepBy c m e r (moved m tables asked readings) (reporter_of r)
+  pub spelled : Spelled c m e r (moved m tables asked readings)
   pub here : HasTables c tables (node_of e) x
   pub elsewhere : (j : ℕ) (y : NodeState) → (node_of e == j) ≡ false → HasTables c m.tables j y → HasTables c tables j y
   pub reading : IsReading c (moved m tables asked readings) (node_of e) x.atp.reading
@@ -133,11 +146,18 @@ pub record Becomes (A : Type 0) (c : Cable) (m : AtpMachine) (e : Event A) (x : 
   pub still : (j tid server : ℕ) → (node_of e == j) ≡ false
       → StaysAsked tables m.asked asked (asking c.net j) tid (zones_at c.net server)
 
--- the history grew by one happening, which is what the event and its report say
-abbrev pub Grown : (A : Type 0) (cable : Cable) (tables : Tables) (before now : List Happening) → Event A
-    → Report A → Type 0
-Grown A cable tables before now e r = (h : Happening) × (now ≡ h ∷ before)
-    × Matches cable.net tables (after A before) h e r × Grows A (after A before) h
+-- so it is with the transactions that the network has after the step
+pub record Stepped (A : Type 0) (c : Cable) (m : AtpMachine) (e : Event A) (x : NodeState) (r : Report A)
+    (now : List atp.Transaction) : Type 0 where
+  pub asked : List Transaction
+  pub on_wire : now ≡ map wired asked
+  pub becomes : Becomes A c m e x r asked
+
+-- The history grew by one happening, which is what the event and its report say. What was served was spelled.
+abbrev pub Grown : (A : Type 0) (cable : Cable) (m : AtpMachine) (before now : List Happening) → Event A
+    → Report A → AtpMachine → Type 0
+Grown A cable m before now e r m' = (h : Happening) × (now ≡ h ∷ before)
+    × Matches cable.net m.tables (after A before) h e r × Grows A (after A before) h × Spelled cable m e r m'
 
 -- what matches with the tables of a node matches with the machine's tables, if those are the node's
 with_tables : (A : Type 0) (net number : ℕ) (its : Option Tables) (tables : Tables) (n : Network)
@@ -180,19 +200,19 @@ abbrev pub Good : (A : Type 0) (w : WorldState) (c : Cable) (m : AtpMachine) (wi
 Good A w c m wires t e o =
     (m' : AtpMachine) × StepBy c m e o.report m' (reporter_of o.report)
     × (now : AtpTie A (recorded w (node_of e) o.report o.state (map posted o.out)) c
-    (wires ++ map (wire w.events) o.out) m') × Grown A c m.tables t.history now.history e o.report
+    (wires ++ map (wire w.events) o.out) m') × Grown A c m t.history now.history e o.report m'
 
 module _ (A : Type 0) (laws : Laws A) (w : WorldState) (c : Cable) (wires : List Wire) (m : AtpMachine) (e : Event A)
     (n : NodeState) (o : Outcome A NodeState) (t : AtpTie A w c wires m) (stands : node_at w (node_of e) ≡ Some n)
     (h : Happens A t.history c.net (node_of e) n (act_of e) o)
     (mine : SeatTie c (node_of e) o.state) (asked : List Transaction)
-    (is_asked : (done A (after A t.history) h.happening).asked ≡ asked)
+    (is_asked : (done A (after A t.history) h.happening).asked ≡ map wired asked)
     (b : Becomes A c m e o.state o.report asked) where
   reading_kept : (j : ℕ) (y : NodeState) (reading : Option ZoneReading) → (node_of e == j) ≡ false
       → IsReading c m j reading → IsReading c (moved m b.tables asked b.readings) j reading
   reading_kept j y None apart r = tt
   reading_kept j y (Some read) apart r = let more = b.still j read.tid r.server apart r.first in
-      still_reads laws.reading c.net c.router m.past b.tables m.asked asked m.readings b.readings j read b.are_tables r
+      still_reads c.net c.router m.past b.tables m.asked asked m.readings b.readings j read b.are_tables r
       more.0 more.1 (b.others j apart)
 
   noted : (d : Option Draw) → (done A (after A t.history) h.happening).drawn
@@ -229,6 +249,7 @@ module _ (A : Type 0) (laws : Laws A) (w : WorldState) (c : Cable) (wires : List
           (entries_of atp_coding w.events (after A t.history).event o.out h.more t.events h.posts));
       drawn = noted (drawn_by o.report) h.drawn;
       asked = is_asked;
+      ask_well = b.ask_well;
       tables = λ j y is. found_after (node_of e) j o.state n y w.nodes (HasTables c b.tables j) mine.number stands is
           (λ same. subst (λ i. HasTables c b.tables i o.state) same b.here)
           (λ apart g. b.elsewhere j y apart (t.tables j y g));
@@ -254,5 +275,6 @@ module _ (A : Type 0) (laws : Laws A) (w : WorldState) (c : Cable) (wires : List
       with_tables A c.net (node_of e) n.atp.tables m.tables (after A t.history) h.happening
           (act_of e) o.report (λ tables is. (t.tables (node_of e) n stands tables is).0) h.matches,
       (h.more, h.sent),
+      b.spelled,
     ),
   )

@@ -2,14 +2,14 @@
 use Rattle.std.proofs.Common.{◌≡◌, inl, inr, ℕ, zero, suc, ◌+◌, ◌<◌, ◌≤◌, Bool, true, false, cond, List, [], ◌∷◌, ◌++◌}
 use Rattle.std.proofs.Common.{length, Option, Some, refl, sym, ap, subst, ◌∙◌, arith, lit<}
 use Rattle.std.specs.Prelude.{slice_get, ◌||◌, ◌==◌, ◌&&◌}
-use Rattle.std.specs.List.{AllByRecursion, list_any}
+use Rattle.std.specs.List.{AllByRecursion}
 use Rattle.std.proofs.lemmas.Bool.{false≢true, eq-eqb, eqb-true, and_parts}
 use Rattle.std.proofs.lemmas.List.{append-nil}
 use Rattle.at_ddp.specs.Address.{same_address}
 use Rattle.at_ddp.specs.Datagram.{Content as Datagram, IsAddress, AreBytes, BeginsWith, canonical, written}
 use Rattle.at_ddp.specs.declared.address.Address.{Address}
 use Rattle.at_ddp.proofs.Octets.{same_address-true, same_address_itself}
-use Rattle.at_atp_frame.specs.Frames.{Content, Request, IsLawful, Spells, spelled}
+use Rattle.at_atp_frame.specs.Frames.{Content, Request, IsLawful, IsTimer, Spells, spelled}
 use Rattle.at_atp.specs.Askings.{ChangesAsked}
 use Rattle.at_atp.specs.HandUps as HandUps
 use Rattle.at_atp.specs.HandUps.{is_handed_up, hand_ups_since}
@@ -27,7 +27,7 @@ use Rattle.at_event.specs.declared.report.Report.TheVariants as report
 use Rattle.at_event.specs.declared.reports.TransactionReport.TheVariants as atp_report
 use Rattle.at_event.specs.declared.reports.ZoneReport.TheVariants as zip_report
 use Rattle.at_zip.specs.Tables.{Tables}
-use Rattle.at_world.specs.ExactlyOnce.{Played, onto, since, CameFrom, HandsUp, Lives, AllLive, expires}
+use Rattle.at_world.specs.ExactlyOnce.{Played, onto, CameFrom, HandsUp, Lives, AllLive}
 use Rattle.at_world.specs.Sents.{SentDatagram}
 use Rattle.at_steps.specs.AtpReports.{came_under}
 use Rattle.at_steps.specs.AtpReports as reports
@@ -101,31 +101,26 @@ module _ (A : Type 0) (laws : OnceLaws A) (net : ℕ) (sent : List SentDatagram)
   key_parts s key h = let both = and_parts (same_address s.from key.from) (number_of s.packet == key.tid) h in
       (same_address-true s.from key.from both.0, eqb-true (number_of s.packet) key.tid both.1)
 
-  came_by : (which : ℕ) (key : Key) (s : Sent) → slice_get sent which ≡ Some (posted_packet s) → IsLawfullySent s
-      → s.from ≡ key.from → number_of s.packet ≡ key.tid → CameFrom sent which key
-  came_by which key s is ok sender numbered = record {
-    datagram = posted_packet s;
-    was_sent = is;
-    header = written s.to s.from atp_kind (spelled s.packet);
-    rest = [];
-    begins = begins s ok;
-    packet = s.packet;
-    spells = laws.packet_reads s.packet ok.lawful;
-    sender = sender;
-    numbered = numbered;
-  }
-
   pub came_there : (which : ℕ) (key : Key) (s : Sent) → slice_get sent which ≡ Some (posted_packet s)
       → IsLawfullySent s → same_key (record { from = s.from; tid = number_of s.packet }) key ≡ true
       → CameFrom sent which key
   came_there which key s is ok same =
       let parts = key_parts s key same in
-      came_by which key s is ok parts.0 parts.1
+      record {
+        datagram = posted_packet s;
+        was_sent = is;
+        header = written s.to s.from atp_kind (spelled s.packet);
+        rest = [];
+        begins = begins s ok;
+        packet = s.packet;
+        spells = laws.packet_reads s.packet ok.lawful;
+        sender = parts.0;
+        numbered = parts.1;
+      }
 
-  -- the packet that came at a place is the one that was sent there, from the same address and to the same
+  -- the packet that came at a place is the one that was sent there, from the same address
   pub came_as : (which : ℕ) (key : Key) (s : Sent) → slice_get sent which ≡ Some (posted_packet s) → IsLawfullySent s
-      → (c : CameFrom sent which key) → (s.packet ≡ c.packet) × (s.from ≡ key.from) × (s.to ≡ (c.header).to)
-      × (atp_kind ≡ (c.header).kind)
+      → (c : CameFrom sent which key) → (s.packet ≡ c.packet) × (s.from ≡ key.from)
   came_as which key s is ok c =
       let one : posted_packet s ≡ c.datagram = some_one (posted_packet s) c.datagram (sym is ∙ c.was_sent) in
       let header : written s.to s.from atp_kind (spelled s.packet)
@@ -135,8 +130,6 @@ module _ (A : Type 0) (laws : OnceLaws A) (net : ℕ) (sent : List SentDatagram)
         laws.packet_alone (spelled s.packet) s.packet c.packet (laws.packet_reads s.packet ok.lawful)
             (subst (λ (d : Datagram). Spells d.data_ c.packet) (sym header) c.spells),
         ap (λ (d : Datagram). d.from) header ∙ c.sender,
-        ap (λ (d : Datagram). d.to) header,
-        ap (λ (d : Datagram). d.kind) header,
       )
     where
       some_one : (a b : SentDatagram) → Some a ≡ Some b → a ≡ b
@@ -271,6 +264,10 @@ module _ (A : Type 0) (laws : OnceLaws A) (net : ℕ) (sent : List SentDatagram)
       let before = same_expiry xs hs at key told.2 in
       λ i. cond (m.draws_it key i) false (m.expires_it at key i || before i)
 
+  at_most_4 : (xo : Bool) (timer : ℕ) → IsTimer xo timer → timer ≤ 4
+  at_most_4 true timer h = h
+  at_most_4 false timer h = omega (arith, h)
+
   lives_in : (e : Event A) (past : List (Played A)) (hs : List Happening) (which node : ℕ)
       → e ≡ event.Deliver which node → Told A net past hs → Within sent (after A hs)
       → AllByRecursion IsInRange hs → Lives net sent e past → (s : Sent) (mask : ℕ) (xo : Bool) (timer tid : ℕ)
@@ -279,17 +276,11 @@ module _ (A : Type 0) (laws : OnceLaws A) (net : ℕ) (sent : List SentDatagram)
       → record_expired A hs s.to (record { from = s.from; tid = tid }) ≡ false
   lives_in e past hs which node is told within range lives s mask xo timer tid user bytes was_sent packet_is =
       let ok = sent_at IsLawfullySent (after A hs).sent which s (lawful hs range) was_sent in
-      let there = within which s was_sent in
-      let came : CameFrom sent which (record { from = s.from; tid = tid }) =
-      came_by which (record { from = s.from; tid = tid }) s there ok refl (ap number_of packet_is) in
-      let same = came_as which (record { from = s.from; tid = tid }) s there ok came in
-      let lived = subst (λ x. Lives net sent x past) is lives (record { from = s.from; tid = tid }) came mask xo timer
-      user bytes (sym same.3) (sym same.0 ∙ packet_is) in
+      let parts = subst IsLawful packet_is ok.lawful in
       same_expiry past hs s.to (record { from = s.from; tid = tid }) told
       ∙ expired_is A net past s.to (record { from = s.from; tid = tid })
-      ∙ ap (λ at. list_any (λ (y : Played A). expires net at (record { from = s.from; tid = tid }) y.event y.report)
-      (since net (record { from = s.from; tid = tid }) past)) same.2
-      ∙ lived
+      ∙ subst (λ x. Lives net sent x past) is lives s mask xo timer tid user bytes (within which s was_sent) packet_is
+      (at_most_4 xo timer parts.1)
 
   pub all_lived : (past : List (Played A)) (hs : List Happening) → Told A net past hs → Within sent (after A hs)
       → AllByRecursion IsInRange hs → AllLive net sent past → AllLived A hs
