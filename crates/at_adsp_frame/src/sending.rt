@@ -1,11 +1,11 @@
-//! The sending of one segment by an outbox. It is spelled in an array, so that only the outbox needs memory.
+//! The sending of one segment by an outbox. Its header is spelled in an array, so that only the outbox needs memory.
 ghost use Rattle.std.specs.Prelude.{◌≡◌, ℕ, ◌+◌, ◌≤◌, List, ◌∷◌, [], length, OnOk, OnErr, IsOk};
 ghost use Rattle.at_ddp.specs.Outbox.{Sends, HasRoomFor, HasRoomToSend};
 ghost use Rattle.at_ddp.specs.declared.address.Address.{Address as Destination};
 ghost use Rattle.at_adsp_frame.specs.Segments.{content, data_of, part, spelled};
 
 use crate::segment::Segment;
-use crate::writing::spelling;
+use crate::writing::{data_in, head_of};
 use at_ddp::{Address, Outbox};
 use std::alloc::{AllocError, Allocator};
 
@@ -24,6 +24,5 @@ pub fn send<A: Allocator>(
         → HasRoomToSend out.old ((to, spelled (content segment.now)) ∷ rest)
         → IsOk result × HasRoomToSend out.new rest }
 {
-    let bytes = spelling(segment);
-    out.push(to, bytes.as_slice())
+    out.push_parts(to, head_of(segment).as_slice(), data_in(&segment.body))
 }

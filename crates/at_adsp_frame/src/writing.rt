@@ -1,19 +1,21 @@
-//! The writing of a segment, with 0 in the free bits. It is spelled in an array first.
+//! The writing of a segment, with 0 in the free bits.
 ghost use Rattle.std.specs.Prelude.{◌≡◌, ◌≢◌, ◌+◌, ◌*◌, ◌<◌, ◌≤◌, ◌++◌, ◌↔◌, length};
 ghost use Rattle.std.specs.Prelude.{IfErr, OnOk, OnErr, IsErrOf, vec_len, vec_capacity};
-ghost use Rattle.arrayvec.specs.ArrayVec.{array_vec_len};
 ghost use Rattle.at_ddp.specs.Bits.{bit};
 ghost use Rattle.at_adsp_frame.specs.Openings.{opening};
-ghost use Rattle.at_adsp_frame.specs.Segments.{bits_of, content, data_of, fields_of, header, part, spelled};
+ghost use Rattle.at_adsp_frame.specs.Segments.{bits_of, content, data_of, header, part, spelled};
 
 use crate::fault::AdspFault;
 use crate::reading::read_dest;
 use crate::segment::{
     ACK, ADVICE, Body, CLOSE, CONTROL, EOM, HEADER_LEN, MAX_DATA, OPENING_LEN, PROBE, RESET,
-    RESET_ACK, SEGMENT_LEN, Segment, VERSION,
+    RESET_ACK, Segment, VERSION,
 };
 use arrayvec::ArrayVec;
 use std::alloc::Allocator;
+
+// The greatest length of what precedes the data.
+const HEAD_LEN: usize = HEADER_LEN + OPENING_LEN;
 
 /// Appends a segment in the canonical spelling, with 0 in the free bits. A request to open a connection is to no
 /// connection identifier.
@@ -30,13 +32,15 @@ pub fn encode<A: Allocator>(segment: &Segment<'_>, out: &mut Vec<u8, A>) -> Resu
     if data_in(&segment.body).len() > MAX_DATA {
         return Err(AdspFault::AdspTooLong);
     }
-    let bytes = spelling(segment);
-    out.reserve(bytes.len())?;
-    out.extend_from_slice(bytes.as_slice()).unwrap();
+    let head = head_of(segment);
+    let bytes = data_in(&segment.body);
+    out.reserve(head.len() + bytes.len())?;
+    out.extend_from_slice(head.as_slice()).unwrap();
+    out.extend_from_slice(bytes).unwrap();
     Ok(())
 }
 
-fn data_in<'a>(body: &Body<'a>) -> &'a [u8]
+pub(crate) fn data_in<'a>(body: &Body<'a>) -> &'a [u8]
     ensures { result.now ≡ data_of (part body.now) }
 {
     match body {
@@ -45,31 +49,19 @@ fn data_in<'a>(body: &Body<'a>) -> &'a [u8]
     }
 }
 
-// The canonical spelling of a segment.
-pub(crate) fn spelling(segment: &Segment<'_>) -> ArrayVec<u8, SEGMENT_LEN>
+// The canonical header of a segment, and behind it the fields of an opening. Data follows.
+pub(crate) fn head_of(segment: &Segment<'_>) -> ArrayVec<u8, HEAD_LEN>
     requires { length (data_of (part segment.now.body)) ≤ 572 }
-    ensures { result.items ≡ spelled (content segment.now) }
+    ensures begins { result.items ++ data_of (part segment.now.body) ≡ spelled (content segment.now) }
+    ensures fits { length result.items + length (data_of (part segment.now.body)) ≤ 585 }
 {
-    let mut bytes = ArrayVec::new();
-    bytes.try_extend_from_slice(&header_of(segment)).unwrap();
-    append_fields(&mut bytes, &segment.body);
-    bytes
-}
-
-// Appends what follows the header.
-fn append_fields(bytes: &mut ArrayVec<u8, SEGMENT_LEN>, body: &Body<'_>)
-    requires room { array_vec_len bytes.old ≡ 13 }
-    requires fits { length (data_of (part body.now)) ≤ 572 }
-    ensures { bytes.new.items ≡ bytes.old.items ++ fields_of (part body.now) }
-{
-    match body {
-        Body::Data { data_, .. } => bytes.try_extend_from_slice(data_).unwrap(),
-        Body::Open { kind, dest } => {
-            let fields = opening_to(read_dest(*kind, *dest));
-            bytes.try_extend_from_slice(&fields).unwrap();
-        }
-        _ => {}
+    let mut head = ArrayVec::new();
+    head.try_extend_from_slice(&header_of(segment)).unwrap();
+    if let Body::Open { kind, dest } = &segment.body {
+        let fields = opening_to(read_dest(*kind, *dest));
+        head.try_extend_from_slice(&fields).unwrap();
     }
+    head
 }
 
 // The fields of an opening to this destination.

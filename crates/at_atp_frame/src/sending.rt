@@ -1,10 +1,9 @@
-//! The sending of one packet by an outbox. It is spelled in an array, so that only the outbox needs memory.
+//! The sending of one packet by an outbox, which alone needs memory.
 ghost use Rattle.std.specs.Prelude.{◌≡◌, ℕ, ◌+◌, ◌≤◌, ◌∷◌, [], length, OnOk, OnErr, IsOk};
 ghost use Rattle.at_ddp.specs.Outbox.{Sends, HasRoomFor};
 ghost use Rattle.at_atp_frame.specs.Frames.{content, CanBeWritten, data_of, spelled};
 
-use crate::frame::{Frame, PACKET_LEN, data_in, header_of};
-use arrayvec::ArrayVec;
+use crate::frame::{Frame, data_in, header_of};
 use at_ddp::{Address, Outbox};
 use std::alloc::{AllocError, Allocator};
 
@@ -21,8 +20,5 @@ pub fn send<A: Allocator>(
     ensures room { (n size : ℕ) → HasRoomFor out.old (n + 1) size → 8 + length (data_of (content frame.now)) ≤ size
         → IsOk result × HasRoomFor out.new n size }
 {
-    let mut bytes: ArrayVec<u8, PACKET_LEN> = ArrayVec::new();
-    bytes.try_extend_from_slice(&header_of(frame)).unwrap();
-    bytes.try_extend_from_slice(data_in(frame)).unwrap();
-    out.push(to, bytes.as_slice())
+    out.push_parts(to, &header_of(frame), data_in(frame))
 }

@@ -36,8 +36,8 @@ impl<A: Allocator + Copy> Requester<A> {
         }
     }
 
-    /// Takes a packet that ends an at-least-once transaction, and keeps nothing of the answer. Nothing is sent, and this
-    /// needs no memory.
+    /// Takes a packet that ends an at-least-once transaction, and keeps nothing of the answer. Nothing is sent, and
+    /// this needs no memory.
     pub fn close(&mut self, from: Address, frame: &Frame<'_>)
         requires { finishes A self.old from (content frame.now) ≡ true }
         ensures state { self.new ≡ (heard {A = A} self.old from (content frame.now)).after }

@@ -8,8 +8,9 @@ ghost use Rattle.at_atp_responder.specs.Records.{IsAnswered};
 
 use crate::reception::Key;
 use crate::record::send_answer;
-use crate::records::{Records, asked_bitmap, record_fault, settle, settle_copy};
+use crate::records::{Records, asked_bitmap, record_fault};
 use crate::responder::Responder;
+use crate::settling::{settle, settle_copy};
 use at_atp_frame::{AtpFault, MAX_DATA, PACKET_LEN, Packet};
 use at_ddp::{Listed, Outbox};
 use std::alloc::Allocator;

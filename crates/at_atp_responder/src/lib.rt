@@ -8,6 +8,7 @@ mod reception;
 mod record;
 mod records;
 mod responder;
+mod settling;
 
 pub use reception::{Key, Reception};
 pub use responder::Responder;

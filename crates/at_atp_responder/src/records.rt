@@ -5,16 +5,15 @@ ghost use Rattle.std.specs.List.{list_any, position_from};
 ghost use Rattle.std.specs.Option.{option_copied};
 ghost use Rattle.at_ddp.specs.Outbox.{Sends};
 ghost use Rattle.at_atp_responder.specs.Records.{Record as Kept, repeated, released, request_came, release_came};
-ghost use Rattle.at_atp_responder.specs.Records.{is_new_and_full, IsRepeat, Waiting, Answered, fit, is_key, is_kept};
-ghost use Rattle.at_atp_responder.specs.Records.{state_fault, record_fault, expiry_fault, asked_bitmap, after_answer};
+ghost use Rattle.at_atp_responder.specs.Records.{is_new_and_full, IsRepeat, Waiting, is_key};
+ghost use Rattle.at_atp_responder.specs.Records.{state_fault, record_fault, expiry_fault, asked_bitmap};
 ghost use Rattle.at_atp_responder.specs.Records.{IsTaken, is_from, expiring_key};
 ghost use Rattle.at_atp_responder.specs.Keys.{AreApart};
-ghost use Rattle.at_ddp.specs.Tables.{replaced, without_first};
 
 use crate::reception::{Key, Reception};
 use crate::record::Record;
-use at_atp_frame::{AtpFault, Packet};
-use at_ddp::{Listed, Outbox};
+use at_atp_frame::AtpFault;
+use at_ddp::Outbox;
 use at_table::Table;
 use std::alloc::{AllocError, Allocator};
 use std::marker::Model;
@@ -25,7 +24,7 @@ const RECORDS: usize = 64;
 /// The records in the order in which their requests came, each found by its key.
 #[derive(Drop)]
 pub(crate) struct Records<A: Allocator> {
-    table: Table<Key, Record<A>, A>,
+    pub(crate) table: Table<Key, Record<A>, A>,
 }
 
 impl<A: Allocator> Model for Records<A> {
@@ -125,7 +124,7 @@ pub(crate) fn record_of<A: Allocator>(records: &Records<A>, key: Key) -> Option<
     records.table.get(&key)
 }
 
-fn index_of<A: Allocator>(records: &Records<A>, key: Key) -> Option<usize>
+pub(crate) fn index_of<A: Allocator>(records: &Records<A>, key: Key) -> Option<usize>
     ensures { result ≡ position_from (is_key key) 0 records.now }
 {
     records.table.index_of(&key)
@@ -223,112 +222,4 @@ pub(crate) fn hear_release<A: Allocator>(records: &mut Records<A>, key: Key) -> 
             record.release()
         }
     }
-}
-
-// Keeps the answer if the request is exactly-once, and removes the record otherwise.
-pub(crate) fn settle<A: Allocator>(
-    records: &mut Records<A>,
-    key: Key,
-    packets: Listed<Packet<A>, A>,
-)
-    requires few { length packets ≤ 8 }
-    requires fits { fit packets ≡ true }
-    ensures settled { records.new ≡ after_answer records.old key packets }
-    ensures no_more { length records.new ≤ length records.old }
-{
-    let Some(index) = index_of(records, key) else {
-        return;
-    };
-    if is_kept_at(records, key, index) {
-        keep(records, key, index, packets);
-    } else {
-        let _ = forget_at(records, key, index);
-    }
-}
-
-// The same, with a copy of the answer. This needs no memory.
-pub(crate) fn settle_copy<A: Allocator + Copy>(
-    records: &mut Records<A>,
-    key: Key,
-    packets: &[Packet<A>],
-)
-    requires few { length packets.now ≤ 8 }
-    requires fits { fit packets.now ≡ true }
-    ensures settled { records.new ≡ after_answer records.old key packets.now }
-    ensures no_more { length records.new ≤ length records.old }
-{
-    let Some(index) = index_of(records, key) else {
-        return;
-    };
-    if is_kept_at(records, key, index) {
-        keep_copy(records, key, index, packets);
-    } else {
-        let _ = forget_at(records, key, index);
-    }
-}
-
-// Whether the answer to the request whose record is at this index will be kept.
-fn is_kept_at<A: Allocator>(records: &Records<A>, key: Key, index: usize) -> bool
-    requires { position_from (is_key key) 0 records.now ≡ Some index }
-    ensures { result ≡ is_kept (find (is_key key) records.now) }
-{
-    records.table.at(index).keeps_answer()
-}
-
-fn keep<A: Allocator>(
-    records: &mut Records<A>,
-    key: Key,
-    index: usize,
-    packets: Listed<Packet<A>, A>,
-)
-    requires place { position_from (is_key key) 0 records.old ≡ Some index }
-    requires few { length packets ≤ 8 }
-    requires fits { fit packets ≡ true }
-    ensures kept { records.new ≡ replaced (is_key key) (record { key = key; state = Answered packets })
-        records.old }
-    ensures as_many { length records.new ≡ length records.old }
-{
-    let record = records.table.at_mut(index);
-    record.keep(packets);
-}
-
-fn keep_copy<A: Allocator + Copy>(
-    records: &mut Records<A>,
-    key: Key,
-    index: usize,
-    packets: &[Packet<A>],
-)
-    requires place { position_from (is_key key) 0 records.old ≡ Some index }
-    requires few { length packets.now ≤ 8 }
-    requires fits { fit packets.now ≡ true }
-    requires kept { is_kept (find (is_key key) records.old) ≡ true }
-    ensures kept { records.new ≡ replaced (is_key key) (record { key = key; state = Answered packets.now })
-        records.old }
-    ensures as_many { length records.new ≡ length records.old }
-{
-    let record = records.table.at_mut(index);
-    record.keep_copy(packets);
-}
-
-// Removes a record. Returns which packets its request asked for.
-pub(crate) fn forget<A: Allocator>(records: &mut Records<A>, key: Key) -> u8
-    ensures gone { records.new ≡ without_first (is_key key) records.old }
-    ensures bitmap { IfSome (find (is_key key) records.old) (λ r. result ≡ asked_bitmap r.state) }
-    ensures no_more { length records.new ≤ length records.old }
-{
-    match index_of(records, key) {
-        None => 0,
-        Some(index) => forget_at(records, key, index),
-    }
-}
-
-// Removes the record at this index. Returns which packets its request asked for.
-fn forget_at<A: Allocator>(records: &mut Records<A>, key: Key, index: usize) -> u8
-    requires { position_from (is_key key) 0 records.old ≡ Some index }
-    ensures gone { records.new ≡ without_first (is_key key) records.old }
-    ensures bitmap { IfSome (find (is_key key) records.old) (λ r. result ≡ asked_bitmap r.state) }
-    ensures no_more { length records.new ≤ length records.old }
-{
-    let record = records.table.remove(index);
-    record.bitmap()
 }

@@ -10,9 +10,10 @@ ghost use Rattle.at_ddp.specs.Tables.{without_first};
 
 use crate::reception::{Key, Reception};
 use crate::records::{
-    Records, any_from, count, expiring_at, expiry_fault, forget, hear_release, hear_request,
-    record_fault, record_of,
+    Records, any_from, count, expiring_at, expiry_fault, hear_release, hear_request, record_fault,
+    record_of,
 };
+use crate::settling::forget;
 use at_atp_frame::{AtpFault, Frame};
 use at_ddp::{Address, Outbox};
 use std::alloc::{Allocator, Global};

@@ -42,25 +42,27 @@ pieces-push start (m ∷ ms) bytes new node h =
     let first = piece_stays start m.end bytes new h.0 (AreMarks-le m.end ms (length bytes) h.1) in
     rw (first, pieces-push m.end ms bytes new node h.1) refl
 
--- ---- one more datagram, of two parts
+-- ---- one more datagram
 
-pub marks_after : (ms ms' : List Mark) (bytes bytes' bytes'' front back : List ℕ) (node : ℕ)
-    → AreMarks 0 ms (length bytes) → bytes' ≡ bytes ++ front → bytes'' ≡ bytes' ++ back →
-    ms' ≡ ms ++ record { end = length bytes''; node = node } ∷ [] → AreMarks 0 ms' (length bytes'')
-marks_after ms ms' bytes bytes' bytes'' front back node h first second last =
-    rw last (AreMarks-push 0 ms (length bytes) (record { end = length bytes''; node = node }) h
-    (omega (arith, ap length first, ap length second, length-append bytes front, length-append bytes' back)))
+-- what is appended in three parts
+pub in_parts : (bytes one two three x y z : List ℕ) → one ≡ bytes ++ x → two ≡ one ++ y → three ≡ two ++ z
+    → three ≡ bytes ++ (x ++ (y ++ z))
+in_parts bytes one two three x y z first second last =
+    last ∙ ap (λ b. b ++ z) (second ∙ ap (λ b. b ++ y) first) ∙ append_assoc (bytes ++ x) y z
+    ∙ append_assoc bytes x (y ++ z)
 
-pub pieces_after : (ms ms' : List Mark) (bytes bytes' bytes'' front back : List ℕ) (node : ℕ)
-    → AreMarks 0 ms (length bytes) → bytes' ≡ bytes ++ front → bytes'' ≡ bytes' ++ back →
-    ms' ≡ ms ++ record { end = length bytes''; node = node } ∷ [] → pieces 0 ms' bytes''
-    ≡ pieces 0 ms bytes ++ record { node = node; bytes = front ++ back } ∷ []
-pieces_after ms ms' bytes bytes' bytes'' front back node h first second last =
-    let whole : bytes'' ≡ bytes ++ (front ++ back) = second ∙ ap (λ b. b ++ back) first
-    ∙ append_assoc bytes front back in
-    let len : length bytes'' ≡ length bytes + length (front ++ back) = ap length whole
-    ∙ length-append bytes (front ++ back) in
-    rw (last, len, whole) (pieces-push 0 ms bytes (front ++ back) node h)
+pub marks_after : (ms ms' : List Mark) (bytes whole new : List ℕ) (node : ℕ) → AreMarks 0 ms (length bytes)
+    → whole ≡ bytes ++ new → ms' ≡ ms ++ record { end = length whole; node = node } ∷ [] → AreMarks 0 ms' (length whole)
+marks_after ms ms' bytes whole new node h is last =
+    rw last (AreMarks-push 0 ms (length bytes) (record { end = length whole; node = node }) h
+    (omega (arith, ap length is, length-append bytes new)))
+
+pub pieces_after : (ms ms' : List Mark) (bytes whole new : List ℕ) (node : ℕ) (items : List Posted)
+    → AreMarks 0 ms (length bytes) → whole ≡ bytes ++ new → ms' ≡ ms ++ record { end = length whole; node = node } ∷ []
+    → pieces 0 ms bytes ≡ items → pieces 0 ms' whole ≡ items ++ record { node = node; bytes = new } ∷ []
+pieces_after ms ms' bytes whole new node items h is last before =
+    let len : length whole ≡ length bytes + length new = ap length is ∙ length-append bytes new in
+    rw (last, len, is, ← before) (pieces-push 0 ms bytes new node h)
 
 -- ---- the datagrams of another list behind those of one
 

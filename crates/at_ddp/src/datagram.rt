@@ -100,19 +100,25 @@ pub fn encode<A: Allocator>(
         return Err(DdpFault::TooLong);
     }
     out.reserve(HEADER_LEN + bytes.len())?;
-    out.extend_from_slice(&header_of(to, from, kind, bytes))
+    out.extend_from_slice(&header_of(to, from, kind, bytes, &[]))
         .unwrap();
     out.extend_from_slice(bytes).unwrap();
     Ok(())
 }
 
-/// The header that precedes this data in the canonical spelling.
-pub(crate) fn header_of(to: Address, from: Address, kind: u8, bytes: &[u8]) -> [u8; HEADER_LEN]
-    requires { length bytes.now ≤ 586 }
-    ensures { result ++ bytes.now ≡ canonical to from kind bytes.now }
+/// The header that precedes data in two parts in the canonical spelling.
+pub(crate) fn header_of(
+    to: Address,
+    from: Address,
+    kind: u8,
+    front: &[u8],
+    back: &[u8],
+) -> [u8; HEADER_LEN]
+    requires { length front.now + length back.now ≤ 586 }
+    ensures { result ++ (front.now ++ back.now) ≡ canonical to from kind (front.now ++ back.now) }
 {
     let mut header = [0; HEADER_LEN];
-    BigEndian::write_u16(&mut header, (HEADER_LEN + bytes.len()) as u16);
+    BigEndian::write_u16(&mut header, (HEADER_LEN + front.len() + back.len()) as u16);
     BigEndian::write_u16(&mut header[4..], to.net);
     BigEndian::write_u16(&mut header[6..], from.net);
     header[8] = to.node;
@@ -120,7 +126,8 @@ pub(crate) fn header_of(to: Address, from: Address, kind: u8, bytes: &[u8]) -> [
     header[10] = to.socket;
     header[11] = from.socket;
     header[12] = kind;
-    let sum = close_sum(add_to_sum(add_to_sum(0, &header[4..]), bytes));
+    let addressed = add_to_sum(0, &header[4..]);
+    let sum = close_sum(add_to_sum(add_to_sum(addressed, front), back));
     BigEndian::write_u16(&mut header[2..], sum);
     header
 }

@@ -91,17 +91,25 @@ impl<A: Allocator> Datagrams<A> {
         self.bytes.reserve(bytes)
     }
 
-    /// Appends a datagram in two parts.
-    pub(crate) fn push(&mut self, node: u8, front: &[u8], back: &[u8]) -> Result<(), AllocError>
-        requires { length front.now + length back.now ≤ 599 }
-        ensures ok { OnOk result
-            (self.new.items ≡ self.old.items ++ record { node = node; bytes = front.now ++ back.now } ∷ []) }
+    /// Appends a datagram in three parts.
+    pub(crate) fn push(
+        &mut self,
+        node: u8,
+        header: &[u8],
+        front: &[u8],
+        back: &[u8],
+    ) -> Result<(), AllocError>
+        requires { length header.now + length front.now + length back.now ≤ 599 }
+        ensures ok { OnOk result (self.new.items
+            ≡ self.old.items ++ record { node = node; bytes = header.now ++ (front.now ++ back.now) } ∷ []) }
         ensures err { OnErr result (self.new.items ≡ self.old.items) }
         ensures kept { OnErr result ((n len : ℕ) → HasRoom self.old.room n len → HasRoom self.new.room n len) }
-        ensures room { (n len : ℕ) → HasRoom self.old.room (n + 1) (length front.now + length back.now + len)
+        ensures room { (n len : ℕ)
+            → HasRoom self.old.room (n + 1) (length header.now + length front.now + length back.now + len)
             → IsOk result × HasRoom self.new.room n len }
     {
-        self.reserve(1, front.len() + back.len())?;
+        self.reserve(1, header.len() + front.len() + back.len())?;
+        self.bytes.extend_from_slice(header).unwrap();
         self.bytes.extend_from_slice(front).unwrap();
         self.bytes.extend_from_slice(back).unwrap();
         let end = self.bytes.len();

@@ -61,8 +61,24 @@ impl<A: Allocator> Outbox<A> {
         ensures rest { (rest : List (Destination × List ℕ)) → HasRoomToSend self.old ((to, bytes.now) ∷ rest)
             → IsOk result × HasRoomToSend self.new rest }
     {
-        let header = header_of(to, self.from, self.kind, bytes);
-        self.list.push(to.node, &header, bytes)
+        self.push_parts(to, bytes, &[])
+    }
+
+    /// Appends a finished datagram with at most 586 bytes of data, which come in two parts. The error is out of memory.
+    pub fn push_parts(&mut self, to: Address, front: &[u8], back: &[u8]) -> Result<(), AllocError>
+        requires { length front.now + length back.now ≤ 586 }
+        ensures ok { OnOk result (Sends self.old self.new ((to, front.now ++ back.now) ∷ [])) }
+        ensures err { OnErr result (Sends self.old self.new []) }
+        ensures kept { OnErr result ((n size : ℕ) → HasRoomFor self.old n size → HasRoomFor self.new n size) }
+        ensures kept_data { OnErr result ((n data_ : ℕ) → HasRoomForData self.old n data_
+            → HasRoomForData self.new n data_) }
+        ensures room { (n size : ℕ) → HasRoomFor self.old (n + 1) size → length front.now + length back.now ≤ size
+            → IsOk result × HasRoomFor self.new n size }
+        ensures rest { (rest : List (Destination × List ℕ))
+            → HasRoomToSend self.old ((to, front.now ++ back.now) ∷ rest) → IsOk result × HasRoomToSend self.new rest }
+    {
+        let header = header_of(to, self.from, self.kind, front, back);
+        self.list.push(to.node, &header, front, back)
     }
 
     /// Makes room for `pushes` pushes of at most `size` bytes of data each, which then cannot run out of memory.

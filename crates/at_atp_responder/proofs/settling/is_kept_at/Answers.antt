@@ -2,7 +2,7 @@ use Rattle.std.proofs.Common.{sym, ap, ◌∙◌}
 use Rattle.at_atp_responder.specs.Records.{Record, is_key, is_kept, keeps_answer}
 use Rattle.at_ddp.proofs.FoundLemmas.{entry_is}
 use Rattle.at_ddp.proofs.TableLemmas.{found}
-use Rattle.at_atp_responder.proofs.records.is_kept_at.Goals as goal
+use Rattle.at_atp_responder.proofs.settling.is_kept_at.Goals as goal
 
 pub at-requires : goal.at-requires
 at-requires g c = rw c.records.view_is (found (is_key c.args.key) c.args.records.now c.args.index c.requires).within

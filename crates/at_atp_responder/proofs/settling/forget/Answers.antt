@@ -1,7 +1,7 @@
 use Rattle.std.proofs.Common.{sym, ◌∙◌}
 use Rattle.at_ddp.proofs.TableLemmas.{not_found, without_none}
 use Rattle.at_atp_responder.specs.Records.{is_key}
-use Rattle.at_atp_responder.proofs.records.forget.Goals as goal
+use Rattle.at_atp_responder.proofs.settling.forget.Goals as goal
 
 pub returns-in-None-clause-gone : goal.returns-in-None-clause-gone
 returns-in-None-clause-gone g c = sym (without_none (is_key c.args.key) c.args.records.now

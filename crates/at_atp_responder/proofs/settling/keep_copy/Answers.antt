@@ -5,7 +5,7 @@ use Rattle.at_atp_responder.proofs.KeyLemmas.{filed_set}
 use Rattle.at_ddp.proofs.FoundLemmas.{entry_is}
 use Rattle.at_ddp.proofs.TableLemmas.{found}
 use Rattle.at_atp_responder.proofs.RecordLemmas.{keep_some}
-use Rattle.at_atp_responder.proofs.records.keep_copy.Goals as goal
+use Rattle.at_atp_responder.proofs.settling.keep_copy.Goals as goal
 
 pub at_mut-record-requires : goal.at_mut-record-requires
 at_mut-record-requires g c = rw c.records.view_is

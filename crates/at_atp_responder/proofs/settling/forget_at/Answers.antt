@@ -5,7 +5,7 @@ use Rattle.at_atp_responder.specs.Keys.{key_of}
 use Rattle.at_atp_responder.specs.Records.{Record, asked_bitmap, is_key}
 use Rattle.at_atp_responder.proofs.KeyLemmas.{filed}
 use Rattle.at_ddp.proofs.FoundLemmas.{entry_is}
-use Rattle.at_atp_responder.proofs.records.forget_at.Goals as goal
+use Rattle.at_atp_responder.proofs.settling.forget_at.Goals as goal
 
 pub remove-record-requires : goal.remove-record-requires
 remove-record-requires g c = rw c.records.view_is

@@ -1,6 +1,7 @@
-use Rattle.std.proofs.Common.{◌*◌, ◌+◌, length, rules, arith}
+use Rattle.std.proofs.Common.{◌*◌, ◌+◌, ◌++◌, length, rules, arith}
+use Rattle.std.proofs.lemmas.List.{length-append}
 use Rattle.at_ddp.specs.Outbox.{bytes_in}
-use Rattle.at_ddp.proofs.outbox.Outbox.push.Goals as goal
+use Rattle.at_ddp.proofs.outbox.Outbox.push_parts.Goals as goal
 
 pub returns-clause-ok : goal.returns-clause-ok
 returns-clause-ok g c = search rules
@@ -13,4 +14,7 @@ returns-clause-room g c = rw (← c.self.view_is)
 pub returns-clause-rest : goal.returns-clause-rest
 returns-clause-rest g c = rw (← c.self.view_is)
     (λ rest h. c.push.ensures.room (length rest) (length rest * 13 + bytes_in rest)
-    (record { places = omega (arith, h.places); bytes = omega (arith, h.bytes) }))
+    (record {
+      places = omega (arith, h.places);
+      bytes = omega (arith, h.bytes, length-append c.args.front.now c.args.back.now);
+    }))
