@@ -1,7 +1,7 @@
 -- The records in their table, each under its own key.
-use Rattle.std.proofs.Common.{◌≡◌, ◌&&◌, ◌||◌, ℕ, zero, suc, ◌+◌, nat_eq, Bool, true, false, cond, List, [], ◌∷◌}
-use Rattle.std.proofs.Common.{map, drop, slice_get, Result, Ok, Err, Some, None, refl, sym, ap}
-use Rattle.std.proofs.Common.{subst, ◌∙◌, arith}
+use Rattle.std.proofs.Common.{◌≡◌, ◌&&◌, ◌||◌, ℕ, ◌+◌, nat_eq, Bool, true, false, cond, List, [], ◌∷◌}
+use Rattle.std.proofs.Common.{map, Result, Ok, Err, Some, None, refl, sym, ap}
+use Rattle.std.proofs.Common.{subst, ◌∙◌}
 use Rattle.std.specs.Prelude.{find, IfOk, OnErr}
 use Rattle.std.specs.List.{AllByRecursion, IsDistinct, list_any, position_from}
 use Rattle.at_ddp.specs.Outbox.{Outbox}
@@ -91,10 +91,11 @@ no_position p n (x ∷ xs) h = go (p x) h (λ g. no_position p (n + 1) xs g)
     go true e ih = absurd (cc)
     go false e ih = ih e
 
-pub any_next : (p : Record → Bool) (rs : List Record) (i : ℕ) (r : Record) → slice_get rs i ≡ Some r
-    → list_any p (drop i rs) ≡ (p r || list_any p (drop (i + 1) rs))
-any_next p [] i r at = absurd (cc)
-any_next p (x ∷ rs) zero r at = let same : x ≡ r = cc in ap (λ y. p y || list_any p rs) same
-any_next p (x ∷ rs) (suc i) r at =
-    let shift : suc (i + 1) ≡ suc i + 1 = omega arith in
-    any_next p rs i r at ∙ ap (λ n. p r || list_any p (drop n (x ∷ rs))) shift
+-- a test of keys, over the keys of records
+any_key : (p : Key → Bool) (rs : List Record) → list_any p (map key_of rs) ≡ list_any (λ r. p (key_of r)) rs
+any_key p [] = refl
+any_key p (r ∷ rs) = ap (λ b. p (key_of r) || b) (any_key p rs)
+
+pub any_keyed : (p : Key → Bool) (t : Rows Key Record) → AreKeyed key_of t
+    → list_any p t.keys ≡ list_any (λ r. p (key_of r)) t.items
+any_keyed p t keyed = ap (list_any p) keyed ∙ any_key p t.items

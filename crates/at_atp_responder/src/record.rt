@@ -3,7 +3,7 @@ ghost use Rattle.std.specs.Prelude.{◌≡◌, ℕ, ◌+◌, ◌≤◌, ◌∷�
 ghost use Rattle.std.specs.Prelude.{None};
 ghost use Rattle.at_ddp.specs.Outbox.{Sends, HasRoomFor};
 ghost use Rattle.at_atp_frame.specs.Frames.{Response, spelled_all};
-ghost use Rattle.at_atp_responder.specs.Records.{Waiting, Answered, fit, responses, is_from, state_fault};
+ghost use Rattle.at_atp_responder.specs.Records.{Waiting, Answered, fit, responses, state_fault};
 ghost use Rattle.at_atp_responder.specs.Records.{expiry_fault_of, asked_bitmap, keeps_answer, repeated, released};
 ghost use Rattle.at_atp_responder.specs.Records.{IsRepeat, expiring_key};
 
@@ -74,13 +74,6 @@ impl<A: Allocator + Copy> Record<A> {
 }
 
 impl<A: Allocator> Record<A> {
-    // Whether the request has this number and came from this node.
-    pub(crate) fn is_from(&self, node: u8, tid: u16) -> bool
-        ensures { result ≡ is_from node tid self.now }
-    {
-        self.key.from.node == node && self.key.tid == tid
-    }
-
     // Why the request cannot be answered.
     pub(crate) fn fault(&self) -> Option<AtpFault>
         ensures { result ≡ state_fault self.now.state }

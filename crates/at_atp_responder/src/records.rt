@@ -1,6 +1,7 @@
 //! The table of a responder's records: which of them a packet is for, and when one is added or removed.
 ghost use Rattle.std.specs.Prelude.{◌≡◌, ◌≢◌, ◌↔◌, ◌<◌, ◌≤◌, ◌∷◌, slice_get, slice_set, [], ◌++◌, length, true, find};
-ghost use Rattle.std.specs.Prelude.{IfOk, IfErr, IfSome, OnOk, OnErr, IsOk, IsErrOf, Some, None, drop};
+ghost use Rattle.std.specs.Prelude.{◌==◌, ◌&&◌};
+ghost use Rattle.std.specs.Prelude.{IfOk, IfErr, IfSome, OnOk, OnErr, IsOk, IsErrOf, Some, None};
 ghost use Rattle.std.specs.List.{list_any, position_from};
 ghost use Rattle.std.specs.Option.{option_copied};
 ghost use Rattle.at_ddp.specs.Outbox.{Sends};
@@ -49,15 +50,19 @@ impl<A: Allocator + Copy> Records<A> {
     }
 }
 
-// Whether a record from this index on is of a request with this number from this node.
-pub(crate) fn any_from<A: Allocator>(records: &Records<A>, index: usize, node: u8, tid: u16) -> bool
-    ensures { result ≡ list_any (is_from node tid) (drop index records.now) }
+// Whether a record is of a request with this number from this node.
+pub(crate) fn has_number<A: Allocator>(records: &Records<A>, node: u8, tid: u16) -> bool
+    ensures { result ≡ list_any (is_from node tid) records.now }
 {
-    if index >= records.table.len() {
-        return false;
-    }
-    let record = records.table.at(index);
-    record.is_from(node, tid) || any_from(records, index + 1, node, tid)
+    is_among(records.table.keys(), node, tid)
+}
+
+// Whether one of these keys has this number and is of this node.
+fn is_among(keys: &[Key], node: u8, tid: u16) -> bool
+    ensures { result ≡ list_any (λ key. (key.from.node == node) && (key.tid == tid)) keys.now }
+{
+    keys.iter()
+        .any(|key| key.from.node == node && key.tid == tid)
 }
 
 // Why a request cannot be answered.

@@ -10,8 +10,8 @@ ghost use Rattle.at_ddp.specs.Tables.{without_first};
 
 use crate::reception::{Key, Reception};
 use crate::records::{
-    Records, any_from, count, expiring_at, expiry_fault, hear_release, hear_request, record_fault,
-    record_of,
+    Records, count, expiring_at, expiry_fault, has_number, hear_release, hear_request,
+    record_fault, record_of,
 };
 use crate::settling::forget;
 use at_atp_frame::{AtpFault, Frame};
@@ -103,7 +103,7 @@ impl<A: Allocator + Copy> Responder<A> {
     pub fn holds_number(&self, node: u8, tid: u16) -> bool
         ensures { result ≡ list_any (is_from node tid) self.now }
     {
-        any_from(&self.records, 0, node, tid)
+        has_number(&self.records, node, tid)
     }
 
     /// How many records there are.

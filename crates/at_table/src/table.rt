@@ -73,6 +73,13 @@ impl<K: Eq + Hash, V, A: Allocator> Table<K, V, A> {
         self.index.get_index_of(key)
     }
 
+    /// The keys in the order of the entries.
+    pub fn keys(&self) -> &[K]
+        ensures { result.now ≡ self.now.keys }
+    {
+        self.index.keys().as_slice()
+    }
+
     /// The value at an index.
     pub fn at(&self, index: usize) -> &V
         requires { index < length self.now.items }
