@@ -1,6 +1,6 @@
 -- The keys of a responder's records: each request has one record at most (Inside AppleTalk, ATP, "At-least-once and
 -- exactly-once transactions").
-use Rattle.std.specs.Prelude.{List, map}
+use Rattle.std.specs.Prelude.{ℕ, ◌+◌, ◌*◌, List, map}
 use Rattle.std.specs.List.{IsDistinct}
 use Rattle.at_table.specs.Rows.{AreKeyed, Rows}
 use Rattle.at_atp_responder.specs.Once.{same_key}
@@ -19,3 +19,7 @@ AreApart rs = IsDistinct same_key (map key_of rs)
 pub record AreFiled (t : Rows Key Record) : Type 0 where
   pub keyed : AreKeyed key_of t
   pub apart : AreApart t.items
+
+-- all fields of a key in one number, by which it is hashed
+abbrev pub packed : Key → ℕ
+packed key = (key.from.net * 65536 + key.from.node * 256 + key.from.socket) * 65536 + key.tid
