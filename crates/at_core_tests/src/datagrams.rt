@@ -1,5 +1,5 @@
 //! Checksums, a datagram without data, and the memory that datagrams take.
-use at_ddp::{Address, Datagrams, DdpFault, Outbox, Received, decode, encode, rotating_sum};
+use at_ddp::{Address, Datagrams, DdpFault, Outbox, decode, encode, rotating_sum};
 use std::fs;
 use std::process::Abort;
 use std::rt::Files;
@@ -45,10 +45,8 @@ fn a_datagram_without_data_is_its_header(rt: HostRuntime) {
 }
 
 #[test]
-fn received_bytes_have_the_datagram_that_is_decoded_of_them(rt: HostRuntime) {
-    let (datagram, _) = decode(EMPTY).expect(&rt, "no datagram");
-    assert!(rt; Received::of(EMPTY).datagram() == Ok(datagram));
-    assert!(rt; Received::of(&EMPTY[..12]).datagram() == Err(DdpFault::Short));
+fn twelve_bytes_are_too_short_for_a_datagram(rt: HostRuntime) {
+    assert!(rt; decode(&EMPTY[..12]) == Err(DdpFault::Short));
 }
 
 // The most memory that the process has held so far, in kilobytes.

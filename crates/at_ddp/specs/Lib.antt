@@ -8,7 +8,6 @@ pub mod Numbers
 pub mod Outbox
 pub mod Posts
 pub mod Protocols
-pub mod Received
 pub mod Sum
 pub mod Tables
 pub mod Text

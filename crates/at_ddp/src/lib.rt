@@ -12,7 +12,6 @@ mod listed;
 mod outbox;
 mod pascal;
 mod protocol;
-mod received;
 mod sum;
 mod text;
 
@@ -25,6 +24,5 @@ pub use listed::Listed;
 pub use outbox::Outbox;
 pub use pascal::Pascal;
 pub use protocol::{ADSP, ATP, NBP};
-pub use received::Received;
 pub use sum::rotating_sum;
 pub use text::same_text;

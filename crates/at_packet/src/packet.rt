@@ -5,7 +5,7 @@ ghost use Rattle.at_ddp.specs.Fault.{IsFirstFault};
 ghost use Rattle.at_packet.specs.Bodies.{IsBody, IsDecoded, datagram_of};
 
 use crate::body::Body;
-use at_ddp::{DdpFault, Received};
+use at_ddp::{DdpFault, decode};
 use std::marker::Model;
 
 /// Received bytes with the datagram that they begin with, and with its packet. Each layer is decoded once, whoever asks
@@ -54,8 +54,8 @@ impl<'a> Packet<'a> {
 fn decoded(bytes: &[u8]) -> Result<Body<'_>, DdpFault>
     ensures { IsDecoded bytes.now result }
 {
-    match Received::of(bytes).datagram() {
-        Ok(datagram) => Ok(Body::of(datagram)),
+    match decode(bytes) {
+        Ok((datagram, _)) => Ok(Body::of(datagram)),
         Err(fault) => Err(fault),
     }
 }

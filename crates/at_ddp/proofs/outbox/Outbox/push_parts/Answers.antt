@@ -1,4 +1,4 @@
-use Rattle.std.proofs.Common.{◌*◌, ◌+◌, ◌++◌, length, rules, arith}
+use Rattle.std.proofs.Common.{◌*◌, ◌+◌, length, rules, arith}
 use Rattle.std.proofs.lemmas.List.{length-append}
 use Rattle.at_ddp.specs.Outbox.{bytes_in}
 use Rattle.at_ddp.proofs.outbox.Outbox.push_parts.Goals as goal
