@@ -37,7 +37,8 @@ ROWS = [
         Layer(
             "node",
             "one event in, one report and its datagrams out",
-            "at_event at_packet at_name_socket at_stream_socket at_session at_node at_nodes at_steps at_setup",
+            "at_event at_packet at_name_socket at_stream_socket at_transaction_socket"
+            " at_session at_node at_nodes at_steps at_setup",
         )
     ],
     [

@@ -65,17 +65,17 @@ use Rattle.at_event.specs.declared.timers.NameTimer.TheVariants as nbp_timer
 use Rattle.at_event.specs.declared.timers.StreamTimer.TheVariants as adsp_timer
 use Rattle.at_event.specs.declared.seat.Seat.{Seat}
 use Rattle.at_session.specs.Sessions.{SessionState, address_at, is_listed, pattern_asked}
-use Rattle.at_node.specs.AtpParts.{AtpState, Reading}
+use Rattle.at_transaction_socket.specs.AtpParts.{AtpState, Reading}
 use Rattle.at_node.specs.NameCalls.{asked_again, claimed_as, finished_as, found_as, refused_by, registered_as, told_of}
 use Rattle.at_node.specs.NameCalls.{unregistered_as}
 use Rattle.at_node.specs.Nodes.{NodeState, called, timed}
 use Rattle.at_node.specs.Numbers.{draw_of, drawn_by, name_draw, stream_draw, transaction_draw, zone_draw}
-use Rattle.at_node.specs.RequesterSocket.{after_retry, asked_as, retry_fired}
-use Rattle.at_node.specs.Responders.{expired, records_at}
-use Rattle.at_node.specs.ServiceSocket.{answered_with}
+use Rattle.at_transaction_socket.specs.RequesterSocket.{after_retry, asked_as, retry_fired}
+use Rattle.at_transaction_socket.specs.Responders.{expired, records_at}
+use Rattle.at_transaction_socket.specs.ServiceSocket.{answered_with}
 use Rattle.at_node.specs.SessionCalls.{open_called, picked_as}
-use Rattle.at_node.specs.ZoneReading.{after_failing, is_reading, reading_begins, zones_called}
-use Rattle.at_node.specs.ZoneSocket.{set_zones_called, table_set}
+use Rattle.at_transaction_socket.specs.ZoneReading.{after_failing, is_reading, reading_begins, zones_called}
+use Rattle.at_transaction_socket.specs.ZoneSocket.{set_zones_called, table_set}
 use Rattle.at_node.specs.declared.numbers.Draw.{Draw}
 use Rattle.at_node.specs.declared.numbers.Draw.TheVariants.{Conn, Lookup, Tid}
 

@@ -1,23 +1,25 @@
 -- Which datagrams draw a number at a node, and which number.
 use Rattle.std.proofs.Common.{◌≡◌, ◌⊎◌, ℕ, Bool, true, false, List, Option, Some, None, inl}
-use Rattle.std.proofs.Common.{inr, refl, sym, ap, subst, ◌∙◌}
+use Rattle.std.proofs.Common.{inr, refl, sym, ap, ◌∙◌}
 use Rattle.std.specs.Prelude.{IfSome, MatchBool, ◌==◌, ◌||◌, ◌↔◌}
 use Rattle.at_ddp.specs.Datagram.{Content as Datagram}
 use Rattle.at_ddp.specs.declared.address.Address.{Address}
 use Rattle.at_ddp.specs.Protocols.{atp_kind, nbp_kind, adsp_kind}
-use Rattle.at_atp_frame.specs.Frames.{Content, Spells}
 use Rattle.at_name_socket.specs.NameSockets.{SocketState}
 use Rattle.at_name_socket.specs.declared.step.Heard.{Heard}
 use Rattle.at_name_socket.specs.declared.step.Heard.TheVariants as heard
 use Rattle.at_node.specs.declared.numbers.Draw.{Draw}
+use Rattle.at_event.specs.Kinds.{Atp, Nobody, reporter_of}
+use Rattle.at_event.specs.declared.report.Report.{Report}
 use Rattle.at_event.specs.declared.report.Report.TheVariants as report
+use Rattle.at_event.specs.declared.reports.TransactionReport.TheVariants as atp_report
 use Rattle.at_event.specs.declared.seat.Seat.{Seat}
 use Rattle.at_event.specs.declared.service.Reply.{Reply}
 use Rattle.at_event.specs.declared.service.Reply.TheVariants.{Later}
-use Rattle.at_node.specs.AtpHearing.{HearsAtp}
-use Rattle.at_node.specs.AtpParts.{AtpState}
+use Rattle.at_transaction_socket.specs.AtpHearing.{HearsAtp}
+use Rattle.at_transaction_socket.specs.AtpParts.{AtpState}
 use Rattle.at_node.specs.Numbers.{IsTold, drawn_by}
-use Rattle.at_node.specs.declared.numbers.Draw.TheVariants.{Conn}
+use Rattle.at_node.specs.declared.numbers.Draw.TheVariants.{Conn, Tid}
 use Rattle.at_node.specs.Hearing.{Hears, HearsDatagram, HearsIt, HearsMine}
 use Rattle.at_node.specs.NameHearing.{HearsName, HearsNames, HearsNbpFault, told_by}
 use Rattle.at_node.specs.Nodes.{NodeState, over_atp, with_names, with_streams}
@@ -29,9 +31,8 @@ use Rattle.at_adsp_ends.specs.Tables.{EndTable}
 use Rattle.at_stream_socket.specs.Hearing.{HearsAdspFault, HearsSegment, HearsStreams, Makes, Requests, segment_heard}
 use Rattle.at_stream_socket.specs.Sockets.{told_by as told_as}
 use Rattle.at_event.specs.Outcomes.{Outcome, Over, Through, idle, over}
-use Rattle.at_node.specs.RequesterSocket.{AtRequester}
+use Rattle.at_transaction_socket.specs.Turning.{HasTurn}
 use Rattle.at_event.specs.Seats.{is_for_all, is_mine}
-use Rattle.at_node.proofs.AnsweringLemmas.{TellsNothing, by_asker}
 use Rattle.at_node.proofs.NumberLemmas.{draw_same, nat_same}
 
 -- which segments make an end
@@ -47,25 +48,26 @@ pub record BySegment (n : NodeState) (d : Datagram) (draw : Draw) : Type 0 where
   pub makes : Makes n.streams d id
   pub is : draw ≡ Conn id
 
--- a datagram for the socket that asks, whose packet does this there
-pub record ByPacket {A : Type 0} (n : NodeState) (d : Datagram) (o : Outcome A NodeState) : Type 0 where
+-- which pages begin a transaction, and whose what is reported of a datagram of ATP is
+pub record BeginningLaw (A : Type 0) : Type 0 where
+  pub begins : (said : Reply A) (s : Seat) (a : AtpState) (d : Datagram) (tid : ℕ) → HasTurn a d tid
+      → (o : Outcome A AtpState) × HearsAtp said s a d o × (o.report ≡ report.Transactions (atp_report.Begun tid))
+  pub only : (said : Reply A) (s : Seat) (a : AtpState) (d : Datagram) (o : Outcome A AtpState) (tid : ℕ)
+      → HearsAtp said s a d o → o.report ≡ report.Transactions (atp_report.Begun tid) → HasTurn a d tid
+  pub own : (said : Reply A) (s : Seat) (a : AtpState) (d : Datagram) (o : Outcome A AtpState) → HearsAtp said s a d o
+      → (reporter_of o.report ≡ Atp) ⊎ (reporter_of o.report ≡ Nobody)
+
+-- a datagram for the socket that asks, whose page makes the next one be asked for
+pub record ByPacket (n : NodeState) (d : Datagram) (draw : Draw) : Type 0 where
   pub mine : (is_for_all n.seat d.kind d.to || is_mine n.seat d.to) ≡ true
   pub kind : (d.kind == atp_kind) ≡ true
-  pub socket : (d.to.socket == 128) ≡ true
-  pub packet : Content
-  pub spelled : Spells d.data_ packet
-  pub part : Outcome A AtpState
-  pub at : AtRequester n.seat n.atp d.from packet part
-  pub is : o ≡ over_atp n part
-
-pub comes_by : {A : Type 0} (said : Reply A) (n : NodeState) (d : Datagram) (o : Outcome A NodeState) → ByPacket n d o
-    → HearsIt said n d o
-comes_by said n d o b = rw (b.mine, b.kind)
-    (b.part, rw b.socket (inl (record { packet = b.packet; spelled = b.spelled; outcome = b.at })), b.is)
+  pub tid : ℕ
+  pub turns : HasTurn n.atp d tid
+  pub is : draw ≡ Tid tid
 
 -- a number is drawn by a packet or by a segment
-abbrev pub Drawing : {A : Type 0} → NodeState → Datagram → Outcome A NodeState → Draw → Type 0
-Drawing n d o draw = ByPacket n d o ⊎ BySegment n d draw
+abbrev pub Drawing : NodeState → Datagram → Draw → Type 0
+Drawing n d draw = ByPacket n d draw ⊎ BySegment n d draw
 
 module _ (A : Type 0) where
   told_draws : (s : Step) (draw : Draw) → drawn_by {A = A} (told_as s) ≡ Some draw → (id : ℕ) × (made_id s ≡ Some id)
@@ -95,15 +97,15 @@ module _ (A : Type 0) where
   made_draws (step.Closed k) id h = absurd (cc)
   made_draws (step.Freed k) id h = absurd (cc)
 
-  draws_nothing : TellsNothing A Draw drawn_by
-  draws_nothing = record {
-    ignored = refl;
-    again = refl;
-    released = refl;
-    asked = λ key user bytes. refl;
-    served = λ count. refl;
-    refused = λ number. refl;
-  }
+  -- of its own reports the part of ATP tells a number only of a transaction
+  begun_draws : (r : Report A) (draw : Draw) → (reporter_of r ≡ Atp) ⊎ (reporter_of r ≡ Nobody)
+      → drawn_by r ≡ Some draw → (tid : ℕ) × (r ≡ report.Transactions (atp_report.Begun tid)) × (draw ≡ Tid tid)
+  begun_draws (report.Transactions (atp_report.Begun tid)) draw own h = (tid, refl, sym (draw_same (Tid tid) draw h))
+  begun_draws (report.Names it) draw (inl own) h = absurd (cc)
+  begun_draws (report.Names it) draw (inr own) h = absurd (cc)
+  begun_draws (report.Streams it) draw (inl own) h = absurd (cc)
+  begun_draws (report.Streams it) draw (inr own) h = absurd (cc)
+  begun_draws r draw own h = let both : None ≡ Some draw = h in absurd (cc)
 
   told_none : {S : Type 0} (o x : Outcome A S) → o ≡ x → drawn_by x.report ≡ None → drawn_by o.report ≡ None
   told_none o x is none = ap (λ (y : Outcome A _). drawn_by y.report) is ∙ none
@@ -124,41 +126,38 @@ module _ (A : Type 0) where
       go true (inl h) = told_none o _ h.outcome (told h.step)
       go true (inr h) = told_none o _ h.outcome refl
 
-  module _ (making : MakingLaw) (said : Reply A) (n : NodeState) (d : Datagram) (o : Outcome A NodeState) (draw : Draw)
+  module _ (making : MakingLaw) (beginning : BeginningLaw A) (said : Reply A) (n : NodeState) (d : Datagram) (o : Outcome A NodeState) (draw : Draw)
       (draws : drawn_by o.report ≡ Some draw) where
-    nothing : drawn_by o.report ≡ None → Drawing n d o draw
+    nothing : drawn_by o.report ≡ None → Drawing n d draw
     nothing none = let both : None ≡ Some draw = sym none ∙ draws in absurd (cc)
 
     at_socket : (is_for_all n.seat d.kind d.to || is_mine n.seat d.to) ≡ true → (d.kind == atp_kind) ≡ true
-        → (p : Outcome A AtpState) → o ≡ over_atp n p → HearsAtp said n.seat n.atp d p → Drawing n d o draw
+        → (p : Outcome A AtpState) → o ≡ over_atp n p → HearsAtp said n.seat n.atp d p → Drawing n d draw
     at_socket mine kind p is h =
-        let asks = by_asker A Draw drawn_by draws_nothing said n.seat n.atp d p h draw
+        let told = begun_draws p.report draw (beginning.own said n.seat n.atp d p h)
         (sym (ap (λ (y : Outcome A NodeState). drawn_by y.report) is) ∙ draws) in
         inl (record {
           mine = mine;
           kind = kind;
-          socket = asks.socket;
-          packet = asks.packet;
-          spelled = asks.spelled;
-          part = p;
-          at = asks.at;
-          is = is;
+          tid = told.0;
+          turns = beginning.only said n.seat n.atp d p told.0 h told.1;
+          is = told.2;
         })
 
     at_streams : (is_for_all n.seat d.kind d.to || is_mine n.seat d.to) ≡ true → (d.kind == adsp_kind) ≡ true
         → (p : Outcome A EndTable) → o ≡ over (with_streams n) p → HearsStreams n.seat n.streams d p
-        → Drawing n d o draw
+        → Drawing n d draw
     at_streams mine kind p is = go (d.to.socket == 130) refl
       where
         same : drawn_by p.report ≡ Some draw
         same = sym (ap (λ (y : Outcome A NodeState). drawn_by y.report) is) ∙ draws
 
-        none_of : drawn_by p.report ≡ None → Drawing n d o draw
+        none_of : drawn_by p.report ≡ None → Drawing n d draw
         none_of none = nothing (ap (λ (y : Outcome A NodeState). drawn_by y.report) is ∙ none)
 
         go : (b : Bool) → (d.to.socket == 130) ≡ b
             → MatchBool b (HearsSegment n.seat n.streams d p ⊎ HearsAdspFault n.streams d.data_ p)
-            (p ≡ idle n.streams report.Ignored) → Drawing n d o draw
+            (p ≡ idle n.streams report.Ignored) → Drawing n d draw
         go false e h = none_of (told_none p _ h refl)
         go true e (inl h) =
             let told = told_draws (received wire n.streams d.from h.segment).answer draw
@@ -178,19 +177,19 @@ module _ (A : Type 0) where
         go true e (inr h) = none_of (told_none p _ h.outcome refl)
 
     -- only a packet for the socket that asks draws a number, or a segment for the socket for streams
-    pub by_packet : HearsIt said n d o → Drawing n d o draw
+    pub by_packet : HearsIt said n d o → Drawing n d draw
     by_packet = for_me (is_for_all n.seat d.kind d.to || is_mine n.seat d.to) refl
       where
         adsp : (is_for_all n.seat d.kind d.to || is_mine n.seat d.to) ≡ true → (b : Bool) → (d.kind == adsp_kind) ≡ b
             → MatchBool b (Over (with_streams n) (HearsStreams n.seat n.streams d) o) (o ≡ idle n report.Ignored)
-            → Drawing n d o draw
+            → Drawing n d draw
         adsp mine true e h = at_streams mine e h.0 h.2 h.1
         adsp mine false e h = nothing (told_none o _ h refl)
 
         nbp : (is_for_all n.seat d.kind d.to || is_mine n.seat d.to) ≡ true → (b : Bool)
             → MatchBool b (Over (with_names n) (HearsNames n.seat n.names d) o)
             (MatchBool (d.kind == adsp_kind) (Over (with_streams n) (HearsStreams n.seat n.streams d) o)
-            (o ≡ idle n report.Ignored)) → Drawing n d o draw
+            (o ≡ idle n report.Ignored)) → Drawing n d draw
         nbp mine true h = nothing
             (ap (λ (y : Outcome A NodeState). drawn_by y.report) h.2 ∙ names_none n.seat n.names d h.0 h.1)
         nbp mine false h = adsp mine (d.kind == adsp_kind) refl h
@@ -199,53 +198,44 @@ module _ (A : Type 0) where
             MatchBool b (Through (over_atp n) (HearsAtp said n.seat n.atp d) o)
             (MatchBool (d.kind == nbp_kind) (Over (with_names n) (HearsNames n.seat n.names d) o)
             (MatchBool (d.kind == adsp_kind) (Over (with_streams n) (HearsStreams n.seat n.streams d) o)
-            (o ≡ idle n report.Ignored))) → Drawing n d o draw
+            (o ≡ idle n report.Ignored))) → Drawing n d draw
         spoken mine true e h = at_socket mine e h.0 h.2 h.1
         spoken mine false e h = nbp mine (d.kind == nbp_kind) h
 
         for_me : (b : Bool) → (is_for_all n.seat d.kind d.to || is_mine n.seat d.to) ≡ b
-            → MatchBool b (HearsMine said n d o) (o ≡ idle n report.Ignored) → Drawing n d o draw
+            → MatchBool b (HearsMine said n d o) (o ≡ idle n report.Ignored) → Drawing n d draw
         for_me true e h = spoken e (d.kind == atp_kind) refl h
         for_me false e h = nothing (told_none o _ h refl)
 
 -- by its protocol, which of both
-pub packet_of : (A : Type 0) (n : NodeState) (d : Datagram) (o : Outcome A NodeState) (draw : Draw)
-    → Drawing n d o draw → (d.kind == adsp_kind) ≡ false → ByPacket n d o
-packet_of A n d o draw (inl b) other = b
-packet_of A n d o draw (inr b) other = let both : true ≡ false = sym b.kind ∙ other in absurd (cc)
+pub packet_of : (n : NodeState) (d : Datagram) (draw : Draw) → Drawing n d draw → d.kind ≡ atp_kind → ByPacket n d draw
+packet_of n d draw (inl b) its = b
+packet_of n d draw (inr b) its = let both : true ≡ (atp_kind == adsp_kind) = sym b.kind
+    ∙ ap (λ k. k == adsp_kind) its in absurd (cc)
 
-pub segment_of : (A : Type 0) (n : NodeState) (d : Datagram) (o : Outcome A NodeState) (draw : Draw)
-    → Drawing n d o draw → d.kind ≡ adsp_kind → BySegment n d draw
-segment_of A n d o draw (inl b) its = let both : true ≡ (adsp_kind == atp_kind) = sym b.kind
+pub segment_of : (n : NodeState) (d : Datagram) (draw : Draw) → Drawing n d draw → d.kind ≡ adsp_kind
+    → BySegment n d draw
+segment_of n d draw (inl b) its = let both : true ≡ (adsp_kind == atp_kind) = sym b.kind
     ∙ ap (λ k. k == atp_kind) its in absurd (cc)
-segment_of A n d o draw (inr b) its = b
+segment_of n d draw (inr b) its = b
 
-pub found_by_packet : (A : Type 0) (n : NodeState) (d : Datagram) (f : Content) (s : Seat) (from : Address)
-    (r : Option Draw) → s ≡ n.seat → from ≡ d.from → (is_for_all n.seat d.kind d.to || is_mine n.seat d.to) ≡ true
-    → (d.kind == atp_kind) ≡ true → (d.to.socket == 128) ≡ true → Spells d.data_ f →
-    IfSome r (λ draw. (o : Outcome A AtpState) × AtRequester s n.atp from f o × (drawn_by o.report ≡ Some draw))
-    → IfSome r (λ draw. (said : Reply A) × (o : Outcome A NodeState) × HearsIt said n d o
-    × (drawn_by o.report ≡ Some draw))
-found_by_packet A n d f s from None seat sender mine kind socket spelled h = tt
-found_by_packet A n d f s from (Some draw) seat sender mine kind socket spelled h =
-    let o : Outcome A NodeState = over_atp n h.0 in
-    let at : AtRequester n.seat n.atp d.from f h.0 = subst (λ x. AtRequester n.seat n.atp x f h.0) sender
-    (subst (λ x. AtRequester x n.atp from f h.0) seat h.1) in (
-      Later,
-      o,
-      comes_by Later n d o
-          (record {
-            mine = mine;
-            kind = kind;
-            socket = socket;
-            packet = f;
-            spelled = spelled;
-            part = h.0;
-            at = at;
-            is = refl;
-          }),
-      h.2,
-    )
+-- a page that makes the next one be asked for is heard so
+module _ (A : Type 0) (beginning : BeginningLaw A) (n : NodeState) (d : Datagram)
+    (mine : (is_for_all n.seat d.kind d.to || is_mine n.seat d.to) ≡ true) (kind : d.kind ≡ atp_kind) where
+  pub turned_hears : (tid : ℕ) → HasTurn n.atp d tid → (said : Reply A) × (o : Outcome A NodeState)
+      × HearsIt said n d o × (drawn_by o.report ≡ Some (Tid tid))
+  turned_hears tid t =
+      let b = beginning.begins Later n.seat n.atp d tid t in
+      let its : (d.kind == atp_kind) ≡ true = ap (λ k. k == atp_kind) kind in
+      (Later, over_atp n b.0, rw (mine, its) (b.0, b.1, refl), ap drawn_by b.2)
+
+  pub found_by_packet : (r : Option Draw) → IfSome r (λ draw. (tid : ℕ) × HasTurn n.atp d tid × (draw ≡ Tid tid))
+      → IfSome r (λ draw. (said : Reply A) × (o : Outcome A NodeState) × HearsIt said n d o
+      × (drawn_by o.report ≡ Some draw))
+  found_by_packet None h = tt
+  found_by_packet (Some draw) h =
+      let x = turned_hears h.0 h.1 in
+      (x.0, x.1, x.2, x.3 ∙ ap Some (sym h.2))
 
 -- a segment that makes an end is heard so
 module _ (A : Type 0) (making : MakingLaw) (n : NodeState) (d : Datagram)

@@ -15,7 +15,7 @@ use Rattle.at_event.specs.declared.timers.NameTimer.TheVariants as nbp_timer
 use Rattle.at_event.specs.declared.timers.StreamTimer.TheVariants as adsp_timer
 use Rattle.at_nbp.specs.Lookups.{Search, has_id}
 use Rattle.at_node.specs.Nodes.{NodeState, timed}
-use Rattle.at_node.specs.Responders.{records_at}
+use Rattle.at_transaction_socket.specs.Responders.{records_at}
 use Rattle.at_node.specs.Timers.{Acts, lookup_of, lookups, releases, retries, retry_of, ticks, timers_of}
 use Rattle.at_node.proofs.MemberLemmas.{There, there_seen, found_there, there_left, there_right, there_either}
 use Rattle.at_node.proofs.ReleaseLaws.{CanGo, acts_release, can_go_listed, listed_can_go, release_acts_6}

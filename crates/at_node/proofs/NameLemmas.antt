@@ -19,8 +19,8 @@ use Rattle.at_event.specs.declared.seat.Seat.{Seat}
 use Rattle.at_node.specs.NameCalls.{asked_again, sent_of}
 use Rattle.at_node.specs.NameHearing.{HearsName, HearsNbpFault, told_by}
 use Rattle.at_event.specs.Outcomes.{Comes, Exactly, Outcome, refused_as, takes_memory, wants_memory}
-use Rattle.at_node.proofs.OutcomeLemmas.{comes_refused, comes_with}
-use Rattle.at_node.proofs.PostLemmas.{posts}
+use Rattle.at_event.proofs.OutcomeLemmas.{comes_refused, comes_with}
+use Rattle.at_event.proofs.PostLemmas.{posts}
 
 -- an open lookup was asked again
 pub again_sent : {A : Type 0} (s : Seat) (n : SocketState) (o : Option Search) (before after : Outbox)

@@ -8,7 +8,7 @@ use Rattle.at_ddp.specs.Protocols.{atp_kind, nbp_kind, adsp_kind}
 use Rattle.at_atp_frame.specs.Frames.{Content, Request, Response, Release}
 use Rattle.at_atp_frame.specs.Frames.{number_of}
 use Rattle.at_node.specs.declared.numbers.Draw.{Draw}
-use Rattle.at_node.specs.AtpParts.{tid_of}
+use Rattle.at_transaction_socket.specs.AtpParts.{tid_of}
 use Rattle.at_node.specs.Numbers.{CarriesConn, CarriesOne, end_drawn}
 use Rattle.at_node.specs.declared.numbers.Draw.TheVariants.{Conn}
 use Rattle.at_stream_socket.specs.Carrying as streams

@@ -15,7 +15,7 @@ use Rattle.at_event.specs.declared.event.Timer.{Timer}
 use Rattle.at_event.specs.declared.event.Timer.TheVariants as timer
 use Rattle.at_event.specs.declared.timers.TransactionTimer.TheVariants as atp_timer
 use Rattle.at_node.specs.Nodes.{NodeState, timed, with_atp}
-use Rattle.at_node.specs.Responders.{expired, records_at}
+use Rattle.at_transaction_socket.specs.Responders.{expired, records_at}
 use Rattle.at_node.specs.Timers.{Acts, release_of, releases}
 use Rattle.at_node.proofs.MemberLemmas.{There, there_some, some_there, found_there, sole_seen, without_differs}
 

@@ -1,6 +1,6 @@
 -- What is sent is heard, from the laws of the spellings.
-use Rattle.std.proofs.Common.{lit<, ◌≡◌, inl, inr, ℕ, ◌^◌, ◌<◌, ◌≤◌, Bool, true, false, List, [], ◌++◌, length, Option}
-use Rattle.std.proofs.Common.{Some, None, refl, subst, ◌∙◌}
+use Rattle.std.proofs.Common.{lit<, ◌≡◌, inl, inr, ℕ, ◌<◌, ◌≤◌, Bool, true, false, List, [], ◌++◌, length, Option, Some}
+use Rattle.std.proofs.Common.{None, refl, subst}
 use Rattle.std.specs.Prelude.{MatchBool}
 use Rattle.std.proofs.lemmas.List.{append-nil}
 use Rattle.at_ddp.specs.Datagram.{Content as Datagram, IsAddress, AreBytes, BeginsWith, canonical, written}
@@ -8,30 +8,21 @@ use Rattle.at_ddp.specs.Fault as ddp
 use Rattle.at_ddp.specs.declared.address.Address.{Address}
 use Rattle.at_ddp.specs.declared.fault.DdpFault.{DdpFault}
 use Rattle.at_ddp.specs.Protocols.{atp_kind}
-use Rattle.at_atp_frame.specs.Frames.{Content, Request, IsLawful, Spells, spelled}
+use Rattle.at_atp_frame.specs.Frames.{Content, IsLawful, Spells, spelled}
 use Rattle.at_atp_frame.specs.Fault as atp
-use Rattle.at_atp_requester.specs.Requests.{Heard}
 use Rattle.at_atp_frame.specs.Frames.{owner, number_of}
 use Rattle.at_node.specs.Numbers.{Carries}
 use Rattle.at_node.specs.declared.numbers.Draw.TheVariants.{Tid}
 use Rattle.at_atp_frame.specs.declared.fault.AtpFault.{AtpFault}
-use Rattle.at_zip.specs.Page as page
-use Rattle.at_zip.specs.Fault as zip
-use Rattle.at_zip.specs.Request.{RequestSpells, request_user}
-use Rattle.at_zip.specs.Tables.{Tables, table_of}
-use Rattle.at_zip.specs.declared.request.Which.{Which}
-use Rattle.at_zip.specs.declared.fault.ZipFault.{ZipFault}
 use Rattle.at_event.specs.declared.service.Reply.{Reply}
 use Rattle.at_event.specs.declared.report.Report.TheVariants.{Ignored}
 use Rattle.at_event.specs.declared.seat.Seat.{Seat}
-use Rattle.at_node.specs.AtpHearing.{AtpSocket, AtSocket, HearsAt, atp_socket}
-use Rattle.at_node.specs.AtpParts.{AtpState}
+use Rattle.at_transaction_socket.specs.AtpHearing.{AtpSocket, AtSocket, HearsAt, atp_socket}
+use Rattle.at_transaction_socket.specs.AtpParts.{AtpState}
 use Rattle.at_node.specs.Hearing.{HearsIt, HearsMine, Hears, HearsSent}
 use Rattle.at_node.specs.Nodes.{NodeState, over_atp}
 use Rattle.at_event.specs.Outcomes.{Outcome, Through, idle}
 use Rattle.at_event.specs.Seats.{is_mine}
-use Rattle.at_node.specs.ZoneReading.{ReadsPage, TakesPage}
-use Rattle.at_node.specs.ZoneSocket.{AtZones, zone_asked}
 
 -- ---- packets
 
@@ -112,39 +103,3 @@ heard_as_sent A said n to from f o laws packets to_fits from_fits ok (inr h) =
     let first = h.first in
     absurd (laws.faultless (canonical to from atp_kind (spelled f)) (written to from atp_kind (spelled f)) []
     (begins laws to from f to_fits from_fits ok) h.fault first.stands)
-
--- ---- zone requests and pages
-
-pub asked_is_served : (A : Type 0) (s : Seat) (a : AtpState) (from : Address) (tables : Tables) (which : Which)
-    (mask : ℕ) (xo : Bool) (timer tid start : ℕ) (bytes : List ℕ) (o : Outcome A AtpState) →
-    ((v : Which) (k : ℕ) → 1 ≤ k → k < 2 ^ 16 → RequestSpells (request_user v k) v k)
-    → ((user : List ℕ) (v w : Which) (m k : ℕ) → RequestSpells user v m → RequestSpells user w k → (v ≡ w) × (m ≡ k))
-    → 1 ≤ start → start < 2 ^ 16 →
-    AtZones s a from tables (Request mask xo timer tid (request_user which start) bytes) o → o
-    ≡ zone_asked s a from (Request mask xo timer tid (request_user which start) bytes) (table_of which tables) start
-asked_is_served A s a from tables which mask xo timer tid start bytes o reads alone some fits (inl h) =
-    let one = alone (request_user which start) h.which which h.start start h.asks (reads which start some fits) in
-    h.outcome
-    ∙ (λ i. zone_asked {A = A} s a from (Request mask xo timer tid (request_user which start) bytes)
-    (table_of (one.0 i) tables) (one.1 i))
-asked_is_served A s a from tables which mask xo timer tid start bytes o reads alone some fits (inr h) =
-    absurd (h.0 which start (reads which start some fits))
-
-pub taken_as_written : (A : Type 0) (s : Seat) (a : AtpState) (h : Heard A) (from : Address) (names : List (List ℕ))
-    (p : page.Page) (o : Outcome A AtpState) →
-    ((q : page.Page) (rest : List ℕ) → page.IsLawful q → page.Spells (page.page_user q) (page.page_data q ++ rest) q) →
-    ((user bytes : List ℕ) (q s : page.Page) → page.Spells user bytes q → page.Spells user bytes s → q ≡ s) →
-    ((user bytes : List ℕ) (q : page.Page) → page.Spells user bytes q → (fault : ZipFault)
-    → ¬ zip.IsFirstFault fault user bytes) →
-    page.IsLawful p → ReadsPage s a h from names (record { user = page.page_user p; data_ = page.page_data p }) o
-    → TakesPage s a h from names p o
-taken_as_written A s a h from names p o reads alone faultless ok read = go read
-  where
-    spelled-p : page.Spells (page.page_user p) (page.page_data p) p
-    spelled-p = subst (λ bytes. page.Spells (page.page_user p) bytes p) (append-nil (page.page_data p)) (reads p [] ok)
-
-    go : ReadsPage s a h from names (record { user = page.page_user p; data_ = page.page_data p }) o
-        → TakesPage s a h from names p o
-    go (inl had) = subst (λ (q : page.Page). TakesPage s a h from names q o)
-        (alone (page.page_user p) (page.page_data p) had.page p had.spelled spelled-p) had.outcome
-    go (inr had) = absurd (faultless (page.page_user p) (page.page_data p) p spelled-p had.fault had.first)

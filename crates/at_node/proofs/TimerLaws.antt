@@ -13,9 +13,9 @@ use Rattle.at_event.specs.declared.timers.NameTimer.TheVariants as nbp_timer
 use Rattle.at_nbp.specs.Lookups.{Search, has_id, search_of}
 use Rattle.at_node.specs.NameCalls.{asked_again}
 use Rattle.at_node.specs.Nodes.{NodeState, timed, with_atp, with_names}
-use Rattle.at_node.specs.RequesterSocket.{retry_fired}
+use Rattle.at_transaction_socket.specs.RequesterSocket.{retry_fired}
 use Rattle.at_node.specs.Timers.{Acts, lookup_of, lookups, retries, retry_of}
-use Rattle.at_node.specs.ZoneReading.{after_failing, is_reading}
+use Rattle.at_transaction_socket.specs.ZoneReading.{after_failing, is_reading}
 use Rattle.at_node.proofs.MemberLemmas.{There, seen_there, there_found, without_differs}
 
 -- ---- retries

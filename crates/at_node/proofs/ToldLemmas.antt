@@ -1,24 +1,22 @@
 -- What received bytes draw is what comes of them tells.
 use Rattle.std.proofs.Common.{◌≡◌, ℕ, Bool, true, false, List, Some, inl, inr, refl, sym, ap, subst, ◌∙◌}
 use Rattle.std.specs.Prelude.{◌==◌, ◌&&◌, ◌||◌}
-use Rattle.std.proofs.lemmas.Bool.{eq-eqb, eqb-true}
+use Rattle.std.proofs.lemmas.Bool.{eqb-true}
 use Rattle.at_ddp.specs.Datagram.{Content as Datagram}
 use Rattle.at_ddp.specs.Protocols.{adsp_kind, atp_kind, nbp_kind}
 use Rattle.at_ddp.specs.declared.address.Address.{Address}
 use Rattle.at_event.specs.Outcomes.{Outcome}
 use Rattle.at_event.specs.Seats.{is_for_all, is_mine}
 use Rattle.at_event.specs.declared.service.Reply.{Reply}
-use Rattle.at_event.specs.declared.service.Reply.TheVariants.{Later}
 use Rattle.at_node.specs.Hearing.{HearsIt}
-use Rattle.at_node.specs.Nodes.{NodeState, over_atp}
+use Rattle.at_node.specs.Nodes.{NodeState}
 use Rattle.at_node.specs.Numbers.{DrawsBy, DrawsHearing, IsTold, drawn_by}
 use Rattle.at_node.specs.declared.numbers.Draw.{Draw}
 use Rattle.at_node.specs.declared.numbers.Draw.TheVariants.{Conn, Lookup, Tid}
-use Rattle.at_node.proofs.DrawLemmas.{Drawing, MakingLaw, by_packet, comes_by, made_hears, only_datagrams}
-use Rattle.at_node.proofs.ReadingLemmas.{draws_by_beginning}
-use Rattle.at_node.proofs.TurningLemmas.{beginning_turns, turning_begins}
+use Rattle.at_node.proofs.DrawLemmas.{BeginningLaw, Drawing, MakingLaw, by_packet, made_hears, only_datagrams}
+use Rattle.at_node.proofs.DrawLemmas.{turned_hears}
 
-module _ (A : Type 0) (making : MakingLaw) (n : NodeState) where
+module _ (A : Type 0) (making : MakingLaw) (beginning : BeginningLaw A) (n : NodeState) where
   -- a datagram of no names is not for every node
   for_it : (kind : ℕ) (to : Address) → (kind == nbp_kind) ≡ false → (is_for_all n.seat kind to || is_mine n.seat to)
       ≡ true → is_mine n.seat to ≡ true
@@ -29,22 +27,11 @@ module _ (A : Type 0) (making : MakingLaw) (n : NodeState) where
   for_any true mine is = refl
   for_any false mine is = is
 
-  drawn : (d : Datagram) (o : Outcome A NodeState) (draw : Draw) → drawn_by o.report ≡ Some draw
-      → Drawing n d o draw → (is_mine n.seat d.to ≡ true) × DrawsBy n d draw
-  drawn d o draw is (inl b) =
+  drawn : (d : Datagram) (draw : Draw) → Drawing n d draw → (is_mine n.seat d.to ≡ true) × DrawsBy n d draw
+  drawn d draw (inl b) =
       let kind : d.kind ≡ atp_kind = eqb-true d.kind atp_kind b.kind in
-      let begins = draws_by_beginning A n.seat n.atp d.from b.packet b.part b.at draw
-      (sym (ap (λ (x : Outcome A NodeState). drawn_by x.report) b.is) ∙ is) in (
-        for_it d.kind d.to (ap (λ k. k == nbp_kind) kind) b.mine,
-        subst (DrawsBy n d) (sym begins.2) (record {
-          is_atp = kind;
-          socket = b.socket;
-          packet = b.packet;
-          spelled = b.spelled;
-          turns = beginning_turns A n.seat n.atp d.from b.packet begins.0 (b.part, b.at, begins.1);
-        }),
-      )
-  drawn d o draw is (inr b) =
+      (for_it d.kind d.to (ap (λ k. k == nbp_kind) kind) b.mine, subst (DrawsBy n d) (sym b.is) (kind, b.turns))
+  drawn d draw (inr b) =
       let kind : d.kind ≡ adsp_kind = eqb-true d.kind adsp_kind b.kind in
       (for_it d.kind d.to (ap (λ k. k == nbp_kind) kind) b.mine, subst (DrawsBy n d) (sym b.is) (kind, b.makes))
 
@@ -52,8 +39,7 @@ module _ (A : Type 0) (making : MakingLaw) (n : NodeState) where
   tells_draws bytes draw h =
       let heard = only_datagrams A n bytes draw h in
       let d : Datagram = (heard.2).datagram in
-      let both = drawn d heard.1 draw heard.3
-      (by_packet A making heard.0 n d heard.1 draw heard.3 (heard.2).outcome) in
+      let both = drawn d draw (by_packet A making beginning heard.0 n d heard.1 draw heard.3 (heard.2).outcome) in
       record {
         datagram = d;
         rest = (heard.2).rest;
@@ -64,22 +50,8 @@ module _ (A : Type 0) (making : MakingLaw) (n : NodeState) where
 
   heard_by : (d : Datagram) (draw : Draw) → is_mine n.seat d.to ≡ true → DrawsBy n d draw → (said : Reply A)
       × (o : Outcome A NodeState) × HearsIt said n d o × (drawn_by o.report ≡ Some draw)
-  heard_by d (Tid tid) mine t =
-      let b = turning_begins A n.seat n.atp d.from t.packet tid t.turns in (
-        Later,
-        over_atp n b.0,
-        comes_by Later n d (over_atp n b.0) (record {
-          mine = for_any (is_for_all n.seat d.kind d.to) (is_mine n.seat d.to) mine;
-          kind = eq-eqb d.kind atp_kind t.is_atp;
-          socket = t.socket;
-          packet = t.packet;
-          spelled = t.spelled;
-          part = b.0;
-          at = b.1;
-          is = refl;
-        }),
-        ap drawn_by b.2,
-      )
+  heard_by d (Tid tid) mine t = turned_hears A beginning n d
+      (for_any (is_for_all n.seat d.kind d.to) (is_mine n.seat d.to) mine) t.0 tid t.1
   heard_by d (Lookup id) mine t = absurd t
   heard_by d (Conn id) mine t = made_hears A making n d
       (for_any (is_for_all n.seat d.kind d.to) (is_mine n.seat d.to) mine) t.0 id t.1

@@ -1,16 +1,8 @@
-pub mod AtpHearing
-pub mod AtpParts
 pub mod Numbers
 pub mod Hearing
 pub mod Limits
 pub mod NameCalls
 pub mod NameHearing
 pub mod Nodes
-pub mod Readings
-pub mod RequesterSocket
-pub mod Responders
-pub mod ServiceSocket
 pub mod SessionCalls
 pub mod Timers
-pub mod ZoneReading
-pub mod ZoneSocket

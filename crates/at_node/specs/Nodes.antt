@@ -26,19 +26,19 @@ use Rattle.at_event.specs.declared.timers.TransactionTimer.TheVariants as atp_ti
 use Rattle.at_event.specs.declared.timers.NameTimer.TheVariants as nbp_timer
 use Rattle.at_event.specs.declared.timers.StreamTimer.TheVariants as adsp_timer
 use Rattle.at_event.specs.declared.seat.Seat.{Seat}
-use Rattle.at_node.specs.AtpParts as atp
-use Rattle.at_node.specs.AtpParts.{AtpState}
+use Rattle.at_transaction_socket.specs.AtpParts as atp
+use Rattle.at_transaction_socket.specs.AtpParts.{AtpState}
 use Rattle.at_node.specs.NameCalls.{claim_called, find_called, finish_called, lookup_fired}
 use Rattle.at_node.specs.NameCalls.{register_called, unregister_called}
 use Rattle.at_event.specs.Outcomes.{Outcome, over}
 use Rattle.at_session.specs.Sessions.{SessionState, address_at, finds_kept, list_kept, new_session, pattern_asked}
 use Rattle.at_node.specs.SessionCalls.{open_called, pick_called}
-use Rattle.at_node.specs.RequesterSocket.{ask_called, retry_fired}
-use Rattle.at_node.specs.Responders.{release_fired}
+use Rattle.at_transaction_socket.specs.RequesterSocket.{ask_called, retry_fired}
+use Rattle.at_transaction_socket.specs.Responders.{release_fired}
 use Rattle.at_event.specs.Seats.{at_socket}
-use Rattle.at_node.specs.ServiceSocket.{answer_called}
-use Rattle.at_node.specs.ZoneReading.{zones_called}
-use Rattle.at_node.specs.ZoneSocket.{set_zones_called}
+use Rattle.at_transaction_socket.specs.ServiceSocket.{answer_called}
+use Rattle.at_transaction_socket.specs.ZoneReading.{zones_called}
+use Rattle.at_transaction_socket.specs.ZoneSocket.{set_zones_called}
 use Rattle.at_stream_socket.specs.Calls.{close_called, connect_called, listen_called, read_called, reset_called}
 use Rattle.at_stream_socket.specs.Calls.{tick_fired, write_called}
 

@@ -1,19 +1,14 @@
 -- Numbers that are not to be reused while a packet or a record has them: which one an event draws, which are held, and
 -- which a datagram carries.
-use Rattle.std.specs.Prelude.{◌≡◌, ℕ, ◌+◌, ◌≤◌, ◌==◌, ◌||◌, nat_lt, is_none, is_some, if◌then◌else◌, Bool, true, false}
-use Rattle.std.specs.Prelude.{List, length, find, option_map, Option, Some, None, ◌⊎◌}
+use Rattle.std.specs.Prelude.{◌≡◌, ℕ, ◌||◌, nat_lt, is_none, is_some, if◌then◌else◌, Bool, true, false, List, length}
+use Rattle.std.specs.Prelude.{option_map, Option, Some, None, ◌⊎◌}
 use Rattle.std.specs.List.{list_any}
 use Rattle.at_ddp.specs.Datagram.{Content as Datagram, BeginsWith}
 use Rattle.at_ddp.specs.Protocols.{atp_kind, nbp_kind, adsp_kind}
-use Rattle.at_ddp.specs.Tables.{without_first}
-use Rattle.at_ddp.specs.declared.address.Address.{Address}
-use Rattle.at_atp_frame.specs.Frames.{Content, Response, Spells}
+use Rattle.at_atp_frame.specs.Frames.{Content, Spells}
 use Rattle.at_atp_frame.specs.Frames.{owner, number_of}
-use Rattle.at_atp_frame.specs.Packets.{Packet}
-use Rattle.at_atp_requester.specs.Answers.{Arrival, is_wanted, whole, with_part}
-use Rattle.at_atp_requester.specs.Requests.{Requests, Transaction, is_of, next_number}
+use Rattle.at_atp_requester.specs.Requests.{next_number}
 use Rattle.at_atp_responder.specs.Records.{is_from}
-use Rattle.at_zip.specs.Page.{Page, Spells as SpellsPage}
 use Rattle.at_nbp.specs.Lookups.{next_id}
 use Rattle.at_nbp.specs.NameTables.{is_no_text}
 use Rattle.at_adsp_ends.specs.Tables.{has_remote_at, next_id as next_end}
@@ -39,7 +34,7 @@ use Rattle.at_event.specs.declared.reports.NameReport.TheVariants as nbp_report
 use Rattle.at_event.specs.declared.reports.StreamReport.TheVariants as adsp_report
 use Rattle.at_event.specs.declared.service.Reply.{Reply}
 use Rattle.at_session.specs.Sessions.{address_at}
-use Rattle.at_node.specs.AtpParts.{AtpState, Reading}
+use Rattle.at_transaction_socket.specs.Turning.{HasTurn}
 use Rattle.at_node.specs.Hearing.{Hears}
 use Rattle.at_node.specs.Nodes.{NodeState}
 use Rattle.at_node.specs.declared.numbers.Draw.{Draw}
@@ -94,44 +89,9 @@ draw_of n (Names call) = name_draw n call
 draw_of n (Streams call) = stream_draw n call
 draw_of n (Session call) = None
 
--- with a packet for this place, the answer to an open at-least-once transaction is whole
-pub record Completes (r : Requests) (from : Address) (tid place : ℕ) (part : Arrival) : Type 0 where
-  pub transaction : Transaction
-  pub stands : find (is_of tid from) r.standing ≡ Some transaction
-  pub at_least_once : transaction.xo ≡ false
-  pub wanted : is_wanted transaction.parts place ≡ true
-  pub all : is_some (whole (with_part transaction.parts place part)) ≡ true
-
--- A packet from an address ends the transaction that reads a zone table, by a page after which the next one is asked
--- for under this number: it is not the last page, and with it there are not too many names.
-pub record TurnsPage (a : AtpState) (from : Address) (f : Content) (tid : ℕ) : Type 0 where
-  pub reading : Reading
-  pub reads : a.reading ≡ Some reading
-  pub place : ℕ
-  pub ends : Bool
-  pub status : Bool
-  pub packet : Packet
-  pub answers : f ≡ Response place ends status reading.tid packet.user packet.data_
-  pub completes : Completes a.requester from reading.tid place (record { eom = ends; packet = packet })
-  pub page : Page
-  pub has_page : SpellsPage packet.user packet.data_ page
-  pub goes_on : page.last ≡ false
-  pub few : length reading.names + length page.names ≤ 1024
-  pub next : next_number (record a.requester {
-    standing = without_first (is_of reading.tid from) a.requester.standing;
-  }) ≡ Some tid
-
--- the datagram has such a packet, for the socket that asks
-pub record HasTurn (a : AtpState) (d : Datagram) (tid : ℕ) : Type 0 where
-  pub is_atp : d.kind ≡ atp_kind
-  pub socket : (d.to.socket == 128) ≡ true
-  pub packet : Content
-  pub spelled : Spells d.data_ packet
-  pub turns : TurnsPage a d.from packet tid
-
 -- a datagram for the node makes it draw this number: a page of a zone table, or a request that makes an end
 abbrev pub DrawsBy : NodeState → Datagram → Draw → Type 0
-DrawsBy n d (Tid tid) = HasTurn n.atp d tid
+DrawsBy n d (Tid tid) = (d.kind ≡ atp_kind) × HasTurn n.atp d tid
 DrawsBy n d (Lookup id) = ⊥
 DrawsBy n d (Conn id) = (d.kind ≡ adsp_kind) × Makes n.streams d id
 

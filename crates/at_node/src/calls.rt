@@ -7,11 +7,11 @@ ghost use Rattle.at_node.specs.Numbers.{name_draw, stream_draw, transaction_draw
 
 use crate::node::Node;
 use crate::numbers::Draw;
-use crate::requester_socket::Question;
 use at_atp::MAX_DATA;
 use at_ddp::Datagrams;
 use at_event::{Call, NameCall, Report, SessionCall, StreamCall, TransactionCall, ZoneCall};
 use at_nbp::is_no_name;
+use at_transaction_socket::Question;
 use std::alloc::Allocator;
 
 impl<A: Allocator + Copy> Node<A> {
@@ -130,7 +130,7 @@ impl<A: Allocator + Copy> Node<A> {
     {
         match call {
             ZoneCall::Read { .. } => {
-                if self.seat.router.is_none() || self.atp.reading.is_some() {
+                if self.seat.router.is_none() || self.atp.reads_zones() {
                     return None;
                 }
                 self.next_draw()

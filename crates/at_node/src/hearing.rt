@@ -3,15 +3,16 @@ ghost use Rattle.std.specs.Prelude.{◌≡◌};
 ghost use Rattle.at_event.specs.Outcomes.{Comes, Through};
 ghost use Rattle.at_event.specs.Services.{Serves};
 ghost use Rattle.at_event.specs.declared.service.Reply.{Reply};
-ghost use Rattle.at_node.specs.AtpHearing.{HearsAtp};
+ghost use Rattle.at_transaction_socket.specs.AtpHearing.{HearsAtp};
 ghost use Rattle.at_node.specs.Hearing.{HearsIt, Hears};
 ghost use Rattle.at_node.specs.Nodes.{over_atp};
 ghost use Rattle.at_packet.specs.Bodies.{IsBody, datagram_of};
 
-use crate::node::{Node, refused};
+use crate::node::Node;
 use at_ddp::Datagrams;
 use at_event::{Report, Service};
 use at_packet::{AtpPacket, Body, Packet};
+use at_transaction_socket::refused;
 use std::alloc::Allocator;
 
 impl<A: Allocator + Copy> Node<A> {

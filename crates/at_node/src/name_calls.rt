@@ -7,11 +7,11 @@ ghost use Rattle.at_node.specs.NameCalls.{register_called, told_of, unregister_c
 ghost use Rattle.at_event.specs.Outcomes.{IsStep};
 
 use crate::name_part::NamePart;
-use crate::node::refused;
 use at_ddp::{Datagrams, Listed, NBP, Outbox, Pascal};
 use at_event::{NameReport, Report, Seat};
 use at_name_socket::{Finished, NAME_SOCKET};
 use at_nbp::{Find, Name, copy_of};
+use at_transaction_socket::refused;
 use std::alloc::{AllocError, Allocator};
 
 impl<A: Allocator + Copy> NamePart<A> {

@@ -6,11 +6,11 @@ ghost use Rattle.at_node.specs.NameHearing.{HearsNames, told_by};
 ghost use Rattle.at_event.specs.Outcomes.{Comes};
 ghost use Rattle.at_event.specs.Services.{is_asked};
 
-use crate::node::refused;
 use at_ddp::{Datagrams, Listed, NBP, Outbox, Pascal};
 use at_event::{NameReport, Report, Seat};
 use at_name_socket::{Heard, NAME_SOCKET, NameSocket, Neighbour};
 use at_packet::NbpPacket;
+use at_transaction_socket::refused;
 use std::alloc::Allocator;
 use std::marker::Model;
 

@@ -1,20 +1,18 @@
 //! A node: what it is made of, and the calls and timers that its user and its clock play.
-ghost use Rattle.std.specs.Prelude.{◌≡◌, Option, false};
+ghost use Rattle.std.specs.Prelude.{◌≡◌};
 ghost use Rattle.at_adsp_ends.specs.Tables.{AreRooms};
 ghost use Rattle.at_node.specs.Limits.{IsWithin};
 ghost use Rattle.at_node.specs.Nodes.{opening, called, timed};
-ghost use Rattle.at_event.specs.Outcomes.{IsStep, refused_as};
-ghost use Rattle.at_event.specs.Services.{is_asked};
+ghost use Rattle.at_event.specs.Outcomes.{IsStep};
 
-use crate::atp_part::AtpPart;
 use crate::name_part::NamePart;
 use crate::settings::Settings;
 use at_adsp_ends::Tick;
-use at_atp::laws::at_most_64_records_stand;
 use at_ddp::Datagrams;
 use at_event::{Call, NameTimer, Report, Seat, StreamTimer, Timer, TransactionTimer};
 use at_session::Session;
 use at_stream_socket::StreamSocket;
+use at_transaction_socket::AtpPart;
 use std::alloc::{Allocator, Global};
 use std::marker::Model;
 
@@ -69,12 +67,7 @@ impl<A: Allocator + Copy> Node<A> {
     pub fn limits(&self)
         ensures { IsWithin self.now }
     {
-        self.atp.requester.limits();
-        at_most_64_records_stand(&self.atp.zone_responder);
-        at_most_64_records_stand(&self.atp.service_responder);
-        if let Some(tables) = &self.atp.tables {
-            tables.limits();
-        }
+        self.atp.limits();
         self.names.socket.limits();
         self.streams.limits();
     }
@@ -134,16 +127,5 @@ impl<A: Allocator + Copy> Node<A> {
             StreamTimer::Resend { id } => self.streams.tick(self.seat, id, Tick::Retransmit, out),
             StreamTimer::Probe { id } => self.streams.tick(self.seat, id, Tick::Probe, out),
         }
-    }
-}
-
-// The report of a refusal, or of out of memory if there is no number.
-pub(crate) fn refused<A: Allocator>(number: Option<u8>) -> Report<A>
-    ensures report { result ≡ refused_as number }
-    ensures not_asked { is_asked result ≡ false }
-{
-    match number {
-        Some(number) => Report::Refused(number),
-        None => Report::NoMemory,
     }
 }

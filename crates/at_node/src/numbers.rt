@@ -1,33 +1,30 @@
 //! Numbers: which one an input draws, which a record or an end here holds, and which a datagram carries.
-ghost use Rattle.std.specs.Prelude.{◌≡◌, ◌↔◌, ◌||◌, ℕ, Some, IfSome, option_map, true};
+ghost use Rattle.std.specs.Prelude.{◌≡◌, ◌↔◌, ℕ, Some, IfSome, option_map};
 ghost use Rattle.std.specs.List.{Contains};
-ghost use Rattle.at_atp_frame.specs.Frames.{content};
 ghost use Rattle.at_atp_requester.specs.Requests.{next_number};
 ghost use Rattle.at_ddp.specs.Protocols.{atp_kind, nbp_kind, adsp_kind};
 ghost use Rattle.at_nbp.specs.Lookups.{next_id};
-ghost use Rattle.at_node.specs.AtpParts.{AtpState};
 ghost use Rattle.at_adsp_ends.specs.Tables.{next_id as next_end};
 ghost use Rattle.at_node.specs.Numbers.{Carries, CarriesConn, CarriesLookup, CarriesNumber, CarriesTid, Draws};
 ghost use Rattle.at_node.specs.Numbers.{IsTold, draw_of, drawn_by, end_drawn, holds};
 ghost use Rattle.at_node.specs.Hearing.{HearsIt};
 ghost use Rattle.at_node.specs.Nodes.{NodeState};
 ghost use Rattle.at_event.specs.Outcomes.{Outcome as Result};
-ghost use Rattle.at_node.specs.RequesterSocket.{AtRequester};
+ghost use Rattle.at_transaction_socket.specs.Turning.{HasTurn};
 ghost use Rattle.at_node.specs.declared.numbers.Draw.{Draw as Drawn};
 ghost use Rattle.at_node.specs.declared.numbers.Draw.TheVariants.{Conn, Lookup, Tid};
-ghost use Rattle.at_event.specs.Seats.{is_for_all, is_mine};
 ghost use Rattle.at_packet.specs.Bodies.{IsBody, datagram_of};
 ghost use Rattle.at_stream_socket.specs.Hearing.{Makes};
 ghost use Rattle.at_event.specs.declared.service.Reply.{Reply as Said};
 
-use crate::incoming::Incoming;
 use crate::laws::what_is_drawn_is_told;
 use crate::node::Node;
-use crate::requester_socket::{REQUESTER_SOCKET, tid_of};
 use at_atp_frame::owner;
 use at_event::{Call, Timer};
 use at_packet::{AdspPacket, AtpPacket, Body, NbpPacket, Packet};
 use at_stream_socket::laws::requests_alone_make_ends;
+use at_transaction_socket::laws::pages_alone_begin_transactions;
+use at_transaction_socket::tid_of;
 use std::alloc::{Allocator, Global};
 
 /// A number that a node draws. It is not to be drawn again while a packet or a record has it, or an end that is
@@ -70,10 +67,7 @@ impl<A: Allocator + Copy> Node<A> {
         ensures { result ≡ holds self.now node draw }
     {
         match draw {
-            Draw::Tid(tid) => {
-                self.atp.zone_responder.holds_number(node, tid)
-                    || self.atp.service_responder.holds_number(node, tid)
-            }
+            Draw::Tid(tid) => self.atp.holds_number(node, tid),
             Draw::Lookup(_) => false,
             Draw::Conn(id) => self.streams.holds_number(node, id),
         }
@@ -111,6 +105,7 @@ impl<A: Allocator + Copy> Node<A> {
             → (draw : Drawn) → drawn_by o.report ≡ Some draw → result ≡ Some draw }
     {
         requests_alone_make_ends();
+        pages_alone_begin_transactions::<A>();
         let datagram = body.datagram();
         if !self.seat.is_for(datagram.kind, datagram.to) {
             return None;
@@ -123,22 +118,12 @@ impl<A: Allocator + Copy> Node<A> {
     }
 
     fn draw_of_response(&self, packet: &AtpPacket<'_>) -> Option<Draw>
-        requires protocol { packet.now.kind ≡ atp_kind }
-        requires mine { (is_for_all self.now.seat packet.now.kind packet.now.to || is_mine self.now.seat packet.now.to)
-            ≡ true }
-        ensures found { IfSome result (λ draw. (said : Said A) × (o : Result A NodeState)
-            × HearsIt said self.now packet.now o × (drawn_by o.report ≡ Some draw)) }
-        ensures only { (said : Said A) (o : Result A NodeState) → HearsIt said self.now packet.now o
-            → (draw : Drawn) → drawn_by o.report ≡ Some draw → result ≡ Some draw }
+        ensures found { IfSome result (λ draw. (tid : ℕ) × HasTurn self.now.atp packet.now tid × (draw ≡ Tid tid)) }
+        ensures only { (tid : ℕ) → HasTurn self.now.atp packet.now tid → result ≡ Some (Tid tid) }
     {
-        requests_alone_make_ends();
-        let datagram = packet.datagram();
-        if datagram.to.socket != REQUESTER_SOCKET {
-            return None;
-        }
-        match Incoming::of(self.seat, packet) {
-            Ok(packet) => self.draw_of_packet(&packet),
-            Err(_) => None,
+        match self.atp.turned_by(self.seat, packet) {
+            Some(tid) => Some(Draw::Tid(tid)),
+            None => None,
         }
     }
 
@@ -153,24 +138,10 @@ impl<A: Allocator + Copy> Node<A> {
         }
     }
 
-    fn draw_of_packet(&self, packet: &Incoming<'_>) -> Option<Draw>
-        ensures found { IfSome result (λ draw. (o : Result A AtpState)
-            × AtRequester packet.now.seat self.now.atp packet.now.from (content packet.now.frame) o
-            × (drawn_by o.report ≡ Some draw)) }
-        ensures only { (o : Result A AtpState)
-            → AtRequester packet.now.seat self.now.atp packet.now.from (content packet.now.frame) o
-            → (draw : Drawn) → drawn_by o.report ≡ Some draw → result ≡ Some draw }
-    {
-        match self.atp.draw_of_page(packet) {
-            Some(tid) => Some(Draw::Tid(tid)),
-            None => None,
-        }
-    }
-
     pub(crate) fn next_draw(&self) -> Option<Draw>
         ensures { result ≡ option_map (λ tid. Tid tid) (next_number self.now.atp.requester) }
     {
-        let tid = self.atp.requester.next_number(None)?;
+        let tid = self.atp.next_tid()?;
         Some(Draw::Tid(tid))
     }
 

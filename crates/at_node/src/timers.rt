@@ -7,16 +7,15 @@ ghost use Rattle.at_event.specs.declared.event.Timer.{Timer as Fired};
 ghost use Rattle.at_node.specs.Nodes.{timed};
 ghost use Rattle.at_node.specs.Timers.{Acts, Adds, lookups, release_of, releases, retries, ticks, timer_of};
 ghost use Rattle.at_node.specs.Timers.{timers_of};
+ghost use Rattle.at_transaction_socket.specs.Responders.{records_at};
 
 use crate::node::Node;
-use crate::service_socket::SERVICE_SOCKET;
-use crate::zone_socket::ZONE_SOCKET;
 use at_adsp_ends::Tick;
-use at_atp::laws::no_two_records_are_of_one_request;
-use at_atp::{Key, Requester, Responder};
+use at_atp::Key;
 use at_event::{NameTimer, StreamTimer, Timer, TransactionTimer};
 use at_name_socket::NameSocket;
 use at_stream_socket::StreamSocket;
+use at_transaction_socket::{AtpPart, SERVICE_SOCKET, ZONE_SOCKET};
 use std::alloc::{AllocError, Allocator};
 
 impl<A: Allocator + Copy> Node<A> {
@@ -48,9 +47,9 @@ impl<A: Allocator + Copy> Node<A> {
     fn list_timers(&self, timers: &mut Vec<Timer, A>) -> Result<(), AllocError>
         ensures { Adds (timers_of self.now) result timers.old timers.new }
     {
-        list_retries(&self.atp.requester, 0, timers)?;
-        list_releases(ZONE_SOCKET, &self.atp.zone_responder, 0, timers)?;
-        list_releases(SERVICE_SOCKET, &self.atp.service_responder, 0, timers)?;
+        list_retries(&self.atp, 0, timers)?;
+        list_releases(ZONE_SOCKET, &self.atp, 0, timers)?;
+        list_releases(SERVICE_SOCKET, &self.atp, 0, timers)?;
         list_lookups(&self.names.socket, 0, timers)?;
         list_ticks(&self.streams, Tick::Retransmit, 0, timers)?;
         list_ticks(&self.streams, Tick::Probe, 0, timers)
@@ -77,45 +76,44 @@ impl<A: Allocator + Copy> Node<A> {
         ensures zones { AreApart self.now.atp.zone_responder }
         ensures services { AreApart self.now.atp.service_responder }
     {
-        no_two_records_are_of_one_request(&self.atp.zone_responder);
-        no_two_records_are_of_one_request(&self.atp.service_responder);
+        self.atp.keys_differ();
     }
 }
 
 // Lists the retries of the open transactions from this place on.
 fn list_retries<A: Allocator + Copy>(
-    requester: &Requester<A>,
+    part: &AtpPart<A>,
     place: usize,
     timers: &mut Vec<Timer, A>,
 ) -> Result<(), AllocError>
-    ensures { Adds (retries (drop place requester.now.standing)) result timers.old timers.new }
+    ensures { Adds (retries (drop place part.now.requester.standing)) result timers.old timers.new }
 {
-    if place >= requester.open_count() {
+    if place >= part.open_count() {
         return Ok(());
     }
-    let tid = requester.number_at(place);
+    let tid = part.number_at(place);
     list_one(
         Some(Timer::Transactions(TransactionTimer::Retry { tid })),
         timers,
     )?;
-    list_retries(requester, place + 1, timers)
+    list_retries(part, place + 1, timers)
 }
 
 // Lists the releases of the records of a socket from this place on.
 fn list_releases<A: Allocator + Copy>(
     own: u8,
-    responder: &Responder<A>,
+    part: &AtpPart<A>,
     place: usize,
     timers: &mut Vec<Timer, A>,
 ) -> Result<(), AllocError>
-    ensures { Adds (releases own (drop place responder.now)) result timers.old timers.new }
+    ensures { Adds (releases own (drop place (records_at part.now own))) result timers.old timers.new }
 {
-    if place >= responder.record_count() {
+    if place >= part.record_count(own) {
         return Ok(());
     }
-    let key = responder.expiring_at(place);
+    let key = part.expiring_at(own, place);
     list_one(releasing(own, key), timers)?;
-    list_releases(own, responder, place + 1, timers)
+    list_releases(own, part, place + 1, timers)
 }
 
 // Lists the timers of the open lookups from this place on.

@@ -28,21 +28,27 @@ use Rattle.at_zip.specs.Tables.{Tables, table_of}
 use Rattle.at_zip.specs.Zones.{table_fault}
 use Rattle.at_zip.specs.declared.request.Which.{Which}
 use Rattle.at_zip.specs.declared.fault.ZipFault.{ZipFault}
-use Rattle.at_node.specs.AtpHearing.{AtSocket, AtpSocket, HearsAt, Requester, Service, Zones as ZoneSocket}
-use Rattle.at_node.specs.AtpParts.{AtpState, Reading, after_heard, asking as asker, asks, packet_in, serving, tid_of}
-use Rattle.at_node.specs.AtpParts.{zones_at}
+use Rattle.at_transaction_socket.specs.AtpHearing.{AtSocket, AtpSocket, HearsAt, Requester, Service}
+use Rattle.at_transaction_socket.specs.AtpHearing.{Zones as ZoneSocket}
+use Rattle.at_transaction_socket.specs.AtpParts.{AtpState, Reading, after_heard, asking as asker, asks, packet_in}
+use Rattle.at_transaction_socket.specs.AtpParts.{serving, tid_of}
+use Rattle.at_transaction_socket.specs.AtpParts.{zones_at}
 use Rattle.at_event.specs.Kinds.{Kind, Atp, Nobody, kind_of_call, kind_of_timer, reporter_of}
 use Rattle.at_node.specs.Nodes.{NodeState, called, timed, with_atp}
 use Rattle.at_event.specs.Outcomes.{Outcome, idle, over, refused_as, sent_by}
-use Rattle.at_node.specs.RequesterSocket.{AtRequester, after_retry, ask_called, asked_as, hears_other, reported_other}
-use Rattle.at_node.specs.RequesterSocket.{retry_fired}
-use Rattle.at_node.specs.Responders.{expired, release_fired, released_report, records_at}
+use Rattle.at_transaction_socket.specs.RequesterSocket.{AtRequester, after_retry, ask_called, asked_as, hears_other}
+use Rattle.at_transaction_socket.specs.RequesterSocket.{reported_other}
+use Rattle.at_transaction_socket.specs.RequesterSocket.{retry_fired}
+use Rattle.at_transaction_socket.specs.Responders.{expired, release_fired, released_report, records_at}
 use Rattle.at_event.specs.Seats.{at_socket}
-use Rattle.at_node.specs.ServiceSocket.{AtService, answer_called, answered_with, at_service, sent_by_reply}
-use Rattle.at_node.specs.ServiceSocket.{service_taken}
-use Rattle.at_node.specs.ZoneReading.{AsksOn, ReadsPage, TakesPage, after_failing, is_page, is_reading, names_read}
-use Rattle.at_node.specs.ZoneReading.{page_transaction, reading_begins, table_read, zones_called}
-use Rattle.at_node.specs.ZoneSocket.{AtZones, at_zones, page_packet, set_zones_called, table_set, zone_taken}
+use Rattle.at_transaction_socket.specs.ServiceSocket.{AtService, answer_called, answered_with, at_service}
+use Rattle.at_transaction_socket.specs.ServiceSocket.{sent_by_reply}
+use Rattle.at_transaction_socket.specs.ServiceSocket.{service_taken}
+use Rattle.at_transaction_socket.specs.ZoneReading.{AsksOn, ReadsPage, TakesPage, after_failing, is_page, is_reading}
+use Rattle.at_transaction_socket.specs.ZoneReading.{names_read}
+use Rattle.at_transaction_socket.specs.ZoneReading.{page_transaction, reading_begins, table_read, zones_called}
+use Rattle.at_transaction_socket.specs.ZoneSocket.{AtZones, at_zones, page_packet, set_zones_called, table_set}
+use Rattle.at_transaction_socket.specs.ZoneSocket.{zone_taken}
 use Rattle.at_event.specs.declared.event.Call.{Call}
 use Rattle.at_event.specs.declared.event.Call.TheVariants.{Transactions, Zones, Names, Streams, Session}
 use Rattle.at_event.specs.declared.calls.TransactionCall.TheVariants.{Ask, Answer}

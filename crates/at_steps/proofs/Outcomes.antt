@@ -22,7 +22,7 @@ use Rattle.at_event.specs.declared.timers.TransactionTimer.TheVariants as atp_ti
 use Rattle.at_event.specs.declared.timers.NameTimer.TheVariants as nbp_timer
 use Rattle.at_event.specs.declared.timers.StreamTimer.TheVariants as adsp_timer
 use Rattle.at_event.specs.declared.service.Reply.{Reply}
-use Rattle.at_node.specs.AtpHearing.{HearsAtp, atp_socket}
+use Rattle.at_transaction_socket.specs.AtpHearing.{HearsAtp, atp_socket}
 use Rattle.at_node.specs.Hearing.{Hears, HearsIt, HearsMine}
 use Rattle.at_node.specs.NameHearing.{HearsNames}
 use Rattle.at_node.specs.Nodes.{NodeState, called, over_atp, timed, with_names, with_session, with_streams}

@@ -13,7 +13,7 @@ use Rattle.at_steps.specs.Entries.{Coding, AreEntries}
 use Rattle.at_atp.specs.Network.{Sent, Drawn, Happening, AllTimely, IsTimely, after, done}
 use Rattle.at_atp.specs.Transactions.{Transaction, transaction_of}
 use Rattle.at_zip.specs.Tables.{Tables, AreTables}
-use Rattle.at_node.specs.AtpParts.{AtpState, Reading, asking, serving, zones_at}
+use Rattle.at_transaction_socket.specs.AtpParts.{AtpState, Reading, asking, serving, zones_at}
 use Rattle.at_node.specs.Numbers.{drawn_by}
 use Rattle.at_node.specs.Nodes.{NodeState}
 use Rattle.at_event.specs.Kinds.{reporter_of}

@@ -17,7 +17,7 @@ use Rattle.at_atp.specs.Transactions.{answered}
 use Rattle.at_zip.specs.Request.{RequestSpells}
 use Rattle.at_zip.specs.Tables.{Tables, table_of}
 use Rattle.at_zip.specs.declared.request.Which.{Which}
-use Rattle.at_node.specs.AtpParts.{asking}
+use Rattle.at_transaction_socket.specs.AtpParts.{asking}
 use Rattle.at_event.specs.declared.event.Call.TheVariants.{Transactions, Zones}
 use Rattle.at_event.specs.declared.calls.TransactionCall.TheVariants.{Ask, Answer}
 use Rattle.at_event.specs.declared.calls.ZoneCall.TheVariants as zone

@@ -14,8 +14,8 @@ use Rattle.at_zip.specs.Zones.{IsTable}
 use Rattle.at_zip.specs.Tables.{Tables, table_of, with_table}
 use Rattle.at_zip.specs.declared.request.Which.{Which}
 use Rattle.at_zip.specs.declared.fault.ZipFault.{ZipFault}
-use Rattle.at_node.specs.AtpParts.{AtpState, Reading, asking, serving, zones_at}
-use Rattle.at_node.specs.ZoneSocket.{page_packet}
+use Rattle.at_transaction_socket.specs.AtpParts.{AtpState, Reading, asking, serving, zones_at}
+use Rattle.at_transaction_socket.specs.ZoneSocket.{page_packet}
 use Rattle.at_event.specs.declared.event.Call.TheVariants.{Transactions, Zones}
 use Rattle.at_event.specs.declared.calls.TransactionCall.TheVariants.{Ask, Answer}
 use Rattle.at_event.specs.declared.calls.ZoneCall.TheVariants as zone

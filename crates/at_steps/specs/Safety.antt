@@ -25,7 +25,7 @@ use Rattle.at_event.specs.declared.report.Report.TheVariants as report
 use Rattle.at_event.specs.declared.reports.ZoneReport.TheVariants as zip_report
 use Rattle.at_event.specs.declared.fault.NodeFault.{NodeFault}
 use Rattle.at_node.specs.Nodes.{NodeState}
-use Rattle.at_node.specs.Responders.{records_at}
+use Rattle.at_transaction_socket.specs.Responders.{records_at}
 
 -- why an event of a node is refused, or a reading of the zone list ends: a fault of one of the crates
 pub data Reason : Type 0 where

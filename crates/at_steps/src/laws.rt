@@ -7,7 +7,7 @@ ghost use Rattle.at_atp_frame.specs.Frames.{spelled};
 ghost use Rattle.at_ddp.specs.Posts.{packet_at};
 ghost use Rattle.at_ddp.specs.Protocols.{atp_kind};
 ghost use Rattle.at_atp.specs.Network.{Happening, NoneHolds, Sent, is_fresh, after};
-ghost use Rattle.at_node.specs.AtpParts.{asking};
+ghost use Rattle.at_transaction_socket.specs.AtpParts.{asking};
 ghost use Rattle.at_event.specs.Calls.{IsCall};
 ghost use Rattle.at_node.specs.Numbers.{drawn_by, holds};
 ghost use Rattle.at_node.specs.Hearing.{Hears};

@@ -5,7 +5,7 @@ use Rattle.std.specs.Prelude.{◌==◌, ◌&&◌, min, not, take, drop}
 use Rattle.std.specs.Result.{ForOk}
 use Rattle.std.proofs.lemmas.List.{append-nil, drop_min, take_min}
 use Rattle.at_ddp.specs.Datagrams.{Posted}
-use Rattle.at_ddp.specs.Outbox.{Outbox, Sends, finished}
+use Rattle.at_ddp.specs.Outbox.{Outbox, Sends}
 use Rattle.at_ddp.specs.declared.address.Address.{Address}
 use Rattle.at_ddp.specs.Protocols.{adsp_kind}
 use Rattle.at_adsp_end.specs.Calls.{is_idle, is_last, probed, ticked}
@@ -27,15 +27,11 @@ use Rattle.at_adsp_ends.specs.Tables.{Done, EndTable, freed, moved}
 use Rattle.at_event.specs.Outcomes.{IsStep, idle, posted, refused_as, sent_by, takes_memory, wants_memory}
 use Rattle.at_event.specs.declared.report.Report.{Report}
 use Rattle.at_event.specs.declared.seat.Seat.{Seat}
+use Rattle.at_event.proofs.PostLemmas.{posts as posts_from}
 use Rattle.at_stream_socket.specs.Calls.{called}
 use Rattle.at_stream_socket.specs.Sockets.{streams_at, told_by, told_read}
 
 -- ---- what is sent
-
-pushed_posted : (from : Address) (kind : ℕ) (pushes : List (Address × List ℕ)) → map (finished from kind) pushes
-    ≡ map posted (sent_by from kind pushes)
-pushed_posted from kind [] = refl
-pushed_posted from kind (p ∷ ps) = ap (λ l. finished from kind p ∷ l) (pushed_posted from kind ps)
 
 -- an outbox of the socket for streams over a list, and the list that it gave back
 pub record IsBox (s : Seat) (box boxed : Outbox) (before after : List Posted) : Type 0 where
@@ -48,8 +44,7 @@ pub posts : (s : Seat) (box boxed : Outbox) (before after : List Posted) (pushes
     → IsBox s box boxed before after → Sends box boxed pushes → after
     ≡ before ++ map posted (sent_by (streams_at s.net s.number) adsp_kind pushes)
 posts s box boxed before after pushes b sends =
-    b.back ∙ sends.items ∙ (λ i. b.items i ++ map (finished (b.from i) (b.kind i)) pushes)
-    ∙ ap (λ l. before ++ l) (pushed_posted (streams_at s.net s.number) adsp_kind pushes)
+    posts_from box boxed pushes before after (streams_at s.net s.number) adsp_kind sends b.items b.from b.kind b.back
 
 pub nothing_posted : (s : Seat) (box boxed : Outbox) (before after : List Posted) → IsBox s box boxed before after
     → Sends box boxed [] → after ≡ before

@@ -11,7 +11,7 @@ use Rattle.at_event.specs.declared.report.Report.{Report}
 use Rattle.at_event.specs.declared.report.Report.TheVariants as report
 use Rattle.at_event.specs.declared.reports.ZoneReport.TheVariants as zip_report
 use Rattle.at_ddp.specs.declared.address.Address.{Address}
-use Rattle.at_node.specs.AtpParts.{zones_at}
+use Rattle.at_transaction_socket.specs.AtpParts.{zones_at}
 use Rattle.at_node.specs.Nodes.{NodeState}
 use Rattle.at_setup.specs.declared.event.Event.{Event}
 use Rattle.at_setup.specs.declared.event.Event.TheVariants as event

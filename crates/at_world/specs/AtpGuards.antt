@@ -9,7 +9,7 @@ use Rattle.at_zip.specs.Reading.{BeginsTable}
 use Rattle.at_zip.specs.Tables.{Tables, table_of, with_table}
 use Rattle.at_zip.specs.Zones.{IsTable}
 use Rattle.at_zip.specs.declared.request.Which.{Which}
-use Rattle.at_node.specs.AtpParts.{asking, serving, zones_at}
+use Rattle.at_transaction_socket.specs.AtpParts.{asking, serving, zones_at}
 use Rattle.at_event.specs.Kinds.{Kind, Atp}
 use Rattle.at_event.specs.declared.event.Call.TheVariants.{Transactions, Zones}
 use Rattle.at_event.specs.declared.calls.TransactionCall.TheVariants.{Ask, Answer}

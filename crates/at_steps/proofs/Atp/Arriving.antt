@@ -11,20 +11,20 @@ use Rattle.at_ddp.specs.Posts.{packet_at}
 use Rattle.at_ddp.proofs.PostLemmas.{sent_at}
 use Rattle.at_ddp.specs.Protocols.{atp_kind}
 use Rattle.at_atp.specs.Network.{Sent, Happening, NoneHolds, is_fresh, after}
-use Rattle.at_node.specs.AtpHearing.{AtSocket, Requester, Service, Zones, atp_socket}
-use Rattle.at_node.specs.AtpParts.{AtpState, asking}
+use Rattle.at_transaction_socket.specs.AtpHearing.{AtSocket, Requester, Service, Zones, atp_socket}
+use Rattle.at_transaction_socket.specs.AtpParts.{AtpState, asking}
 use Rattle.at_node.specs.Numbers.{drawn_by}
 use Rattle.at_node.specs.Hearing.{Hears, HearsSent}
 use Rattle.at_event.specs.Seats.{at_socket, is_mine}
 use Rattle.at_node.specs.Nodes.{over_atp, with_atp, NodeState}
 use Rattle.at_session.specs.Sessions.{list_kept}
 use Rattle.at_event.specs.Outcomes.{Through, over, Outcome, idle}
-use Rattle.at_node.specs.RequesterSocket.{AtRequester}
+use Rattle.at_transaction_socket.specs.RequesterSocket.{AtRequester}
 use Rattle.at_event.specs.Services.{is_asked}
-use Rattle.at_node.specs.ServiceSocket.{AtService}
+use Rattle.at_transaction_socket.specs.ServiceSocket.{AtService}
 use Rattle.at_zip.specs.Tables.{Tables}
-use Rattle.at_node.specs.ZoneSocket.{AtZones}
-use Rattle.at_node.specs.ZoneReading.{is_reading}
+use Rattle.at_transaction_socket.specs.ZoneSocket.{AtZones}
+use Rattle.at_transaction_socket.specs.ZoneReading.{is_reading}
 use Rattle.at_node.specs.declared.numbers.Draw.TheVariants.{Tid}
 use Rattle.at_event.specs.declared.report.Report.TheVariants as report
 use Rattle.at_event.specs.declared.service.Reply.{Reply}

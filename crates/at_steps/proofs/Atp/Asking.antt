@@ -22,13 +22,13 @@ use Rattle.at_zip.specs.declared.request.Which.TheVariants.{All, Local}
 use Rattle.at_zip.specs.declared.fault.ZipFault.{ZipFault}
 use Rattle.at_event.specs.Calls.{IsCall}
 use Rattle.at_node.specs.Numbers.{drawn_by}
-use Rattle.at_node.specs.AtpParts.{Reading, asking, zones_at}
+use Rattle.at_transaction_socket.specs.AtpParts.{Reading, asking, zones_at}
 use Rattle.at_node.specs.Nodes.{with_atp, NodeState}
 use Rattle.at_event.specs.Outcomes.{over, idle, refused_as}
-use Rattle.at_node.specs.RequesterSocket.{asked_as}
+use Rattle.at_transaction_socket.specs.RequesterSocket.{asked_as}
 use Rattle.at_event.specs.Seats.{at_socket}
-use Rattle.at_node.specs.ZoneReading.{reading_begins, zones_called, page_transaction}
-use Rattle.at_node.specs.ZoneSocket.{set_zones_called, table_set}
+use Rattle.at_transaction_socket.specs.ZoneReading.{reading_begins, zones_called, page_transaction}
+use Rattle.at_transaction_socket.specs.ZoneSocket.{set_zones_called, table_set}
 use Rattle.at_node.specs.declared.numbers.Draw.TheVariants.{Tid}
 use Rattle.at_event.specs.declared.event.Call.TheVariants.{Transactions, Zones}
 use Rattle.at_event.specs.declared.calls.TransactionCall.TheVariants.{Ask}

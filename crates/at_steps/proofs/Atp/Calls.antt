@@ -18,11 +18,11 @@ use Rattle.at_ddp.specs.Posts.{put, stamped}
 use Rattle.at_atp.specs.Network.{Network, Happening, after, done}
 use Rattle.at_atp.specs.Transactions.{Asked}
 use Rattle.at_event.specs.Calls.{IsCall}
-use Rattle.at_node.specs.AtpParts.{serving}
+use Rattle.at_transaction_socket.specs.AtpParts.{serving}
 use Rattle.at_event.specs.Kinds.{kind_of_call}
 use Rattle.at_node.specs.Nodes.{with_atp, NodeState, called}
 use Rattle.at_event.specs.Outcomes.{over, idle, refused_as}
-use Rattle.at_node.specs.ServiceSocket.{answered_with}
+use Rattle.at_transaction_socket.specs.ServiceSocket.{answered_with}
 use Rattle.at_event.specs.declared.event.Call.{Call}
 use Rattle.at_event.specs.declared.event.Call.TheVariants.{Transactions, Zones, Names, Streams, Session}
 use Rattle.at_event.specs.declared.calls.TransactionCall.TheVariants.{Ask, Answer}

@@ -20,14 +20,15 @@ use Rattle.at_atp.specs.Transactions.{Transaction, transaction_of, Asked, IsPart
 use Rattle.at_zip.specs.Page.{Page, Spells}
 use Rattle.at_zip.specs.Reading.{place_after}
 use Rattle.at_zip.specs.Request.{request_user}
-use Rattle.at_node.specs.AtpParts.{AtpState, Reading, asking, after_heard}
-use Rattle.at_node.specs.AtpParts.{asks as asks_page}
+use Rattle.at_transaction_socket.specs.AtpParts.{AtpState, Reading, asking, after_heard}
+use Rattle.at_transaction_socket.specs.AtpParts.{asks as asks_page}
 use Rattle.at_node.specs.Numbers.{drawn_by}
 use Rattle.at_node.specs.Nodes.{with_atp, NodeState}
 use Rattle.at_event.specs.Outcomes.{over, Outcome}
-use Rattle.at_node.specs.RequesterSocket.{AtRequester, reported_other}
-use Rattle.at_node.specs.ZoneReading.{AsksOn, ReadsPage, is_page, is_reading, names_read, page_transaction}
-use Rattle.at_node.specs.ZoneReading.{table_read}
+use Rattle.at_transaction_socket.specs.RequesterSocket.{AtRequester, reported_other}
+use Rattle.at_transaction_socket.specs.ZoneReading.{AsksOn, ReadsPage, is_page, is_reading, names_read}
+use Rattle.at_transaction_socket.specs.ZoneReading.{page_transaction}
+use Rattle.at_transaction_socket.specs.ZoneReading.{table_read}
 use Rattle.at_node.specs.declared.numbers.Draw.TheVariants.{Tid}
 use Rattle.at_event.specs.declared.report.Report.{Report}
 use Rattle.at_event.specs.declared.report.Report.TheVariants as report

@@ -7,7 +7,7 @@ use Rattle.at_ddp.specs.Address.{same_address}
 use Rattle.at_ddp.specs.declared.address.Address.{Address}
 use Rattle.at_ddp.proofs.Octets.{same_address-true}
 use Rattle.at_atp_responder.specs.Records.{Record, is_key, is_from}
-use Rattle.at_node.specs.AtpParts.{asking}
+use Rattle.at_transaction_socket.specs.AtpParts.{asking}
 use Rattle.at_node.specs.Numbers.{holds}
 use Rattle.at_node.specs.Nodes.{NodeState}
 use Rattle.at_node.specs.declared.numbers.Draw.TheVariants.{Tid}

@@ -23,7 +23,7 @@ use Rattle.at_atp.specs.Network.{Network, Sent, Happening, Begins, Turns, Other,
 use Rattle.at_atp.specs.Network.{number_after, after, done, with_requester, with_responder, new_transaction, IsTimely}
 use Rattle.at_atp.specs.Transactions.{Transaction, is_transaction, answered}
 use Rattle.at_zip.specs.Tables.{Tables, AreTables}
-use Rattle.at_node.specs.AtpParts.{AtpState, Reading, asking, serving, zones_at}
+use Rattle.at_transaction_socket.specs.AtpParts.{AtpState, Reading, asking, serving, zones_at}
 use Rattle.at_node.specs.Numbers.{drawn_by}
 use Rattle.at_node.specs.Nodes.{NodeState, with_atp}
 use Rattle.at_event.specs.Kinds.{reporter_of}

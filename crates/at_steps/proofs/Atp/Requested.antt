@@ -11,13 +11,14 @@ use Rattle.at_atp.specs.Network as network
 use Rattle.at_ddp.specs.Posts.{packet_at}
 use Rattle.at_atp.specs.Network.{Sent, Happening, Takes, after, done, with_responder, is_fresh}
 use Rattle.at_atp.specs.Transactions.{Asked, transaction_of}
-use Rattle.at_node.specs.AtpParts.{AtpState, serving}
+use Rattle.at_transaction_socket.specs.AtpParts.{AtpState, serving}
 use Rattle.at_node.specs.Numbers.{drawn_by}
 use Rattle.at_node.specs.Nodes.{with_atp, NodeState}
 use Rattle.at_event.specs.Outcomes.{over, Outcome, idle}
-use Rattle.at_node.specs.Responders.{released_report}
+use Rattle.at_transaction_socket.specs.Responders.{released_report}
 use Rattle.at_event.specs.Services.{is_asked}
-use Rattle.at_node.specs.ServiceSocket.{service_taken, handed_up, at_service, service_asked, service_released}
+use Rattle.at_transaction_socket.specs.ServiceSocket.{service_taken, handed_up, at_service, service_asked}
+use Rattle.at_transaction_socket.specs.ServiceSocket.{service_released}
 use Rattle.at_event.specs.declared.report.Report.{Report}
 use Rattle.at_event.specs.declared.report.Report.TheVariants as report
 use Rattle.at_event.specs.declared.reports.TransactionReport.TheVariants as atp_report

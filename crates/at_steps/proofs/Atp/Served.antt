@@ -22,12 +22,13 @@ use Rattle.at_zip.specs.Page.{page_of, page_data}
 use Rattle.at_zip.specs.Request.{RequestSpells}
 use Rattle.at_zip.specs.Tables.{Tables, table_of}
 use Rattle.at_zip.specs.declared.request.Which.{Which}
-use Rattle.at_node.specs.AtpParts.{AtpState, zones_at}
+use Rattle.at_transaction_socket.specs.AtpParts.{AtpState, zones_at}
 use Rattle.at_node.specs.Numbers.{drawn_by}
 use Rattle.at_node.specs.Nodes.{with_atp, NodeState}
 use Rattle.at_event.specs.Outcomes.{over, Outcome, idle}
-use Rattle.at_node.specs.Responders.{released_report}
-use Rattle.at_node.specs.ZoneSocket.{page_packet, zone_served, zone_taken, at_zones, zone_asked, zone_released}
+use Rattle.at_transaction_socket.specs.Responders.{released_report}
+use Rattle.at_transaction_socket.specs.ZoneSocket.{page_packet, zone_served, zone_taken, at_zones, zone_asked}
+use Rattle.at_transaction_socket.specs.ZoneSocket.{zone_released}
 use Rattle.at_event.specs.declared.report.Report.{Report}
 use Rattle.at_event.specs.declared.report.Report.TheVariants as report
 use Rattle.at_event.specs.declared.reports.TransactionReport.TheVariants as atp_report

@@ -17,14 +17,14 @@ use Rattle.at_atp_responder.specs.declared.reception.Key.{Key}
 use Rattle.at_atp.specs.Network as network
 use Rattle.at_ddp.specs.Posts.{put}
 use Rattle.at_atp.specs.Network.{Happening, Expires, Retries, after, done, with_requester, with_responder}
-use Rattle.at_node.specs.AtpParts.{AtpState, Reading, serving, zones_at, asking}
+use Rattle.at_transaction_socket.specs.AtpParts.{AtpState, Reading, serving, zones_at, asking}
 use Rattle.at_event.specs.Kinds.{kind_of_timer}
 use Rattle.at_node.specs.Nodes.{with_atp, NodeState, timed}
 use Rattle.at_event.specs.Outcomes.{over, Outcome, idle, refused_as}
-use Rattle.at_node.specs.RequesterSocket.{after_retry, retry_fired}
-use Rattle.at_node.specs.Responders.{records_at}
+use Rattle.at_transaction_socket.specs.RequesterSocket.{after_retry, retry_fired}
+use Rattle.at_transaction_socket.specs.Responders.{records_at}
 use Rattle.at_event.specs.Seats.{at_socket}
-use Rattle.at_node.specs.ZoneReading.{is_reading, after_failing}
+use Rattle.at_transaction_socket.specs.ZoneReading.{is_reading, after_failing}
 use Rattle.at_event.specs.declared.report.Report.TheVariants as report
 use Rattle.at_event.specs.declared.reports.TransactionReport.TheVariants as atp_report
 use Rattle.at_event.specs.declared.reports.ZoneReport.TheVariants as zip_report

@@ -23,8 +23,8 @@ use Rattle.at_event.specs.declared.timers.NameTimer.TheVariants as nbp_timer
 use Rattle.at_event.specs.declared.timers.StreamTimer.TheVariants as adsp_timer
 use Rattle.at_event.specs.declared.fault.NodeFault.TheVariants as nodes
 use Rattle.at_event.specs.declared.service.Reply.{Reply}
-use Rattle.at_node.specs.AtpHearing.{HearsAtp}
-use Rattle.at_node.specs.AtpParts.{AtpState}
+use Rattle.at_transaction_socket.specs.AtpHearing.{HearsAtp}
+use Rattle.at_transaction_socket.specs.AtpParts.{AtpState}
 use Rattle.at_node.specs.Hearing.{Hears, HearsIt, HearsMine}
 use Rattle.at_node.specs.Limits.{IsWithin}
 use Rattle.at_node.specs.NameCalls.{claim_called, find_called, finish_called, lookup_fired, register_called}
@@ -32,13 +32,13 @@ use Rattle.at_node.specs.NameCalls.{unregister_called}
 use Rattle.at_node.specs.NameHearing.{HearsNames}
 use Rattle.at_node.specs.Nodes.{NodeState, called, over_atp, over_finish, timed, with_atp, with_names, with_session}
 use Rattle.at_node.specs.Nodes.{with_streams}
-use Rattle.at_node.specs.RequesterSocket.{ask_called, retry_fired}
+use Rattle.at_transaction_socket.specs.RequesterSocket.{ask_called, retry_fired}
 use Rattle.at_atp_requester.specs.Requests.{retried}
-use Rattle.at_node.specs.Responders.{release_fired}
-use Rattle.at_node.specs.ServiceSocket.{answer_called}
+use Rattle.at_transaction_socket.specs.Responders.{release_fired}
+use Rattle.at_transaction_socket.specs.ServiceSocket.{answer_called}
 use Rattle.at_node.specs.SessionCalls.{open_called, pick_called, picked_as}
-use Rattle.at_node.specs.ZoneReading.{zones_called}
-use Rattle.at_node.specs.ZoneSocket.{set_zones_called}
+use Rattle.at_transaction_socket.specs.ZoneReading.{zones_called}
+use Rattle.at_transaction_socket.specs.ZoneSocket.{set_zones_called}
 use Rattle.at_name_socket.specs.NameSockets.{SocketState}
 use Rattle.at_adsp_ends.specs.Tables.{EndTable}
 use Rattle.at_session.specs.Sessions.{address_at, is_listed, pattern_asked}

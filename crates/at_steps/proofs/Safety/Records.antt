@@ -18,13 +18,13 @@ use Rattle.at_zip.specs.Zones.{table_fault}
 use Rattle.at_zip.specs.declared.fault.ZipFault.{ZipFault}
 use Rattle.at_event.specs.Outcomes.{Outcome}
 use Rattle.at_event.specs.declared.fault.NodeFault.TheVariants as nodes
-use Rattle.at_node.specs.AtpParts.{AtpState, serving}
+use Rattle.at_transaction_socket.specs.AtpParts.{AtpState, serving}
 use Rattle.at_node.specs.Nodes.{NodeState}
-use Rattle.at_node.specs.Responders.{expired, records_at, release_fired}
-use Rattle.at_node.specs.ServiceSocket.{answered_with}
+use Rattle.at_transaction_socket.specs.Responders.{expired, records_at, release_fired}
+use Rattle.at_transaction_socket.specs.ServiceSocket.{answered_with}
 use Rattle.at_zip.specs.Tables.{Tables}
 use Rattle.at_zip.specs.declared.request.Which.{Which}
-use Rattle.at_node.specs.ZoneSocket.{set_zones_called, table_set}
+use Rattle.at_transaction_socket.specs.ZoneSocket.{set_zones_called, table_set}
 use Rattle.at_steps.specs.Safety.{IsSafe, IsTrueOf, OfNodes, OfTransactions, OfZones, Place}
 use Rattle.at_steps.proofs.Safety.By.{packets_few, quiet, refused}
 

@@ -24,13 +24,15 @@ use Rattle.at_event.specs.declared.report.Report.{Report}
 use Rattle.at_event.specs.declared.report.Report.TheVariants as report
 use Rattle.at_event.specs.declared.reports.ZoneReport.TheVariants as zip_report
 use Rattle.at_event.specs.declared.fault.NodeFault.TheVariants as nodes
-use Rattle.at_node.specs.AtpParts.{AtpState, Reading, after_heard, asking as asking_at, asks, packet_in}
-use Rattle.at_node.specs.AtpParts.{tid_of}
+use Rattle.at_transaction_socket.specs.AtpParts.{AtpState, Reading, after_heard, asking as asking_at, asks, packet_in}
+use Rattle.at_transaction_socket.specs.AtpParts.{tid_of}
 use Rattle.at_node.specs.Nodes.{NodeState}
-use Rattle.at_node.specs.RequesterSocket.{AtRequester, after_retry, asked_as, hears_other, reported_other, retry_fired}
-use Rattle.at_node.specs.ZoneReading.{AsksOn, ReadsPage, TakesPage, after_failing, is_page, is_reading, names_read}
+use Rattle.at_transaction_socket.specs.RequesterSocket.{AtRequester, after_retry, asked_as, hears_other, reported_other}
+use Rattle.at_transaction_socket.specs.RequesterSocket.{retry_fired}
+use Rattle.at_transaction_socket.specs.ZoneReading.{AsksOn, ReadsPage, TakesPage, after_failing, is_page, is_reading}
+use Rattle.at_transaction_socket.specs.ZoneReading.{names_read}
 use Rattle.at_zip.specs.declared.request.Which.{Which}
-use Rattle.at_node.specs.ZoneReading.{page_transaction, reading_begins, table_read, zones_called}
+use Rattle.at_transaction_socket.specs.ZoneReading.{page_transaction, reading_begins, table_read, zones_called}
 use Rattle.at_steps.specs.Safety.{Asking, IsPlaceOfCall, IsSafe, OfNodes, OfTransactions, Place, number_told}
 use Rattle.at_steps.proofs.Safety.By.{by, packets_few, page_faulted, quiet, refused}
 

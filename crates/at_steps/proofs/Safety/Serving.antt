@@ -22,15 +22,16 @@ use Rattle.at_event.specs.declared.report.Report.TheVariants as report
 use Rattle.at_event.specs.declared.reports.TransactionReport.TheVariants as atp_report
 use Rattle.at_event.specs.declared.service.Reply.{Reply}
 use Rattle.at_event.specs.declared.service.Reply.TheVariants as reply
-use Rattle.at_node.specs.AtpHearing.{AtSocket, AtpSocket, HearsAt, HearsAtp, Requester, Service, Zones as ZoneSocket}
-use Rattle.at_node.specs.AtpHearing.{atp_socket}
-use Rattle.at_node.specs.AtpParts.{AtpState, serving, zones_at}
+use Rattle.at_transaction_socket.specs.AtpHearing.{AtSocket, AtpSocket, HearsAt, HearsAtp, Requester, Service}
+use Rattle.at_transaction_socket.specs.AtpHearing.{Zones as ZoneSocket}
+use Rattle.at_transaction_socket.specs.AtpHearing.{atp_socket}
+use Rattle.at_transaction_socket.specs.AtpParts.{AtpState, serving, zones_at}
 use Rattle.at_node.specs.Nodes.{NodeState}
-use Rattle.at_node.specs.Responders.{records_at, released_report}
-use Rattle.at_node.specs.ServiceSocket.{AtService, at_service, handed_up, sent_by_reply, service_taken}
+use Rattle.at_transaction_socket.specs.Responders.{records_at, released_report}
+use Rattle.at_transaction_socket.specs.ServiceSocket.{AtService, at_service, handed_up, sent_by_reply, service_taken}
 use Rattle.at_zip.specs.Tables.{Tables, table_of}
-use Rattle.at_node.specs.ZoneSocket.{AtZones, at_zones, page_packet, zone_served}
-use Rattle.at_node.specs.ZoneSocket.{zone_taken}
+use Rattle.at_transaction_socket.specs.ZoneSocket.{AtZones, at_zones, page_packet, zone_served}
+use Rattle.at_transaction_socket.specs.ZoneSocket.{zone_taken}
 use Rattle.at_steps.specs.Safety.{IsSafe, IsTrueOf, OfTransactions, Place, Records, number_told}
 use Rattle.at_steps.proofs.Safety.By.{by, faulted, packets_few, quiet, refused}
 use Rattle.at_steps.proofs.Safety.Records.{RecordLaws}

@@ -8,7 +8,7 @@ use Rattle.at_ddp.specs.declared.address.Address.{Address}
 use Rattle.at_atp_requester.specs.Requests.{no_requests}
 use Rattle.at_zip.specs.Tables.{Tables, AreTables}
 use Rattle.at_zip.specs.declared.request.Which.TheVariants.{All, Local}
-use Rattle.at_node.specs.AtpParts.{Reading}
+use Rattle.at_transaction_socket.specs.AtpParts.{Reading}
 use Rattle.at_node.specs.Nodes.{NodeState, opening}
 use Rattle.at_setup.specs.declared.setup.NodeSetup.{NodeSetup}
 use Rattle.at_setup.specs.declared.setup.Setup.{Setup}

@@ -7,7 +7,7 @@ use Rattle.at_ddp.specs.Posts.{put}
 use Rattle.at_atp_responder.specs.Records.{Record}
 use Rattle.at_atp_requester.specs.Requests.{Requests, no_requests}
 use Rattle.at_ddp.specs.Tables.{replaced}
-use Rattle.at_node.specs.AtpParts.{asking, serving, zones_at}
+use Rattle.at_transaction_socket.specs.AtpParts.{asking, serving, zones_at}
 use Rattle.at_node.specs.Nodes.{NodeState}
 use Rattle.at_nodes.specs.Nodes.{is_numbered}
 use Rattle.at_world.proofs.Nodes.{at_after}

@@ -9,7 +9,7 @@ use Rattle.std.proofs.lemmas.List.{length-append}
 use Rattle.at_zip.specs.Reading.{BeginsTable}
 use Rattle.at_zip.specs.Tables.{table_of}
 use Rattle.at_zip.specs.declared.request.Which.{Which}
-use Rattle.at_node.specs.AtpParts.{Reading as ZoneReading, asking, zones_at}
+use Rattle.at_transaction_socket.specs.AtpParts.{Reading as ZoneReading, asking, zones_at}
 use Rattle.at_node.specs.Nodes.{NodeState}
 use Rattle.at_event.specs.declared.event.Call.TheVariants.{Zones}
 use Rattle.at_event.specs.declared.calls.ZoneCall.TheVariants as zone

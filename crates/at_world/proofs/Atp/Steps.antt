@@ -8,7 +8,7 @@ use Rattle.at_atp.specs.Transactions as atp
 use Rattle.at_zip.specs.Request.{RequestSpells}
 use Rattle.at_zip.specs.Tables.{Tables, AreTables, table_of, with_table}
 use Rattle.at_zip.specs.declared.request.Which.{Which}
-use Rattle.at_node.specs.AtpParts.{AtpState, asking, serving, zones_at}
+use Rattle.at_transaction_socket.specs.AtpParts.{AtpState, asking, serving, zones_at}
 use Rattle.at_node.specs.Nodes.{NodeState}
 use Rattle.at_event.specs.Kinds.{reporter_of}
 use Rattle.at_event.specs.declared.event.Call.TheVariants.{Transactions, Zones}

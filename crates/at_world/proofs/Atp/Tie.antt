@@ -17,7 +17,7 @@ use Rattle.at_atp.specs.Transactions as atp
 use Rattle.at_zip.specs.Tables.{Tables, AreTables, table_of}
 use Rattle.at_event.specs.Calls.{IsCall}
 use Rattle.at_node.specs.Numbers.{Carries, drawn_by, holds}
-use Rattle.at_node.specs.AtpParts.{Reading as ZoneReading, asking, serving, zones_at}
+use Rattle.at_transaction_socket.specs.AtpParts.{Reading as ZoneReading, asking, serving, zones_at}
 use Rattle.at_node.specs.Hearing.{Hears}
 use Rattle.at_event.specs.Kinds.{kind_of_call, kind_of_timer, reporter_of}
 use Rattle.at_node.specs.Nodes.{NodeState, called, timed}

@@ -11,7 +11,7 @@ use Rattle.at_atp.specs.Network as network
 use Rattle.at_atp.specs.Network.{Drawn, NoneHolds}
 use Rattle.at_atp_responder.specs.Records.{Record}
 use Rattle.at_node.specs.Numbers.{holds}
-use Rattle.at_node.specs.AtpParts.{asking}
+use Rattle.at_transaction_socket.specs.AtpParts.{asking}
 use Rattle.at_node.specs.Nodes.{NodeState}
 use Rattle.at_node.specs.declared.numbers.Draw.{Draw}
 use Rattle.at_node.specs.declared.numbers.Draw.TheVariants.{Conn, Lookup, Tid}

@@ -1,4 +1,5 @@
 use Rattle.at_node.proofs.CallDraws.{call_draws, timer_draws}
+use Rattle.at_node.proofs.DrawLemmas.{BeginningLaw}
 use Rattle.at_node.proofs.ToldLemmas.{draws_tells, tells_draws}
 use Rattle.at_node.proofs.laws.what_is_drawn_is_told.Goals as goal
 
@@ -11,4 +12,6 @@ returns-clause-timer g c n time = timer_draws g.row.A.Denot n time
 pub returns-clause-bytes : goal.returns-clause-bytes
 returns-clause-bytes g c n bytes draw =
     let making = c.requests_alone_make_ends.ensures in
-    (tells_draws g.row.A.Denot making n bytes draw, draws_tells g.row.A.Denot making n bytes draw)
+    let law = c.pages_alone_begin_transactions.ensures in
+    let beginning : BeginningLaw g.row.A.Denot = record { begins = law.begins; only = law.only; own = law.own } in
+    (tells_draws g.row.A.Denot making beginning n bytes draw, draws_tells g.row.A.Denot making beginning n bytes draw)

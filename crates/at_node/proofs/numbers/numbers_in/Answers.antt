@@ -4,7 +4,7 @@ use Rattle.at_ddp.specs.Protocols.{adsp_kind, atp_kind, nbp_kind}
 use Rattle.at_node.specs.Numbers.{CarriesLookup, CarriesNumber, CarriesTid}
 use Rattle.at_node.proofs.BodyLemmas.{adsp_of, atp_of, nbp_of, other_kind, other_of}
 use Rattle.at_node.proofs.NumberLemmas.{conn_of, is_first, is_nowhere}
-use Rattle.at_node.proofs.OutcomeLemmas.{when_some}
+use Rattle.at_event.proofs.OutcomeLemmas.{when_some}
 use Rattle.at_node.proofs.numbers.numbers_in.Goals as goal
 
 pub returns-in-Atp : goal.returns-in-Atp

@@ -7,7 +7,7 @@ use Rattle.at_name_socket.specs.NameSockets.{SocketState}
 use Rattle.at_node.specs.NameHearing.{HearsNames, told_by}
 use Rattle.at_event.specs.Outcomes.{Comes}
 use Rattle.at_node.proofs.NameLemmas.{HearsData, fault_comes, heard_comes}
-use Rattle.at_node.proofs.OutcomeLemmas.{comes_ignored}
+use Rattle.at_event.proofs.OutcomeLemmas.{comes_ignored}
 use Rattle.at_node.proofs.name_part.NamePart.hear.Goals as goal
 use Rattle.at_node.proofs.name_part.NamePart.hear.Goals.{in-Ok, in-Err}
 

@@ -5,7 +5,7 @@ use Rattle.at_event.specs.Outcomes.{IsStep}
 use Rattle.at_event.specs.declared.event.Call.{Call}
 use Rattle.at_event.specs.declared.event.Call.TheVariants.{Names}
 use Rattle.at_event.specs.declared.calls.NameCall.TheVariants.{Register, Unregister}
-use Rattle.at_node.proofs.OutcomeLemmas.{step_over}
+use Rattle.at_event.proofs.OutcomeLemmas.{step_over}
 use Rattle.at_node.proofs.node.Node.call_names.Goals as goal
 
 pub returns-in-Register : goal.returns-in-Register

@@ -1,10 +1,22 @@
-use Rattle.std.proofs.Common.{inl, inr, refl, ◌∙◌}
+use Rattle.std.proofs.Common.{◌≡◌, ℕ, List, Some, inl, inr, refl, ◌∙◌}
+use Rattle.at_ddp.specs.Fault as ddp
+use Rattle.at_ddp.specs.declared.fault.DdpFault.{DdpFault}
+use Rattle.at_ddp.specs.declared.fault.DdpFault.TheVariants as ddps
 use Rattle.at_packet.specs.Bodies.{datagram_of}
 use Rattle.at_node.specs.Hearing.{Hears, HearsIt}
 use Rattle.at_event.specs.declared.service.Reply.TheVariants.{Later}
-use Rattle.at_node.proofs.OutcomeLemmas.{ddp_number, comes_refused, comes_wider}
-use Rattle.at_node.proofs.ResponderLemmas.{not_served}
+use Rattle.at_event.proofs.OutcomeLemmas.{comes_refused, comes_wider}
+use Rattle.at_event.proofs.ServedLemmas.{not_served}
 use Rattle.at_node.proofs.node.Node.hear.Goals as goal
+
+-- each fault that stands has a number
+ddp_number : (f : DdpFault) (input : List ℕ) → ddp.IsFirstFault f input → (n : ℕ) × (ddp.number_of f ≡ Some n)
+ddp_number ddps.Short input h = (1, refl)
+ddp_number ddps.BadLength input h = (2, refl)
+ddp_number ddps.Truncated input h = (3, refl)
+ddp_number ddps.BadSum input h = (4, refl)
+ddp_number ddps.TooLong input h = (5, refl)
+ddp_number ddps.NoMemory input h = absurd h.stands
 
 pub returns-in-Err : goal.returns-in-Err
 returns-in-Err g c =

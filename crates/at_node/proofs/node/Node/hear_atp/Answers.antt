@@ -1,6 +1,6 @@
 use Rattle.std.proofs.Common.{subst}
 use Rattle.at_event.specs.Outcomes.{Comes, Through}
-use Rattle.at_node.specs.AtpHearing.{HearsAtp}
+use Rattle.at_transaction_socket.specs.AtpHearing.{HearsAtp}
 use Rattle.at_node.specs.Nodes.{NodeState, over_atp}
 use Rattle.at_node.proofs.SessionLemmas.{heard_over}
 use Rattle.at_node.proofs.node.Node.hear_atp.Goals as goal

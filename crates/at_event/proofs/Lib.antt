@@ -1,0 +1,3 @@
+pub mod OutcomeLemmas
+pub mod PostLemmas
+pub mod ServedLemmas

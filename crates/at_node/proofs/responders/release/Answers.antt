@@ -1,5 +1,0 @@
-use Rattle.std.proofs.Common.{rules}
-use Rattle.at_node.proofs.responders.release.Goals as goal
-
-pub returns-in-Released-clause-report : goal.returns-in-Released-clause-report
-returns-in-Released-clause-report g c = search rules

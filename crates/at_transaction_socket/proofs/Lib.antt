@@ -1,0 +1,11 @@
+mod AnsweringLemmas
+mod BeginLemmas
+mod FaultLemmas
+mod ListLemmas
+mod PageLemmas
+mod ReadingLemmas
+mod RequesterLemmas
+mod ResponderLemmas
+mod SentLemmas
+mod ServingLemmas
+mod TurningLemmas

@@ -1,0 +1,9 @@
+pub mod AtpHearing
+pub mod AtpParts
+pub mod Readings
+pub mod RequesterSocket
+pub mod Responders
+pub mod ServiceSocket
+pub mod Turning
+pub mod ZoneReading
+pub mod ZoneSocket

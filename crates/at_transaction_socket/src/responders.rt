@@ -1,0 +1,112 @@
+//! What the zone socket and the service's socket do alike, each with its own responder.
+ghost use Rattle.std.specs.Prelude.{◌≡◌, ◌≢◌, ◌↔◌, ◌++◌, map, length, find, None, Err, true, IfOk, IfErr, IfSome, OnOk};
+ghost use Rattle.std.specs.Prelude.{OnErr, IsOk, IsErrOf, false};
+ghost use Rattle.at_ddp.specs.Protocols.{atp_kind};
+ghost use Rattle.at_atp_frame.specs.Frames.{content, spelled_all};
+ghost use Rattle.at_atp_responder.specs.Records.{taken, finds_no_place, after_answer, answer_fault, is_key, asked_for};
+ghost use Rattle.at_event.specs.Outcomes.{posted, sent_by};
+ghost use Rattle.at_transaction_socket.specs.Responders.{is_release, release_fired, released_report};
+ghost use Rattle.at_event.specs.Services.{is_asked};
+
+use crate::atp_part::AtpPart;
+use crate::incoming::Incoming;
+use crate::refusals::refused;
+use crate::service_socket::SERVICE_SOCKET;
+use crate::zone_socket::ZONE_SOCKET;
+use at_atp::{AtpFault, Key, Packet, Reception, Responder};
+use at_ddp::{ATP, Address, Datagrams, Outbox};
+use at_event::{Report, TransactionReport};
+use std::alloc::Allocator;
+
+impl<A: Allocator + Copy> AtpPart<A> {
+    /// Removes the record of a request, at the service's socket or at the zone socket.
+    pub fn expire(&mut self, own: u8, key: Key) -> Report<A>
+        ensures report { result ≡ (release_fired {A = A} self.old own key).report }
+        ensures state { self.new ≡ (release_fired {A = A} self.old own key).state }
+    {
+        let expired = match own {
+            SERVICE_SOCKET => self.service_responder.expire(key),
+            ZONE_SOCKET => self.zone_responder.expire(key),
+            _ => Err(AtpFault::NoSuch),
+        };
+        match expired {
+            Ok(()) => Report::Transactions(TransactionReport::Expired),
+            Err(fault) => refused(fault.number()),
+        }
+    }
+}
+
+// The responder takes a packet.
+pub(crate) fn hear<A: Allocator + Copy>(
+    alloc: A,
+    records: &mut Responder<A>,
+    own: Address,
+    packet: &Incoming<'_>,
+    out: &mut Datagrams<A>,
+) -> Result<Reception, AtpFault>
+    ensures reception { IfOk result
+        (λ r. r ≡ (taken records.old packet.now.from (content packet.now.frame)).reception) }
+    ensures state { OnOk result (records.new ≡ (taken records.old packet.now.from (content packet.now.frame)).after) }
+    ensures sent { OnOk result
+        (out.new.items ≡ out.old.items ++ map posted
+        (sent_by own atp_kind (spelled_all (taken records.old packet.now.from (content packet.now.frame)).sent))) }
+    ensures full { IsErrOf result AtpFault.Full
+        ↔ (finds_no_place records.old packet.now.from (content packet.now.frame) ≡ true) }
+    ensures memory { IfErr result (λ fault. fault ≢ AtpFault.Full → fault ≡ AtpFault.NoMemory) }
+    ensures ignored { (taken records.old packet.now.from (content packet.now.frame)).reception ≡ Reception.Ignored
+        → IsOk result }
+    ensures unchanged { OnErr result (records.new ≡ records.old) }
+    ensures nothing_sent { OnErr result (out.new.items ≡ out.old.items) }
+    ensures release { is_release (content packet.now.frame) ≡ true → IsOk result }
+{
+    let mut outbox = Outbox::lent(alloc, out, own, ATP);
+    let reception = records.receive(packet.from, &packet.frame, &mut outbox);
+    *out = outbox.into_list();
+    reception
+}
+
+pub(crate) fn answer<A: Allocator + Copy>(
+    alloc: A,
+    records: &mut Responder<A>,
+    own: Address,
+    key: Key,
+    packets: &[Packet<A>],
+    out: &mut Datagrams<A>,
+) -> Result<u8, AtpFault>
+    ensures state { OnOk result (records.new ≡ after_answer records.old key packets.now) }
+    ensures count { IfOk result (λ count. count ≡ length (asked_for (find (is_key key) records.old) key packets.now)) }
+    ensures sent { OnOk result
+        (out.new.items ≡ out.old.items ++ map posted
+        (sent_by own atp_kind (spelled_all (asked_for (find (is_key key) records.old) key packets.now)))) }
+    ensures refuses { IfSome (answer_fault records.old key packets.now) (λ fault. result ≡ Err fault) }
+    ensures memory { answer_fault records.old key packets.now ≡ None
+        → IfErr result (λ fault. fault ≡ AtpFault.NoMemory) }
+    ensures unchanged { OnErr result (records.new ≡ records.old) }
+    ensures nothing_sent { OnErr result (out.new.items ≡ out.old.items) }
+{
+    let mut outbox = Outbox::lent(alloc, out, own, ATP);
+    let answered = records.respond(key, packets, &mut outbox);
+    *out = outbox.into_list();
+    answered
+}
+
+// Takes a release, which never runs out of memory.
+pub(crate) fn release<A: Allocator + Copy>(
+    alloc: A,
+    records: &mut Responder<A>,
+    own: Address,
+    packet: &Incoming<'_>,
+    out: &mut Datagrams<A>,
+) -> Report<A>
+    requires { is_release (content packet.now.frame) ≡ true }
+    ensures report { result ≡ released_report (taken records.old packet.now.from (content packet.now.frame)).reception }
+    ensures state { records.new ≡ (taken records.old packet.now.from (content packet.now.frame)).after }
+    ensures sent { out.new.items ≡ out.old.items ++ map posted
+        (sent_by own atp_kind (spelled_all (taken records.old packet.now.from (content packet.now.frame)).sent)) }
+    ensures not_asked { is_asked result ≡ false }
+{
+    match hear(alloc, records, own, packet, out).unwrap() {
+        Reception::Released => Report::Transactions(TransactionReport::Released),
+        _ => Report::Ignored,
+    }
+}
