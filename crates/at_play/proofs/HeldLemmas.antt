@@ -4,7 +4,7 @@ use Rattle.std.specs.Prelude.{Option}
 use Rattle.at_diagnostics.specs.declared.diagnostics.Diagnostics.{Diagnostics}
 use Rattle.at_faults.specs.declared.fault.Fault.{Fault as Why}
 use Rattle.at_print.specs.Papers.{Page}
-use Rattle.at_play.specs.Ends.{IsNotRead, IsTextFault, PlayText}
+use Rattle.at_play.specs.Ends.{IsNotRead, IsTextFault, PlayText, PlaysText}
 use Rattle.at_play.specs.declared.ending.Ending.{Ending}
 use Rattle.at_play.proofs.ToldLemmas.{fault_of, held_of, whole_read}
 
@@ -22,7 +22,8 @@ not_read_of A known bytes all old new (Err e) text read same (why, none, quiet) 
 
 pub play_known : (A : Type 0) {E : Type 0} (heard : E → Page) (known : Option (List ℕ)) (bytes all : List ℕ)
     (old new : Diagnostics E) (r : Result (Unit {0}) Ending) (text : List ℕ) → IfSome known (λ text. all ≡ text)
-    → bytes ≡ all → PlayText A heard (Some bytes) old new r text → PlayText A heard known old new r text
+    → bytes ≡ all → PlayText A (PlaysText A heard) (Some bytes) old new r text
+    → PlayText A (PlaysText A heard) known old new r text
 play_known A heard known bytes all old new r text read same (inl h) =
     inl (not_read_of A known bytes all old new r text read same h)
 play_known A heard known bytes all old new r text read same (inr (setup, held, p, obeys, is, whole, told)) = inr (

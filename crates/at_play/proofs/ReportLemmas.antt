@@ -1,11 +1,13 @@
 -- What is told of one report more, and where its event stands.
-use Rattle.std.proofs.Common.{◌≡◌, ℕ, ◌+◌, suc, List, [], ◌∷◌, ◌++◌, length, false, refl, ap, subst, ◌∙◌, arith}
+use Rattle.std.proofs.Common.{◌≡◌, ℕ, ◌+◌, ◌≤◌, suc, List, [], ◌∷◌, ◌++◌, length, false, refl, ap, subst, ◌∙◌, arith}
+use Rattle.std.proofs.Common.{length-append}
 use Rattle.at_event.specs.declared.report.Report.{Report}
 use Rattle.at_setup.specs.declared.event.Event.{Event}
 use Rattle.at_setup.specs.declared.event.Event.TheVariants as event
 use Rattle.at_print.specs.Papers.{Page}
 use Rattle.at_diagnostics.specs.Diagnostics.{TellsReport}
 use Rattle.at_diagnostics.specs.declared.diagnostics.Diagnostics.{Diagnostics}
+use Rattle.at_world.specs.Sents.{SentDatagram}
 use Rattle.at_world.specs.Worlds.{WorldState, Plays}
 use Rattle.at_play.specs.Told.{TellsReports, Told}
 
@@ -31,7 +33,7 @@ tells_more heard at (x ∷ rs) r line a b c (mid, n, first, rest) next =
 
 -- ---- the world after some events
 
-after_plays : {A : Type 0} (w : WorldState) (e : Event A) (r : Report A) (w' : WorldState) → Plays w e r w'
+pub after_plays : {A : Type 0} (w : WorldState) (e : Event A) (r : Report A) (w' : WorldState) → Plays w e r w'
     → (w'.events ≡ w.events + 1) × (w'.failed ≡ false)
 after_plays w (event.Call k call) r w' h =
     let booked = (h.0).booked in (ap (λ (x : WorldState). x.events) booked, ap (λ (x : WorldState). x.failed) booked)
@@ -42,6 +44,17 @@ after_plays w (event.Timer k timer) r w' h =
     (ap (λ (x : WorldState). x.events) h.booked, ap (λ (x : WorldState). x.failed) h.booked)
 after_plays w (event.Forge k bytes) r w' h =
     (ap (λ (x : WorldState). x.events) h.booked, ap (λ (x : WorldState). x.failed) h.booked)
+
+grown : (w w' : WorldState) (more : List SentDatagram) → w'.sent ≡ w.sent ++ more → length w.sent ≤ length w'.sent
+grown w w' more is = let long = ap length is ∙ length-append w.sent more in omega (arith, long)
+
+-- what was sent before stays
+pub sent_grows : {A : Type 0} (w : WorldState) (e : Event A) (r : Report A) (w' : WorldState) → Plays w e r w'
+    → length w.sent ≤ length w'.sent
+sent_grows w (event.Call k call) r w' h = grown w w' _ (ap (λ (x : WorldState). x.sent) (h.0).booked)
+sent_grows w (event.Deliver which k) r w' h = grown w w' _ (ap (λ (x : WorldState). x.sent) (h.plays).booked)
+sent_grows w (event.Timer k timer) r w' h = grown w w' _ (ap (λ (x : WorldState). x.sent) h.booked)
+sent_grows w (event.Forge k bytes) r w' h = grown w w' _ (ap (λ (x : WorldState). x.sent) h.booked)
 
 -- each event is counted
 pub counted : (A : Type 0) (w : WorldState) (es : List (Event A)) (rs : List (Report A)) (w' : WorldState)

@@ -123,13 +123,17 @@ IsFailedRead (why.Unreadable u) = IsOfSystem u
 IsFailedRead (why.Line number rule) = ⊥
 IsFailedRead why.NoMemory = ⊥
 
--- Why a play stopped in a world, after these events. A read failed, or a line is no longer one of a schedule, if
--- reading may fail. Or memory ran out, before the first event or where some is taken. Or the event of the next event
--- line is refused so.
-abbrev pub StopsIn : (A : Type 0) → Option (List ℕ) → Bool → List (Event A) → WorldState → Stop → Type 0
-StopsIn A known may_fail es w (stop.Text f) =
+-- A text in which reading may fail could not be read on after these events: a read failed, or a line is no longer one
+-- of a schedule.
+abbrev pub FailsAfter : (A : Type 0) → Option (List ℕ) → Bool → List (Event A) → TextFault → Type 0
+FailsAfter A known may_fail es f =
     (may_fail ≡ true)
     × (IsFailedRead f ⊎ ((f ≡ why.Unreadable Changed) × IfSome known (λ text. BreaksOff A text es)))
+
+-- Why a play stopped in a world, after these events. The text could not be read on. Or memory ran out, before the first
+-- event or where some is taken. Or the event of the next event line is refused so.
+abbrev pub StopsIn : (A : Type 0) → Option (List ℕ) → Bool → List (Event A) → WorldState → Stop → Type 0
+StopsIn A known may_fail es w (stop.Text f) = FailsAfter A known may_fail es f
 StopsIn A known may_fail es w (stop.Event world.NoMemory at line which) =
     (at ≡ w.events) × ((es ≡ []) ⊎ IfSome known (λ text. TakesMemory may_fail text es w))
 StopsIn A known may_fail es w (stop.Event (world.Refused r) at line which) =
@@ -155,10 +159,15 @@ IsUnreadIn known at (stop.Event world.NoMemory n line which) = (n ≡ at) × IfS
 IsUnreadIn known at (stop.Event (world.Refused r) n line which) = ⊥
 
 -- The events are what the event lines say, if the schedule's text is known: what all of them say, or the first ones if
--- the play stopped, or a write failed.
+-- the play stopped, or a write failed. It stops only for such a reason.
+abbrev pub EndsAfter : {A : Type 0} → (Stop → Type 0) → Option (List ℕ) → Result (Unit {0}) Ending → List (Event A)
+    → Type 0
+EndsAfter IsReason known (Ok u) es = IfSome known (λ text. SayAll (event_lines text) es)
+EndsAfter IsReason known (Err (ending.Stopped s)) es = IsReason s × IfSome known (λ text. BeginsWith text es)
+EndsAfter IsReason known (Err ending.Unwritten) es = IfSome known (λ text. BeginsWith text es)
+
+-- so it is of events that were played, and the play stops for a reason of the world in which it does
 abbrev pub IsWhole : (A : Type 0) {setup : Setup A} → Option (List ℕ) → Bool → Result (Unit {0}) Ending → Played setup
     → Type 0
-IsWhole A known may_fail (Ok u) p = IfSome known (λ text. SayAll (event_lines text) p.events)
-IsWhole A known may_fail (Err (ending.Stopped s)) p =
-    StopsIn A known may_fail p.events p.world s × IfSome known (λ text. BeginsWith text p.events)
-IsWhole A known may_fail (Err ending.Unwritten) p = IfSome known (λ text. BeginsWith text p.events)
+IsWhole A known may_fail result p =
+    EndsAfter (StopsIn A known may_fail p.events p.world) known result p.events

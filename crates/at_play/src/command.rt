@@ -1,6 +1,8 @@
 //! The play of what a command line names.
 ghost use Rattle.std.specs.Prelude.{◌≡◌};
 ghost use Rattle.at_play.specs.Commands.{PlaysSource};
+ghost use Rattle.at_play.specs.Ends.{PlaysText};
+ghost use Rattle.at_play.specs.Runs.{PrintsRun};
 ghost use Rattle.at_print.specs.Printers.{HasFailed, IsSettled};
 
 use crate::program::{play_opened, play_text};
@@ -20,8 +22,11 @@ pub fn play_source<A: Allocator + Copy, S: Read + Drop, F: Opened + Drop, W: Pap
 ) -> Status
     ensures printed { result ≡ Status.Done → ¬ HasFailed printer.new }
     ensures settled { IsSettled W.settles printer.new }
-    ensures ended { PlaysSource A S.remaining F.remaining F.goes_back source W.page E.page result printer.old
-        printer.new diagnostics.old diagnostics.new }
+    ensures ended { PlaysSource A (PlaysText A E.page) S.remaining F.remaining F.goes_back source W.page E.page result
+        printer.old printer.new diagnostics.old diagnostics.new }
+    // The same by the plain machine alone, for a reader who does not go by the node's own step.
+    ensures runs { PlaysSource A (PrintsRun A E.page) S.remaining F.remaining F.goes_back source W.page E.page result
+        printer.old printer.new diagnostics.old diagnostics.new }
 {
     match source {
         Source::Stream(mut reader) => {

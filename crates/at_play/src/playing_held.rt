@@ -1,6 +1,6 @@
 //! The play of a schedule that lies in memory, from its text to what is printed.
 ghost use Rattle.std.specs.Prelude.{◌≡◌, ◌≤◌, List, ℕ, Some, length};
-ghost use Rattle.at_play.specs.Ends.{IsUnwritten, PlayText};
+ghost use Rattle.at_play.specs.Ends.{IsUnwritten, PlayText, PlaysText};
 ghost use Rattle.at_print.specs.Printers.{HasFailed, Prints};
 
 use crate::ending::Ending;
@@ -24,7 +24,7 @@ pub(crate) fn play_held<A: Allocator + Copy, W: Paper, E: Paper>(
     diagnostics: &mut Diagnostics<'_, E>,
 ) -> Result<(), Ending>
     ensures told { (printed : List ℕ)
-        × PlayText A E.page (Some text.now) diagnostics.old diagnostics.new result printed
+        × PlayText A (PlaysText A E.page) (Some text.now) diagnostics.old diagnostics.new result printed
         × Prints W.page printer.old printer.new printed }
     ensures unwritten { IsUnwritten result → HasFailed printer.new }
 {
@@ -42,7 +42,7 @@ fn play_small<A: Allocator + Copy, W: Paper, E: Paper>(
     diagnostics: &mut Diagnostics<'_, E>,
 ) -> Result<(), Ending>
     ensures told { (printed : List ℕ)
-        × PlayText A E.page (Some text.now) diagnostics.old diagnostics.new result printed
+        × PlayText A (PlaysText A E.page) (Some text.now) diagnostics.old diagnostics.new result printed
         × Prints W.page printer.old printer.new printed }
     ensures unwritten { IsUnwritten result → HasFailed printer.new }
 {
@@ -65,7 +65,7 @@ fn play_large<A: Allocator + Copy, W: Paper, E: Paper>(
     diagnostics: &mut Diagnostics<'_, E>,
 ) -> Result<(), Ending>
     ensures told { (printed : List ℕ)
-        × PlayText A E.page (Some text.now) diagnostics.old diagnostics.new result printed
+        × PlayText A (PlaysText A E.page) (Some text.now) diagnostics.old diagnostics.new result printed
         × Prints W.page printer.old printer.new printed }
     ensures unwritten { IsUnwritten result → HasFailed printer.new }
 {

@@ -5,7 +5,7 @@ ghost use Rattle.at_diagnostics.specs.declared.diagnostics.Diagnostics.{Diagnost
 ghost use Rattle.at_faults.specs.Reads.{IsOfBytes};
 ghost use Rattle.at_faults.specs.declared.fault.Fault.TheVariants as why;
 ghost use Rattle.at_play.specs.Ends.{Ended, FileText, IsRejected, IsTooLong, IsUnreadable, IsUnplayed, IsUnwritten};
-ghost use Rattle.at_play.specs.Ends.{PlayText, PlaysOpened, ReadTwice, TellsEnd, end_text};
+ghost use Rattle.at_play.specs.Ends.{PlayText, PlaysOpened, PlaysText, ReadTwice, TellsEnd, end_text};
 ghost use Rattle.std.specs.Result.{IsErrAnd};
 ghost use Rattle.at_print.specs.Printers.{HasFailed, IsSettled, Prints};
 
@@ -33,8 +33,8 @@ pub fn play_text<A: Allocator + Copy, R: Read, W: Paper, E: Paper>(
         (λ all. MAX_LEN < length all → IsUnplayed W.page result printer.old printer.new) }
     ensures printed { result ≡ Status.Done → ¬ HasFailed printer.new }
     ensures settled { IsSettled W.settles printer.new }
-    ensures ended { Ended (PlayText A E.page (R.remaining reader.old) diagnostics.old) W.page E.page result
-        printer.old printer.new diagnostics.new }
+    ensures ended { Ended (PlayText A (PlaysText A E.page) (R.remaining reader.old) diagnostics.old) W.page E.page
+        result printer.old printer.new diagnostics.new }
 {
     let played = play_stream(alloc, reader, printer, diagnostics);
     end(played, printer, diagnostics)
@@ -54,8 +54,8 @@ pub fn play_file<A: Allocator + Copy, F: Opened, W: Paper, E: Paper>(
         (λ all. MAX_LEN < length all → IsRejected W.page result printer.old printer.new) }
     ensures printed { result ≡ Status.Done → ¬ HasFailed printer.new }
     ensures settled { IsSettled W.settles printer.new }
-    ensures ended { Ended (FileText A F.remaining F.goes_back E.page diagnostics.old) W.page E.page result
-        printer.old printer.new diagnostics.new }
+    ensures ended { Ended (FileText A (PlaysText A E.page) F.remaining F.goes_back diagnostics.old) W.page E.page
+        result printer.old printer.new diagnostics.new }
 {
     let played = play_again(alloc, file, printer, diagnostics);
     end(played, printer, diagnostics)
@@ -70,8 +70,8 @@ pub fn play_opened<A: Allocator + Copy, F: Opened, W: Paper, E: Paper>(
 ) -> Status
     ensures printed { result ≡ Status.Done → ¬ HasFailed printer.new }
     ensures settled { IsSettled W.settles printer.new }
-    ensures ended { PlaysOpened A F.remaining F.goes_back file.old W.page E.page result printer.old printer.new
-        diagnostics.old diagnostics.new }
+    ensures ended { PlaysOpened A (PlaysText A E.page) F.remaining F.goes_back file.old W.page E.page result
+        printer.old printer.new diagnostics.old diagnostics.new }
 {
     match file.send_back() {
         Ok(()) => play_file(alloc, file, printer, diagnostics),
@@ -88,7 +88,7 @@ fn play_stream<A: Allocator + Copy, R: Read, W: Paper, E: Paper>(
     ensures too_long { IfSome (R.remaining reader.old)
         (λ all. MAX_LEN < length all → IsErrAnd result IsUnreadable × (printer.new ≡ printer.old)) }
     ensures told { (text : List ℕ)
-        × PlayText A E.page (R.remaining reader.old) diagnostics.old diagnostics.new result text
+        × PlayText A (PlaysText A E.page) (R.remaining reader.old) diagnostics.old diagnostics.new result text
         × Prints W.page printer.old printer.new text }
     ensures unwritten { IsUnwritten result → HasFailed printer.new }
 {
@@ -105,7 +105,7 @@ fn play_again<A: Allocator + Copy, F: Opened, W: Paper, E: Paper>(
     ensures too_long { IfSome (F.remaining file.old)
         (λ all. MAX_LEN < length all → IsErrAnd result IsTooLong × (printer.new ≡ printer.old)) }
     ensures told { (text : List ℕ)
-        × FileText A F.remaining F.goes_back E.page diagnostics.old diagnostics.new result text
+        × FileText A (PlaysText A E.page) F.remaining F.goes_back diagnostics.old diagnostics.new result text
         × Prints W.page printer.old printer.new text }
     ensures unwritten { IsUnwritten result → HasFailed printer.new }
 {
@@ -130,7 +130,7 @@ fn play_twice_read<A: Allocator + Copy, F: Opened, W: Paper, E: Paper>(
     diagnostics: &mut Diagnostics<'_, E>,
 ) -> Result<(), Ending>
     ensures told { (text : List ℕ)
-        × ReadTwice A F.remaining F.goes_back E.page diagnostics.old diagnostics.new result text
+        × ReadTwice A (PlaysText A E.page) F.remaining F.goes_back diagnostics.old diagnostics.new result text
         × Prints W.page printer.old printer.new text }
     ensures unwritten { IsUnwritten result → HasFailed printer.new }
 {

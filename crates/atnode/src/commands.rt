@@ -5,6 +5,8 @@ ghost use Rattle.at_capture.specs.Commands.{TellsSource};
 ghost use Rattle.at_diagnostics.specs.declared.diagnostics.Diagnostics.{Diagnostics as Told};
 ghost use Rattle.at_opened.specs.declared.source.Source.{Source};
 ghost use Rattle.at_play.specs.Commands.{PlaysSource};
+ghost use Rattle.at_play.specs.Ends.{PlaysText};
+ghost use Rattle.at_play.specs.Runs.{PrintsRun};
 ghost use Rattle.at_print.specs.Printers.{IsSettled};
 ghost use Rattle.at_print.specs.Statuses.{code_of};
 ghost use Rattle.at_print.specs.declared.status.Status.{Status as Ends};
@@ -37,9 +39,13 @@ pub(crate) fn play<A: Allocator + Copy, R: Files + Input, W: Paper, E: Paper>(
     diagnostics: &mut Diagnostics<'_, E>,
 ) -> u8
     ensures ended { (source : Source R.Reader R.File) × Names file.now source
-        × ((status : Ends) × (result ≡ code_of status) × PlaysSource A R.Reader.remaining R.File.remaining
-        ⟦<R::File as Opened>⟧.goes_back source W.page E.page status printer.old printer.new diagnostics.old
-        diagnostics.new) }
+        × ((status : Ends) × (result ≡ code_of status) × PlaysSource A (PlaysText A E.page) R.Reader.remaining
+        R.File.remaining ⟦<R::File as Opened>⟧.goes_back source W.page E.page status printer.old printer.new
+        diagnostics.old diagnostics.new) }
+    ensures runs { (source : Source R.Reader R.File) × Names file.now source
+        × ((status : Ends) × (result ≡ code_of status) × PlaysSource A (PrintsRun A E.page) R.Reader.remaining
+        R.File.remaining ⟦<R::File as Opened>⟧.goes_back source W.page E.page status printer.old printer.new
+        diagnostics.old diagnostics.new) }
     ensures settled { IsSettled W.settles printer.new }
 {
     play_source(alloc, open(rt, file), printer, diagnostics).code()
