@@ -1,16 +1,16 @@
 -- The numbers that packets carry.
-use Rattle.std.proofs.Common.{lit<, ◌≡◌, ◌⊎◌, ℕ, zero, suc, [], ◌∷◌, Option, Some, None, inl}
-use Rattle.std.proofs.Common.{inr, refl, sym, ap, ◌∙◌, arith}
-use Rattle.std.specs.Prelude.{◌↔◌}
+use Rattle.std.proofs.Common.{lit<, ◌≡◌, ℕ, zero, suc, [], ◌∷◌, Option, Some, None}
+use Rattle.std.proofs.Common.{refl, sym, ap, subst, ◌∙◌, arith}
+use Rattle.std.specs.Prelude.{◌↔◌, ◌≢◌}
 use Rattle.std.specs.List.{Contains}
 use Rattle.at_ddp.specs.Datagram.{Content as Datagram}
 use Rattle.at_ddp.specs.Protocols.{atp_kind, nbp_kind, adsp_kind}
-use Rattle.at_atp_frame.specs.Frames.{Content, Request, Response, Release}
-use Rattle.at_atp_frame.specs.Frames.{number_of}
+use Rattle.at_atp_frame.specs.Frames.{Content, Request, Response, Release, number_of}
+use Rattle.at_name_socket.specs.Carrying as names
 use Rattle.at_node.specs.declared.numbers.Draw.{Draw}
 use Rattle.at_transaction_socket.specs.AtpParts.{tid_of}
-use Rattle.at_node.specs.Numbers.{CarriesConn, CarriesOne, end_drawn}
-use Rattle.at_node.specs.declared.numbers.Draw.TheVariants.{Conn}
+use Rattle.at_node.specs.Numbers.{CarriesNumber, end_drawn}
+use Rattle.at_node.specs.declared.numbers.Draw.TheVariants.{Conn, Lookup, Tid}
 use Rattle.at_stream_socket.specs.Carrying as streams
 
 pub numbers_alike : (f : Content) → tid_of f ≡ number_of f
@@ -55,16 +55,36 @@ end_is (Some p) node draw h =
     let same = pair_same (p.0, Conn p.1) (node, draw) h in
     (p.1, ap (λ n. Some (n, p.1)) (ap (λ (x : ℕ × Draw). x.0) same), sym (ap (λ (x : ℕ × Draw). x.1) same))
 
+-- by its protocol, which number a datagram carries
+pub lookup_of : (d : Datagram) (node : ℕ) (draw : Draw) → d.kind ≡ nbp_kind → CarriesNumber d node draw → (id : ℕ)
+    × names.Carries d.to d.data_ node id × (draw ≡ Lookup id)
+lookup_of d node (Tid tid) its h = let both : nbp_kind ≡ atp_kind = sym its ∙ h.0 in absurd (cc)
+lookup_of d node (Lookup id) its h = (id, h.1, refl)
+lookup_of d node (Conn id) its h = let both : nbp_kind ≡ adsp_kind = sym its ∙ h.0 in absurd (cc)
+
+conn_of : (d : Datagram) (node : ℕ) (draw : Draw) → d.kind ≡ adsp_kind → CarriesNumber d node draw → (id : ℕ)
+    × streams.Carries d.from d.to d.data_ node id × (draw ≡ Conn id)
+conn_of d node (Tid tid) its h = let both : adsp_kind ≡ atp_kind = sym its ∙ h.0 in absurd (cc)
+conn_of d node (Lookup id) its h = let both : adsp_kind ≡ nbp_kind = sym its ∙ h.0 in absurd (cc)
+conn_of d node (Conn id) its h = (id, h.1, refl)
+
+-- a datagram of no protocol that is spoken here carries none
+pub none_carried : (d : Datagram) (node : ℕ) (draw : Draw) → (d.kind ≢ atp_kind) × (d.kind ≢ nbp_kind)
+    × (d.kind ≢ adsp_kind) → ¬ CarriesNumber d node draw
+none_carried d node (Tid tid) other h = other.0 h.0
+none_carried d node (Lookup id) other h = other.1 h.0
+none_carried d node (Conn id) other h = other.2 h.0
+
 module _ (source dest : Option (ℕ × ℕ)) (d : Datagram) (node : ℕ) (draw : Draw) (kind : d.kind ≡ adsp_kind)
     (both : (node id : ℕ) → Contains (source ∷ dest ∷ []) (Some (node, id)) ↔ streams.Carries d.from d.to d.data_ node
     id) where
-  pub end_found : Contains (end_drawn source ∷ end_drawn dest ∷ []) (Some (node, draw)) → CarriesConn d node draw
+  pub end_found : Contains (end_drawn source ∷ end_drawn dest ∷ []) (Some (node, draw)) → CarriesNumber d node draw
   end_found (zero, within, is) =
       let e = end_is source node draw is in
-      record { is_adsp = kind; id = e.0; carries = (both node e.0).0 (0, lit< tt, e.1); is_draw = e.2 }
+      subst (CarriesNumber d node) (sym e.2) (kind, (both node e.0).0 (0, lit< tt, e.1))
   end_found (suc zero, within, is) =
       let e = end_is dest node draw is in
-      record { is_adsp = kind; id = e.0; carries = (both node e.0).0 (1, lit< tt, e.1); is_draw = e.2 }
+      subst (CarriesNumber d node) (sym e.2) (kind, (both node e.0).0 (1, lit< tt, e.1))
   end_found (suc (suc k), within, is) = absurd (omega arith)
 
   end_at : (id : ℕ) → draw ≡ Conn id → Contains (source ∷ dest ∷ []) (Some (node, id))
@@ -73,12 +93,5 @@ module _ (source dest : Option (ℕ × ℕ)) (d : Datagram) (node : ℕ) (draw :
   end_at id is (suc zero, within, at) = (1, lit< tt, ap end_drawn at ∙ ap (λ x. Some (node, x)) (sym is))
   end_at id is (suc (suc k), within, at) = absurd (omega arith)
 
-  pub end_stands : CarriesConn d node draw → Contains (end_drawn source ∷ end_drawn dest ∷ []) (Some (node, draw))
-  end_stands c = end_at c.id c.is_draw ((both node c.id).1 c.carries)
-
--- by its protocol, which number a datagram carries
-pub conn_of : (d : Datagram) (node : ℕ) (draw : Draw) → d.kind ≡ adsp_kind → CarriesOne d node draw
-    ⊎ CarriesConn d node draw → CarriesConn d node draw
-conn_of d node draw its (inl (inl tid)) = let both : adsp_kind ≡ atp_kind = sym its ∙ tid.is_atp in absurd (cc)
-conn_of d node draw its (inl (inr id)) = let both : adsp_kind ≡ nbp_kind = sym its ∙ id.is_nbp in absurd (cc)
-conn_of d node draw its (inr c) = c
+  pub end_stands : CarriesNumber d node draw → Contains (end_drawn source ∷ end_drawn dest ∷ []) (Some (node, draw))
+  end_stands h = let e = conn_of d node draw kind h in end_at e.0 e.2 ((both node e.0).1 e.1)

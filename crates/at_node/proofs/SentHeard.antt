@@ -71,7 +71,7 @@ carries to from f laws reads to_fits from_fits ok = record {
   datagram = written to from atp_kind (spelled f);
   rest = [];
   begins = begins laws to from f to_fits from_fits ok;
-  number = inl (inl (record { is_atp = refl; packet = f; spelled = reads f ok; is_owner = refl; is_draw = refl }));
+  number = (refl, (f, reads f ok, refl, refl));
 }
 
 -- what its part does with a datagram of ATP that was written for a packet

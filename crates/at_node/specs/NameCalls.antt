@@ -33,13 +33,13 @@ refused_by n fault = idle n (refused_as (number_of fault))
 
 -- ---- lookups
 
+-- a lookup asks its question, and the socket becomes this
+abbrev pub asks_by : {A : Type 0} → Seat → SocketState → Search → Report A → SocketState → Outcome A SocketState
+asks_by s n search r new = record { report = r; state = new; out = sent_of s (sent_question n.lookups search ∷ []) }
+
 -- a lookup begins under this identifier, which asks by this question
 abbrev pub looks_up : {A : Type 0} → Seat → SocketState → ℕ → Name → SocketState → Outcome A SocketState
-looks_up s n id pattern new = record {
-  report = report.Names (nbp_report.Looking id);
-  state = new;
-  out = sent_of s (sent_question n.lookups (beginning id pattern) ∷ []);
-}
+looks_up s n id pattern new = asks_by s n (beginning id pattern) (report.Names (nbp_report.Looking id)) new
 
 abbrev pub found_as : {A : Type 0} → Seat → SocketState → Name → Option ℕ → Outcome A SocketState
 found_as s n pattern None = refused_by n LookupsFull
@@ -77,11 +77,7 @@ finish_called n id = finished_as n id (finish_fault n id)
 
 abbrev pub asked_again : {A : Type 0} → Seat → SocketState → Option Search → Outcome A SocketState
 asked_again s n None = refused_by n NoSuchLookup
-asked_again s n (Some search) = record {
-  report = report.Again;
-  state = n;
-  out = sent_of s (sent_question n.lookups search ∷ []);
-}
+asked_again s n (Some search) = asks_by s n search report.Again n
 
 -- the timer of a lookup asks again
 abbrev pub lookup_fired : {A : Type 0} → Seat → SocketState → ℕ → Outcome A SocketState

@@ -74,19 +74,11 @@ with_session n part = record n { session = part }
 
 -- what comes of a packet of ATP, of which the session keeps the zone list that it ends with
 abbrev pub over_atp : {A : Type 0} → NodeState → Outcome A AtpState → Outcome A NodeState
-over_atp n o = record {
-  report = o.report;
-  state = record n { atp = o.state; session = list_kept n.session o.report };
-  out = o.out;
-}
+over_atp n o = over (λ part. record n { atp = part; session = list_kept n.session o.report }) o
 
 -- what comes of the end of a lookup, of which the session keeps what was found
 abbrev pub over_finish : {A : Type 0} → NodeState → Outcome A SocketState → Outcome A NodeState
-over_finish n o = record {
-  report = o.report;
-  state = record n { names = o.state; session = finds_kept n.session o.report };
-  out = o.out;
-}
+over_finish n o = over (λ part. record n { names = part; session = finds_kept n.session o.report }) o
 
 -- what a call does to the part of its protocol
 abbrev pub transaction_called : {A : Type 0} → Seat → AtpState → TransactionCall A → Outcome A AtpState

@@ -1,7 +1,7 @@
 -- Numbers that are not to be reused while a packet or a record has them: which one an event draws, which are held, and
 -- which a datagram carries.
 use Rattle.std.specs.Prelude.{◌≡◌, ℕ, ◌||◌, nat_lt, is_none, is_some, if◌then◌else◌, Bool, true, false, List, length}
-use Rattle.std.specs.Prelude.{option_map, Option, Some, None, ◌⊎◌}
+use Rattle.std.specs.Prelude.{option_map, Option, Some, None}
 use Rattle.std.specs.List.{list_any}
 use Rattle.at_ddp.specs.Datagram.{Content as Datagram, BeginsWith}
 use Rattle.at_ddp.specs.Protocols.{atp_kind, nbp_kind, adsp_kind}
@@ -124,35 +124,14 @@ holds n node (Tid tid) =
 holds n node (Lookup id) = false
 holds n node (Conn id) = list_any (has_remote_at node id) n.streams.ends
 
--- the datagram has a packet with this transaction number of the node
-pub record CarriesTid (datagram : Datagram) (node : ℕ) (draw : Draw) : Type 0 where
-  pub is_atp : datagram.kind ≡ atp_kind
-  pub packet : Content
-  pub spelled : Spells datagram.data_ packet
-  pub is_owner : (owner datagram.from datagram.to packet).node ≡ node
-  pub is_draw : draw ≡ Tid (number_of packet)
-
--- it has a packet with the identifier of a lookup of the node
-pub record CarriesLookup (datagram : Datagram) (node : ℕ) (draw : Draw) : Type 0 where
-  pub is_nbp : datagram.kind ≡ nbp_kind
-  pub id : ℕ
-  pub carries : names.Carries datagram.to datagram.data_ node id
-  pub is_draw : draw ≡ Lookup id
-
--- it has a segment with the identifier of an end of the node
-pub record CarriesConn (datagram : Datagram) (node : ℕ) (draw : Draw) : Type 0 where
-  pub is_adsp : datagram.kind ≡ adsp_kind
-  pub id : ℕ
-  pub carries : streams.Carries datagram.from datagram.to datagram.data_ node id
-  pub is_draw : draw ≡ Conn id
-
--- the datagram carries this one number of the node
-abbrev pub CarriesOne : Datagram → ℕ → Draw → Type 0
-CarriesOne datagram node draw = CarriesTid datagram node draw ⊎ CarriesLookup datagram node draw
-
--- the datagram carries this number of the node
+-- the datagram carries this number of the node: its packet has the number of a transaction of the node, or the
+-- identifier of a lookup or of an end of it
 abbrev pub CarriesNumber : Datagram → ℕ → Draw → Type 0
-CarriesNumber datagram node draw = CarriesOne datagram node draw ⊎ CarriesConn datagram node draw
+CarriesNumber d node (Tid tid) =
+    (d.kind ≡ atp_kind) × ((packet : Content) × Spells d.data_ packet × ((owner d.from d.to packet).node ≡ node)
+    × (number_of packet ≡ tid))
+CarriesNumber d node (Lookup id) = (d.kind ≡ nbp_kind) × names.Carries d.to d.data_ node id
+CarriesNumber d node (Conn id) = (d.kind ≡ adsp_kind) × streams.Carries d.from d.to d.data_ node id
 
 -- the bytes begin with a datagram that carries this number of the node
 pub record Carries (bytes : List ℕ) (node : ℕ) (draw : Draw) : Type 0 where

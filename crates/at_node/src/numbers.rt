@@ -5,8 +5,7 @@ ghost use Rattle.at_atp_requester.specs.Requests.{next_number};
 ghost use Rattle.at_ddp.specs.Protocols.{atp_kind, nbp_kind, adsp_kind};
 ghost use Rattle.at_nbp.specs.Lookups.{next_id};
 ghost use Rattle.at_adsp_ends.specs.Tables.{next_id as next_end};
-ghost use Rattle.at_node.specs.Numbers.{Carries, CarriesConn, CarriesLookup, CarriesNumber, CarriesTid, Draws};
-ghost use Rattle.at_node.specs.Numbers.{IsTold, draw_of, drawn_by, end_drawn, holds};
+ghost use Rattle.at_node.specs.Numbers.{Carries, CarriesNumber, Draws, IsTold, draw_of, drawn_by, end_drawn, holds};
 ghost use Rattle.at_node.specs.Hearing.{HearsIt};
 ghost use Rattle.at_node.specs.Nodes.{NodeState};
 ghost use Rattle.at_event.specs.Outcomes.{Outcome as Result};
@@ -195,7 +194,7 @@ fn numbers_in(body: &Body<'_>) -> [Option<(u8, Draw)>; 2]
 // The identifiers in a datagram of ADSP, and the nodes that draw them.
 fn ends_in(packet: &AdspPacket<'_>) -> [Option<(u8, Draw)>; 2]
     requires { packet.now.kind ≡ adsp_kind }
-    ensures { (node : ℕ) (draw : Drawn) → Contains result (Some (node, draw)) ↔ CarriesConn packet.now node draw }
+    ensures { (node : ℕ) (draw : Drawn) → Contains result (Some (node, draw)) ↔ CarriesNumber packet.now node draw }
 {
     let (source, dest) = at_stream_socket::carried(packet);
     [end_drawn(source), end_drawn(dest)]
@@ -212,8 +211,8 @@ fn end_drawn(id: Option<(u8, u16)>) -> Option<(u8, Draw)>
 // The transaction number in a datagram of ATP.
 fn tid_in(packet: &AtpPacket<'_>) -> Option<(u8, Draw)>
     requires { packet.now.kind ≡ atp_kind }
-    ensures found { IfSome result (λ r. CarriesTid packet.now r.0 r.1) }
-    ensures only { (node : ℕ) (draw : Drawn) → CarriesTid packet.now node draw → result ≡ Some (node, draw) }
+    ensures found { IfSome result (λ r. CarriesNumber packet.now r.0 r.1) }
+    ensures only { (node : ℕ) (draw : Drawn) → CarriesNumber packet.now node draw → result ≡ Some (node, draw) }
 {
     let datagram = packet.datagram();
     let Ok(frame) = packet.frame() else {
@@ -226,8 +225,8 @@ fn tid_in(packet: &AtpPacket<'_>) -> Option<(u8, Draw)>
 // The identifier of a lookup in a datagram of NBP.
 fn lookup_in(packet: &NbpPacket<'_>) -> Option<(u8, Draw)>
     requires { packet.now.kind ≡ nbp_kind }
-    ensures found { IfSome result (λ r. CarriesLookup packet.now r.0 r.1) }
-    ensures only { (node : ℕ) (draw : Drawn) → CarriesLookup packet.now node draw → result ≡ Some (node, draw) }
+    ensures found { IfSome result (λ r. CarriesNumber packet.now r.0 r.1) }
+    ensures only { (node : ℕ) (draw : Drawn) → CarriesNumber packet.now node draw → result ≡ Some (node, draw) }
 {
     let (node, id) = at_name_socket::carried(packet)?;
     Some((node, Draw::Lookup(id)))

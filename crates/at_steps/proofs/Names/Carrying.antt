@@ -1,5 +1,5 @@
 -- What the datagram of a packet of the network is read as, and which identifier it carries.
-use Rattle.std.proofs.Common.{◌≡◌, inl, inr, [], refl, subst, ap, lit<}
+use Rattle.std.proofs.Common.{◌≡◌, [], refl, subst, ap, lit<}
 use Rattle.std.proofs.lemmas.List.{append-nil}
 use Rattle.at_ddp.specs.Datagram.{BeginsWith as DatagramBegins, canonical, written}
 use Rattle.at_ddp.specs.Protocols.{nbp_kind}
@@ -32,16 +32,14 @@ module _ (laws : ReadingLaws) (s : Sent) (ok : IsLawfullySent s) where
     datagram = written s.to s.from nbp_kind (spelling s.packet);
     rest = [];
     begins = datagram_begins;
-    number = inl (inr (record {
-      is_nbp = refl;
-      id = s.packet.id;
-      carries = record {
+    number = (
+      refl,
+      record {
         packet = s.packet;
         rest = [];
         begins = packet_begins;
         owner = ap (λ f. owner_by s.to f s.packet.tuples) replies;
         is = refl;
-      };
-      is_draw = refl;
-    }));
+      },
+    );
   }

@@ -31,12 +31,7 @@ module _ (laws : ReadingLaws) (s : Sent) (ok : IsLawfullySent s) where
     datagram = written s.to s.from adsp_kind (spelled s.packet);
     rest = [];
     begins = datagram_begins;
-    number = inr (record {
-      is_adsp = refl;
-      id = id;
-      carries = record { segment = s.packet; spelled = laws.spells s.packet ok.lawful; names = names };
-      is_draw = refl;
-    });
+    number = (refl, record { segment = s.packet; spelled = laws.spells s.packet ok.lawful; names = names });
   }
 
   pub source_carried : ((s.packet.source ≡ 0) → ⊥)
