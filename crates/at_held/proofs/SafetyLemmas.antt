@@ -15,8 +15,7 @@ use Rattle.at_faults.specs.declared.fault.LineFault.{LineFault}
 use Rattle.at_faults.specs.declared.fault.LineFault.TheVariants.{NoMemory, Unlawful}
 use Rattle.at_held.specs.Held.{Does, Happens, HeldState, IsTaken, Plays}
 use Rattle.at_held.specs.Safety.{IsSafe}
-use Rattle.at_held.specs.declared.line.Line.{Line}
-use Rattle.at_held.specs.declared.line.Line.TheVariants as said
+use Rattle.at_held.specs.Lines.{Calls, Fires, Line}
 use Rattle.at_node.specs.Hearing.{Hears}
 use Rattle.at_node.specs.Limits.{IsWithin}
 use Rattle.at_node.specs.Nodes.{NodeState, called, timed}
@@ -71,9 +70,9 @@ module _ (P : Place → Type 0) (old new : HeldState) (r : Report Global) (kept 
 
 module _ (laws : SafetyLaws) (old new : HeldState) (within : IsWithin old.node) where
   of_line : (told : Line) → IsTaken (Does told) old new → IsSafe IsPlaceOfCall old new
-  of_line (said.Call call) h =
+  of_line (Calls call) h =
       of_step IsPlaceOfCall old new h.0 h.3 h.2 (called old.node call) (laws.call old.node call within) h.1
-  of_line (said.Timer timer) h =
+  of_line (Fires timer) h =
       of_step IsPlaceOfCall old new h.0 h.3 h.2 (timed old.node timer) (laws.timer old.node timer within) h.1
 
   pub played_safely : (line : List ℕ) (answer : Result (Unit {0}) LineFault) → Plays line old answer new

@@ -8,10 +8,8 @@ use Rattle.at_event.specs.declared.report.Report.{Report}
 use Rattle.at_event.specs.declared.report.Report.TheVariants as report
 use Rattle.at_faults.specs.declared.fault.LineFault.{LineFault}
 use Rattle.at_faults.specs.declared.fault.LineFault.TheVariants.{NoMemory, Unlawful}
-use Rattle.at_held.specs.Lines.{BeginsAsCall, Says}
+use Rattle.at_held.specs.Lines.{BeginsAsCall, Calls, Line, Says, Fires}
 use Rattle.at_held.specs.Openings.{IsNodeOf}
-use Rattle.at_held.specs.declared.line.Line.{Line}
-use Rattle.at_held.specs.declared.line.Line.TheVariants as said
 use Rattle.at_node.specs.Nodes.{NodeState, called, timed}
 
 pub record HeldState : Type 0 where
@@ -29,8 +27,8 @@ Step = NodeState → List Posted → Report Global → NodeState → List Posted
 
 -- what the node is told to do by a line
 abbrev pub Does : Line → Step
-Does (said.Call call) n before r after out = IsStep (called n call) n before r after out
-Does (said.Timer timer) n before r after out = IsStep (timed n timer) n before r after out
+Does (Calls call) n before r after out = IsStep (called n call) n before r after out
+Does (Fires timer) n before r after out = IsStep (timed n timer) n before r after out
 
 -- the step was taken, and its report is kept
 abbrev pub IsTaken : Step → HeldState → HeldState → Type 0
@@ -48,7 +46,7 @@ Happens S old (Err e) new =
 abbrev pub LacksMemory : List ℕ → NodeState → Type 0
 LacksMemory line n =
     BeginsAsCall line
-    ⊎ ((timer : Timer) × Says n.seat.net line (said.Timer timer)
+    ⊎ ((timer : Timer) × Says n.seat.net line (Fires timer)
     × (takes_memory {A = Global} (timed n timer).report ≡ true))
 
 -- The node did what the line says. If the line says nothing, or memory ran out, nothing changed.

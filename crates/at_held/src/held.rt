@@ -1,5 +1,6 @@
 //! A node, the datagrams that it sent, and what came of its last event.
-ghost use Rattle.std.specs.Prelude.{◌≡◌, [], IfErr, IfOk, OnOk, Ok};
+ghost use Rattle.std.specs.Prelude.{◌≡◌, ◌∷◌, [], IfErr, IfOk, List, OnOk, Ok, codes, ℕ};
+ghost use Rattle.at_words.specs.Words.{words_of};
 ghost use Rattle.at_held.specs.Handing.{HandsDatagram, HandsReport, HandsSentence, HandsTimers};
 ghost use Rattle.at_held.specs.Held.{Happens, IsOpened, Plays, refusal_in};
 ghost use Rattle.at_held.specs.Openings.{IsFault};
@@ -9,17 +10,18 @@ ghost use Rattle.at_node.specs.Timers.{timers_of};
 ghost use Rattle.at_steps.specs.Safety.{IsPlaceOf, IsPlaceOfCall};
 ghost use Rattle.at_nodes.specs.Taking.{Receives, Takes};
 
-use crate::line::{Line, read_line};
 use crate::opening::{OpenFault, node_of};
 use crate::room::{place, place_text};
 use crate::sent::Sent;
 use crate::text::{line_of, sentence_of};
 use crate::timers::timer_lines;
 use crate::withheld::Withheld;
-use at_faults::LineFault;
+use at_call_words::{call_of_any, timer_of_any};
+use at_faults::{LineFault, Rule};
 use at_node::{Input, Node, Report};
 use at_packet::Packet;
 use at_steps::laws::safety::every_event_is_safe;
+use at_words::Words;
 use std::alloc::{AllocError, Global};
 use std::marker::Model;
 
@@ -93,11 +95,38 @@ impl HeldNode {
     fn play_line(&mut self, alloc: Global, line: &[u8]) -> Result<(), LineFault>
         ensures { Plays line.now self.old result self.new }
     {
-        match read_line(alloc, self.node.net(), line)? {
-            Line::Call(call) => self.take(&Input::Call(&call))?,
-            Line::Timer(timer) => self.take(&Input::Timer(timer))?,
+        let mut words = Words::of(line);
+        if words.take_if(b"call") {
+            self.play_call(alloc, words)
+        } else if words.take_if(b"timer") {
+            self.play_timer(words)
+        } else {
+            Err(LineFault::Unlawful(Rule::FirstWord))
         }
+    }
+
+    // Plays the call of these words, which follow `call` in a line.
+    fn play_call(&mut self, alloc: Global, words: Words<'_>) -> Result<(), LineFault>
+        ensures { (line : List ℕ) → words_of line ≡ codes "call" ∷ words_of words.entry.rest.now
+            → Plays line self.old result self.new }
+    {
+        let call = call_of_any(alloc, self.node.net(), words)?;
+        self.take(&Input::Call(&call))?;
         Ok(())
+    }
+
+    // Lets the timer of these words fire, which follow `timer` in a line.
+    fn play_timer(&mut self, words: Words<'_>) -> Result<(), LineFault>
+        ensures { (line : List ℕ) → words_of line ≡ codes "timer" ∷ words_of words.entry.rest.now
+            → Plays line self.old result self.new }
+    {
+        match timer_of_any(self.node.net(), words) {
+            Ok(timer) => {
+                self.take(&Input::Timer(timer))?;
+                Ok(())
+            }
+            Err(rule) => Err(LineFault::Unlawful(rule)),
+        }
     }
 
     // If the node is out of memory, nothing changed, and the report of the event before stays.

@@ -3,7 +3,6 @@
 #![tactic(auto)]
 
 mod held;
-mod line;
 mod opening;
 mod room;
 mod sent;
@@ -13,7 +12,6 @@ mod timers;
 mod withheld;
 
 pub use held::HeldNode;
-pub use line::Line;
 pub use opening::OpenFault;
 pub use shown::show;
 pub use withheld::Withheld;
